@@ -1,0 +1,26 @@
+-- Lowest terms, and which numbers fit two halves of 32 bits in them.
+use Rattle.std.specs.Prelude.{ℕ, zero, suc, ◌/◌, ◌%◌, ◌<◌, ◌≤◌, Bool, false, cond, nat_eq, nat_le, ◌&&◌, not}
+use Rattle.fz_frac.specs.Distance.{Distance, Fin, Inf, den, ◌≈◌}
+
+-- Euclid's algorithm, with a bound on its steps
+unfoldable pub gcd_in : ℕ → ℕ → ℕ → ℕ
+gcd_in zero a b = a
+gcd_in (suc n) a b = cond (nat_eq b 0) a (gcd_in n b (a % b))
+
+-- the greatest common divisor
+unfoldable pub gcd : ℕ → ℕ → ℕ
+gcd a b = gcd_in (suc b) a b
+
+-- the greatest half of a fraction
+abbrev pub widest : ℕ
+widest = 4294967295
+
+-- in lowest terms the numerator or the denominator is over the widest
+unfoldable pub is_out : Distance → Bool
+is_out (Fin p q) = not (nat_le (p / gcd p (den q)) widest && nat_le (den q / gcd p (den q)) widest)
+is_out Inf = false
+
+-- some fraction of narrow halves is the same number, or it is infinite
+abbrev pub IsNarrow : Distance → Type 0
+IsNarrow (Fin p q) = (n : ℕ) × (d : ℕ) × (0 < d) × (n ≤ widest) × (d ≤ widest) × (Fin n d ≈ Fin p q)
+IsNarrow Inf = Unit {0}
