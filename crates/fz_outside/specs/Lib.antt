@@ -1,0 +1,4 @@
+pub mod Draws
+pub mod Faults
+pub mod Files
+pub mod Schedule
