@@ -1,0 +1,4 @@
+use Rattle.fz_ast.proofs.types.Types.+same.Given as goal
+
+abbrev pub decreases-same : goal.decreases-same
+decreases-same l = l.i

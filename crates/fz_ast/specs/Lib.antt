@@ -1,0 +1,14 @@
+pub mod Types
+pub mod Terms
+pub mod Spanned
+pub mod Limits
+pub mod Depth
+pub mod Signature
+pub mod Kept
+pub mod Names
+pub mod Parts
+pub mod Codes
+pub mod TypeNodes
+pub mod TermNodes
+pub mod Tables
+pub mod Rows

@@ -1,0 +1,216 @@
+// One type and one term, by themselves.
+ghost use Rattle.std.specs.Prelude.{◌≡◌, ◌<◌, ◌≤◌, ◌↔◌, length, IfOk, IsTrue};
+ghost use Rattle.fz_ast.specs.Types.{is_ground, is_flat, formed, same_type, WellFormed};
+ghost use Rattle.fz_ast.specs.Spanned.{erase};
+ghost use Rattle.fz_ast.specs.Limits.{TypeLimits, TermLimits};
+ghost use Rattle.fz_ast.specs.Depth.{depth};
+ghost use Rattle.fz_ast.specs.TypeNodes.{type_at};
+
+use crate::memory::NoMemory;
+use crate::term::Nodes;
+use crate::types::{Formed, Types};
+use std::marker::Model;
+
+/// A type. A contract sees its tree.
+#[derive(Drop)]
+pub struct Ty {
+    types: Types,
+    root: u32,
+}
+
+impl Model for Ty {
+    ghost use Rattle.fz_ast.specs.Types.{Ty};
+    ghost use Rattle.std.specs.Prelude.{◌<◌, length};
+    ghost use Rattle.fz_ast.specs.Codes.{type_code};
+    ghost use Rattle.fz_ast.specs.TypeNodes.{type_at};
+
+    ghost Value = { Ty };
+
+    ghost coded = { type_code };
+
+    ghost view = { λ t. type_at t.types t.root };
+
+    ghost invariant = { λ t. t.root < length t.types };
+}
+
+impl Ty {
+    /// The type of this number.
+    pub fn new(types: Types, root: u32) -> Ty
+        requires { root < length types }
+        ensures { result ≡ type_at types root }
+    {
+        Ty { types, root }
+    }
+
+    /// The nodes, and the number of the type's own.
+    pub fn parts(&self) -> (&Types, u32)
+        ensures known { result.1 < length result.0.now }
+        ensures is { type_at result.0.now result.1 ≡ self.now }
+        ensures limits { TypeLimits self.now }
+    {
+        let _ = self.types.form(self.root);
+        (&self.types, self.root)
+    }
+
+    /// An equal copy.
+    pub fn copy(&self) -> Result<Ty, NoMemory>
+        ensures { IfOk result (λ t. t ≡ self.now) }
+    {
+        let types = self.types.copy()?;
+        Ok(Ty {
+            types,
+            root: self.root,
+        })
+    }
+}
+
+/// A term at most 64 deep. A contract sees its tree.
+#[derive(Drop)]
+pub struct Term {
+    nodes: Nodes,
+    root: u32,
+}
+
+impl Model for Term {
+    ghost use Rattle.std.specs.Prelude.{◌<◌, ◌≤◌, length};
+    ghost use Rattle.fz_ast.specs.Spanned.{Spanned, erase};
+    ghost use Rattle.fz_ast.specs.Codes.{spanned_code};
+    ghost use Rattle.fz_ast.specs.Depth.{depth};
+    ghost use Rattle.fz_ast.specs.TermNodes.{term_at};
+
+    ghost Value = { Spanned };
+
+    ghost coded = { spanned_code };
+
+    ghost view = { λ t. term_at t.nodes.terms t.root };
+
+    ghost invariant = { λ t. (t.root < length t.nodes.terms) × (depth (erase (term_at t.nodes.terms t.root)) ≤ 64) };
+}
+
+impl Term {
+    ghost use Rattle.fz_ast.specs.TermNodes.{term_at};
+
+    /// The term of this number.
+    pub fn new(nodes: Nodes, root: u32) -> Term
+        requires known { root < length nodes.terms }
+        requires shallow { depth (erase (term_at nodes.terms root)) ≤ 64 }
+        ensures { result ≡ term_at nodes.terms root }
+    {
+        Term { nodes, root }
+    }
+
+    /// The nodes, and the number of the term's own.
+    pub fn parts(&self) -> (&Nodes, u32)
+        ensures known { result.1 < length result.0.now.terms }
+        ensures is { term_at result.0.now.terms result.1 ≡ self.now }
+        ensures limits { TermLimits (erase self.now) }
+        ensures shallow { depth (erase self.now) ≤ 64 }
+    {
+        let _ = self.nodes.node(self.root);
+        (&self.nodes, self.root)
+    }
+
+    /// An equal copy.
+    pub fn copy(&self) -> Result<Term, NoMemory>
+        ensures { IfOk result (λ t. t ≡ self.now) }
+    {
+        let nodes = self.nodes.copy()?;
+        Ok(Term {
+            nodes,
+            root: self.root,
+        })
+    }
+}
+
+/// Whether there is no function inside.
+pub fn is_ground(ty: &Ty) -> bool
+    ensures { result ≡ is_ground ty.now }
+{
+    ty.types.is_ground(ty.root)
+}
+
+/// Whether it is ground and has no bag inside.
+pub fn is_flat(ty: &Ty) -> bool
+    ensures { result ≡ is_flat ty.now }
+{
+    ty.types.is_flat(ty.root)
+}
+
+/// Whether both sides of each sum are ground, and each bag's element is flat.
+pub fn well_formed(ty: &Ty) -> bool
+    ensures { IsTrue result ↔ (formed ty.now ≡ WellFormed) }
+{
+    matches!(ty.types.formed(ty.root), Formed::WellFormed)
+}
+
+/// Whether two types are one tree.
+pub fn same_type(a: &Ty, b: &Ty) -> bool
+    ensures is { result ≡ same_type a.now b.now }
+    ensures trees { IsTrue result ↔ (a.now ≡ b.now) }
+{
+    a.types.same(a.root, &b.types, b.root)
+}
+
+#[cfg(test)]
+mod tests {
+    use super::*;
+    use crate::name::Name;
+    use crate::row::{Column, row_type};
+    use crate::sig::Sig;
+    use crate::span::Span;
+    use crate::term::{Arrow, Form, Unary};
+    use crate::types::TypeForm;
+    use fz_frac::Sens;
+    use std::alloc::Global;
+    use std::test::Fail;
+
+    // fun (x : ![inf] (bag text)) => size x, with the numbers that the calls give
+    fn counter(alloc: Global) -> Result<Term, NoMemory> {
+        let mut nodes = Nodes::new(alloc);
+        let text = nodes.push_type(TypeForm::Text)?;
+        let bag = nodes.push_type(TypeForm::Bag(text))?;
+        let bang = nodes.push_type(TypeForm::Bang(Sens::Inf, bag))?;
+        let name = Name::new(b"x");
+        let x = nodes.push(Span { from: 36, to: 37 }, Form::Var(name))?;
+        let size = nodes.push(Span { from: 31, to: 37 }, Form::Unary(Unary::Size, x))?;
+        let written = Span { from: 9, to: 26 };
+        let whole = Span { from: 0, to: 37 };
+        let body = Form::Lambda(Arrow::Fun, name, written, bang, size);
+        let root = nodes.push(whole, body)?;
+        if nodes.depth(root) > 64 {
+            return Err(NoMemory);
+        }
+        Ok(Term::new(nodes, root))
+    }
+
+    #[test]
+    fn terms(rt: HostRuntime) -> Result<(), Fail> {
+        let term = counter(rt.alloc())?.copy()?;
+        let (nodes, root) = term.parts();
+        assert_eq!(rt; nodes.depth(root), 4);
+        let node = nodes.node(root);
+        assert_eq!(rt; node.span.to, 37);
+        if let Form::Lambda(Arrow::Fun, name, _, ty, _) = &node.form {
+            assert_eq!(rt; name.as_bytes(), b"x".as_slice());
+            assert!(rt; nodes.types().is_ground(*ty));
+            assert!(rt; !nodes.types().is_flat(*ty));
+        }
+        Ok(())
+    }
+
+    #[test]
+    fn types(rt: HostRuntime) -> Result<(), Fail> {
+        let row = row_type(rt.alloc(), &[Column::Num, Column::Text])?;
+        let again = row.copy()?;
+        assert!(rt; same_type(&row, &again));
+        assert!(rt; is_flat(&row) && well_formed(&row));
+        let mut sig = Sig::new(rt.alloc());
+        let name = Name::new(b"people");
+        assert!(rt; !sig.contains(name.as_bytes()));
+        sig.push(name, row)?;
+        assert!(rt; sig.contains(name.as_bytes()));
+        assert_eq!(rt; sig.len(), 1);
+        assert!(rt; is_ground(&sig.table(0).row));
+        Ok(())
+    }
+}
