@@ -1,0 +1,4 @@
+pub mod Spellings
+pub mod Runs
+pub mod Fronts
+pub mod Cuts

@@ -1,0 +1,79 @@
+-- The cut of a program into blanks and longest tokens.
+use Rattle.std.specs.Prelude.{◌≡◌, ℕ, ◌+◌, ◌^◌, ◌<◌, ◌≤◌, List, [], ◌∷◌, ◌++◌, length, true, ◌⊎◌}
+use Rattle.fz_lexer.specs.declared.token.Token.{Token}
+use Rattle.fz_lexer.specs.declared.token.Kind.{Kind}
+use Rattle.fz_lexer.specs.declared.token.Kind.TheVariants.{Name, Number, Text, Reserved, Punctuation}
+use Rattle.fz_lexer.specs.declared.token.Word.{Word}
+use Rattle.fz_lexer.specs.declared.token.Sign.{Sign}
+use Rattle.fz_lexer.specs.declared.token.LexFault.{LexFault}
+use Rattle.fz_lexer.specs.declared.token.LexFault.TheVariants.{Bad, TooManyTokens, NoMemory}
+use Rattle.fz_lexer.specs.Bytes.{is_blank, is_digit, is_letter, is_name, is_text, each, begins, stops, value_from}
+use Rattle.fz_lexer.specs.Words.{spelling}
+use Rattle.fz_lexer.specs.Signs.{Stands, IsLongest}
+
+-- a whole run of name bytes is a reserved word, or else a name
+abbrev pub IsReservedOrName : List ℕ → Kind → Type 0
+IsReservedOrName text kind =
+    ((word : Word) × (text ≡ spelling word) × (kind ≡ Reserved word)) ⊎ (((word : Word) → text ≡ spelling word → ⊥) × (kind ≡ Name text))
+
+-- Each of these says that the text is one whole token where `after` follows it.
+pub record IsName (text after : List ℕ) (kind : Kind) : Type 0 where
+  pub first : begins is_letter text ≡ true
+  pub every : each is_name text ≡ true
+  pub ends : stops is_name after ≡ true
+  pub short : length text ≤ 32
+  pub is : IsReservedOrName text kind
+
+pub record IsNumber (text after : List ℕ) (kind : Kind) : Type 0 where
+  pub some : begins is_digit text ≡ true
+  pub every : each is_digit text ≡ true
+  pub ends : stops is_digit after ≡ true
+  pub small : value_from 0 text ≤ 2 ^ 50
+  pub is : kind ≡ Number (value_from 0 text)
+
+pub record IsText (text after : List ℕ) (kind : Kind) : Type 0 where
+  pub inner : List ℕ
+  pub quoted : text ≡ 34 ∷ (inner ++ 34 ∷ [])
+  pub every : each is_text inner ≡ true
+  pub short : length inner ≤ 64
+  pub is : kind ≡ Text inner
+
+pub record IsSign (text after : List ℕ) (kind : Kind) : Type 0 where
+  pub sign : Sign
+  pub stands : Stands sign text after
+  pub longest : IsLongest sign text after
+  pub is : kind ≡ Punctuation sign
+
+abbrev pub IsToken : List ℕ → List ℕ → Kind → Type 0
+IsToken text after kind = IsName text after kind ⊎ (IsNumber text after kind ⊎ (IsText text after kind ⊎ IsSign text after kind))
+
+-- no token begins these bytes
+abbrev pub NoToken : List ℕ → Type 0
+NoToken w = (text after : List ℕ) (kind : Kind) → w ≡ text ++ after → IsToken text after kind → ⊥
+
+-- From place p on, w is these tokens, each after blanks; then blanks to place q, and then `end`, which begins with no blank.
+abbrev pub Cut : ℕ → List ℕ → List Token → ℕ → List ℕ → Type 0
+Cut p w [] q end = (blanks : List ℕ) × (w ≡ blanks ++ end) × (each is_blank blanks ≡ true) × (stops is_blank end ≡ true) × (q ≡ p + length blanks)
+Cut p w (t ∷ ts) q end =
+    (blanks : List ℕ) × (text : List ℕ) × (after : List ℕ) × (w ≡ blanks ++ (text ++ after)) × (each is_blank blanks ≡ true) ×
+    IsToken text after t.kind × (t.span.from ≡ p + length blanks) × (t.span.to ≡ t.span.from + length text) × Cut t.span.to after ts q end
+
+-- the whole text is these tokens
+abbrev pub AreTokens : List ℕ → List Token → Type 0
+AreTokens w ts = Cut 0 w ts (length w) []
+
+-- the text is these tokens, within the limits
+pub record IsLexed (w : List ℕ) (ts : List Token) : Type 0 where
+  pub tokens : AreTokens w ts
+  pub bytes : length w ≤ 16000
+  pub count : length ts ≤ 4096
+
+-- what each fault says of the text
+abbrev pub ExplainsLex : List ℕ → LexFault → Type 0
+ExplainsLex w (Bad place) =
+    ((16000 < length w) × (place ≡ 16000)) ⊎
+    ((length w ≤ 16000) × (ts : List Token) × (end : List ℕ) × Cut 0 w ts place end × (length ts ≤ 4096) × (0 < length end) × NoToken end)
+ExplainsLex w (TooManyTokens place) =
+    (length w ≤ 16000) × (ts : List Token) × (text : List ℕ) × (after : List ℕ) × (kind : Kind) ×
+    Cut 0 w ts place (text ++ after) × (length ts ≡ 4096) × IsToken text after kind
+ExplainsLex w NoMemory = Unit {0}

@@ -1,0 +1,91 @@
+ghost use Rattle.std.specs.Prelude.{◌≡◌, ◌≢◌, ◌≤◌, ◌+◌, ◌∷◌, ◌++◌, [], ℕ, List, length, IfOk, IfErr};
+ghost use Rattle.fz_lexer.specs.Tokens.{AreTokens, IsLexed, ExplainsLex};
+ghost use Rattle.fz_lexer.specs.declared.token.Token.{Token};
+ghost use Rattle.fz_lexer.specs.declared.token.LexFault.{LexFault};
+
+use crate::bytes::{Class, run};
+use crate::front::{Front, front_token};
+use crate::token::{LexFault, Token};
+use fz_ast::span::Span;
+use std::alloc::{AllocError, Global};
+
+const MOST_BYTES: usize = 16000;
+
+const MOST_TOKENS: usize = 4096;
+
+impl From<AllocError> for LexFault {
+    ghost use Rattle.std.specs.Prelude.{◌≡◌};
+    ghost use Rattle.fz_lexer.specs.declared.token.LexFault.TheVariants.{NoMemory};
+
+    ghost from_gives = { λ _ e. e ≡ NoMemory };
+
+    fn from(_error: AllocError) -> LexFault {
+        LexFault::NoMemory
+    }
+}
+
+/// Puts a token that begins at a place to the others.
+fn add(tokens: &mut Vec<Token>, front: Front, place: usize) -> Result<(), AllocError>
+    requires { place + front.len ≤ 16000 }
+    ensures { IfOk result (λ _. tokens.new.items ≡ tokens.old.items ++ (record { kind = front.kind; span = record { from = place; to = place + front.len } }) ∷ []) }
+{
+    let span = Span {
+        from: place as u32,
+        to: (place + front.len) as u32,
+    };
+    tokens.push(Token {
+        kind: front.kind,
+        span,
+    })?;
+    Ok(())
+}
+
+/// Cuts a program into its tokens.
+///
+/// # Errors
+///
+/// `Bad` where the program is over 16,000 bytes long, or at the first byte that begins no token; `TooManyTokens` where
+/// token 4,097 begins; the earlier place first. `NoMemory` where memory ran out.
+pub fn lex(alloc: Global, bytes: &[u8]) -> Result<Vec<Token>, LexFault>
+    ensures tokens { IfOk result (λ tokens. IsLexed bytes.now tokens.items) }
+    ensures fault { IfErr result (λ fault. ExplainsLex bytes.now fault) }
+{
+    if bytes.len() > MOST_BYTES {
+        return Err(LexFault::Bad { place: 16000 });
+    }
+    let mut tokens = Vec::new(alloc);
+    let mut place = run(bytes, Class::Blank);
+    while place < bytes.len() {
+        match front_token(alloc, &bytes[place..])? {
+            None => return Err(LexFault::Bad {
+                place: place as u32,
+            }),
+            Some(found) => {
+                if tokens.len() == MOST_TOKENS {
+                    return Err(LexFault::TooManyTokens {
+                        place: place as u32,
+                    });
+                }
+                let to = place + found.len;
+                add(&mut tokens, found, place)?;
+                place = to + run(&bytes[to..], Class::Blank);
+            }
+        }
+    }
+    Ok(tokens)
+}
+
+/// A program is cut in one way at most.
+pub fn one_cut()
+    ensures { (w : List ℕ) (ts us : List Token) → AreTokens w ts → AreTokens w us → us ≡ ts }
+{}
+
+/// A program that is refused, other than for want of memory, is no list of tokens within the limits.
+pub fn refused_is_none()
+    ensures { (w : List ℕ) (fault : LexFault) (ts : List Token) → ExplainsLex w fault → IsLexed w ts → fault ≡ LexFault.NoMemory }
+{}
+
+/// Nothing but want of memory can stand in the place of a program's fault.
+pub fn one_fault()
+    ensures { (w : List ℕ) (fault other : LexFault) → ExplainsLex w fault → ExplainsLex w other → fault ≢ LexFault.NoMemory → other ≢ LexFault.NoMemory → other ≡ fault }
+{}

@@ -1,0 +1,15 @@
+//! Cuts the bytes of a program into tokens.
+#![tactic(auto)]
+
+mod bytes;
+mod front;
+mod lexer;
+mod sign;
+mod token;
+mod word;
+
+pub use lexer::{lex, one_cut, one_fault, refused_is_none};
+pub use token::{Kind, LexFault, Lexeme, Sign, Token, Word};
+
+#[cfg(test)]
+mod tests;
