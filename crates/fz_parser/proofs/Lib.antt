@@ -1,0 +1,12 @@
+pub mod Checks
+pub mod Numbers
+pub mod Theory
+pub mod Cutting
+pub mod Words
+pub mod Machine
+pub mod Entries
+pub mod Makers
+pub mod Making
+pub mod Stacks
+pub mod Laws
+pub mod Written

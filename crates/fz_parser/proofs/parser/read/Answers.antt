@@ -1,0 +1,62 @@
+use Rattle.std.proofs.Common.{◌≡◌, ◌<◌, arith, length, reverse}
+use Rattle.fz_parser.specs.Kept.{state_of}
+use Rattle.fz_parser.proofs.Stacks.{class_at, class_end, class_below, empty_before, refuses_before, wanted_before, wanted_fits, wanted_on, wanted_sound, empty_end, refuses_end, wants_end, starting}
+use Rattle.fz_parser.proofs.parser.read.Goals as goal
+
+pub loop-place-init : goal.loop-place-init
+loop-place-init c =
+    let s = starting c.args.tokens.now c.in_ok-stack.stack.items (state_of c.new-reader.result) c.in_ok-stack.ensures c.new-reader.ensures.state in
+    record { kept = c.new-reader.ensures.kept; sound = s.1; at = s.0 }
+
+pub settle-requires-clause-class : goal.settle-requires-clause-class
+settle-requires-clause-class c = class_below c.index-tokens-place.result c.class_of-class.result c.class_of-class.ensures
+
+pub returns-in-Empty-clause-fault : goal.returns-in-Empty-clause-fault
+returns-in-Empty-clause-fault c =
+    let l : c.loop-place.place < length c.args.tokens.now = omega arith in
+    empty_before c.args.tokens.now c.loop-place.place c.index-tokens-place.result _ (reverse c.settle.new.stack.items) (state_of c.settle.new.reader) l c.index-tokens-place.is c.in-Empty.is
+    (c.in_ok-settle.ensures.outcome _ _ (class_at c.args.tokens.now c.loop-place.place _ c.index-tokens-place.result l c.index-tokens-place.is c.class_of-class.ensures) c.loop-place.invariant.at)
+
+pub returns-in-Refuses-clause-fault : goal.returns-in-Refuses-clause-fault
+returns-in-Refuses-clause-fault c =
+    let l : c.loop-place.place < length c.args.tokens.now = omega arith in
+    refuses_before c.args.tokens.now c.loop-place.place c.index-tokens-place.result _ (reverse c.settle.new.stack.items) (state_of c.settle.new.reader) l c.index-tokens-place.is c.in-Refuses.is
+    (c.in_ok-settle.ensures.outcome _ _ (class_at c.args.tokens.now c.loop-place.place _ c.index-tokens-place.result l c.index-tokens-place.is c.class_of-class.ensures) c.loop-place.invariant.at)
+
+pub returns-then-not-may_stand-clause-fault : goal.returns-then-not-may_stand-clause-fault
+returns-then-not-may_stand-clause-fault c =
+    let l : c.loop-place.place < length c.args.tokens.now = omega arith in
+    wanted_before c.args.tokens.now c.loop-place.place c.index-tokens-place.result c.in-Wants.terminal c.class_of-class.result c.may_stand.result _ (reverse c.settle.new.stack.items) (state_of c.settle.new.reader) l
+    c.index-tokens-place.is c.class_of-class.ensures c.may_stand.ensures c.if-not-may_stand.true c.in-Wants.is
+    (c.in_ok-settle.ensures.outcome _ _ (class_at c.args.tokens.now c.loop-place.place _ c.index-tokens-place.result l c.index-tokens-place.is c.class_of-class.ensures) c.loop-place.invariant.at)
+
+pub take-requires-clause-fits : goal.take-requires-clause-fits
+take-requires-clause-fits c = wanted_fits c.index-tokens-place.result c.in-Wants.terminal c.class_of-class.result c.may_stand.result c.class_of-class.ensures c.may_stand.ensures c.if-not-may_stand.false
+
+pub loop-place-preserved : goal.loop-place-preserved
+loop-place-preserved c =
+    let l : c.loop-place.place < length c.args.tokens.now = omega arith in record {
+      kept = c.in_ok-take-in-Wants.ensures.kept;
+      sound = wanted_sound c.index-tokens-place.result c.in-Wants.terminal _ (reverse c.settle.new.stack.items) (state_of c.settle.new.reader) (state_of c.take.new.reader) c.in-Wants.is c.in_ok-take-in-Wants.ensures.state c.in_ok-settle.ensures.left;
+      at = wanted_on c.args.tokens.now c.loop-place.place c.index-tokens-place.result c.in-Wants.terminal _ (reverse c.settle.new.stack.items) (state_of c.settle.new.reader) (state_of c.take.new.reader) l c.index-tokens-place.is
+          (wanted_fits c.index-tokens-place.result c.in-Wants.terminal c.class_of-class.result c.may_stand.result c.class_of-class.ensures c.may_stand.ensures c.if-not-may_stand.false) c.in-Wants.is c.in_ok-take-in-Wants.ensures.state
+          (c.in_ok-settle.ensures.outcome _ _ (class_at c.args.tokens.now c.loop-place.place _ c.index-tokens-place.result l c.index-tokens-place.is c.class_of-class.ensures) c.loop-place.invariant.at);
+    }
+
+pub returns-in-Empty-2-clause-term : goal.returns-in-Empty-2-clause-term
+returns-in-Empty-2-clause-term c =
+    let n : c.loop-place.place ≡ length c.args.tokens.now = omega arith in
+    empty_end c.args.tokens.now c.loop-place.place _ (reverse c.settle-2.new.stack.items) c.settle-2.new.reader n c.in-Empty-2.is c.in_ok-settle-2.ensures.kept
+    (c.in_ok-settle-2.ensures.outcome _ _ (class_end c.args.tokens.now c.loop-place.place (omega arith)) c.loop-place.invariant.at)
+
+pub returns-in-Refuses-2-clause-fault : goal.returns-in-Refuses-2-clause-fault
+returns-in-Refuses-2-clause-fault c =
+    let n : c.loop-place.place ≡ length c.args.tokens.now = omega arith in
+    refuses_end c.args.tokens.now c.loop-place.place _ (reverse c.settle-2.new.stack.items) (state_of c.settle-2.new.reader) n c.in-Refuses-2.is
+    (c.in_ok-settle-2.ensures.outcome _ _ (class_end c.args.tokens.now c.loop-place.place (omega arith)) c.loop-place.invariant.at)
+
+pub returns-clause-fault : goal.returns-clause-fault
+returns-clause-fault c =
+    let n : c.loop-place.place ≡ length c.args.tokens.now = omega arith in
+    wants_end c.args.tokens.now c.loop-place.place c.in-Wants-2.field-0 _ (reverse c.settle-2.new.stack.items) (state_of c.settle-2.new.reader) n c.in-Wants-2.is
+    (c.in_ok-settle-2.ensures.outcome _ _ (class_end c.args.tokens.now c.loop-place.place (omega arith)) c.loop-place.invariant.at)

@@ -1,0 +1,11 @@
+pub mod Table
+pub mod Parts
+pub mod Grammar
+pub mod Reading
+pub mod Classes
+pub mod Reads
+pub mod Rows
+pub mod Tests
+pub mod Steps
+pub mod Kept
+pub mod Written

@@ -1,0 +1,71 @@
+-- What holds at each step of the reading.
+use Rattle.std.specs.Prelude.{◌≡◌, ℕ, ◌<◌, List, [], ◌∷◌, ◌++◌, true}
+use Rattle.fz_lexer.specs.declared.token.Token.{Token}
+use Rattle.fz_parser.specs.declared.grammar.Item.{Item}
+use Rattle.fz_parser.specs.declared.grammar.Item.TheVariants.{Take, Read, Make}
+use Rattle.fz_parser.specs.declared.grammar.Phrase.{Phrase}
+use Rattle.fz_parser.specs.declared.grammar.Phrase.TheVariants.{Expression}
+use Rattle.fz_parser.specs.declared.grammar.Top.{Top}
+use Rattle.fz_parser.specs.declared.grammar.Top.TheVariants.{Empty, Wants, Refuses}
+use Rattle.fz_parser.specs.Parts.{Part, State, sort_of, term}
+use Rattle.fz_parser.specs.Grammar.{empty}
+use Rattle.fz_parser.specs.Classes.{class}
+use Rattle.fz_parser.specs.Reads.{Reads}
+use Rattle.fz_parser.specs.Tests.{follows, starts, fine, after}
+
+abbrev pub sorts_of : List Part → List ℕ
+sorts_of [] = []
+sorts_of (p ∷ ps) = sort_of p.what ∷ sorts_of ps
+
+abbrev pub sorts : State → List ℕ
+sorts s = sorts_of s.parts
+
+-- what may come after the phrase a is among what may follow it
+abbrev pub Follows : Phrase → List Item → Type 0
+Follows a σ = (c : ℕ) → c < 64 → starts σ c ≡ true → follows a c ≡ true
+
+abbrev pub Good : List Item → Type 0
+Good [] = Unit {0}
+Good (Take k ∷ σ) = Good σ
+Good (Make a ∷ σ) = Good σ
+Good (Read a ∷ σ) = Follows a σ × Good σ
+
+-- the class of the first token, 0 at the end
+abbrev pub front : List Token → ℕ
+front [] = 0
+front (t ∷ w) = class t
+
+-- the items find their parts, and leave one term
+pub record Level (σ : List Item) (h : List ℕ) : Type 0 where
+  pub enough : fine σ h ≡ true
+  pub one : after σ h ≡ term ∷ []
+
+abbrev pub START : List Item
+START = Read Expression ∷ []
+
+-- the items are in order
+pub record Sound (σ : List Item) (s : State) : Type 0 where
+  pub good : Good σ
+  pub level : Level σ (sorts s)
+
+-- what was read and then v is a term exactly where the items stand for v, for each v that begins like the rest
+pub record At (read rest : List Token) (σ : List Item) (s : State) : Type 0 where
+  pub down : (v : List Token) (r : State) → front v ≡ front rest → Reads START (read ++ v) empty r → Reads σ v s r
+  pub up : (v : List Token) (r : State) → front v ≡ front rest → Reads σ v s r → Reads START (read ++ v) empty r
+  pub viable : (v : List Token) × (r : State) × Reads START (read ++ v) empty r
+
+-- nothing that begins like the rest goes on to a term
+pub record Refused (read rest : List Token) : Type 0 where
+  pub viable : (v : List Token) × (r : State) × Reads START (read ++ v) empty r
+  pub never : (v : List Token) (r : State) → front v ≡ front rest → Reads START (read ++ v) empty r → ⊥
+
+abbrev pub Outcome : Top → List Token → List Token → List Item → State → Type 0
+Outcome Empty read rest σ s = At read rest [] s
+Outcome (Wants k) read rest σ s = At read rest (Take k ∷ σ) s
+Outcome Refuses read rest σ s = Refused read rest
+
+-- the items are in order where a token is wanted
+abbrev pub Left : Top → List Item → State → Type 0
+Left Empty σ s = Sound [] s
+Left (Wants k) σ s = Sound (Take k ∷ σ) s
+Left Refuses σ s = Unit {0}
