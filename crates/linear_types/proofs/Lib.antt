@@ -1,0 +1,10 @@
+pub mod Written
+pub mod Quotient
+pub mod Decide
+pub mod Complete
+pub mod Sound
+pub mod Agree
+pub mod Programs
+pub mod Scope
+pub mod Faults
+pub mod Answered

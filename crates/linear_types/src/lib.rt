@@ -1,0 +1,33 @@
+//! The typing rules, as a family with one constructor a rule and as a function with first faults.
+#![tactic(auto)]
+
+ghost use Rattle.linear_types.specs.Laws.{AcceptedExactly, AcceptedIsBounded, FaultsAreKept, NotNumExactly, OnlyNamesInScope, QuotientIsLeast, QuotientSuffices, RuleIsComplete, RuleIsSound, RuleKeepsRange, TypesAreUnique, TypesCanBeWritten, UnboundedExactly};
+
+/// The function that answers a type or the first fault is the typing rules.
+pub fn rule_is_typing()
+    ensures sound { RuleIsSound }
+    ensures complete { RuleIsComplete }
+    ensures range { RuleKeepsRange }
+{}
+
+/// A term has at most one type, which can be written, and the scalar of `let !x` suffices; over a finite bang it is the least that does.
+pub fn types_are_unique()
+    ensures unique { TypesAreUnique }
+    ensures written { TypesCanBeWritten }
+    ensures quotient { QuotientSuffices }
+    ensures least { QuotientIsLeast }
+{}
+
+/// An accepted program is a number by the rules, and its sensitivity is finite and the greatest over the tables.
+pub fn accepted_is_bounded()
+    ensures scope { OnlyNamesInScope }
+    ensures accepted { AcceptedIsBounded }
+{}
+
+/// Which program is accepted, which is unbounded in which table, and which is no number: each exactly there.
+pub fn answers_are_exact()
+    ensures accepted { AcceptedExactly }
+    ensures unbounded { UnboundedExactly }
+    ensures not_num { NotNumExactly }
+    ensures faults { FaultsAreKept }
+{}
