@@ -1,0 +1,9 @@
+pub mod Examples
+pub mod Exact
+pub mod Law
+pub mod Metered
+pub mod Runs
+pub mod Trials
+pub mod Attempts
+pub mod Samples
+pub mod Fewer
