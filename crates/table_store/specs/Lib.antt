@@ -1,0 +1,3 @@
+pub mod Cell
+pub mod Table
+pub mod Reader
