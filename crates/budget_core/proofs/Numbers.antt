@@ -1,0 +1,246 @@
+-- reservations, settlements and what is open, one record more at a time
+use Rattle.std.proofs.Common.{◌≡◌, ℕ, zero, suc, ◌+◌, ◌≤◌, ◌<◌, Bool, true, false, cond, ◌&&◌, ◌||◌, ◌==◌, nat_le, nat_lt, List, [], ◌∷◌, ◌++◌, length, map, sum_by, count_by, Option, Some, None, IsSome, is_some, is_none, refl, sym, ◌∙◌, ap, arith, add-zero, length-append, append-nil, zero-add}
+use Rattle.std.specs.Option.{option_or}
+use Rattle.std.specs.List.{range_with_len}
+use Rattle.std.proofs.lemmas.Bool.{eqb-true, eq-eqb, ne_eqb, ltb-true, le-leb, cond-true, cond-false, and_from, le-ltb, lt-ltb}
+use Rattle.std.proofs.lemmas.Bool.Decides.{nat_tests}
+use Rattle.std.proofs.lemmas.List.Elements.{filter-append}
+use Rattle.std.proofs.lemmas.List.Folds.{find-append}
+use Rattle.std.proofs.lemmas.List.Sums.{sum_by_push, sum_by-cons}
+use Rattle.std.proofs.lemmas.List.{map-append}
+use Rattle.budget_core.specs.declared.records.View.{View}
+use Rattle.budget_core.specs.declared.records.Outcome.{Outcome}
+use Rattle.budget_core.specs.declared.records.Record.{Record}
+use Rattle.budget_core.specs.declared.records.Record.TheVariants.{Reserve, Settle}
+use Rattle.budget_core.specs.Counts.{is_reservation, reservations_of, reserves, reservation_of, outcome_of, settles, number_of, is_open_in, open_from}
+use Rattle.budget_core.specs.Entries.{Entry}
+use Rattle.budget_core.specs.Legal.{MayFollow, IsHistory}
+use Rattle.budget_core.proofs.Histories.{history-induction}
+
+-- two functions that add up to a third at each element add up so over a list
+sum_by-parts : {X : Type 0} → (f g h : X → ℕ) → ((x : X) → f x + g x ≡ h x) → (xs : List X) → sum_by f xs + sum_by g xs ≡ sum_by h xs
+sum_by-parts f g h parts [] = refl
+sum_by-parts f g h parts (x ∷ xs) = omega (arith, sum_by-parts f g h parts xs, parts x, sum_by-cons f x xs, sum_by-cons g x xs, sum_by-cons h x xs)
+
+sum_by-same : {X : Type 0} → (f g : X → ℕ) → ((x : X) → f x ≡ g x) → (xs : List X) → sum_by f xs ≡ sum_by g xs
+sum_by-same f g same [] = refl
+sum_by-same f g same (x ∷ xs) = omega (arith, sum_by-same f g same xs, same x, sum_by-cons f x xs, sum_by-cons g x xs)
+
+abbrev pub one_if : Bool → ℕ
+one_if b = cond b 1 0
+
+-- how many reservations there are with one record more
+pub reservations_of-append-Reserve : (records : List Record) (number : ℕ) (view : View) (e p q taken analyst : ℕ) → length (reservations_of (records ++ Reserve number view e p q taken analyst ∷ [])) ≡ length (reservations_of records) + 1
+reservations_of-append-Reserve records number view e p q taken analyst =
+    let next : Record = Reserve number view e p q taken analyst in
+    ap length (filter-append is_reservation records (next ∷ [])) ∙ length-append (reservations_of records) (next ∷ [])
+
+pub reservations_of-append-Settle : (records : List Record) (number : ℕ) (outcome : Outcome) → length (reservations_of (records ++ Settle number outcome ∷ [])) ≡ length (reservations_of records)
+reservations_of-append-Settle records number outcome =
+    ap length (filter-append is_reservation records (Settle number outcome ∷ [])) ∙ length-append (reservations_of records) [] ∙ add-zero (length (reservations_of records))
+
+-- the reservation of a number with one record more
+pub reservation_of-append : (records : List Record) (next : Record) (n : ℕ) → reservation_of (records ++ next ∷ []) n ≡ option_or (reservation_of records n) (cond (reserves n next) (Some next) None)
+reservation_of-append records next n = find-append (reserves n) records (next ∷ [])
+
+-- A reservation settles nothing.
+pub outcome_of-append-Reserve : (records : List Record) (number : ℕ) (view : View) (e p q taken analyst n : ℕ) → outcome_of (records ++ Reserve number view e p q taken analyst ∷ []) n ≡ outcome_of records n
+outcome_of-append-Reserve [] number view e p q taken analyst n = refl
+outcome_of-append-Reserve (Reserve m seen e' p' q' taken' analyst' ∷ records) number view e p q taken analyst n = outcome_of-append-Reserve records number view e p q taken analyst n
+outcome_of-append-Reserve (Settle m outcome ∷ records) number view e p q taken analyst n = ap (cond (n == m) (Some outcome)) (outcome_of-append-Reserve records number view e p q taken analyst n)
+
+option_or-cond : {X : Type 0} → (b : Bool) (x y z : Option X) (v : X) → option_or (cond b (Some v) y) z ≡ cond b (Some v) (option_or y z)
+option_or-cond true x y z v = refl
+option_or-cond false x y z v = refl
+
+-- A settlement settles its number, where nothing settled it before.
+pub outcome_of-append-Settle : (records : List Record) (number : ℕ) (outcome : Outcome) (n : ℕ) → outcome_of (records ++ Settle number outcome ∷ []) n ≡ option_or (outcome_of records n) (cond (n == number) (Some outcome) None)
+outcome_of-append-Settle [] number outcome n = refl
+outcome_of-append-Settle (Reserve m view e p q taken analyst ∷ records) number outcome n = outcome_of-append-Settle records number outcome n
+outcome_of-append-Settle (Settle m other ∷ records) number outcome n =
+    ap (cond (n == m) (Some other)) (outcome_of-append-Settle records number outcome n) ∙ sym (option_or-cond (n == m) None (outcome_of records n) (cond (n == number) (Some outcome) None) other)
+
+is_some-option_or : {X : Type 0} → (a : Option X) (b : Bool) (x : X) → is_some (option_or a (cond b (Some x) None)) ≡ (is_some a || b)
+is_some-option_or None true x = refl
+is_some-option_or None false x = refl
+is_some-option_or (Some y) b x = refl
+
+option_or-None : {X : Type 0} → (a : Option X) → option_or a None ≡ a
+option_or-None None = refl
+option_or-None (Some x) = refl
+
+one_more : (n m : ℕ) → one_if (nat_lt n m) + one_if (n == m) ≡ one_if (nat_lt n (m + 1))
+one_more n m = grind (arith, nat_tests)
+
+lt_or_eq : (n m : ℕ) → (nat_lt n m || (n == m)) ≡ nat_lt n (m + 1)
+lt_or_eq n m = grind (arith, nat_tests)
+
+-- The numbers of a history's reservations are those below how many there are.
+pub reserved_below : (entry : Entry) (records : List Record) → IsHistory entry records → (n : ℕ) → is_some (reservation_of records n) ≡ nat_lt n (length (reservations_of records))
+reserved_below entry = history-induction entry (λ records. (n : ℕ) → is_some (reservation_of records n) ≡ nat_lt n (length (reservations_of records))) (λ n. sym (le-ltb n 0 (omega arith))) step
+  where
+    step : (xs : List Record) (x : Record) → IsHistory entry xs → MayFollow entry xs x → ((n : ℕ) → is_some (reservation_of xs n) ≡ nat_lt n (length (reservations_of xs)))
+        → (n : ℕ) → is_some (reservation_of (xs ++ x ∷ []) n) ≡ nat_lt n (length (reservations_of (xs ++ x ∷ [])))
+    step xs (Reserve number view e p q taken analyst) h may before n =
+        let next : Record = Reserve number view e p q taken analyst in
+        let count : ℕ = length (reservations_of xs) in
+        let more : length (reservations_of (xs ++ next ∷ [])) ≡ count + 1 = reservations_of-append-Reserve xs number view e p q taken analyst in
+        ap is_some (reservation_of-append xs next n) ∙ is_some-option_or (reservation_of xs n) (n == number) next
+        ∙ ap (λ b. b || (n == number)) (before n) ∙ ap (λ m. nat_lt n count || (n == m)) may.numbered ∙ lt_or_eq n count ∙ ap (nat_lt n) (sym more)
+    step xs (Settle number outcome) h may before n =
+        ap is_some (reservation_of-append xs (Settle number outcome) n) ∙ ap is_some (option_or-None (reservation_of xs n)) ∙ before n
+        ∙ ap (nat_lt n) (sym (reservations_of-append-Settle xs number outcome))
+
+none_from : {X : Type 0} → (o : Option X) → is_some o ≡ false → o ≡ None
+none_from None is = refl
+none_from (Some x) is = absurd cc
+
+-- the reservation that a history makes next
+pub reservation_of-next : (entry : Entry) (records : List Record) (view : View) (e p q taken analyst : ℕ) → IsHistory entry records
+    → reservation_of (records ++ Reserve (length (reservations_of records)) view e p q taken analyst ∷ []) (length (reservations_of records)) ≡ Some (Reserve (length (reservations_of records)) view e p q taken analyst)
+reservation_of-next entry records view e p q taken analyst h =
+    let number : ℕ = length (reservations_of records) in
+    let next : Record = Reserve number view e p q taken analyst in
+    let none : reservation_of records number ≡ None = none_from (reservation_of records number) (reserved_below entry records h number ∙ le-ltb number number (omega arith)) in
+    reservation_of-append records next number ∙ ap (λ o. option_or o (cond (number == number) (Some next) None)) none ∙ cond-true (number == number) (Some next) None (eq-eqb number number refl)
+
+-- What was reserved or settled stays so.
+pub reservation_of-append-old : (records : List Record) (next : Record) (n : ℕ) (old : Record) → reservation_of records n ≡ Some old → reservation_of (records ++ next ∷ []) n ≡ Some old
+reservation_of-append-old records next n old is = reservation_of-append records next n ∙ ap (λ o. option_or o (cond (reserves n next) (Some next) None)) is
+
+pub reserved-append : (records : List Record) (next : Record) (n : ℕ) → IsSome (reservation_of records n) → IsSome (reservation_of (records ++ next ∷ []) n)
+reserved-append records next n is = ap is_some (reservation_of-append records next n) ∙ is_some-option_or (reservation_of records n) (reserves n next) next ∙ ap (λ b. b || reserves n next) is
+
+pub outcome_of-append-old : (records : List Record) (next : Record) (n : ℕ) (old : Outcome) → outcome_of records n ≡ Some old → outcome_of (records ++ next ∷ []) n ≡ Some old
+outcome_of-append-old records (Reserve number view e p q taken analyst) n old is = outcome_of-append-Reserve records number view e p q taken analyst n ∙ is
+outcome_of-append-old records (Settle number outcome) n old is = outcome_of-append-Settle records number outcome n ∙ ap (λ o. option_or o (cond (n == number) (Some outcome) None)) is
+
+-- how a number was settled just now
+pub outcome_of-append-new : (records : List Record) (number : ℕ) (outcome : Outcome) → outcome_of records number ≡ None → outcome_of (records ++ Settle number outcome ∷ []) number ≡ Some outcome
+outcome_of-append-new records number outcome fresh =
+    outcome_of-append-Settle records number outcome number ∙ ap (λ o. option_or o (cond (number == number) (Some outcome) None)) fresh ∙ cond-true (number == number) (Some outcome) None (eq-eqb number number refl)
+
+-- What isn't reserved isn't settled.
+pub outcome_past : (entry : Entry) (records : List Record) → IsHistory entry records → (n : ℕ) → length (reservations_of records) ≤ n → outcome_of records n ≡ None
+outcome_past entry = history-induction entry (λ records. (n : ℕ) → length (reservations_of records) ≤ n → outcome_of records n ≡ None) (λ n past. refl) step
+  where
+    step : (xs : List Record) (x : Record) → IsHistory entry xs → MayFollow entry xs x → ((n : ℕ) → length (reservations_of xs) ≤ n → outcome_of xs n ≡ None)
+        → (n : ℕ) → length (reservations_of (xs ++ x ∷ [])) ≤ n → outcome_of (xs ++ x ∷ []) n ≡ None
+    step xs (Reserve number view e p q taken analyst) h may before n past =
+        outcome_of-append-Reserve xs number view e p q taken analyst n ∙ before n (omega (arith, reservations_of-append-Reserve xs number view e p q taken analyst))
+    step xs (Settle number outcome) h may before n past =
+        let count : ℕ = length (reservations_of xs) in
+        let beyond : count ≤ n = omega (arith, reservations_of-append-Settle xs number outcome) in
+        let below : number < count = ltb-true number count (sym (reserved_below entry xs h number) ∙ may.reserved) in
+        let other : (n == number) ≡ false = ne_eqb n number (λ same. omega arith) in
+        outcome_of-append-Settle xs number outcome n ∙ ap (λ o. option_or o (cond (n == number) (Some outcome) None)) (before n beyond) ∙ cond-false (n == number) (Some outcome) None other
+
+-- A history has one reservation of each number that is reserved.
+pub reserved_once : (entry : Entry) (records : List Record) → IsHistory entry records → (n : ℕ) → count_by (reserves n) records ≡ one_if (nat_lt n (length (reservations_of records)))
+reserved_once entry = history-induction entry (λ records. (n : ℕ) → count_by (reserves n) records ≡ one_if (nat_lt n (length (reservations_of records)))) (λ n. ap one_if (sym (le-ltb n 0 (omega arith)))) step
+  where
+    step : (xs : List Record) (x : Record) → IsHistory entry xs → MayFollow entry xs x → ((n : ℕ) → count_by (reserves n) xs ≡ one_if (nat_lt n (length (reservations_of xs))))
+        → (n : ℕ) → count_by (reserves n) (xs ++ x ∷ []) ≡ one_if (nat_lt n (length (reservations_of (xs ++ x ∷ []))))
+    step xs (Reserve number view e p q taken analyst) h may before n =
+        let next : Record = Reserve number view e p q taken analyst in
+        let count : ℕ = length (reservations_of xs) in
+        let more : length (reservations_of (xs ++ next ∷ [])) ≡ count + 1 = reservations_of-append-Reserve xs number view e p q taken analyst in
+        sum_by_push (λ r. one_if (reserves n r)) xs next ∙ ap (λ k. k + one_if (n == number)) (before n) ∙ ap (λ m. one_if (nat_lt n count) + one_if (n == m)) may.numbered
+        ∙ one_more n count ∙ ap (λ m. one_if (nat_lt n m)) (sym more)
+    step xs (Settle number outcome) h may before n =
+        sum_by_push (λ r. one_if (reserves n r)) xs (Settle number outcome) ∙ add-zero (count_by (reserves n) xs) ∙ before n
+        ∙ ap (λ m. one_if (nat_lt n m)) (sym (reservations_of-append-Settle xs number outcome))
+
+-- One reservation more is open where it is of this run and not settled.
+pub open_from-append-Reserve : (start : ℕ) (records : List Record) (number : ℕ) (view : View) (e p q taken analyst : ℕ) → start ≤ number → outcome_of records number ≡ None → open_from start (records ++ Reserve number view e p q taken analyst ∷ []) ≡ open_from start records + 1
+open_from-append-Reserve start records number view e p q taken analyst ours fresh =
+    let next : Record = Reserve number view e p q taken analyst in
+    let all : List Record = records ++ next ∷ [] in
+    let open_now : is_open_in all start next ≡ true = and_from (nat_le start number) (is_none (outcome_of all number)) (le-leb start number ours) (ap is_none (outcome_of-append-Reserve records number view e p q taken analyst number ∙ fresh)) in
+    sum_by_push (λ r. one_if (is_open_in all start r)) records next ∙ ap (λ b. count_by (is_open_in all start) records + one_if b) open_now
+    ∙ ap (λ k. k + 1) (sum_by-same (λ r. one_if (is_open_in all start r)) (λ r. one_if (is_open_in records start r)) same records)
+  where
+    same : (r : Record) → one_if (is_open_in (records ++ Reserve number view e p q taken analyst ∷ []) start r) ≡ one_if (is_open_in records start r)
+    same (Reserve m seen e' p' q' taken' analyst') = ap (λ o. one_if (nat_le start m && is_none o)) (outcome_of-append-Reserve records number view e p q taken analyst m)
+    same (Settle m other) = refl
+
+eqb_turned : (n m : ℕ) → (n == m) ≡ (m == n)
+eqb_turned n m = grind (arith, nat_tests)
+
+-- what is of this run and not settled before a settlement hits it
+closes : {X : Type 0} → (mine hit : Bool) (old : Option X) (v : X) → (hit ≡ true → mine ≡ true) → (hit ≡ true → old ≡ None)
+    → one_if (mine && is_none (option_or old (cond hit (Some v) None))) + one_if hit ≡ one_if (mine && is_none old)
+closes true true None v ours fresh = refl
+closes true true (Some w) v ours fresh = let no : Some w ≡ None = fresh refl in cc
+closes true false None v ours fresh = refl
+closes true false (Some w) v ours fresh = refl
+closes false true old v ours fresh = let no : false ≡ true = ours refl in cc
+closes false false old v ours fresh = refl
+
+-- One settlement more closes the reservations of its number.
+pub open_from-append-Settle : (start : ℕ) (records : List Record) (number : ℕ) (outcome : Outcome) → start ≤ number → outcome_of records number ≡ None → open_from start (records ++ Settle number outcome ∷ []) + count_by (reserves number) records ≡ open_from start records
+open_from-append-Settle start records number outcome ours fresh =
+    let next : Record = Settle number outcome in
+    let all : List Record = records ++ next ∷ [] in
+    ap (λ k. k + count_by (reserves number) records) (sum_by_push (λ r. one_if (is_open_in all start r)) records next ∙ add-zero (count_by (is_open_in all start) records))
+    ∙ sum_by-parts (λ r. one_if (is_open_in all start r)) (λ r. one_if (reserves number r)) (λ r. one_if (is_open_in records start r)) parts records
+  where
+    parts : (r : Record) → one_if (is_open_in (records ++ Settle number outcome ∷ []) start r) + one_if (reserves number r) ≡ one_if (is_open_in records start r)
+    parts (Reserve m seen e p q taken analyst) =
+        let settled : outcome_of (records ++ Settle number outcome ∷ []) m ≡ option_or (outcome_of records m) (cond (number == m) (Some outcome) None)
+        = outcome_of-append-Settle records number outcome m ∙ ap (λ b. option_or (outcome_of records m) (cond b (Some outcome) None)) (eqb_turned m number) in
+        ap (λ o. one_if (nat_le start m && is_none o) + one_if (number == m)) settled
+        ∙ closes (nat_le start m) (number == m) (outcome_of records m) outcome (λ hit. le-leb start m (omega (arith, eqb-true number m hit))) (λ hit. ap (outcome_of records) (sym (eqb-true number m hit)) ∙ fresh)
+    parts (Settle m other) = refl
+
+-- In a history a settlement closes just one reservation.
+pub open_from-Settle : (entry : Entry) (start : ℕ) (records : List Record) (number : ℕ) (outcome : Outcome) → IsHistory entry records → start ≤ number
+    → IsSome (reservation_of records number) → outcome_of records number ≡ None → open_from start (records ++ Settle number outcome ∷ []) + 1 ≡ open_from start records
+open_from-Settle entry start records number outcome h ours reserved fresh =
+    let count : ℕ = length (reservations_of records) in
+    let below : number < count = ltb-true number count (sym (reserved_below entry records h number) ∙ reserved) in
+    let once : count_by (reserves number) records ≡ 1 = reserved_once entry records h number ∙ ap one_if (lt-ltb number count below) in
+    ap (λ k. open_from start (records ++ Settle number outcome ∷ []) + k) (sym once) ∙ open_from-append-Settle start records number outcome ours fresh
+
+range-push : (a n : ℕ) → range_with_len a (n + 1) ≡ range_with_len a n ++ (a + n) ∷ []
+range-push a zero = ap (λ x. x ∷ []) (sym (add-zero a))
+range-push a (suc n) =
+    let more : suc n + 1 ≡ suc (n + 1) = omega arith in
+    let last : a + 1 + n ≡ a + suc n = omega arith in
+    ap (range_with_len a) more ∙ ap (λ rest. a ∷ rest) (range-push (a + 1) n) ∙ ap (λ x. a ∷ (range_with_len (a + 1) n ++ x ∷ [])) last
+
+-- The reservations of a history are numbered 0, 1, 2, .. in order.
+pub numbered_in_order : (entry : Entry) (records : List Record) → IsHistory entry records → map number_of (reservations_of records) ≡ range_with_len 0 (length (reservations_of records))
+numbered_in_order entry = history-induction entry (λ records. map number_of (reservations_of records) ≡ range_with_len 0 (length (reservations_of records))) refl step
+  where
+    step : (xs : List Record) (x : Record) → IsHistory entry xs → MayFollow entry xs x → map number_of (reservations_of xs) ≡ range_with_len 0 (length (reservations_of xs))
+        → map number_of (reservations_of (xs ++ x ∷ [])) ≡ range_with_len 0 (length (reservations_of (xs ++ x ∷ [])))
+    step xs (Reserve number view e p q taken analyst) h may before =
+        let next : Record = Reserve number view e p q taken analyst in
+        let count : ℕ = length (reservations_of xs) in
+        ap (map number_of) (filter-append is_reservation xs (next ∷ [])) ∙ map-append number_of (reservations_of xs) (next ∷ [])
+        ∙ ap (λ front. front ++ number ∷ []) before ∙ ap (λ m. range_with_len 0 count ++ m ∷ []) (may.numbered ∙ sym (zero-add count))
+        ∙ sym (range-push 0 count) ∙ ap (range_with_len 0) (sym (reservations_of-append-Reserve xs number view e p q taken analyst))
+    step xs (Settle number outcome) h may before =
+        let next : Record = Settle number outcome in
+        ap (map number_of) (filter-append is_reservation xs (next ∷ []) ∙ append-nil (reservations_of xs)) ∙ before ∙ ap (range_with_len 0) (sym (reservations_of-append-Settle xs number outcome))
+
+settles_more : {X : Type 0} → (old : Option X) (hit : Bool) (v : X) → (hit ≡ true → old ≡ None) → one_if (is_some old) + one_if hit ≡ one_if (is_some (option_or old (cond hit (Some v) None)))
+settles_more None true v fresh = refl
+settles_more None false v fresh = refl
+settles_more (Some w) true v fresh = let no : Some w ≡ None = fresh refl in cc
+settles_more (Some w) false v fresh = refl
+
+-- how many settlements a history has of a number
+pub settled_once : (entry : Entry) (records : List Record) → IsHistory entry records → (n : ℕ) → count_by (settles n) records ≡ one_if (is_some (outcome_of records n))
+settled_once entry = history-induction entry (λ records. (n : ℕ) → count_by (settles n) records ≡ one_if (is_some (outcome_of records n))) (λ n. refl) step
+  where
+    step : (xs : List Record) (x : Record) → IsHistory entry xs → MayFollow entry xs x → ((n : ℕ) → count_by (settles n) xs ≡ one_if (is_some (outcome_of xs n)))
+        → (n : ℕ) → count_by (settles n) (xs ++ x ∷ []) ≡ one_if (is_some (outcome_of (xs ++ x ∷ []) n))
+    step xs (Reserve number view e p q taken analyst) h may before n =
+        sum_by_push (λ r. one_if (settles n r)) xs (Reserve number view e p q taken analyst) ∙ add-zero (count_by (settles n) xs) ∙ before n
+        ∙ ap (λ o. one_if (is_some o)) (sym (outcome_of-append-Reserve xs number view e p q taken analyst n))
+    step xs (Settle number outcome) h may before n =
+        sum_by_push (λ r. one_if (settles n r)) xs (Settle number outcome) ∙ ap (λ k. k + one_if (n == number)) (before n)
+        ∙ settles_more (outcome_of xs n) (n == number) outcome (λ hit. ap (outcome_of xs) (eqb-true n number hit) ∙ may.unsettled)
+        ∙ ap (λ o. one_if (is_some o)) (sym (outcome_of-append-Settle xs number outcome n))

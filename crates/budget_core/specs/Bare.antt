@@ -1,0 +1,19 @@
+-- records without their answers
+use Rattle.std.specs.Prelude.{pos, List, map}
+use Rattle.budget_core.specs.declared.records.Outcome.{Outcome}
+use Rattle.budget_core.specs.declared.records.Outcome.TheVariants.{Answered, Exhausted, Lost}
+use Rattle.budget_core.specs.declared.records.Record.{Record}
+use Rattle.budget_core.specs.declared.records.Record.TheVariants.{Reserve, Settle}
+
+abbrev pub bare_outcome : Outcome → Outcome
+bare_outcome (Answered answer) = Answered (pos 0)
+bare_outcome Exhausted = Exhausted
+bare_outcome Lost = Lost
+
+abbrev pub bare_record : Record → Record
+bare_record (Reserve number view e p q taken analyst) = Reserve number view e p q taken analyst
+bare_record (Settle number outcome) = Settle number (bare_outcome outcome)
+
+-- the records with every answer set to 0
+abbrev pub bare : List Record → List Record
+bare records = map bare_record records

@@ -1,0 +1,38 @@
+-- what the catalog says of an owner's budget
+use Rattle.std.specs.Prelude.{◌≡◌, ℕ, ◌*◌, ◌^◌, ◌≤◌, ◌<◌, List, length, All, slice_get, IsSomeAnd}
+use Rattle.budget_core.specs.declared.records.View.{View}
+use Rattle.budget_core.specs.declared.records.View.TheVariants.{Whole, Part}
+
+-- an owner's budget in millionths of epsilon, the greatest number of records, how many analysts may ask,
+-- and how many keys each partition has
+pub record Entry : Type 0 where
+  pub budget : ℕ
+  pub capacity : ℕ
+  pub analysts : ℕ
+  pub keys : List ℕ
+
+-- what an entry may be
+pub record IsEntry (entry : Entry) : Type 0 where
+  pub some_budget : 1 ≤ entry.budget
+  pub budget : entry.budget ≤ 10 ^ 18
+  pub some_room : 2 ≤ entry.capacity
+  pub capacity : entry.capacity ≤ 262144
+  pub some_analyst : 1 ≤ entry.analysts
+  pub analysts : entry.analysts ≤ 64
+  pub partitions : length entry.keys ≤ 8
+  pub keys : All (λ keys. (1 ≤ keys) × (keys ≤ 250)) entry.keys
+
+-- the entry has this view: the whole, or a part of one of its partitions
+abbrev pub HasView : Entry → View → Type 0
+HasView entry Whole = Unit {0}
+HasView entry (Part partition part) = IsSomeAnd (slice_get entry.keys partition) (λ keys. part < keys)
+
+-- p/q has no smaller form; zero is 0/1
+pub record IsLowest (p q : ℕ) : Type 0 where
+  pub positive : 1 ≤ q
+  pub coprime : (d a b : ℕ) → p ≡ d * a → q ≡ d * b → d ≡ 1
+
+-- epsilon in millionths
+pub record IsEpsilon (e : ℕ) : Type 0 where
+  pub least : 1 ≤ e
+  pub most : e ≤ 10 ^ 9

@@ -1,0 +1,45 @@
+-- the laws of legal records
+use Rattle.std.specs.Prelude.{◌≡◌, ℕ, ◌+◌, ◌≤◌, List, [], length, map, count_by, sum_by}
+use Rattle.std.specs.List.{range_with_len}
+use Rattle.budget_core.specs.declared.records.Record.{Record}
+use Rattle.budget_core.specs.declared.entry.Ask.{Ask}
+use Rattle.budget_core.specs.Bare.{bare}
+use Rattle.budget_core.specs.Cost.{cost_of}
+use Rattle.budget_core.specs.Counts.{reservations_of, settles, number_of, taken_of, open_from}
+use Rattle.budget_core.specs.Entries.{Entry}
+use Rattle.budget_core.specs.Legal.{IsHistory, IsLegal}
+use Rattle.budget_core.specs.Ledger.{money_verdict}
+
+-- Legal records cost at most the budget, where the found ones do.
+abbrev pub StaysWithinBudget : Type 0
+StaysWithinBudget = (entry : Entry) (found records : List Record) → cost_of found ≤ entry.budget
+    → IsLegal entry found records → cost_of records ≤ entry.budget
+
+-- Records that are legal after a history are a history.
+abbrev pub StaysHistory : Type 0
+StaysHistory = (entry : Entry) (found records : List Record) → IsHistory entry found
+    → IsLegal entry found records → IsHistory entry records
+
+-- The reservations of a history are numbered 0, 1, 2, .. in order.
+abbrev pub NumbersInOrder : Type 0
+NumbersInOrder = (entry : Entry) (records : List Record) → IsHistory entry records
+    → map number_of (reservations_of records) ≡ range_with_len 0 (length (reservations_of records))
+
+-- A history settles each number at most once.
+abbrev pub SettlesOnce : Type 0
+SettlesOnce = (entry : Entry) (records : List Record) (number : ℕ) → IsHistory entry records
+    → count_by (settles number) records ≤ 1
+
+-- What each reservation of a history took adds up to its cost.
+abbrev pub AddsUp : Type 0
+AddsUp = (entry : Entry) (records : List Record) → IsHistory entry records → sum_by taken_of records ≡ cost_of records
+
+-- There is always room to settle what is open.
+abbrev pub KeepsRoom : Type 0
+KeepsRoom = (entry : Entry) (records : List Record) → IsLegal entry [] records
+    → length records + open_from 0 records ≤ entry.capacity
+
+-- A verdict doesn't depend on the answers.
+abbrev pub IgnoresAnswers : Type 0
+IgnoresAnswers = (entry : Entry) (start : ℕ) (records : List Record) (ask : Ask)
+    → money_verdict entry start (bare records) ask ≡ money_verdict entry start records ask

@@ -1,0 +1,65 @@
+-- what a book of records answers
+use Rattle.std.specs.Prelude.{◌≡◌, ℕ, ◌+◌, ◌-◌, ◌<◌, ◌≤◌, nat_lt, List, [], ◌∷◌, ◌++◌, length, Result, Ok, Err, if◌then◌else◌, None, IsSome}
+use Rattle.budget_core.specs.declared.records.Record.{Record}
+use Rattle.budget_core.specs.declared.records.Record.TheVariants.{Reserve}
+use Rattle.budget_core.specs.declared.entry.Ask.{Ask}
+use Rattle.budget_core.specs.declared.entry.Grant.{Grant}
+use Rattle.budget_core.specs.declared.entry.ReserveFault.{ReserveFault}
+use Rattle.budget_core.specs.declared.entry.ReserveFault.TheVariants.{OverBudget, Full}
+use Rattle.budget_core.specs.Cost.{cost_of}
+use Rattle.budget_core.specs.Counts.{reservations_of, reservation_of, outcome_of, open_from}
+use Rattle.budget_core.specs.Entries.{Entry, HasView, IsLowest, IsEpsilon}
+
+-- an owner's entry, the records found when the book was opened, and all records
+pub record Ledger : Type 0 where
+  pub entry : Entry
+  pub found : List Record
+  pub records : List Record
+
+-- reservations from this number on are of this run
+abbrev pub start_of : Ledger → ℕ
+start_of ledger = length (reservations_of ledger.found)
+
+-- the number of the next reservation
+abbrev pub next_number : List Record → ℕ
+next_number records = length (reservations_of records)
+
+-- the reservation that an ask would make, by how much it raises the cost aside
+abbrev pub reservation_for : List Record → Ask → ℕ → Record
+reservation_for records ask taken = Reserve (next_number records) ask.view ask.e ask.p ask.q taken ask.analyst
+
+-- the cost with this ask
+abbrev pub cost_with : List Record → Ask → ℕ
+cost_with records ask = cost_of (records ++ reservation_for records ask 0 ∷ [])
+
+-- by how much this ask raises the cost
+abbrev pub rise_of : List Record → Ask → ℕ
+rise_of records ask = cost_with records ask - cost_of records
+
+-- An ask is over budget where the cost with it exceeds the budget; else the journal is full where its
+-- records, a settlement for each open reservation and these two records exceed its capacity; else it is granted.
+abbrev pub money_verdict : Entry → (start : ℕ) → List Record → Ask → Result Grant ReserveFault
+money_verdict entry start records ask =
+    if nat_lt entry.budget (cost_with records ask)
+    then Err (OverBudget (cost_of records) (cost_with records ask) entry.budget (length records))
+    else if nat_lt entry.capacity (length records + open_from start records + 2)
+    then Err (Full (length records) (open_from start records) entry.capacity)
+    else Ok (record { number = next_number records; taken = rise_of records ask; seen = length records + 1 })
+
+-- an ask is of the entry
+pub record IsAskOf (entry : Entry) (ask : Ask) : Type 0 where
+  pub analyst : ask.analyst < entry.analysts
+  pub view : HasView entry ask.view
+  pub epsilon : IsEpsilon ask.e
+  pub lowest : IsLowest ask.p ask.q
+
+-- the records after an ask was answered
+abbrev pub records_after : List Record → Ask → Result Grant ReserveFault → List Record
+records_after records ask (Ok grant) = records ++ reservation_for records ask grant.taken ∷ []
+records_after records ask (Err fault) = records
+
+-- the reservation of this number was made in this run and isn't settled
+pub record IsUnsettled (ledger : Ledger) (number : ℕ) : Type 0 where
+  pub ours : start_of ledger ≤ number
+  pub reserved : IsSome (reservation_of ledger.records number)
+  pub unsettled : outcome_of ledger.records number ≡ None

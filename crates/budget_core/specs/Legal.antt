@@ -1,0 +1,49 @@
+-- which records may follow which
+use Rattle.std.specs.Prelude.{◌≡◌, ℕ, ◌+◌, ◌≤◌, ◌<◌, List, [], ◌∷◌, ◌++◌, length, take, slice_get, Some, None, IsSome}
+use Rattle.budget_core.specs.declared.records.View.{View}
+use Rattle.budget_core.specs.declared.records.Outcome.{Outcome}
+use Rattle.budget_core.specs.declared.records.Record.{Record}
+use Rattle.budget_core.specs.declared.records.Record.TheVariants.{Reserve, Settle}
+use Rattle.budget_core.specs.Cost.{cost_of}
+use Rattle.budget_core.specs.Counts.{reservations_of, reservation_of, outcome_of, open_from}
+use Rattle.budget_core.specs.Entries.{Entry, HasView, IsLowest, IsEpsilon}
+
+-- A reservation is numbered by those before it, names an analyst and a view of the entry, says by how much
+-- the cost rose, and keeps to the budget.
+pub record IsReservationAfter (entry : Entry) (records : List Record) (number : ℕ) (view : View) (e p q taken analyst : ℕ) : Type 0 where
+  pub numbered : number ≡ length (reservations_of records)
+  pub asked_by : analyst < entry.analysts
+  pub looks_at : HasView entry view
+  pub rise : cost_of (records ++ Reserve number view e p q taken analyst ∷ []) ≡ cost_of records + taken
+  pub within : cost_of (records ++ Reserve number view e p q taken analyst ∷ []) ≤ entry.budget
+
+-- A settlement is of a reservation that has none yet.
+pub record IsSettlementAfter (records : List Record) (number : ℕ) : Type 0 where
+  pub reserved : IsSome (reservation_of records number)
+  pub unsettled : outcome_of records number ≡ None
+
+-- the record may follow these records
+abbrev pub MayFollow : Entry → List Record → Record → Type 0
+MayFollow entry records (Reserve number view e p q taken analyst) = IsReservationAfter entry records number view e p q taken analyst
+MayFollow entry records (Settle number outcome) = IsSettlementAfter records number
+
+-- each record may follow those before it
+pub record IsHistory (entry : Entry) (records : List Record) : Type 0 where
+  pub follows : (k : ℕ) (next : Record) → slice_get records k ≡ Some next → MayFollow entry (take k records) next
+
+-- the numbers in a record are within their ranges
+abbrev pub IsValid : Record → Type 0
+IsValid (Reserve number view e p q taken analyst) = IsEpsilon e × IsLowest p q
+IsValid (Settle number outcome) = Unit {0}
+
+-- Records are legal after those found at the start: they begin with the found ones; each later record may follow
+-- those before it; a later settlement is of a reservation that wasn't found; and there is always room to settle
+-- what is open.
+pub record IsLegal (entry : Entry) (found records : List Record) : Type 0 where
+  pub begins : take (length found) records ≡ found
+  pub follows : (k : ℕ) (next : Record) → length found ≤ k → slice_get records k ≡ Some next → MayFollow entry (take k records) next
+  pub settles : (k number : ℕ) (outcome : Outcome) → length found ≤ k → slice_get records k ≡ Some (Settle number outcome)
+      → length (reservations_of found) ≤ number
+  pub room : length found ≤ entry.capacity → (k : ℕ) → length found < k → k ≤ length records
+      → k + open_from (length (reservations_of found)) (take k records) ≤ entry.capacity
+  pub valid : (k : ℕ) (next : Record) → length found ≤ k → slice_get records k ≡ Some next → IsValid next

@@ -1,0 +1,9 @@
+pub mod Views
+pub mod Cost
+pub mod Entries
+pub mod Counts
+pub mod Legal
+pub mod Ledger
+pub mod Kept
+pub mod Bare
+pub mod Laws
