@@ -1,0 +1,5 @@
+mod Examples
+pub mod Cuts
+pub mod Epsilons
+pub mod Requests
+pub mod Replies

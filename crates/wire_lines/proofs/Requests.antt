@@ -1,0 +1,289 @@
+-- A request line is read as its grammar says.
+use Rattle.std.proofs.Common.{◌≡◌, ◌≢◌, ◌↔◌, ℕ, ◌<◌, ◌≤◌, true, false, not, eqb, ltb, List, [], ◌∷◌, ◌++◌, length, All, Option, Some, None, Result, Ok, Err, IfOk, codes, bytes_eq, inl, inr, refl, sym, ap, subst, ◌∙◌, arith, append_assoc}
+use Rattle.std.specs.List.{list_all, AllByRecursion}
+use Rattle.std.proofs.lemmas.Bool.{ne_eqb, eqb-false, not-true, and_parts, cases_Bool, cases_lt, lt-ltb, le-ltb, cond-true, cond-false}
+use Rattle.std.proofs.lemmas.List.Elements.{All-from_recursion}
+use Rattle.std.proofs.lemmas.List.Splits.{slice_split_at, slice_split_none, join_with_byte-slice_split}
+use Rattle.std.proofs.lemmas.Option.{none-some, same_Some}
+use Rattle.std.proofs.lemmas.Slice.Eq.{bytes_eq-Decides}
+use Rattle.wire_lines.specs.Lines.{space, words_of, joined}
+use Rattle.wire_lines.specs.Epsilon.{epsilon_of}
+use Rattle.wire_lines.specs.Request.{Asked, hello, ask, bye, IsWord, IsAmount, IsRequest, one_word, all_rest, fault_from, fault_among, fault_of, word_at, rest_at, end_at, hello_from, ask_from, bye_from, request_from, request_of, asked, reading, HasEpsilonInRange}
+use Rattle.wire_lines.specs.declared.request.Request.{Request}
+use Rattle.wire_lines.specs.declared.request.Request.TheVariants.{Hello, Ask, Bye}
+use Rattle.wire_lines.specs.declared.request.LineFault.{LineFault}
+use Rattle.wire_lines.specs.declared.request.LineFault.TheVariants.{Malformed, TooLong}
+use Rattle.wire_lines.specs.declared.request.TheConstants.{LINE_LIMIT}
+use Rattle.wire_lines.proofs.Epsilons.{epsilon_from, epsilon_to}
+
+apart_tests : (line : List ℕ) → All (λ b. b ≢ space) line → All (λ b. eqb b space ≡ false) line
+apart_tests line apart k d h = ne_eqb _ _ (apart k d h)
+
+-- a line with no space is one word
+pub words_one : (line : List ℕ) → All (λ b. b ≢ space) line → words_of line ≡ line ∷ []
+words_one line apart = slice_split_none (λ b. eqb b space) line (apart_tests line apart)
+
+-- the first word ends at the first space
+pub words_cut : (line word rest : List ℕ) → All (λ b. b ≢ space) word → line ≡ word ++ space ∷ rest → words_of line ≡ word ∷ words_of rest
+words_cut line word rest apart cut = ap words_of cut ∙ slice_split_at (λ b. eqb b space) word space rest (apart_tests word apart) refl
+
+-- there is a first word
+some_word : (line : List ℕ) → (word : List ℕ) × (words : List (List ℕ)) × (words_of line ≡ word ∷ words)
+some_word [] = ([], [], refl)
+some_word (b ∷ bytes) = let (word, words, e) = some_word bytes in elim (cases_Bool (eqb b space)) [
+  | inl here ↦ ([], words_of bytes, rw here refl)
+  | inr off ↦ (b ∷ word, words, rw (off, e) refl)
+]
+
+pub rest_is : (n : ℕ) (line : List ℕ) → rest_at n (words_of line) ≡ Ok line
+rest_is n line = let (word, words, e) = some_word line in
+    ap (rest_at n) e ∙ ap (λ bytes. Ok bytes) (sym (ap joined e) ∙ join_with_byte-slice_split space line)
+
+pub word_there : (n : ℕ) (word : List ℕ) (words : List (List ℕ)) → 0 < length word → word_at n (word ∷ words) ≡ Ok (word, words)
+word_there n [] words some = absurd (omega arith)
+word_there n (b ∷ bytes) words some = refl
+
+pub word_empty : (n : ℕ) (word : List ℕ) (words : List (List ℕ)) → length word ≡ 0 → word_at n (word ∷ words) ≡ Err (Malformed n)
+word_empty n [] words none = refl
+word_empty n (b ∷ bytes) words none = absurd (omega arith)
+
+pub end_there : (n : ℕ) (line : List ℕ) → end_at n (words_of line) ≡ Err (Malformed n)
+end_there n line = let (word, words, e) = some_word line in ap (end_at n) e
+
+-- no word has a space
+HasNoSpace : List ℕ → Type 0
+HasNoSpace word = AllByRecursion (λ b. b ≢ space) word
+
+words_apart : (line : List ℕ) → AllByRecursion HasNoSpace (words_of line)
+unfolding HasNoSpace
+words_apart [] = (tt, tt)
+words_apart (b ∷ bytes) = elim (cases_Bool (eqb b space)) [
+  | inl here ↦ rw here (tt, words_apart bytes)
+  | inr off ↦
+      let (word, words, e) = some_word bytes in
+      let others : AllByRecursion HasNoSpace (word ∷ words) = rw e at (words_apart bytes) in
+      rw (off, e) ((eqb-false b space off, others.0), others.1)
+]
+
+-- What is read is in the grammar.
+amount_is : (amount : List ℕ) → IsAmount amount (epsilon_of amount)
+amount_is amount = go (epsilon_of amount) refl
+  where
+    go : (epsilon : Option ℕ) → epsilon_of amount ≡ epsilon → IsAmount amount epsilon
+    go (Some n) e = epsilon_from amount n e
+    go None e = λ n written. none-some n (sym e ∙ epsilon_to amount n written)
+
+epsilon_is : (amount : List ℕ) (epsilon : Option ℕ) → IsAmount amount epsilon → epsilon_of amount ≡ epsilon
+epsilon_is amount (Some n) written = epsilon_to amount n written
+epsilon_is amount None other = go (epsilon_of amount) refl
+  where
+    go : (epsilon : Option ℕ) → epsilon_of amount ≡ epsilon → epsilon_of amount ≡ None
+    go (Some n) e = absurd (other n (epsilon_from amount n e))
+    go None e = e
+
+a_word : (word : List ℕ) → 0 < length word → HasNoSpace word → IsWord word
+unfolding HasNoSpace
+a_word word some apart = (some, All-from_recursion _ word apart)
+
+hello_found : (words : List (List ℕ)) (r : Asked) → AllByRecursion HasNoSpace words → hello_from words ≡ Ok r → IsRequest (joined (codes "hello" ∷ words)) r
+hello_found [] r apart h = absurd cc
+hello_found ([] ∷ words) r apart h = absurd cc
+hello_found ((b ∷ bytes) ∷ w ∷ words) r apart h = absurd cc
+hello_found ((b ∷ bytes) ∷ []) r apart h =
+    let same : hello (b ∷ bytes) ≡ r = cc in
+    subst (λ q. IsRequest (joined (codes "hello" ∷ (b ∷ bytes) ∷ [])) q) same (a_word (b ∷ bytes) (omega arith) apart.0, refl)
+
+ask_found : (words : List (List ℕ)) (r : Asked) → AllByRecursion HasNoSpace words → ask_from words ≡ Ok r → IsRequest (joined (codes "ask" ∷ words)) r
+ask_found [] r apart h = absurd cc
+ask_found ([] ∷ words) r apart h = absurd cc
+ask_found ((b ∷ bytes) ∷ []) r apart h = absurd cc
+ask_found ((b ∷ bytes) ∷ [] ∷ words) r apart h = absurd cc
+ask_found ((b ∷ bytes) ∷ (c ∷ amount) ∷ []) r apart h = absurd cc
+ask_found ((b ∷ bytes) ∷ (c ∷ amount) ∷ w ∷ words) r apart h =
+    let same : ask (b ∷ bytes) (epsilon_of (c ∷ amount)) (joined (w ∷ words)) ≡ r = cc in
+    subst (λ q. IsRequest (joined (codes "ask" ∷ (b ∷ bytes) ∷ (c ∷ amount) ∷ w ∷ words)) q) same
+    (c ∷ amount, a_word (b ∷ bytes) (omega arith) apart.0, a_word (c ∷ amount) (omega arith) apart.1.0, amount_is (c ∷ amount), ap (λ ys. codes "ask " ++ b ∷ ys) (sym (append_assoc bytes (space ∷ c ∷ amount) (space ∷ joined (w ∷ words)))))
+
+bye_found : (words : List (List ℕ)) (r : Asked) → bye_from words ≡ Ok r → IsRequest (joined (codes "bye" ∷ words)) r
+bye_found [] r h = let same : bye ≡ r = cc in subst (λ q. IsRequest (codes "bye") q) same refl
+bye_found (w ∷ words) r h = absurd cc
+
+kind_is : (kind name : List ℕ) → bytes_eq kind name ≡ true → kind ≡ name
+kind_is kind name h = (bytes_eq-Decides kind name).0 h
+
+from_found : (words : List (List ℕ)) (r : Asked) → AllByRecursion HasNoSpace words → request_from words ≡ Ok r → IsRequest (joined words) r
+from_found [] r apart h = absurd cc
+from_found (kind ∷ words) r apart h = elim (cases_Bool (bytes_eq kind (codes "hello"))) [
+  | inl is_hello ↦
+      subst (λ k. IsRequest (joined (k ∷ words)) r) (sym (kind_is kind (codes "hello") is_hello)) (hello_found words r apart.1 (rw is_hello at h))
+  | inr not_hello ↦ elim (cases_Bool (bytes_eq kind (codes "ask"))) [
+    | inl is_ask ↦
+        subst (λ k. IsRequest (joined (k ∷ words)) r) (sym (kind_is kind (codes "ask") is_ask)) (ask_found words r apart.1 (rw (not_hello, is_ask) at h))
+    | inr not_ask ↦ elim (cases_Bool (bytes_eq kind (codes "bye"))) [
+      | inl is_bye ↦
+          subst (λ k. IsRequest (joined (k ∷ words)) r) (sym (kind_is kind (codes "bye") is_bye)) (bye_found words r (rw (not_hello, not_ask, is_bye) at h))
+      | inr not_bye ↦ let none : Err (Malformed 0) ≡ Ok r = rw (not_hello, not_ask, not_bye) at h in absurd cc
+    ]
+  ]
+]
+
+pub request_found : (line : List ℕ) (r : Asked) → request_from (words_of line) ≡ Ok r → IsRequest line r
+request_found line r h = subst (λ bytes. IsRequest bytes r) (join_with_byte-slice_split space line) (from_found (words_of line) r (words_apart line) h)
+
+-- What is in the grammar is read.
+literal_apart : (word : List ℕ) → list_all (λ b. not (eqb b space)) word ≡ true → AllByRecursion (λ b. b ≢ space) word
+literal_apart [] h = tt
+literal_apart (b ∷ bytes) h =
+    let (one, others) = and_parts (not (eqb b space)) (list_all (λ c. not (eqb c space)) bytes) h in
+    (eqb-false b space (not-true (eqb b space) one), literal_apart bytes others)
+
+literal_word : (word : List ℕ) → list_all (λ b. not (eqb b space)) word ≡ true → All (λ b. b ≢ space) word
+literal_word word h = All-from_recursion _ word (literal_apart word h)
+
+hello_taken : (words : List (List ℕ)) (analyst : List ℕ) → IsWord analyst → words ≡ analyst ∷ [] → hello_from words ≡ Ok (hello analyst)
+hello_taken words [] word e = absurd (omega arith)
+hello_taken words (b ∷ bytes) word e = ap hello_from e
+
+ask_taken : (owner amount word : List ℕ) (words : List (List ℕ)) → 0 < length owner → 0 < length amount → ask_from (owner ∷ amount ∷ word ∷ words) ≡ Ok (ask owner (epsilon_of amount) (joined (word ∷ words)))
+ask_taken [] amount word words first second = absurd (omega arith)
+ask_taken (b ∷ bytes) [] word words first second = absurd (omega arith)
+ask_taken (b ∷ bytes) (c ∷ amount) word words first second = refl
+
+pub request_taken : (line : List ℕ) (r : Asked) → IsRequest line r → request_from (words_of line) ≡ Ok r
+request_taken line (hello analyst) (word, spelled) =
+    ap request_from (words_cut line (codes "hello") analyst (literal_word (codes "hello") refl) spelled)
+    ∙ hello_taken (words_of analyst) analyst word (words_one analyst word.1)
+request_taken line (ask owner epsilon program) (amount, first, second, written, spelled) =
+    let (word, words, e) = some_word program in
+    let behind : words_of (owner ++ (space ∷ amount ++ (space ∷ program))) ≡ owner ∷ amount ∷ word ∷ words =
+    words_cut _ owner (amount ++ (space ∷ program)) first.1 refl ∙ ap (λ ws. owner ∷ ws) (words_cut _ amount program second.1 refl ∙ ap (λ ws. amount ∷ ws) e) in
+    ap request_from (words_cut line (codes "ask") (owner ++ (space ∷ amount ++ (space ∷ program))) (literal_word (codes "ask") refl) (spelled ∙ ap (λ ys. codes "ask " ++ ys) (append_assoc owner (space ∷ amount) (space ∷ program))))
+    ∙ ap ask_from behind ∙ ask_taken owner amount word words first.0 second.0
+    ∙ ap (λ e. Ok (ask owner e (joined (word ∷ words)))) (epsilon_is amount epsilon written)
+    ∙ ap (λ bytes. Ok (ask owner epsilon bytes)) (sym (ap joined e) ∙ join_with_byte-slice_split space program)
+request_taken line bye spelled = ap (λ bytes. request_from (words_of bytes)) spelled
+
+-- A reading and a fault that say the same.
+Agree : Result Asked LineFault → Option ℕ → Type 0
+Agree (Ok r) None = Unit {0}
+Agree (Ok r) (Some w) = ⊥
+Agree (Err (Malformed v)) (Some w) = v ≡ w
+Agree (Err (Malformed v)) None = ⊥
+Agree (Err TooLong) o = ⊥
+
+hello_agrees : (words : List (List ℕ)) → Agree (hello_from words) (fault_from 1 (one_word ∷ []) words)
+unfolding Agree
+hello_agrees [] = refl
+hello_agrees ([] ∷ words) = refl
+hello_agrees ((b ∷ bytes) ∷ []) = tt
+hello_agrees ((b ∷ bytes) ∷ w ∷ words) = refl
+
+ask_agrees : (words : List (List ℕ)) → Agree (ask_from words) (fault_from 1 (one_word ∷ one_word ∷ all_rest ∷ []) words)
+unfolding Agree
+ask_agrees [] = refl
+ask_agrees ([] ∷ words) = refl
+ask_agrees ((b ∷ bytes) ∷ []) = refl
+ask_agrees ((b ∷ bytes) ∷ [] ∷ words) = refl
+ask_agrees ((b ∷ bytes) ∷ (c ∷ amount) ∷ []) = refl
+ask_agrees ((b ∷ bytes) ∷ (c ∷ amount) ∷ w ∷ words) = tt
+
+bye_agrees : (words : List (List ℕ)) → Agree (bye_from words) (fault_from 1 [] words)
+unfolding Agree
+bye_agrees [] = tt
+bye_agrees (w ∷ words) = refl
+
+agree : (words : List (List ℕ)) → Agree (request_from words) (fault_among words)
+unfolding Agree
+agree [] = refl
+agree (kind ∷ words) = elim (cases_Bool (bytes_eq kind (codes "hello"))) [
+  | inl is_hello ↦ rw is_hello (hello_agrees words)
+  | inr not_hello ↦ elim (cases_Bool (bytes_eq kind (codes "ask"))) [
+    | inl is_ask ↦ rw (not_hello, is_ask) (ask_agrees words)
+    | inr not_ask ↦ elim (cases_Bool (bytes_eq kind (codes "bye"))) [
+      | inl is_bye ↦ rw (not_hello, not_ask, is_bye) (bye_agrees words)
+      | inr not_bye ↦ rw (not_hello, not_ask, not_bye) refl
+    ]
+  ]
+]
+
+agree_from : (r : Result Asked LineFault) (o : Option ℕ) (w : ℕ) → Agree r o → r ≡ Err (Malformed w) → o ≡ Some w
+unfolding Agree
+agree_from (Ok r) o w both h = absurd cc
+agree_from (Err (Malformed v)) (Some u) w both h = ap (λ n. Some n) (sym both ∙ cc)
+agree_from (Err (Malformed v)) None w both h = absurd both
+agree_from (Err TooLong) o w both h = absurd both
+
+agree_to : (r : Result Asked LineFault) (o : Option ℕ) (w : ℕ) → Agree r o → o ≡ Some w → r ≡ Err (Malformed w)
+unfolding Agree
+agree_to (Ok r) None w both h = absurd (none-some w h)
+agree_to (Ok r) (Some u) w both h = absurd both
+agree_to (Err (Malformed v)) (Some u) w both h = ap (λ n. Err (Malformed n)) (both ∙ same_Some u w h)
+agree_to (Err (Malformed v)) None w both h = absurd both
+agree_to (Err TooLong) o w both h = absurd both
+
+agree_short : (r : Result Asked LineFault) (o : Option ℕ) → Agree r o → r ≡ Err TooLong → ⊥
+unfolding Agree
+agree_short (Ok r) o both h = cc
+agree_short (Err (Malformed v)) o both h = cc
+agree_short (Err TooLong) o both h = both
+
+-- The same with the limit.
+looked_at : (line : List ℕ) → length line ≤ LINE_LIMIT → request_of line ≡ request_from (words_of line)
+unfolding request_of
+looked_at line short = cond-false (ltb LINE_LIMIT (length line)) (Err TooLong) (request_from (words_of line)) (le-ltb LINE_LIMIT (length line) short)
+
+skipped : (line : List ℕ) → LINE_LIMIT < length line → request_of line ≡ Err TooLong
+unfolding request_of
+skipped line long = cond-true (ltb LINE_LIMIT (length line)) (Err TooLong) (request_from (words_of line)) (lt-ltb LINE_LIMIT (length line) long)
+
+pub grammar_from : (line : List ℕ) (r : Asked) → request_of line ≡ Ok r → (length line ≤ LINE_LIMIT) × IsRequest line r
+grammar_from line r h = elim (cases_lt LINE_LIMIT (length line)) [
+  | inl long ↦ let none : Err TooLong ≡ Ok r = sym (skipped line long) ∙ h in absurd cc
+  | inr short ↦ (short, request_found line r (sym (looked_at line short) ∙ h))
+]
+
+pub grammar_to : (line : List ℕ) (r : Asked) → (length line ≤ LINE_LIMIT) × IsRequest line r → request_of line ≡ Ok r
+grammar_to line r (short, spelled) = looked_at line short ∙ request_taken line r spelled
+
+pub one_request : (line : List ℕ) (a b : Asked) → IsRequest line a → IsRequest line b → a ≡ b
+one_request line a b first second = let same : Ok a ≡ Ok b = sym (request_taken line a first) ∙ request_taken line b second in cc
+
+pub malformed_from : (line : List ℕ) (w : ℕ) → request_of line ≡ Err (Malformed w) → (length line ≤ LINE_LIMIT) × (fault_of line ≡ Some w)
+malformed_from line w h = elim (cases_lt LINE_LIMIT (length line)) [
+  | inl long ↦ let none : Err TooLong ≡ Err (Malformed w) = sym (skipped line long) ∙ h in absurd cc
+  | inr short ↦ (short, agree_from (request_from (words_of line)) (fault_of line) w (agree (words_of line)) (sym (looked_at line short) ∙ h))
+]
+
+pub malformed_to : (line : List ℕ) (w : ℕ) → (length line ≤ LINE_LIMIT) × (fault_of line ≡ Some w) → request_of line ≡ Err (Malformed w)
+malformed_to line w (short, fault) = looked_at line short ∙ agree_to (request_from (words_of line)) (fault_of line) w (agree (words_of line)) fault
+
+pub long_from : (line : List ℕ) → request_of line ≡ Err TooLong → LINE_LIMIT < length line
+long_from line h = elim (cases_lt LINE_LIMIT (length line)) [
+  | inl long ↦ long
+  | inr short ↦ absurd (agree_short (request_from (words_of line)) (fault_of line) (agree (words_of line)) (sym (looked_at line short) ∙ h))
+]
+
+pub long_to : (line : List ℕ) → LINE_LIMIT < length line → request_of line ≡ Err TooLong
+long_to line long = skipped line long
+
+-- What the program returns, against what its reading says.
+err_from : (r : Result Request LineFault) (fault : LineFault) → reading r ≡ Err fault → r ≡ Err fault
+err_from (Ok request) fault h = absurd cc
+err_from (Err e) fault h = let same : e ≡ fault = cc in ap (λ f. Err f) same
+
+pub result_found : (line : List ℕ) (r : Result Request LineFault) → reading r ≡ request_of line → IfOk r (λ request. IsRequest line (asked request))
+result_found line (Ok request) h = (grammar_from line (asked request) (sym h)).1
+result_found line (Err fault) h = tt
+
+pub result_epsilon : (line : List ℕ) (r : Result Request LineFault) → reading r ≡ request_of line → IfOk r HasEpsilonInRange
+result_epsilon line (Ok (Hello analyst)) h = tt
+result_epsilon line (Ok (Ask owner None program)) h = tt
+result_epsilon line (Ok (Ask owner (Some n) program)) h = let (amount, first, second, (whole, fraction, numeral, written, value, low, high), spelled) = (grammar_from line (ask owner.now (Some n) program.now) (sym h)).1 in (low, high)
+result_epsilon line (Ok Bye) h = tt
+result_epsilon line (Err fault) h = tt
+
+pub result_malformed : (line : List ℕ) (r : Result Request LineFault) → reading r ≡ request_of line → (w : ℕ) → (r ≡ Err (Malformed w)) ↔ ((length line ≤ LINE_LIMIT) × (fault_of line ≡ Some w))
+result_malformed line r h w = (λ e. malformed_from line w (sym h ∙ ap reading e), λ f. err_from r (Malformed w) (h ∙ malformed_to line w f))
+
+pub result_long : (line : List ℕ) (r : Result Request LineFault) → reading r ≡ request_of line → (r ≡ Err TooLong) ↔ (LINE_LIMIT < length line)
+result_long line r h = (λ e. long_from line (sym h ∙ ap reading e), λ f. err_from r TooLong (h ∙ long_to line f))

@@ -1,0 +1,5 @@
+pub mod Lines
+pub mod Epsilon
+pub mod Request
+pub mod Name
+pub mod Reply

@@ -1,0 +1,143 @@
+-- The grammar of a request line, and how one is read.
+use Rattle.std.specs.Prelude.{◌≡◌, ◌≢◌, ℕ, ◌+◌, ◌<◌, ◌≤◌, nat_lt, if◌then◌else◌, List, [], ◌∷◌, ◌++◌, length, codes, bytes_eq, All, Option, Some, None, Result, Ok, Err, ⊤}
+use Rattle.std.specs.Borrow.{Bor}
+use Rattle.std.specs.Result.{result_map_both}
+use Rattle.wire_lines.specs.Lines.{space, words_of, joined}
+use Rattle.wire_lines.specs.Epsilon.{IsEpsilon, epsilon_of, GREATEST}
+use Rattle.wire_lines.specs.declared.request.Request.{Request}
+use Rattle.wire_lines.specs.declared.request.Request.TheVariants.{Hello, Ask, Bye}
+use Rattle.wire_lines.specs.declared.request.LineFault.{LineFault}
+use Rattle.wire_lines.specs.declared.request.LineFault.TheVariants.{Malformed, TooLong}
+use Rattle.wire_lines.specs.declared.request.TheConstants.{LINE_LIMIT}
+
+-- what a line asks for; an epsilon that is no decimal in range is none
+pub data Asked : Type 0 where
+  hello : List ℕ → Asked
+  ask : List ℕ → Option ℕ → List ℕ → Asked
+  bye : Asked
+
+-- a word has a byte, and no space
+abbrev pub IsWord : List ℕ → Type 0
+IsWord word = (0 < length word) × All (λ b. b ≢ space) word
+
+-- a text is written for this epsilon, or is no epsilon
+abbrev pub IsAmount : List ℕ → Option ℕ → Type 0
+IsAmount text (Some n) = IsEpsilon text n
+IsAmount text None = (n : ℕ) → IsEpsilon text n → ⊥
+
+-- The grammar. A program is the whole rest of its line, perhaps empty, spaces and all.
+abbrev pub IsRequest : List ℕ → Asked → Type 0
+IsRequest line (hello analyst) = IsWord analyst × (line ≡ codes "hello " ++ analyst)
+IsRequest line (ask owner epsilon program) = (amount : List ℕ) × IsWord owner × IsWord amount × IsAmount amount epsilon × (line ≡ codes "ask " ++ owner ++ (space ∷ amount) ++ (space ∷ program))
+IsRequest line bye = line ≡ codes "bye"
+
+-- What stands at a place of a line: a word, or the rest of the line.
+pub data Part : Type 0 where
+  one_word : Part
+  all_rest : Part
+
+-- the kinds of lines, each with what follows its first word
+abbrev pub parts_of : List ℕ → Option (List Part)
+parts_of kind =
+    if bytes_eq kind (codes "hello") then Some (one_word ∷ [])
+    else (if bytes_eq kind (codes "ask") then Some (one_word ∷ one_word ∷ all_rest ∷ [])
+    else (if bytes_eq kind (codes "bye") then Some [] else None))
+
+-- from word number n on, the first word that is missing, empty or too many
+abbrev pub fault_from : ℕ → List Part → List (List ℕ) → Option ℕ
+fault_from n [] [] = None
+fault_from n [] (_ ∷ _) = Some n
+fault_from n (all_rest ∷ parts) [] = Some n
+fault_from n (all_rest ∷ parts) (_ ∷ _) = None
+fault_from n (one_word ∷ parts) [] = Some n
+fault_from n (one_word ∷ parts) ([] ∷ words) = Some n
+fault_from n (one_word ∷ parts) ((_ ∷ _) ∷ words) = fault_from (n + 1) parts words
+
+abbrev pub fault_behind : Option (List Part) → List (List ℕ) → Option ℕ
+fault_behind None words = Some 0
+fault_behind (Some parts) words = fault_from 1 parts words
+
+abbrev pub fault_among : List (List ℕ) → Option ℕ
+fault_among [] = Some 0
+fault_among (kind ∷ words) = fault_behind (parts_of kind) words
+
+-- The first word at fault, counted from 0: the first word of all where it names no kind of line.
+abbrev pub fault_of : List ℕ → Option ℕ
+fault_of line = fault_among (words_of line)
+
+-- Reading goes on where the step before it was no fault.
+infixl 10 ◌>>=◌
+abbrev pub ◌>>=◌ : {A B : Type 0} → Result A LineFault → (A → Result B LineFault) → Result B LineFault
+(Ok x) >>= f = f x
+(Err fault) >>= f = Err fault
+
+-- word number n, which has a byte, and the words behind it
+abbrev pub word_at : ℕ → List (List ℕ) → Result (List ℕ × List (List ℕ)) LineFault
+word_at n [] = Err (Malformed n)
+word_at n ([] ∷ _) = Err (Malformed n)
+word_at n ((b ∷ bytes) ∷ words) = Ok (b ∷ bytes, words)
+
+-- the rest of the line from word number n on, which is there and may be empty
+abbrev pub rest_at : ℕ → List (List ℕ) → Result (List ℕ) LineFault
+rest_at n [] = Err (Malformed n)
+rest_at n (w ∷ words) = Ok (joined (w ∷ words))
+
+-- no word number n is there
+abbrev pub end_at : ℕ → List (List ℕ) → Result (Unit {0}) LineFault
+end_at n [] = Ok tt
+end_at n (_ ∷ _) = Err (Malformed n)
+
+-- What a line asks for, by the words behind its first one.
+abbrev pub hello_from : List (List ℕ) → Result Asked LineFault
+hello_from words = do
+  analyst ← word_at 1 words
+  _ ← end_at 2 analyst.1
+  Ok (hello analyst.0)
+
+abbrev pub ask_from : List (List ℕ) → Result Asked LineFault
+ask_from words = do
+  owner ← word_at 1 words
+  amount ← word_at 2 owner.1
+  program ← rest_at 3 amount.1
+  Ok (ask owner.0 (epsilon_of amount.0) program)
+
+abbrev pub bye_from : List (List ℕ) → Result Asked LineFault
+bye_from words = do
+  _ ← end_at 1 words
+  Ok bye
+
+abbrev pub request_from : List (List ℕ) → Result Asked LineFault
+request_from [] = Err (Malformed 0)
+request_from (kind ∷ words) =
+    if bytes_eq kind (codes "hello") then hello_from words
+    else (if bytes_eq kind (codes "ask") then ask_from words
+    else (if bytes_eq kind (codes "bye") then bye_from words else Err (Malformed 0)))
+
+-- A line over the limit isn't looked at.
+unfoldable pub request_of : List ℕ → Result Asked LineFault
+request_of line = if nat_lt LINE_LIMIT (length line) then Err TooLong else request_from (words_of line)
+
+-- what a request of the program asks for
+abbrev pub asked : Request → Asked
+asked (Hello analyst) = hello analyst.now
+asked (Ask owner epsilon program) = ask owner.now epsilon program.now
+asked Bye = bye
+
+abbrev pub reading : Result Request LineFault → Result Asked LineFault
+reading r = result_map_both asked (λ fault. fault) r
+
+-- what is left of a line behind some word of it: nothing, or the words behind a space
+abbrev pub words_behind : Option (Bor (List ℕ)) → List (List ℕ)
+words_behind None = []
+words_behind (Some rest) = words_of rest.now
+
+-- a word and what is left behind it
+abbrev pub word_and_words : Bor (List ℕ) × Option (Bor (List ℕ)) → List ℕ × List (List ℕ)
+word_and_words (word, rest) = (word.now, words_behind rest)
+
+-- an epsilon is from 1 to 10^9 millionths
+abbrev pub HasEpsilonInRange : Request → Type 0
+HasEpsilonInRange (Hello analyst) = ⊤
+HasEpsilonInRange (Ask owner None program) = ⊤
+HasEpsilonInRange (Ask owner (Some n) program) = (0 < n) × (n ≤ GREATEST)
+HasEpsilonInRange Bye = ⊤

@@ -1,0 +1,212 @@
+use crate::name::Name;
+use crate::refusal::{Refusal, Sensitivity, TypeFault};
+use crate::reply::{REPLY_LIMIT, Reply, write_reply};
+use crate::request::{LINE_LIMIT, LineFault, Request, read_request};
+use crate::{
+    epsilons_are_read_by_the_grammar, lines_are_read_by_the_grammar, next_line,
+    replies_differ_in_their_texts,
+};
+
+fn ask(epsilon: Option<u32>, program: &[u8]) -> Result<Request<'_>, LineFault> {
+    Ok(Request::Ask {
+        owner: b"census",
+        epsilon,
+        program,
+    })
+}
+
+fn malformed(word: u32) -> Result<Request<'static>, LineFault> {
+    Err(LineFault::Malformed { word })
+}
+
+#[test]
+fn reads_requests(rt: HostRuntime) {
+    let rows: [(&[u8], Result<Request<'_>, LineFault>); 24] = [
+        (b"hello ann", Ok(Request::Hello { analyst: b"ann" })),
+        (b"hello", malformed(1)),
+        (b"hello ", malformed(1)),
+        (b"hello  ann", malformed(1)),
+        (b"hello ann ", malformed(2)),
+        (b"hello ann x", malformed(2)),
+        (
+            b"ask census 0.5 size people",
+            ask(Some(500_000), b"size people"),
+        ),
+        (b"ask census 0.000001 a  b ", ask(Some(1), b"a  b ")),
+        (b"ask census 1000 1", ask(Some(1_000_000_000), b"1")),
+        (b"ask census 0001.0 1", ask(Some(1_000_000), b"1")),
+        (b"ask census 0 size people", ask(None, b"size people")),
+        (b"ask census 1. 1", ask(None, b"1")),
+        (b"ask census 0.0000001 1", ask(None, b"1")),
+        (b"ask census 1000.000001 1", ask(None, b"1")),
+        (b"ask census 00001 1", ask(None, b"1")),
+        (b"ask census 1 ", ask(Some(1_000_000), b"")),
+        (b"ask census 1", malformed(3)),
+        (b"ask census  1 x", malformed(2)),
+        (b"ask", malformed(1)),
+        (b"ASK census 1 1", malformed(0)),
+        (b"recall census", malformed(0)),
+        (b"bye", Ok(Request::Bye)),
+        (b"bye ", malformed(1)),
+        (b"", malformed(0)),
+    ];
+    for (line, want) in rows {
+        assert!(rt; read_request(line) == want);
+    }
+}
+
+#[test]
+fn skips_long_lines(rt: HostRuntime) {
+    let line = [b'x'; LINE_LIMIT + 1];
+    assert!(rt; read_request(&line) == Err(LineFault::TooLong));
+    assert!(rt; read_request(&line[1..]) == malformed(0));
+}
+
+#[test]
+fn cuts_scripts(rt: HostRuntime) {
+    let mut script: &[u8] = b"hello ann\r\n\na\rb\r\r\nbye\n\r";
+    let lines: [&[u8]; 5] = [b"hello ann", b"", b"a\rb\r", b"bye", b""];
+    for want in lines {
+        if let Some((line, after)) = next_line(script) {
+            assert!(rt; line == want);
+            script = after;
+        }
+    }
+    assert!(rt; script.is_empty());
+    assert!(rt; next_line(script).is_none());
+    assert!(rt; matches!(next_line(b"bye"), Some((b"bye", b""))));
+}
+
+fn writes(reply: Reply<'_>, want: &[u8]) -> bool {
+    let mut out = [0; REPLY_LIMIT];
+    let len = write_reply(&reply, &mut out);
+    &out[..len] == want
+}
+
+#[test]
+fn writes_replies(rt: HostRuntime) {
+    let analyst = Name { bytes: b"ann" };
+    let table = Name {
+        bytes: b"a_name_of_thirty_two_bytes_00001",
+    };
+    assert!(rt; writes(Reply::Hello { analyst }, b"hello ann\n"));
+    let answer = Reply::Answer {
+        number: 0,
+        value: -5,
+        taken: 1_000_000,
+    };
+    assert!(rt; writes(answer, b"answer 0 -5 1000000\n"));
+    let lowest = Reply::Answer {
+        number: u32::MAX,
+        value: i64::MIN,
+        taken: 1,
+    };
+    assert!(rt; writes(lowest, b"answer 4294967295 -9223372036854775808 1\n"));
+    assert!(rt; writes(Reply::Bye, b"bye\n"));
+    assert!(rt;
+        writes(
+            Reply::Unbounded { table },
+            b"no 33 a_name_of_thirty_two_bytes_00001\n"
+        )
+    );
+}
+
+#[test]
+fn writes_refusals(rt: HostRuntime) {
+    let third = Sensitivity::Finite { p: 3, q: 2 };
+    let rows: [(Refusal, &[u8]); 23] = [
+        (Refusal::Malformed { word: 2 }, b"no 10 2\n"),
+        (Refusal::LineTooLong, b"no 11\n"),
+        (Refusal::Unknown { word: 1 }, b"no 12 1\n"),
+        (Refusal::NoEpsilon, b"no 13\n"),
+        (Refusal::NoHello, b"no 14\n"),
+        (Refusal::NoToken { place: 12 }, b"no 20 12\n"),
+        (Refusal::NoTerm { token: 1 }, b"no 21 1\n"),
+        (Refusal::TooNested { depth: 65 }, b"no 22 65\n"),
+        (
+            Refusal::IllTyped {
+                fault: TypeFault::Unbound,
+                from: 0,
+                to: 4,
+            },
+            b"no 30 unbound 0 4\n",
+        ),
+        (
+            Refusal::IllTyped {
+                fault: TypeFault::Mismatch,
+                from: 0,
+                to: 4,
+            },
+            b"no 30 mismatch 0 4\n",
+        ),
+        (
+            Refusal::IllTyped {
+                fault: TypeFault::NotGround,
+                from: 0,
+                to: 4,
+            },
+            b"no 30 notground 0 4\n",
+        ),
+        (
+            Refusal::IllTyped {
+                fault: TypeFault::NotFlat,
+                from: 0,
+                to: 4,
+            },
+            b"no 30 notflat 0 4\n",
+        ),
+        (
+            Refusal::TooSensitive {
+                from: 1,
+                to: 9,
+                r: third,
+            },
+            b"no 31 1 9 3/2\n",
+        ),
+        (
+            Refusal::TooSensitive {
+                from: 1,
+                to: 9,
+                r: Sensitivity::Finite { p: 2, q: 1 },
+            },
+            b"no 31 1 9 2\n",
+        ),
+        (
+            Refusal::TooSensitive {
+                from: 1,
+                to: 9,
+                r: Sensitivity::Infinite,
+            },
+            b"no 31 1 9 inf\n",
+        ),
+        (Refusal::OutOfRange { from: 0, to: 14 }, b"no 32 0 14\n"),
+        (Refusal::NoNumber, b"no 34\n"),
+        (Refusal::Unread { from: 0, to: 0 }, b"no 39 0 0\n"),
+        (
+            Refusal::OverBudget {
+                spent: 1,
+                after: 3,
+                budget: 2,
+                seen: 4,
+            },
+            b"no 40 1 3 2 4\n",
+        ),
+        (
+            Refusal::JournalFull {
+                used: 100,
+                open: 0,
+                capacity: 100,
+            },
+            b"no 41 100 0 100\n",
+        ),
+        (Refusal::Exhausted { number: 7 }, b"no 50 7\n"),
+        (Refusal::Lost { number: 8 }, b"no 51 8\n"),
+        (Refusal::NoMemory, b"no 90\n"),
+    ];
+    for (refusal, want) in rows {
+        assert!(rt; writes(Reply::Refused(refusal), want));
+    }
+    lines_are_read_by_the_grammar();
+    epsilons_are_read_by_the_grammar();
+    replies_differ_in_their_texts();
+}
