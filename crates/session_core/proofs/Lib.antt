@@ -1,0 +1,17 @@
+pub mod Turns
+pub mod Wants
+pub mod Numbered
+pub mod Bounded
+pub mod Lists
+pub mod Grants
+pub mod Steps
+pub mod Runs
+pub mod Headlines
+pub mod Names
+pub mod Scales
+pub mod Answering
+pub mod Turning
+pub mod Blind
+pub mod Losses
+pub mod Rows
+pub mod Examples

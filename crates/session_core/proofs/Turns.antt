@@ -1,0 +1,93 @@
+-- the turns of a script: whose lines they are, and who may speak
+use Rattle.std.proofs.Common.{◌≡◌, ℕ, ◌<◌, Bool, true, false, cond, List, [], ◌∷◌, ◌++◌, length, map, Option, Some, None, refl, ◌∙◌, ap, bytes_eq}
+use Rattle.std.specs.List.{flat_map, onto_first, AllByRecursion}
+use Rattle.std.specs.Prelude.{Result, Ok, Err}
+use Rattle.std.proofs.lemmas.List.{map-append}
+use Rattle.std.proofs.lemmas.List.Quantifiers.{position-Some}
+use Rattle.wire_lines.specs.Lines.{lines_of}
+use Rattle.wire_lines.specs.Request.{Asked, hello, ask, bye, request_of}
+use Rattle.wire_lines.specs.declared.request.LineFault.{LineFault}
+use Rattle.wire_lines.specs.declared.request.LineFault.TheVariants.{Malformed, TooLong}
+use Rattle.session_core.specs.House.{House, Owner, analyst_named, owner_named}
+use Rattle.session_core.specs.Reply.{meant_by, meant_by_request, meant_by_hello, meant_by_ask, next_who}
+use Rattle.session_core.specs.Transcript.{Turn, session_turns, blocks_of, turns_of, is_bye}
+
+-- the lines of a session's turns
+session_lines : (house : House) (who : Option ℕ) (lines : List (List ℕ)) → map (λ (t : Turn). t.line) (session_turns house who lines) ≡ lines
+session_lines house who [] = refl
+session_lines house who (line ∷ lines) = ap (λ (rest : List (List ℕ)). line ∷ rest) (session_lines house (next_who who (meant_by house who line)) lines)
+
+-- the lines of all blocks
+abbrev pub all_lines : List (List (List ℕ)) → List (List ℕ)
+all_lines [] = []
+all_lines (block ∷ blocks) = block ++ all_lines blocks
+
+onto_lines : (line : List ℕ) (blocks : List (List (List ℕ))) → all_lines (onto_first line blocks) ≡ line ∷ all_lines blocks
+onto_lines line [] = refl
+onto_lines line (block ∷ blocks) = refl
+
+block_lines : (lines : List (List ℕ)) → all_lines (blocks_of lines) ≡ lines
+block_lines [] = refl
+block_lines (line ∷ lines) = either (block_lines lines) (is_bye line)
+  where
+    either : all_lines (blocks_of lines) ≡ lines → (b : Bool) → all_lines (cond b ((line ∷ []) ∷ blocks_of lines) (onto_first line (blocks_of lines))) ≡ line ∷ lines
+    either h true = ap (λ (rest : List (List ℕ)). line ∷ rest) h
+    either h false = onto_lines line (blocks_of lines) ∙ ap (λ (rest : List (List ℕ)). line ∷ rest) h
+
+blocks_lines : (house : House) (blocks : List (List (List ℕ))) → map (λ (t : Turn). t.line) (flat_map (session_turns house None) blocks) ≡ all_lines blocks
+blocks_lines house [] = refl
+blocks_lines house (block ∷ blocks) =
+    map-append (λ (t : Turn). t.line) (session_turns house None block) (flat_map (session_turns house None) blocks)
+    ∙ cc (session_lines house None block, blocks_lines house blocks)
+
+-- The turns are the script's lines.
+pub turns_lines : (house : House) (script : List ℕ) → map (λ (t : Turn). t.line) (turns_of house script) ≡ lines_of script
+turns_lines house script = blocks_lines house (blocks_of (lines_of script)) ∙ block_lines (lines_of script)
+
+-- who speaks is an analyst of the house
+abbrev pub IsKnown : House → Option ℕ → Type 0
+IsKnown house None = Unit {0}
+IsKnown house (Some analyst) = analyst < length house.analysts
+
+greeted_known : (house : House) (who : Option ℕ) (name : List ℕ) (found : Option ℕ) → analyst_named house name ≡ found → IsKnown house who
+    → IsKnown house (next_who who (meant_by_hello house who name found))
+greeted_known house who name None at known = known
+greeted_known house who name (Some analyst) at known = (position-Some (λ a. bytes_eq a name) house.analysts analyst [] at).0
+
+ask_known : (house : House) (who : Option ℕ) (found : Option (ℕ × Owner)) (epsilon : Option ℕ) (program : List ℕ) → IsKnown house who
+    → IsKnown house (next_who who (meant_by_ask who found epsilon program))
+ask_known house who None epsilon program known = known
+ask_known house who (Some found) None program known = known
+ask_known house None (Some found) (Some e) program known = known
+ask_known house (Some analyst) (Some found) (Some e) program known = known
+
+request_known : (house : House) (who : Option ℕ) (request : Result Asked LineFault) → IsKnown house who
+    → IsKnown house (next_who who (meant_by_request house who request))
+request_known house who (Err (Malformed word)) known = known
+request_known house who (Err TooLong) known = known
+request_known house who (Ok (hello name)) known = greeted_known house who name (analyst_named house name) refl known
+request_known house who (Ok (ask name epsilon program)) known = ask_known house who (owner_named house name) epsilon program known
+request_known house who (Ok bye) known = known
+
+pub next_known : (house : House) (who : Option ℕ) (line : List ℕ) → IsKnown house who → IsKnown house (next_who who (meant_by house who line))
+unfolding meant_by
+next_known house who line known = request_known house who (request_of line) known
+
+abbrev pub AreKnown : House → List Turn → Type 0
+AreKnown house turns = AllByRecursion (λ (t : Turn). IsKnown house t.who) turns
+
+known_append : (house : House) (xs ys : List Turn) → AreKnown house xs → AreKnown house ys → AreKnown house (xs ++ ys)
+known_append house [] ys f g = g
+known_append house (x ∷ xs) ys f g = (f.0, known_append house xs ys f.1 g)
+
+session_known : (house : House) (who : Option ℕ) (lines : List (List ℕ)) → IsKnown house who → AreKnown house (session_turns house who lines)
+session_known house who [] known = tt
+session_known house who (line ∷ lines) known = (known, session_known house (next_who who (meant_by house who line)) lines (next_known house who line known))
+
+blocks_known : (house : House) (blocks : List (List (List ℕ))) → AreKnown house (flat_map (session_turns house None) blocks)
+blocks_known house [] = tt
+blocks_known house (block ∷ blocks) = known_append house (session_turns house None block) (flat_map (session_turns house None) blocks) (session_known house None block tt) (blocks_known house blocks)
+
+-- Who speaks is an analyst of the house, at each turn.
+pub turns_known : (house : House) (script : List ℕ) → AreKnown house (turns_of house script)
+turns_known house script = blocks_known house (blocks_of (lines_of script))

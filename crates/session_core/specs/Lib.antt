@@ -1,0 +1,11 @@
+pub mod House
+pub mod Program
+pub mod Noise
+pub mod Verdict
+pub mod Reply
+pub mod Transcript
+pub mod Explains
+pub mod Shown
+pub mod Served
+pub mod Headline
+pub mod Code

@@ -1,0 +1,92 @@
+//! A house of one owner, whose one table `people` has one column of numbers.
+
+ghost use Rattle.std.specs.Prelude.{◌≡◌, ◌≤◌, ◌^◌, length, bytes_eq, map, string_bytes, [], position, IfSome, IsTrue, ◌<◌};
+ghost use Rattle.wire_lines.specs.Name.{is_name};
+ghost use Rattle.session_core.specs.House.{Register, IsRegister, house_of, analyst_named, entry_of};
+
+use budget_core::entry::Entry;
+use std::marker::Model;
+use table_store::Table;
+
+/// The analysts who may ask, and the owner with budget, room for records and rows.
+#[derive(Drop)]
+pub struct House {
+    analysts: Vec<String>,
+    owner: String,
+    budget: u64,
+    capacity: u32,
+    table: Table,
+}
+
+impl Model for House {
+    ghost use Rattle.std.specs.Prelude.{map, string_bytes};
+    ghost use Rattle.session_core.specs.House.{Register, IsRegister};
+
+    ghost Value = { Register };
+
+    ghost view = { λ h. record { analysts = map string_bytes h.analysts.items; owner = string_bytes h.owner; budget = h.budget; capacity = h.capacity; numbers = h.table } };
+
+    ghost invariant = { λ h. IsRegister (record { analysts = map string_bytes h.analysts.items; owner = string_bytes h.owner; budget = h.budget; capacity = h.capacity; numbers = h.table }) };
+}
+
+// The place of the first name with these bytes.
+fn place_of(names: &[String], name: &[u8]) -> Option<usize>
+    ensures place { result ≡ position (λ other. bytes_eq (string_bytes other) name.now) names.now }
+    ensures within { IfSome result (λ place. place < length names.now) }
+{
+    names.iter().position(|other| other.as_bytes() == name)
+}
+
+impl House {
+    /// A house of these analysts, and an owner with a budget in millionths of epsilon and room for so many records.
+    pub fn new(
+        analysts: Vec<String>,
+        owner: String,
+        budget: u64,
+        capacity: u32,
+        table: Table,
+    ) -> House
+        requires { IsRegister (record { analysts = map string_bytes analysts.items; owner = string_bytes owner; budget = budget; capacity = capacity; numbers = table }) }
+        ensures { result ≡ record { analysts = map string_bytes analysts.items; owner = string_bytes owner; budget = budget; capacity = capacity; numbers = table } }
+    {
+        House {
+            analysts,
+            owner,
+            budget,
+            capacity,
+            table,
+        }
+    }
+
+    /// What is kept of the owner's budget.
+    pub fn entry(&self) -> Entry
+        ensures { result ≡ entry_of self.now }
+    {
+        Entry::new(self.budget, self.capacity, self.analysts.len() as u16)
+    }
+
+    /// How many rows the table has.
+    pub fn rows(&self) -> usize
+        ensures count { result ≡ length self.now.numbers }
+        ensures few { result ≤ 2 ^ 20 }
+    {
+        self.table.len()
+    }
+
+    /// The number of the analyst of this name.
+    pub fn analyst(&self, name: &[u8]) -> Option<u16>
+        ensures named { result ≡ analyst_named (house_of self.now) name.now }
+        ensures within { IfSome result (λ analyst. analyst < length self.now.analysts) }
+        ensures name { IfSome result (λ _. IsTrue (is_name name.now)) }
+    {
+        let place = place_of(&self.analysts, name)?;
+        Some(place as u16)
+    }
+
+    /// Whether the owner has this name.
+    pub fn is_owner(&self, name: &[u8]) -> bool
+        ensures { result ≡ bytes_eq self.now.owner name.now }
+    {
+        self.owner.as_bytes() == name
+    }
+}

@@ -1,0 +1,111 @@
+//! What a line comes to by itself.
+
+ghost use Rattle.std.specs.Prelude.{◌≡◌, IfSome, Some, ◌≤◌, ◌<◌, length};
+ghost use Rattle.budget_core.specs.Entries.{IsEpsilon};
+ghost use Rattle.wire_lines.specs.declared.request.TheConstants.{LINE_LIMIT};
+ghost use Rattle.session_core.specs.House.{house_of, analyst_named, owner_named};
+ghost use Rattle.session_core.specs.Reply.{meant_by, meant_by_ask, meant_by_hello};
+ghost use Rattle.session_core.specs.Code.{meaning_of, IsAnalyst, IsMeaningIn};
+
+use crate::house::House;
+use wire_lines::{LineFault, Name, Refusal, Reply, Request, read_request};
+
+/// What an analyst asks of the owner. It borrows the line.
+#[derive(Clone, Copy, Debug)]
+pub struct Query<'a> {
+    /// The number of the analyst.
+    pub analyst: u16,
+    /// In millionths, 1 to 10^9.
+    pub epsilon: u32,
+    pub program: &'a [u8],
+}
+
+/// What a line comes to, by the names of the house and by who speaks.
+#[derive(Clone, Copy, Debug)]
+pub enum Meaning<'a> {
+    /// A reply, and who speaks then.
+    Says { reply: Reply<'a>, who: Option<u16> },
+    /// A query.
+    Asks(Query<'a>),
+}
+
+/// What a line comes to, where this analyst speaks.
+pub fn read_line<'a>(house: &House, who: Option<u16>, line: &'a [u8]) -> Meaning<'a>
+    requires { IsAnalyst house.now who }
+    ensures meaning { meaning_of house.now result ≡ meant_by (house_of house.now) who line.now }
+    ensures proper { IsMeaningIn house.now result }
+{
+    match read_request(line) {
+        Ok(Request::Hello { analyst }) => greet(house, who, analyst),
+        Ok(
+            Request::Ask {
+                owner,
+                epsilon,
+                program,
+            },
+        ) => read_ask(house, who, owner, epsilon, program),
+        Ok(Request::Bye) => Meaning::Says {
+            reply: Reply::Bye,
+            who,
+        },
+        Err(LineFault::Malformed { word }) => refuse(Refusal::Malformed { word }, who),
+        Err(LineFault::TooLong) => refuse(Refusal::LineTooLong, who),
+    }
+}
+
+// A refusal leaves who speaks.
+fn refuse<'a>(refusal: Refusal, who: Option<u16>) -> Meaning<'a>
+    ensures { result ≡ Meaning.Says (Reply.Refused refusal) who }
+{
+    Meaning::Says {
+        reply: Reply::Refused(refusal),
+        who,
+    }
+}
+
+// A later hello replaces the analyst, and one with an unknown name doesn't.
+fn greet<'a>(house: &House, who: Option<u16>, name: &'a [u8]) -> Meaning<'a>
+    requires { IsAnalyst house.now who }
+    ensures meaning { meaning_of house.now result
+        ≡ meant_by_hello (house_of house.now) who name.now (analyst_named (house_of house.now) name.now) }
+    ensures proper { IsMeaningIn house.now result }
+{
+    match house.analyst(name) {
+        None => refuse(Refusal::Unknown { word: 1 }, who),
+        Some(analyst) => Meaning::Says {
+            reply: Reply::Hello {
+                analyst: Name { bytes: name },
+            },
+            who: Some(analyst),
+        },
+    }
+}
+
+// The owner is looked for before the epsilon, and the epsilon before the analyst.
+fn read_ask<'a>(
+    house: &House,
+    who: Option<u16>,
+    owner: &[u8],
+    epsilon: Option<u32>,
+    program: &'a [u8],
+) -> Meaning<'a>
+    requires known { IsAnalyst house.now who }
+    requires range { IfSome epsilon (λ e. IsEpsilon e) }
+    requires short { length program.now ≤ LINE_LIMIT }
+    ensures meaning { meaning_of house.now result
+        ≡ meant_by_ask who (owner_named (house_of house.now) owner.now) epsilon program.now }
+    ensures proper { IsMeaningIn house.now result }
+{
+    if !house.is_owner(owner) {
+        return refuse(Refusal::Unknown { word: 1 }, who);
+    }
+    match (epsilon, who) {
+        (None, _) => refuse(Refusal::NoEpsilon, who),
+        (Some(_), None) => refuse(Refusal::NoHello, who),
+        (Some(epsilon), Some(analyst)) => Meaning::Asks(Query {
+            analyst,
+            epsilon,
+            program,
+        }),
+    }
+}
