@@ -1,0 +1,10 @@
+//! The top call of the server: one command, from its words to its status.
+#![tactic(auto)]
+
+mod end;
+mod opening;
+mod running;
+mod server;
+
+pub use crate::end::Status;
+pub use crate::server::run_server;
