@@ -1,0 +1,4 @@
+pub mod RowDraws
+pub mod RowReplies
+pub mod RowEnding
+pub mod RowStatus

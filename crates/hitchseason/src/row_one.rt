@@ -1,0 +1,66 @@
+//! A run over memory whose replies are known. They are derived from the top call's contract alone.
+
+ghost use Rattle.std.specs.Prelude.{◌≡◌, ◌⊎◌, Some, [], ◌∷◌, codes, map, string_bytes, replicate, IfOk};
+ghost use Rattle.fz_outside.specs.Files.{bytes_of};
+
+use fz_outside::files::{MemFile, MemFiles};
+use fz_outside::sink::{MemSink, Sink};
+use fz_outside::source::MemSource;
+use query_server::{Status, run_server};
+use std::alloc::{AllocError, Global};
+
+/// How many bytes the sink has room for: more than any status writes here.
+const ROOM: usize = 64;
+
+/// What a run came to.
+#[derive(Drop)]
+pub(crate) struct Ran {
+    pub(crate) status: Status,
+    pub(crate) sink: MemSink<ROOM>,
+}
+
+/// The words of the command.
+fn words_of_row(alloc: Global) -> Result<Vec<String>, AllocError>
+    ensures { IfOk result (λ words. map string_bytes words.items ≡ codes "run" ∷ codes "people.csv" ∷ codes "key" ∷ []) }
+{
+    let run = String::from_str(alloc, "run")?;
+    let catalog = String::from_str(alloc, "people.csv")?;
+    let key = String::from_str(alloc, "key")?;
+    Ok(vec![in alloc; run, catalog, key]?)
+}
+
+/// The files that the command names: a table of three rows, and a key of zeros.
+fn files_of_row() -> [MemFile<'static>; 2]
+    ensures catalog { bytes_of result (codes "people.csv") ≡ Some (codes "age\n20\n30\n40\n") }
+    ensures key { bytes_of result (codes "key") ≡ Some (replicate 32 0) }
+{
+    [
+        MemFile {
+            name: "people.csv",
+            bytes: b"age\n20\n30\n40\n",
+        },
+        MemFile {
+            name: "key",
+            bytes: &[0; 32],
+        },
+    ]
+}
+
+/// An analyst asks for the size of a table of three rows. Under a key of zeros the noise is 2, so the answer is 5. These
+/// replies are written, or memory is wanting; nothing else can come.
+pub(crate) fn row_one(alloc: Global) -> Result<Ran, AllocError>
+    ensures { IfOk result (λ ran. (ran.status ≡ Status.NoMemory)
+        ⊎ ((ran.status ≡ Status.Done)
+        × (⟦<MemSink<ROOM> as Sink>⟧.contents ran.sink ≡ Some (codes "hello ann\nanswer 0 5 1000000\nbye\n")))) }
+{
+    let words = words_of_row(alloc)?;
+    let listed = files_of_row();
+    let mut files = MemFiles::new(&listed);
+    let mut source = MemSource::new(b"hello ann\nask census 1 size people\nbye\n");
+    let mut sink = MemSink::<ROOM>::new(alloc)?;
+    let status = run_server(alloc, &words, &mut files, &mut source, &mut sink);
+    // The sink isn't full, so it hasn't failed.
+    let faults = sink.faults();
+    prove!(faults == 0);
+    Ok(Ran { status, sink })
+}

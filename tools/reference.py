@@ -1,0 +1,245 @@
+#!/usr/bin/env python3
+"""What the server must write for a script, worked out apart from it.
+
+    reference.py [--key FILE] [--rows N] < SCRIPT      the transcript of a script
+    reference.py --check                               the values that are known from outside
+
+The house is the one the server has: the analysts ann and bob, the owner census with a budget of 10 (in millionths
+10000000) and room for 100 records, and a table `people` of N rows (3, unless said). The key is 32 zero bytes, unless said.
+The test values of crates/hitchseason are written by this program. It shares nothing with the server but the rules:
+
+- Draw i of the number n of owner o is 8 bytes, lowest first, of ChaCha20 with a 64-bit counter and a 64-bit nonce. The
+  counter begins at 0 and the nonce is o * 2^32 + n, lowest byte first. (RFC 8439 gives 32 bits of the same 128 to the
+  counter and 96 to the nonce: test vectors 1, 2 and 5 of its appendix A.1 hold for both.)
+- The noise is discrete Laplace by the sampler of "The Discrete Gaussian for Differential Privacy" by Canonne, Kamath and
+  Steinke, from at most 4096 draws.
+"""
+import argparse
+import sys
+from fractions import Fraction
+from math import ceil
+
+from cryptography.hazmat.primitives.ciphers import Cipher, algorithms
+
+BUDGET = 10_000_000
+CAPACITY = 100
+ANALYSTS = (b"ann", b"bob")
+OWNER = b"census"
+PROGRAM = b"size people"
+LINE_LIMIT = 16_384
+SCRIPT_LIMIT = 2**24
+DRAW_LIMIT = 4096
+
+
+def key_draws(key, owner, number):
+    """The draws of a number, as an endless stream of 64-bit words."""
+    nonce = bytes(8) + (owner * 2**32 + number).to_bytes(8, "little")
+    stream = Cipher(algorithms.ChaCha20(key, nonce), mode=None).encryptor()
+    while True:
+        yield int.from_bytes(stream.update(bytes(8)), "little")
+
+
+class Exhausted(Exception):
+    pass
+
+
+class Sampler:
+    """The sampler, over a stream of draws."""
+
+    def __init__(self, draws):
+        self.draws = iter(draws)
+        self.taken = 0
+
+    def draw(self):
+        if self.taken == DRAW_LIMIT:
+            raise Exhausted
+        self.taken += 1
+        return next(self.draws)
+
+    def uniform(self, m):
+        while True:
+            word = self.draw()
+            if word < 2**64 - 2**64 % m:
+                return word % m
+
+    def bernoulli(self, n, d):
+        return self.uniform(d) < n
+
+    def bernoulli_exp(self, u, t):
+        k = 1
+        while self.bernoulli(u, t * k):
+            k += 1
+        return k % 2 == 1
+
+    def laplace(self, t, s):
+        while True:
+            u = self.uniform(t)
+            if not self.bernoulli_exp(u, t):
+                continue
+            v = 0
+            while self.bernoulli_exp(1, 1):
+                v += 1
+            y = (u + t * v) // s
+            negative = self.bernoulli(1, 2)
+            if not (negative and y == 0):
+                return -y if negative else y
+
+
+def noise(epsilon, draws):
+    scale = Fraction(10**6, epsilon)
+    return Sampler(draws).laplace(scale.numerator, scale.denominator)
+
+
+def lines_of(script):
+    """The lines of a script. A last one without LF counts where it has a byte. One CR is dropped."""
+    lines = script.split(b"\n")
+    if lines[-1] == b"":
+        lines.pop()
+    return [line.removesuffix(b"\r") for line in lines]
+
+
+def millionths(text):
+    """An epsilon: 1 to 4 digits, perhaps a point and 1 to 6 digits; 0.000001 to 1000. None where it isn't one."""
+    whole, point, part = text.partition(b".")
+    digits = all(b in b"0123456789" for b in whole + part)
+    if not digits or not 1 <= len(whole) <= 4 or (point and not 1 <= len(part) <= 6):
+        return None
+    value = Fraction(int(whole)) + Fraction(int(part or b"0"), 10 ** len(part))
+    return int(value * 10**6) if 0 < value <= 1000 else None
+
+
+class Server:
+    def __init__(self, rows, draws):
+        self.rows = rows
+        self.draws = draws
+        self.who = None
+        self.spent = 0
+        self.records = 0
+        self.number = 0
+
+    def reply(self, line):
+        if len(line) > LINE_LIMIT:
+            return "no 11"
+        words = line.split(b" ")
+        kind = words[0]
+        if kind == b"hello":
+            return self.hello(words)
+        if kind == b"ask":
+            return self.ask(line.split(b" ", 3))
+        if kind == b"bye":
+            if len(words) > 1:
+                return "no 10 1"
+            self.who = None
+            return "bye"
+        return "no 10 0"
+
+    def hello(self, words):
+        if len(words) < 2 or words[1] == b"":
+            return "no 10 1"
+        if len(words) > 2:
+            return "no 10 2"
+        if words[1] not in ANALYSTS:
+            return "no 12 1"
+        self.who = words[1]
+        return "hello " + words[1].decode()
+
+    def ask(self, words):
+        for place in (1, 2):
+            if len(words) <= place or words[place] == b"":
+                return f"no 10 {place}"
+        if len(words) < 4:
+            return "no 10 3"
+        _, owner, epsilon, program = words
+        if owner != OWNER:
+            return "no 12 1"
+        e = millionths(epsilon)
+        if e is None:
+            return "no 13"
+        if self.who is None:
+            return "no 14"
+        if program != PROGRAM:
+            return f"no 39 0 {len(program)}"
+        return self.query(e)
+
+    def query(self, e):
+        cost = ceil(Fraction(1) * e)
+        if self.spent + cost > BUDGET:
+            return f"no 40 {self.spent} {self.spent + cost} {BUDGET} {self.records}"
+        if self.records + 2 > CAPACITY:
+            return f"no 41 {self.records} 0 {CAPACITY}"
+        number = self.number
+        self.number += 1
+        self.spent += cost
+        self.records += 2
+        try:
+            return f"answer {number} {self.rows + noise(e, self.draws(number))} {cost}"
+        except Exhausted:
+            return f"no 50 {number}"
+
+
+def transcript(script, rows=3, draws=lambda number: key_draws(bytes(32), 0, number)):
+    if len(script) > SCRIPT_LIMIT:
+        return "script too long\n"
+    server = Server(rows, draws)
+    return "".join(server.reply(line) + "\n" for line in lines_of(script))
+
+
+KNOWN_DRAWS = """
+903df1a0ade0b876 28bd8653e56a5d40 1aed8da0b819d2bd c70d778bccef36a8 8d4857517c5941da 374ad8b83fe02477 1ca11815f4b8436a
+8665eeb269b687c3 7a385155bee7079f 0d082d737c97ba98 6965e348a0290fcb ed7aee323e53c612 434ee69c7621b729
+""".split()
+
+
+def followed(draws):
+    """These draws, and then zeros for ever."""
+    yield from draws
+    while True:
+        yield 0
+
+
+def check():
+    # RFC 8439, appendix A.1, test vectors 1 and 2: the first two blocks at a key and a nonce of zeros.
+    draws = key_draws(bytes(32), 0, 0)
+    assert [f"{next(draws):016x}" for _ in KNOWN_DRAWS] == KNOWN_DRAWS
+    # The same, test vector 5: the last byte of the nonce is 2.
+    draws = key_draws(bytes(32), 2**25, 0)
+    assert [next(draws) for _ in range(2)] == [0x3736D58C374DC6C2, 0xCD3F93EFB904E24A]
+    # Samples worked by hand.
+    for words, value, taken in [
+        ([7, 7, 7, 1, 1], 0, 5),
+        ([0, 0, 0, 0, 1, 0, 1, 0], -1, 8),
+        ([7, 7, 7, 1, 0, 7, 7, 7, 1, 1], 0, 10),
+        ([int(word, 16) for word in KNOWN_DRAWS], 2, 13),
+    ]:
+        sampler = Sampler(followed(words))
+        assert (sampler.laplace(1, 1), sampler.taken) == (value, taken)
+    sampler = Sampler([2**64 - 1, 5])
+    assert (sampler.uniform(3), sampler.taken) == (2, 2)
+    # Scripts worked by hand.
+    hello, one = b"hello ann\n", b"ask census 1 size people\n"
+    assert transcript(hello + one + b"bye\n") == "hello ann\nanswer 0 5 1000000\nbye\n"
+    assert transcript(b"") == ""
+    assert transcript(hello + 11 * one).splitlines()[-1] == "no 40 10000000 11000000 10000000 20"
+    assert transcript(hello + one, draws=lambda _: followed([])) == "hello ann\nno 50 0\n"
+    assert transcript(hello + one, rows=0, draws=lambda _: followed([0, 0, 0, 0, 1, 0, 1, 0])).endswith(
+        "answer 0 -1 1000000\n"
+    )
+    print("all as known")
+
+
+def main():
+    words = argparse.ArgumentParser()
+    words.add_argument("--key")
+    words.add_argument("--rows", type=int, default=3)
+    words.add_argument("--check", action="store_true")
+    given = words.parse_args()
+    if given.check:
+        check()
+        return
+    key = open(given.key, "rb").read() if given.key else bytes(32)
+    text = transcript(sys.stdin.buffer.read(), given.rows, lambda number: key_draws(key, 0, number))
+    sys.stdout.write(text)
+
+
+if __name__ == "__main__":
+    main()
