@@ -1,0 +1,122 @@
+#!/usr/bin/env bash
+# The proved program on bad words, files, scripts and outputs: status and output of each beside what is wanted.
+# usage: bench/bad_input.sh    (PROGRAM=FILE tries another build). It ends with status 1 where one differs.
+. "$(dirname "$0")/common.sh"
+need_program
+make_room
+cp "$top"/examples/first-run/{people.csv,key,script} .
+head -c 31 /dev/zero >key31
+head -c 33 /dev/zero >key33
+: >empty
+replies='hello ann/answer 0 5 1000000/bye/'
+
+passed=0
+# judge NAME STATUS OUTPUT: the last run's status and the file output, lines parted by '/', are these.
+judge() {
+    local found verdict=
+    found=$(head -c 300 output | tr '\n' '/')
+    [ "$status" = "$2" ] && [ "$found" = "$3" ] && [ ! -s errors ] || { verdict="WRONG, wanted $2 $3"; passed=1; }
+    printf '%-40s %3s  %s  %s\n' "$1" "$status" "${found:0:60}" "$verdict"
+}
+# words NAME STATUS OUTPUT WORD..: the example's script under these words.
+words() {
+    "$program" "${@:4}" <script >output 2>errors
+    status=$?
+    judge "$1" "$2" "$3"
+}
+# table STATUS OUTPUT TEXT: a table's file of this text, with printf's escapes.
+table() {
+    printf "$3" >table.csv
+    words "table '$3'" "$1" "$2" run table.csv key
+}
+# lines STATUS OUTPUT TEXT: a script of this text, with printf's escapes.
+lines() {
+    printf "$3" >lines
+    "$program" run people.csv key <lines >output 2>errors
+    status=$?
+    judge "script '$3'" "$1" "$2"
+}
+
+words "the example" 0 "$replies" run people.csv key
+words "no words" 2 usage/
+words "one word" 2 usage/ run
+words "two words" 2 usage/ run people.csv
+words "four words" 2 usage/ run people.csv key more
+words "another command" 2 usage/ walk people.csv key
+words "--help" 2 usage/ --help
+words "a word that isn't UTF-8" 2 usage/ run people.csv $'ke\xffy'
+words "a table that is absent" 3 refused\ nobody.csv/ run nobody.csv key
+words "a key that is absent" 3 refused\ nokey/ run people.csv nokey
+words "both are absent" 3 refused\ nobody.csv/ run nobody.csv nokey
+words "an empty name" 3 'refused /' run "" key
+words "a key of 31 bytes" 3 refused\ key31/ run people.csv key31
+words "a key of 33 bytes" 3 refused\ key33/ run people.csv key33
+words "an empty key" 3 refused\ empty/ run people.csv empty
+words "a key without end" 3 refused\ /dev/zero/ run people.csv /dev/zero
+words "a table without end" 3 refused\ /dev/zero/ run /dev/zero key
+words "the table is a folder" 5 "" run . key
+words "the key is a folder" 5 "" run people.csv .
+
+awk 'BEGIN { print "age"; for (i = 0; i < 1048576; i++) print 1 }' >most.csv
+{ cat most.csv; echo 1; } >more.csv
+words "a table of 2^20 rows" 0 'hello ann/answer 0 1048578 1000000/bye/' run most.csv key
+words "a table of 2^20 + 1 rows" 3 refused\ more.csv/ run more.csv key
+two='hello ann/answer 0 2 1000000/bye/'
+three='hello ann/answer 0 3 1000000/bye/'
+table 3 refused\ table.csv/ ''
+table 3 refused\ table.csv/ 'Age\n20\n'
+table 3 refused\ table.csv/ 'age,age\n1,2\n'
+table 3 refused\ table.csv/ 'age\n1,2\n'
+table 3 refused\ table.csv/ 'age\n1.5\n'
+table 3 refused\ table.csv/ 'age\n+20\n'
+table 3 refused\ table.csv/ 'age\n 20\n'
+table 3 refused\ table.csv/ 'age\n20\0\n'
+table 3 refused\ table.csv/ 'age\n"20\n'
+table 3 refused\ table.csv/ 'age\n\377\n'
+table 3 refused\ table.csv/ 'age\n1125899906842625\n'
+table 3 refused\ table.csv/ 'age\n-\n'
+table 0 "$two" 'age'
+table 0 "$three" 'age\n20'
+table 0 "$three" 'age\r\n-1125899906842624\r\n'
+table 0 "$three" '\357\273\277"age"\n"20"\n'
+
+lines 0 '' ''
+lines 0 "$replies" 'hello ann\nask census 1 size people\nbye'
+lines 0 "$replies" 'hello ann\r\nask census 1 size people\r\nbye\r\n'
+lines 0 'no 12 1/no 10 0/no 10 0/no 10 0/' 'hello ann\0\n\0\n\n\r'
+lines 0 'no 10 0/no 10 0/' '\377\376hello ann\n\303\251\n'
+lines 0 'no 14/no 12 1/' 'ask census 1 size people\nhello eve\n'
+lines 0 'bye/no 14/' 'bye\nask census 1 size people\n'
+long=$(head -c 16384 /dev/zero | tr '\0' a)
+printf '%s\n%sa\n' "$long" "$long" >lines
+"$program" run people.csv key <lines >output 2>errors
+status=$?
+judge "lines of 16,384 and 16,385 bytes" 0 'no 10 0/no 11/'
+"$program" run people.csv key </dev/zero >output 2>errors
+status=$?
+judge "a script without end" 8 'script too long/'
+"$program" run people.csv key <. >output 2>errors
+status=$?
+judge "standard input is a folder" 5 ''
+"$program" run people.csv key <&- >output 2>errors
+status=$?
+judge "standard input is closed" 5 ''
+
+: >output
+"$program" run people.csv key <script 2>errors >&-
+status=$?
+judge "standard output is closed" 5 ''
+"$program" run people.csv key <script 2>errors >/dev/full
+status=$?
+judge "standard output is full" 5 ''
+"$program" run nobody key <script 2>errors >/dev/full
+status=$?
+judge "a refusal, standard output is full" 5 ''
+"$program" 2>errors >/dev/full
+status=$?
+judge "usage, standard output is full" 5 ''
+yes bye | head -c 16000000 >lines
+"$program" run people.csv key <lines 2>errors | head -n 1 >output
+status=${PIPESTATUS[0]}
+judge "the reader of standard output goes" 5 'bye/'
+exit $passed
