@@ -11,7 +11,7 @@ use Rattle.fz_frac.specs.Distance.{Distance, Fin, Inf, den, endless, quotient, �
 use Rattle.fz_frac.specs.Sens.{distance_of, IsDivisor}
 use Rattle.fz_frac.specs.declared.sens.Sens.{Sens}
 use Rattle.fz_frac.specs.declared.sens.Sens.TheVariants.{Finite, Inf as Endless}
-use Rattle.fz_frac.specs.Lowest.{gcd_in, gcd, widest, is_out, IsNarrow}
+use Rattle.fz_frac.specs.Lowest.{gcd_in, gcd, widest, is_out, lowest as in_lowest_terms, IsNarrow}
 use Rattle.fz_frac.proofs.Laws.{den_of, den_pos, ≈-sym, ≈-trans}
 
 gcd_step : (n a b : ℕ) → b < suc n → (t : Bool) → nat_eq b 0 ≡ t → (a % b < n → IsGcd b (a % b) (gcd_in n b (a % b))) → IsGcd a b (cond t a (gcd_in n b (a % b)))
@@ -277,3 +277,15 @@ out_or_narrow (Fin p q) = go (is_out (Fin p q)) refl
 pub sens_fits : (s : Sens) → is_out (distance_of s) ≡ false
 sens_fits (Finite f) = let h = f.narrow in narrow f.p f.q f.p f.q f.above_zero (rw (den_of f.q f.above_zero) refl) h.0 h.1
 sens_fits Endless = inf_fits
+
+-- and it is in lowest terms
+pub sens_lowest : (s : Sens) (d : Distance) → distance_of s ≈ d → distance_of s ≡ in_lowest_terms d
+sens_lowest Endless Inf e = refl
+sens_lowest Endless (Fin p q) e = absurd e.le.le
+sens_lowest (Finite f) Inf e = absurd e.ge.le
+sens_lowest (Finite f) (Fin p q) e =
+    let g = gcd p (den q) in
+    let l = lowest p (den q) (den_pos q) in
+    let i = ≈-trans (reduced_same p (den q) (p / g) (den q / g) g l.top l.low l.pos_d (den_pos q)) (den_same p q) in
+    let k = same_form f.p f.q (p / g) (den q / g) f.above_zero l.pos_d f.lowest (coprime p (den q) g l.pos (gcd_is p (den q))) (≈-trans e (≈-sym i)) in
+    rw (k.0, k.1) refl

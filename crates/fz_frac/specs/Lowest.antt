@@ -20,6 +20,11 @@ unfoldable pub is_out : Distance → Bool
 is_out (Fin p q) = not (nat_le (p / gcd p (den q)) widest && nat_le (den q / gcd p (den q)) widest)
 is_out Inf = false
 
+-- the fraction in lowest terms
+abbrev pub lowest : Distance → Distance
+lowest (Fin p q) = Fin (p / gcd p (den q)) (den q / gcd p (den q))
+lowest Inf = Inf
+
 -- some fraction of narrow halves is the same number, or it is infinite
 abbrev pub IsNarrow : Distance → Type 0
 IsNarrow (Fin p q) = (n : ℕ) × (d : ℕ) × (0 < d) × (n ≤ widest) × (d ≤ widest) × (Fin n d ≈ Fin p q)

@@ -9,7 +9,7 @@ ghost use Rattle.fz_frac.specs.Lowest.{gcd, widest, is_out};
 pub struct Range;
 
 /// The fraction `p/q` in lowest terms; zero is 0/1.
-#[derive(Clone, Copy, Debug, PartialEq, Eq)]
+#[derive(Clone, Copy, Debug, PartialEq, Eq, Hash)]
 pub struct Frac {
     pub p: u32,
     pub q: u32,

@@ -4,7 +4,7 @@ ghost use Rattle.std.specs.Int.{IsGcd};
 ghost use Rattle.fz_frac.specs.Distance.{Distance, Fin, Inf, ◌⊑◌, ◌≈◌, is_le, none, one, add, mul, greater, quotient, ceil_times};
 ghost use Rattle.fz_frac.specs.Sens.{distance_of};
 ghost use Rattle.fz_frac.specs.declared.sens.Sens.{Sens};
-ghost use Rattle.fz_frac.specs.Lowest.{gcd, is_out, IsNarrow};
+ghost use Rattle.fz_frac.specs.Lowest.{gcd, is_out, lowest, IsNarrow};
 
 /// Distances with sum and product are a commutative semiring, in which 0 times infinity is 0, and
 /// sum and product keep the order.
@@ -41,6 +41,7 @@ pub fn lowest_terms()
     ensures in_range { (a : Distance) → IsTrue (is_out a) ⊎ IsNarrow a }
     ensures out_of_range { (a : Distance) → IsTrue (is_out a) → IsNarrow a → ⊥ }
     ensures kept_in_range { (s : Sens) → is_out (distance_of s) ≡ false }
+    ensures kept_lowest { (s : Sens) (d : Distance) → distance_of s ≈ d → distance_of s ≡ lowest d }
     ensures quotient_is_least { (a k : Distance) (r s : ℕ) → 0 < r → (quotient a (Fin r s) ⊑ k) ↔ (a ⊑ mul k (Fin r s)) }
     ensures ceiling_is_least { (a : Distance) (e m : ℕ) → ceil_times a e ≡ Some m → (n : ℕ) → (mul a (Fin e 1) ⊑ Fin n 1) ↔ (m ≤ n) }
 {}

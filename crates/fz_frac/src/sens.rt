@@ -6,7 +6,7 @@ ghost use Rattle.fz_frac.specs.Sens.{distance_of, IsDivisor};
 
 use crate::frac::{Frac, Range, reduce};
 
-#[derive(Clone, Copy, Debug, PartialEq, Eq)]
+#[derive(Clone, Copy, Debug, PartialEq, Eq, Hash)]
 pub enum Sens {
     Finite(Frac),
     Inf,

@@ -1,5 +1,5 @@
 use Rattle.fz_frac.proofs.Laws.{quotient-le, le-quotient, ceiling}
-use Rattle.fz_frac.proofs.Lowest.{gcd_is, same_form, out_or_narrow, not_both, sens_fits}
+use Rattle.fz_frac.proofs.Lowest.{gcd_is, same_form, out_or_narrow, not_both, sens_fits, sens_lowest}
 use Rattle.fz_frac.proofs.semiring.lowest_terms.Goals as goal
 
 pub returns-clause-greatest_divisor : goal.returns-clause-greatest_divisor
@@ -22,3 +22,6 @@ returns-clause-ceiling_is_least c = ceiling
 
 pub returns-clause-kept_in_range : goal.returns-clause-kept_in_range
 returns-clause-kept_in_range c = sens_fits
+
+pub returns-clause-kept_lowest : goal.returns-clause-kept_lowest
+returns-clause-kept_lowest c = sens_lowest
