@@ -1,3 +1,4 @@
+pub mod Arenas
 pub mod Example
 pub mod Padding
 pub mod RowTypes

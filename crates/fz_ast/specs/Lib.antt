@@ -12,3 +12,4 @@ pub mod TypeNodes
 pub mod TermNodes
 pub mod Tables
 pub mod Rows
+pub mod Arena

@@ -1,6 +1,7 @@
 //! Types, terms and signatures of the query language.
 #![tactic(auto)]
 
+pub mod arena;
 pub mod memory;
 pub mod name;
 pub mod row;
@@ -10,6 +11,7 @@ pub mod term;
 pub mod tree;
 pub mod types;
 
+pub use arena::Arena;
 pub use memory::NoMemory;
 pub use name::{Name, Text};
 pub use row::{Column, row_type};
