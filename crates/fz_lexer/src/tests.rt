@@ -37,62 +37,44 @@ fn show(alloc: Global, token: &Token) -> Result<String, AllocError> {
     }
 }
 
+// Programs, with their tokens and spans or their fault.
+#[rattlefmt::skip]
+const PROGRAMS: [(&[u8], &str); 30] = [
+    (b"", ""),
+    (b" \t\r\n", ""),
+    (b"size people", "Size@0-4 name[112, 101, 111, 112, 108, 101]@5-11 "),
+    (b"size people $", "bad 12"),
+    (b"\"", "bad 0"),
+    (b"\"a\"", "text[97]@0-3 "),
+    (b"\"a", "bad 0"),
+    (b"\"\"\"\"", "text[]@0-2 text[]@2-4 "),
+    (b"\"\x7f\"", "bad 0"),
+    (b"\"\x80\xff\"", "text[128, 255]@0-4 "),
+    (b"\0", "bad 0"),
+    (b"1125899906842624", "1125899906842624@0-16 "),
+    (b"1125899906842625", "bad 0"),
+    (b"0000000000000000000000000000007", "7@0-31 "),
+    (b"1x", "1@0-1 name[120]@1-2 "),
+    (b"x1_", "name[120, 49, 95]@0-3 "),
+    (b"abcdefghijklmnopqrstuvwxyz0123456", "bad 0"),
+    (b"fun funx", "Fun@0-3 name[102, 117, 110, 120]@4-8 "),
+    (b"do release at", "Do@0-2 Release@3-10 At@11-13 "),
+    (b"1 -one", "1@0-1 Minus@2-3 name[111, 110, 101]@3-6 "),
+    (b"1 -o 2", "1@0-1 Lollipop@2-4 2@5-6 "),
+    (b"-o", "Lollipop@0-2 "),
+    (b"-o1", "Minus@0-1 name[111, 49]@1-3 "),
+    (b"->-=>===<=<-", "Arrow@0-2 Minus@2-3 Yields@3-5 EqualTo@5-7 Is@7-8 AtMost@8-10 LeftAngle@10-11 Minus@11-12 "),
+    (b"()<>[],:=!|+-*&/", "LeftParenthesis@0-1 RightParenthesis@1-2 LeftAngle@2-3 RightAngle@3-4 LeftBracket@4-5 RightBracket@5-6 Comma@6-7 Colon@7-8 Is@8-9 Bang@9-10 Bar@10-11 Plus@11-12 Minus@12-13 Star@13-14 Ampersand@14-15 Slash@15-16 "),
+    (b"fn let in case of inl inr if then else", "Fn@0-2 Let@3-6 In@7-9 Case@10-14 Of@15-17 Inl@18-21 Inr@22-25 If@26-28 Then@29-33 Else@34-38 "),
+    (b"fst snd true false num text unit bool bag inf", "Fst@0-3 Snd@4-7 True@8-12 False@13-18 Num@19-22 Text@23-27 Unit@28-32 Bool@33-37 Bag@38-41 Inf@42-45 "),
+    (b"size sum clip least greatest map filter split union", "Size@0-4 Sum@5-8 Clip@9-13 Least@14-19 Greatest@20-28 Map@29-32 Filter@33-39 Split@40-45 Union@46-51 "),
+    (b"Fun Size", "name[70, 117, 110]@0-3 name[83, 105, 122, 101]@4-8 "),
+    (b"a;", "bad 1"),
+];
+
 #[test]
 fn programs(rt: HostRuntime) -> Result<(), Fail> {
-    let table: [(&[u8], &str); 30] = [
-        (b"", ""),
-        (b" \t\r\n", ""),
-        (
-            b"size people",
-            "Size@0-4 name[112, 101, 111, 112, 108, 101]@5-11 ",
-        ),
-        (b"size people $", "bad 12"),
-        (b"\"", "bad 0"),
-        (b"\"a\"", "text[97]@0-3 "),
-        (b"\"a", "bad 0"),
-        (b"\"\"\"\"", "text[]@0-2 text[]@2-4 "),
-        (b"\"\x7f\"", "bad 0"),
-        (b"\"\x80\xff\"", "text[128, 255]@0-4 "),
-        (b"\0", "bad 0"),
-        (b"1125899906842624", "1125899906842624@0-16 "),
-        (b"1125899906842625", "bad 0"),
-        (b"0000000000000000000000000000007", "7@0-31 "),
-        (b"1x", "1@0-1 name[120]@1-2 "),
-        (b"x1_", "name[120, 49, 95]@0-3 "),
-        (b"abcdefghijklmnopqrstuvwxyz0123456", "bad 0"),
-        (b"fun funx", "Fun@0-3 name[102, 117, 110, 120]@4-8 "),
-        (b"do release at", "Do@0-2 Release@3-10 At@11-13 "),
-        (b"1 -one", "1@0-1 Minus@2-3 name[111, 110, 101]@3-6 "),
-        (b"1 -o 2", "1@0-1 Lollipop@2-4 2@5-6 "),
-        (b"-o", "Lollipop@0-2 "),
-        (b"-o1", "Minus@0-1 name[111, 49]@1-3 "),
-        (
-            b"->-=>===<=<-",
-            "Arrow@0-2 Minus@2-3 Yields@3-5 EqualTo@5-7 Is@7-8 AtMost@8-10 LeftAngle@10-11 Minus@11-12 ",
-        ),
-        (
-            b"()<>[],:=!|+-*&/",
-            "LeftParenthesis@0-1 RightParenthesis@1-2 LeftAngle@2-3 RightAngle@3-4 LeftBracket@4-5 RightBracket@5-6 Comma@6-7 Colon@7-8 Is@8-9 Bang@9-10 Bar@10-11 Plus@11-12 Minus@12-13 Star@13-14 Ampersand@14-15 Slash@15-16 ",
-        ),
-        (
-            b"fn let in case of inl inr if then else",
-            "Fn@0-2 Let@3-6 In@7-9 Case@10-14 Of@15-17 Inl@18-21 Inr@22-25 If@26-28 Then@29-33 Else@34-38 ",
-        ),
-        (
-            b"fst snd true false num text unit bool bag inf",
-            "Fst@0-3 Snd@4-7 True@8-12 False@13-18 Num@19-22 Text@23-27 Unit@28-32 Bool@33-37 Bag@38-41 Inf@42-45 ",
-        ),
-        (
-            b"size sum clip least greatest map filter split union",
-            "Size@0-4 Sum@5-8 Clip@9-13 Least@14-19 Greatest@20-28 Map@29-32 Filter@33-39 Split@40-45 Union@46-51 ",
-        ),
-        (
-            b"Fun Size",
-            "name[70, 117, 110]@0-3 name[83, 105, 122, 101]@4-8 ",
-        ),
-        (b"a;", "bad 1"),
-    ];
-    for (program, wanted) in table {
+    for (program, wanted) in PROGRAMS {
         let found = outcome(rt.alloc(), program)?;
         assert_eq!(rt; found.as_str(), wanted);
     }
@@ -102,21 +84,35 @@ fn programs(rt: HostRuntime) -> Result<(), Fail> {
 #[test]
 fn limits(rt: HostRuntime) -> Result<(), Fail> {
     // The byte, how often it stands, and what comes of it.
-    let table: [(u8, usize, &str); 5] = [
+    let table: [(u8, usize, &str); 9] = [
         (b'(', 4097, "too many 4096"),
+        (b'(', 16000, "too many 4096"),
         (b'\0', 16000, "bad 0"),
         (b' ', 16000, ""),
         (b' ', 16001, "bad 16000"),
         (b'\0', 16001, "bad 16000"),
+        (b'$', 16000, "bad 0"),
+        (b'a', 33, "bad 0"),
+        (b'0', 16000, "0@0-16000 "),
     ];
     for (byte, count, wanted) in table {
         let program = vec![in rt.alloc(); byte; count]?;
         let found = outcome(rt.alloc(), &program)?;
         assert_eq!(rt; found.as_str(), wanted);
     }
-    let most = vec![in rt.alloc(); b'('; 4096]?;
-    let found = lex(rt.alloc(), &most).is_ok();
-    assert!(rt; found);
+    for (byte, count) in [(b'(', 4096), (b'a', 32)] {
+        let program = vec![in rt.alloc(); byte; count]?;
+        let found = lex(rt.alloc(), &program).is_ok();
+        assert!(rt; found);
+    }
+    for (count, wanted) in [(64, true), (65, false)] {
+        let mut program = Vec::new(rt.alloc());
+        program.push(b'"')?;
+        program.extend_from_slice(&vec![in rt.alloc(); b'x'; count]?)?;
+        program.push(b'"')?;
+        let found = lex(rt.alloc(), &program).is_ok();
+        assert_eq!(rt; found, wanted);
+    }
     Ok(())
 }
 
