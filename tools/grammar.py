@@ -8,11 +8,11 @@ WORDS = 'Fun Fn Let In Case Of Inl Inr If Then Else Fst Snd True False Num Text 
 SIGNS = [('LeftParenthesis', '('), ('RightParenthesis', ')'), ('LeftAngle', '<'), ('RightAngle', '>'), ('LeftBracket', '['), ('RightBracket', ']'), ('Comma', ','), ('Colon', ':'), ('Is', '='), ('Bang', '!'), ('Bar', '|'), ('Plus', '+'), ('Minus', '-'), ('Star', '*'), ('Ampersand', '&'), ('Slash', '/'), ('Yields', '=>'), ('Arrow', '->'), ('Lollipop', '-o'), ('AtMost', '<='), ('EqualTo', '==')]
 CLASSES = 64
 # A terminal by what stands for it in a rule below: its number, and how antt and Rust name it.
-terminals = {'NAME': (1, 'Named', 'Terminal::Named'), 'NUMBER': (2, 'Numeral', 'Terminal::Numeral'), 'SMALL': (3, 'Positive', 'Terminal::Positive'), 'TEXT': (4, 'Quoted', 'Terminal::Quoted')}
+terminals = {'NAME': (1, 'Named', 'Named'), 'NUMBER': (2, 'Numeral', 'Numeral'), 'SMALL': (3, 'Positive', 'Positive'), 'TEXT': (4, 'Quoted', 'Quoted')}
 for i, (n, s) in enumerate(SIGNS):
-    terminals[s] = (5 + i, f'(Symbol {n})', f'Terminal::Symbol(Sign::{n})')
+    terminals[s] = (5 + i, f'(Symbol {n})', f'Symbol(Sign::{n})')
 for i, w in enumerate(WORDS):
-    terminals[w.lower()] = (26 + i, f'(Keyword {w})', f'Terminal::Keyword(Word::{w})')
+    terminals[w.lower()] = (26 + i, f'(Keyword {w})', f'Keyword(Word::{w})')
 
 BEGUN, NAME, NUMBER, POSITIVE, TEXT, INTEGER, FACTOR, TYPE, TERM = range(9)
 # What an action takes, the last part first, and what it gives.
@@ -328,28 +328,43 @@ with open(root + '/specs/Rows.antt', 'w') as f:
     f.write('\n-- the sorts of the parts that are taken, the last one first\nunfoldable pub need_rows : List (List ℕ)\nneed_rows = ' + ' ∷ '.join('(' + antt(PHRASES[x]) + ')' for x in PHRASES) + ' ∷ []\n')
     f.write('\n-- and of the one that is given\nunfoldable pub gift_rows : List ℕ\ngift_rows = ' + antt([GIVES[x] for x in PHRASES]) + '\n')
 with open(root + '/src/tables.rt', 'w') as f:
-    f.write('// Written by tools/grammar.py. The proofs test each table against the grammar of specs/Table.\nuse crate::grammar::{Action, Item, Joint, Phrase, Terminal};\nuse fz_ast::{Arrow, Binary, Ranged, Side, Unary};\nuse fz_lexer::{Sign, Word};\n\n')
+    f.write('// Written by tools/grammar.py. The proofs test each table against the grammar of specs/Table.\nuse crate::grammar::Item::{Make, Read, Take};\nuse crate::grammar::Terminal::{Keyword, Named, Numeral, Positive, Quoted, Symbol};\nuse crate::grammar::{Action, Item, Joint, Phrase};\nuse fz_ast::{Arrow, Binary, Ranged, Side, Unary};\nuse fz_lexer::{Sign, Word};\n\n')
 
     def rust(i):
         t, x = i
         if t == 'Make' and x in OPERATIONS:
             form, name, kind = OPERATIONS[x]
-            return f'Item::Make(Action::{form}({kind}::{name}))'
-        return {'Take': lambda: f'Item::Take({terminals[x][2]})', 'Read': lambda: f'Item::Read(Phrase::{x})', 'Make': lambda: f'Item::Make(Action::{x})'}[t]()
-    f.write('/// The bodies of the rules, one after another.\n')
-    f.write(f'pub static ITEMS: [Item; {total}] = [\n')
+            return f'Make(Action::{form}({kind}::{name}))'
+        return {'Take': lambda: f'Take({terminals[x][2]})', 'Read': lambda: f'Read(Phrase::{x})', 'Make': lambda: f'Make(Action::{x})'}[t]()
+    # A rule a line, and a phrase's row a line: `rt fmt` leaves what is marked so.
+    f.write('/// The bodies of the rules, one after another: a rule that has one a line.\n')
+    f.write(f'#[rattlefmt::skip]\npub static ITEMS: [Item; {total}] = [\n')
     starts = [0]
-    for n, (h, b, _) in enumerate(rules):
-        for i in b:
-            f.write('    ' + rust(i) + f', // rule {n}\n')
+    for h, b, _ in rules:
+        if b:
+            f.write('    ' + ', '.join(map(rust, b)) + ',\n')
         starts.append(starts[-1] + len(b))
     f.write('];\n\n/// Where each rule\'s body begins.\n')
-    f.write(f'pub static STARTS: [u16; {len(starts)}] = [\n' + ''.join(f'    {s},\n' for s in starts) + '];\n')
-    f.write('\n/// By the phrase and the class of the next token: one more than the rule, or 0.\n')
-    f.write(f'pub static CHOICES: [[u8; {CLASSES}]; {len(PHRASES)}] = [\n')
+    f.write(f'#[rattlefmt::skip]\npub static STARTS: [u16; {len(starts)}] = [\n')
+    for i in range(0, len(starts), 26):
+        f.write('    ' + ', '.join(map(str, starts[i:i + 26])) + ',\n')
+    f.write('];\n\n/// By the phrase and the class of the next token: one more than the rule, or 0.\n')
+    f.write(f'#[rattlefmt::skip]\npub static CHOICES: [[u8; {CLASSES}]; {len(PHRASES)}] = [\n')
     for x in PHRASES:
         f.write('    [' + ', '.join(map(str, choice[x])) + '],\n')
     f.write('];\n')
+
+
+def lines(names):
+    rows, row = [], ''
+    for x in names:
+        if row and len(row) + len(x) > 95:
+            rows.append(row)
+            row = ''
+        row += (' ' if row else '    ') + x + ','
+    return ''.join(r + '\n' for r in rows + [row])
+
+
 with open(root + '/src/grammar.rt', 'w') as f:
     f.write('''// What the grammar is made of.
 use fz_ast::{Arrow, Binary, Ranged, Side, Unary};
@@ -369,8 +384,9 @@ pub enum Terminal {
 
 /// What a rule stands for.
 #[derive(Clone, Copy, Debug, PartialEq, Eq)]
+#[rattlefmt::skip]
 pub enum Phrase {
-''' + ''.join(f'    {x},\n' for x in PHRASES) + '''}
+''' + lines(PHRASES) + '''}
 
 /// What stands between two types.
 #[derive(Clone, Copy, Debug, PartialEq, Eq)]
@@ -383,8 +399,9 @@ pub enum Joint {
 
 /// What is made of the parts that were read last.
 #[derive(Clone, Copy, Debug, PartialEq, Eq)]
+#[rattlefmt::skip]
 pub enum Action {
-''' + ''.join(f'    {x}' + ''.join(f'({k})' for k in dict.fromkeys(k for f, _, k in OPERATIONS.values() if f == x)) + ',\n' for x in FORMS) + '''}
+''' + lines(x + ''.join(f'({k})' for k in dict.fromkeys(k for f, _, k in OPERATIONS.values() if f == x)) for x in FORMS) + '''}
 
 /// What a rule's body is made of.
 #[derive(Clone, Copy, Debug, PartialEq, Eq)]

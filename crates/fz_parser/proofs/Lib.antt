@@ -10,3 +10,4 @@ pub mod Making
 pub mod Stacks
 pub mod Laws
 pub mod Written
+pub mod Limits

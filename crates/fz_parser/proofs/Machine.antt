@@ -150,7 +150,7 @@ term_of ts r h =
     let g : Reads START ts empty (only r.last q.0 q.1) = subst (λ x. Reads START ts empty x) q.2 h in
     (q.0, q.1, q.2, (r.last, q.0, (one START ts empty _).0 g))
 
-reads_of : (ts : List Token) (e : Spanned) → IsTerm ts e → (last : Span) × (from : ℕ) × Reads START ts empty (only last from e)
+pub reads_of : (ts : List Token) (e : Spanned) → IsTerm ts e → (last : Span) × (from : ℕ) × Reads START ts empty (only last from e)
 unfolding IsTerm
 reads_of ts e h = (h.0, h.1, (one START ts empty _).1 h.2)
 

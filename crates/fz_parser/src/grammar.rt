@@ -16,32 +16,12 @@ pub enum Terminal {
 
 /// What a rule stands for.
 #[derive(Clone, Copy, Debug, PartialEq, Eq)]
+#[rattlefmt::skip]
 pub enum Phrase {
-    Expression,
-    Binding,
-    Comparison,
-    ComparisonTail,
-    Addition,
-    AdditionTail,
-    Multiplication,
-    NegativeTail,
-    NumeralTail,
-    Application,
-    ApplicationTail,
-    Atom,
-    Simple,
-    Inside,
-    InsideTail,
-    Integer,
-    Sensitivity,
-    SensitivityTail,
-    AnyType,
-    AnyTypeTail,
-    PlusType,
-    PlusTypeTail,
-    ProductType,
-    ProductTypeTail,
-    PrefixType,
+    Expression, Binding, Comparison, ComparisonTail, Addition, AdditionTail, Multiplication,
+    NegativeTail, NumeralTail, Application, ApplicationTail, Atom, Simple, Inside, InsideTail,
+    Integer, Sensitivity, SensitivityTail, AnyType, AnyTypeTail, PlusType, PlusTypeTail,
+    ProductType, ProductTypeTail, PrefixType,
 }
 
 /// What stands between two types.
@@ -55,43 +35,14 @@ pub enum Joint {
 
 /// What is made of the parts that were read last.
 #[derive(Clone, Copy, Debug, PartialEq, Eq)]
+#[rattlefmt::skip]
 pub enum Action {
-    Begin,
-    LambdaTerm(Arrow),
-    LetBangTerm,
-    LetPairTerm,
-    LetTerm,
-    CaseTerm,
-    IfTerm,
-    InfixTerm(Binary),
-    NegativeTerm,
-    NegativeTimesTerm,
-    TimesTerm,
-    NumberTerm,
-    UnaryTerm(Unary),
-    RangedTerm(Ranged),
-    InjectTerm(Side),
-    BangTerm,
-    PrefixTerm(Binary),
-    NameTerm,
-    TextTerm,
-    TruthTerm(Side),
-    UnitTerm,
-    GroupTerm,
-    PlainInteger,
-    NegativeInteger,
-    WholeFactor,
-    FractionFactor,
-    InfFactor,
-    JoinType(Joint),
-    ArrowType,
-    BangType,
-    BagType,
-    NumType,
-    TextType,
-    UnitType,
-    BoolType,
-    GroupType,
+    Begin, LambdaTerm(Arrow), LetBangTerm, LetPairTerm, LetTerm, CaseTerm, IfTerm,
+    InfixTerm(Binary), NegativeTerm, NegativeTimesTerm, TimesTerm, NumberTerm, UnaryTerm(Unary),
+    RangedTerm(Ranged), InjectTerm(Side), BangTerm, PrefixTerm(Binary), NameTerm, TextTerm,
+    TruthTerm(Side), UnitTerm, GroupTerm, PlainInteger, NegativeInteger, WholeFactor,
+    FractionFactor, InfFactor, JoinType(Joint), ArrowType, BangType, BagType, NumType, TextType,
+    UnitType, BoolType, GroupType,
 }
 
 /// What a rule's body is made of.

@@ -11,7 +11,9 @@ mod reader;
 mod tables;
 
 pub use fault::ParseFault;
-pub use parser::{one_fault, one_term, parse, products_as_written, refused_is_none};
+pub use parser::{
+    one_fault, one_term, parse, products_as_written, refused_is_none, terms_keep_limits,
+};
 
 #[cfg(test)]
 mod plain;

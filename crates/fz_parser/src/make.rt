@@ -1,6 +1,6 @@
 // One action, and one token.
 ghost use Rattle.std.specs.Prelude.{◌≡◌, ◌≤◌, ◌∷◌, ◌++◌, [], length, drop, true, IfOk, OnOk};
-ghost use Rattle.fz_parser.specs.Parts.{made, takes, arity, build, shift};
+ghost use Rattle.fz_parser.specs.Parts.{made, takes, gives, arity, build, shift};
 ghost use Rattle.fz_parser.specs.Grammar.{Fits};
 ghost use Rattle.fz_parser.specs.Tests.{begins_with};
 ghost use Rattle.fz_parser.specs.Steps.{sorts};
@@ -10,7 +10,7 @@ ghost use Rattle.fz_parser.specs.declared.grammar.Action.{Action};
 use crate::grammar::{Action, Terminal};
 use crate::maker::*;
 use crate::reader::{Entry, Held, Reader};
-use fz_ast::{Name, NoMemory, Span, Text};
+use fz_ast::{Form, Name, NoMemory, Span, Text, TypeForm};
 use fz_frac::Sens;
 use fz_lexer::{Kind, Token};
 use std::alloc::AllocError;
@@ -21,46 +21,46 @@ fn arity(action: Action) -> usize
     ensures { result ≡ arity action }
 {
     match action {
-        Action::Begin
-        | Action::TruthTerm(_)
-        | Action::InfFactor
-        | Action::NumType
-        | Action::TextType
-        | Action::UnitType
-        | Action::BoolType => 0,
-        Action::NumberTerm
-        | Action::NameTerm
-        | Action::TextTerm
-        | Action::UnitTerm
-        | Action::PlainInteger
-        | Action::NegativeInteger
-        | Action::WholeFactor => 1,
-        Action::InfixTerm(_)
-        | Action::NegativeTerm
-        | Action::TimesTerm
-        | Action::UnaryTerm(_)
-        | Action::GroupTerm
-        | Action::FractionFactor
-        | Action::JoinType(_)
-        | Action::ArrowType
-        | Action::BagType
-        | Action::GroupType => 2,
-        Action::NegativeTimesTerm
-        | Action::InjectTerm(_)
-        | Action::BangTerm
-        | Action::PrefixTerm(_)
-        | Action::BangType => 3,
-        Action::LambdaTerm(_)
-        | Action::LetBangTerm
-        | Action::LetTerm
-        | Action::IfTerm
-        | Action::RangedTerm(_) => 4,
+        Action::Begin | Action::TruthTerm(_) | Action::InfFactor => 0,
+        Action::NumType | Action::TextType | Action::UnitType | Action::BoolType => 0,
+        Action::NumberTerm | Action::NameTerm | Action::TextTerm | Action::UnitTerm => 1,
+        Action::PlainInteger | Action::NegativeInteger | Action::WholeFactor => 1,
+        Action::InfixTerm(_) | Action::NegativeTerm | Action::TimesTerm => 2,
+        Action::UnaryTerm(_) | Action::GroupTerm | Action::FractionFactor => 2,
+        Action::JoinType(_) | Action::ArrowType | Action::BagType | Action::GroupType => 2,
+        Action::NegativeTimesTerm | Action::InjectTerm(_) | Action::BangTerm => 3,
+        Action::PrefixTerm(_) | Action::BangType => 3,
+        Action::LambdaTerm(_) | Action::LetBangTerm | Action::LetTerm => 4,
+        Action::IfTerm | Action::RangedTerm(_) => 4,
         Action::LetPairTerm => 5,
         Action::CaseTerm => 6,
     }
 }
 
+/// What an action that gives a type makes of them.
+#[tactic(auto, unfolding(crate::specs::Parts::gives))]
+fn made_type(reader: &mut Reader, action: Action, whole: Span) -> Result<Held, NoMemory>
+    requires kept { IsKept reader.old }
+    requires ready { begins_with (takes action) (sorts (state_of reader.old)) ≡ true }
+    requires gives { gives action ≡ 7 }
+    ensures { IfOk result (λ held. Makes reader.old reader.new held (made action whole (state_of reader.old))) }
+{
+    match action {
+        Action::JoinType(joint) => join(reader, joint, whole),
+        Action::ArrowType => arrow(reader, whole),
+        Action::BangType => bang_type(reader, whole),
+        Action::BagType => bag_type(reader, whole),
+        Action::NumType => reader.new_type(whole, TypeForm::Num),
+        Action::TextType => reader.new_type(whole, TypeForm::Text),
+        Action::UnitType => reader.new_type(whole, TypeForm::Unit),
+        Action::BoolType => bool_type(reader, whole),
+        Action::GroupType => Ok(group_type(reader)),
+        _ => unreachable!(),
+    }
+}
+
 /// What an action makes of the parts on top.
+#[tactic(auto, unfolding(crate::specs::Parts::gives))]
 fn made(reader: &mut Reader, action: Action, whole: Span) -> Result<Held, NoMemory>
     requires kept { IsKept reader.old }
     requires ready { begins_with (takes action) (sorts (state_of reader.old)) ≡ true }
@@ -74,7 +74,7 @@ fn made(reader: &mut Reader, action: Action, whole: Span) -> Result<Held, NoMemo
         Action::LetTerm => let_plain(reader, whole),
         Action::CaseTerm => case(reader, whole),
         Action::IfTerm => choice(reader, whole),
-        Action::InfixTerm(op) => infix(reader, op, whole),
+        Action::InfixTerm(op) => binary(reader, op, whole),
         Action::NegativeTerm => negative(reader, whole),
         Action::NegativeTimesTerm => negative_times(reader, whole),
         Action::TimesTerm => times(reader, whole),
@@ -83,26 +83,18 @@ fn made(reader: &mut Reader, action: Action, whole: Span) -> Result<Held, NoMemo
         Action::RangedTerm(op) => ranged(reader, op, whole),
         Action::InjectTerm(side) => inject(reader, side, whole),
         Action::BangTerm => bang(reader, whole),
-        Action::PrefixTerm(op) => prefix(reader, op, whole),
+        Action::PrefixTerm(op) => binary(reader, op, whole),
         Action::NameTerm => variable(reader, whole),
         Action::TextTerm => literal(reader, whole),
         Action::TruthTerm(side) => truth(reader, side, whole),
-        Action::UnitTerm => unit(reader, whole),
+        Action::UnitTerm => reader.new_term(whole, Form::Unit),
         Action::GroupTerm => Ok(group_term(reader)),
         Action::PlainInteger => Ok(plain_integer(reader)),
         Action::NegativeInteger => Ok(negative_integer(reader)),
         Action::WholeFactor => Ok(whole_factor(reader)),
         Action::FractionFactor => Ok(fraction(reader)),
         Action::InfFactor => Ok(Held::Factor(Sens::Inf)),
-        Action::JoinType(joint) => join(reader, joint, whole),
-        Action::ArrowType => arrow(reader, whole),
-        Action::BangType => bang_type(reader, whole),
-        Action::BagType => bag_type(reader, whole),
-        Action::NumType => num_type(reader, whole),
-        Action::TextType => text_type(reader, whole),
-        Action::UnitType => unit_type(reader, whole),
-        Action::BoolType => bool_type(reader, whole),
-        Action::GroupType => Ok(group_type(reader)),
+        _ => made_type(reader, action, whole),
     }
 }
 
@@ -135,10 +127,8 @@ pub fn make(reader: &mut Reader, action: Action) -> Result<(), NoMemory>
 {
     let count = arity(action);
     let from = reader.start(count);
-    let whole = Span {
-        from,
-        to: reader.last.to,
-    };
+    let to = reader.last.to;
+    let whole = Span { from, to };
     let held = made(reader, action, whole)?;
     replace(reader, count, Entry { from, held })?;
     Ok(())
@@ -181,14 +171,8 @@ pub fn take(reader: &mut Reader, terminal: Terminal, token: &Token) -> Result<()
     reader.last = span;
     match value(terminal, token) {
         Some(held) => {
-            replace(
-                reader,
-                0,
-                Entry {
-                    from: span.from,
-                    held,
-                },
-            )?;
+            let from = span.from;
+            replace(reader, 0, Entry { from, held })?;
             Ok(())
         }
         None => Ok(()),

@@ -96,22 +96,13 @@ pub fn choice(reader: &mut Reader, whole: Span) -> Result<Held, NoMemory>
     reader.new_term(whole, Form::If(test, yes, no))
 }
 
-pub fn infix(reader: &mut Reader, op: Binary, whole: Span) -> Result<Held, NoMemory>
+/// `a + b` and the like, or `(a, b)` and the like, which begin at their first token.
+pub fn binary(reader: &mut Reader, op: Binary, whole: Span) -> Result<Held, NoMemory>
     requires kept { IsKept reader.old }
     requires at_0 { sort_at 0 (state_of reader.old) ≡ 8 }
     requires at_1 { sort_at 1 (state_of reader.old) ≡ 8 }
-    ensures { IfOk result (λ held. Makes reader.old reader.new held (made (Action.InfixTerm op) whole (state_of reader.old))) }
-{
-    let a = reader.term(1);
-    let b = reader.term(0);
-    reader.new_term(whole, Form::Binary(op, a, b))
-}
-
-pub fn prefix(reader: &mut Reader, op: Binary, whole: Span) -> Result<Held, NoMemory>
-    requires kept { IsKept reader.old }
-    requires at_0 { sort_at 0 (state_of reader.old) ≡ 8 }
-    requires at_1 { sort_at 1 (state_of reader.old) ≡ 8 }
-    ensures { IfOk result (λ held. Makes reader.old reader.new held (made (Action.PrefixTerm op) whole (state_of reader.old))) }
+    ensures infix { IfOk result (λ held. Makes reader.old reader.new held (made (Action.InfixTerm op) whole (state_of reader.old))) }
+    ensures prefix { IfOk result (λ held. Makes reader.old reader.new held (made (Action.PrefixTerm op) whole (state_of reader.old))) }
 {
     let a = reader.term(1);
     let b = reader.term(0);
@@ -220,13 +211,6 @@ pub fn literal(reader: &mut Reader, whole: Span) -> Result<Held, NoMemory>
     reader.new_term(whole, Form::Text(text))
 }
 
-pub fn unit(reader: &mut Reader, whole: Span) -> Result<Held, NoMemory>
-    requires { IsKept reader.old }
-    ensures { IfOk result (λ held. Makes reader.old reader.new held (made Action.UnitTerm whole (state_of reader.old))) }
-{
-    reader.new_term(whole, Form::Unit)
-}
-
 /// `true` is `inl[unit] ()`, and `false` is `inr[unit] ()`.
 pub fn truth(reader: &mut Reader, side: Side, whole: Span) -> Result<Held, NoMemory>
     requires { IsKept reader.old }
@@ -287,27 +271,6 @@ pub fn bag_type(reader: &mut Reader, whole: Span) -> Result<Held, NoMemory>
 {
     let (_, a) = reader.written(0);
     reader.new_type(whole, TypeForm::Bag(a))
-}
-
-pub fn num_type(reader: &mut Reader, whole: Span) -> Result<Held, NoMemory>
-    requires { IsKept reader.old }
-    ensures { IfOk result (λ held. Makes reader.old reader.new held (made Action.NumType whole (state_of reader.old))) }
-{
-    reader.new_type(whole, TypeForm::Num)
-}
-
-pub fn text_type(reader: &mut Reader, whole: Span) -> Result<Held, NoMemory>
-    requires { IsKept reader.old }
-    ensures { IfOk result (λ held. Makes reader.old reader.new held (made Action.TextType whole (state_of reader.old))) }
-{
-    reader.new_type(whole, TypeForm::Text)
-}
-
-pub fn unit_type(reader: &mut Reader, whole: Span) -> Result<Held, NoMemory>
-    requires { IsKept reader.old }
-    ensures { IfOk result (λ held. Makes reader.old reader.new held (made Action.UnitType whole (state_of reader.old))) }
-{
-    reader.new_type(whole, TypeForm::Unit)
 }
 
 /// `bool` is `unit + unit`.

@@ -1,6 +1,7 @@
 ghost use Rattle.std.specs.Prelude.{◌≡◌, ◌≢◌, ◌↔◌, ◌<◌, ◌≤◌, ◌++◌, ◌∷◌, [], ℕ, List, reverse, length, take, drop, IfOk, IfErr, OnOk};
 ghost use Rattle.fz_ast.specs.declared.span.Span.{Span};
-ghost use Rattle.fz_ast.specs.Spanned.{Spanned};
+ghost use Rattle.fz_ast.specs.Spanned.{Spanned, erase};
+ghost use Rattle.fz_ast.specs.Limits.{TermLimits};
 ghost use Rattle.fz_lexer.specs.declared.token.Token.{Token};
 ghost use Rattle.fz_parser.specs.Table.{rule_count};
 ghost use Rattle.fz_parser.specs.Grammar.{body, IsTerm, Derives};
@@ -91,14 +92,11 @@ fn read(alloc: Global, tokens: &[Token]) -> Result<Reader, ParseFault>
             }
         }
     }
+    let end = tokens.len();
     match settle(0, &mut stack, &mut reader)? {
         Top::Empty => Ok(reader),
-        Top::Refuses => Err(ParseFault::Stuck {
-            token: tokens.len(),
-        }),
-        Top::Wants(_) => Err(ParseFault::Stuck {
-            token: tokens.len(),
-        }),
+        Top::Refuses => Err(ParseFault::Stuck { token: end }),
+        Top::Wants(_) => Err(ParseFault::Stuck { token: end }),
     }
 }
 
@@ -118,17 +116,18 @@ pub fn parse(alloc: Global, tokens: &[Token]) -> Result<Term, ParseFault>
     if depth > 64 {
         return Err(ParseFault::TooNested { depth });
     }
-    let Reader {
-        last: _,
-        entries: _,
-        nodes,
-    } = reader;
+    let Reader { nodes, .. } = reader;
     Ok(Term::new(nodes, root))
 }
 
 /// Tokens are at most one term.
 pub fn one_term()
     ensures { (ts : List Token) (e other : Spanned) → IsTerm ts e → IsTerm ts other → other ≡ e }
+{}
+
+/// Names, numbers, texts and bang numbers of a term are within the limits.
+pub fn terms_keep_limits()
+    ensures { (ts : List Token) (e : Spanned) → IsTerm ts e → TermLimits (erase e) }
 {}
 
 /// Tokens that are refused, other than for want of memory, are no term within the limit on nesting.

@@ -1,5 +1,5 @@
 use Rattle.std.proofs.Common.{refl, arith, ◌∙◌, ap, sym}
-use Rattle.fz_parser.specs.declared.grammar.Action.TheVariants.{ArrowType, BagType, BangTerm, BangType, CaseTerm, FractionFactor, GroupTerm, GroupType, IfTerm, InfixTerm, InjectTerm, JoinType, LambdaTerm, LetBangTerm, LetPairTerm, LetTerm, NameTerm, NegativeInteger, NegativeTerm, NegativeTimesTerm, NumberTerm, PlainInteger, PrefixTerm, RangedTerm, TextTerm, TimesTerm, UnaryTerm, WholeFactor}
+use Rattle.fz_parser.specs.declared.grammar.Action.TheVariants.{BangTerm, CaseTerm, FractionFactor, GroupTerm, IfTerm, InfixTerm, InjectTerm, LambdaTerm, LetBangTerm, LetPairTerm, LetTerm, NameTerm, NegativeInteger, NegativeTerm, NegativeTimesTerm, NumberTerm, PlainInteger, PrefixTerm, RangedTerm, TextTerm, TimesTerm, UnaryTerm, WholeFactor}
 use Rattle.fz_parser.specs.Parts.{takes, made}
 use Rattle.fz_parser.specs.Kept.{state_of}
 use Rattle.fz_parser.proofs.Making.{ready_at, makes_none}
@@ -89,21 +89,21 @@ pub choice-requires-clause-at_2 : goal.choice-requires-clause-at_2
 unfolding takes
 choice-requires-clause-at_2 c = ready_at c.args.action IfTerm (state_of c.args.reader.now) 2 8 c.in-IfTerm.is c.requires.ready refl (omega arith)
 
-pub infix-requires-clause-at_0 : goal.infix-requires-clause-at_0
+pub binary-requires-clause-at_0 : goal.binary-requires-clause-at_0
 unfolding takes
-infix-requires-clause-at_0 c = ready_at c.args.action (InfixTerm c.in-InfixTerm.op) (state_of c.args.reader.now) 0 8 c.in-InfixTerm.is c.requires.ready refl (omega arith)
+binary-requires-clause-at_0 c = ready_at c.args.action (InfixTerm c.in-InfixTerm.op) (state_of c.args.reader.now) 0 8 c.in-InfixTerm.is c.requires.ready refl (omega arith)
 
-pub infix-requires-clause-at_1 : goal.infix-requires-clause-at_1
+pub binary-requires-clause-at_1 : goal.binary-requires-clause-at_1
 unfolding takes
-infix-requires-clause-at_1 c = ready_at c.args.action (InfixTerm c.in-InfixTerm.op) (state_of c.args.reader.now) 1 8 c.in-InfixTerm.is c.requires.ready refl (omega arith)
+binary-requires-clause-at_1 c = ready_at c.args.action (InfixTerm c.in-InfixTerm.op) (state_of c.args.reader.now) 1 8 c.in-InfixTerm.is c.requires.ready refl (omega arith)
 
-pub prefix-requires-clause-at_0 : goal.prefix-requires-clause-at_0
+pub binary-requires-in-PrefixTerm-clause-at_0 : goal.binary-requires-in-PrefixTerm-clause-at_0
 unfolding takes
-prefix-requires-clause-at_0 c = ready_at c.args.action (PrefixTerm c.in-PrefixTerm.op) (state_of c.args.reader.now) 0 8 c.in-PrefixTerm.is c.requires.ready refl (omega arith)
+binary-requires-in-PrefixTerm-clause-at_0 c = ready_at c.args.action (PrefixTerm c.in-PrefixTerm.op) (state_of c.args.reader.now) 0 8 c.in-PrefixTerm.is c.requires.ready refl (omega arith)
 
-pub prefix-requires-clause-at_1 : goal.prefix-requires-clause-at_1
+pub binary-requires-in-PrefixTerm-clause-at_1 : goal.binary-requires-in-PrefixTerm-clause-at_1
 unfolding takes
-prefix-requires-clause-at_1 c = ready_at c.args.action (PrefixTerm c.in-PrefixTerm.op) (state_of c.args.reader.now) 1 8 c.in-PrefixTerm.is c.requires.ready refl (omega arith)
+binary-requires-in-PrefixTerm-clause-at_1 c = ready_at c.args.action (PrefixTerm c.in-PrefixTerm.op) (state_of c.args.reader.now) 1 8 c.in-PrefixTerm.is c.requires.ready refl (omega arith)
 
 pub negative-requires-clause-at_0 : goal.negative-requires-clause-at_0
 unfolding takes
@@ -169,41 +169,9 @@ pub literal-requires-clause-at_0 : goal.literal-requires-clause-at_0
 unfolding takes
 literal-requires-clause-at_0 c = ready_at c.args.action TextTerm (state_of c.args.reader.now) 0 4 c.in-TextTerm.is c.requires.ready refl (omega arith)
 
-pub join-requires-clause-at_0 : goal.join-requires-clause-at_0
-unfolding takes
-join-requires-clause-at_0 c = ready_at c.args.action (JoinType c.in-JoinType.joint) (state_of c.args.reader.now) 0 7 c.in-JoinType.is c.requires.ready refl (omega arith)
-
-pub join-requires-clause-at_1 : goal.join-requires-clause-at_1
-unfolding takes
-join-requires-clause-at_1 c = ready_at c.args.action (JoinType c.in-JoinType.joint) (state_of c.args.reader.now) 1 7 c.in-JoinType.is c.requires.ready refl (omega arith)
-
-pub arrow-requires-clause-at_0 : goal.arrow-requires-clause-at_0
-unfolding takes
-arrow-requires-clause-at_0 c = ready_at c.args.action ArrowType (state_of c.args.reader.now) 0 7 c.in-ArrowType.is c.requires.ready refl (omega arith)
-
-pub arrow-requires-clause-at_1 : goal.arrow-requires-clause-at_1
-unfolding takes
-arrow-requires-clause-at_1 c = ready_at c.args.action ArrowType (state_of c.args.reader.now) 1 7 c.in-ArrowType.is c.requires.ready refl (omega arith)
-
-pub bang_type-requires-clause-at_0 : goal.bang_type-requires-clause-at_0
-unfolding takes
-bang_type-requires-clause-at_0 c = ready_at c.args.action BangType (state_of c.args.reader.now) 0 7 c.in-BangType.is c.requires.ready refl (omega arith)
-
-pub bang_type-requires-clause-at_1 : goal.bang_type-requires-clause-at_1
-unfolding takes
-bang_type-requires-clause-at_1 c = ready_at c.args.action BangType (state_of c.args.reader.now) 1 6 c.in-BangType.is c.requires.ready refl (omega arith)
-
-pub bag_type-requires-clause-at_0 : goal.bag_type-requires-clause-at_0
-unfolding takes
-bag_type-requires-clause-at_0 c = ready_at c.args.action BagType (state_of c.args.reader.now) 0 7 c.in-BagType.is c.requires.ready refl (omega arith)
-
 pub group_term-requires-clause-at_0 : goal.group_term-requires-clause-at_0
 unfolding takes
 group_term-requires-clause-at_0 c = ready_at c.args.action GroupTerm (state_of c.args.reader.now) 0 8 c.in-GroupTerm.is c.requires.ready refl (omega arith)
-
-pub group_type-requires-clause-at_0 : goal.group_type-requires-clause-at_0
-unfolding takes
-group_type-requires-clause-at_0 c = ready_at c.args.action GroupType (state_of c.args.reader.now) 0 7 c.in-GroupType.is c.requires.ready refl (omega arith)
 
 pub plain_integer-requires-clause-at_0 : goal.plain_integer-requires-clause-at_0
 unfolding takes
@@ -227,9 +195,6 @@ fraction-requires-clause-at_1 c = ready_at c.args.action FractionFactor (state_o
 
 pub returns-in-GroupTerm : goal.returns-in-GroupTerm
 returns-in-GroupTerm c = makes_none c.args.reader.now c.group_term.result _ c.requires.kept c.group_term.ensures.known (c.group_term.ensures.is c.args.whole ∙ ap (λ a. made a c.args.whole (state_of c.args.reader.now)) (sym c.in-GroupTerm.is))
-
-pub returns-in-GroupType : goal.returns-in-GroupType
-returns-in-GroupType c = makes_none c.args.reader.now c.group_type.result _ c.requires.kept c.group_type.ensures.known (c.group_type.ensures.is c.args.whole ∙ ap (λ a. made a c.args.whole (state_of c.args.reader.now)) (sym c.in-GroupType.is))
 
 pub returns-in-PlainInteger : goal.returns-in-PlainInteger
 returns-in-PlainInteger c = makes_none c.args.reader.now c.plain_integer.result _ c.requires.kept c.plain_integer.ensures.known (c.plain_integer.ensures.is c.args.whole ∙ ap (λ a. made a c.args.whole (state_of c.args.reader.now)) (sym c.in-PlainInteger.is))
