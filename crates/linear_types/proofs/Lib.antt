@@ -8,3 +8,6 @@ pub mod Programs
 pub mod Scope
 pub mod Faults
 pub mod Answered
+pub mod Alike
+pub mod Rest
+pub mod Entries

@@ -5,3 +5,6 @@ pub mod Rule
 pub mod Fractions
 pub mod Program
 pub mod Laws
+pub mod Places
+pub mod Environment
+pub mod Entries

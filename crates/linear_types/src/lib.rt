@@ -3,6 +3,12 @@
 
 ghost use Rattle.linear_types.specs.Laws.{AcceptedExactly, AcceptedIsBounded, FaultsAreKept, NotNumExactly, OnlyNamesInScope, QuotientIsLeast, QuotientSuffices, RuleIsComplete, RuleIsSound, RuleKeepsRange, TypesAreUnique, TypesCanBeWritten, UnboundedExactly};
 
+pub mod env;
+pub mod places;
+
+pub use env::{Entry, Env};
+pub use places::EnvFault;
+
 /// The function that answers a type or the first fault is the typing rules.
 pub fn rule_is_typing()
     ensures sound { RuleIsSound }

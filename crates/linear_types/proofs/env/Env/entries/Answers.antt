@@ -1,0 +1,5 @@
+use Rattle.linear_types.proofs.Entries.{in_range_at}
+use Rattle.linear_types.proofs.env.Env.entries.Goals as goal
+
+pub returns-clause-in_range : goal.returns-clause-in_range
+returns-clause-in_range c = in_range_at c.args.self.now c.self.inside.entries.items c.self.view_is
