@@ -1,0 +1,81 @@
+-- What the rows answer, in the words of the typing rules. T is the arena's types, and a type in an answer is its number there.
+use Rattle.std.specs.Prelude.{◌≡◌, ◌<◌, List, length, Result, Ok, Err, true, false, ⊤}
+use Rattle.std.proofs.Common.{Vec, Global}
+use Rattle.fz_frac.specs.Distance.{Distance, ◌≈◌}
+use Rattle.fz_frac.specs.Lowest.{lowest, is_out}
+use Rattle.fz_frac.specs.Sens.{distance_of}
+use Rattle.fz_frac.specs.declared.sens.Sens.{Sens}
+use Rattle.fz_ast.specs.declared.span.Span.{Span}
+use Rattle.fz_ast.specs.Names.{name_of}
+use Rattle.fz_ast.specs.Types.{Ty}
+use Rattle.fz_ast.specs.TypeNodes.{type_at}
+use Rattle.linear_types.specs.Places.{AreAlike, IsGiven, distances}
+use Rattle.linear_types.specs.declared.places.EnvFault.{EnvFault}
+use Rattle.linear_types.specs.declared.places.EnvFault.TheVariants.{Range as OutOfRange, NoMemory as Wanting}
+use Rattle.linear_types.specs.Sensitivities.{Sensitivities}
+use Rattle.linear_types.specs.Verdict.{Fault, Verdict, Has, Refused, any_out}
+use Rattle.linear_types.specs.Verdict as rules
+use Rattle.typing_rows.specs.declared.clause.Wanted.{Wanted}
+use Rattle.typing_rows.specs.declared.clause.Wanted.TheVariants.{Exactly, WithPair, Tensor, Sum, Arrow, Bang, Bag, UnlimitedArrow, NumberOrText}
+use Rattle.typing_rows.specs.declared.clause.Judged.{Judged}
+use Rattle.typing_rows.specs.declared.clause.Refusal.{Refusal}
+use Rattle.typing_rows.specs.declared.clause.Refusal.TheVariants.{Unbound, Mismatch, NotGround, NotFlat, TooSensitive, Range, NoMemory}
+
+-- what was wanted, a type being its number in T
+abbrev pub IsWanted : List Ty → Wanted → rules.Wanted → Type 0
+IsWanted T (Exactly t) w = (t < length T) × (w ≡ rules.Exactly (type_at T t))
+IsWanted T WithPair w = w ≡ rules.AWithPair
+IsWanted T Tensor w = w ≡ rules.ATensor
+IsWanted T Sum w = w ≡ rules.ASum
+IsWanted T Arrow w = w ≡ rules.AnArrow
+IsWanted T Bang w = w ≡ rules.ABang
+IsWanted T Bag w = w ≡ rules.ABag
+IsWanted T UnlimitedArrow w = w ≡ rules.AnUnlimitedArrow
+IsWanted T NumberOrText w = w ≡ rules.ANumberOrText
+
+-- the code's type and sensitivities are these
+pub record IsFine (T : List Ty) (j : Judged) (A : Ty) (D : Sensitivities) : Type 0 where
+  pub known : j.ty < length T
+  pub is : type_at T j.ty ≡ A
+  pub alike : AreAlike (distances j.amounts.items) D
+
+-- the code's refusal is this fault, with all its data
+abbrev pub IsFault : List Ty → Refusal → Fault → Type 0
+IsFault T (Unbound s) f = f ≡ rules.Unbound s
+IsFault T (Mismatch s t w) f = (wanted : rules.Wanted) × (t < length T) × IsWanted T w wanted × (f ≡ rules.Mismatch s (type_at T t) wanted)
+IsFault T (NotGround s) f = f ≡ rules.NotGround s
+IsFault T (NotFlat s) f = f ≡ rules.NotFlat s
+IsFault T (TooSensitive s x r) f = (d : Distance) × (distance_of r ≡ lowest d) × (f ≡ rules.TooSensitive s (name_of x) d)
+IsFault T (Range s) f = f ≡ rules.Range s
+IsFault T NoMemory f = ⊤
+
+-- the verdict is this refusal, unless memory is wanted
+abbrev pub Refuses : List Ty → Refusal → Verdict → Type 0
+Refuses T NoMemory v = ⊤
+Refuses T r (Refused f) = IsFault T r f
+Refuses T r (Has A D) = ⊥
+
+-- the code's answer is the verdict, or memory is wanted
+abbrev pub Says : List Ty → Result Judged Refusal → Verdict → Type 0
+Says T (Ok j) (Has A D) = IsFine T j A D
+Says T (Ok j) (Refused f) = ⊥
+Says T (Err r) v = Refuses T r v
+
+-- sensitivities that are given, or out of range at the term s, or memory is wanted
+abbrev pub IsRefusal : Span → Sensitivities → Refusal → Type 0
+IsRefusal s D (Range u) = (u ≡ s) × (any_out D ≡ true)
+IsRefusal s D NoMemory = ⊤
+IsRefusal s D r = ⊥
+
+abbrev pub Gives : Result (Vec Sens Global) Refusal → Span → Sensitivities → Type 0
+Gives (Ok v) s D = IsGiven v.items D
+Gives (Err r) s D = IsRefusal s D r
+
+-- d, or it is out of range at the term s
+abbrev pub GivesOne : Result Sens Refusal → Span → Distance → Type 0
+GivesOne (Ok k) s d = (is_out d ≡ false) × (distance_of k ≈ d)
+GivesOne (Err r) s d = (r ≡ Range s) × (is_out d ≡ true)
+
+abbrev pub refusal_of : Span → EnvFault → Refusal
+refusal_of s OutOfRange = Range s
+refusal_of s Wanting = NoMemory
