@@ -1,0 +1,7 @@
+pub mod Numbers
+pub mod Scopes
+pub mod TableNames
+pub mod Judging
+pub mod Binders
+pub mod TableAmounts
+pub mod Programs

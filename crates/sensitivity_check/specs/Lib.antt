@@ -1,0 +1,4 @@
+pub mod Answered
+pub mod Written
+pub mod Scope
+pub mod Judging

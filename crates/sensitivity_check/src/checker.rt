@@ -1,0 +1,120 @@
+// A whole program, over the tables of a signature.
+ghost use Rattle.std.specs.Prelude.{◌≡◌, IfOk, IfErr, Ok};
+ghost use Rattle.fz_ast.specs.Arena.{Grows};
+ghost use Rattle.fz_ast.specs.Limits.{TermLimits};
+ghost use Rattle.fz_ast.specs.Signature.{Signature};
+ghost use Rattle.fz_ast.specs.Spanned.{Spanned, erase};
+ghost use Rattle.linear_types.specs.Program.{context_of};
+ghost use Rattle.linear_types.specs.Rule.{rule};
+ghost use Rattle.sensitivity_check.specs.Answered.{IsChecked, IsRefused, HasBound};
+ghost use Rattle.typing_rows.specs.Says.{Refuses, Says};
+
+use crate::amounts::{by_name, first_endless, greatest};
+use crate::fault::CheckFault;
+use crate::judge::Walk;
+use crate::tables::tables_in_scope;
+use crate::written::interned;
+use fz_ast::{Arena, Sig, Term, TypeForm};
+use fz_frac::Sens;
+use linear_types::env::Env;
+use std::alloc::Global;
+use typing_rows::clause::{Judged, Refusal};
+
+/// A program that was accepted: the term, its greatest sensitivity over the tables, in lowest terms,
+/// and its sensitivity to each table by name.
+#[derive(Drop)]
+pub struct Checked<'a> {
+    pub term: &'a Term,
+    pub sens: Sens,
+    pub env: Env,
+}
+
+// The program's type and sensitivities, the tables being the names in scope.
+fn judged(alloc: Global, arena: &mut Arena, sig: &Sig, term: &Term) -> Result<Judged, Refusal>
+    ensures says { Says arena.new result (rule (context_of sig.now) term.now) }
+    ensures limits { TermLimits (erase term.now) }
+{
+    let (nodes, root) = term.parts();
+    let scope = tables_in_scope(alloc, arena, sig)?;
+    let written = interned(alloc, arena, nodes.types())?;
+    let walk = Walk {
+        alloc,
+        nodes,
+        written: &written,
+    };
+    walk.judge(arena, &scope, root)
+}
+
+// The refusal with its types.
+fn fault(arena: Arena, refusal: Refusal) -> CheckFault
+    ensures { (ts : Signature) (e : Spanned) → Refuses arena refusal (rule (context_of ts) e) → IsRefused ts e result }
+{
+    match refusal {
+        Refusal::Unbound { span } => CheckFault::Unbound { span },
+        Refusal::Mismatch {
+            span,
+            found,
+            wanted,
+        } => CheckFault::Mismatch {
+            span,
+            types: arena.into_types(),
+            found,
+            wanted,
+        },
+        Refusal::NotGround { span } => CheckFault::NotGround { span },
+        Refusal::NotFlat { span } => CheckFault::NotFlat { span },
+        Refusal::TooSensitive { span, name, r } => CheckFault::TooSensitive { span, name, r },
+        Refusal::Range { span } => CheckFault::Range { span },
+        Refusal::NoMemory => CheckFault::NoMemory,
+    }
+}
+
+// What the program is, its type and sensitivities being these.
+fn accepted<'a>(
+    alloc: Global,
+    arena: Arena,
+    sig: &Sig,
+    term: &'a Term,
+    judged: Judged,
+) -> Result<Checked<'a>, CheckFault>
+    requires says { Says arena (Ok judged) (rule (context_of sig.now) term.now) }
+    requires limits { TermLimits (erase term.now) }
+    ensures checked { IfOk result (IsChecked sig.now term.now) }
+    ensures fault { IfErr result (IsRefused sig.now term.now) }
+    ensures bound { IfOk result (λ checked. HasBound sig.now term.now (checked.sens)) }
+{
+    if let Some(table) = first_endless(&judged.amounts, sig.len()) {
+        return Err(CheckFault::Unbounded { table });
+    }
+    let TypeForm::Num = arena.form(judged.ty) else {
+        return Err(CheckFault::NotNum {
+            types: arena.into_types(),
+            found: judged.ty,
+        });
+    };
+    match by_name(alloc, sig, &judged.amounts) {
+        Ok(env) => Ok(Checked {
+            term,
+            sens: greatest(&judged.amounts),
+            env,
+        }),
+        Err(_) => Err(CheckFault::NoMemory),
+    }
+}
+
+/// Checks a program by the typing rules.
+///
+/// # Errors
+///
+/// The first fault in the order of the rules; `Unbounded` and then `NotNum` come last. `NoMemory` where memory ran out.
+pub fn check<'a>(alloc: Global, sig: &Sig, term: &'a Term) -> Result<Checked<'a>, CheckFault>
+    ensures checked { IfOk result (IsChecked sig.now term.now) }
+    ensures fault { IfErr result (IsRefused sig.now term.now) }
+    ensures bound { IfOk result (λ checked. HasBound sig.now term.now (checked.sens)) }
+{
+    let mut arena = Arena::new(alloc);
+    match judged(alloc, &mut arena, sig, term) {
+        Ok(judged) => accepted(alloc, arena, sig, term, judged),
+        Err(refusal) => Err(fault(arena, refusal)),
+    }
+}
