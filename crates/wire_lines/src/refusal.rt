@@ -41,7 +41,7 @@ pub enum Refusal {
     },
     /// 22: the depth of the term.
     TooNested {
-        depth: u32,
+        depth: u64,
     },
     /// 30: what is wrong with a type, and the span of the term.
     IllTyped {
@@ -62,7 +62,7 @@ pub enum Refusal {
     },
     /// 34: the value of the program is no number.
     NoNumber,
-    /// 39: the span of a program that the server cannot read.
+    /// 39: the span of a program that is accepted and isn't answered yet.
     Unread {
         from: u32,
         to: u32,

@@ -146,7 +146,7 @@ fn write_refusal(refusal: &Refusal, out: &mut [u8; REPLY_LIMIT]) -> usize
         Refusal::NoHello => put_line(out, b"no 14", &[]),
         Refusal::NoToken { place } => put_line(out, b"no 20", &[Number(place)]),
         Refusal::NoTerm { token } => put_line(out, b"no 21", &[Number(token)]),
-        Refusal::TooNested { depth } => put_line(out, b"no 22", &[Number(depth)]),
+        Refusal::TooNested { depth } => put_line(out, b"no 22", &[Amount(depth)]),
         Refusal::IllTyped { fault, from, to } => {
             put_line(out, b"no 30", &[Fault(fault), Number(from), Number(to)])
         }
