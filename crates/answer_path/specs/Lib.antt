@@ -1,0 +1,4 @@
+pub mod Reading
+pub mod Judgement
+pub mod Code
+pub mod Laws
