@@ -1,8 +1,11 @@
 -- what the code's query says, in the words of the verdict and the reply
-use Rattle.std.proofs.Common.{◌≡◌, ℕ, ◌<◌, ◌≤◌, ◌^◌, min, Bool, true, false, cond, not, List, [], ◌∷◌, ◌++◌, length, map, Option, Some, None, refl, sym, ◌∙◌, ap, arith, bytes_eq, append-nil, append_assoc}
-use Rattle.std.specs.Prelude.{ℤ, pos, ◌+ℤ◌, unsigned_abs, Result, Ok}
-use Rattle.std.proofs.lemmas.Int.{ints}
+use Rattle.std.proofs.Common.{◌≡◌, ℕ, ◌<◌, ◌≤◌, ◌^◌, List, [], ◌∷◌, ◌++◌, length, map, Option, refl, sym, ◌∙◌, ap, subst, arith, get_or, append-nil, append_assoc}
+use Rattle.std.specs.Prelude.{ℤ, pos, ◌+ℤ◌, unsigned_abs, Result, Ok, Err}
+use Rattle.std.proofs.lemmas.Int.{ints, clamps}
+use Rattle.std.proofs.lemmas.Option.{slice_get_within}
+use Rattle.std.specs.Int.{int_min}
 use Rattle.std.proofs.lemmas.List.{length-map}
+use mathlib.Core.Logic.{inl, inr}
 use Rattle.budget_core.specs.declared.records.View.TheVariants.{Whole}
 use Rattle.budget_core.specs.declared.records.Outcome.{Outcome}
 use Rattle.budget_core.specs.declared.records.Record.{Record}
@@ -13,46 +16,183 @@ use Rattle.budget_core.specs.declared.entry.ReserveFault.{ReserveFault}
 use Rattle.budget_core.specs.Counts.{reservations_of}
 use Rattle.budget_core.specs.Entries.{Entry}
 use Rattle.budget_core.specs.Ledger.{Ledger, money_verdict, reservation_for, start_of}
-use Rattle.metric_values.specs.Values.{NumF}
-use Rattle.wire_lines.specs.declared.refusal.Refusal.TheVariants.{Unread}
+use Rattle.fz_frac.specs.Distance.{Distance, Fin}
+use Rattle.fz_ast.specs.Signature.{Signature}
+use Rattle.fz_ast.specs.Limits.{limit}
+use Rattle.fz_ast.specs.Spanned.{Spanned, VarAt, NumAt, TextAt, UnitAt, PairAt, WithAt, FstAt, SndAt, LetPairAt, InlAt, InrAt, CaseAt, IfAt, FunAt, FnAt, AppAt, BangAt, LetBangAt, LetAt, PlusAt, MinusAt, TimesAt, LeAt, EqAt, ClipAt, LeastAt, GreatestAt, SizeAt, SumAt, UnionAt, MapAt, FilterAt, SplitAt}
+use Rattle.metric_values.specs.Values.{Flat, NumF}
 use Rattle.wire_lines.specs.Request.{Asked, request_of}
+use Rattle.wire_lines.specs.Reply.{Replied, greeted, answered, ended, unbounded, refused}
+use Rattle.wire_lines.specs.declared.refusal.Refusal.TheVariants.{Malformed, LineTooLong, Unknown, NoEpsilon, NoHello, NoToken, NoTerm, TooNested, IllTyped, TooSensitive, OutOfRange, NoNumber, Unread, OverBudget, JournalFull, Exhausted, Lost, NoMemory}
 use Rattle.wire_lines.specs.declared.request.LineFault.{LineFault}
-use Rattle.session_core.specs.House.{House, Register, Owner, owner_of, entry_of, greatest_number}
-use Rattle.session_core.specs.Program.{size_people, value_of, size_of}
+use Rattle.answer_path.specs.Reading.{Reading, read, IsReading}
+use Rattle.answer_path.specs.Judgement.{Judgement, declined as unanswerable, accepted, judgement_of, IsFirstNamed, IsSizeOf, HasValue}
+use Rattle.answer_path.specs.Code.{IsJudged, IsTurnedAway}
+use Rattle.answer_path.specs.declared.size.TableSize.{TableSize}
+use Rattle.fz_frac.specs.Sens.{distance_of}
+use Rattle.answer_path.proofs.Sizes.{size_is_rows}
+use Rattle.session_core.specs.House.{House, Register, IsRegister, Owner, owner_of, entry_of}
 use Rattle.fz_outside.specs.Draws.{first}
 use Rattle.discrete_laplace.specs.DiscreteLaplace.{draw_limit}
 use Rattle.discrete_laplace.specs.Noise.{noise_of}
 use Rattle.session_core.specs.Noise.{noise_at, scale_over, scale_under}
-use Rattle.session_core.specs.Verdict.{Query, declined, granted, verdict_by_money, verdict_by, verdict_of}
-use Rattle.session_core.specs.Reply.{settled_by, outcome_for, verdict_adds, meant_by, meant_by_request}
+use Rattle.session_core.specs.Verdict.{Query, declined, granted, ask_for, money_refusal, verdict_by_money, IsVerdictBy, IsVerdict}
+use Rattle.session_core.specs.Reply.{wants, outcome_reply, grant_records, meant_by, meant_by_request, IsSettledBy, IsAnswered, IsReplyTo}
 use Rattle.session_core.proofs.Steps.{money_number}
+use Rattle.session_core.proofs.Rows.{register_rows}
 
-pub not_true : (b : Bool) → not b ≡ true → b ≡ false
-not_true true h = cc
-not_true false h = refl
+-- the program is accepted where it is asked, at p/q
+abbrev pub IsAsked : Signature → List ℕ → (p q : ℕ) → Type 0
+IsAsked tables program p q = (e : Spanned) × IsReading program (read e) × (judgement_of tables (read e) ≡ accepted e (Fin p q))
 
-pub not_false : (b : Bool) → not b ≡ false → b ≡ true
-not_false true h = refl
-not_false false h = cc
+-- the reading of a program that is accepted gives the verdict on the budget
+pub money_says : (owner : Owner) (start : ℕ) (records : List Record) (query : Query) (p q : ℕ) (money : Result Grant ReserveFault) → IsAsked owner.tables query.program p q
+    → money_verdict owner.entry start records (ask_for query p q) ≡ money → IsVerdict owner.entry owner.tables start records query (verdict_by_money (ask_for query p q) money)
+unfolding IsVerdict
+money_says owner start records query p q money c is = (
+  read c.0,
+  c.1,
+  subst (λ (j : Judgement). IsVerdictBy owner.entry start records query j (verdict_by_money (ask_for query p q) money)) (sym c.2)
+      (ap (verdict_by_money (ask_for query p q)) (sym is)),
+)
 
--- a query of the whole by an analyst
-abbrev pub whole_query : (analyst e : ℕ) → List ℕ → Query
-whole_query analyst e program = record { analyst = analyst; view = Whole; e = e; program = program }
+-- a program that is declined
+pub declined_says : (owner : Owner) (draws : ℕ → ℕ → ℕ) (start : ℕ) (records : List Record) (query : Query) (reading : Reading) (reply : Replied) → IsReading query.program reading
+    → judgement_of owner.tables reading ≡ unanswerable reply → IsAnswered owner draws start records query reply []
+unfolding IsAnswered IsVerdict
+declined_says owner draws start records query reading reply reads is =
+    (declined reply, (reading, reads, subst (λ (j : Judgement). IsVerdictBy owner.entry start records query j (declined reply)) (sym is) refl), (refl, refl))
 
-abbrev pub one_ask : (analyst e : ℕ) → Ask
-one_ask analyst e = record { analyst = analyst; view = Whole; e = e; p = 1; q = 1 }
+-- the budget refuses
+pub refused_says : (owner : Owner) (draws : ℕ → ℕ → ℕ) (start : ℕ) (records : List Record) (query : Query) (p q : ℕ) (fault : ReserveFault) → IsAsked owner.tables query.program p q
+    → money_verdict owner.entry start records (ask_for query p q) ≡ Err fault → IsAnswered owner draws start records query (refused (money_refusal fault)) []
+unfolding IsAnswered
+refused_says owner draws start records query p q fault c is =
+    (declined (refused (money_refusal fault)), money_says owner start records query p q (Err fault) c is, (refl, refl))
 
-pub verdict_unread : (register : Register) (records : List Record) (analyst e : ℕ) (program : List ℕ) → bytes_eq program size_people ≡ false
-    → verdict_of (owner_of register).entry (owner_of register).tables 0 records (whole_query analyst e program) ≡ declined (Unread 0 (length program))
-unfolding verdict_of
-verdict_unread register records analyst e program other =
-    ap (λ b. verdict_by (owner_of register).entry 0 records (whole_query analyst e program) (cond b (Some (1, 1)) None)) other
+-- a reservation is granted, and settled
+pub granted_says : (owner : Owner) (draws : ℕ → ℕ → ℕ) (start : ℕ) (records : List Record) (query : Query) (p q : ℕ) (grant : Grant) (outcome : Outcome) → IsAsked owner.tables query.program p q
+    → money_verdict owner.entry start records (ask_for query p q) ≡ Ok grant → IsSettledBy owner draws query grant.number outcome
+    → IsAnswered owner draws start records query (outcome_reply grant outcome) (grant_records (ask_for query p q) grant outcome)
+unfolding IsAnswered
+granted_says owner draws start records query p q grant outcome c is settles =
+    (granted (ask_for query p q) grant, money_says owner start records query p q (Ok grant) c is, (outcome, settles, refl, refl))
 
-pub verdict_read : (register : Register) (records : List Record) (analyst e : ℕ) (program : List ℕ) → bytes_eq program size_people ≡ true
-    → verdict_of (owner_of register).entry (owner_of register).tables 0 records (whole_query analyst e program) ≡ verdict_by_money (one_ask analyst e) (money_verdict (owner_of register).entry 0 records (one_ask analyst e))
-unfolding verdict_of
-verdict_read register records analyst e program same =
-    ap (λ b. verdict_by (owner_of register).entry 0 records (whole_query analyst e program) (cond b (Some (1, 1)) None)) same
+-- a program that is judged is charged its sensitivity
+pub judged_asked : (tables sig : Signature) (program : List ℕ) (size : TableSize) (p q : ℕ) → sig ≡ tables → IsJudged sig program size → distance_of size.sens ≡ Fin p q → IsAsked tables program p q
+judged_asked tables sig program size p q same j is =
+    subst (λ (ts : Signature). IsAsked ts program p q) same (j.term, j.reading, j.judgement ∙ ap (λ (r : Distance). accepted j.term r) is)
+
+-- a program that is turned away is declined, unless memory ran out
+pub turned_says : (o : ℕ) (owner : Owner) (draws : ℕ → ℕ → ℕ → ℕ) (start : ℕ) (records : List Record) (query : Query) (reply : Replied) → IsTurnedAway owner.tables query.program reply
+    → IsReplyTo draws start records (wants o owner query) reply []
+turned_says o owner draws start records query (refused NoMemory) h = inr (refl, refl)
+turned_says o owner draws start records query (refused (Malformed word)) h = inl (declined_says owner (draws o) start records query h.0 (refused (Malformed word)) h.1 h.2)
+turned_says o owner draws start records query (refused LineTooLong) h = inl (declined_says owner (draws o) start records query h.0 (refused LineTooLong) h.1 h.2)
+turned_says o owner draws start records query (refused (Unknown word)) h = inl (declined_says owner (draws o) start records query h.0 (refused (Unknown word)) h.1 h.2)
+turned_says o owner draws start records query (refused NoEpsilon) h = inl (declined_says owner (draws o) start records query h.0 (refused NoEpsilon) h.1 h.2)
+turned_says o owner draws start records query (refused NoHello) h = inl (declined_says owner (draws o) start records query h.0 (refused NoHello) h.1 h.2)
+turned_says o owner draws start records query (refused (NoToken place)) h = inl (declined_says owner (draws o) start records query h.0 (refused (NoToken place)) h.1 h.2)
+turned_says o owner draws start records query (refused (NoTerm token)) h = inl (declined_says owner (draws o) start records query h.0 (refused (NoTerm token)) h.1 h.2)
+turned_says o owner draws start records query (refused (TooNested depth)) h = inl (declined_says owner (draws o) start records query h.0 (refused (TooNested depth)) h.1 h.2)
+turned_says o owner draws start records query (refused (IllTyped fault from to)) h = inl (declined_says owner (draws o) start records query h.0 (refused (IllTyped fault from to)) h.1 h.2)
+turned_says o owner draws start records query (refused (TooSensitive from to r)) h = inl (declined_says owner (draws o) start records query h.0 (refused (TooSensitive from to r)) h.1 h.2)
+turned_says o owner draws start records query (refused (OutOfRange from to)) h = inl (declined_says owner (draws o) start records query h.0 (refused (OutOfRange from to)) h.1 h.2)
+turned_says o owner draws start records query (refused NoNumber) h = inl (declined_says owner (draws o) start records query h.0 (refused NoNumber) h.1 h.2)
+turned_says o owner draws start records query (refused (Unread from to)) h = inl (declined_says owner (draws o) start records query h.0 (refused (Unread from to)) h.1 h.2)
+turned_says o owner draws start records query (refused (OverBudget spent after budget seen)) h = inl (declined_says owner (draws o) start records query h.0 (refused (OverBudget spent after budget seen)) h.1 h.2)
+turned_says o owner draws start records query (refused (JournalFull used unsettled capacity)) h = inl (declined_says owner (draws o) start records query h.0 (refused (JournalFull used unsettled capacity)) h.1 h.2)
+turned_says o owner draws start records query (refused (Exhausted n)) h = inl (declined_says owner (draws o) start records query h.0 (refused (Exhausted n)) h.1 h.2)
+turned_says o owner draws start records query (refused (Lost n)) h = inl (declined_says owner (draws o) start records query h.0 (refused (Lost n)) h.1 h.2)
+turned_says o owner draws start records query (greeted name) h = inl (declined_says owner (draws o) start records query h.0 (greeted name) h.1 h.2)
+turned_says o owner draws start records query (answered k value taken) h = inl (declined_says owner (draws o) start records query h.0 (answered k value taken) h.1 h.2)
+turned_says o owner draws start records query ended h = inl (declined_says owner (draws o) start records query h.0 ended h.1 h.2)
+turned_says o owner draws start records query (unbounded table) h = inl (declined_says owner (draws o) start records query h.0 (unbounded table) h.1 h.2)
+
+-- the table of which a term is the size is one of the signature's
+first_within : (ts : Signature) (x : List ℕ) (i : ℕ) → IsFirstNamed ts x i → i < length ts
+first_within ts x i h = slice_get_within ts i h.table h.at
+
+sized_within : (ts : Signature) (e : Spanned) (i : ℕ) → IsSizeOf ts e i → i < length ts
+sized_within ts (SizeAt s (VarAt u x)) i h = first_within ts x i h
+sized_within ts (SizeAt s (NumAt u1 z)) i h = absurd h
+sized_within ts (SizeAt s (TextAt u1 t)) i h = absurd h
+sized_within ts (SizeAt s (UnitAt u1)) i h = absurd h
+sized_within ts (SizeAt s (PairAt u1 a b)) i h = absurd h
+sized_within ts (SizeAt s (WithAt u1 a b)) i h = absurd h
+sized_within ts (SizeAt s (FstAt u1 e)) i h = absurd h
+sized_within ts (SizeAt s (SndAt u1 e)) i h = absurd h
+sized_within ts (SizeAt s (LetPairAt u1 x y e b)) i h = absurd h
+sized_within ts (SizeAt s (InlAt u1 u t e)) i h = absurd h
+sized_within ts (SizeAt s (InrAt u1 u t e)) i h = absurd h
+sized_within ts (SizeAt s (CaseAt u1 e x a y b)) i h = absurd h
+sized_within ts (SizeAt s (IfAt u1 e a b)) i h = absurd h
+sized_within ts (SizeAt s (FunAt u1 x u t e)) i h = absurd h
+sized_within ts (SizeAt s (FnAt u1 x u t e)) i h = absurd h
+sized_within ts (SizeAt s (AppAt u1 f a)) i h = absurd h
+sized_within ts (SizeAt s (BangAt u1 r e)) i h = absurd h
+sized_within ts (SizeAt s (LetBangAt u1 x e b)) i h = absurd h
+sized_within ts (SizeAt s (LetAt u1 x e b)) i h = absurd h
+sized_within ts (SizeAt s (PlusAt u1 a b)) i h = absurd h
+sized_within ts (SizeAt s (MinusAt u1 a b)) i h = absurd h
+sized_within ts (SizeAt s (TimesAt u1 k e)) i h = absurd h
+sized_within ts (SizeAt s (LeAt u1 a b)) i h = absurd h
+sized_within ts (SizeAt s (EqAt u1 a b)) i h = absurd h
+sized_within ts (SizeAt s (ClipAt u1 lo hi e)) i h = absurd h
+sized_within ts (SizeAt s (LeastAt u1 e)) i h = absurd h
+sized_within ts (SizeAt s (GreatestAt u1 e)) i h = absurd h
+sized_within ts (SizeAt s (SumAt u1 lo hi e)) i h = absurd h
+sized_within ts (SizeAt s (UnionAt u1 a b)) i h = absurd h
+sized_within ts (SizeAt s (MapAt u1 f b)) i h = absurd h
+sized_within ts (SizeAt s (FilterAt u1 f b)) i h = absurd h
+sized_within ts (SizeAt s (SplitAt u1 f b)) i h = absurd h
+sized_within ts (SizeAt s (SizeAt u1 e)) i h = absurd h
+sized_within ts (VarAt s x) i h = absurd h
+sized_within ts (NumAt s z) i h = absurd h
+sized_within ts (TextAt s t) i h = absurd h
+sized_within ts (UnitAt s) i h = absurd h
+sized_within ts (PairAt s a b) i h = absurd h
+sized_within ts (WithAt s a b) i h = absurd h
+sized_within ts (FstAt s e) i h = absurd h
+sized_within ts (SndAt s e) i h = absurd h
+sized_within ts (LetPairAt s x y e b) i h = absurd h
+sized_within ts (InlAt s u t e) i h = absurd h
+sized_within ts (InrAt s u t e) i h = absurd h
+sized_within ts (CaseAt s e x a y b) i h = absurd h
+sized_within ts (IfAt s e a b) i h = absurd h
+sized_within ts (FunAt s x u t e) i h = absurd h
+sized_within ts (FnAt s x u t e) i h = absurd h
+sized_within ts (AppAt s f a) i h = absurd h
+sized_within ts (BangAt s r e) i h = absurd h
+sized_within ts (LetBangAt s x e b) i h = absurd h
+sized_within ts (LetAt s x e b) i h = absurd h
+sized_within ts (PlusAt s a b) i h = absurd h
+sized_within ts (MinusAt s a b) i h = absurd h
+sized_within ts (TimesAt s k e) i h = absurd h
+sized_within ts (LeAt s a b) i h = absurd h
+sized_within ts (EqAt s a b) i h = absurd h
+sized_within ts (ClipAt s lo hi e) i h = absurd h
+sized_within ts (LeastAt s e) i h = absurd h
+sized_within ts (GreatestAt s e) i h = absurd h
+sized_within ts (SumAt s lo hi e) i h = absurd h
+sized_within ts (UnionAt s a b) i h = absurd h
+sized_within ts (MapAt s f b) i h = absurd h
+sized_within ts (FilterAt s f b) i h = absurd h
+sized_within ts (SplitAt s f b) i h = absurd h
+
+-- The size of the one table is how many rows it has.
+pub size_value : (register : Register) (program : List ℕ) (e : Spanned) (i n : ℕ) → IsRegister register → IsReading program (read e) → IsSizeOf (owner_of register).tables e i
+    → n ≡ length register.numbers → n ≤ 2 ^ 20 → HasValue (owner_of register).tables (owner_of register).rows program (pos n)
+size_value register program e i n of reads size is few =
+    let rows : List Flat = map (λ z. NumF z) register.numbers in
+    let zeroth : i ≡ 0 = omega (arith, sized_within (owner_of register).tables e i size) in
+    let long : length rows ≡ n = length-map register.numbers (λ z. NumF z) ∙ sym is in
+    let least : pos n ≡ int_min limit (pos (length rows)) = small n (length rows) long few in
+    let there : pos n ≡ int_min limit (pos (length (get_or (rows ∷ []) i []))) = least ∙ ap (λ k. int_min limit (pos (length (get_or (rows ∷ []) k [])))) (sym zeroth) in
+    (size_is_rows (owner_of register).tables (owner_of register).rows program e i (pos n) (register_rows register of) reads size).1 there
+  where
+    small : (n m : ℕ) → m ≡ n → n ≤ 2 ^ 20 → pos n ≡ int_min limit (pos m)
+    small n m same few = omega (arith, ints, clamps)
 
 -- what a book that found nothing answers is the verdict on the budget
 pub money_of_book : (register : Register) (book : Ledger) (asking : Ask) (result : Result Grant ReserveFault) → book.entry ≡ entry_of register → book.found ≡ []
@@ -61,33 +201,17 @@ money_of_book register book asking result same none is =
     ap (λ (entry : Entry). money_verdict entry 0 book.records asking) (sym same)
     ∙ ap (λ (found : List Record). money_verdict book.entry (length (reservations_of found)) book.records asking) (sym none) ∙ sym is
 
--- the value of the program is the number of rows
-pub rows_value : (register : Register) (program : List ℕ) (rows : ℕ) → bytes_eq program size_people ≡ true → rows ≡ length register.numbers → rows ≤ 2 ^ 20
-    → value_of (owner_of register).tables (owner_of register).rows Whole program ≡ Some (pos rows)
-rows_value register program rows same is few =
-    let long : length (map (λ z. NumF z) register.numbers) ≡ rows = length-map register.numbers (λ z. NumF z) ∙ sym is in
-    let least : min (length (map (λ z. NumF z) register.numbers)) greatest_number ≡ rows = omega (arith, long) in
-    ap (λ b. cond b (Some (size_of (map (λ z. NumF z) register.numbers))) None) same ∙ ap (λ n. Some (pos n)) least
-
-pub outcome_is : (register : Register) (draws : ℕ → ℕ → ℕ) (analyst e : ℕ) (program : List ℕ) (number rows : ℕ) (outcome : Outcome) → bytes_eq program size_people ≡ true
-    → rows ≡ length register.numbers → rows ≤ 2 ^ 20 → outcome ≡ settled_by (Some (pos rows)) (noise_at e (draws number))
-    → outcome_for (owner_of register) draws (whole_query analyst e program) number ≡ outcome
-unfolding outcome_for
-outcome_is register draws analyst e program number rows outcome same is few settled =
-    ap (λ v. settled_by v (noise_at e (draws number))) (rows_value register program rows same is few) ∙ sym settled
-
 -- a book to whose records nothing is added is as it was
-pub unchanged : (book : Ledger) (more : List Record) → more ≡ [] → book ≡ record book { records = book.records ++ more }
-unchanged book more none =
-    ap (λ (rs : List Record). record book { records = rs }) (sym (append-nil book.records) ∙ ap (λ m. book.records ++ m) (sym none))
+pub unchanged : (book : Ledger) → book ≡ record book { records = book.records ++ [] }
+unchanged book = ap (λ (rs : List Record). record book { records = rs }) (sym (append-nil book.records))
 
 -- a book after a grant and its settlement
-pub after_grant : (owner : Owner) (draws : ℕ → ℕ → ℕ) (query : Query) (book reserved settled : Ledger) (asking : Ask) (grant : Grant) (outcome : Outcome)
-    → money_verdict owner.entry 0 book.records asking ≡ Ok grant → outcome_for owner draws query grant.number ≡ outcome
+pub after_grant : (owner : Owner) (book reserved settled : Ledger) (asking : Ask) (grant : Grant) (outcome : Outcome)
+    → money_verdict owner.entry 0 book.records asking ≡ Ok grant
     → reserved ≡ record book { records = book.records ++ reservation_for book.records asking grant.taken ∷ [] }
     → settled ≡ record reserved { records = reserved.records ++ Settle grant.number outcome ∷ [] }
-    → settled ≡ record book { records = book.records ++ verdict_adds owner draws query (granted asking grant) }
-after_grant owner draws query book reserved settled asking grant outcome money is first second =
+    → settled ≡ record book { records = book.records ++ grant_records asking grant outcome }
+after_grant owner book reserved settled asking grant outcome money first second =
     let numbered : grant.number ≡ length (reservations_of book.records) = money_number owner book.records asking grant money in
     let made : Record = Reserve grant.number asking.view asking.e asking.p asking.q grant.taken asking.analyst in
     let made_is : reservation_for book.records asking grant.taken ≡ made = ap (λ n. Reserve n asking.view asking.e asking.p asking.q grant.taken asking.analyst) (sym numbered) in
@@ -95,8 +219,7 @@ after_grant owner draws query book reserved settled asking grant outcome money i
     ∙ ap (λ (b : Ledger). record b { records = b.records ++ Settle grant.number outcome ∷ [] }) first
     ∙ ap (λ (rs : List Record). record book { records = rs })
     (ap (λ (r : Record). (book.records ++ r ∷ []) ++ Settle grant.number outcome ∷ []) made_is
-    ∙ append_assoc book.records (made ∷ []) (Settle grant.number outcome ∷ [])
-    ∙ ap (λ (o : Outcome). book.records ++ made ∷ Settle grant.number o ∷ []) (sym is))
+    ∙ append_assoc book.records (made ∷ []) (Settle grant.number outcome ∷ []))
 
 -- the noise of a number's draws is what the sampler gives for its scale
 pub noise_is : (e p q : ℕ) (draws words : ℕ → ℕ) → p ≡ scale_over e → q ≡ scale_under e → words ≡ draws → noise_at e draws ≡ noise_of p q (first draw_limit words)

@@ -22,16 +22,17 @@ use Rattle.budget_core.specs.declared.entry.ReserveFault.TheVariants.{OverBudget
 use Rattle.budget_core.proofs.Histories.{history-nil, legal-history, push_cases, slice_get-append-lt, slice_get-append-seam}
 use Rattle.budget_core.proofs.Numbers.{outcome_past, reservation_of-append, reservations_of-append-Reserve, reservations_of-append-Settle, outcome_of-append-Reserve, outcome_of-append-Settle}
 use Rattle.session_core.specs.House.{House, Owner}
-use Rattle.session_core.specs.Program.{sensitivity_of, value_of}
+use Rattle.session_core.specs.Program.{IsCharged, HasValueIn}
 use Rattle.session_core.specs.Noise.{noise_at}
-use Rattle.session_core.specs.Verdict.{Query, granted, verdict_of, ask_for}
-use Rattle.session_core.specs.Reply.{settled_by, outcome_for}
+use Rattle.session_core.specs.Verdict.{Query, granted, ask_for, IsVerdict}
+use Rattle.session_core.specs.Reply.{settled_by, IsSettledBy, grant_records}
 use Rattle.session_core.specs.Explains.{ExplainsOutcome, IsExplained, Explains}
 use Rattle.session_core.specs.Served.{History, IsGranted, AreAskedBy, IsAskedAt}
 use Rattle.session_core.specs.Transcript.{Turn}
 use Rattle.session_core.proofs.Numbered.{unreserved}
 use Rattle.session_core.proofs.Lists.{Extends, slice_get_extends, reservation_extends, outcome_extends}
-use Rattle.session_core.proofs.Grants.{verdict_grants, sensitivity_lowest}
+use Rattle.session_core.proofs.Grants.{verdict_grants}
+use Rattle.session_core.proofs.Programs.{charged_lowest}
 use Rattle.budget_core.proofs.LegalLemmas.{legal-Reserve, legal-Settle}
 
 -- what holds of an owner's history before each line, the next line standing at a place of the script's
@@ -53,7 +54,7 @@ pub record IsQuery (house : House) (owner : Owner) (spoken : List Turn) (at : �
 abbrev pub with_grant : History → (at : ℕ) → Query → Ask → Grant → Outcome → History
 with_grant h at query asking grant outcome = record {
   start = h.start;
-  records = h.records ++ Reserve grant.number asking.view asking.e asking.p asking.q grant.taken asking.analyst ∷ Settle grant.number outcome ∷ [];
+  records = h.records ++ grant_records asking grant outcome;
   programs = h.programs ++ query.program ∷ [];
   places = h.places ++ at ∷ [];
 }
@@ -68,16 +69,16 @@ two records a b = append_assoc records (a ∷ []) (b ∷ [])
 history_of : (owner : Owner) (records : List Record) → IsLegal owner.entry [] records → IsHistory owner.entry records
 history_of owner records l = legal-history owner.entry [] records (history-nil owner.entry) l
 
-settled_explains : (owner : Owner) (draws : ℕ → ℕ) (view : View) (e : ℕ) (program : List ℕ) (v k : Option ℤ) → value_of owner.tables owner.rows view program ≡ v → noise_at e draws ≡ k
+settled_explains : (owner : Owner) (draws : ℕ → ℕ) (view : View) (e : ℕ) (program : List ℕ) (v : ℤ) (k : Option ℤ) → HasValueIn owner.tables owner.rows view program v → noise_at e draws ≡ k
     → ExplainsOutcome owner draws view e program (Some (settled_by v k))
-settled_explains owner draws view e program (Some v) (Some k) has_v has_k = record { value = v; noise = k; has_value = has_v; has_noise = has_k; sum = refl }
-settled_explains owner draws view e program (Some v) None has_v has_k = has_k
-settled_explains owner draws view e program None (Some k) has_v has_k = tt
-settled_explains owner draws view e program None None has_v has_k = has_k
+settled_explains owner draws view e program v (Some k) has_v has_k = record { value = v; noise = k; has_value = has_v; has_noise = has_k; sum = refl }
+settled_explains owner draws view e program v None has_v has_k = has_k
 
-outcome_explains : (owner : Owner) (draws : ℕ → ℕ → ℕ) (query : Query) (n : ℕ) → ExplainsOutcome owner (draws n) query.view query.e query.program (Some (outcome_for owner draws query n))
-unfolding outcome_for
-outcome_explains owner draws query n = settled_explains owner (draws n) query.view query.e query.program (value_of owner.tables owner.rows query.view query.program) (noise_at query.e (draws n)) refl refl
+outcome_explains : (owner : Owner) (draws : ℕ → ℕ → ℕ) (query : Query) (n : ℕ) (outcome : Outcome) → IsSettledBy owner draws query n outcome
+    → ExplainsOutcome owner (draws n) query.view query.e query.program (Some outcome)
+outcome_explains owner draws query n outcome settled =
+    subst (λ (o : Outcome). ExplainsOutcome owner (draws n) query.view query.e query.program (Some o)) (sym settled.2)
+    (settled_explains owner (draws n) query.view query.e query.program settled.0 (noise_at query.e (draws n)) settled.1 refl)
 
 -- the facts of one grant more, over plain records
 record IsNext (records : List Record) (n : ℕ) (made : Record) (outcome : Outcome) : Type 0 where
@@ -138,13 +139,13 @@ money_number owner records asking grant is =
 
 -- a grant that is legal, settled
 legal_grant : (owner : Owner) (records : List Record) (query : Query) (p q : ℕ) (grant : Grant) (outcome : Outcome) → IsLegal owner.entry [] records
-    → IsAskOf owner.entry (ask_for query (p, q)) → money_verdict owner.entry 0 records (ask_for query (p, q)) ≡ Ok grant → grant.number ≡ length (reservations_of records)
+    → IsAskOf owner.entry (ask_for query p q) → money_verdict owner.entry 0 records (ask_for query p q) ≡ Ok grant → grant.number ≡ length (reservations_of records)
     → IsLegal owner.entry [] (records ++ Reserve grant.number query.view query.e p q grant.taken query.analyst ∷ Settle grant.number outcome ∷ [])
 legal_grant owner records query p q grant outcome l of money numbered =
     let h = history_of owner records l in
     let made : Record = Reserve grant.number query.view query.e p q grant.taken query.analyst in
-    let first : IsLegal owner.entry [] (records ++ reservation_for records (ask_for query (p, q)) grant.taken ∷ []) = legal-Reserve (ledger_of owner records) (ask_for query (p, q)) grant h l of money in
-    let made_is : reservation_for records (ask_for query (p, q)) grant.taken ≡ made = ap (λ n. Reserve n query.view query.e p q grant.taken query.analyst) (sym numbered) in
+    let first : IsLegal owner.entry [] (records ++ reservation_for records (ask_for query p q) grant.taken ∷ []) = legal-Reserve (ledger_of owner records) (ask_for query p q) grant h l of money in
+    let made_is : reservation_for records (ask_for query p q) grant.taken ≡ made = ap (λ n. Reserve n query.view query.e p q grant.taken query.analyst) (sym numbered) in
     let then_made : IsLegal owner.entry [] (records ++ made ∷ []) = subst (λ (r : Record). IsLegal owner.entry [] (records ++ r ∷ [])) made_is first in
     let facts = next_facts owner records grant.number query.view query.e p q grant.taken query.analyst outcome h numbered in
     let there : IsSome (reservation_of (records ++ made ∷ []) grant.number) = subst (λ (o : Option Record). IsSome o) (sym facts.reserved_now) refl in
@@ -167,19 +168,19 @@ explained_before owner draws records programs n made outcome ex facts m program 
     }
 
 -- what the new number's reservation is explained by
-explained_now : (owner : Owner) (draws : ℕ → ℕ → ℕ) (records : List Record) (query : Query) (p q taken n : ℕ) → sensitivity_of owner.tables query.view query.program ≡ Some (p, q)
-    → IsNext records n (Reserve n query.view query.e p q taken query.analyst) (outcome_for owner draws query n)
+explained_now : (owner : Owner) (draws : ℕ → ℕ → ℕ) (records : List Record) (query : Query) (p q taken n : ℕ) (outcome : Outcome) → IsCharged owner.tables query.view query.program p q
+    → IsSettledBy owner draws query n outcome → IsNext records n (Reserve n query.view query.e p q taken query.analyst) outcome
     → (number : ℕ) (view : View) (e p' q' taken' analyst : ℕ)
     → Some (Reserve n query.view query.e p q taken query.analyst) ≡ Some (Reserve number view e p' q' taken' analyst)
-    → IsExplained owner (draws n) (records ++ Reserve n query.view query.e p q taken query.analyst ∷ Settle n (outcome_for owner draws query n) ∷ []) n view e p' q' query.program
-explained_now owner draws records query p q taken n charged facts number view e p' q' taken' analyst both =
+    → IsExplained owner (draws n) (records ++ Reserve n query.view query.e p q taken query.analyst ∷ Settle n outcome ∷ []) n view e p' q' query.program
+explained_now owner draws records query p q taken n outcome charged settles facts number view e p' q' taken' analyst both =
     let same_view : query.view ≡ view = cc in
     let same_e : query.e ≡ e = cc in
     let same_p : p ≡ p' = cc in
     let same_q : q ≡ q' = cc in
-    let all : List Record = records ++ Reserve n query.view query.e p q taken query.analyst ∷ Settle n (outcome_for owner draws query n) ∷ [] in
+    let all : List Record = records ++ Reserve n query.view query.e p q taken query.analyst ∷ Settle n outcome ∷ [] in
     let settled : ExplainsOutcome owner (draws n) query.view query.e query.program (outcome_of all n)
-    = subst (λ (o : Option Outcome). ExplainsOutcome owner (draws n) query.view query.e query.program o) (sym facts.settled) (outcome_explains owner draws query n) in
+    = subst (λ (o : Option Outcome). ExplainsOutcome owner (draws n) query.view query.e query.program o) (sym facts.settled) (outcome_explains owner draws query n outcome settles) in
     let with_view : IsExplained owner (draws n) all n view query.e p q query.program
     = subst (λ (v : View). IsExplained owner (draws n) all n v query.e p q query.program) same_view (record { charged = charged; settled = settled }) in
     let with_e : IsExplained owner (draws n) all n view e p q query.program = subst (λ (x : ℕ). IsExplained owner (draws n) all n view x p q query.program) same_e with_view in
@@ -187,11 +188,10 @@ explained_now owner draws records query p q taken n charged facts number view e 
     subst (λ (x : ℕ). IsExplained owner (draws n) all n view e p' x query.program) same_q with_p
 
 -- the programs explain one grant more
-explained_grant : (owner : Owner) (draws : ℕ → ℕ → ℕ) (records : List Record) (programs : List (List ℕ)) (query : Query) (p q taken n : ℕ) → IsHistory owner.entry records
-    → n ≡ length (reservations_of records) → sensitivity_of owner.tables query.view query.program ≡ Some (p, q) → Explains owner draws programs records
-    → Explains owner draws (programs ++ query.program ∷ []) (records ++ Reserve n query.view query.e p q taken query.analyst ∷ Settle n (outcome_for owner draws query n) ∷ [])
-explained_grant owner draws records programs query p q taken n h numbered charged ex =
-    let outcome : Outcome = outcome_for owner draws query n in
+explained_grant : (owner : Owner) (draws : ℕ → ℕ → ℕ) (records : List Record) (programs : List (List ℕ)) (query : Query) (p q taken n : ℕ) (outcome : Outcome) → IsHistory owner.entry records
+    → n ≡ length (reservations_of records) → IsCharged owner.tables query.view query.program p q → IsSettledBy owner draws query n outcome → Explains owner draws programs records
+    → Explains owner draws (programs ++ query.program ∷ []) (records ++ Reserve n query.view query.e p q taken query.analyst ∷ Settle n outcome ∷ [])
+explained_grant owner draws records programs query p q taken n outcome h numbered charged settles ex =
     let made : Record = Reserve n query.view query.e p q taken query.analyst in
     let facts = next_facts owner records n query.view query.e p q taken query.analyst outcome h numbered in
     let counted : length programs ≡ n = ex.each_has ∙ sym numbered in
@@ -210,7 +210,7 @@ explained_grant owner draws records programs query p q taken n h numbered charge
                 let last : m ≡ length (reservations_of records) = here ∙ numbered in
                 let both : Some made ≡ Some (Reserve number view e p' q' taken' analyst)
                 = sym (ap (λ k. slice_get (reservations_of records ++ made ∷ []) k) last ∙ slice_get-append-seam (reservations_of records) made []) ∙ made_at' in
-                let now = explained_now owner draws records query p q taken n charged facts number view e p' q' taken' analyst both in
+                let now = explained_now owner draws records query p q taken n outcome charged settles facts number view e p' q' taken' analyst both in
                 let at_m : IsExplained owner (draws m) all m view e p' q' query.program = subst (λ (k : ℕ). IsExplained owner (draws k) all k view e p' q' query.program) (sym here) now in
                 subst (λ (x : List ℕ). IsExplained owner (draws m) all m view e p' q' x) seam.1 at_m
           ];
@@ -261,24 +261,24 @@ asked_grant house owner spoken programs places at program asked earlier now = re
 }
 
 -- One grant more, and all holds of the next line.
-pub fine_grant : (house : House) (owner : Owner) (draws : ℕ → ℕ → ℕ) (spoken : List Turn) (at : ℕ) (h : History) (query : Query) (asking : Ask) (grant : Grant)
-    → IsFine house owner draws spoken at h → IsQuery house owner spoken at query → verdict_of owner.entry owner.tables 0 h.records query ≡ granted asking grant
-    → IsFine house owner draws spoken (suc at) (with_grant h at query asking grant (outcome_for owner draws query grant.number))
-fine_grant house owner draws spoken at h query asking grant fine asked is =
+pub fine_grant : (house : House) (owner : Owner) (draws : ℕ → ℕ → ℕ) (spoken : List Turn) (at : ℕ) (h : History) (query : Query) (asking : Ask) (grant : Grant) (outcome : Outcome)
+    → IsFine house owner draws spoken at h → IsQuery house owner spoken at query → IsVerdict owner.entry owner.tables 0 h.records query (granted asking grant)
+    → IsSettledBy owner draws query grant.number outcome → IsFine house owner draws spoken (suc at) (with_grant h at query asking grant outcome)
+fine_grant house owner draws spoken at h query asking grant outcome fine asked is settles =
     let g = verdict_grants owner 0 h.records query asking grant is in
     let hist = history_of owner h.records fine.legal in
-    let numbered : grant.number ≡ length (reservations_of h.records) = money_number owner h.records (ask_for query (g.p, g.q)) grant g.money in
-    let outcome : Outcome = outcome_for owner draws query grant.number in
-    let of : IsAskOf owner.entry (ask_for query (g.p, g.q)) = record {
+    let numbered : grant.number ≡ length (reservations_of h.records) = money_number owner h.records (ask_for query g.p g.q) grant g.money in
+    let of : IsAskOf owner.entry (ask_for query g.p g.q) = record {
       analyst = asked.analyst;
       view = subst (λ (v : View). HasView owner.entry v) (sym asked.whole) tt;
       epsilon = asked.epsilon;
-      lowest = sensitivity_lowest owner.tables query.view query.program g.p g.q g.charged;
+      lowest = charged_lowest owner.tables Whole query.program g.p g.q g.charged;
     } in
-    let made : IsFine house owner draws spoken (suc at) (with_grant h at query (ask_for query (g.p, g.q)) grant outcome) = record {
+    let charged : IsCharged owner.tables query.view query.program g.p g.q = subst (λ (v : View). IsCharged owner.tables v query.program g.p g.q) (sym asked.whole) g.charged in
+    let made : IsFine house owner draws spoken (suc at) (with_grant h at query (ask_for query g.p g.q) grant outcome) = record {
       starts = fine.starts;
       legal = legal_grant owner h.records query g.p g.q grant outcome fine.legal of g.money numbered;
-      explained = explained_grant owner draws h.records h.programs query g.p g.q grant.taken grant.number hist numbered g.charged fine.explained;
+      explained = explained_grant owner draws h.records h.programs query g.p g.q grant.taken grant.number outcome hist numbered charged settles fine.explained;
       asked = asked_grant house owner spoken h.programs h.places at query.program fine.asked fine.earlier asked.asked;
       earlier = λ n place placed. elim (push_cases h.places at n place placed) [ inl before ↦ omega (arith, fine.earlier n place before.1) | inr last ↦ omega (arith, last.1) ];
     } in
@@ -286,21 +286,21 @@ fine_grant house owner draws spoken at h query asking grant fine asked is =
 
 -- a grant has the number of the next place
 pub granted_number : (house : House) (owner : Owner) (draws : ℕ → ℕ → ℕ) (spoken : List Turn) (at : ℕ) (h : History) (query : Query) (asking : Ask) (grant : Grant)
-    → IsFine house owner draws spoken at h → verdict_of owner.entry owner.tables 0 h.records query ≡ granted asking grant → grant.number ≡ length h.places
+    → IsFine house owner draws spoken at h → IsVerdict owner.entry owner.tables 0 h.records query (granted asking grant) → grant.number ≡ length h.places
 granted_number house owner draws spoken at h query asking grant fine is =
     let g = verdict_grants owner 0 h.records query asking grant is in
-    money_number owner h.records (ask_for query (g.p, g.q)) grant g.money ∙ sym fine.explained.each_has ∙ sym fine.asked.each_has
+    money_number owner h.records (ask_for query g.p g.q) grant g.money ∙ sym fine.explained.each_has ∙ sym fine.asked.each_has
 
 -- What the line that is granted may say of any later history.
 pub granted_line : (house : House) (owner : Owner) (draws : ℕ → ℕ → ℕ) (spoken : List Turn) (at : ℕ) (h last : History) (query : Query) (asking : Ask) (grant : Grant)
-    → IsFine house owner draws spoken at h → verdict_of owner.entry owner.tables 0 h.records query ≡ granted asking grant
+    → IsFine house owner draws spoken at h → IsVerdict owner.entry owner.tables 0 h.records query (granted asking grant)
     → (outcome : Outcome) → let then : History = with_grant h at query asking grant outcome in
     Extends then.records last.records → Extends then.programs last.programs → Extends then.places last.places → last.start ≡ 0
     → IsGranted last at (length h.records) query grant.number outcome
 granted_line house owner draws spoken at h last query asking grant fine is outcome records programs places starts =
     let g = verdict_grants owner 0 h.records query asking grant is in
     let hist = history_of owner h.records fine.legal in
-    let numbered : grant.number ≡ length (reservations_of h.records) = money_number owner h.records (ask_for query (g.p, g.q)) grant g.money in
+    let numbered : grant.number ≡ length (reservations_of h.records) = money_number owner h.records (ask_for query g.p g.q) grant g.money in
     let made : Record = Reserve grant.number query.view query.e g.p g.q grant.taken query.analyst in
     let all : List Record = h.records ++ made ∷ Settle grant.number outcome ∷ [] in
     let on : Extends all last.records = subst (λ (a : Ask). Extends (with_grant h at query a grant outcome).records last.records) g.asks records in

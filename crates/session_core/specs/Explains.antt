@@ -7,14 +7,14 @@ use Rattle.budget_core.specs.declared.records.Record.{Record}
 use Rattle.budget_core.specs.declared.records.Record.TheVariants.{Reserve}
 use Rattle.budget_core.specs.Counts.{reservations_of, outcome_of}
 use Rattle.session_core.specs.House.{Owner}
-use Rattle.session_core.specs.Program.{sensitivity_of, value_of}
+use Rattle.session_core.specs.Program.{IsCharged, HasValueIn}
 use Rattle.session_core.specs.Noise.{noise_at}
 
 -- An answer is the program's value plus the noise of the number's own draws.
 pub record IsAnswer (owner : Owner) (draws : ℕ → ℕ) (view : View) (e : ℕ) (program : List ℕ) (answer : ℤ) : Type 0 where
   pub value : ℤ
   pub noise : ℤ
-  pub has_value : value_of owner.tables owner.rows view program ≡ Some value
+  pub has_value : HasValueIn owner.tables owner.rows view program value
   pub has_noise : noise_at e draws ≡ Some noise
   pub sum : answer ≡ value +ℤ noise
 
@@ -27,7 +27,7 @@ ExplainsOutcome owner draws view e program (Some Lost) = Unit {0}
 
 -- A reservation is charged by its program's sensitivity, and settled by its value and noise.
 pub record IsExplained (owner : Owner) (draws : ℕ → ℕ) (records : List Record) (n : ℕ) (view : View) (e p q : ℕ) (program : List ℕ) : Type 0 where
-  pub charged : sensitivity_of owner.tables view program ≡ Some (p, q)
+  pub charged : IsCharged owner.tables view program p q
   pub settled : ExplainsOutcome owner draws view e program (outcome_of records n)
 
 -- There is a program for each reservation, in order, and it explains it. The owner's numbers have these draws.

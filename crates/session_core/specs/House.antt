@@ -1,11 +1,10 @@
 -- the house: its analysts, its owners, their tables
-use Rattle.std.specs.Prelude.{ℕ, ◌+◌, ◌^◌, ◌≤◌, ℤ, pos, neg_ℤ, ◌≤ℤ◌, List, [], ◌∷◌, length, Option, Some, None, cond, position, bytes_eq, codes, map, All, IsTrue}
-use Rattle.std.specs.List.{AllByRecursion}
+use Rattle.std.specs.Prelude.{◌≡◌, ℕ, ◌+◌, ◌^◌, ◌≤◌, ℤ, List, [], ◌∷◌, length, Option, Some, None, cond, position, bytes_eq, codes, map, All, IsTrue}
 use Rattle.budget_core.specs.Entries.{Entry, IsEntry}
 use Rattle.wire_lines.specs.Name.{is_name}
-use Rattle.fz_ast.specs.Types.{Ty, NumT, TextT, UnitT, TensorT, WithT, SumT, BangT}
+use Rattle.fz_ast.specs.Types.{NumT}
 use Rattle.fz_ast.specs.Signature.{Signature, TableType, row_of}
-use Rattle.metric_values.specs.Values.{Flat, NumF, TextF, UnitF, PairF, InlF, InrF, BangF}
+use Rattle.metric_values.specs.Values.{NumF}
 use Rattle.metric_values.specs.Tables.{Dataset}
 use Rattle.table_store.specs.Cell.{IsInRange}
 
@@ -20,29 +19,6 @@ pub record Owner : Type 0 where
 pub record House : Type 0 where
   pub analysts : List (List ℕ)
   pub owners : List Owner
-
--- the greatest size of a number
-abbrev pub greatest_number : ℕ
-greatest_number = 2 ^ 50
-
--- a row of a type
-abbrev pub IsRow : Ty → Flat → Type 0
-IsRow NumT (NumF z) = (neg_ℤ (pos greatest_number) ≤ℤ z) × (z ≤ℤ pos greatest_number)
-IsRow TextT (TextF s) = length s ≤ 64
-IsRow UnitT UnitF = Unit {0}
-IsRow (TensorT A B) (PairF a b) = IsRow A a × IsRow B b
-IsRow (WithT A B) (PairF a b) = IsRow A a × IsRow B b
-IsRow (SumT A B) (InlF a) = IsRow A a
-IsRow (SumT A B) (InrF b) = IsRow B b
-IsRow (BangT r A) (BangF a) = IsRow A a
-IsRow A row = ⊥
-
--- rows for each of the tables
-abbrev pub AreRowsOf : Signature → Dataset → Type 0
-AreRowsOf [] [] = Unit {0}
-AreRowsOf (table ∷ tables) (rows ∷ more) = AllByRecursion (IsRow table.row) rows × AreRowsOf tables more
-AreRowsOf [] (rows ∷ more) = ⊥
-AreRowsOf (table ∷ tables) [] = ⊥
 
 -- the number of the analyst of this name
 abbrev pub analyst_named : House → List ℕ → Option ℕ
@@ -86,3 +62,8 @@ pub record IsRegister (register : Register) : Type 0 where
   pub entry : IsEntry (entry_of register)
   pub rows : length register.numbers ≤ 2 ^ 20
   pub numbers : All IsInRange register.numbers
+
+-- a house's register, and the signature that it keeps
+pub record IsHouse (register : Register) (tables : Signature) : Type 0 where
+  pub lawful : IsRegister register
+  pub signature : tables ≡ people ∷ []

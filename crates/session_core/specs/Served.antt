@@ -10,7 +10,7 @@ use Rattle.wire_lines.specs.Reply.{Replied, greeted, answered, ended, unbounded,
 use Rattle.wire_lines.specs.declared.refusal.Refusal.TheVariants.{Exhausted as NoNoise, Lost as NoAnswer}
 use Rattle.wire_lines.specs.Request.{ask, request_of}
 use Rattle.session_core.specs.House.{House, Owner}
-use Rattle.session_core.specs.Reply.{Meant, told, wants, reply_by, added_by}
+use Rattle.session_core.specs.Reply.{Meant, told, wants, IsReplyTo}
 use Rattle.session_core.specs.Verdict.{Query}
 use Rattle.session_core.specs.Transcript.{Turn, meant_at}
 
@@ -62,25 +62,23 @@ abbrev pub ArePlaced : (start : ℕ) (places : List ℕ) → List Replied → Ty
 ArePlaced start places replies =
     (n place : ℕ) → slice_get places n ≡ Some place → (reply : Replied) × (slice_get replies place ≡ Some reply) × HasNumber (start + n) reply
 
--- The reply is what is due on the records that the line saw. (Another reply, as for want of memory, would be a case here.)
-abbrev pub IsStated : (due reply : Replied) → Type 0
-IsStated due reply = reply ≡ due
-
--- The line at a place saw so many of the owner's records: at least as many as this worker knew of.
-pub record IsServed (draws : ℕ → ℕ → ℕ → ℕ) (n : ℕ) (owner : Owner) (history : History) (place known seen : ℕ) (query : Query) (reply : Replied) : Type 0 where
+-- The line at a place saw so many of the owner's records, at least as many as this worker knew of, and its reply is one
+-- that is stated on those, with the records that it adds.
+pub record IsServed (draws : ℕ → ℕ → ℕ → ℕ) (n : ℕ) (owner : Owner) (history : History) (place known seen : ℕ) (query : Query) (reply : Replied)
+    (added : List Record) : Type 0 where
   pub grows : known ≤ seen
   pub within : seen ≤ length history.records
-  pub stated : IsStated (reply_by draws history.start (take seen history.records) (wants n owner query)) reply
-  pub kept : IsKept history place seen query (added_by draws history.start (take seen history.records) (wants n owner query)) reply
+  pub stated : IsReplyTo draws history.start (take seen history.records) (wants n owner query) reply added
+  pub kept : IsKept history place seen query added reply
 
 -- What a line at a place comes to and its reply are as stated, as far as they concern the owner of this number, of whose
 -- records the worker knows so many; and then the rest holds of as many as it knows after that.
 abbrev pub ServedThen : (ℕ → ℕ → ℕ → ℕ) → ℕ → History → (place known : ℕ) → Meant → Replied → (ℕ → Type 0) → Type 0
-ServedThen draws o history place known (told said next) reply Rest = IsStated said reply × Rest known
+ServedThen draws o history place known (told said next) reply Rest = (reply ≡ said) × Rest known
 ServedThen draws o history place known (wants n owner query) reply Rest =
     MatchBool (n == o)
-    ((seen : ℕ) × IsServed draws n owner history place known seen query reply
-    × Rest (seen + length (added_by draws history.start (take seen history.records) (wants n owner query))))
+    ((seen : ℕ) × (added : List Record) × IsServed draws n owner history place known seen query reply added
+    × Rest (seen + length added))
     (Rest known)
 
 -- the turns from a place on have these replies

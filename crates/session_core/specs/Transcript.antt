@@ -1,5 +1,5 @@
 -- the transcript of a script
-use Rattle.std.specs.Prelude.{ℕ, zero, suc, List, [], ◌∷◌, ◌++◌, length, Result, Ok, Err, Option, None, Bool, true, false, if◌then◌else◌}
+use Rattle.std.specs.Prelude.{◌≡◌, ℕ, zero, suc, List, [], ◌∷◌, ◌++◌, length, Result, Ok, Err, Option, None, Bool, true, false, if◌then◌else◌}
 use Rattle.std.specs.List.{flat_map, onto_first}
 use Rattle.budget_core.specs.declared.records.Record.{Record}
 use Rattle.budget_core.specs.Counts.{reservations_of}
@@ -8,7 +8,7 @@ use Rattle.wire_lines.specs.Reply.{Replied, reply_text}
 use Rattle.wire_lines.specs.Request.{Asked, hello, ask, bye, request_of}
 use Rattle.wire_lines.specs.declared.request.LineFault.{LineFault}
 use Rattle.session_core.specs.House.{House}
-use Rattle.session_core.specs.Reply.{Meant, told, wants, meant_by, next_who, reply_by, added_by}
+use Rattle.session_core.specs.Reply.{Meant, told, wants, meant_by, next_who, IsReplyTo}
 
 abbrev pub is_bye_request : Result Asked LineFault → Bool
 is_bye_request (Ok bye) = true
@@ -71,37 +71,26 @@ journals_with journals (wants n owner query) more = add_at journals n more
 abbrev pub meant_at : House → Turn → Meant
 meant_at house turn = meant_by house turn.who turn.line
 
--- the reply to a line, on the records so far
-abbrev pub reply_at : House → (ℕ → ℕ → ℕ → ℕ) → (found : Journals) → Journals → Turn → Replied
-reply_at house draws found journals turn =
-    reply_by draws (start_for found (meant_at house turn)) (records_for journals (meant_at house turn)) (meant_at house turn)
+-- The replies to turns, one after another, each on the records so far; and the records in the end.
+abbrev pub AreRepliesFrom : House → (ℕ → ℕ → ℕ → ℕ) → (found : Journals) → Journals → List Turn → List Replied → (last : Journals) → Type 0
+AreRepliesFrom house draws found journals [] [] last = last ≡ journals
+AreRepliesFrom house draws found journals (turn ∷ turns) (reply ∷ replies) last =
+    (added : List Record)
+    × IsReplyTo draws (start_for found (meant_at house turn)) (records_for journals (meant_at house turn)) (meant_at house turn) reply added
+    × AreRepliesFrom house draws found (journals_with journals (meant_at house turn) added) turns replies last
+AreRepliesFrom house draws found journals [] (reply ∷ replies) last = ⊥
+AreRepliesFrom house draws found journals (turn ∷ turns) [] last = ⊥
 
--- the records after a line
-abbrev pub journals_after : House → (ℕ → ℕ → ℕ → ℕ) → (found : Journals) → Journals → Turn → Journals
-journals_after house draws found journals turn =
-    journals_with journals (meant_at house turn)
-    (added_by draws (start_for found (meant_at house turn)) (records_for journals (meant_at house turn)) (meant_at house turn))
+-- The replies to a script, where these records were found, and the records after it: the blocks in order, each line on
+-- the records so far.
+unfoldable pub IsRun : House → (ℕ → ℕ → ℕ → ℕ) → (found : Journals) → List ℕ → List Replied → (last : Journals) → Type 0
+IsRun house draws found script replies last = AreRepliesFrom house draws found found (turns_of house script) replies last
 
--- the replies, one after another
-abbrev pub replies_from : House → (ℕ → ℕ → ℕ → ℕ) → (found : Journals) → Journals → List Turn → List Replied
-replies_from house draws found journals [] = []
-replies_from house draws found journals (turn ∷ turns) =
-    reply_at house draws found journals turn ∷ replies_from house draws found (journals_after house draws found journals turn) turns
-
--- the records in the end
-abbrev pub journals_from : House → (ℕ → ℕ → ℕ → ℕ) → (found : Journals) → Journals → List Turn → Journals
-journals_from house draws found journals [] = journals
-journals_from house draws found journals (turn ∷ turns) =
-    journals_from house draws found (journals_after house draws found journals turn) turns
-
--- The replies to a script, where these records were found: the blocks in order, each line on the records so far.
-unfoldable pub replies_of : House → (ℕ → ℕ → ℕ → ℕ) → (found : Journals) → List ℕ → List Replied
-replies_of house draws found script = replies_from house draws found found (turns_of house script)
-
--- the records after a script
-unfoldable pub records_of : House → (ℕ → ℕ → ℕ → ℕ) → (found : Journals) → List ℕ → Journals
-records_of house draws found script = journals_from house draws found found (turns_of house script)
+-- the replies to a script
+unfoldable pub AreReplies : House → (ℕ → ℕ → ℕ → ℕ) → (found : Journals) → List ℕ → List Replied → Type 0
+AreReplies house draws found script replies = (last : Journals) × IsRun house draws found script replies last
 
 -- what is written for a script
-abbrev pub transcript_of : House → (ℕ → ℕ → ℕ → ℕ) → (found : Journals) → List ℕ → List ℕ
-transcript_of house draws found script = flat_map reply_text (replies_of house draws found script)
+unfoldable pub IsTranscript : House → (ℕ → ℕ → ℕ → ℕ) → (found : Journals) → (script text : List ℕ) → Type 0
+IsTranscript house draws found script text =
+    (replies : List Replied) × AreReplies house draws found script replies × (text ≡ flat_map reply_text replies)

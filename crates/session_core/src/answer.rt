@@ -1,27 +1,28 @@
 //! One query, from its program to its reply.
 
-ghost use Rattle.std.specs.Prelude.{◌≡◌, ◌<◌, ◌≤◌, ◌^◌, ◌++◌, pos, ◌+ℤ◌, unsigned_abs, length, Some, []};
+ghost use Rattle.std.specs.Prelude.{◌≡◌, ◌<◌, ◌≤◌, ◌^◌, pos, ◌+ℤ◌, unsigned_abs, false, []};
 ghost use Rattle.budget_core.specs.Entries.{IsEpsilon};
-ghost use Rattle.budget_core.specs.Ledger.{start_of};
+ghost use Rattle.fz_frac.specs.Distance.{Fin};
+ghost use Rattle.fz_frac.specs.Sens.{distance_of};
+ghost use Rattle.linear_types.specs.Program.{is_endless};
 ghost use Rattle.wire_lines.specs.Reply.{replied};
-ghost use Rattle.session_core.specs.House.{house_of, owner_of, entry_of};
+ghost use Rattle.session_core.specs.House.{entry_of};
 ghost use Rattle.session_core.specs.Noise.{scale_over, scale_under, noise_at};
 ghost use Rattle.session_core.specs.Verdict.{money_refusal};
-ghost use Rattle.session_core.specs.Reply.{wants, settled_by, outcome_reply, reply_by, added_by};
-ghost use Rattle.session_core.specs.Code.{query_of, IsQueryOf};
+ghost use Rattle.session_core.specs.Reply.{settled_by, outcome_reply};
+ghost use Rattle.session_core.specs.Code.{IsQueryOf, GoesOn};
 
 use crate::house::House;
 use crate::line::Query;
+use answer_path::judge_program;
 use budget_core::book::Book;
 use budget_core::entry::{Ask, Grant, ReserveFault};
 use budget_core::records::{Outcome, View};
 use discrete_laplace::sample;
-use fz_frac::Frac;
+use fz_frac::{Frac, Sens};
 use fz_outside::words::Streams;
+use std::alloc::Global;
 use wire_lines::{Refusal, Reply};
-
-/// The one program that is answered.
-const SIZE_PEOPLE: &[u8] = b"size people";
 
 /// The noise's scale at an epsilon in millionths: 10^6 / e in lowest terms.
 fn scale_of(e: u32) -> Frac
@@ -49,13 +50,24 @@ fn noisy(rows: usize, noise: i64) -> i64
 fn outcome_at<S: Streams>(rows: usize, streams: &S, e: u32, number: u32) -> Outcome
     requires few { rows ≤ 2 ^ 20 }
     requires epsilon { IsEpsilon e }
-    ensures { result ≡ settled_by (Some (pos rows)) (noise_at e (S.given streams.now 0 number)) }
+    ensures { result ≡ settled_by (pos rows) (noise_at e (S.given streams.now 0 number)) }
 {
     let scale = scale_of(e);
     let mut words = streams.stream(0, number);
     match sample(scale.p, scale.q, &mut words) {
         Ok(noise) => Outcome::Answered(noisy(rows, noise)),
         Err(_) => Outcome::Exhausted,
+    }
+}
+
+/// A finite sensitivity.
+fn fraction_of(sens: Sens) -> Frac
+    requires { is_endless (distance_of sens) ≡ false }
+    ensures { distance_of sens ≡ Fin result.p result.q }
+{
+    match sens {
+        Sens::Finite(sens) => sens,
+        Sens::Inf => unreachable!(),
     }
 }
 
@@ -106,35 +118,31 @@ fn reply_of<'a>(grant: Grant, outcome: Outcome) -> Reply<'a>
     }
 }
 
-/// Answers a query: the program is read, the budget is asked, the noise is drawn, and the reservation is settled.
-pub fn ask<'a, S: Streams>(
-    house: &House,
+/// Answers a query: the program is read and checked, the budget is asked, the noise is drawn, and the reservation is settled.
+/// Want of memory is said before a reservation.
+pub fn ask<'h, S: Streams>(
+    alloc: Global,
+    house: &'h House,
     streams: &S,
     book: &mut Book,
     query: &Query<'_>,
-) -> Reply<'a>
+) -> Reply<'h>
     requires entry { book.old.entry ≡ entry_of house.now }
     requires fresh { book.old.found ≡ [] }
     requires query { IsQueryOf house.now query.now }
-    ensures reply { replied result
-        ≡ reply_by (S.given streams.now) 0 book.old.records (wants 0 (owner_of house.now) (query_of query.now)) }
-    ensures after { book.new ≡ record book.old {
-      records = book.old.records
-          ++ added_by (S.given streams.now) 0 book.old.records (wants 0 (owner_of house.now) (query_of query.now));
-    } }
+    ensures { GoesOn house.now (S.given streams.now) query.now book.old book.new (replied result) }
 {
-    if query.program != SIZE_PEOPLE {
-        return Reply::Refused(Refusal::Unread {
-            from: 0,
-            to: query.program.len() as u32,
-        });
-    }
+    let size = match judge_program(alloc, house.sig(), query.program) {
+        Ok(size) => size,
+        Err(reply) => return reply,
+    };
+    let sens = fraction_of(size.sens);
     let asking = Ask {
         analyst: query.analyst,
         view: View::Whole,
         e: query.epsilon,
-        p: 1,
-        q: 1,
+        p: sens.p,
+        q: sens.q,
     };
     match book.reserve(&asking) {
         Err(fault) => Reply::Refused(refusal_of(fault)),

@@ -3,10 +3,9 @@
 ghost use Rattle.std.specs.Prelude.{◌≡◌, ◌++◌, [], ◌∷◌, length, OnOk, IfOk, None, if◌then◌else◌};
 ghost use Rattle.std.specs.List.{flat_map};
 ghost use Rattle.wire_lines.specs.Reply.{replied, reply_text};
-ghost use Rattle.session_core.specs.House.{house_of, owner_of, entry_of};
-ghost use Rattle.session_core.specs.Reply.{meant_by};
-ghost use Rattle.session_core.specs.Transcript.{turns_of, replies_from, journals_from, reply_at, journals_after, is_bye, transcript_of, records_of};
-ghost use Rattle.session_core.specs.Code.{IsAnalyst, who_behind, is_ended};
+ghost use Rattle.session_core.specs.House.{house_of, entry_of};
+ghost use Rattle.session_core.specs.Transcript.{IsTranscript};
+ghost use Rattle.session_core.specs.Code.{IsAnalyst, who_behind, is_ended, IsLineReply, IsWritten};
 
 use crate::answer::ask;
 use crate::house::House;
@@ -16,9 +15,10 @@ use fz_outside::words::Streams;
 use std::alloc::{AllocError, Global};
 use wire_lines::{REPLY_LIMIT, Reply, Request, next_line, read_request, write_reply};
 
-/// The most bytes of the reply to an ask, and of a refusal by the line alone.
+/// The most bytes of the reply to an ask, `no 40` with four numbers of at most 20 digits being the longest.
 const LONGEST_ANSWER: usize = 96;
 
+/// The most bytes of a refusal by the line alone.
 const LONGEST_REFUSAL: usize = 20;
 
 /// `no 10 W` and its end: W is below 4.
@@ -73,7 +73,8 @@ fn who_after(reply: &Reply<'_>, who: Option<u16>) -> Option<u16>
 
 // Answers one line, where this analyst speaks. Nobody speaks behind a `bye`.
 fn answer_line<'a, S: Streams>(
-    house: &House,
+    alloc: Global,
+    house: &'a House,
     streams: &S,
     book: &mut Book,
     who: Option<u16>,
@@ -82,18 +83,13 @@ fn answer_line<'a, S: Streams>(
     requires entry { book.old.entry ≡ entry_of house.now }
     requires fresh { book.old.found ≡ [] }
     requires known { IsAnalyst house.now who }
-    ensures reply { replied result.reply
-        ≡ reply_at (house_of house.now) (S.given streams.now) ([] ∷ []) (book.old.records ∷ []) (record { who = who; line = line.now }) }
-    ensures records { book.new.records ∷ []
-        ≡ journals_after (house_of house.now) (S.given streams.now) ([] ∷ []) (book.old.records ∷ []) (record { who = who; line = line.now }) }
+    ensures reply { IsLineReply (house_of house.now) (S.given streams.now) (record { who = who; line = line.now }) book.old book.new (replied result.reply) }
     ensures who { result.who ≡ who_behind (house_of house.now) who line.now }
     ensures known { IsAnalyst house.now result.who }
-    ensures entry { book.new.entry ≡ book.old.entry }
-    ensures fresh { book.new.found ≡ book.old.found }
 {
     match read_line(house, who, line) {
         Meaning::Asks(query) => Answer {
-            reply: ask(house, streams, book, &query),
+            reply: ask(alloc, house, streams, book, &query),
             who,
         },
         Meaning::Says { reply, who } => Answer {
@@ -112,14 +108,14 @@ pub fn answer_script<S: Streams>(
     script: &[u8],
 ) -> Result<Vec<u8>, AllocError>
     requires { book.old ≡ record { entry = entry_of house.now; found = []; records = [] } }
-    ensures transcript { IfOk result (λ out. out.items ≡ transcript_of (house_of house.now) (S.given streams.now) ([] ∷ []) script.now) }
-    ensures records { OnOk result (book.new.records ∷ [] ≡ records_of (house_of house.now) (S.given streams.now) ([] ∷ []) script.now) }
+    ensures transcript { IfOk result (λ out. IsTranscript (house_of house.now) (S.given streams.now) ([] ∷ []) script.now out.items) }
+    ensures records { IfOk result (λ out. IsWritten (house_of house.now) (S.given streams.now) script.now out.items book.new.records) }
 {
     let mut out = Vec::with_capacity(alloc, room_for(script))?;
     let mut rest = script;
     let mut who = None;
     while let Some((line, after)) = next_line(rest) {
-        let answer = answer_line(house, streams, book, who, line);
+        let answer = answer_line(alloc, house, streams, book, who, line);
         push_reply(&mut out, &answer.reply)?;
         who = answer.who;
         rest = after;
