@@ -1,3 +1,4 @@
 pub mod Fronts
+pub mod Judged
 pub mod Runs
 pub mod Stops

@@ -1,7 +1,7 @@
 pub mod Command
 pub mod Ending
 pub mod Status
+pub mod Taken
 pub mod Ends
 pub mod Opened
-pub mod Taken
 pub mod Run

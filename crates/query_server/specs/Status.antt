@@ -1,90 +1,136 @@
--- the status of a command, and what comes of it
-use Rattle.std.specs.Prelude.{◌≡◌, ℕ, ◌+◌, ◌<◌, ◌≤◌, ◌⊎◌, List, [], ◌++◌, length, Option, Some, None, ⊤}
-use Rattle.std.specs.Io.KnownBytes.{prepend_known, IsAtEnd}
-use Rattle.query_server.specs.Command.{Command, command_of}
-use Rattle.query_server.specs.Ending.{Ending, usage, refused, too_long, done, ending_text, memory_text, script_limit}
+-- the status of a command, and what is written at it
+use Rattle.std.specs.Prelude.{◌≡◌, ℕ, ◌^◌, ◌<◌, ◌≤◌, ◌⊎◌, ℤ, List, [], ◌∷◌, ◌++◌, length, Option, Some, None, ⊤, codes}
+use Rattle.fz_frac.specs.Distance.{Distance}
+use Rattle.wire_lines.specs.Reply.{sensitivity_text, reply_text}
+use Rattle.answer_path.specs.Reading.{Reading, IsReading}
+use Rattle.answer_path.specs.Judgement.{Judgement, declined, accepted, checked_of, written_as}
+use Rattle.word_streams.specs.Draws.{draws_of}
+use Rattle.session_core.specs.House.{house_of}
+use Rattle.session_core.specs.Transcript.{IsTranscript}
+use Rattle.query_server.specs.Command.{Command, run, check}
+use Rattle.query_server.specs.Ending.{Ending, usage, refused, to_answer, to_check, census, census_tables}
 use Rattle.query_server.specs.declared.end.Status.{Status}
-use Rattle.query_server.specs.declared.end.Status.TheVariants.{Done, Usage, Refused, Fault, NoMemory, ScriptTooLong}
+use Rattle.query_server.specs.declared.end.Status.TheVariants.{Done, Declined, Usage, Refused, Fault, NoMemory, ScriptTooLong}
 
 abbrev pub code_of : Status → ℕ
 code_of Done = 0
+code_of Declined = 1
 code_of Usage = 2
 code_of Refused = 3
 code_of Fault = 5
 code_of NoMemory = 7
 code_of ScriptTooLong = 8
 
-abbrev pub status_of : Ending → Status
-status_of usage = Usage
-status_of (refused name) = Refused
-status_of too_long = ScriptTooLong
-status_of (done transcript) = Done
+-- the most bytes of a script
+abbrev pub script_limit : ℕ
+script_limit = 2 ^ 24
+
+-- the lines of statuses
+abbrev pub usage_text : List ℕ
+usage_text = codes "usage\n"
+
+abbrev pub refused_text : List ℕ → List ℕ
+refused_text name = codes "refused " ++ name ++ codes "\n"
+
+abbrev pub memory_text : List ℕ
+memory_text = codes "memory\n"
+
+abbrev pub too_long_text : List ℕ
+too_long_text = codes "script too long\n"
+
+-- the line of an accepted program with this sensitivity
+abbrev pub accepted_text : Distance → List ℕ
+accepted_text r = codes "ok " ++ sensitivity_text (written_as r) ++ codes "\n"
+
+-- the status and the text of what a program comes to
+abbrev pub status_by : Judgement → Status
+status_by (declined reply) = Declined
+status_by (accepted e r) = Done
+
+abbrev pub text_by : Judgement → List ℕ
+text_by (declined reply) = reply_text reply
+text_by (accepted e r) = accepted_text r
+
+-- The program's bytes have a reading, and by the typing rules it comes to this status and this text.
+pub record IsJudged (program : List ℕ) (status : Status) (text : List ℕ) : Type 0 where
+  pub reading : Reading
+  pub reads : IsReading program reading
+  pub is_status : status ≡ status_by (checked_of census_tables reading)
+  pub is_text : text ≡ text_by (checked_of census_tables reading)
+
+-- The text is a transcript of the script, where no records are there at the start; or the script has too many bytes.
+abbrev pub IsAnswered : List ℤ → (key : List ℕ) → (script : List ℕ) → Status → (text : List ℕ) → Type 0
+IsAnswered ages key script Done text = (length script ≤ script_limit) × IsTranscript (house_of (census ages)) (draws_of key) ([] ∷ []) script text
+IsAnswered ages key script ScriptTooLong text = (script_limit < length script) × (text ≡ too_long_text)
+IsAnswered ages key script Declined text = ⊥
+IsAnswered ages key script Usage text = ⊥
+IsAnswered ages key script Refused text = ⊥
+IsAnswered ages key script Fault text = ⊥
+IsAnswered ages key script NoMemory text = ⊥
+
+-- Where nothing fails and memory suffices, this status and this text may be due.
+abbrev pub IsDue : Ending → (script : List ℕ) → Status → (text : List ℕ) → Type 0
+IsDue usage script status text = (status ≡ Usage) × (text ≡ usage_text)
+IsDue (refused name) script status text = (status ≡ Refused) × (text ≡ refused_text name)
+IsDue (to_answer ages key) script status text = IsAnswered ages key script status text
+IsDue (to_check program) script status text = IsJudged program status text
+
+-- at a status that says neither that something failed nor that memory ran out
+abbrev pub IfFinished : Status → Type 0 → Type 0
+IfFinished Fault P = ⊤
+IfFinished NoMemory P = ⊤
+IfFinished Done P = P
+IfFinished Declined P = P
+IfFinished Usage P = P
+IfFinished Refused P = P
+IfFinished ScriptTooLong P = P
 
 -- a text is a front of another
 abbrev pub IsFront : List ℕ → List ℕ → Type 0
 IsFront front text = (rest : List ℕ) × (text ≡ front ++ rest)
 
--- The status is that of the ending, unless memory ran out or something failed.
-abbrev pub IsStatusOf : Ending → Status → Type 0
-IsStatusOf ending Fault = ⊤
-IsStatusOf ending NoMemory = ⊤
-IsStatusOf ending Done = status_of ending ≡ Done
-IsStatusOf ending Usage = status_of ending ≡ Usage
-IsStatusOf ending Refused = status_of ending ≡ Refused
-IsStatusOf ending ScriptTooLong = status_of ending ≡ ScriptTooLong
+abbrev pub IsFrontOfDue : Ending → (script text : List ℕ) → Type 0
+IsFrontOfDue ending script text = (status : Status) × (due : List ℕ) × IsDue ending script status due × IsFront text due
 
--- the status of an ending that the words and the files give, whatever the script is
-abbrev pub refusal_of : Ending → Option Status
-refusal_of usage = Some Usage
-refusal_of (refused name) = Some Refused
-refusal_of too_long = None
-refusal_of (done transcript) = None
+-- What is written is due with the status; where memory ran out, that line alone; where something failed, a front of either.
+abbrev pub IsWrittenAt : Ending → (script : List ℕ) → Status → (text : List ℕ) → Type 0
+IsWrittenAt ending script Fault text = IsFrontOfDue ending script text ⊎ IsFront text memory_text
+IsWrittenAt ending script NoMemory text = text ≡ memory_text
+IsWrittenAt ending script Done text = IsDue ending script Done text
+IsWrittenAt ending script Declined text = IsDue ending script Declined text
+IsWrittenAt ending script Usage text = IsDue ending script Usage text
+IsWrittenAt ending script Refused text = IsDue ending script Refused text
+IsWrittenAt ending script ScriptTooLong text = IsDue ending script ScriptTooLong text
 
--- The words and the files alone decide on Usage and Refused.
-abbrev pub IsRefusalOf : Ending → Status → Type 0
-IsRefusalOf ending Fault = ⊤
-IsRefusalOf ending NoMemory = ⊤
-IsRefusalOf ending Usage = refusal_of ending ≡ Some Usage
-IsRefusalOf ending Refused = refusal_of ending ≡ Some Refused
-IsRefusalOf ending Done = refusal_of ending ≡ None
-IsRefusalOf ending ScriptTooLong = refusal_of ending ≡ None
+-- the same, as far as the words and the files decide on it by themselves
+abbrev pub IsDecided : Ending → Status → (text : List ℕ) → Type 0
+IsDecided usage status text = (status ≡ Usage) × (text ≡ usage_text)
+IsDecided (refused name) status text = (status ≡ Refused) × (text ≡ refused_text name)
+IsDecided (to_answer ages key) status text = (status ≡ Done) ⊎ (status ≡ ScriptTooLong)
+IsDecided (to_check program) status text = IsJudged program status text
 
--- What is written is the ending's text; where memory ran out, that line alone; where something failed, a front of either.
-abbrev pub IsWrittenAt : Ending → Status → List ℕ → Type 0
-IsWrittenAt ending Fault text = IsFront text (ending_text ending) ⊎ IsFront text memory_text
-IsWrittenAt ending NoMemory text = text ≡ memory_text
-IsWrittenAt ending Done text = text ≡ ending_text ending
-IsWrittenAt ending Usage text = text ≡ ending_text ending
-IsWrittenAt ending Refused text = text ≡ ending_text ending
-IsWrittenAt ending ScriptTooLong text = text ≡ ending_text ending
-
--- one of the two files that the command names
+-- a name that the command says
 abbrev pub IsNamed : Option Command → List ℕ → Type 0
 IsNamed None name = ⊥
-IsNamed (Some command) name = (name ≡ command.catalog) ⊎ (name ≡ command.key)
+IsNamed (Some (run catalog key)) name = (name ≡ catalog) ⊎ (name ≡ key)
+IsNamed (Some (check catalog owner file)) name = (name ≡ catalog) ⊎ (name ≡ owner) ⊎ (name ≡ file)
 
--- what is written at a status, whatever files and script hold
-abbrev pub IsLineOf : List (List ℕ) → Status → List ℕ → Type 0
-IsLineOf words Usage text = text ≡ ending_text usage
-IsLineOf words Refused text = (name : List ℕ) × IsNamed (command_of words) name × (text ≡ ending_text (refused name))
-IsLineOf words ScriptTooLong text = text ≡ ending_text too_long
-IsLineOf words NoMemory text = text ≡ memory_text
-IsLineOf words Done text = ⊤
-IsLineOf words Fault text = ⊤
+abbrev pub IsOfRun : Option Command → Type 0
+IsOfRun None = ⊥
+IsOfRun (Some (run catalog key)) = ⊤
+IsOfRun (Some (check catalog owner file)) = ⊥
 
--- nothing is taken before the files are read; a script was read to its end, or is too long, at this status
-abbrev pub TookAllAt : Option (List ℕ) → List ℕ → Status → Type 0
-TookAllAt left taken Done = (length taken ≤ script_limit) × IsAtEnd left
-TookAllAt left taken ScriptTooLong = script_limit < length taken
-TookAllAt left taken Usage = taken ≡ []
-TookAllAt left taken Refused = taken ≡ []
-TookAllAt left taken Fault = ⊤
-TookAllAt left taken NoMemory = ⊤
+abbrev pub IsOfCheck : Option Command → Type 0
+IsOfCheck None = ⊥
+IsOfCheck (Some (run catalog key)) = ⊥
+IsOfCheck (Some (check catalog owner file)) = ⊤
 
--- At most 2^24 + 1 bytes of the source are taken: none at faulty words or a refused file, over 2^24 where the script is too long, and all there are where it is
--- answered.
-pub record IsTakenAt (before after : Option (List ℕ)) (status : Status) : Type 0 where
-  pub taken : List ℕ
-  pub is : before ≡ prepend_known taken after
-  pub few : length taken ≤ script_limit + 1
-  pub all : TookAllAt after taken status
+-- what is written at a status of this command, whatever files and script hold
+abbrev pub IsLineOf : Option Command → Status → (text : List ℕ) → Type 0
+IsLineOf command Usage text = text ≡ usage_text
+IsLineOf command Refused text = (name : List ℕ) × IsNamed command name × (text ≡ refused_text name)
+IsLineOf command ScriptTooLong text = IsOfRun command × (text ≡ too_long_text)
+IsLineOf command Declined text = IsOfCheck command
+IsLineOf command NoMemory text = text ≡ memory_text
+IsLineOf command Done text = ⊤
+IsLineOf command Fault text = ⊤

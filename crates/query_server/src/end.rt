@@ -8,9 +8,11 @@ ghost use Rattle.query_server.specs.Status.{code_of};
 pub enum Status {
     /// 0: all was done.
     Done,
+    /// 1: the program that was to be checked is refused.
+    Declined,
     /// 2: the words are no command.
     Usage,
-    /// 3: a file that the command names is absent, too long or outside its definition.
+    /// 3: a file that the command names is absent, too long or outside its definition, or its owner is unknown.
     Refused,
     /// 5: files, source or sink have failed.
     Fault,
@@ -27,6 +29,7 @@ impl Status {
     {
         match self {
             Status::Done => 0,
+            Status::Declined => 1,
             Status::Usage => 2,
             Status::Refused => 3,
             Status::Fault => 5,
@@ -40,12 +43,14 @@ impl Status {
 #[derive(Drop)]
 pub(crate) enum End<'a> {
     Usage,
-    /// The file of this name is refused.
+    /// The file or the owner of this name is refused.
     Refused(&'a str),
     Fault,
     NoMemory,
     TooLong,
-    /// The replies to the script.
+    /// The line that refuses the program.
+    Declined(Vec<u8>),
+    /// The replies to the script, or the line that accepts the program.
     Done(Vec<u8>),
 }
 
@@ -62,6 +67,7 @@ impl End<'_> {
             End::Fault => Status::Fault,
             End::NoMemory => Status::NoMemory,
             End::TooLong => Status::ScriptTooLong,
+            End::Declined(_) => Status::Declined,
             End::Done(_) => Status::Done,
         }
     }

@@ -1,6 +1,7 @@
 //! The top call of the server: one command, from its words to its status.
 #![tactic(auto)]
 
+mod checking;
 mod end;
 mod opening;
 mod running;

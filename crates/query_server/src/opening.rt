@@ -1,15 +1,17 @@
-//! The house is opened: the table's file and the key's.
+//! The files of a command are read: a table's, and a key's or a program's.
 
-ghost use Rattle.std.specs.Prelude.{◌≡◌, ℕ, List, Option, Some, None, length, MatchResult, IfErr, IfOk, IsErrOf, Ok, MatchOption, ◌≢◌, ◌≤◌, ◌^◌, ⊤};
+ghost use Rattle.std.specs.Prelude.{◌≡◌, ◌⊎◌, ℕ, ℤ, List, Option, Some, None, length, MatchResult, IfErr, IfOk, IsErrOf, Ok, codes, MatchOption, ◌≢◌, ◌≤◌, ◌^◌, ⊤, ◌∷◌, []};
 ghost use Rattle.fz_outside.specs.Faults.{HasCause};
-ghost use Rattle.query_server.specs.Ending.{readable, catalog_ending, census};
-ghost use Rattle.query_server.specs.Ends.{IsEndOf, IsFileEnd, IsHouseEnd, IsRefused};
+ghost use Rattle.table_store.specs.Table.{table_of};
+ghost use Rattle.query_server.specs.Ending.{readable, run_ending, check_ending, to_check, census, census_tables};
+ghost use Rattle.query_server.specs.Ends.{IsStop, IsRefusalIn, IsRefused};
 ghost use Rattle.query_server.specs.Opened.{IsOpened};
 
 use crate::end::End;
+use fz_ast::{NoMemory, Sig};
 use fz_outside::FileFault;
 use fz_outside::files::{FileRead, Files};
-use session_core::house::House;
+use session_core::house::{House, people_signature};
 use std::alloc::{AllocError, Global};
 use table_store::{Table, TableFault, load};
 
@@ -38,7 +40,7 @@ pub(crate) struct Opened {
 fn read_file<'a, F: Files>(alloc: Global, files: &mut F, name: &'a str) -> Result<Vec<u8>, End<'a>>
     ensures read { (held : List ℕ → Option (List ℕ)) → F.held files.old ≡ Some held →
         MatchResult result (λ bytes. readable (held name.now) ≡ Some bytes.items) (λ end. IsRefused end → readable (held name.now) ≡ None) }
-    ensures end { IfErr result (IsFileEnd name.now) }
+    ensures end { IfErr result (IsRefusalIn (λ other. other ≡ name.now)) }
     ensures same { F.held files.new ≡ F.held files.old }
     ensures cause { HasCause (F.faults files.old) (F.faults files.new) (IsErrOf result End.Fault) }
 {
@@ -62,6 +64,31 @@ fn key_of(bytes: &[u8]) -> Option<[u8; 32]>
     Some(key)
 }
 
+/// The rows of a table's file.
+fn read_table<'a>(alloc: Global, catalog: &'a str, bytes: &[u8]) -> Result<Table, End<'a>>
+    ensures rows { MatchResult result (λ table. table_of (codes "age") bytes.now ≡ Ok table)
+        (λ end. IsRefused end → (fault : TableFault) × (table_of (codes "age") bytes.now ≡ Err fault)) }
+    ensures end { IfErr result (IsRefusalIn (λ other. other ≡ catalog.now)) }
+    ensures few { IfOk result (λ table. length table ≤ 2 ^ 20) }
+    ensures sound { IsErrOf result End.Fault → ⊥ }
+{
+    match load(alloc, bytes, COLUMN) {
+        Ok(table) => Ok(table),
+        Err(TableFault::NoMemory) => Err(End::NoMemory),
+        Err(_) => Err(End::Refused(catalog)),
+    }
+}
+
+/// The signature of the house's tables.
+pub(crate) fn signature(alloc: Global) -> Result<Sig, AllocError>
+    ensures { IfOk result (λ sig. sig ≡ census_tables) }
+{
+    match people_signature(alloc) {
+        Ok(sig) => Ok(sig),
+        Err(NoMemory) => Err(AllocError),
+    }
+}
+
 /// The house of these rows.
 fn house_of_rows(alloc: Global, table: Table) -> Result<House, AllocError>
     requires { length table ≤ 2 ^ 20 }
@@ -73,7 +100,8 @@ fn house_of_rows(alloc: Global, table: Table) -> Result<House, AllocError>
     let mut analysts = Vec::with_capacity(alloc, 2)?;
     analysts.push(first)?;
     analysts.push(second)?;
-    Ok(House::new(analysts, owner, BUDGET, CAPACITY, table))
+    let sig = signature(alloc)?;
+    Ok(House::new(analysts, owner, BUDGET, CAPACITY, sig, table))
 }
 
 /// Opens the house of a table's file and a key's: the table's file is looked at first, then the key, then the rows.
@@ -85,9 +113,8 @@ pub(crate) fn open_house<'a, F: Files>(
 ) -> Result<Opened, End<'a>>
     ensures opened { (held : List ℕ → Option (List ℕ)) → F.held files.old ≡ Some held →
         MatchResult result (λ opened. IsOpened held catalog.now key.now opened)
-        (λ end. (script : List ℕ) → IsEndOf (catalog_ending (record { catalog = catalog.now; key = key.now })
-        (readable (held catalog.now)) (readable (held key.now)) script) end) }
-    ensures end { IfErr result (IsHouseEnd catalog.now key.now) }
+        (IsStop (run_ending catalog.now key.now (readable (held catalog.now)) (readable (held key.now)))) }
+    ensures end { IfErr result (IsRefusalIn (λ name. (name ≡ catalog.now) ⊎ (name ≡ key.now))) }
     ensures same { F.held files.new ≡ F.held files.old }
     ensures cause { HasCause (F.faults files.old) (F.faults files.new) (IsErrOf result End.Fault) }
 {
@@ -96,13 +123,33 @@ pub(crate) fn open_house<'a, F: Files>(
     let Some(key) = key_of(&key_bytes) else {
         return Err(End::Refused(key));
     };
-    let table = match load(alloc, &table_bytes, COLUMN) {
-        Ok(table) => table,
-        Err(TableFault::NoMemory) => return Err(End::NoMemory),
-        Err(_) => return Err(End::Refused(catalog)),
-    };
+    let table = read_table(alloc, catalog, &table_bytes)?;
     match house_of_rows(alloc, table) {
         Ok(house) => Ok(Opened { house, key }),
         Err(_) => Err(End::NoMemory),
     }
+}
+
+/// The bytes of a program's file: the table's file is looked at first, then the owner, then the rows, then the program's file.
+pub(crate) fn read_program<'a, F: Files>(
+    alloc: Global,
+    files: &mut F,
+    catalog: &'a str,
+    owner: &'a str,
+    file: &'a str,
+) -> Result<Vec<u8>, End<'a>>
+    ensures program { (held : List ℕ → Option (List ℕ)) → F.held files.old ≡ Some held →
+        MatchResult result
+        (λ program. check_ending catalog.now owner.now file.now (readable (held catalog.now)) (readable (held file.now)) ≡ to_check program.items)
+        (IsStop (check_ending catalog.now owner.now file.now (readable (held catalog.now)) (readable (held file.now)))) }
+    ensures end { IfErr result (IsRefusalIn (λ name. (name ≡ catalog.now) ⊎ (name ≡ owner.now) ⊎ (name ≡ file.now))) }
+    ensures same { F.held files.new ≡ F.held files.old }
+    ensures cause { HasCause (F.faults files.old) (F.faults files.new) (IsErrOf result End.Fault) }
+{
+    let table_bytes = read_file(alloc, files, catalog)?;
+    if owner != OWNER {
+        return Err(End::Refused(owner));
+    }
+    read_table(alloc, catalog, &table_bytes)?;
+    read_file(alloc, files, file)
 }

@@ -3,8 +3,8 @@
 ghost use Rattle.std.specs.Prelude.{◌≡◌, ℕ, ℤ, List, Option, Some, length, ◌≤◌, ◌+◌, ◌^◌, ◌<◌, IfOk, IsErrOf};
 ghost use Rattle.std.specs.Io.KnownBytes.{prepend_known, IsAtEnd};
 ghost use Rattle.fz_outside.specs.Faults.{HasCause};
-ghost use Rattle.query_server.specs.Ending.{script_ending, census, script_limit};
-ghost use Rattle.query_server.specs.Ends.{IsEndOf, IsScriptEnd};
+ghost use Rattle.query_server.specs.Ending.{to_answer, census};
+ghost use Rattle.query_server.specs.Ends.{IsEndOf, IsScriptEnd, status_at};
 ghost use Rattle.query_server.specs.Taken.{IsTaken};
 
 use crate::end::End;
@@ -22,9 +22,9 @@ const SCRIPT_LIMIT: usize = 1 << 24;
 /// Reads a script to its end, or to one byte more than it may have, and answers it. Room for the records comes first.
 pub(crate) fn run_script<'a, S: Source>(alloc: Global, opened: &Opened, source: &mut S) -> End<'a>
     ensures end { (ages : List ℤ) (script : List ℕ) → opened.now.house ≡ census ages → S.left source.old ≡ Some script →
-        IsEndOf (script_ending ages opened.now.key script) result }
+        IsEndOf (to_answer ages opened.now.key) script result }
     ensures kind { IsScriptEnd result }
-    ensures taken { IsTaken (S.left source.old) (S.left source.new) result }
+    ensures taken { IsTaken (S.left source.old) (S.left source.new) (status_at result) }
     ensures cause { HasCause (S.faults source.old) (S.faults source.new) (result ≡ End.Fault) }
 {
     let Ok(mut book) = Book::new(alloc, opened.house.entry()) else {
