@@ -2,6 +2,7 @@
 """What the server must write for a script, worked out apart from it.
 
     reference.py [--key FILE] [--rows N] < SCRIPT      the transcript of a script
+    reference.py --program < PROGRAM                   what is said of a program
     reference.py --check                               the values that are known from outside
 
 The house is the one the server has: the analysts ann and bob, the owner census with a budget of 10 (in millionths
@@ -13,6 +14,7 @@ The test values of crates/hitchseason are written by this program. It shares not
   counter and 96 to the nonce: test vectors 1, 2 and 5 of its appendix A.1 hold for both.)
 - The noise is discrete Laplace by the sampler of "The Discrete Gaussian for Differential Privacy" by Canonne, Kamath and
   Steinke, from at most 4096 draws.
+- A program is read and checked by programs.py. Of the accepted ones only the size of a table is answered.
 """
 import argparse
 import sys
@@ -21,11 +23,12 @@ from math import ceil
 
 from cryptography.hazmat.primitives.ciphers import Cipher, algorithms
 
+from programs import Refused, asked, judgement
+
 BUDGET = 10_000_000
 CAPACITY = 100
 ANALYSTS = (b"ann", b"bob")
 OWNER = b"census"
-PROGRAM = b"size people"
 LINE_LIMIT = 16_384
 SCRIPT_LIMIT = 2**24
 DRAW_LIMIT = 4096
@@ -157,12 +160,13 @@ class Server:
             return "no 13"
         if self.who is None:
             return "no 14"
-        if program != PROGRAM:
-            return f"no 39 0 {len(program)}"
-        return self.query(e)
+        try:
+            return self.query(e, asked(program))
+        except Refused as refusal:
+            return f"no {refusal}"
 
-    def query(self, e):
-        cost = ceil(Fraction(1) * e)
+    def query(self, e, sensitivity):
+        cost = ceil(sensitivity * e)
         if self.spent + cost > BUDGET:
             return f"no 40 {self.spent} {self.spent + cost} {BUDGET} {self.records}"
         if self.records + 2 > CAPACITY:
@@ -188,6 +192,38 @@ KNOWN_DRAWS = """
 903df1a0ade0b876 28bd8653e56a5d40 1aed8da0b819d2bd c70d778bccef36a8 8d4857517c5941da 374ad8b83fe02477 1ca11815f4b8436a
 8665eeb269b687c3 7a385155bee7079f 0d082d737c97ba98 6965e348a0290fcb ed7aee323e53c612 434ee69c7621b729
 """.split()
+
+
+KNOWN_PROGRAMS = [
+    (b"size people", "ok 1"),
+    (b"2 * size people", "ok 2"),
+    (b"let !y = ![2] (size people) in y", "ok 1"),
+    (b"(fun (x : ![3/2] num) => let !y = x in y) (![3/2] (size people))", "ok 3/2"),
+    (b"if size people <= 3 then 0 else 100", "no 33 people"),
+    (b"case inl[unit] (size people) of inl x => 5 | inr y => 7", "ok 1"),
+    (b"sum[0,100] people", "ok 100"),
+    (b"let (a, b) = split (fn (x : num) => x <= 30) people in size a + size b", "ok 1"),
+    (b"size people + size people", "ok 2"),
+    (b"1125899906842624 * size people", "no 32 0 30"),
+    (b"(fun (x : num) => x + x) (size people)", "no 31 1 23 2"),
+    (b"1 -one", "no 30 unbound 3 6"),
+    (b"size people $", "no 20 12"),
+    (b"size", "no 21 1"),
+    (b" + ".join([b"1"] * 64), "ok 0"),
+    (b" + ".join([b"1"] * 65), "no 22 65"),
+    (b"", "no 21 0"),
+    (b'"', "no 20 0"),
+    (b"1125899906842625", "no 20 0"),
+    (b"n" + b"a" * 32, "no 20 0"),
+    (b"\0", "no 20 0"),
+    (b"(" * 4097, "no 20 4096"),
+    (b"(" * 4096, "no 21 4096"),
+    (b" " * 16001, "no 20 16000"),
+    (b"size people people", "no 21 2"),
+    (b"(fn (x : num) => x", "no 21 9"),
+    (b"1 -o 2", "no 21 1"),
+    (b"(" * 2047 + b"1" + b")" * 2047, "ok 0"),
+]
 
 
 def followed(draws):
@@ -224,6 +260,9 @@ def check():
     assert transcript(hello + one, rows=0, draws=lambda _: followed([0, 0, 0, 0, 1, 0, 1, 0])).endswith(
         "answer 0 -1 1000000\n"
     )
+    # Programs worked by hand.
+    for program, said in KNOWN_PROGRAMS:
+        assert judgement(program) == said, (program, judgement(program), said)
     print("all as known")
 
 
@@ -231,8 +270,12 @@ def main():
     words = argparse.ArgumentParser()
     words.add_argument("--key")
     words.add_argument("--rows", type=int, default=3)
+    words.add_argument("--program", action="store_true")
     words.add_argument("--check", action="store_true")
     given = words.parse_args()
+    if given.program:
+        print(judgement(sys.stdin.buffer.read()))
+        return
     if given.check:
         check()
         return

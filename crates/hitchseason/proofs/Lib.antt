@@ -1,4 +1,6 @@
 pub mod RowDraws
+pub mod RowTable
+pub mod RowProgram
 pub mod RowReplies
 pub mod RowEnding
 pub mod RowStatus

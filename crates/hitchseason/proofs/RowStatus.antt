@@ -1,65 +1,99 @@
--- What the status and what is written come to where that ending is due.
+-- What the status and what is written come to where that script is answered.
 use Rattle.std.proofs.Common.{◌≡◌, ℕ, ◌<◌, List, [], ◌++◌, length, Some, refl, ◌∙◌, ap, subst, arith, length-append}
 use mathlib.Core.Logic.{◌⊎◌, inl, inr}
 use Rattle.fz_outside.specs.Faults.{HasRisen}
-use Rattle.query_server.specs.Ending.{Ending, done, memory_text}
-use Rattle.query_server.specs.Status.{IsStatusOf, IsWrittenAt, IsFront}
+use Rattle.word_streams.specs.Draws.{draws_of}
+use Rattle.query_server.specs.Ending.{Ending, to_answer}
+use Rattle.query_server.specs.Status.{IsWrittenAt, IsAnswered, IsFront, memory_text, too_long_text}
 use Rattle.query_server.specs.declared.end.Status.{Status}
-use Rattle.query_server.specs.declared.end.Status.TheVariants.{Done, Usage, Refused, Fault, NoMemory, ScriptTooLong}
-use Rattle.hitchseason.proofs.RowReplies.{row}
+use Rattle.query_server.specs.declared.end.Status.TheVariants.{Done, Declined, Usage, Refused, Fault, NoMemory, ScriptTooLong}
+use Rattle.hitchseason.proofs.RowDraws.{zeros, noise_is_two}
+use Rattle.hitchseason.proofs.RowTable.{ages}
+use Rattle.hitchseason.proofs.RowReplies.{script, row, row_without, transcript_is}
 
 row_length : length row ≡ 33
 row_length = refl
 
+without_length : length row_without ≡ 20
+without_length = refl
+
 memory_length : length memory_text ≡ 7
 memory_length = refl
+
+long_length : length too_long_text ≡ 16
+long_length = refl
+
+abbrev pub IsRow : List ℕ → Type 0
+IsRow text = (text ≡ row) ⊎ (text ≡ row_without)
+
+row_short : (text : List ℕ) → IsRow text → length text < 64
+row_short text (inl is) = let e : length text ≡ length row = ap length is in omega (arith, row_length)
+row_short text (inr is) = let e : length text ≡ length row_without = ap length is in omega (arith, without_length)
 
 front_short : (text whole : List ℕ) → IsFront text whole → length whole < 64 → length text < 64
 front_short text whole (rest, is) short =
     let e : length whole ≡ length (text ++ rest) = ap length is in
     omega (arith, length-append text rest)
 
+due_short : (status : Status) (text : List ℕ) → IsAnswered ages zeros script status text → length text < 64
+due_short Done text (few, is) = row_short text (transcript_is (draws_of zeros) noise_is_two text is)
+due_short ScriptTooLong text (many, is) = let e : length text ≡ length too_long_text = ap length is in omega (arith, long_length)
+due_short Declined text is = absurd is
+due_short Usage text is = absurd is
+due_short Refused text is = absurd is
+due_short Fault text is = absurd is
+due_short NoMemory text is = absurd is
+
 -- At any status fewer bytes are written than there is room for.
-pub short : (status : Status) (text : List ℕ) → IsWrittenAt (done row) status text → length text < 64
-short Done text is = let e : length text ≡ length row = ap length is in omega (arith, row_length)
-short Usage text is = let e : length text ≡ length row = ap length is in omega (arith, row_length)
-short Refused text is = let e : length text ≡ length row = ap length is in omega (arith, row_length)
-short ScriptTooLong text is = let e : length text ≡ length row = ap length is in omega (arith, row_length)
+pub short : (status : Status) (text : List ℕ) → IsWrittenAt (to_answer ages zeros) script status text → length text < 64
+short Done text is = due_short Done text is
+short Declined text is = due_short Declined text is
+short Usage text is = due_short Usage text is
+short Refused text is = due_short Refused text is
+short ScriptTooLong text is = due_short ScriptTooLong text is
 short NoMemory text is = let e : length text ≡ length memory_text = ap length is in omega (arith, memory_length)
-short Fault text (inl front) = front_short text row front (omega (arith, row_length))
+short Fault text (inl (status, due, is, front)) = front_short text due front (due_short status due is)
 short Fault text (inr front) = front_short text memory_text front (omega (arith, memory_length))
 
 -- So a sink that fails only where it is full hasn't failed.
-pub none_failed : (ending : Ending) (status : Status) (text written : List ℕ) (faults : ℕ) → ending ≡ done row → IsWrittenAt ending status text
+pub none_failed : (ending : Ending) (status : Status) (text written : List ℕ) (faults : ℕ) → ending ≡ to_answer ages zeros → IsWrittenAt ending script status text
     → Some written ≡ Some ([] ++ text) → (0 < faults → length written ≡ 64) → faults ≡ 0
 none_failed ending status text written faults due is whole full =
-    let few : length text < 64 = short status text (subst (λ (e : Ending). IsWrittenAt e status text) due is) in
+    let few : length text < 64 = short status text (subst (λ (e : Ending). IsWrittenAt e script status text) due is) in
     let same : written ≡ text = cc in
     let e : length written ≡ length text = ap length same in
     grind arith
 
+script_length : length script ≡ 39
+script_length = refl
+
 -- where nothing fails
-finished_row : (status : Status) (text : List ℕ) → IsStatusOf (done row) status → IsWrittenAt (done row) status text → (status ≡ Fault → ⊥)
-    → (status ≡ NoMemory) ⊎ ((status ≡ Done) × (text ≡ row))
-finished_row Done text of is sound = inr (refl, is)
-finished_row NoMemory text of is sound = inl refl
-finished_row Fault text of is sound = absurd (sound refl)
-finished_row Usage text of is sound = cc
-finished_row Refused text of is sound = cc
-finished_row ScriptTooLong text of is sound = cc
+finished_row : (status : Status) (text : List ℕ) → IsWrittenAt (to_answer ages zeros) script status text → (status ≡ Fault → ⊥)
+    → (status ≡ NoMemory) ⊎ ((status ≡ Done) × IsRow text)
+finished_row Done text (few, is) sound = inr (refl, transcript_is (draws_of zeros) noise_is_two text is)
+finished_row NoMemory text is sound = inl refl
+finished_row Fault text is sound = absurd (sound refl)
+finished_row Declined text is sound = absurd is
+finished_row Usage text is sound = absurd is
+finished_row Refused text is sound = absurd is
+finished_row ScriptTooLong text (many, is) sound = absurd (omega (arith, many, script_length))
+
+written_row : (text written : List ℕ) → Some written ≡ Some ([] ++ text) → IsRow text → (Some written ≡ Some row) ⊎ (Some written ≡ Some row_without)
+written_row text written whole (inl is) = inl (whole ∙ ap Some is)
+written_row text written whole (inr is) = inr (whole ∙ ap Some is)
 
 -- Where nothing fails, the row is written or memory is wanting.
-pub finished : (ending : Ending) (status : Status) (text written : List ℕ) → ending ≡ done row → IsStatusOf ending status → IsWrittenAt ending status text
-    → Some written ≡ Some ([] ++ text) → (status ≡ Fault → ⊥) → (status ≡ NoMemory) ⊎ ((status ≡ Done) × (Some written ≡ Some row))
-finished ending status text written due of is whole sound =
-    here (finished_row status text (subst (λ (e : Ending). IsStatusOf e status) due of) (subst (λ (e : Ending). IsWrittenAt e status text) due is) sound)
+pub finished : (ending : Ending) (status : Status) (text written : List ℕ) → ending ≡ to_answer ages zeros → IsWrittenAt ending script status text
+    → Some written ≡ Some ([] ++ text) → (status ≡ Fault → ⊥)
+    → (status ≡ NoMemory) ⊎ ((status ≡ Done) × ((Some written ≡ Some row) ⊎ (Some written ≡ Some row_without)))
+finished ending status text written due is whole sound = here (finished_row status text (subst (λ (e : Ending). IsWrittenAt e script status text) due is) sound)
   where
-    here : (status ≡ NoMemory) ⊎ ((status ≡ Done) × (text ≡ row)) → (status ≡ NoMemory) ⊎ ((status ≡ Done) × (Some written ≡ Some row))
+    here : (status ≡ NoMemory) ⊎ ((status ≡ Done) × IsRow text) → (status ≡ NoMemory) ⊎ ((status ≡ Done) × ((Some written ≡ Some row) ⊎ (Some written ≡ Some row_without)))
     here (inl none) = inl none
-    here (inr (complete, same)) = inr (complete, whole ∙ ap Some same)
+    here (inr (complete, same)) = inr (complete, written_row text written whole same)
 
 -- counts that are 0 haven't risen
-pub none_risen : (before now : ℕ) → before ≡ 0 → now ≡ 0 → HasRisen 0 0 ⊎ HasRisen 0 0 ⊎ HasRisen before now → ⊥
+pub none_risen : {P : Type 0} → (before now : ℕ) → before ≡ 0 → now ≡ 0 → HasRisen 0 0 ⊎ (P × HasRisen 0 0) ⊎ HasRisen before now → ⊥
 none_risen before now zero none (inl risen) = let h : 0 < 0 = risen (omega arith) in omega arith
-none_risen before now zero none (inr (inl risen)) = let h : 0 < 0 = risen (omega arith) in omega arith
+none_risen before now zero none (inr (inl risen)) = let h : 0 < 0 = risen.1 (omega arith) in omega arith
 none_risen before now zero none (inr (inr risen)) = let h : before < now = risen (omega arith) in omega arith

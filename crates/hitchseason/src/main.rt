@@ -13,7 +13,11 @@ use std::process::ExitCode;
 use std::{env, io};
 
 #[cfg(test)]
+mod close_rules;
+#[cfg(test)]
 mod plain;
+#[cfg(test)]
+mod programs;
 #[cfg(test)]
 mod tests;
 

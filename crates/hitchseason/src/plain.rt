@@ -1,6 +1,6 @@
 //! The server once more, plainly and slowly: a script is cut at each LF and a line at each space, the cost is a running sum,
-//! and the noise comes out of the whole list of a number's draws. Tests compare it with the real one; it is no part of the
-//! program.
+//! and the noise comes out of the whole list of a number's draws. It reads no program but `size people`, and has `?` for the
+//! refusal of another. Tests compare it with the real one; it is no part of the program.
 
 ghost use Rattle.std.specs.Prelude.{◌<◌};
 
@@ -126,6 +126,19 @@ fn divisor(a: u64, b: u64) -> u64 {
     greatest
 }
 
+// Whether the words are those of `size people`, with any number of spaces between.
+fn is_size(words: &[&[u8]]) -> bool {
+    let mut left: &[&[u8]] = &[b"size", b"people"];
+    for word in words {
+        match left {
+            _ if word.is_empty() => {}
+            [next, more @ ..] if next == word => left = more,
+            _ => return false,
+        }
+    }
+    left.is_empty()
+}
+
 // The server between two lines.
 #[derive(Clone, Copy)]
 struct Server {
@@ -171,16 +184,8 @@ impl Server {
                 _ if *owner != b"census".as_slice() => String::from_str(alloc, "no 12 1\n"),
                 None => String::from_str(alloc, "no 13\n"),
                 Some(_) if !self.greeted => String::from_str(alloc, "no 14\n"),
-                Some(e) if program == [b"size".as_slice(), b"people"].as_slice() => self.query(
-                    alloc, e,
-                ),
-                Some(_) => {
-                    let mut len = program.len().saturating_sub(1);
-                    for word in program {
-                        len = len.saturating_add(word.len());
-                    }
-                    format!(in alloc; "no 39 0 {len}\n")
-                }
+                Some(e) if is_size(program) => self.query(alloc, e),
+                Some(_) => String::from_str(alloc, "?\n"),
             },
         }
     }

@@ -24,4 +24,4 @@ returns c =
     let exact = c.run_server-status.ensures.exact held script [] c.new-files.ensures c.new-source.ensures c.in_ok-sink.ensures.contents in
     let zero : c.run_server-status.new.sink.faults ≡ 0 = sym c.faults-faults.ensures.count ∙ c.if-prove.false in
     let sound = λ (is : c.run_server-status.result ≡ Fault). none_risen _ _ c.in_ok-sink.ensures.faults zero (c.run_server-status.ensures.fault is) in
-    finished _ _ exact.0 c.run_server-status.new.sink.bytes.items due (c.run_server-status.ensures.status held script c.new-files.ensures c.new-source.ensures) exact.2 exact.1 sound
+    finished _ _ exact.0 c.run_server-status.new.sink.bytes.items due exact.2 exact.1 sound
