@@ -8,6 +8,9 @@ cp "$top"/examples/first-run/{people.csv,key,script} .
 head -c 31 /dev/zero >key31
 head -c 33 /dev/zero >key33
 : >empty
+cp "$top/examples/check/query" program
+printf '%16001s' 'size people' >long_program
+printf '%16000s' 'size people' >longest_program
 replies='hello ann/answer 0 5 1000000/bye/'
 
 passed=0
@@ -28,6 +31,18 @@ words() {
 table() {
     printf "$3" >table.csv
     words "table '$3'" "$1" "$2" run table.csv key
+}
+# asked REPLY PROGRAM [R]: an ask of this program gets this reply, and `check` of it says the same, or for a no 39 that it is
+# accepted at sensitivity R.
+asked() {
+    local said=$1
+    [[ $1 != "no 39 "* ]] || said="ok $3"
+    printf 'hello ann\nask census 1 %s\n' "$2" >lines
+    "$program" run people.csv key <lines >output 2>errors
+    status=$?
+    judge "ask ${2:0:35}" 0 "hello ann/$1/"
+    printf '%s' "$2" >text
+    words "check ${2:0:33}" "$([[ $said == ok* ]] && echo 0 || echo 1)" "$said/" check people.csv census text
 }
 # lines STATUS OUTPUT TEXT: a script of this text, with printf's escapes.
 lines() {
@@ -56,6 +71,32 @@ words "a key without end" 3 refused\ /dev/zero/ run people.csv /dev/zero
 words "a table without end" 3 refused\ /dev/zero/ run /dev/zero key
 words "the table is a folder" 5 "" run . key
 words "the key is a folder" 5 "" run people.csv .
+
+words "check: the example" 0 'ok 2/' check people.csv census program
+words "check: no words more" 2 usage/ check
+words "check: one word more" 2 usage/ check people.csv
+words "check: two words more" 2 usage/ check people.csv census
+words "check: four words more" 2 usage/ check people.csv census program more
+words "check: a word that isn't UTF-8" 2 usage/ check people.csv census $'\xff'
+words "check: its words under run" 2 usage/ run people.csv census program
+words "check: capitals" 2 usage/ Check people.csv census program
+words "check: a table that is absent" 3 'refused nobody.csv/' check nobody.csv nobody nothing
+words "check: a table that isn't one" 3 'refused program/' check program census nothing
+words "check: neither table nor owner" 3 'refused nobody/' check program nobody nothing
+words "check: no such owner" 3 'refused nobody/' check people.csv nobody nothing
+words "check: an owner without a name" 3 'refused /' check people.csv '' nothing
+words "check: a FILE that is absent" 3 'refused nothing/' check people.csv census nothing
+words "check: the table is a folder" 5 '' check . nobody nothing
+words "check: FILE is a folder" 5 '' check people.csv census .
+words "check: an empty FILE" 1 'no 21 0/' check people.csv census empty
+words "check: a FILE of 16,000 bytes" 0 'ok 1/' check people.csv census longest_program
+words "check: a FILE of 16,001 bytes" 1 'no 20 16000/' check people.csv census long_program
+words "check: a FILE without end" 3 'refused /dev/zero/' check people.csv census /dev/zero
+head -c $((1 << 26)) /dev/zero | tr '\0' ' ' >spaces
+words "check: a FILE of 2^26 bytes" 1 'no 20 16000/' check people.csv census spaces
+echo >>spaces
+words "check: a FILE of 2^26 + 1 bytes" 3 'refused spaces/' check people.csv census spaces
+rm spaces
 
 awk 'BEGIN { print "age"; for (i = 0; i < 1048576; i++) print 1 }' >most.csv
 { cat most.csv; echo 1; } >more.csv
@@ -87,6 +128,43 @@ lines 0 'no 12 1/no 10 0/no 10 0/no 10 0/' 'hello ann\0\n\0\n\n\r'
 lines 0 'no 10 0/no 10 0/' '\377\376hello ann\n\303\251\n'
 lines 0 'no 14/no 12 1/' 'ask census 1 size people\nhello eve\n'
 lines 0 'bye/no 14/' 'bye\nask census 1 size people\n'
+asked "no 20 0" $'\xff'
+asked "no 20 0" '#'
+asked "no 20 0" nnnnnnnnnnnnnnnnnnnnnnnnnnnnnnnnn
+asked "no 20 0" 1125899906842625
+asked "no 20 5" 'size "a'
+asked "no 20 12" 'size people $'
+asked "no 20 4096" "$(printf '(%.0s' {1..4097})"
+asked "no 21 4096" "$(printf '(%.0s' {1..4096})"
+asked "no 21 0" ''
+asked "no 21 0" release
+asked "no 21 0" 'text 1'
+asked "no 21 1" size
+asked "no 21 2" 'size people people'
+asked "no 21 3" 'sum[0 people'
+asked "no 21 2" '![0] 1'
+asked "no 21 2" '![4294967296] 1'
+asked "no 22 65" "$(printf '1+%.0s' {1..64})1"
+asked "no 30 unbound 5 11" 'size nobody'
+asked "no 30 unbound 3 6" '1 -one'
+asked "no 30 mismatch 5 6" 'size 1'
+asked "no 30 mismatch 4 9" '1 + "two"'
+asked "no 30 mismatch 5 11" '1 + (people)'
+asked "no 30 notground 4 14" 'inl[num -o num] 1'
+asked "no 30 notground 0 57" 'if true then (fun(x : num) => x) else (fun(x : num) => x)  '
+asked "no 30 notflat 9 22" '(fn (x : bag (bag num)) => 1) 2'
+asked "no 30 notflat 5 27" 'map (fn (x : num) => people) people'
+asked "no 31 1 23 2" '(fun (x : num) => x + x) (size people)'
+asked "no 31 0 43 3/2" 'fun (x : ![2] num) => 3 * (let !y = x in y)'
+asked "no 31 0 40 inf" 'fun (x : num) => if x == 1 then 1 else 2'
+asked "no 32 0 30" '1125899906842624 * size people'
+asked "no 32 0 29" '65536 * (65536 * size people)'
+asked "no 33 people" 'if size people <= 3 then 0 else 100'
+asked "no 34" '"a"'
+asked "no 34" people
+asked "no 39 0 15" '2 * size people' 2
+asked "no 39 1 2" '(1)' 0
+asked "no 39 1 16" '(size people + 1)' 1
 long=$(head -c 16384 /dev/zero | tr '\0' a)
 printf '%s\n%sa\n' "$long" "$long" >lines
 "$program" run people.csv key <lines >output 2>errors
