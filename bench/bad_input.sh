@@ -1,8 +1,8 @@
 #!/usr/bin/env bash
-# The proved program on bad words, files, scripts and outputs: status and output of each beside what is wanted.
-# usage: bench/bad_input.sh    (PROGRAM=FILE tries another build). It ends with status 1 where one differs.
+# The program on bad words, files, scripts and outputs: status and output of each beside what is wanted.
+# usage: bench/bad_input.sh    (PROGRAM=FILE tries another build than tools/build's). It ends with status 1 where one differs.
 . "$(dirname "$0")/common.sh"
-need_program
+take_quick_program
 make_room
 cp "$top"/examples/first-run/{people.csv,key,script} .
 head -c 31 /dev/zero >key31
@@ -69,6 +69,8 @@ words "a key of 33 bytes" 3 refused\ key33/ run people.csv key33
 words "an empty key" 3 refused\ empty/ run people.csv empty
 words "a key without end" 3 refused\ /dev/zero/ run people.csv /dev/zero
 words "a table without end" 3 refused\ /dev/zero/ run /dev/zero key
+words "a path through the table" 3 refused\ people.csv/x/ run people.csv/x key
+words "a key by a path through a file" 3 refused\ key/x/ run people.csv key/x
 words "the table is a folder" 5 "" run . key
 words "the key is a folder" 5 "" run people.csv .
 
@@ -86,6 +88,8 @@ words "check: neither table nor owner" 3 'refused nobody/' check program nobody 
 words "check: no such owner" 3 'refused nobody/' check people.csv nobody nothing
 words "check: an owner without a name" 3 'refused /' check people.csv '' nothing
 words "check: a FILE that is absent" 3 'refused nothing/' check people.csv census nothing
+words "check: a path through the table" 3 'refused people.csv/x/' check people.csv/x nobody nothing
+words "check: a FILE by a path through a file" 3 'refused program/x/' check people.csv census program/x
 words "check: the table is a folder" 5 '' check . nobody nothing
 words "check: FILE is a folder" 5 '' check people.csv census .
 words "check: an empty FILE" 1 'no 21 0/' check people.csv census empty

@@ -11,6 +11,14 @@ need_program() {
     fi
 }
 
+# Takes the quick build, which isn't proved, where no other is named: for what is compared, and never for what is timed.
+take_quick_program() {
+    if [ -z "${PROGRAM:-}" ]; then
+        "$top/tools/build" || exit 2
+        program=$top/out/hitchseason
+    fi
+}
+
 need_tool() {
     if ! command -v "$1" >/dev/null; then
         echo "there is no $1: apt-get install -y $2" >&2

@@ -1,7 +1,7 @@
 #!/usr/bin/env python3
 """Compares the program's answers and charges with those of a plain second implementation, on random keys and epsilons.
 
-usage: bench/compare_noise.py [RUNS [SEED]]     (PROGRAM=FILE compares another build)
+usage: bench/compare_noise.py [RUNS [SEED]]     (PROGRAM=FILE compares another build than tools/build's)
 Each run has a key, a table, and a script of asks at random epsilons; the draws are ChaCha20's (64-bit counter and
 stream), two words each, low half first, from the stream that has the answer's number.
 """
@@ -14,7 +14,7 @@ import tempfile
 from fractions import Fraction
 
 TOP = os.path.dirname(os.path.dirname(os.path.abspath(__file__)))
-PROGRAM = os.environ.get("PROGRAM", f"{TOP}/crates/hitchseason/out/hitchseason")
+PROGRAM = os.environ.get("PROGRAM", f"{TOP}/out/hitchseason")
 BUDGET, CAPACITY, MOST_DRAWS = 10_000_000, 100, 4096
 
 
@@ -117,6 +117,8 @@ def written(epsilon, random):
 
 
 def main():
+    if "PROGRAM" not in os.environ:
+        subprocess.run([f"{TOP}/tools/build"], check=True)
     runs = int(sys.argv[1]) if len(sys.argv) > 1 else 50
     rng = random.Random(int(sys.argv[2]) if len(sys.argv) > 2 else 1)
     compared = 0

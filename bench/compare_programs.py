@@ -1,7 +1,7 @@
 #!/usr/bin/env python3
 """Compares what the program says of programs with what a second implementation says (tools/programs.py).
 
-usage: bench/compare_programs.py [COUNT [SEED]]     (PROGRAM=FILE compares another build)
+usage: bench/compare_programs.py [COUNT [SEED]]     (PROGRAM=FILE compares another build than tools/build's)
 COUNT random programs (20,000 where none is said): typed ones, the same with a token or a byte changed, terms of no type,
 deep nests, heaps of tokens and of bytes. Each is given to `check`, and each that fits a line to `ask`, many to a script, at an
 epsilon that the budget never allows. Ends with status 1 where an answer differs, or where a kind of answer didn't come.
@@ -16,7 +16,7 @@ from collections import Counter
 from concurrent.futures import ThreadPoolExecutor
 
 TOP = os.path.dirname(os.path.dirname(os.path.abspath(__file__)))
-PROGRAM = os.environ.get("PROGRAM", f"{TOP}/crates/hitchseason/out/hitchseason")
+PROGRAM = os.environ.get("PROGRAM", f"{TOP}/out/hitchseason")
 sys.path.insert(0, f"{TOP}/tools")
 from programs import Node, Refused, asked, checked, sensitivity_text  # noqa: E402
 
@@ -441,6 +441,8 @@ class Comparison:
 
 
 def main():
+    if "PROGRAM" not in os.environ:
+        subprocess.run([f"{TOP}/tools/build"], check=True)
     count = int(sys.argv[1]) if len(sys.argv) > 1 else 20_000
     rng = random.Random(int(sys.argv[2]) if len(sys.argv) > 2 else 1)
     with tempfile.TemporaryDirectory() as room, ThreadPoolExecutor(3) as pool:

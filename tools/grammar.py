@@ -319,6 +319,11 @@ with open(root + '/specs/Rows.antt', 'w') as f:
     for x in PHRASES:
         f.write('    (' + antt(sorted(follow[x])) + ') ∷\n')
     f.write('    []\n')
+    f.write('\n-- in each phrase, one more than a rule, and then the classes of token before which it is chosen\nunfoldable pub choice_rows : List (List (List ℕ))\nchoice_rows =\n')
+    for x in PHRASES:
+        chosen = [[p + 1] + [c for c in range(CLASSES) if choice[x][c] == p + 1] for p in range(len(rules)) if p + 1 in choice[x]]
+        f.write('    (' + '\n    '.join('(' + antt(row) + ') ∷' for row in chosen) + ' []) ∷\n')
+    f.write('    []\n')
     for name, comment, row in [
             ('least_rows', 'the rule by which a shortest word comes', [least[x] for x in PHRASES]),
             ('cost_rows', 'how many steps that takes', [cost[x] for x in PHRASES]),
@@ -328,7 +333,7 @@ with open(root + '/specs/Rows.antt', 'w') as f:
     f.write('\n-- the sorts of the parts that are taken, the last one first\nunfoldable pub need_rows : List (List ℕ)\nneed_rows = ' + ' ∷ '.join('(' + antt(PHRASES[x]) + ')' for x in PHRASES) + ' ∷ []\n')
     f.write('\n-- and of the one that is given\nunfoldable pub gift_rows : List ℕ\ngift_rows = ' + antt([GIVES[x] for x in PHRASES]) + '\n')
 with open(root + '/src/tables.rt', 'w') as f:
-    f.write('// Written by tools/grammar.py. The proofs test each table against the grammar of specs/Table.\nuse crate::grammar::Item::{Make, Read, Take};\nuse crate::grammar::Terminal::{Keyword, Named, Numeral, Positive, Quoted, Symbol};\nuse crate::grammar::{Action, Item, Joint, Phrase};\nuse fz_ast::{Arrow, Binary, Ranged, Side, Unary};\nuse fz_lexer::{Sign, Word};\n\n')
+    f.write('//! Written by tools/grammar.py. The proofs test each table against the grammar of specs/Table.\nuse crate::grammar::Item::{Make, Read, Take};\nuse crate::grammar::Terminal::{Keyword, Named, Numeral, Positive, Quoted, Symbol};\nuse crate::grammar::{Action, Item, Joint, Phrase};\nuse fz_ast::{Arrow, Binary, Ranged, Side, Unary};\nuse fz_lexer::{Sign, Word};\n\n')
 
     def rust(i):
         t, x = i
@@ -366,7 +371,7 @@ def lines(names):
 
 
 with open(root + '/src/grammar.rt', 'w') as f:
-    f.write('''// What the grammar is made of.
+    f.write('''//! What the grammar is made of.
 use fz_ast::{Arrow, Binary, Ranged, Side, Unary};
 use fz_lexer::{Sign, Word};
 
