@@ -6,7 +6,7 @@ use Rattle.budget_core.specs.declared.records.View.{View}
 use Rattle.budget_core.specs.declared.records.Record.{Record}
 use Rattle.budget_core.specs.declared.records.Record.TheVariants.{Reserve, Settle}
 use Rattle.budget_core.specs.declared.entry.Ask.{Ask}
-use Rattle.budget_core.specs.Bare.{bare_outcome, bare_record, bare}
+use Rattle.budget_core.specs.Bare.{bare_outcome, bare_record, without_answers}
 use Rattle.budget_core.specs.Cost.{charged_to, charges_of, cost_of}
 use Rattle.budget_core.specs.Counts.{reservations_of, outcome_of, is_open_in, open_from}
 use Rattle.budget_core.specs.Entries.{Entry}
@@ -18,44 +18,44 @@ sum_by-mapped : {X : Type 0} → (f g : X → ℕ) (h : X → X) → ((x : X) �
 sum_by-mapped f g h same [] = refl
 sum_by-mapped f g h same (x ∷ xs) = omega (arith, sum_by-mapped f g h same xs, same x, sum_by-cons f (h x) (map h xs), sum_by-cons g x xs)
 
-charges_of-bare : (view : View) (records : List Record) → charges_of view (bare records) ≡ charges_of view records
-charges_of-bare view records = sum_by-mapped (charged_to view) (charged_to view) bare_record same records
+charges_of-without_answers : (view : View) (records : List Record) → charges_of view (without_answers records) ≡ charges_of view records
+charges_of-without_answers view records = sum_by-mapped (charged_to view) (charged_to view) bare_record same records
   where
     same : (r : Record) → charged_to view (bare_record r) ≡ charged_to view r
-    same (Reserve number seen e p q taken analyst) = refl
+    same (Reserve reservation) = refl
     same (Settle number outcome) = refl
 
-pub cost_of-bare : (records : List Record) → cost_of (bare records) ≡ cost_of records
-cost_of-bare records = cost_of-same (bare records) records (λ view. charges_of-bare view records)
+pub cost_of-without_answers : (records : List Record) → cost_of (without_answers records) ≡ cost_of records
+cost_of-without_answers records = cost_of-same (without_answers records) records (λ view. charges_of-without_answers view records)
 
-pub cost_with-bare : (records : List Record) (ask : Ask) → cost_with (bare records) ask ≡ cost_with records ask
-cost_with-bare records ask =
-    let before : Record = reservation_for (bare records) ask 0 in
+pub cost_with-without_answers : (records : List Record) (ask : Ask) → cost_with (without_answers records) ask ≡ cost_with records ask
+cost_with-without_answers records ask =
+    let before : Record = reservation_for (without_answers records) ask 0 in
     let after : Record = reservation_for records ask 0 in
-    cost_of-same (bare records ++ before ∷ []) (records ++ after ∷ [])
-    (λ view. charges_of-append view (bare records) before ∙ ap (λ k. k + charged_to view after) (charges_of-bare view records) ∙ sym (charges_of-append view records after))
+    cost_of-same (without_answers records ++ before ∷ []) (records ++ after ∷ [])
+    (λ view. charges_of-append view (without_answers records) before ∙ ap (λ k. k + charged_to view after) (charges_of-without_answers view records) ∙ sym (charges_of-append view records after))
 
-pub reservations_of-bare : (records : List Record) → length (reservations_of (bare records)) ≡ length (reservations_of records)
-reservations_of-bare [] = refl
-reservations_of-bare (Reserve number view e p q taken analyst ∷ records) = omega (arith, reservations_of-bare records)
-reservations_of-bare (Settle number outcome ∷ records) = reservations_of-bare records
+pub reservations_of-without_answers : (records : List Record) → length (reservations_of (without_answers records)) ≡ length (reservations_of records)
+reservations_of-without_answers [] = refl
+reservations_of-without_answers (Reserve reservation ∷ records) = omega (arith, reservations_of-without_answers records)
+reservations_of-without_answers (Settle number outcome ∷ records) = reservations_of-without_answers records
 
 settled_step : {X : Type 0} → (hit : Bool) (v w : X) (old new : Option X) → is_some old ≡ is_some new → is_some (cond hit (Some v) old) ≡ is_some (cond hit (Some w) new)
 settled_step true v w old new same = refl
 settled_step false v w old new same = same
 
-settled-bare : (records : List Record) (n : ℕ) → is_some (outcome_of (bare records) n) ≡ is_some (outcome_of records n)
-settled-bare [] n = refl
-settled-bare (Reserve number view e p q taken analyst ∷ records) n = settled-bare records n
-settled-bare (Settle number outcome ∷ records) n = settled_step (n == number) (bare_outcome outcome) outcome (outcome_of (bare records) n) (outcome_of records n) (settled-bare records n)
+settled-without_answers : (records : List Record) (n : ℕ) → is_some (outcome_of (without_answers records) n) ≡ is_some (outcome_of records n)
+settled-without_answers [] n = refl
+settled-without_answers (Reserve reservation ∷ records) n = settled-without_answers records n
+settled-without_answers (Settle number outcome ∷ records) n = settled_step (n == number) (bare_outcome outcome) outcome (outcome_of (without_answers records) n) (outcome_of records n) (settled-without_answers records n)
 
-pub open_from-bare : (start : ℕ) (records : List Record) → open_from start (bare records) ≡ open_from start records
-open_from-bare start records = sum_by-mapped (λ r. one_if (is_open_in (bare records) start r)) (λ r. one_if (is_open_in records start r)) bare_record same records
+pub open_from-without_answers : (start : ℕ) (records : List Record) → open_from start (without_answers records) ≡ open_from start records
+open_from-without_answers start records = sum_by-mapped (λ r. one_if (is_open_in (without_answers records) start r)) (λ r. one_if (is_open_in records start r)) bare_record same records
   where
-    same : (r : Record) → one_if (is_open_in (bare records) start (bare_record r)) ≡ one_if (is_open_in records start r)
-    same (Reserve number view e p q taken analyst) = ap (λ b. one_if (nat_le start number && not b)) (settled-bare records number)
+    same : (r : Record) → one_if (is_open_in (without_answers records) start (bare_record r)) ≡ one_if (is_open_in records start r)
+    same (Reserve reservation) = ap (λ b. one_if (nat_le start reservation.number && not b)) (settled-without_answers records reservation.number)
     same (Settle number outcome) = refl
 
-pub money_verdict-bare : (entry : Entry) (start : ℕ) (records : List Record) (ask : Ask) → money_verdict entry start (bare records) ask ≡ money_verdict entry start records ask
-money_verdict-bare entry start records ask =
-    cc (cost_of-bare records, cost_with-bare records ask, reservations_of-bare records, open_from-bare start records, length-map records bare_record)
+pub money_verdict-without_answers : (entry : Entry) (start : ℕ) (records : List Record) (ask : Ask) → money_verdict entry start (without_answers records) ask ≡ money_verdict entry start records ask
+money_verdict-without_answers entry start records ask =
+    cc (cost_of-without_answers records, cost_with-without_answers records ask, reservations_of-without_answers records, open_from-without_answers start records, length-map records bare_record)

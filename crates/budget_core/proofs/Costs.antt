@@ -1,13 +1,15 @@
 -- what one more record costs
-use Rattle.std.proofs.Common.{◌≡◌, ℕ, zero, suc, ◌+◌, ◌-◌, ◌*◌, ◌/◌, ◌%◌, ◌≤◌, ◌<◌, min, List, [], ◌∷◌, ◌++◌, sum_by, refl, sym, ◌∙◌, ap, arith, add-zero}
+use Rattle.std.proofs.Common.{◌≡◌, ℕ, zero, suc, ◌+◌, ◌-◌, ◌*◌, ◌/◌, ◌%◌, ◌≤◌, ◌<◌, min, List, [], ◌∷◌, ◌++◌, sum_by, refl, sym, ◌∙◌, ap, arith, add-zero, if◌then◌else◌}
 use Rattle.std.specs.Int.{div_ceil}
 use Rattle.std.proofs.lemmas.List.Sums.{sum_by_push}
 use Rattle.std.proofs.lemmas.Nat.{div-mul-add, div-add-mod', mod_below}
 use Rattle.budget_core.specs.declared.records.View.{View}
 use Rattle.budget_core.specs.declared.records.View.TheVariants.{Whole, Part}
 use Rattle.budget_core.specs.declared.records.Outcome.{Outcome}
+use Rattle.budget_core.specs.declared.records.Reservation.{Reservation}
 use Rattle.budget_core.specs.declared.records.Record.{Record}
 use Rattle.budget_core.specs.declared.records.Record.TheVariants.{Reserve, Settle}
+use Rattle.budget_core.specs.Views.{same_view}
 use Rattle.budget_core.specs.Counts.{taken_of}
 use Rattle.budget_core.specs.Entries.{Entry}
 use Rattle.budget_core.specs.Legal.{MayFollow, IsHistory}
@@ -66,19 +68,24 @@ pub cost_of-append-Settle : (records : List Record) (number : ℕ) (outcome : Ou
 cost_of-append-Settle records number outcome = cost_of-same (records ++ Settle number outcome ∷ []) records (λ view. charges_of-append view records (Settle number outcome) ∙ add-zero (charges_of view records))
 
 -- By how much it says that the cost rose doesn't change what a reservation costs.
-pub cost_of-append-taken : (records : List Record) (number : ℕ) (view : View) (e p q taken analyst other : ℕ) → cost_of (records ++ Reserve number view e p q taken analyst ∷ []) ≡ cost_of (records ++ Reserve number view e p q other analyst ∷ [])
-cost_of-append-taken records number view e p q taken analyst other =
-    cost_of-same (records ++ Reserve number view e p q taken analyst ∷ []) (records ++ Reserve number view e p q other analyst ∷ [])
-    (λ seen. charges_of-append seen records (Reserve number view e p q taken analyst) ∙ sym (charges_of-append seen records (Reserve number view e p q other analyst)))
+pub cost_of-append-taken : (records : List Record) (reservation : Reservation) (other : ℕ)
+    → cost_of (records ++ Reserve reservation ∷ []) ≡ cost_of (records ++ Reserve (record reservation { taken = other }) ∷ [])
+cost_of-append-taken records reservation other =
+    cost_of-same (records ++ Reserve reservation ∷ []) (records ++ Reserve (record reservation { taken = other }) ∷ [])
+    (λ seen. charges_of-append seen records (Reserve reservation) ∙ sym (charges_of-append seen records (Reserve (record reservation { taken = other }))))
 
 -- One more reservation of the whole view costs its charge.
-pub cost_of-append-Whole : (records : List Record) (number e p q taken analyst : ℕ) → cost_of (records ++ Reserve number Whole e p q taken analyst ∷ []) ≡ cost_of records + charge_of e p q
+pub cost_of-append-Whole : (records : List Record) (reservation : Reservation) → reservation.view ≡ Whole
+    → cost_of (records ++ Reserve reservation ∷ []) ≡ cost_of records + charge_of reservation.e reservation.p reservation.q
 unfolding cost_of
-cost_of-append-Whole records number e p q taken analyst =
-    let next : Record = Reserve number Whole e p q taken analyst in
-    let whole : charges_of Whole (records ++ next ∷ []) ≡ charges_of Whole records + charge_of e p q = charges_of-append Whole records next in
-    let parts : total_below 8 (partition_cost (records ++ next ∷ [])) ≡ total_below 8 (partition_cost records)
-    = partitions-same (records ++ next ∷ []) records (λ p j. charges_of-append (Part p j) records next ∙ add-zero (charges_of (Part p j) records)) in
+cost_of-append-Whole records reservation whole_view =
+    let next : Record = Reserve reservation in
+    let charge : ℕ = charge_of reservation.e reservation.p reservation.q in
+    let whole : charges_of Whole (records ++ next ∷ []) ≡ charges_of Whole records + charge
+    = charges_of-append Whole records next ∙ ap (λ seen. charges_of Whole records + (if same_view Whole seen then charge else 0)) whole_view in
+    let part : (p j : ℕ) → charges_of (Part p j) (records ++ next ∷ []) ≡ charges_of (Part p j) records
+    = λ p j. charges_of-append (Part p j) records next ∙ ap (λ seen. charges_of (Part p j) records + (if same_view (Part p j) seen then charge else 0)) whole_view ∙ add-zero (charges_of (Part p j) records) in
+    let parts : total_below 8 (partition_cost (records ++ next ∷ [])) ≡ total_below 8 (partition_cost records) = partitions-same (records ++ next ∷ []) records part in
     omega arith
 
 -- The cost never falls.
@@ -100,7 +107,7 @@ pub adds_up : (entry : Entry) (records : List Record) → IsHistory entry record
 adds_up entry = history-induction entry (λ records. sum_by taken_of records ≡ cost_of records) (sym cost_of-nil) step
   where
     step : (xs : List Record) (x : Record) → IsHistory entry xs → MayFollow entry xs x → sum_by taken_of xs ≡ cost_of xs → sum_by taken_of (xs ++ x ∷ []) ≡ cost_of (xs ++ x ∷ [])
-    step xs (Reserve number view e p q taken analyst) h may before =
-        sum_by_push taken_of xs (Reserve number view e p q taken analyst) ∙ ap (λ k. k + taken) before ∙ sym may.rise
+    step xs (Reserve reservation) h may before =
+        sum_by_push taken_of xs (Reserve reservation) ∙ ap (λ k. k + reservation.taken) before ∙ sym may.rise
     step xs (Settle number outcome) h may before =
         sum_by_push taken_of xs (Settle number outcome) ∙ add-zero (sum_by taken_of xs) ∙ before ∙ sym (cost_of-append-Settle xs number outcome)

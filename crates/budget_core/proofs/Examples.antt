@@ -1,103 +1,265 @@
 -- worked examples, by computation
-use Rattle.std.proofs.Common.{◌≡◌, ℕ, zero, suc, pos, List, [], ◌∷◌, ◌++◌, Ok, Err, refl}
+use Rattle.std.proofs.Common.{◌≡◌, ℕ, zero, suc, pos, negsuc, true, false, List, [], ◌∷◌, ◌++◌, map, Some, None, Ok, Err, refl}
 use Rattle.budget_core.specs.declared.records.View.{View}
 use Rattle.budget_core.specs.declared.records.View.TheVariants.{Whole, Part}
-use Rattle.budget_core.specs.declared.records.Outcome.TheVariants.{Answered}
+use Rattle.budget_core.specs.declared.records.Outcome.TheVariants.{Answered, Exhausted, Lost}
 use Rattle.budget_core.specs.declared.records.Record.{Record}
 use Rattle.budget_core.specs.declared.records.Record.TheVariants.{Reserve, Settle}
 use Rattle.budget_core.specs.declared.entry.Ask.{Ask}
 use Rattle.budget_core.specs.declared.entry.ReserveFault.TheVariants.{OverBudget, Full}
 use Rattle.budget_core.specs.Cost.{charge_of, partition_cost, cost_of}
-use Rattle.budget_core.specs.Counts.{open_from}
+use Rattle.budget_core.specs.Views.{same_view}
+use Rattle.budget_core.specs.Bare.{without_answers}
+use Rattle.budget_core.specs.Counts.{reservations_of, reservation_of, outcome_of, settles, number_of, taken_of, open_from}
 use Rattle.budget_core.specs.Entries.{Entry}
-use Rattle.budget_core.specs.Ledger.{money_verdict}
+use Rattle.budget_core.specs.Ledger.{start_of, money_verdict, records_after}
 
--- The charge is rounded up: 3/2 at one millionth costs 2 millionths.
+-- The charge is p * e / q, rounded up: a whole result stays, one that is just above it goes to the next.
 rounded_up : charge_of 1 3 2 ≡ 2
 rounded_up = refl
 
 exact : charge_of 1000000 2 1 ≡ 2000000
 exact = refl
 
-entry_of : ℕ → ℕ → Entry
+just_below : charge_of 5 1 3 ≡ 2
+just_below = refl
+
+whole : charge_of 6 1 3 ≡ 2
+whole = refl
+
+just_above : charge_of 7 1 3 ≡ 3
+just_above = refl
+
+smallest : charge_of 1 1 4294967295 ≡ 1
+smallest = refl
+
+nothing : charge_of 1000000000 0 1 ≡ 0
+nothing = refl
+
+greatest : charge_of 1000000000 4294967295 1 ≡ 4294967295000000000
+greatest = refl
+
+abbrev entry_of : ℕ → ℕ → Entry
 entry_of budget capacity = record { budget = budget; capacity = capacity; analysts = 2; keys = 2 ∷ [] }
 
-ask_of : View → ℕ → Ask
+abbrev ask_of : View → ℕ → Ask
 ask_of view e = record { analyst = 0; view = view; e = e; p = 1; q = 1 }
 
+-- a reservation of sensitivity 1 by analyst 0
+abbrev made : ℕ → View → ℕ → ℕ → Record
+made number view e taken = Reserve (record { number = number; view = view; e = e; p = 1; q = 1; taken = taken; analyst = 0 })
+
 -- n asks of the whole view at epsilon 1, each answered
-answered : ℕ → List Record
+abbrev answered : ℕ → List Record
 answered zero = []
-answered (suc n) = answered n ++ Reserve n Whole 1000000 1 1 1000000 0 ∷ Settle n (Answered (pos 5)) ∷ []
+answered (suc n) = answered n ++ made n Whole 1000000 1000000 ∷ Settle n (Answered (pos 5)) ∷ []
 
 -- Ten fit into a budget of 10; the eleventh would make it 11.
 first_ask : money_verdict (entry_of 10000000 100) 0 (answered 0) (ask_of Whole 1000000) ≡ Ok (record { number = 0; taken = 1000000; seen = 1 })
-unfolding entry_of ask_of answered cost_of partition_cost
+unfolding cost_of partition_cost
 first_ask = refl
 
 tenth_ask : money_verdict (entry_of 10000000 100) 0 (answered 9) (ask_of Whole 1000000) ≡ Ok (record { number = 9; taken = 1000000; seen = 19 })
-unfolding entry_of ask_of answered cost_of partition_cost
+unfolding cost_of partition_cost
 tenth_ask = refl
 
 eleventh_ask : money_verdict (entry_of 10000000 100) 0 (answered 10) (ask_of Whole 1000000) ≡ Err (OverBudget 10000000 11000000 10000000 20)
-unfolding entry_of ask_of answered cost_of partition_cost
+unfolding cost_of partition_cost
 eleventh_ask = refl
 
 -- With a capacity of 3 one ask is answered, and the second finds two records and no room for two more.
 no_room : money_verdict (entry_of 10000000 3) 0 (answered 1) (ask_of Whole 1000000) ≡ Err (Full 2 0 3)
-unfolding entry_of ask_of answered cost_of partition_cost
+unfolding cost_of partition_cost
 no_room = refl
 
 -- Parts of one partition cost as much as the dearest one.
-part_a : List Record
-part_a = Reserve 0 (Part 0 0) 6 1 1 6 0 ∷ Settle 0 (Answered (pos 1)) ∷ []
+abbrev part_a : List Record
+part_a = made 0 (Part 0 0) 6 6 ∷ Settle 0 (Answered (pos 1)) ∷ []
 
-parts_ab : List Record
-parts_ab = part_a ++ Reserve 1 (Part 0 1) 6 1 1 0 0 ∷ Settle 1 (Answered (pos 1)) ∷ []
+abbrev parts_ab : List Record
+parts_ab = part_a ++ made 1 (Part 0 1) 6 0 ∷ Settle 1 (Answered (pos 1)) ∷ []
 
-parts_aba : List Record
-parts_aba = parts_ab ++ Reserve 2 (Part 0 0) 4 1 1 4 0 ∷ Settle 2 (Answered (pos 1)) ∷ []
+abbrev parts_aba : List Record
+parts_aba = parts_ab ++ made 2 (Part 0 0) 4 4 ∷ Settle 2 (Answered (pos 1)) ∷ []
 
 costs_a : cost_of part_a ≡ 6
-unfolding part_a cost_of partition_cost
+unfolding cost_of partition_cost
 costs_a = refl
 
 costs_ab : cost_of parts_ab ≡ 6
-unfolding part_a parts_ab cost_of partition_cost
+unfolding cost_of partition_cost
 costs_ab = refl
 
 costs_aba : cost_of parts_aba ≡ 10
-unfolding part_a parts_ab parts_aba cost_of partition_cost
+unfolding cost_of partition_cost
 costs_aba = refl
 
 free_part : money_verdict (entry_of 10 100) 0 part_a (ask_of (Part 0 1) 6) ≡ Ok (record { number = 1; taken = 0; seen = 3 })
-unfolding entry_of ask_of part_a cost_of partition_cost
+unfolding cost_of partition_cost
 free_part = refl
 
 dearer_part : money_verdict (entry_of 10 100) 0 parts_ab (ask_of (Part 0 0) 4) ≡ Ok (record { number = 2; taken = 4; seen = 5 })
-unfolding entry_of ask_of part_a parts_ab cost_of partition_cost
+unfolding cost_of partition_cost
 dearer_part = refl
 
 whole_after_parts : money_verdict (entry_of 10 100) 0 parts_aba (ask_of Whole 1) ≡ Err (OverBudget 10 11 10 6)
-unfolding entry_of ask_of part_a parts_ab parts_aba cost_of partition_cost
+unfolding cost_of partition_cost
 whole_after_parts = refl
 
--- A reservation that an earlier run left open keeps its cost, and no room.
-left_open : List Record
-left_open = Reserve 0 Whole 4 1 1 4 0 ∷ []
+-- Two partitions each cost as much as their dearest part, beside the whole.
+abbrev two_partitions : List Record
+two_partitions = parts_aba ++ made 3 (Part 1 0) 3 3 ∷ made 4 (Part 1 1) 2 0 ∷ made 5 Whole 5 5 ∷ []
 
+of_area : partition_cost two_partitions 0 ≡ 10
+unfolding partition_cost
+of_area = refl
+
+of_the_other : partition_cost two_partitions 1 ≡ 3
+unfolding partition_cost
+of_the_other = refl
+
+of_none : partition_cost two_partitions 2 ≡ 0
+unfolding partition_cost
+of_none = refl
+
+costs_both : cost_of two_partitions ≡ 18
+unfolding cost_of partition_cost
+costs_both = refl
+
+-- The last part of the last partition costs as well.
+last_of_all : cost_of (made 0 (Part 7 249) 6 6 ∷ made 1 Whole 1 1 ∷ []) ≡ 7
+unfolding cost_of partition_cost
+last_of_all = refl
+
+no_records : cost_of [] ≡ 0
+unfolding cost_of partition_cost
+no_records = refl
+
+-- An ask of sensitivity 0 costs nothing, and is granted on a budget that is spent.
+for_nothing : money_verdict (entry_of 10 100) 0 parts_aba (record { analyst = 0; view = Whole; e = 1000000000; p = 0; q = 1 }) ≡ Ok (record { number = 3; taken = 0; seen = 7 })
+unfolding cost_of partition_cost
+for_nothing = refl
+
+-- A sensitivity of 3/2 at one millionth takes 2: granted where 2 are left, and over by one where 1 is.
+abbrev three_halves : Ask
+three_halves = record { analyst = 1; view = Whole; e = 1; p = 3; q = 2 }
+
+exactly_the_budget : money_verdict (entry_of 12 100) 0 parts_aba three_halves ≡ Ok (record { number = 3; taken = 2; seen = 7 })
+unfolding cost_of partition_cost
+exactly_the_budget = refl
+
+one_over : money_verdict (entry_of 11 100) 0 parts_aba three_halves ≡ Err (OverBudget 10 12 11 6)
+unfolding cost_of partition_cost
+one_over = refl
+
+-- A part that costs nothing more is granted where the whole is over budget.
+part_at_the_end : money_verdict (entry_of 10 100) 0 parts_aba (ask_of (Part 0 1) 4) ≡ Ok (record { number = 3; taken = 0; seen = 7 })
+unfolding cost_of partition_cost
+part_at_the_end = refl
+
+-- Six records and two more fill a capacity of 8 exactly. One place less is too little, and over budget comes first.
+exactly_full : money_verdict (entry_of 100 8) 0 parts_aba (ask_of Whole 1) ≡ Ok (record { number = 3; taken = 1; seen = 7 })
+unfolding cost_of partition_cost
+exactly_full = refl
+
+one_too_many : money_verdict (entry_of 100 7) 0 parts_aba (ask_of Whole 1) ≡ Err (Full 6 0 7)
+unfolding cost_of partition_cost
+one_too_many = refl
+
+over_before_full : money_verdict (entry_of 10 7) 0 parts_aba (ask_of Whole 1) ≡ Err (OverBudget 10 11 10 6)
+unfolding cost_of partition_cost
+over_before_full = refl
+
+-- a reservation that was left open
+abbrev left_open : List Record
+left_open = made 0 Whole 4 4 ∷ []
+
+-- A reservation that this run left open keeps a place.
+place_kept : money_verdict (entry_of 10 4) 0 left_open (ask_of Whole 1) ≡ Ok (record { number = 1; taken = 1; seen = 2 })
+unfolding cost_of partition_cost
+place_kept = refl
+
+no_place_beside : money_verdict (entry_of 10 3) 0 left_open (ask_of Whole 1) ≡ Err (Full 1 1 3)
+unfolding cost_of partition_cost
+no_place_beside = refl
+
+-- What a grant adds has the ask's fields; a refusal adds nothing.
+granted : records_after left_open three_halves (Ok (record { number = 1; taken = 2; seen = 2 }))
+    ≡ made 0 Whole 4 4 ∷ Reserve (record { number = 1; view = Whole; e = 1; p = 3; q = 2; taken = 2; analyst = 1 }) ∷ []
+granted = refl
+
+refused : records_after left_open three_halves (Err (Full 1 1 3)) ≡ left_open
+refused = refl
+
+-- the records of a run that found one reservation settled and one open, and settled its own
+abbrev records : List Record
+records = part_a ++ made 1 Whole 4 4 ∷ made 2 Whole 1 1 ∷ Settle 2 Lost ∷ []
+
+numbered : map number_of (reservations_of records) ≡ 0 ∷ 1 ∷ 2 ∷ []
+numbered = refl
+
+numbers : map number_of records ≡ 0 ∷ 0 ∷ 1 ∷ 2 ∷ 2 ∷ []
+numbers = refl
+
+took : map taken_of records ≡ 6 ∷ 0 ∷ 4 ∷ 1 ∷ 0 ∷ []
+took = refl
+
+reserved : reservation_of records 1 ≡ Some (made 1 Whole 4 4)
+reserved = refl
+
+not_reserved : reservation_of records 3 ≡ None
+not_reserved = refl
+
+settled_without_one : reservation_of (Settle 3 Lost ∷ []) 3 ≡ None
+settled_without_one = refl
+
+answered_0 : outcome_of records 0 ≡ Some (Answered (pos 1))
+answered_0 = refl
+
+open_1 : outcome_of records 1 ≡ None
+open_1 = refl
+
+lost_2 : outcome_of records 2 ≡ Some Lost
+lost_2 = refl
+
+settlements : map (settles 2) records ≡ false ∷ false ∷ false ∷ false ∷ true ∷ []
+settlements = refl
+
+starts_after_the_found : start_of (record { entry = entry_of 10 100; found = part_a ++ made 1 Whole 4 4 ∷ []; records = records }) ≡ 2
+starts_after_the_found = refl
+
+-- Only answers are set to 0.
+answers_are_gone : without_answers (made 0 Whole 4 4 ∷ Settle 0 (Answered (negsuc 6)) ∷ Settle 1 Exhausted ∷ Settle 2 Lost ∷ [])
+    ≡ made 0 Whole 4 4 ∷ Settle 0 (Answered (pos 0)) ∷ Settle 1 Exhausted ∷ Settle 2 Lost ∷ []
+answers_are_gone = refl
+
+-- Views are the same by partition and part.
+same_part : same_view (Part 1 2) (Part 1 2) ≡ true
+same_part = refl
+
+other_part : same_view (Part 1 2) (Part 1 3) ≡ false
+other_part = refl
+
+other_partition : same_view (Part 0 2) (Part 1 2) ≡ false
+other_partition = refl
+
+part_of_the_whole : same_view Whole (Part 0 0) ≡ false
+part_of_the_whole = refl
+
+whole_of_a_part : same_view (Part 0 0) Whole ≡ false
+whole_of_a_part = refl
+
+-- A reservation that an earlier run left open keeps its cost, and no room.
 still_costs : cost_of left_open ≡ 4
-unfolding left_open cost_of partition_cost
+unfolding cost_of partition_cost
 still_costs = refl
 
 still_open : open_from 0 left_open ≡ 1
-unfolding left_open
 still_open = refl
 
 not_ours : open_from 1 left_open ≡ 0
-unfolding left_open
 not_ours = refl
 
 next_after_open : money_verdict (entry_of 10 3) 1 left_open (ask_of Whole 6) ≡ Ok (record { number = 1; taken = 6; seen = 2 })
-unfolding entry_of ask_of left_open cost_of partition_cost
+unfolding cost_of partition_cost
 next_after_open = refl

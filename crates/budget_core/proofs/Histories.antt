@@ -54,10 +54,10 @@ pub follows-push : (entry : Entry) (records : List Record) (next : Record) (k : 
 follows-push entry records next k other may known at = elim (push_cases records next k other at) [
   | inl before ↦
       let same : take k (records ++ next ∷ []) ≡ take k records = take-append-le k records (next ∷ []) (omega arith) in
-      subst (λ (front : List Record). MayFollow entry front other) (sym same) (known before.1)
+      subst (λ (all : List Record). MayFollow entry all other) (sym same) (known before.1)
   | inr seam ↦
       let same : take k (records ++ next ∷ []) ≡ records = ap (λ n. take n (records ++ next ∷ [])) seam.0 ∙ take-append_seam records (next ∷ []) in
-      subst (λ (front : List Record). MayFollow entry front other) (sym same) (subst (MayFollow entry records) seam.1 may)
+      subst (λ (all : List Record). MayFollow entry all other) (sym same) (subst (MayFollow entry records) seam.1 may)
 ]
 
 -- one record more
@@ -84,7 +84,7 @@ history-induction entry P base step records h =
 
 -- a list begins with its prefix
 pub prefix_split : {X : Type 0} → (found records : List X) → take (length found) records ≡ found → found ++ drop (length found) records ≡ records
-prefix_split found records begins = ap (λ front. front ++ drop (length found) records) (sym begins) ∙ take-append-drop (length found) records
+prefix_split found records begins = ap (λ all. all ++ drop (length found) records) (sym begins) ∙ take-append-drop (length found) records
 
 -- What holds of the found records, and of one record more, holds of legal records.
 pub legal-induction : (entry : Entry) (found : List Record) (P : List Record → Type 0) → P found → ((xs : List Record) (x : Record) → MayFollow entry xs x → P xs → P (xs ++ x ∷ []))

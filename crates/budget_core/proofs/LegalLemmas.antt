@@ -1,14 +1,13 @@
 -- legal records with one record more
-use Rattle.std.proofs.Common.{◌≡◌, ◌≢◌, ℕ, ◌+◌, ◌≤◌, ◌<◌, Bool, true, false, cond, ◌==◌, nat_lt, List, [], ◌∷◌, ◌++◌, length, take, drop, slice_get, Some, None, is_some, Ok, Err, refl, sym, ◌∙◌, ap, subst, arith, length-append}
+use Rattle.std.proofs.Common.{◌≡◌, ◌≢◌, ℕ, ◌+◌, ◌≤◌, ◌<◌, Bool, true, false, cond, ◌==◌, nat_lt, List, [], ◌∷◌, ◌++◌, length, take, drop, Some, None, is_some, Ok, Err, refl, sym, ◌∙◌, ap, subst, arith, length-append}
 use Rattle.std.proofs.lemmas.Bool.{cases_lt, ltb-true, ltb-false, cond-false, ne_eqb}
 use Rattle.std.proofs.lemmas.List.{take-append-le, length-take, take_all}
-use Rattle.std.proofs.lemmas.Option.{slice_get_within}
 use Rattle.std.specs.Option.{option_or}
 use Rattle.std.proofs.lemmas.List.Elements.{filter-append}
 use Rattle.std.proofs.Math.Seq.{take-length}
 use mathlib.Core.Logic.{inl, inr}
-use Rattle.budget_core.specs.declared.records.View.{View}
 use Rattle.budget_core.specs.declared.records.Outcome.{Outcome}
+use Rattle.budget_core.specs.declared.records.Reservation.{Reservation}
 use Rattle.budget_core.specs.declared.records.Record.{Record}
 use Rattle.budget_core.specs.declared.records.Record.TheVariants.{Reserve, Settle}
 use Rattle.budget_core.specs.declared.entry.Ask.{Ask}
@@ -18,9 +17,9 @@ use Rattle.budget_core.specs.Cost.{cost_of}
 use Rattle.budget_core.specs.Counts.{is_reservation, reservations_of, open_from}
 use Rattle.budget_core.specs.Entries.{Entry}
 use Rattle.budget_core.specs.Legal.{MayFollow, IsValid, IsHistory, IsLegal}
-use Rattle.budget_core.specs.Ledger.{Ledger, start_of, next_number, reservation_for, cost_with, rise_of, money_verdict, IsAskOf, IsUnsettled}
+use Rattle.budget_core.specs.Ledger.{Ledger, start_of, next_number, reservation_numbered, reservation_for, cost_with, rise_of, money_verdict, IsAskOf, IsUnsettled}
 use Rattle.budget_core.proofs.Costs.{cost_of-append-Settle, cost_of-append-taken, cost_of-le-append}
-use Rattle.budget_core.proofs.Histories.{slice_get-append-lt, push_cases, follows-push, prefix_split, legal-induction}
+use Rattle.budget_core.proofs.Histories.{push_cases, follows-push, prefix_split, legal-induction}
 use Rattle.budget_core.proofs.Numbers.{reserved_below, outcome_past, outcome_of-append-Reserve, outcome_of-append-Settle, reserved-append, reservation_of-next, open_from-append-Reserve, open_from-Settle}
 
 -- Legal records cost at most the budget, where the found ones do.
@@ -28,7 +27,7 @@ pub legal-cost : (entry : Entry) (found records : List Record) → cost_of found
 legal-cost entry found records base l = legal-induction entry found (λ xs. cost_of xs ≤ entry.budget) base step records l
   where
     step : (xs : List Record) (x : Record) → MayFollow entry xs x → cost_of xs ≤ entry.budget → cost_of (xs ++ x ∷ []) ≤ entry.budget
-    step xs (Reserve number view e p q taken analyst) may known = may.within
+    step xs (Reserve reservation) may known = may.within
     step xs (Settle number outcome) may known = omega (arith, cost_of-append-Settle xs number outcome)
 
 -- what was found is no longer than the records
@@ -40,20 +39,6 @@ reservations_within : (found records : List Record) → take (length found) reco
 reservations_within found records begins =
     let rest : List Record = drop (length found) records in
     omega (arith, ap (λ (xs : List Record). length (reservations_of xs)) (prefix_split found records begins), ap length (filter-append is_reservation found rest), length-append (reservations_of found) (reservations_of rest))
-
--- The first of legal records are legal.
-pub legal-front : (entry : Entry) (found xs ys : List Record) → length found ≤ length xs → IsLegal entry found (xs ++ ys) → IsLegal entry found xs
-legal-front entry found xs ys longer l =
-    let at_front : (k : ℕ) (next : Record) → slice_get xs k ≡ Some next → slice_get (xs ++ ys) k ≡ Some next = λ k next at. slice_get-append-lt xs ys k (slice_get_within xs k next at) ∙ at in
-    record {
-      begins = sym (take-append-le (length found) xs ys longer) ∙ l.begins;
-      follows = λ k next past at.
-          let inside : k < length xs = slice_get_within xs k next at in
-          subst (λ (before : List Record). MayFollow entry before next) (take-append-le k xs ys (omega arith)) (l.follows k next past (at_front k next at));
-      settles = λ k number outcome past at. l.settles k number outcome past (at_front k (Settle number outcome) at);
-      room = λ fits k more upto. subst (λ (before : List Record). k + open_from (length (reservations_of found)) before ≤ entry.capacity) (take-append-le k xs ys upto) (l.room fits k more (omega (arith, length-append xs ys)));
-      valid = λ k next past at. l.valid k next past (at_front k next at);
-    }
 
 -- One record more is legal where it may follow, is valid, settles nothing that was found, and leaves room.
 pub legal-append : (entry : Entry) (found records : List Record) (next : Record) → IsLegal entry found records → MayFollow entry records next → IsValid next
@@ -68,10 +53,10 @@ legal-append entry found records next l may valid ours room = record {
     | inl beyond ↦
         let all : k ≡ length (records ++ next ∷ []) = omega (arith, length-append records (next ∷ [])) in
         let whole : take k (records ++ next ∷ []) ≡ records ++ next ∷ [] = ap (λ n. take n (records ++ next ∷ [])) all ∙ take-length (records ++ next ∷ []) in
-        subst (λ (front : List Record). k + open_from (length (reservations_of found)) front ≤ entry.capacity) (sym whole) (omega (arith, room fits, length-append records (next ∷ [])))
+        subst (λ (all : List Record). k + open_from (length (reservations_of found)) all ≤ entry.capacity) (sym whole) (omega (arith, room fits, length-append records (next ∷ [])))
     | inr within ↦
         let same : take k (records ++ next ∷ []) ≡ take k records = take-append-le k records (next ∷ []) within in
-        subst (λ (front : List Record). k + open_from (length (reservations_of found)) front ≤ entry.capacity) (sym same) (l.room fits k more within)
+        subst (λ (all : List Record). k + open_from (length (reservations_of found)) all ≤ entry.capacity) (sym same) (l.room fits k more within)
   ];
   valid = λ k other past at. elim (push_cases records next k other at) [ inl before ↦ l.valid k other past before.1 | inr seam ↦ subst IsValid seam.1 valid ];
 }
@@ -102,34 +87,34 @@ legal-Reserve ledger ask grant h l asked is =
     let g : IsGranted ledger ask grant = granted ledger ask grant is in
     let records : List Record = ledger.records in
     let next : Record = reservation_for records ask grant.taken in
-    let cost : cost_of (records ++ next ∷ []) ≡ cost_with records ask = cost_of-append-taken records (next_number records) ask.view ask.e ask.p ask.q grant.taken ask.analyst 0 in
+    let cost : cost_of (records ++ next ∷ []) ≡ cost_with records ask = cost_of-append-taken records (reservation_numbered (next_number records) ask grant.taken) 0 in
     let grows : cost_of records ≤ cost_with records ask = cost_of-le-append records (reservation_for records ask 0) in
     let taken : grant.taken ≡ rise_of records ask = ap (λ (x : Grant). x.taken) g.is in
     let may : MayFollow ledger.entry records next = record { numbered = refl; asked_by = asked.analyst; looks_at = asked.view; rise = omega arith; within = omega (arith, g.within) } in
     let new : open_from (start_of ledger) (records ++ next ∷ []) ≡ open_from (start_of ledger) records + 1
-    = open_from-append-Reserve (start_of ledger) records (next_number records) ask.view ask.e ask.p ask.q grant.taken ask.analyst (reservations_within ledger.found records l.begins) (outcome_past ledger.entry records h (next_number records) (omega arith)) in
+    = open_from-append-Reserve (start_of ledger) records (reservation_numbered (next_number records) ask grant.taken) (reservations_within ledger.found records l.begins) (outcome_past ledger.entry records h (next_number records) (omega arith)) in
     legal-append ledger.entry ledger.found records next l may (asked.epsilon, asked.lowest) (λ number outcome other. cc) (λ fits. omega (arith, new, g.fits))
 
 -- The reservation that a history makes next is of this run and unsettled.
-pub unsettled-Reserve : (ledger : Ledger) (view : View) (e p q taken analyst : ℕ) → IsHistory ledger.entry ledger.records → start_of ledger ≤ next_number ledger.records
-    → IsUnsettled (record ledger { records = ledger.records ++ Reserve (next_number ledger.records) view e p q taken analyst ∷ [] }) (next_number ledger.records)
-unsettled-Reserve ledger view e p q taken analyst h ours =
+pub unsettled-Reserve : (ledger : Ledger) (reservation : Reservation) → IsHistory ledger.entry ledger.records → reservation.number ≡ next_number ledger.records
+    → start_of ledger ≤ reservation.number → IsUnsettled (record ledger { records = ledger.records ++ Reserve reservation ∷ [] }) reservation.number
+unsettled-Reserve ledger reservation h numbered ours =
     let records : List Record = ledger.records in
-    let number : ℕ = next_number records in
-    let next : Record = Reserve number view e p q taken analyst in
+    let number : ℕ = reservation.number in
+    let next : Record = Reserve reservation in
     record {
       ours = ours;
-      reserved = ap is_some (reservation_of-next ledger.entry records view e p q taken analyst h);
-      unsettled = outcome_of-append-Reserve records number view e p q taken analyst number ∙ outcome_past ledger.entry records h number (omega arith);
+      reserved = ap is_some (reservation_of-next ledger.entry records reservation h numbered);
+      unsettled = outcome_of-append-Reserve records reservation number ∙ outcome_past ledger.entry records h number (omega arith);
     }
 
 -- What is unsettled stays so until its own settlement.
-pub unsettled-append-Reserve : (ledger : Ledger) (n number : ℕ) (view : View) (e p q taken analyst : ℕ) → IsUnsettled ledger n
-    → IsUnsettled (record ledger { records = ledger.records ++ Reserve number view e p q taken analyst ∷ [] }) n
-unsettled-append-Reserve ledger n number view e p q taken analyst u = record {
+pub unsettled-append-Reserve : (ledger : Ledger) (n : ℕ) (reservation : Reservation) → IsUnsettled ledger n
+    → IsUnsettled (record ledger { records = ledger.records ++ Reserve reservation ∷ [] }) n
+unsettled-append-Reserve ledger n reservation u = record {
   ours = u.ours;
-  reserved = reserved-append ledger.records (Reserve number view e p q taken analyst) n u.reserved;
-  unsettled = outcome_of-append-Reserve ledger.records number view e p q taken analyst n ∙ u.unsettled;
+  reserved = reserved-append ledger.records (Reserve reservation) n u.reserved;
+  unsettled = outcome_of-append-Reserve ledger.records reservation n ∙ u.unsettled;
 }
 
 pub unsettled-append-Settle : (ledger : Ledger) (n number : ℕ) (outcome : Outcome) → n ≢ number → IsUnsettled ledger n
@@ -156,7 +141,7 @@ legal-Settle ledger number outcome h l u =
           absurd (omega (arith, ap (λ (xs : List Record). length (reservations_of xs)) all, u.ours))
     ] in
     let upto : length ledger.found ≤ ledger.entry.capacity → length records + open_from (start_of ledger) records ≤ ledger.entry.capacity
-    = λ fits. subst (λ (front : List Record). length records + open_from (start_of ledger) front ≤ ledger.entry.capacity) (take-length records) (l.room fits (length records) longer (omega arith)) in
+    = λ fits. subst (λ (all : List Record). length records + open_from (start_of ledger) all ≤ ledger.entry.capacity) (take-length records) (l.room fits (length records) longer (omega arith)) in
     legal-append ledger.entry ledger.found records next l (record { reserved = u.reserved; unsettled = u.unsettled }) tt
     (λ n other same. let hit : number ≡ n = cc in omega (arith, u.ours)) (λ fits. omega (arith, closed, upto fits))
 
@@ -165,7 +150,7 @@ pub legal-room : (entry : Entry) (records : List Record) → IsLegal entry [] re
 legal-room entry [] l = omega arith
 legal-room entry (first ∷ rest) l =
     let records : List Record = first ∷ rest in
-    subst (λ (front : List Record). length records + open_from 0 front ≤ entry.capacity) (take-length records) (l.room (omega arith) (length records) (omega arith) (omega arith))
+    subst (λ (all : List Record). length records + open_from 0 all ≤ entry.capacity) (take-length records) (l.room (omega arith) (length records) (omega arith) (omega arith))
 
 -- No records are legal after none.
 pub legal-nil : (entry : Entry) → IsLegal entry [] []

@@ -5,3 +5,4 @@ pub mod BareLemmas
 pub mod LegalLemmas
 pub mod KeptLemmas
 mod Examples
+mod LegalExamples

@@ -8,8 +8,8 @@ use Rattle.std.proofs.lemmas.List.Elements.{filter-append}
 use Rattle.std.proofs.lemmas.List.Folds.{find-append}
 use Rattle.std.proofs.lemmas.List.Sums.{sum_by_push, sum_by-cons}
 use Rattle.std.proofs.lemmas.List.{map-append}
-use Rattle.budget_core.specs.declared.records.View.{View}
 use Rattle.budget_core.specs.declared.records.Outcome.{Outcome}
+use Rattle.budget_core.specs.declared.records.Reservation.{Reservation}
 use Rattle.budget_core.specs.declared.records.Record.{Record}
 use Rattle.budget_core.specs.declared.records.Record.TheVariants.{Reserve, Settle}
 use Rattle.budget_core.specs.Counts.{is_reservation, reservations_of, reserves, reservation_of, outcome_of, settles, number_of, is_open_in, open_from}
@@ -30,9 +30,9 @@ abbrev pub one_if : Bool → ℕ
 one_if b = cond b 1 0
 
 -- how many reservations there are with one record more
-pub reservations_of-append-Reserve : (records : List Record) (number : ℕ) (view : View) (e p q taken analyst : ℕ) → length (reservations_of (records ++ Reserve number view e p q taken analyst ∷ [])) ≡ length (reservations_of records) + 1
-reservations_of-append-Reserve records number view e p q taken analyst =
-    let next : Record = Reserve number view e p q taken analyst in
+pub reservations_of-append-Reserve : (records : List Record) (reservation : Reservation) → length (reservations_of (records ++ Reserve reservation ∷ [])) ≡ length (reservations_of records) + 1
+reservations_of-append-Reserve records reservation =
+    let next : Record = Reserve reservation in
     ap length (filter-append is_reservation records (next ∷ [])) ∙ length-append (reservations_of records) (next ∷ [])
 
 pub reservations_of-append-Settle : (records : List Record) (number : ℕ) (outcome : Outcome) → length (reservations_of (records ++ Settle number outcome ∷ [])) ≡ length (reservations_of records)
@@ -44,10 +44,10 @@ pub reservation_of-append : (records : List Record) (next : Record) (n : ℕ) �
 reservation_of-append records next n = find-append (reserves n) records (next ∷ [])
 
 -- A reservation settles nothing.
-pub outcome_of-append-Reserve : (records : List Record) (number : ℕ) (view : View) (e p q taken analyst n : ℕ) → outcome_of (records ++ Reserve number view e p q taken analyst ∷ []) n ≡ outcome_of records n
-outcome_of-append-Reserve [] number view e p q taken analyst n = refl
-outcome_of-append-Reserve (Reserve m seen e' p' q' taken' analyst' ∷ records) number view e p q taken analyst n = outcome_of-append-Reserve records number view e p q taken analyst n
-outcome_of-append-Reserve (Settle m outcome ∷ records) number view e p q taken analyst n = ap (cond (n == m) (Some outcome)) (outcome_of-append-Reserve records number view e p q taken analyst n)
+pub outcome_of-append-Reserve : (records : List Record) (reservation : Reservation) (n : ℕ) → outcome_of (records ++ Reserve reservation ∷ []) n ≡ outcome_of records n
+outcome_of-append-Reserve [] reservation n = refl
+outcome_of-append-Reserve (Reserve other ∷ records) reservation n = outcome_of-append-Reserve records reservation n
+outcome_of-append-Reserve (Settle m outcome ∷ records) reservation n = ap (cond (n == m) (Some outcome)) (outcome_of-append-Reserve records reservation n)
 
 option_or-cond : {X : Type 0} → (b : Bool) (x y z : Option X) (v : X) → option_or (cond b (Some v) y) z ≡ cond b (Some v) (option_or y z)
 option_or-cond true x y z v = refl
@@ -56,7 +56,7 @@ option_or-cond false x y z v = refl
 -- A settlement settles its number, where nothing settled it before.
 pub outcome_of-append-Settle : (records : List Record) (number : ℕ) (outcome : Outcome) (n : ℕ) → outcome_of (records ++ Settle number outcome ∷ []) n ≡ option_or (outcome_of records n) (cond (n == number) (Some outcome) None)
 outcome_of-append-Settle [] number outcome n = refl
-outcome_of-append-Settle (Reserve m view e p q taken analyst ∷ records) number outcome n = outcome_of-append-Settle records number outcome n
+outcome_of-append-Settle (Reserve reservation ∷ records) number outcome n = outcome_of-append-Settle records number outcome n
 outcome_of-append-Settle (Settle m other ∷ records) number outcome n =
     ap (cond (n == m) (Some other)) (outcome_of-append-Settle records number outcome n) ∙ sym (option_or-cond (n == m) None (outcome_of records n) (cond (n == number) (Some outcome) None) other)
 
@@ -81,12 +81,12 @@ reserved_below entry = history-induction entry (λ records. (n : ℕ) → is_som
   where
     step : (xs : List Record) (x : Record) → IsHistory entry xs → MayFollow entry xs x → ((n : ℕ) → is_some (reservation_of xs n) ≡ nat_lt n (length (reservations_of xs)))
         → (n : ℕ) → is_some (reservation_of (xs ++ x ∷ []) n) ≡ nat_lt n (length (reservations_of (xs ++ x ∷ [])))
-    step xs (Reserve number view e p q taken analyst) h may before n =
-        let next : Record = Reserve number view e p q taken analyst in
+    step xs (Reserve reservation) h may before n =
+        let next : Record = Reserve reservation in
         let count : ℕ = length (reservations_of xs) in
-        let more : length (reservations_of (xs ++ next ∷ [])) ≡ count + 1 = reservations_of-append-Reserve xs number view e p q taken analyst in
-        ap is_some (reservation_of-append xs next n) ∙ is_some-option_or (reservation_of xs n) (n == number) next
-        ∙ ap (λ b. b || (n == number)) (before n) ∙ ap (λ m. nat_lt n count || (n == m)) may.numbered ∙ lt_or_eq n count ∙ ap (nat_lt n) (sym more)
+        let more : length (reservations_of (xs ++ next ∷ [])) ≡ count + 1 = reservations_of-append-Reserve xs reservation in
+        ap is_some (reservation_of-append xs next n) ∙ is_some-option_or (reservation_of xs n) (n == reservation.number) next
+        ∙ ap (λ b. b || (n == reservation.number)) (before n) ∙ ap (λ m. nat_lt n count || (n == m)) may.numbered ∙ lt_or_eq n count ∙ ap (nat_lt n) (sym more)
     step xs (Settle number outcome) h may before n =
         ap is_some (reservation_of-append xs (Settle number outcome) n) ∙ ap is_some (option_or-None (reservation_of xs n)) ∙ before n
         ∙ ap (nat_lt n) (sym (reservations_of-append-Settle xs number outcome))
@@ -96,12 +96,12 @@ none_from None is = refl
 none_from (Some x) is = absurd cc
 
 -- the reservation that a history makes next
-pub reservation_of-next : (entry : Entry) (records : List Record) (view : View) (e p q taken analyst : ℕ) → IsHistory entry records
-    → reservation_of (records ++ Reserve (length (reservations_of records)) view e p q taken analyst ∷ []) (length (reservations_of records)) ≡ Some (Reserve (length (reservations_of records)) view e p q taken analyst)
-reservation_of-next entry records view e p q taken analyst h =
-    let number : ℕ = length (reservations_of records) in
-    let next : Record = Reserve number view e p q taken analyst in
-    let none : reservation_of records number ≡ None = none_from (reservation_of records number) (reserved_below entry records h number ∙ le-ltb number number (omega arith)) in
+pub reservation_of-next : (entry : Entry) (records : List Record) (reservation : Reservation) → IsHistory entry records → reservation.number ≡ length (reservations_of records)
+    → reservation_of (records ++ Reserve reservation ∷ []) reservation.number ≡ Some (Reserve reservation)
+reservation_of-next entry records reservation h numbered =
+    let number : ℕ = reservation.number in
+    let next : Record = Reserve reservation in
+    let none : reservation_of records number ≡ None = none_from (reservation_of records number) (reserved_below entry records h number ∙ le-ltb number (length (reservations_of records)) (omega arith)) in
     reservation_of-append records next number ∙ ap (λ o. option_or o (cond (number == number) (Some next) None)) none ∙ cond-true (number == number) (Some next) None (eq-eqb number number refl)
 
 -- What was reserved or settled stays so.
@@ -112,7 +112,7 @@ pub reserved-append : (records : List Record) (next : Record) (n : ℕ) → IsSo
 reserved-append records next n is = ap is_some (reservation_of-append records next n) ∙ is_some-option_or (reservation_of records n) (reserves n next) next ∙ ap (λ b. b || reserves n next) is
 
 pub outcome_of-append-old : (records : List Record) (next : Record) (n : ℕ) (old : Outcome) → outcome_of records n ≡ Some old → outcome_of (records ++ next ∷ []) n ≡ Some old
-outcome_of-append-old records (Reserve number view e p q taken analyst) n old is = outcome_of-append-Reserve records number view e p q taken analyst n ∙ is
+outcome_of-append-old records (Reserve reservation) n old is = outcome_of-append-Reserve records reservation n ∙ is
 outcome_of-append-old records (Settle number outcome) n old is = outcome_of-append-Settle records number outcome n ∙ ap (λ o. option_or o (cond (n == number) (Some outcome) None)) is
 
 -- how a number was settled just now
@@ -126,8 +126,8 @@ outcome_past entry = history-induction entry (λ records. (n : ℕ) → length (
   where
     step : (xs : List Record) (x : Record) → IsHistory entry xs → MayFollow entry xs x → ((n : ℕ) → length (reservations_of xs) ≤ n → outcome_of xs n ≡ None)
         → (n : ℕ) → length (reservations_of (xs ++ x ∷ [])) ≤ n → outcome_of (xs ++ x ∷ []) n ≡ None
-    step xs (Reserve number view e p q taken analyst) h may before n past =
-        outcome_of-append-Reserve xs number view e p q taken analyst n ∙ before n (omega (arith, reservations_of-append-Reserve xs number view e p q taken analyst))
+    step xs (Reserve reservation) h may before n past =
+        outcome_of-append-Reserve xs reservation n ∙ before n (omega (arith, reservations_of-append-Reserve xs reservation))
     step xs (Settle number outcome) h may before n past =
         let count : ℕ = length (reservations_of xs) in
         let beyond : count ≤ n = omega (arith, reservations_of-append-Settle xs number outcome) in
@@ -141,27 +141,29 @@ reserved_once entry = history-induction entry (λ records. (n : ℕ) → count_b
   where
     step : (xs : List Record) (x : Record) → IsHistory entry xs → MayFollow entry xs x → ((n : ℕ) → count_by (reserves n) xs ≡ one_if (nat_lt n (length (reservations_of xs))))
         → (n : ℕ) → count_by (reserves n) (xs ++ x ∷ []) ≡ one_if (nat_lt n (length (reservations_of (xs ++ x ∷ []))))
-    step xs (Reserve number view e p q taken analyst) h may before n =
-        let next : Record = Reserve number view e p q taken analyst in
+    step xs (Reserve reservation) h may before n =
+        let next : Record = Reserve reservation in
         let count : ℕ = length (reservations_of xs) in
-        let more : length (reservations_of (xs ++ next ∷ [])) ≡ count + 1 = reservations_of-append-Reserve xs number view e p q taken analyst in
-        sum_by_push (λ r. one_if (reserves n r)) xs next ∙ ap (λ k. k + one_if (n == number)) (before n) ∙ ap (λ m. one_if (nat_lt n count) + one_if (n == m)) may.numbered
+        let more : length (reservations_of (xs ++ next ∷ [])) ≡ count + 1 = reservations_of-append-Reserve xs reservation in
+        sum_by_push (λ r. one_if (reserves n r)) xs next ∙ ap (λ k. k + one_if (n == reservation.number)) (before n) ∙ ap (λ m. one_if (nat_lt n count) + one_if (n == m)) may.numbered
         ∙ one_more n count ∙ ap (λ m. one_if (nat_lt n m)) (sym more)
     step xs (Settle number outcome) h may before n =
         sum_by_push (λ r. one_if (reserves n r)) xs (Settle number outcome) ∙ add-zero (count_by (reserves n) xs) ∙ before n
         ∙ ap (λ m. one_if (nat_lt n m)) (sym (reservations_of-append-Settle xs number outcome))
 
 -- One reservation more is open where it is of this run and not settled.
-pub open_from-append-Reserve : (start : ℕ) (records : List Record) (number : ℕ) (view : View) (e p q taken analyst : ℕ) → start ≤ number → outcome_of records number ≡ None → open_from start (records ++ Reserve number view e p q taken analyst ∷ []) ≡ open_from start records + 1
-open_from-append-Reserve start records number view e p q taken analyst ours fresh =
-    let next : Record = Reserve number view e p q taken analyst in
+pub open_from-append-Reserve : (start : ℕ) (records : List Record) (reservation : Reservation) → start ≤ reservation.number → outcome_of records reservation.number ≡ None
+    → open_from start (records ++ Reserve reservation ∷ []) ≡ open_from start records + 1
+open_from-append-Reserve start records reservation ours fresh =
+    let number : ℕ = reservation.number in
+    let next : Record = Reserve reservation in
     let all : List Record = records ++ next ∷ [] in
-    let open_now : is_open_in all start next ≡ true = and_from (nat_le start number) (is_none (outcome_of all number)) (le-leb start number ours) (ap is_none (outcome_of-append-Reserve records number view e p q taken analyst number ∙ fresh)) in
+    let open_now : is_open_in all start next ≡ true = and_from (nat_le start number) (is_none (outcome_of all number)) (le-leb start number ours) (ap is_none (outcome_of-append-Reserve records reservation number ∙ fresh)) in
     sum_by_push (λ r. one_if (is_open_in all start r)) records next ∙ ap (λ b. count_by (is_open_in all start) records + one_if b) open_now
     ∙ ap (λ k. k + 1) (sum_by-same (λ r. one_if (is_open_in all start r)) (λ r. one_if (is_open_in records start r)) same records)
   where
-    same : (r : Record) → one_if (is_open_in (records ++ Reserve number view e p q taken analyst ∷ []) start r) ≡ one_if (is_open_in records start r)
-    same (Reserve m seen e' p' q' taken' analyst') = ap (λ o. one_if (nat_le start m && is_none o)) (outcome_of-append-Reserve records number view e p q taken analyst m)
+    same : (r : Record) → one_if (is_open_in (records ++ Reserve reservation ∷ []) start r) ≡ one_if (is_open_in records start r)
+    same (Reserve other) = ap (λ o. one_if (nat_le start other.number && is_none o)) (outcome_of-append-Reserve records reservation other.number)
     same (Settle m other) = refl
 
 eqb_turned : (n m : ℕ) → (n == m) ≡ (m == n)
@@ -186,7 +188,8 @@ open_from-append-Settle start records number outcome ours fresh =
     ∙ sum_by-parts (λ r. one_if (is_open_in all start r)) (λ r. one_if (reserves number r)) (λ r. one_if (is_open_in records start r)) parts records
   where
     parts : (r : Record) → one_if (is_open_in (records ++ Settle number outcome ∷ []) start r) + one_if (reserves number r) ≡ one_if (is_open_in records start r)
-    parts (Reserve m seen e p q taken analyst) =
+    parts (Reserve reservation) =
+        let m : ℕ = reservation.number in
         let settled : outcome_of (records ++ Settle number outcome ∷ []) m ≡ option_or (outcome_of records m) (cond (number == m) (Some outcome) None)
         = outcome_of-append-Settle records number outcome m ∙ ap (λ b. option_or (outcome_of records m) (cond b (Some outcome) None)) (eqb_turned m number) in
         ap (λ o. one_if (nat_le start m && is_none o) + one_if (number == m)) settled
@@ -215,12 +218,12 @@ numbered_in_order entry = history-induction entry (λ records. map number_of (re
   where
     step : (xs : List Record) (x : Record) → IsHistory entry xs → MayFollow entry xs x → map number_of (reservations_of xs) ≡ range_with_len 0 (length (reservations_of xs))
         → map number_of (reservations_of (xs ++ x ∷ [])) ≡ range_with_len 0 (length (reservations_of (xs ++ x ∷ [])))
-    step xs (Reserve number view e p q taken analyst) h may before =
-        let next : Record = Reserve number view e p q taken analyst in
+    step xs (Reserve reservation) h may before =
+        let next : Record = Reserve reservation in
         let count : ℕ = length (reservations_of xs) in
         ap (map number_of) (filter-append is_reservation xs (next ∷ [])) ∙ map-append number_of (reservations_of xs) (next ∷ [])
-        ∙ ap (λ front. front ++ number ∷ []) before ∙ ap (λ m. range_with_len 0 count ++ m ∷ []) (may.numbered ∙ sym (zero-add count))
-        ∙ sym (range-push 0 count) ∙ ap (range_with_len 0) (sym (reservations_of-append-Reserve xs number view e p q taken analyst))
+        ∙ ap (λ all. all ++ reservation.number ∷ []) before ∙ ap (λ m. range_with_len 0 count ++ m ∷ []) (may.numbered ∙ sym (zero-add count))
+        ∙ sym (range-push 0 count) ∙ ap (range_with_len 0) (sym (reservations_of-append-Reserve xs reservation))
     step xs (Settle number outcome) h may before =
         let next : Record = Settle number outcome in
         ap (map number_of) (filter-append is_reservation xs (next ∷ []) ∙ append-nil (reservations_of xs)) ∙ before ∙ ap (range_with_len 0) (sym (reservations_of-append-Settle xs number outcome))
@@ -237,9 +240,9 @@ settled_once entry = history-induction entry (λ records. (n : ℕ) → count_by
   where
     step : (xs : List Record) (x : Record) → IsHistory entry xs → MayFollow entry xs x → ((n : ℕ) → count_by (settles n) xs ≡ one_if (is_some (outcome_of xs n)))
         → (n : ℕ) → count_by (settles n) (xs ++ x ∷ []) ≡ one_if (is_some (outcome_of (xs ++ x ∷ []) n))
-    step xs (Reserve number view e p q taken analyst) h may before n =
-        sum_by_push (λ r. one_if (settles n r)) xs (Reserve number view e p q taken analyst) ∙ add-zero (count_by (settles n) xs) ∙ before n
-        ∙ ap (λ o. one_if (is_some o)) (sym (outcome_of-append-Reserve xs number view e p q taken analyst n))
+    step xs (Reserve reservation) h may before n =
+        sum_by_push (λ r. one_if (settles n r)) xs (Reserve reservation) ∙ add-zero (count_by (settles n) xs) ∙ before n
+        ∙ ap (λ o. one_if (is_some o)) (sym (outcome_of-append-Reserve xs reservation n))
     step xs (Settle number outcome) h may before n =
         sum_by_push (λ r. one_if (settles n r)) xs (Settle number outcome) ∙ ap (λ k. k + one_if (n == number)) (before n)
         ∙ settles_more (outcome_of xs n) (n == number) outcome (λ hit. ap (outcome_of xs) (eqb-true n number hit) ∙ may.unsettled)

@@ -11,9 +11,9 @@ bare_outcome Exhausted = Exhausted
 bare_outcome Lost = Lost
 
 abbrev pub bare_record : Record → Record
-bare_record (Reserve number view e p q taken analyst) = Reserve number view e p q taken analyst
+bare_record (Reserve reservation) = Reserve reservation
 bare_record (Settle number outcome) = Settle number (bare_outcome outcome)
 
 -- the records with every answer set to 0
-abbrev pub bare : List Record → List Record
-bare records = map bare_record records
+abbrev pub without_answers : List Record → List Record
+without_answers records = map bare_record records

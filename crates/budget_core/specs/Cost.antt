@@ -16,7 +16,7 @@ charge_of e p q = ceil_div (p * e) q
 
 -- what a record is charged to a view
 abbrev pub charged_to : View → Record → ℕ
-charged_to view (Reserve number seen e p q taken analyst) = if same_view view seen then charge_of e p q else 0
+charged_to view (Reserve reservation) = if same_view view reservation.view then charge_of reservation.e reservation.p reservation.q else 0
 charged_to view (Settle number outcome) = 0
 
 -- the charges of a view's reservations, added up

@@ -5,7 +5,7 @@ use Rattle.budget_core.specs.declared.records.Record.TheVariants.{Reserve, Settl
 use Rattle.budget_core.specs.declared.records.Outcome.{Outcome}
 
 abbrev pub is_reservation : Record → Bool
-is_reservation (Reserve number view e p q taken analyst) = true
+is_reservation (Reserve reservation) = true
 is_reservation (Settle number outcome) = false
 
 -- the reservations, in order
@@ -14,7 +14,7 @@ reservations_of records = filter is_reservation records
 
 -- the record is the reservation of this number
 abbrev pub reserves : ℕ → Record → Bool
-reserves n (Reserve number view e p q taken analyst) = n == number
+reserves n (Reserve reservation) = n == reservation.number
 reserves n (Settle number outcome) = false
 
 -- the reservation of this number, if there is one
@@ -24,27 +24,27 @@ reservation_of records n = find (reserves n) records
 -- how the reservation of this number was settled, if it was
 abbrev pub outcome_of : List Record → ℕ → Option Outcome
 outcome_of [] n = None
-outcome_of (Reserve number view e p q taken analyst ∷ records) n = outcome_of records n
+outcome_of (Reserve reservation ∷ records) n = outcome_of records n
 outcome_of (Settle number outcome ∷ records) n = cond (n == number) (Some outcome) (outcome_of records n)
 
 -- the record settles the reservation of this number
 abbrev pub settles : ℕ → Record → Bool
-settles n (Reserve number view e p q taken analyst) = false
+settles n (Reserve reservation) = false
 settles n (Settle number outcome) = n == number
 
 -- the number of the reservation that a record makes or settles
 abbrev pub number_of : Record → ℕ
-number_of (Reserve number view e p q taken analyst) = number
+number_of (Reserve reservation) = reservation.number
 number_of (Settle number outcome) = number
 
 -- by how much a record says that the cost rose
 abbrev pub taken_of : Record → ℕ
-taken_of (Reserve number view e p q taken analyst) = taken
+taken_of (Reserve reservation) = reservation.taken
 taken_of (Settle number outcome) = 0
 
 -- the record is a reservation, numbered from start on, that isn't settled in these records
 abbrev pub is_open_in : List Record → ℕ → Record → Bool
-is_open_in records start (Reserve number view e p q taken analyst) = nat_le start number && is_none (outcome_of records number)
+is_open_in records start (Reserve reservation) = nat_le start reservation.number && is_none (outcome_of records reservation.number)
 is_open_in records start (Settle number outcome) = false
 
 -- how many reservations numbered from start on have no settlement

@@ -6,7 +6,7 @@ use Rattle.budget_core.specs.Entries.{IsEntry}
 use Rattle.budget_core.specs.Legal.{IsLegal}
 use Rattle.budget_core.specs.declared.book.Book.TheInside.{Inside}
 
-pub record IsKept (b : Inside) : Type 0 where
+pub record HoldsTotals (b : Inside) : Type 0 where
   pub entry : IsEntry b.entry
   pub unparted : b.entry.keys ≡ []
   pub legal : IsLegal b.entry [] b.records.items

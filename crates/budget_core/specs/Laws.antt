@@ -3,7 +3,7 @@ use Rattle.std.specs.Prelude.{◌≡◌, ℕ, ◌+◌, ◌≤◌, List, [], leng
 use Rattle.std.specs.List.{range_with_len}
 use Rattle.budget_core.specs.declared.records.Record.{Record}
 use Rattle.budget_core.specs.declared.entry.Ask.{Ask}
-use Rattle.budget_core.specs.Bare.{bare}
+use Rattle.budget_core.specs.Bare.{without_answers}
 use Rattle.budget_core.specs.Cost.{cost_of}
 use Rattle.budget_core.specs.Counts.{reservations_of, settles, number_of, taken_of, open_from}
 use Rattle.budget_core.specs.Entries.{Entry}
@@ -42,4 +42,4 @@ KeepsRoom = (entry : Entry) (records : List Record) → IsLegal entry [] records
 -- A verdict doesn't depend on the answers.
 abbrev pub IgnoresAnswers : Type 0
 IgnoresAnswers = (entry : Entry) (start : ℕ) (records : List Record) (ask : Ask)
-    → money_verdict entry start (bare records) ask ≡ money_verdict entry start records ask
+    → money_verdict entry start (without_answers records) ask ≡ money_verdict entry start records ask

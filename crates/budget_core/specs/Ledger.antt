@@ -1,5 +1,6 @@
 -- what a book of records answers
 use Rattle.std.specs.Prelude.{◌≡◌, ℕ, ◌+◌, ◌-◌, ◌<◌, ◌≤◌, nat_lt, List, [], ◌∷◌, ◌++◌, length, Result, Ok, Err, if◌then◌else◌, None, IsSome}
+use Rattle.budget_core.specs.declared.records.Reservation.{Reservation}
 use Rattle.budget_core.specs.declared.records.Record.{Record}
 use Rattle.budget_core.specs.declared.records.Record.TheVariants.{Reserve}
 use Rattle.budget_core.specs.declared.entry.Ask.{Ask}
@@ -24,9 +25,14 @@ start_of ledger = length (reservations_of ledger.found)
 abbrev pub next_number : List Record → ℕ
 next_number records = length (reservations_of records)
 
--- the reservation that an ask would make, by how much it raises the cost aside
+-- the reservation of an ask under a number, by how much it raises the cost aside
+abbrev pub reservation_numbered : ℕ → Ask → ℕ → Reservation
+reservation_numbered number ask taken
+    = record { number = number; view = ask.view; e = ask.e; p = ask.p; q = ask.q; taken = taken; analyst = ask.analyst }
+
+-- the record that an ask would make, by how much it raises the cost aside
 abbrev pub reservation_for : List Record → Ask → ℕ → Record
-reservation_for records ask taken = Reserve (next_number records) ask.view ask.e ask.p ask.q taken ask.analyst
+reservation_for records ask taken = Reserve (reservation_numbered (next_number records) ask taken)
 
 -- the cost with this ask
 abbrev pub cost_with : List Record → Ask → ℕ

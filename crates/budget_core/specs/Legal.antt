@@ -1,7 +1,7 @@
 -- which records may follow which
 use Rattle.std.specs.Prelude.{◌≡◌, ℕ, ◌+◌, ◌≤◌, ◌<◌, List, [], ◌∷◌, ◌++◌, length, take, slice_get, Some, None, IsSome}
-use Rattle.budget_core.specs.declared.records.View.{View}
 use Rattle.budget_core.specs.declared.records.Outcome.{Outcome}
+use Rattle.budget_core.specs.declared.records.Reservation.{Reservation}
 use Rattle.budget_core.specs.declared.records.Record.{Record}
 use Rattle.budget_core.specs.declared.records.Record.TheVariants.{Reserve, Settle}
 use Rattle.budget_core.specs.Cost.{cost_of}
@@ -10,12 +10,12 @@ use Rattle.budget_core.specs.Entries.{Entry, HasView, IsLowest, IsEpsilon}
 
 -- A reservation is numbered by those before it, names an analyst and a view of the entry, says by how much
 -- the cost rose, and keeps to the budget.
-pub record IsReservationAfter (entry : Entry) (records : List Record) (number : ℕ) (view : View) (e p q taken analyst : ℕ) : Type 0 where
-  pub numbered : number ≡ length (reservations_of records)
-  pub asked_by : analyst < entry.analysts
-  pub looks_at : HasView entry view
-  pub rise : cost_of (records ++ Reserve number view e p q taken analyst ∷ []) ≡ cost_of records + taken
-  pub within : cost_of (records ++ Reserve number view e p q taken analyst ∷ []) ≤ entry.budget
+pub record IsReservationAfter (entry : Entry) (records : List Record) (reservation : Reservation) : Type 0 where
+  pub numbered : reservation.number ≡ length (reservations_of records)
+  pub asked_by : reservation.analyst < entry.analysts
+  pub looks_at : HasView entry reservation.view
+  pub rise : cost_of (records ++ Reserve reservation ∷ []) ≡ cost_of records + reservation.taken
+  pub within : cost_of (records ++ Reserve reservation ∷ []) ≤ entry.budget
 
 -- A settlement is of a reservation that has none yet.
 pub record IsSettlementAfter (records : List Record) (number : ℕ) : Type 0 where
@@ -24,7 +24,7 @@ pub record IsSettlementAfter (records : List Record) (number : ℕ) : Type 0 whe
 
 -- the record may follow these records
 abbrev pub MayFollow : Entry → List Record → Record → Type 0
-MayFollow entry records (Reserve number view e p q taken analyst) = IsReservationAfter entry records number view e p q taken analyst
+MayFollow entry records (Reserve reservation) = IsReservationAfter entry records reservation
 MayFollow entry records (Settle number outcome) = IsSettlementAfter records number
 
 -- each record may follow those before it
@@ -33,7 +33,7 @@ pub record IsHistory (entry : Entry) (records : List Record) : Type 0 where
 
 -- the numbers in a record are within their ranges
 abbrev pub IsValid : Record → Type 0
-IsValid (Reserve number view e p q taken analyst) = IsEpsilon e × IsLowest p q
+IsValid (Reserve reservation) = IsEpsilon reservation.e × IsLowest reservation.p reservation.q
 IsValid (Settle number outcome) = Unit {0}
 
 -- Records are legal after those found at the start: they begin with the found ones; each later record may follow

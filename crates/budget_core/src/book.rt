@@ -7,7 +7,7 @@ ghost use Rattle.budget_core.specs.Ledger.{Ledger, start_of, money_verdict, reco
 ghost use Rattle.budget_core.specs.declared.records.Record.TheVariants.{Settle};
 
 use crate::entry::{Ask, Entry, Grant, ReserveFault};
-use crate::records::{Outcome, Record};
+use crate::records::{Outcome, Record, Reservation};
 use std::alloc::{AllocError, Global};
 use std::marker::Model;
 
@@ -30,11 +30,11 @@ impl Model for Book {
 
     ghost Value = { Ledger };
 
-    ghost use Rattle.budget_core.specs.Kept.{IsKept};
+    ghost use Rattle.budget_core.specs.Kept.{HoldsTotals};
 
     ghost view = { λ b. record { entry = b.entry; found = []; records = b.records.items } };
 
-    ghost invariant = { IsKept };
+    ghost invariant = { HoldsTotals };
 }
 
 /// What a query of sensitivity p/q costs at epsilon e, in millionths: p * e / q, rounded up.
@@ -106,7 +106,7 @@ impl Book {
             });
         }
         let number = self.reservations;
-        let reservation = Record::Reserve {
+        let reservation = Reservation {
             number,
             view: ask.view,
             e: ask.e,
@@ -115,7 +115,7 @@ impl Book {
             taken: charge,
             analyst: ask.analyst,
         };
-        self.records.push_reserved(reservation);
+        self.records.push_reserved(Record::Reserve(reservation));
         self.spent = cost;
         self.reservations += 1;
         self.unsettled += 1;

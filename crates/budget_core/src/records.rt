@@ -18,27 +18,27 @@ pub enum Outcome {
     Lost,
 }
 
+/// Budget that is set aside for a query.
+#[derive(Clone, Copy, Debug, Drop, PartialEq, Eq)]
+pub struct Reservation {
+    /// How many reservations came before.
+    pub number: u32,
+    pub view: View,
+    /// Epsilon in millionths, 1 to 10^9.
+    pub e: u32,
+    /// The query's sensitivity is p/q in lowest terms.
+    pub p: u32,
+    pub q: u32,
+    /// By how much the cost rose, in millionths.
+    pub taken: u64,
+    /// The number of the analyst who asked.
+    pub analyst: u16,
+}
+
 /// One record.
 #[derive(Clone, Copy, Debug, Drop, PartialEq, Eq)]
 pub enum Record {
-    /// Budget is set aside for a query.
-    Reserve {
-        /// How many reservations came before.
-        number: u32,
-        view: View,
-        /// Epsilon in millionths, 1 to 10^9.
-        e: u32,
-        /// The query's sensitivity is p/q in lowest terms.
-        p: u32,
-        q: u32,
-        /// By how much the cost rose, in millionths.
-        taken: u64,
-        /// The number of the analyst who asked.
-        analyst: u16,
-    },
+    Reserve(Reservation),
     /// The reservation of that number is settled.
-    Settle {
-        number: u32,
-        outcome: Outcome,
-    },
+    Settle { number: u32, outcome: Outcome },
 }

@@ -1,3 +1,5 @@
+//! A book on small budgets: that calls succeed, with memory at hand.
+
 ghost use Rattle.std.specs.Prelude.{◌≡◌};
 ghost use Rattle.budget_core.specs.declared.records.View.TheVariants.{Whole};
 ghost use Rattle.budget_core.specs.Ledger.{IsAskOf};
