@@ -1,3 +1,4 @@
 pub mod Drawn
 pub mod Known
 mod Examples
+mod Walks

@@ -1,5 +1,6 @@
 -- What files hold, and what a read of one answers.
-use Rattle.std.specs.Prelude.{◌≡◌, ℕ, ◌^◌, ◌<◌, ◌≤◌, List, [], ◌∷◌, length, Option, None, Some, if◌then◌else◌, ⊤, bytes_eq}
+use Rattle.std.specs.Prelude.{◌≡◌, ℕ, ◌^◌, ◌<◌, ◌≤◌, List, [], ◌∷◌, ◌++◌, length, Result, Ok, Err, ◌⊎◌, Option, None, Some, if◌then◌else◌, ⊤, bytes_eq}
+use Rattle.fz_outside.specs.declared.FileFault.{FileFault}
 use Rattle.fz_outside.specs.declared.files.FileRead.{FileRead}
 use Rattle.fz_outside.specs.declared.files.FileRead.TheVariants.{Absent, TooLong, Bytes}
 use Rattle.fz_outside.specs.declared.files.MemFile.{MemFile}
@@ -18,6 +19,11 @@ abbrev pub IsBounded : FileRead → Type 0
 IsBounded Absent = ⊤
 IsBounded TooLong = ⊤
 IsBounded (Bytes read) = length read.items ≤ 2 ^ 26
+
+-- A read adds its name to the names that were read. One that fails may have stopped before.
+abbrev pub AddsName : Result FileRead FileFault → (name : List ℕ) → (old new : List (List ℕ)) → Type 0
+AddsName (Ok read) name old new = new ≡ old ++ name ∷ []
+AddsName (Err fault) name old new = (new ≡ old ++ name ∷ []) ⊎ (new ≡ old)
 
 -- the bytes of the first of these files that has this name
 abbrev pub bytes_of : List MemFile → List ℕ → Option (List ℕ)

@@ -1,13 +1,14 @@
 //! Files that are read whole, by name.
 #![tactic(auto)]
 
-ghost use Rattle.std.specs.Prelude.{◌≡◌, ℕ, List, Option, Some, ◌<◌, IfOk, IfSome, IsErrOf, OnOk};
+ghost use Rattle.std.specs.Prelude.{◌≡◌, ℕ, List, [], Option, Some, ◌<◌, IfOk, IfSome, IsErrOf, OnOk};
 ghost use Rattle.std.specs.Option.{option_copied};
 ghost use Rattle.fz_outside.specs.Faults.{HasCause};
-ghost use Rattle.fz_outside.specs.Files.{IsRead, IsBounded, bytes_of};
+ghost use Rattle.fz_outside.specs.Files.{IsRead, IsBounded, AddsName, bytes_of};
 ghost use Rattle.fz_outside.specs.declared.FileFault.TheVariants.{Failed, NoMemory};
 
 use crate::FileFault;
+use crate::names::{Name, Names};
 use crate::source::{MemSource, Source, read_up_to};
 use std::alloc::Global;
 
@@ -30,6 +31,9 @@ pub trait Files {
     // Each file's bytes by its name, or None where there is no such file, where this is told.
     ghost held: { Self → Option (List ℕ → Option (List ℕ)) };
 
+    // The names of the files that were read so far, in order.
+    ghost names: { Self → List (List ℕ) };
+
     // How many calls have failed.
     ghost faults: { Self → ℕ };
 
@@ -38,6 +42,7 @@ pub trait Files {
         ensures found { IfOk result (λ read. IfSome (held self.old) (λ holds. IsRead (holds name.now) read)) }
         ensures bound { IfOk result IsBounded }
         ensures same { held self.new ≡ held self.old }
+        ensures named { AddsName result name.now (names self.old) (names self.new) }
 
         ensures cause { HasCause (faults self.old) (faults self.new) (IsErrOf result Failed) }
         ensures passed { OnOk result (faults self.new ≡ faults self.old) }
@@ -55,23 +60,31 @@ pub struct MemFile<'a> {
 #[derive(Drop)]
 pub struct MemFiles<'a> {
     files: &'a [MemFile<'a>],
+    names: Names,
 }
 
 impl<'a> MemFiles<'a> {
     /// These files. Of two with one name the first is read.
     pub fn new(files: &'a [MemFile<'a>]) -> Self
-        ensures { ⟦<MemFiles<'a> as Files>⟧.held result ≡ Some (bytes_of files.now) }
+        ensures held { ⟦<MemFiles<'a> as Files>⟧.held result ≡ Some (bytes_of files.now) }
+        ensures unread { ⟦<MemFiles<'a> as Files>⟧.names result ≡ [] }
     {
-        MemFiles { files }
+        MemFiles {
+            files,
+            names: Names::new(),
+        }
     }
 }
 
 impl Files for MemFiles<'_> {
     ghost held = { λ files. Some (bytes_of files.files.now) };
 
+    ghost names = { λ files. files.names.read };
+
     ghost faults = { λ _. 0 };
 
     fn read(&mut self, alloc: Global, name: &str) -> Result<FileRead, FileFault> {
+        self.names = self.names.and(&Name { text: name });
         match find(self.files, name) {
             Some(bytes) => read_whole(alloc, &mut MemSource::new(bytes)),
             None => Ok(FileRead::Absent),

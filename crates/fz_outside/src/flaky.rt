@@ -4,7 +4,7 @@
 ghost use Rattle.std.specs.Prelude.{◌≡◌, ◌<◌, ◌≤◌, take, length, is_err, IsErr, IsErrOf, IsTrue, IfOk, IfSome, OnOk, OnErr};
 ghost use Rattle.std.specs.Io.KnownBytes.{prepend_known, append_known, IsAtEnd};
 ghost use Rattle.fz_outside.specs.Faults.{HasCause, both_counts};
-ghost use Rattle.fz_outside.specs.Files.{IsRead, IsBounded};
+ghost use Rattle.fz_outside.specs.Files.{IsRead, IsBounded, AddsName};
 ghost use Rattle.fz_outside.specs.Schedule.{is_listed, began};
 
 use crate::files::{FileRead, Files};
@@ -57,6 +57,8 @@ impl<S: Source> Source for Flaky<'_, S> {
         ensures began { self.new.schedule ≡ began self.old.schedule }
         ensures listed { IsTrue (is_listed self.old.schedule) → IsErr result × (self.new.inner ≡ self.old.inner) }
 
+        ensures short { IfOk result (λ n. n ≤ self.old.piece) }
+
         // As of any source.
         ensures bound { IfOk result (λ n. n ≤ length buf.old) }
         ensures bytes { IfOk result (λ n. S.left self.old.inner ≡ prepend_known (take n buf.new) (S.left self.new.inner)) }
@@ -82,6 +84,8 @@ impl<K: Sink> Sink for Flaky<'_, K> {
         ensures began { self.new.schedule ≡ began self.old.schedule }
         ensures listed { IsTrue (is_listed self.old.schedule) → IsErr result × (self.new.inner ≡ self.old.inner) }
 
+        ensures short { IfOk result (λ n. n ≤ self.old.piece) }
+
         // As of any sink.
         ensures bound { IfOk result (λ n. n ≤ length piece.now) }
         ensures some { IfOk result (λ n. 0 < length piece.now → 0 < n) }
@@ -101,6 +105,8 @@ impl<K: Sink> Sink for Flaky<'_, K> {
 impl<F: Files> Files for Flaky<'_, F> {
     ghost held = { λ flaky. F.held flaky.inner };
 
+    ghost names = { λ flaky. F.names flaky.inner };
+
     ghost faults = { λ flaky. both_counts (F.faults flaky.inner) flaky.schedule.faults };
 
     fn read(&mut self, alloc: Global, name: &str) -> Result<FileRead, FileFault>
@@ -111,6 +117,7 @@ impl<F: Files> Files for Flaky<'_, F> {
         ensures found { IfOk result (λ read. IfSome (F.held self.old.inner) (λ holds. IsRead (holds name.now) read)) }
         ensures bound { IfOk result IsBounded }
         ensures same { F.held self.new.inner ≡ F.held self.old.inner }
+        ensures named { AddsName result name.now (F.names self.old.inner) (F.names self.new.inner) }
         ensures cause { HasCause (both_counts (F.faults self.old.inner) self.old.schedule.faults)
             (both_counts (F.faults self.new.inner) self.new.schedule.faults) (IsErrOf result FileFault.Failed) }
         ensures passed { OnOk result (both_counts (F.faults self.new.inner) self.new.schedule.faults

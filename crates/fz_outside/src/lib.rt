@@ -11,6 +11,7 @@ use std::alloc::AllocError;
 
 pub mod files;
 pub mod flaky;
+pub mod names;
 pub mod real;
 pub mod sink;
 pub mod source;

@@ -2,9 +2,10 @@
 //! and counts each error of the system.
 #![tactic(auto)]
 
-ghost use Rattle.std.specs.Prelude.{◌≡◌, ℕ, None};
+ghost use Rattle.std.specs.Prelude.{◌≡◌, ℕ, [], None};
 
 use crate::files::{FileRead, Files, read_whole};
+use crate::names::{Name, Names};
 use crate::sink::Sink;
 use crate::source::Source;
 use crate::{Failed, FileFault, fault};
@@ -70,31 +71,45 @@ impl<W: Write> Sink for RealSink<W> {
     }
 }
 
+// Whether an error says that there is no such file: no such name, or a path that goes through a file.
+fn is_absence(kind: ErrorKind) -> bool {
+    matches!(kind, ErrorKind::NotFound | ErrorKind::NotADirectory)
+}
+
 /// The files of the system, by their paths.
 #[derive(Drop)]
 pub struct RealFiles<'a, R> {
     rt: &'a R,
+    names: Names,
     faults: u64,
 }
 
 impl<'a, R: rt::Files> RealFiles<'a, R> {
     /// The files of this runtime, none of which has failed yet.
     pub fn new(rt: &'a R) -> Self
-        ensures { ⟦<RealFiles<'a, R> as Files>⟧.faults result ≡ 0 }
+        ensures faults { ⟦<RealFiles<'a, R> as Files>⟧.faults result ≡ 0 }
+        ensures unread { ⟦<RealFiles<'a, R> as Files>⟧.names result ≡ [] }
     {
-        RealFiles { rt, faults: 0 }
+        RealFiles {
+            rt,
+            names: Names::new(),
+            faults: 0,
+        }
     }
 }
 
 impl<R: rt::Files> Files for RealFiles<'_, R> {
     ghost held = { λ _. None };
 
+    ghost names = { λ files. files.names.read };
+
     ghost faults = { λ files. files.faults };
 
     fn read(&mut self, alloc: Global, name: &str) -> Result<FileRead, FileFault> {
+        self.names = self.names.and(&Name { text: name });
         let file = match fs::open(self.rt, name) {
             Ok(file) => file,
-            Err(e) if e.kind() == ErrorKind::NotFound => return Ok(FileRead::Absent),
+            Err(e) if is_absence(e.kind()) => return Ok(FileRead::Absent),
             Err(_) => return Err(fault(&mut self.faults).into()),
         };
         let mut source = RealSource {

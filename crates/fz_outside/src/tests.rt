@@ -1,3 +1,5 @@
+//! Each form once, and what the system answers where something is amiss.
+
 use crate::files::{FileRead, Files, MemFile, MemFiles};
 use crate::flaky::{Flaky, Schedule};
 use crate::real::{RealFiles, RealSink, RealSource};
@@ -100,7 +102,8 @@ fn files_in_memory(rt: HostRuntime) -> Result<(), Fail> {
     Ok(())
 }
 
-// A file of the greatest length is read, and one that is a byte longer is not. A folder can't be read.
+// A file of the greatest length is read, and one that is a byte longer is not. A name that isn't there and a path
+// through a file are absent; a folder, an empty name and a file that can't be read are faults.
 #[test]
 fn files_of_the_system(rt: HostRuntime) -> Result<(), Fail> {
     fs::create_dir_all(&rt, "outside_test")?;
@@ -113,7 +116,12 @@ fn files_of_the_system(rt: HostRuntime) -> Result<(), Fail> {
         ("outside_test/none", ("absent", 0)),
         ("outside_test/limit", ("bytes", 67_108_864)),
         ("outside_test/longer", ("too long", 0)),
+        ("outside_test/limit/x", ("absent", 0)),
+        ("outside_test/none/x", ("absent", 0)),
         ("outside_test", ("failed", 0)),
+        ("outside_test/", ("failed", 0)),
+        ("outside_test/a\0b", ("failed", 0)),
+        ("/proc/self/mem", ("failed", 0)),
     ] {
         assert_eq!(rt; outcome(&files.read(rt.alloc(), name)), want, "of {name}");
     }
@@ -139,5 +147,36 @@ fn reader_and_writer_of_the_system(rt: HostRuntime) -> Result<(), Fail> {
     );
     let full = fs::OpenOptions::new().write(true).open(&rt, "/dev/full")?;
     assert_eq!(rt; put(&mut RealSink::new(full), b"seven"), Err(Failed));
+    Ok(())
+}
+
+// An error of the system is no end of input and no written piece: a folder, a file that is open for the other way,
+// and a pipe whose reader has gone. A pipe whose writer has gone has ended.
+#[test]
+fn errors_of_the_system(rt: HostRuntime) -> Result<(), Fail> {
+    let mut buf = [0; 8];
+    fs::create_dir_all(&rt, "outside_test_folder")?;
+    let mut folder = RealSource::new(fs::open(&rt, "outside_test_folder")?);
+    assert_eq!(rt; folder.read(&mut buf), Err(Failed));
+    assert_eq!(rt; folder.read(&mut buf), Err(Failed));
+    fs::remove_dir_all(&rt, "outside_test_folder")?;
+
+    let mut writer = RealSource::new(fs::create(&rt, "outside_test_ways")?);
+    assert_eq!(rt; writer.read(&mut buf), Err(Failed));
+    let mut reader = RealSink::new(fs::open(&rt, "outside_test_ways")?);
+    assert_eq!(rt; reader.write(b"seven"), Err(Failed));
+    fs::remove_file(&rt, "outside_test_ways")?;
+
+    let (reader, writer) = io::pipe(&rt)?;
+    drop(reader);
+    let mut broken = RealSink::new(writer);
+    assert_eq!(rt; broken.write(b"seven"), Err(Failed));
+    assert_eq!(rt; broken.write(b"seven"), Err(Failed));
+
+    let (reader, writer) = io::pipe(&rt)?;
+    assert_eq!(rt; RealSink::new(writer).write(b"seven"), Ok(5));
+    let mut ended = RealSource::new(reader);
+    assert_eq!(rt; ended.read(&mut buf), Ok(5));
+    assert_eq!(rt; ended.read(&mut buf), Ok(0));
     Ok(())
 }
