@@ -4,7 +4,7 @@ use Rattle.std.proofs.lemmas.List.{append-nil}
 use Rattle.std.specs.Prelude.{◌==◌, nat_lt, ℤ, is_none}
 use Rattle.std.specs.List.{AllByRecursion}
 use Rattle.std.proofs.lemmas.Bool.{cases_Bool, ltb-true, ltb-false, lt-ltb, le-ltb}
-use Rattle.discrete_laplace.specs.ExactBernoulli.{uniform_limit, IsUniform, IsBernoulli, IsRun, IsBernoulliExp}
+use Rattle.discrete_laplace.specs.ExactBernoulli.{uniform_limit, IsUniform, IsBernoulli, IsSegmentRun, IsBernoulliExp}
 use Rattle.discrete_laplace.specs.DiscreteLaplace.{IsGeometric, IsAttempt, IsSample, signed_size}
 use Rattle.discrete_laplace.specs.Readers.{Reader, give, then_read, read_uniform, read_bernoulli, read_run_within, read_run, read_bernoulli_exp, read_geometric, read_attempt, given, read_sample}
 
@@ -94,7 +94,7 @@ module _ {B : Type 0} (read : ℕ → Reader B) (is_again : B → Bool) (Segment
   unfolding after
   after_last most k b draws e = rw (e, after) refl
 
-  within_sound : (most k : ℕ) (draws : List ℕ) (found : (ℕ × B) × List ℕ) → read_run_within read is_again most k draws ≡ Some found → (n : ℕ) × (one : List ℕ) × (draws ≡ one ++ found.1) × (found.0.0 ≡ k + n) × (is_again found.0.1 ≡ false) × IsRun Segment again found.0.1 k n one
+  within_sound : (most k : ℕ) (draws : List ℕ) (found : (ℕ × B) × List ℕ) → read_run_within read is_again most k draws ≡ Some found → (n : ℕ) × (one : List ℕ) × (draws ≡ one ++ found.1) × (found.0.0 ≡ k + n) × (is_again found.0.1 ≡ false) × IsSegmentRun Segment again found.0.1 k n one
   unfolding after
   within_sound zero k draws found e = absurd (cc e)
   within_sound (suc most) k draws found e =
@@ -112,11 +112,11 @@ module _ {B : Type 0} (read : ℕ → Reader B) (is_again : B → Bool) (Segment
             (0, p.0, p.1 ∙ ap (λ x. p.0 ++ x.1) q, sym (ap (λ x. x.0.0) q) ∙ omega arith, subst (λ b. is_again b ≡ false) (ap (λ x. x.0.1) q) n, subst (Segment k p.0) (ap (λ x. x.0.1) q) p.2)
       ]
 
-  run_long : (last : B) (k n : ℕ) (draws : List ℕ) → IsRun Segment again last k n draws → n < length draws
+  run_long : (last : B) (k n : ℕ) (draws : List ℕ) → IsSegmentRun Segment again last k n draws → n < length draws
   run_long last k zero draws h = takes k draws last h
   run_long last k (suc n) draws h = let a = takes k h.0 again h.3 in let b = run_long last (suc k) n h.1 h.4 in omega (arith, ap length h.2 ∙ length-append h.0 h.1)
 
-  within_complete : (last : B) → is_again last ≡ false → (most k n : ℕ) (one rest : List ℕ) → n < most → IsRun Segment again last k n one → read_run_within read is_again most k (one ++ rest) ≡ Some ((k + n, last), rest)
+  within_complete : (last : B) → is_again last ≡ false → (most k n : ℕ) (one rest : List ℕ) → n < most → IsSegmentRun Segment again last k n one → read_run_within read is_again most k (one ++ rest) ≡ Some ((k + n, last), rest)
   unfolding after
   within_complete last e zero k n one rest l h = absurd (omega arith)
   within_complete last e (suc most) k zero one rest l h =
@@ -126,7 +126,7 @@ module _ {B : Type 0} (read : ℕ → Reader B) (is_again : B → Bool) (Segment
       ∙ (then_complete (read k) (after most k) (h.0 ++ (h.1 ++ rest)) (h.1 ++ rest) again ((reads k).complete h.0 (h.1 ++ rest) again h.3)
       ∙ (after_again most k again (h.1 ++ rest) it ∙ (within_complete last e most (suc k) n h.1 rest (omega arith) h.4 ∙ ap (λ x. Some ((x, last), rest)) (omega arith)))))
 
-  pub run_reads : (k : ℕ) → IsReader (read_run read is_again k) (λ draws r. (n : ℕ) × (r.0 ≡ k + n) × (is_again r.1 ≡ false) × IsRun Segment again r.1 k n draws)
+  pub run_reads : (k : ℕ) → IsReader (read_run read is_again k) (λ draws r. (n : ℕ) × (r.0 ≡ k + n) × (is_again r.1 ≡ false) × IsSegmentRun Segment again r.1 k n draws)
   unfolding read_run
   run_reads k = record {
     sound = λ draws found e. let r = within_sound (length draws) k draws found e in (r.1, r.2, (r.0, r.3, r.4, r.5));
@@ -153,7 +153,7 @@ pub bernoulli_takes : (n d : ℕ) (one : List ℕ) (a : Bool) → IsBernoulli n 
 bernoulli_takes n d one a h = uniform_takes d one h.number h.uniform
 
 -- a run of trials, up to the first zero
-pub ones_reads : (read : ℕ → Reader Bool) (Segment : ℕ → List ℕ → Bool → Type 0) → ((k : ℕ) → IsReader (read k) (Segment k)) → ((k : ℕ) (one : List ℕ) (b : Bool) → Segment k one b → 0 < length one) → (k : ℕ) → IsReader (read_run read (λ one. one) k) (λ draws r. (n : ℕ) × (r.0 ≡ k + n) × (r.1 ≡ false) × IsRun Segment true r.1 k n draws)
+pub ones_reads : (read : ℕ → Reader Bool) (Segment : ℕ → List ℕ → Bool → Type 0) → ((k : ℕ) → IsReader (read k) (Segment k)) → ((k : ℕ) (one : List ℕ) (b : Bool) → Segment k one b → 0 < length one) → (k : ℕ) → IsReader (read_run read (λ one. one) k) (λ draws r. (n : ℕ) × (r.0 ≡ k + n) × (r.1 ≡ false) × IsSegmentRun Segment true r.1 k n draws)
 ones_reads read Segment reads takes k = run_reads read (λ one. one) Segment true reads (λ b e. e) refl takes k
 
 pub bernoulli_exp_reads : (u t : ℕ) → IsReader (read_bernoulli_exp u t) (IsBernoulliExp u t)
@@ -161,9 +161,9 @@ unfolding read_bernoulli_exp
 bernoulli_exp_reads u t =
     let Trial : ℕ → List ℕ → Bool → Type 0 = λ k. IsBernoulli u (t * k) in
     same_segments (IsBernoulliExp u t)
-    (map_reads (read_run (λ k. read_bernoulli u (t * k)) (λ one. one) 1) (λ draws r. (n : ℕ) × (r.0 ≡ 1 + n) × (r.1 ≡ false) × IsRun Trial true r.1 1 n draws) (λ zero. zero.0 % 2 == 1)
+    (map_reads (read_run (λ k. read_bernoulli u (t * k)) (λ one. one) 1) (λ draws r. (n : ℕ) × (r.0 ≡ 1 + n) × (r.1 ≡ false) × IsSegmentRun Trial true r.1 1 n draws) (λ zero. zero.0 % 2 == 1)
     (ones_reads (λ k. read_bernoulli u (t * k)) Trial (λ k. bernoulli_reads u (t * k)) (λ k. bernoulli_takes u (t * k)) 1))
-    (λ one a h. record { ones = h.1.0; trials = subst (λ b. IsRun Trial true b 1 h.1.0 one) h.1.2 h.1.3; gives = h.2 ∙ ap (λ x. x % 2 == 1) (omega (arith, h.1.1)) })
+    (λ one a h. record { ones = h.1.0; trials = subst (λ b. IsSegmentRun Trial true b 1 h.1.0 one) h.1.2 h.1.3; gives = h.2 ∙ ap (λ x. x % 2 == 1) (omega (arith, h.1.1)) })
     (λ one a h. ((1 + h.ones, false), (h.ones, refl, refl, h.trials), h.gives ∙ ap (λ x. x % 2 == 1) (omega arith)))
 
 pub bernoulli_exp_takes : (u t : ℕ) (one : List ℕ) (a : Bool) → IsBernoulliExp u t one a → 0 < length one
@@ -173,9 +173,9 @@ bernoulli_exp_takes u t one a h =
 pub geometric_reads : IsReader read_geometric IsGeometric
 unfolding read_geometric
 geometric_reads = same_segments IsGeometric
-    (map_reads (read_run (λ _. read_bernoulli_exp 1 1) (λ one. one) 0) (λ draws r. (n : ℕ) × (r.0 ≡ 0 + n) × (r.1 ≡ false) × IsRun (λ _. IsBernoulliExp 1 1) true r.1 0 n draws) (λ zero. zero.0)
+    (map_reads (read_run (λ _. read_bernoulli_exp 1 1) (λ one. one) 0) (λ draws r. (n : ℕ) × (r.0 ≡ 0 + n) × (r.1 ≡ false) × IsSegmentRun (λ _. IsBernoulliExp 1 1) true r.1 0 n draws) (λ zero. zero.0)
     (ones_reads (λ _. read_bernoulli_exp 1 1) (λ _. IsBernoulliExp 1 1) (λ _. bernoulli_exp_reads 1 1) (λ _. bernoulli_exp_takes 1 1) 0))
-    (λ one a h. let same : h.1.0 ≡ a = omega (arith, h.1.1, h.2) in subst (λ v. IsRun (λ _. IsBernoulliExp 1 1) true false 0 v one) same (subst (λ b. IsRun (λ _. IsBernoulliExp 1 1) true b 0 h.1.0 one) h.1.2 h.1.3))
+    (λ one a h. let same : h.1.0 ≡ a = omega (arith, h.1.1, h.2) in subst (λ v. IsSegmentRun (λ _. IsBernoulliExp 1 1) true false 0 v one) same (subst (λ b. IsSegmentRun (λ _. IsBernoulliExp 1 1) true b 0 h.1.0 one) h.1.2 h.1.3))
     (λ one a h. ((a, false), (a, omega arith, refl, h), refl))
 
 -- what follows the first trial of an attempt
@@ -230,7 +230,7 @@ only_None : (a : Option ℤ) → is_none a ≡ true → a ≡ None
 only_None None e = refl
 only_None (Some a) e = absurd (cc e)
 
-run_of_attempts : (t s : ℕ) → IsReader (read_run (λ _. read_attempt t s) is_none 0) (λ draws r. (n : ℕ) × (r.0 ≡ 0 + n) × (is_none r.1 ≡ false) × IsRun (λ _. IsAttempt t s) None r.1 0 n draws)
+run_of_attempts : (t s : ℕ) → IsReader (read_run (λ _. read_attempt t s) is_none 0) (λ draws r. (n : ℕ) × (r.0 ≡ 0 + n) × (is_none r.1 ≡ false) × IsSegmentRun (λ _. IsAttempt t s) None r.1 0 n draws)
 run_of_attempts t s = run_reads (λ _. read_attempt t s) is_none (λ _. IsAttempt t s) None (λ _. attempt_reads t s) only_None refl (λ _. attempt_takes t s) 0
 
 given_reads : (outcome : Option ℤ) → IsReader (given outcome) (λ draws noise. (draws ≡ []) × (outcome ≡ Some noise))
@@ -248,5 +248,5 @@ unfolding read_sample Then
 sample_reads t s = same_segments (IsSample t s)
     (then_reads (read_run (λ _. read_attempt t s) is_none 0) (λ last. given last.1) _ (λ last draws noise. (draws ≡ []) × (last.1 ≡ Some noise)) (run_of_attempts t s) (λ last. given_reads last.1))
     (λ one noise h. let whole : one ≡ h.1 = h.3 ∙ (ap (λ d. h.1 ++ d) h.5.0 ∙ append-nil h.1) in
-    record { rejected = h.4.0; attempts = subst (λ d. IsRun (λ _. IsAttempt t s) None (Some noise) 0 h.4.0 d) (sym whole) (subst (λ o. IsRun (λ _. IsAttempt t s) None o 0 h.4.0 h.1) h.5.1 h.4.3) })
+    record { rejected = h.4.0; attempts = subst (λ d. IsSegmentRun (λ _. IsAttempt t s) None (Some noise) 0 h.4.0 d) (sym whole) (subst (λ o. IsSegmentRun (λ _. IsAttempt t s) None o 0 h.4.0 h.1) h.5.1 h.4.3) })
     (λ one noise h. ((h.rejected, Some noise), one, [], sym (append-nil one), (h.rejected, omega arith, refl, h.attempts), (refl, refl)))

@@ -4,11 +4,11 @@ use Rattle.std.specs.Prelude.{ℤ, is_none, Result, Ok, Err, IfOk, OnOk, OnErr}
 use Rattle.std.specs.Result.{result_ok}
 use Rattle.std.proofs.Math.Dec.{lit<}
 use Rattle.std.proofs.lemmas.List.{take_all}
-use Rattle.fz_outside.specs.Draws.{first, HasDrawn}
+use Rattle.fz_outside.specs.Draws.{first_draws, HasDrawn}
 use Rattle.fz_outside.proofs.Drawn.{length-first}
 use Rattle.discrete_laplace.specs.DiscreteLaplace.{draw_limit, IsSample, IsNoise}
 use Rattle.discrete_laplace.specs.Readers.{Reader, read_attempt, read_run, given, read_sample}
-use Rattle.discrete_laplace.specs.Noise.{noise_of, taken_of}
+use Rattle.discrete_laplace.specs.Noise.{noise_of, draws_taken}
 use Rattle.discrete_laplace.specs.Meter.{Took, Takes}
 use Rattle.discrete_laplace.proofs.Exact.{then_complete, then_none, attempt_reads, attempt_takes, sample_reads}
 use Rattle.discrete_laplace.proofs.Law.{noise_complete, noise_none}
@@ -39,18 +39,18 @@ attempts_none t s k before draws e h =
     then_none (read_run (λ _. read_attempt t s) is_none 0) (λ last. given last.1) before (e ∙ run_none (λ _. read_attempt t s) is_none (λ _. attempt_shrinks t s) k draws h)
 
 -- the draws of a sample are no more than it may take
-pub all_of_them : (d : ℕ → ℕ) → take draw_limit (first draw_limit d) ≡ first draw_limit d
-all_of_them d = let l = length-first draw_limit d in take_all draw_limit (first draw_limit d) (omega (arith, l))
+pub all_of_them : (d : ℕ → ℕ) → take draw_limit (first_draws draw_limit d) ≡ first_draws draw_limit d
+all_of_them d = let l = length-first draw_limit d in take_all draw_limit (first_draws draw_limit d) (omega (arith, l))
 
-pub noise_from_segment : (t s left : ℕ) (d rest : ℕ → ℕ) (noise : ℤ) → left < draw_limit → (one : List ℕ) × (first draw_limit d ≡ one ++ first left rest) × IsSample t s one noise → IsNoise t s (first draw_limit d) noise (draw_limit - left)
+pub noise_from_segment : (t s left : ℕ) (d rest : ℕ → ℕ) (noise : ℤ) → left < draw_limit → (one : List ℕ) × (first_draws draw_limit d ≡ one ++ first_draws left rest) × IsSample t s one noise → IsNoise t s (first_draws draw_limit d) noise (draw_limit - left)
 noise_from_segment t s left d rest noise l h =
-    let lengths = ap length h.1 ∙ length-append h.0 (first left rest) in
+    let lengths = ap length h.1 ∙ length-append h.0 (first_draws left rest) in
     let all = length-first draw_limit d in let behind = length-first left rest in
-    record { segment = h.0; rest = first left rest; cut = all_of_them d ∙ h.1; as_many = omega (arith, lengths, all, behind); sample = h.2 }
+    record { segment = h.0; rest = first_draws left rest; cut = all_of_them d ∙ h.1; as_many = omega (arith, lengths, all, behind); sample = h.2 }
 
-pub none_from_draws : (t s : ℕ) (d : ℕ → ℕ) → ((one rest : List ℕ) (noise : ℤ) → first draw_limit d ≡ one ++ rest → ¬ IsSample t s one noise) → (noise_of t s (first draw_limit d) ≡ None) × (taken_of t s (first draw_limit d) ≡ draw_limit)
+pub none_from_draws : (t s : ℕ) (d : ℕ → ℕ) → ((one rest : List ℕ) (noise : ℤ) → first_draws draw_limit d ≡ one ++ rest → ¬ IsSample t s one noise) → (noise_of t s (first_draws draw_limit d) ≡ None) × (draws_taken t s (first_draws draw_limit d) ≡ draw_limit)
 none_from_draws t s d none =
-    let r = noise_none t s (first draw_limit d) (ap (read_sample t s) (all_of_them d) ∙ none_from_segments (sample_reads t s) (first draw_limit d) none) in
+    let r = noise_none t s (first_draws draw_limit d) (ap (read_sample t s) (all_of_them d) ∙ none_from_segments (sample_reads t s) (first_draws draw_limit d) none) in
     (r.0, r.1 ∙ (ap length (all_of_them d) ∙ length-first draw_limit d))
 
 pub taken_drawn : {W : Type 0} {draws : W → ℕ → ℕ} {place : W → ℕ} (left taken : ℕ) (x y : W) → Took draws place draw_limit x left y → left < draw_limit → taken ≡ draw_limit - left → HasDrawn draws place taken x y
@@ -63,19 +63,19 @@ some_draws = lit< tt
 
 -- what a sample promises, at the words before and behind it
 pub record Meets {W E : Type 0} (draws : W → ℕ → ℕ) (place : W → ℕ) (t s : ℕ) (x y : W) (r : Result ℤ E) : Type 0 where
-  pub noise : result_ok r ≡ noise_of t s (first draw_limit (draws x))
-  pub taken : HasDrawn draws place (taken_of t s (first draw_limit (draws x))) x y
-  pub segments : IfOk r (λ noise. IsNoise t s (first draw_limit (draws x)) noise (taken_of t s (first draw_limit (draws x))))
-  pub none : OnErr r ((noise : ℤ) (taken : ℕ) → ¬ IsNoise t s (first draw_limit (draws x)) noise taken)
-  pub all : OnErr r (taken_of t s (first draw_limit (draws x)) ≡ draw_limit)
-  pub within : taken_of t s (first draw_limit (draws x)) ≤ draw_limit
+  pub noise : result_ok r ≡ noise_of t s (first_draws draw_limit (draws x))
+  pub taken : HasDrawn draws place (draws_taken t s (first_draws draw_limit (draws x))) x y
+  pub segments : IfOk r (λ noise. IsNoise t s (first_draws draw_limit (draws x)) noise (draws_taken t s (first_draws draw_limit (draws x))))
+  pub none : OnErr r ((noise : ℤ) (taken : ℕ) → ¬ IsNoise t s (first_draws draw_limit (draws x)) noise taken)
+  pub all : OnErr r (draws_taken t s (first_draws draw_limit (draws x)) ≡ draw_limit)
+  pub within : draws_taken t s (first_draws draw_limit (draws x)) ≤ draw_limit
 
 module _ {W E : Type 0} (draws : W → ℕ → ℕ) (place : W → ℕ) (t s : ℕ) where
-  meets_limit : (r : Result ℤ E) (left : ℕ) (x y : W) → Took draws place draw_limit x left y → OnOk r (left < draw_limit) → Takes (IsSample t s) r (first draw_limit (draws x)) (first left (draws y)) → Meets draws place t s x y r
+  meets_limit : (r : Result ℤ E) (left : ℕ) (x y : W) → Took draws place draw_limit x left y → OnOk r (left < draw_limit) → Takes (IsSample t s) r (first_draws draw_limit (draws x)) (first_draws left (draws y)) → Meets draws place t s x y r
   meets_limit (Ok noise) left x y took fewer segment =
       let here = noise_from_segment t s left (draws x) (draws y) noise fewer segment in
-      let c = noise_complete t s (first draw_limit (draws x)) noise (draw_limit - left) here in
-      record { noise = sym c.0; taken = taken_drawn left _ x y took fewer c.1; segments = subst (IsNoise t s (first draw_limit (draws x)) noise) (sym c.1) here; none = tt; all = tt; within = omega (arith, c.1) }
+      let c = noise_complete t s (first_draws draw_limit (draws x)) noise (draw_limit - left) here in
+      record { noise = sym c.0; taken = taken_drawn left _ x y took fewer c.1; segments = subst (IsNoise t s (first_draws draw_limit (draws x)) noise) (sym c.1) here; none = tt; all = tt; within = omega (arith, c.1) }
   meets_limit (Err e) left x y took fewer segment =
       let n = none_from_draws t s (draws x) segment.1 in
       let none_left : left ≡ 0 = sym (length-first left (draws y)) ∙ ap length segment.0 in
@@ -84,12 +84,12 @@ module _ {W E : Type 0} (draws : W → ℕ → ℕ) (place : W → ℕ) (t s : �
         noise = sym n.0;
         taken = taken_drawn left _ x y took (omega (arith, none_left, some)) (omega (arith, n.1, none_left));
         segments = tt;
-        none = λ noise taken h. (let c = noise_complete t s (first draw_limit (draws x)) noise taken h in let e = sym n.0 ∙ c.0 in cc e);
+        none = λ noise taken h. (let c = noise_complete t s (first_draws draw_limit (draws x)) noise taken h in let e = sym n.0 ∙ c.0 in cc e);
         all = n.1;
         within = omega (arith, n.1);
       }
 
-  pub meets : (r : Result ℤ E) (limit left : ℕ) (start x y : W) → limit ≡ draw_limit → start ≡ x → Took draws place limit start left y → OnOk r (left < limit) → Takes (IsSample t s) r (first limit (draws start)) (first left (draws y)) → Meets draws place t s x y r
+  pub meets : (r : Result ℤ E) (limit left : ℕ) (start x y : W) → limit ≡ draw_limit → start ≡ x → Took draws place limit start left y → OnOk r (left < limit) → Takes (IsSample t s) r (first_draws limit (draws start)) (first_draws left (draws y)) → Meets draws place t s x y r
   meets r limit left start x y l e =
-      subst (λ w. Took draws place limit w left y → OnOk r (left < limit) → Takes (IsSample t s) r (first limit (draws w)) (first left (draws y)) → Meets draws place t s x y r) (sym e)
-      (subst (λ n. Took draws place n x left y → OnOk r (left < n) → Takes (IsSample t s) r (first n (draws x)) (first left (draws y)) → Meets draws place t s x y r) (sym l) (meets_limit r left x y))
+      subst (λ w. Took draws place limit w left y → OnOk r (left < limit) → Takes (IsSample t s) r (first_draws limit (draws w)) (first_draws left (draws y)) → Meets draws place t s x y r) (sym e)
+      (subst (λ n. Took draws place n x left y → OnOk r (left < n) → Takes (IsSample t s) r (first_draws n (draws x)) (first_draws left (draws y)) → Meets draws place t s x y r) (sym l) (meets_limit r left x y))

@@ -1,6 +1,6 @@
 -- The sampler of discrete Laplace noise of scale t/s, as segments of a list of draws.
 use Rattle.std.specs.Prelude.{◌≡◌, ℕ, zero, suc, ◌+◌, ◌*◌, ◌/◌, Bool, true, false, List, ◌++◌, take, length, Option, Some, None, ℤ, pos, neg_ℤ, ◌⊎◌}
-use Rattle.discrete_laplace.specs.ExactBernoulli.{IsUniform, IsBernoulli, IsRun, IsBernoulliExp}
+use Rattle.discrete_laplace.specs.ExactBernoulli.{IsUniform, IsBernoulli, IsSegmentRun, IsBernoulliExp}
 
 -- At most so many draws are taken for one number.
 unfoldable pub draw_limit : ℕ
@@ -23,7 +23,7 @@ pub record IsStopped (t : ℕ) (draws : List ℕ) : Type 0 where
 
 -- How many ones of probability exp(-1) come before the first zero.
 abbrev pub IsGeometric : List ℕ → ℕ → Type 0
-IsGeometric draws ones = IsRun (λ _. IsBernoulliExp 1 1) true false 0 ones draws
+IsGeometric draws ones = IsSegmentRun (λ _. IsBernoulliExp 1 1) true false 0 ones draws
 
 -- A whole attempt: u below t, a one of exp(-u/t), v ones and a zero of exp(-1), and a sign.
 pub record IsWhole (t s : ℕ) (draws : List ℕ) (outcome : Option ℤ) : Type 0 where
@@ -48,7 +48,7 @@ IsAttempt t s draws outcome = (IsStopped t draws × (outcome ≡ None)) ⊎ IsWh
 -- A sample: rejected attempts, and then one that gives the noise.
 pub record IsSample (t s : ℕ) (draws : List ℕ) (noise : ℤ) : Type 0 where
   pub rejected : ℕ
-  pub attempts : IsRun (λ _. IsAttempt t s) None (Some noise) 0 rejected draws
+  pub attempts : IsSegmentRun (λ _. IsAttempt t s) None (Some noise) 0 rejected draws
 
 -- The noise out of these draws: a sample stands in front of those that it may take, and takes so many.
 pub record IsNoise (t s : ℕ) (draws : List ℕ) (noise : ℤ) (taken : ℕ) : Type 0 where

@@ -23,14 +23,14 @@ pub record IsBernoulli (n d : ℕ) (draws : List ℕ) (one : Bool) : Type 0 wher
   pub gives : one ≡ nat_lt number n
 
 -- Segments one behind another, numbered from k on: n of them that give `again`, and then one that gives `last`.
-abbrev pub IsRun : {B : Type 0} → (ℕ → List ℕ → B → Type 0) → (again last : B) → (k n : ℕ) → List ℕ → Type 0
-IsRun Segment again last k zero draws = Segment k draws last
-IsRun Segment again last k (suc n) draws =
-    (one rest : List ℕ) × (draws ≡ one ++ rest) × Segment k one again × IsRun Segment again last (suc k) n rest
+abbrev pub IsSegmentRun : {B : Type 0} → (ℕ → List ℕ → B → Type 0) → (again last : B) → (k n : ℕ) → List ℕ → Type 0
+IsSegmentRun Segment again last k zero draws = Segment k draws last
+IsSegmentRun Segment again last k (suc n) draws =
+    (one rest : List ℕ) × (draws ≡ one ++ rest) × Segment k one again × IsSegmentRun Segment again last (suc k) n rest
 
 -- One with probability exp(-u/t): trials of u/(t*1), u/(t*2), .. up to the first that gives zero. It is one where their
 -- number is odd.
 pub record IsBernoulliExp (u t : ℕ) (draws : List ℕ) (one : Bool) : Type 0 where
   pub ones : ℕ
-  pub trials : IsRun (λ k. IsBernoulli u (t * k)) true false 1 ones draws
+  pub trials : IsSegmentRun (λ k. IsBernoulli u (t * k)) true false 1 ones draws
   pub gives : one ≡ ((ones + 1) % 2 == 1)

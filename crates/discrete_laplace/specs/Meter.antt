@@ -1,10 +1,10 @@
 -- What a call leaves of a meter, which allows so many draws of a stream of words.
 use Rattle.std.specs.Prelude.{◌≡◌, ℕ, ◌-◌, ◌<◌, ◌⊎◌, List, [], ◌++◌, Result, Ok, Err}
-use Rattle.fz_outside.specs.Draws.{first, HasDrawn}
+use Rattle.fz_outside.specs.Draws.{first_draws, HasDrawn}
 
 -- the draws that it still allows
 abbrev pub allowed : {W : Type 0} → (W → ℕ → ℕ) → ℕ → W → List ℕ
-allowed draws left words = first left (draws words)
+allowed draws left words = first_draws left (draws words)
 
 -- As many draws were taken from the words as are left fewer: none, and the words are as they were, or some.
 abbrev pub Took : {W : Type 0} → (W → ℕ → ℕ) → (W → ℕ) → (left : ℕ) → (old : W) → (left' : ℕ) → (new : W) → Type 0

@@ -16,5 +16,5 @@ unfoldable pub noise_of : (t s : ℕ) → List ℕ → Option ℤ
 noise_of t s draws = noise_in (read_sample t s (take draw_limit draws))
 
 -- How many of these draws are taken for it: all that it may take, where they don't suffice.
-unfoldable pub taken_of : (t s : ℕ) → List ℕ → ℕ
-taken_of t s draws = length (take draw_limit draws) - length (left_in (read_sample t s (take draw_limit draws)))
+unfoldable pub draws_taken : (t s : ℕ) → List ℕ → ℕ
+draws_taken t s draws = length (take draw_limit draws) - length (left_in (read_sample t s (take draw_limit draws)))

@@ -6,9 +6,9 @@
 
 ghost use Rattle.std.specs.Prelude.{◌≡◌, ◌<◌, ◌≤◌, ◌^◌, ℕ, ℤ, List, Some, OnOk, OnErr, IfOk, IfSome, unsigned_abs};
 ghost use Rattle.std.specs.Result.{result_ok};
-ghost use Rattle.fz_outside.specs.Draws.{first, HasDrawn};
+ghost use Rattle.fz_outside.specs.Draws.{first_draws, HasDrawn};
 ghost use Rattle.discrete_laplace.specs.DiscreteLaplace.{draw_limit, signed_size, IsGeometric, IsAttempt, IsSample, IsNoise};
-ghost use Rattle.discrete_laplace.specs.Noise.{noise_of, taken_of};
+ghost use Rattle.discrete_laplace.specs.Noise.{noise_of, draws_taken};
 ghost use Rattle.discrete_laplace.specs.Meter.{allowed, Took, Takes};
 
 use fz_outside::words::Words;
@@ -96,16 +96,16 @@ pub fn sample<W: Words>(t: u32, s: u32, words: &mut W) -> Result<i64, Exhausted>
     requires some { 0 < t }
     requires most { t ≤ 1000000 }
     requires divisor { 0 < s }
-    ensures noise { result_ok result ≡ noise_of t s (first draw_limit (W.draws words.old)) }
+    ensures noise { result_ok result ≡ noise_of t s (first_draws draw_limit (W.draws words.old)) }
     ensures taken { HasDrawn W.draws W.place
-        (taken_of t s (first draw_limit (W.draws words.old))) words.old words.new }
+        (draws_taken t s (first_draws draw_limit (W.draws words.old))) words.old words.new }
     // the same by the segments of the draws
-    ensures segments { IfOk result (λ noise. IsNoise t s (first draw_limit (W.draws words.old)) noise
-        (taken_of t s (first draw_limit (W.draws words.old)))) }
+    ensures segments { IfOk result (λ noise. IsNoise t s (first_draws draw_limit (W.draws words.old)) noise
+        (draws_taken t s (first_draws draw_limit (W.draws words.old)))) }
     ensures none { OnErr result ((noise : ℤ) (taken : ℕ) →
-        ¬ IsNoise t s (first draw_limit (W.draws words.old)) noise taken) }
-    ensures all { OnErr result (taken_of t s (first draw_limit (W.draws words.old)) ≡ draw_limit) }
-    ensures within { taken_of t s (first draw_limit (W.draws words.old)) ≤ draw_limit }
+        ¬ IsNoise t s (first_draws draw_limit (W.draws words.old)) noise taken) }
+    ensures all { OnErr result (draws_taken t s (first_draws draw_limit (W.draws words.old)) ≡ draw_limit) }
+    ensures within { draws_taken t s (first_draws draw_limit (W.draws words.old)) ≤ draw_limit }
     // so a caller may add it to a value
     ensures small { IfOk result (λ noise. unsigned_abs noise < 2 ^ 33) }
 {
@@ -116,9 +116,9 @@ pub fn sample<W: Words>(t: u32, s: u32, words: &mut W) -> Result<i64, Exhausted>
 /// proved for every list, and there is nothing to do.)
 pub fn noise_is_that_of_its_segments()
     ensures found { (t s : ℕ) (draws : List ℕ) (noise : ℤ) →
-        noise_of t s draws ≡ Some noise → IsNoise t s draws noise (taken_of t s draws) }
+        noise_of t s draws ≡ Some noise → IsNoise t s draws noise (draws_taken t s draws) }
     ensures complete { (t s : ℕ) (draws : List ℕ) (noise : ℤ) (taken : ℕ) →
-        IsNoise t s draws noise taken → (noise_of t s draws ≡ Some noise) × (taken_of t s draws ≡ taken) }
+        IsNoise t s draws noise taken → (noise_of t s draws ≡ Some noise) × (draws_taken t s draws ≡ taken) }
     ensures only_one { (t s : ℕ) (draws : List ℕ) (noise other : ℤ) (taken others : ℕ) →
         IsNoise t s draws noise taken → IsNoise t s draws other others → (noise ≡ other) × (taken ≡ others) }
 {}

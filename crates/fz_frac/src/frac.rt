@@ -1,4 +1,4 @@
-// Fractions of 32 bits in lowest terms.
+//! Fractions of 32 bits in lowest terms.
 ghost use Rattle.std.specs.Prelude.{◌≡◌, ◌<◌, ◌≤◌, ◌↔◌, IsTrue, IsErr, IfOk};
 ghost use Rattle.std.specs.Int.{IsGcd};
 ghost use Rattle.fz_frac.specs.Distance.{Fin, ◌≈◌};

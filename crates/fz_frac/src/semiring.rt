@@ -1,4 +1,4 @@
-// The laws of distances, each as a clause of a function that does nothing.
+//! The laws of distances, each as a clause of a function that does nothing.
 ghost use Rattle.std.specs.Prelude.{◌≡◌, ◌↔◌, ◌<◌, ◌≤◌, ◌⊎◌, ℕ, false, IsTrue, Some};
 ghost use Rattle.std.specs.Int.{IsGcd};
 ghost use Rattle.fz_frac.specs.Distance.{Distance, Fin, Inf, ◌⊑◌, ◌≈◌, is_le, none, one, add, mul, greater, quotient, ceil_times};

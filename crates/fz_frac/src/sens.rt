@@ -1,4 +1,4 @@
-// Sensitivities: a fraction, or infinity.
+//! Sensitivities: a fraction, or infinity.
 ghost use Rattle.std.specs.Prelude.{◌≡◌, ◌↔◌, IsTrue, IsErr, IfOk};
 ghost use Rattle.fz_frac.specs.Distance.{Fin, ◌≈◌, is_le, add, mul, endless, quotient, greater, ceil_times};
 ghost use Rattle.fz_frac.specs.Lowest.{is_out};

@@ -8,7 +8,7 @@ use Rattle.std.proofs.lemmas.Fmt.{IsAscii-from_digits}
 use Rattle.std.proofs.lemmas.Str.{IsUtf8-from_ascii}
 use Rattle.std.proofs.lemmas.Str.Ascii.{IsAscii-cons}
 use Rattle.std.proofs.lemmas.Str.Parse.{IsNumeralModel, numerals_by_weight, parse_signed_minus, parse_signed_plain, tells_all_ascii_digits}
-use Rattle.table_store.specs.Cell.{IsInRange, decimal_value, greatest_number, magnitude_of, number_of}
+use Rattle.table_store.specs.Cell.{IsCellNumber, decimal_value, greatest_number, magnitude_of, cell_number}
 
 -- our words for digits and their value are std's
 own : IsNumeralModel (λ digits. all_ascii_digits digits ≡ true) decimal_value
@@ -44,8 +44,8 @@ IsNumberText cell z =
     ((rest : List ℕ) × (n : ℕ) × (cell ≡ 45 ∷ rest) × IsMagnitude rest n × (z ≡ neg_ℤ (pos n)))
     ⊎ ((n : ℕ) × (get_or cell 0 0 ≢ 45) × IsMagnitude cell n × (z ≡ pos n))
 
-has_number : (cell : List ℕ) (z : ℤ) → number_of cell ≡ Some z → IsNumberText cell z
-unfolding number_of
+has_number : (cell : List ℕ) (z : ℤ) → cell_number cell ≡ Some z → IsNumberText cell z
+unfolding cell_number
 has_number [] z e = cc e
 has_number (byte ∷ rest) z e = by_minus (byte == 45) refl e
   where
@@ -64,42 +64,42 @@ has_number (byte ∷ rest) z e = by_minus (byte == 45) refl e
     by_minus false b h = plain (magnitude_of (byte ∷ rest)) refl (grind arith) h
 
 -- a cell with no number
-no_number : (cell : List ℕ) → ((z : ℤ) → IsNumberText cell z → ⊥) → number_of cell ≡ None
-no_number cell none = by_answer (number_of cell) refl
+no_number : (cell : List ℕ) → ((z : ℤ) → IsNumberText cell z → ⊥) → cell_number cell ≡ None
+no_number cell none = by_answer (cell_number cell) refl
   where
-    by_answer : (o : Option ℤ) → number_of cell ≡ o → o ≡ None
+    by_answer : (o : Option ℤ) → cell_number cell ≡ o → o ≡ None
     by_answer None e = refl
     by_answer (Some z) e = absurd (none z (has_number cell z e))
 
-pub number_of-plus : (cell : List ℕ) → get_or cell 0 0 ≡ 43 → number_of cell ≡ None
-unfolding number_of
-number_of-plus [] h = refl
-number_of-plus (byte ∷ rest) h = rw h refl
+pub cell_number-plus : (cell : List ℕ) → get_or cell 0 0 ≡ 43 → cell_number cell ≡ None
+unfolding cell_number
+cell_number-plus [] h = refl
+cell_number-plus (byte ∷ rest) h = rw h refl
 
 -- the text of a number is UTF-8
-pub number_of-not_utf8 : (cell : List ℕ) → ¬ (IsUtf8 cell) → number_of cell ≡ None
-number_of-not_utf8 cell bad = no_number cell (λ z h. bad (IsUtf8-from_ascii cell (ascii z h)))
+pub cell_number-not_utf8 : (cell : List ℕ) → ¬ (IsUtf8 cell) → cell_number cell ≡ None
+cell_number-not_utf8 cell bad = no_number cell (λ z h. bad (IsUtf8-from_ascii cell (ascii z h)))
   where
     ascii : (z : ℤ) → IsNumberText cell z → IsAscii cell
     ascii z (inl h) = rw h.2 (IsAscii-cons 45 h.0 (omega arith) (IsAscii-from_digits h.0 (own.to h.0 h.3.all)))
     ascii z (inr h) = IsAscii-from_digits cell (own.to cell h.2.all)
 
-pub in_range_minus : (n : ℕ) → n ≤ greatest_number → IsInRange (neg_ℤ (pos n))
+pub in_range_minus : (n : ℕ) → n ≤ greatest_number → IsCellNumber (neg_ℤ (pos n))
 in_range_minus n h = (omega (arith, ints), omega (arith, ints))
 
-pub in_range_plain : (n : ℕ) → n ≤ greatest_number → IsInRange (pos n)
+pub in_range_plain : (n : ℕ) → n ≤ greatest_number → IsCellNumber (pos n)
 in_range_plain n h = (omega (arith, ints), omega (arith, ints))
 
-pub number_of-in_range : (cell : List ℕ) (z : ℤ) → number_of cell ≡ Some z → IsInRange z
-number_of-in_range cell z e = ranged (has_number cell z e)
+pub cell_number-in_range : (cell : List ℕ) (z : ℤ) → cell_number cell ≡ Some z → IsCellNumber z
+cell_number-in_range cell z e = ranged (has_number cell z e)
   where
-    ranged : IsNumberText cell z → IsInRange z
+    ranged : IsNumberText cell z → IsCellNumber z
     ranged (inl h) = rw h.4 (in_range_minus h.1 h.3.small)
     ranged (inr h) = rw h.3 (in_range_plain h.0 h.2.small)
 
 -- a cell whose text doesn't parse has no number
-pub number_of-unparsed : (cell : List ℕ) → get_or cell 0 0 ≢ 43 → ParsesSigned {E = ℕ} w64 10 cell (Err 0) → number_of cell ≡ None
-number_of-unparsed cell plus h = no_number cell (λ z t. refused z t)
+pub cell_number-unparsed : (cell : List ℕ) → get_or cell 0 0 ≢ 43 → ParsesSigned {E = ℕ} w64 10 cell (Err 0) → cell_number cell ≡ None
+cell_number-unparsed cell plus h = no_number cell (λ z t. refused z t)
   where
     refused : (z : ℤ) → IsNumberText cell z → ⊥
     refused z (inl t) =
@@ -110,19 +110,19 @@ number_of-unparsed cell plus h = no_number cell (λ z t. refused z t)
     refused z (inr t) =
         parse_signed_plain own {E = ℕ} w64 cell (Err 0) h plus t.1 (t.2.all, t.2.some, omega (arith, t.2.small, t.2.value))
 
-small_minus : (n : ℕ) → IsInRange (neg_ℤ (pos n)) → n ≤ greatest_number
+small_minus : (n : ℕ) → IsCellNumber (neg_ℤ (pos n)) → n ≤ greatest_number
 small_minus n h = omega (arith, ints, h.0)
 
-small_plain : (n : ℕ) → IsInRange (pos n) → n ≤ greatest_number
+small_plain : (n : ℕ) → IsCellNumber (pos n) → n ≤ greatest_number
 small_plain n h = omega (arith, ints, h.1)
 
 -- the number that a cell's text parses to is the cell's, if it is in range
-pub number_of-parsed : (cell : List ℕ) (z : ℤ) → get_or cell 0 0 ≢ 43 → ParsesSigned {E = ℕ} w64 10 cell (Ok z) → IsInRange z → number_of cell ≡ Some z
-unfolding number_of
-number_of-parsed [] z plus h range =
+pub cell_number-parsed : (cell : List ℕ) (z : ℤ) → get_or cell 0 0 ≢ 43 → ParsesSigned {E = ℕ} w64 10 cell (Ok z) → IsCellNumber z → cell_number cell ≡ Some z
+unfolding cell_number
+cell_number-parsed [] z plus h range =
     let f = parse_signed_plain own {E = ℕ} w64 [] (Ok z) h plus (λ e. cc e) in
     absurd (omega (arith, f.0.1))
-number_of-parsed (byte ∷ rest) z plus h range = by_minus (byte == 45) refl
+cell_number-parsed (byte ∷ rest) z plus h range = by_minus (byte == 45) refl
   where
     by_minus : (b : Bool) → (byte == 45) ≡ b
         → (if b then option_map (λ n. neg_ℤ (pos n)) (magnitude_of rest) else option_map pos (magnitude_of (byte ∷ rest))) ≡ Some z
@@ -138,8 +138,8 @@ number_of-parsed (byte ∷ rest) z plus h range = by_minus (byte == 45) refl
         rw (m, f.1) refl
 
 -- and if it isn't, the cell has none
-pub number_of-too_great : (cell : List ℕ) (z : ℤ) → get_or cell 0 0 ≢ 43 → ParsesSigned {E = ℕ} w64 10 cell (Ok z) → ¬ (IsInRange z) → number_of cell ≡ None
-number_of-too_great cell z plus h far = no_number cell refused
+pub cell_number-too_great : (cell : List ℕ) (z : ℤ) → get_or cell 0 0 ≢ 43 → ParsesSigned {E = ℕ} w64 10 cell (Ok z) → ¬ (IsCellNumber z) → cell_number cell ≡ None
+cell_number-too_great cell z plus h far = no_number cell refused
   where
     refused : (y : ℤ) → IsNumberText cell y → ⊥
     refused y (inl t) =

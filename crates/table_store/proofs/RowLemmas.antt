@@ -1,28 +1,22 @@
 -- What each row adds to the rows behind it.
-use Rattle.std.proofs.Common.{◌≡◌, ◌≢◌, ◌+◌, ◌<◌, ◌≤◌, ◌∙◌, ℕ, true, false, List, [], ◌∷◌, ◌++◌, length, Option, Some, None, Result, Ok, Err, Bor, ℤ, append_assoc, refl, sym, ap, arith}
+use Rattle.std.proofs.Common.{◌≡◌, ◌≢◌, ◌+◌, ◌<◌, ◌≤◌, ◌∙◌, ℕ, Bool, true, false, List, [], ◌∷◌, ◌++◌, length, Option, Some, None, Result, Ok, Err, Bor, ℤ, append_assoc, refl, sym, ap, arith}
 use Rattle.std.specs.Prelude.{nat_lt, option_and_then}
 use Rattle.csv.specs.Reading.{ReadRecord, TookRecord, expected_len, is_flexible, took_first}
 use Rattle.csv.specs.Records.{field_at}
 use Rattle.csv.specs.declared.reader.Reader.{Reader}
-use Rattle.table_store.specs.Cell.{number_of}
-use Rattle.table_store.specs.Reader.{IsUnderHeader, bytes_left, records_left}
+use Rattle.table_store.specs.Cell.{cell_number}
+use Rattle.table_store.specs.Reader.{IsUnderHeader, TakesCell, HasRead, bytes_left, records_left}
 use Rattle.table_store.specs.Table.{before_rest, most_rows, rows_from}
 use Rattle.table_store.specs.declared.TableFault.{TableFault}
 use Rattle.table_store.specs.declared.TableFault.TheVariants.{BadRecord, BadCell, TooManyRows}
-use Rattle.table_store.proofs.ReaderLemmas.{takes_record, took_record}
-
--- a record below a header of one field has one field
-pub record TakesCell (a b : Reader (Bor (List ℕ))) (f : List (List ℕ)) : Type 0 where
-  pub cell : List ℕ
-  pub is : f ≡ cell ∷ []
-  pub left : records_left a ≡ (cell ∷ []) ∷ records_left b
-  pub stands : IsUnderHeader b
+use Rattle.table_store.proofs.ReaderLemmas.{takes_none, takes_record, took_record}
 
 one_field : (f : List (List ℕ)) → length f ≡ 1 → (cell : List ℕ) × (f ≡ cell ∷ [])
 one_field [] e = cc e
 one_field (cell ∷ []) e = (cell, refl)
 one_field (a ∷ b ∷ more) e = absurd (omega arith)
 
+-- a record below a header of one field has one field
 pub takes_cell : (a b : Reader (Bor (List ℕ))) (f : List (List ℕ)) → IsUnderHeader a → ReadRecord bytes_left a b true f → is_flexible b ≡ is_flexible a → took_first b ≡ true
     → TakesCell a b f
 takes_cell a b f h r flexible first =
@@ -36,8 +30,22 @@ takes_cell a b f h r flexible first =
       stands = record { stands = t.stands; one = t.expects ∙ ap Some one };
     }
 
+-- what a read of the next record found
+pub has_read : (found : Bool) (a b : Reader (Bor (List ℕ))) (f : List (List ℕ)) → IsUnderHeader a → ReadRecord bytes_left a b found f → is_flexible b ≡ is_flexible a
+    → took_first b ≡ true → HasRead found a b f
+has_read true a b f h r flexible first = takes_cell a b f h r flexible first
+has_read false a b f h r flexible first = takes_none a b f h.stands r
+
+pub at_end : (found : Bool) (a b : Reader (Bor (List ℕ))) (f : List (List ℕ)) → HasRead found a b f → found ≡ false → records_left a ≡ []
+at_end true a b f read none = cc none
+at_end false a b f read none = read
+
+pub one_cell : (found : Bool) (a b : Reader (Bor (List ℕ))) (f : List (List ℕ)) → HasRead found a b f → found ≡ true → TakesCell a b f
+one_cell true a b f read some = read
+one_cell false a b f read some = cc some
+
 -- a record with no number for its place is what it is read as
-pub only_cell : (f : List (List ℕ)) (cell : List ℕ) (o : Option ℤ) → f ≡ cell ∷ [] → o ≡ option_and_then number_of (field_at f 0) → o ≡ number_of cell
+pub only_cell : (f : List (List ℕ)) (cell : List ℕ) (o : Option ℤ) → f ≡ cell ∷ [] → o ≡ option_and_then cell_number (field_at f 0) → o ≡ cell_number cell
 unfolding field_at
 only_cell f cell o e h = h ∙ rw e refl
 
@@ -47,19 +55,19 @@ rows_from-uneven row [] rest h = refl
 rows_from-uneven row (cell ∷ []) rest h = absurd (h refl)
 rows_from-uneven row (a ∷ b ∷ more) rest h = refl
 
-pub rows_from-no_number : (row : ℕ) (cell : List ℕ) (rest : List (List (List ℕ))) → number_of cell ≡ None
+pub rows_from-no_number : (row : ℕ) (cell : List ℕ) (rest : List (List (List ℕ))) → cell_number cell ≡ None
     → rows_from row ((cell ∷ []) ∷ rest) ≡ Err (BadCell row 0)
 unfolding rows_from
 rows_from-no_number row cell rest e = rw e refl
 
-pub rows_from-number : (row : ℕ) (cell : List ℕ) (number : ℤ) (rest : List (List (List ℕ))) → number_of cell ≡ Some number → row < most_rows
+pub rows_from-number : (row : ℕ) (cell : List ℕ) (number : ℤ) (rest : List (List (List ℕ))) → cell_number cell ≡ Some number → row < most_rows
     → rows_from row ((cell ∷ []) ∷ rest) ≡ before_rest (Ok number) (rows_from (row + 1) rest)
 unfolding rows_from
 rows_from-number row cell number rest e room =
     let test : nat_lt row most_rows ≡ true = grind arith in
     rw (e, test) refl
 
-pub rows_from-too_many : (row : ℕ) (cell : List ℕ) (number : ℤ) (rest : List (List (List ℕ))) → number_of cell ≡ Some number → most_rows ≤ row
+pub rows_from-too_many : (row : ℕ) (cell : List ℕ) (number : ℤ) (rest : List (List (List ℕ))) → cell_number cell ≡ Some number → most_rows ≤ row
     → rows_from row ((cell ∷ []) ∷ rest) ≡ Err TooManyRows
 unfolding rows_from
 rows_from-too_many row cell number rest e room =

@@ -1,5 +1,6 @@
 -- The number that a cell of a table writes.
-use Rattle.std.specs.Prelude.{ℕ, ◌+◌, ◌-◌, ◌*◌, ◌^◌, List, [], ◌∷◌, length, Option, Some, None, ℤ, pos, neg_ℤ, ◌≤ℤ◌, ◌&&◌, ◌==◌, nat_lt, nat_le, if◌then◌else◌, option_map}
+use Rattle.std.specs.Prelude.{ℕ, ◌+◌, ◌-◌, ◌*◌, ◌^◌, List, [], ◌∷◌, length, Option, Some, None, ℤ, pos, neg_ℤ, ◌≤ℤ◌}
+use Rattle.std.specs.Prelude.{◌&&◌, ◌==◌, nat_lt, nat_le, if◌then◌else◌, option_map}
 use Rattle.std.specs.Str.{all_ascii_digits}
 
 -- how great a number may be, in absolute value
@@ -18,12 +19,12 @@ magnitude_of digits =
     then Some (decimal_value digits) else None
 
 -- the number of a cell: its digits, perhaps behind a minus
-unfoldable pub number_of : List ℕ → Option ℤ
-number_of [] = None
-number_of (byte ∷ rest) =
+unfoldable pub cell_number : List ℕ → Option ℤ
+cell_number [] = None
+cell_number (byte ∷ rest) =
     if byte == 45 then option_map (λ n. neg_ℤ (pos n)) (magnitude_of rest)
     else option_map pos (magnitude_of (byte ∷ rest))
 
 -- a number that a cell may have
-abbrev pub IsInRange : ℤ → Type 0
-IsInRange number = (neg_ℤ (pos greatest_number) ≤ℤ number) × (number ≤ℤ pos greatest_number)
+abbrev pub IsCellNumber : ℤ → Type 0
+IsCellNumber number = (neg_ℤ (pos greatest_number) ≤ℤ number) × (number ≤ℤ pos greatest_number)

@@ -1,5 +1,5 @@
 -- What a reader of csv over a slice has left to read.
-use Rattle.std.specs.Prelude.{◌≡◌, ℕ, ◌+◌, List, [], length, Option, Some, None, Result, Ok, ℤ, false, IsSome}
+use Rattle.std.specs.Prelude.{◌≡◌, ℕ, ◌+◌, Bool, true, List, [], ◌∷◌, length, Option, Some, None, Result, Ok, ℤ, false, IsSome}
 use Rattle.std.specs.Option.{option_map_or}
 use Rattle.std.specs.Borrow.{Bor}
 use Rattle.csv.specs.Machine.{ends_at_end}
@@ -30,6 +30,18 @@ pub record IsBetweenRecords (reader : Reader (Bor (List ℕ))) : Type 0 where
 pub record IsUnderHeader (reader : Reader (Bor (List ℕ))) : Type 0 where
   pub stands : IsBetweenRecords reader
   pub one : expected_len reader ≡ Some 1
+
+-- A reader under a header took a record: it has one cell, and is the first of those that were left.
+pub record TakesCell (old new : Reader (Bor (List ℕ))) (fields : List (List ℕ)) : Type 0 where
+  pub cell : List ℕ
+  pub is : fields ≡ cell ∷ []
+  pub left : records_left old ≡ (cell ∷ []) ∷ records_left new
+  pub stands : IsUnderHeader new
+
+-- what a read of the next record found: one cell, or the end
+abbrev pub HasRead : (found : Bool) → (old new : Reader (Bor (List ℕ))) → List (List ℕ) → Type 0
+HasRead true old new fields = TakesCell old new fields
+HasRead false old new fields = records_left old ≡ []
 
 -- the rows from one on that may have ended before it
 abbrev pub row_before : Option ℤ → Result (List ℤ) TableFault → Result (List ℤ) TableFault

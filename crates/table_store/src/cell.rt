@@ -1,14 +1,14 @@
-// The cells of a table.
+//! The cells of a table.
 
 ghost use Rattle.std.specs.Prelude.{◌≡◌};
-ghost use Rattle.table_store.specs.Cell.{number_of};
+ghost use Rattle.table_store.specs.Cell.{cell_number};
 
 use crate::MAX_NUMBER;
 use std::str;
 
 /// The number that a cell writes: digits, perhaps behind a minus.
 pub(crate) fn number(cell: &[u8]) -> Option<i64>
-    ensures { result ≡ number_of cell.now }
+    ensures { result ≡ cell_number cell.now }
 {
     // `parse` would take a plus.
     if cell.first().copied() == Some(b'+') {

@@ -5,8 +5,8 @@
 
 ghost use Rattle.std.specs.Prelude.{◌≡◌, ◌⊎◌, ◌==◌, length, IfOk, IfErr, Ok, Err};
 ghost use Rattle.std.specs.List.{All};
-ghost use Rattle.table_store.specs.Cell.{IsInRange};
-ghost use Rattle.table_store.specs.Table.{table_of};
+ghost use Rattle.table_store.specs.Cell.{IsCellNumber};
+ghost use Rattle.table_store.specs.Table.{table_in_file};
 
 mod cell;
 mod rows;
@@ -45,13 +45,13 @@ pub struct Table {
 impl Model for Table {
     ghost use Rattle.std.specs.Prelude.{List, ℤ};
     ghost use Rattle.std.specs.List.{All};
-    ghost use Rattle.table_store.specs.Cell.{IsInRange};
+    ghost use Rattle.table_store.specs.Cell.{IsCellNumber};
 
     ghost Value = { List ℤ };
 
     ghost view = { λ table. table.numbers.items };
 
-    ghost invariant = { λ table. All IsInRange table.numbers.items };
+    ghost invariant = { λ table. All IsCellNumber table.numbers.items };
 }
 
 impl Table {
@@ -72,7 +72,7 @@ impl Table {
     /// The number of each row, in the file's order.
     pub fn numbers(&self) -> &[i64]
         ensures numbers { result.now ≡ self.now }
-        ensures in_range { All IsInRange self.now }
+        ensures in_range { All IsCellNumber self.now }
     {
         self.numbers.as_slice()
     }
@@ -85,10 +85,10 @@ impl Table {
 /// cell: an optional minus and digits, of a number from `-MAX_NUMBER` to `MAX_NUMBER`.
 ///
 /// The error is the first fault in the order of the file, or that memory ran out.
-#[tactic(auto, unfolding(crate::specs::Table::table_of))]
+#[tactic(auto, unfolding(crate::specs::Table::table_in_file))]
 pub fn load(alloc: Global, bytes: &[u8], column: &str) -> Result<Table, TableFault>
-    ensures table { IfOk result (λ table. table_of column.now bytes.now ≡ Ok table) }
-    ensures fault { IfErr result (λ fault. (fault ≡ TableFault.NoMemory) ⊎ (table_of column.now bytes.now ≡ Err fault)) }
+    ensures table { IfOk result (λ table. table_in_file column.now bytes.now ≡ Ok table) }
+    ensures fault { IfErr result (λ fault. (fault ≡ TableFault.NoMemory) ⊎ (table_in_file column.now bytes.now ≡ Err fault)) }
 {
     let mut rows = Rows::new(alloc, bytes);
     rows.read_header(column)?;

@@ -1,10 +1,10 @@
-// The rows of a file of CSV, one after another.
+//! The rows of a file of CSV, one after another.
 
 ghost use Rattle.std.specs.Prelude.{◌≡◌, ◌⊎◌, ◌+◌, ◌<◌, IfOk, IfErr, OnOk, OnSome, IsSome, Ok, Err, option_and_then};
 ghost use Rattle.csv.specs.Records.{field_at, fields_of};
-ghost use Rattle.table_store.specs.Cell.{number_of};
+ghost use Rattle.table_store.specs.Cell.{cell_number};
 ghost use Rattle.table_store.specs.Table.{records_of, rows_from, rows_under};
-ghost use Rattle.table_store.specs.Reader.{IsBetweenRecords, IsUnderHeader, records_left, row_before};
+ghost use Rattle.table_store.specs.Reader.{IsBetweenRecords, IsUnderHeader, HasRead, records_left, row_before};
 
 use crate::cell::number;
 use crate::{MAX_ROWS, TableFault};
@@ -78,17 +78,12 @@ impl<'a> Rows<'a> {
         requires { IsUnderHeader self.old.reader }
         ensures stands { IfOk result (λ number. OnSome number (IsUnderHeader self.new.reader)) }
         ensures room { IfOk result (λ number. OnSome number (row < MAX_ROWS)) }
-        ensures number { IfOk result (λ number. rows_from row (records_left self.old.reader) ≡ row_before number (rows_from (row + 1) (records_left self.new.reader))) }
+        ensures number { IfOk result (λ number. rows_from row (records_left self.old.reader)
+            ≡ row_before number (rows_from (row + 1) (records_left self.new.reader))) }
         ensures fault { IfErr result (λ fault. (fault ≡ TableFault.NoMemory) ⊎ (rows_from row (records_left self.old.reader) ≡ Err fault)) }
     {
-        match self.reader.read_byte_record(&mut self.fields) {
-            Ok(true) => {}
-            Ok(false) => return Ok(None),
-            Err(error) => match error.kind() {
-                ErrorKind::UnequalLengths { .. } => return Err(TableFault::BadRecord { row }),
-                // Reading a slice doesn't fail, so this is want of memory.
-                _ => return Err(TableFault::NoMemory),
-            },
+        if !self.read_cell(row)? {
+            return Ok(None);
         }
         match self.number() {
             Some(_) if row >= MAX_ROWS => Err(TableFault::TooManyRows),
@@ -97,9 +92,25 @@ impl<'a> Rows<'a> {
         }
     }
 
+    // Reads the record of this row, if it is there: it has one cell.
+    fn read_cell(&mut self, row: u32) -> Result<bool, TableFault>
+        requires { IsUnderHeader self.old.reader }
+        ensures row { IfOk result (λ found. HasRead found self.old.reader self.new.reader (fields_of self.new.fields)) }
+        ensures fault { IfErr result (λ fault. (fault ≡ TableFault.NoMemory) ⊎ (rows_from row (records_left self.old.reader) ≡ Err fault)) }
+    {
+        match self.reader.read_byte_record(&mut self.fields) {
+            Ok(found) => Ok(found),
+            Err(error) => match error.kind() {
+                ErrorKind::UnequalLengths { .. } => Err(TableFault::BadRecord { row }),
+                // Reading a slice doesn't fail, so this is want of memory.
+                _ => Err(TableFault::NoMemory),
+            },
+        }
+    }
+
     // The number in the record that was read last, if it has one.
     fn number(&self) -> Option<i64>
-        ensures { result ≡ option_and_then number_of (field_at (fields_of self.now.fields) 0) }
+        ensures { result ≡ option_and_then cell_number (field_at (fields_of self.now.fields) 0) }
     {
         number(self.fields.get(0)?)
     }

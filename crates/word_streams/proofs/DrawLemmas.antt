@@ -3,7 +3,7 @@ use Rattle.std.proofs.Common.{◌≡◌, ◌+◌, ◌*◌, ◌%◌, ◌^◌, ◌
 use Rattle.std.proofs.Math.Path.{fun_ext}
 use Rattle.rand_core.specs.Steps.{u64_via_u32}
 use Rattle.rand_chacha.specs.ChaCha.{ChaCha, next_word, of_seed, word_at}
-use Rattle.fz_outside.specs.Draws.{after}
+use Rattle.fz_outside.specs.Draws.{draws_after}
 use Rattle.word_streams.specs.Draws.{draw_at, draws_of, stream_of}
 
 -- the words at two places, as a draw
@@ -23,7 +23,7 @@ draw_at-value old new draw e h =
     let high : (old.word_pos + 2 * 0 + 1) % 2 ^ 68 ≡ (old.word_pos + 1) % 2 ^ 68 = omega arith in
     ap (λ (p : ℕ × ChaCha). p.0) e ∙ sym (rw (low, high) refl)
 
-pub draw_at-after : (old new : ChaCha) (draw : ℕ) → (draw, new) ≡ u64_via_u32 (next_word 10) old → draw_at new ≡ after 1 (draw_at old)
+pub draw_at-after : (old new : ChaCha) (draw : ℕ) → (draw, new) ≡ u64_via_u32 (next_word 10) old → draw_at new ≡ draws_after 1 (draw_at old)
 unfolding draw_at
 draw_at-after old new draw e =
     let place : new ≡ record old { word_pos = ((old.word_pos + 1) % 2 ^ 68 + 1) % 2 ^ 68 } = ap (λ (p : ℕ × ChaCha). p.1) e in

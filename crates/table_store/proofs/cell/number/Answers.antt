@@ -4,8 +4,8 @@ use Rattle.std.specs.Prelude.{int_le, slice_get}
 use Rattle.std.specs.Option.{option_eq}
 use Rattle.std.specs.Str.Parse.{ParsesSigned}
 use Rattle.std.proofs.lemmas.Int.{ints, to_z-of_z}
-use Rattle.table_store.specs.Cell.{IsInRange, number_of}
-use Rattle.table_store.proofs.CellLemmas.{number_of-not_utf8, number_of-parsed, number_of-plus, number_of-too_great, number_of-unparsed}
+use Rattle.table_store.specs.Cell.{IsCellNumber, cell_number}
+use Rattle.table_store.proofs.CellLemmas.{cell_number-not_utf8, cell_number-parsed, cell_number-plus, cell_number-too_great, cell_number-unparsed}
 use Rattle.table_store.proofs.cell.number.Goals as goal
 
 -- whether a cell begins with a plus
@@ -21,21 +21,21 @@ begins_otherwise (byte ∷ rest) e = grind arith
 whole : (cell : List ℕ) (z : ℤ) → ParsesSigned {E = ℕ} w64 10 cell (Ok z) → to_z w64 (of_z w64 z) ≡ z
 whole cell z h = to_z-of_z w64 z (rw h.1 h.0.1)
 
-in_range : (z : ℤ) → int_le (negsuc 1125899906842623) z ≡ true → int_le z (pos 1125899906842624) ≡ true → IsInRange z
+in_range : (z : ℤ) → int_le (negsuc 1125899906842623) z ≡ true → int_le z (pos 1125899906842624) ≡ true → IsCellNumber z
 in_range z low high = (grind (arith, ints), grind (arith, ints))
 
-above : (z : ℤ) → int_le z (pos 1125899906842624) ≡ false → ¬ (IsInRange z)
+above : (z : ℤ) → int_le z (pos 1125899906842624) ≡ false → ¬ (IsCellNumber z)
 above z high = λ h. grind (arith, ints, h.1)
 
-below : (z : ℤ) → int_le (negsuc 1125899906842623) z ≡ false → ¬ (IsInRange z)
+below : (z : ℤ) → int_le (negsuc 1125899906842623) z ≡ false → ¬ (IsCellNumber z)
 below z low = λ h. grind (arith, ints, h.0)
 
 pub returns-then-eq : goal.returns-then-eq
 returns-then-eq c =
-    sym (number_of-plus c.args.cell.now (begins_with_plus c.args.cell.now (rw (c.copied.ensures, c.first.ensures.value) at (sym c.eq.ensures ∙ c.if-eq.true))))
+    sym (cell_number-plus c.args.cell.now (begins_with_plus c.args.cell.now (rw (c.copied.ensures, c.first.ensures.value) at (sym c.eq.ensures ∙ c.if-eq.true))))
 
 pub returns-in_default : goal.returns-in_default
-returns-in_default c = sym (number_of-not_utf8 c.args.cell.now (rw c.in_default.is at c.from_utf8.ensures.cases).0)
+returns-in_default c = sym (cell_number-not_utf8 c.args.cell.now (rw c.in_default.is at c.from_utf8.ensures.cases).0)
 
 pub returns-in-Ok-parse : goal.returns-in-Ok-parse
 returns-in-Ok-parse c =
@@ -45,7 +45,7 @@ returns-in-Ok-parse c =
     let plus = begins_otherwise c.args.cell.now (rw (c.copied.ensures, c.first.ensures.value) at (sym c.eq.ensures ∙ c.if-eq.false)) in
     let held = whole c.in-Ok.text.now z h in
     let range = in_range z (rw held at c.if-number.true) (rw held at c.if-number-le-MAX_NUMBER.true) in
-    ap Some held ∙ sym (ap number_of (sym same) ∙ number_of-parsed c.in-Ok.text.now z (rw same plus) h range)
+    ap Some held ∙ sym (ap cell_number (sym same) ∙ cell_number-parsed c.in-Ok.text.now z (rw same plus) h range)
 
 pub returns-in_default-parse : goal.returns-in_default-parse
 returns-in_default-parse c =
@@ -54,7 +54,7 @@ returns-in_default-parse c =
     let same = (rw c.in-Ok.is at c.from_utf8.ensures.cases).0 in
     let plus = begins_otherwise c.args.cell.now (rw (c.copied.ensures, c.first.ensures.value) at (sym c.eq.ensures ∙ c.if-eq.false)) in
     let far = above z (rw (whole c.in-Ok.text.now z h) at c.if-number-le-MAX_NUMBER.false) in
-    sym (ap number_of (sym same) ∙ number_of-too_great c.in-Ok.text.now z (rw same plus) h far)
+    sym (ap cell_number (sym same) ∙ cell_number-too_great c.in-Ok.text.now z (rw same plus) h far)
 
 pub returns-in_default-parse-2 : goal.returns-in_default-parse-2
 returns-in_default-parse-2 c =
@@ -63,11 +63,11 @@ returns-in_default-parse-2 c =
     let same = (rw c.in-Ok.is at c.from_utf8.ensures.cases).0 in
     let plus = begins_otherwise c.args.cell.now (rw (c.copied.ensures, c.first.ensures.value) at (sym c.eq.ensures ∙ c.if-eq.false)) in
     let far = below z (rw (whole c.in-Ok.text.now z h) at c.if-number.false) in
-    sym (ap number_of (sym same) ∙ number_of-too_great c.in-Ok.text.now z (rw same plus) h far)
+    sym (ap cell_number (sym same) ∙ cell_number-too_great c.in-Ok.text.now z (rw same plus) h far)
 
 pub returns-in_default-parse-3 : goal.returns-in_default-parse-3
 returns-in_default-parse-3 c =
     let h = (rw c.in_default-parse.is at c.parse.ensures.value).0 in
     let same = (rw c.in-Ok.is at c.from_utf8.ensures.cases).0 in
     let plus = begins_otherwise c.args.cell.now (rw (c.copied.ensures, c.first.ensures.value) at (sym c.eq.ensures ∙ c.if-eq.false)) in
-    sym (ap number_of (sym same) ∙ number_of-unparsed c.in-Ok.text.now (rw same plus) h)
+    sym (ap cell_number (sym same) ∙ cell_number-unparsed c.in-Ok.text.now (rw same plus) h)
