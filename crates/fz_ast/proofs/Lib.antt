@@ -1,5 +1,9 @@
+-- The lemmas of this crate, and its worked examples.
 pub mod Arenas
-pub mod Example
+mod ExamplesOfTypes
+mod ExamplesOfTerms
+mod ExamplesOfTables
+pub mod Bare
 pub mod Padding
 pub mod RowTypes
 pub mod SameTypes

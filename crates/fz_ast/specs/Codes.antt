@@ -7,8 +7,7 @@ use base.Stored.{Gv, gnil, gnum, gcons}
 use Rattle.fz_frac.specs.Distance.{Distance, Fin, Inf}
 use Rattle.fz_ast.specs.declared.span.Span.{Span}
 use Rattle.fz_ast.specs.Types.{Ty, NumT, TextT, UnitT, TensorT, WithT, SumT, ArrowT, BangT, BagT}
-use Rattle.fz_ast.specs.Terms.{Name}
-use Rattle.fz_ast.specs.Spanned.{Spanned, VarAt, NumAt, TextAt, UnitAt, PairAt, WithAt, FstAt, SndAt, LetPairAt, InlAt, InrAt, CaseAt, IfAt, FunAt, FnAt, AppAt, BangAt, LetBangAt, LetAt, PlusAt, MinusAt, TimesAt, LeAt, EqAt, ClipAt, LeastAt, GreatestAt, SizeAt, SumAt, UnionAt, MapAt, FilterAt, SplitAt}
+use Rattle.fz_ast.specs.Terms.{Name, Term, at, VarE, NumE, TextE, UnitE, PairE, WithE, FstE, SndE, LetPairE, InlE, InrE, CaseE, IfE, FunE, FnE, AppE, BangE, LetBangE, LetE, PlusE, MinusE, TimesE, LeE, EqE, ClipE, LeastE, GreatestE, SizeE, SumE, UnionE, MapE, FilterE, SplitE}
 use Rattle.fz_ast.specs.Parts.{Parts}
 use Rattle.fz_ast.specs.Signature.{Signature}
 
@@ -104,119 +103,119 @@ type_code = code_by Gv itself type_to type_from type_back
 abbrev pub types_code : Coded (List Ty)
 types_code = coded_list type_code
 
-abbrev pub spanned_to : Spanned → Gv
-spanned_to (VarAt a b) = gcons (gnum 0) (gcons (span_to a) (gcons (bytes_to b) (gcons gnil (gcons gnil (gcons gnil (gnil))))))
-spanned_to (NumAt a b) = gcons (gnum 1) (gcons (span_to a) (gcons (int_to b) (gcons gnil (gcons gnil (gcons gnil (gnil))))))
-spanned_to (TextAt a b) = gcons (gnum 2) (gcons (span_to a) (gcons (bytes_to b) (gcons gnil (gcons gnil (gcons gnil (gnil))))))
-spanned_to (UnitAt a) = gcons (gnum 3) (gcons (span_to a) (gcons gnil (gcons gnil (gcons gnil (gcons gnil (gnil))))))
-spanned_to (PairAt a b c) = gcons (gnum 4) (gcons (span_to a) (gcons (spanned_to b) (gcons (spanned_to c) (gcons gnil (gcons gnil (gnil))))))
-spanned_to (WithAt a b c) = gcons (gnum 5) (gcons (span_to a) (gcons (spanned_to b) (gcons (spanned_to c) (gcons gnil (gcons gnil (gnil))))))
-spanned_to (FstAt a b) = gcons (gnum 6) (gcons (span_to a) (gcons (spanned_to b) (gcons gnil (gcons gnil (gcons gnil (gnil))))))
-spanned_to (SndAt a b) = gcons (gnum 7) (gcons (span_to a) (gcons (spanned_to b) (gcons gnil (gcons gnil (gcons gnil (gnil))))))
-spanned_to (LetPairAt a b c d e) = gcons (gnum 8) (gcons (span_to a) (gcons (bytes_to b) (gcons (bytes_to c) (gcons (spanned_to d) (gcons (spanned_to e) (gnil))))))
-spanned_to (InlAt a b c d) = gcons (gnum 9) (gcons (span_to a) (gcons (span_to b) (gcons (type_to c) (gcons (spanned_to d) (gcons gnil (gnil))))))
-spanned_to (InrAt a b c d) = gcons (gnum 10) (gcons (span_to a) (gcons (span_to b) (gcons (type_to c) (gcons (spanned_to d) (gcons gnil (gnil))))))
-spanned_to (CaseAt a b c d e f) = gcons (gnum 11) (gcons (span_to a) (gcons (spanned_to b) (gcons (bytes_to c) (gcons (spanned_to d) (gcons (bytes_to e) (spanned_to f))))))
-spanned_to (IfAt a b c d) = gcons (gnum 12) (gcons (span_to a) (gcons (spanned_to b) (gcons (spanned_to c) (gcons (spanned_to d) (gcons gnil (gnil))))))
-spanned_to (FunAt a b c d e) = gcons (gnum 13) (gcons (span_to a) (gcons (bytes_to b) (gcons (span_to c) (gcons (type_to d) (gcons (spanned_to e) (gnil))))))
-spanned_to (FnAt a b c d e) = gcons (gnum 14) (gcons (span_to a) (gcons (bytes_to b) (gcons (span_to c) (gcons (type_to d) (gcons (spanned_to e) (gnil))))))
-spanned_to (AppAt a b c) = gcons (gnum 15) (gcons (span_to a) (gcons (spanned_to b) (gcons (spanned_to c) (gcons gnil (gcons gnil (gnil))))))
-spanned_to (BangAt a b c) = gcons (gnum 16) (gcons (span_to a) (gcons (distance_to b) (gcons (spanned_to c) (gcons gnil (gcons gnil (gnil))))))
-spanned_to (LetBangAt a b c d) = gcons (gnum 17) (gcons (span_to a) (gcons (bytes_to b) (gcons (spanned_to c) (gcons (spanned_to d) (gcons gnil (gnil))))))
-spanned_to (LetAt a b c d) = gcons (gnum 18) (gcons (span_to a) (gcons (bytes_to b) (gcons (spanned_to c) (gcons (spanned_to d) (gcons gnil (gnil))))))
-spanned_to (PlusAt a b c) = gcons (gnum 19) (gcons (span_to a) (gcons (spanned_to b) (gcons (spanned_to c) (gcons gnil (gcons gnil (gnil))))))
-spanned_to (MinusAt a b c) = gcons (gnum 20) (gcons (span_to a) (gcons (spanned_to b) (gcons (spanned_to c) (gcons gnil (gcons gnil (gnil))))))
-spanned_to (TimesAt a b c) = gcons (gnum 21) (gcons (span_to a) (gcons (int_to b) (gcons (spanned_to c) (gcons gnil (gcons gnil (gnil))))))
-spanned_to (LeAt a b c) = gcons (gnum 22) (gcons (span_to a) (gcons (spanned_to b) (gcons (spanned_to c) (gcons gnil (gcons gnil (gnil))))))
-spanned_to (EqAt a b c) = gcons (gnum 23) (gcons (span_to a) (gcons (spanned_to b) (gcons (spanned_to c) (gcons gnil (gcons gnil (gnil))))))
-spanned_to (ClipAt a b c d) = gcons (gnum 24) (gcons (span_to a) (gcons (int_to b) (gcons (int_to c) (gcons (spanned_to d) (gcons gnil (gnil))))))
-spanned_to (LeastAt a b) = gcons (gnum 25) (gcons (span_to a) (gcons (spanned_to b) (gcons gnil (gcons gnil (gcons gnil (gnil))))))
-spanned_to (GreatestAt a b) = gcons (gnum 26) (gcons (span_to a) (gcons (spanned_to b) (gcons gnil (gcons gnil (gcons gnil (gnil))))))
-spanned_to (SizeAt a b) = gcons (gnum 27) (gcons (span_to a) (gcons (spanned_to b) (gcons gnil (gcons gnil (gcons gnil (gnil))))))
-spanned_to (SumAt a b c d) = gcons (gnum 28) (gcons (span_to a) (gcons (int_to b) (gcons (int_to c) (gcons (spanned_to d) (gcons gnil (gnil))))))
-spanned_to (UnionAt a b c) = gcons (gnum 29) (gcons (span_to a) (gcons (spanned_to b) (gcons (spanned_to c) (gcons gnil (gcons gnil (gnil))))))
-spanned_to (MapAt a b c) = gcons (gnum 30) (gcons (span_to a) (gcons (spanned_to b) (gcons (spanned_to c) (gcons gnil (gcons gnil (gnil))))))
-spanned_to (FilterAt a b c) = gcons (gnum 31) (gcons (span_to a) (gcons (spanned_to b) (gcons (spanned_to c) (gcons gnil (gcons gnil (gnil))))))
-spanned_to (SplitAt a b c) = gcons (gnum 32) (gcons (span_to a) (gcons (spanned_to b) (gcons (spanned_to c) (gcons gnil (gcons gnil (gnil))))))
+abbrev pub term_to : Term → Gv
+term_to (at a (VarE b)) = gcons (gnum 0) (gcons (span_to a) (gcons (bytes_to b) (gcons gnil (gcons gnil (gcons gnil (gnil))))))
+term_to (at a (NumE b)) = gcons (gnum 1) (gcons (span_to a) (gcons (int_to b) (gcons gnil (gcons gnil (gcons gnil (gnil))))))
+term_to (at a (TextE b)) = gcons (gnum 2) (gcons (span_to a) (gcons (bytes_to b) (gcons gnil (gcons gnil (gcons gnil (gnil))))))
+term_to (at a UnitE) = gcons (gnum 3) (gcons (span_to a) (gcons gnil (gcons gnil (gcons gnil (gcons gnil (gnil))))))
+term_to (at a (PairE b c)) = gcons (gnum 4) (gcons (span_to a) (gcons (term_to b) (gcons (term_to c) (gcons gnil (gcons gnil (gnil))))))
+term_to (at a (WithE b c)) = gcons (gnum 5) (gcons (span_to a) (gcons (term_to b) (gcons (term_to c) (gcons gnil (gcons gnil (gnil))))))
+term_to (at a (FstE b)) = gcons (gnum 6) (gcons (span_to a) (gcons (term_to b) (gcons gnil (gcons gnil (gcons gnil (gnil))))))
+term_to (at a (SndE b)) = gcons (gnum 7) (gcons (span_to a) (gcons (term_to b) (gcons gnil (gcons gnil (gcons gnil (gnil))))))
+term_to (at a (LetPairE b c d e)) = gcons (gnum 8) (gcons (span_to a) (gcons (bytes_to b) (gcons (bytes_to c) (gcons (term_to d) (gcons (term_to e) (gnil))))))
+term_to (at a (InlE b c d)) = gcons (gnum 9) (gcons (span_to a) (gcons (span_to b) (gcons (type_to c) (gcons (term_to d) (gcons gnil (gnil))))))
+term_to (at a (InrE b c d)) = gcons (gnum 10) (gcons (span_to a) (gcons (span_to b) (gcons (type_to c) (gcons (term_to d) (gcons gnil (gnil))))))
+term_to (at a (CaseE b c d e f)) = gcons (gnum 11) (gcons (span_to a) (gcons (term_to b) (gcons (bytes_to c) (gcons (term_to d) (gcons (bytes_to e) (term_to f))))))
+term_to (at a (IfE b c d)) = gcons (gnum 12) (gcons (span_to a) (gcons (term_to b) (gcons (term_to c) (gcons (term_to d) (gcons gnil (gnil))))))
+term_to (at a (FunE b c d e)) = gcons (gnum 13) (gcons (span_to a) (gcons (bytes_to b) (gcons (span_to c) (gcons (type_to d) (gcons (term_to e) (gnil))))))
+term_to (at a (FnE b c d e)) = gcons (gnum 14) (gcons (span_to a) (gcons (bytes_to b) (gcons (span_to c) (gcons (type_to d) (gcons (term_to e) (gnil))))))
+term_to (at a (AppE b c)) = gcons (gnum 15) (gcons (span_to a) (gcons (term_to b) (gcons (term_to c) (gcons gnil (gcons gnil (gnil))))))
+term_to (at a (BangE b c)) = gcons (gnum 16) (gcons (span_to a) (gcons (distance_to b) (gcons (term_to c) (gcons gnil (gcons gnil (gnil))))))
+term_to (at a (LetBangE b c d)) = gcons (gnum 17) (gcons (span_to a) (gcons (bytes_to b) (gcons (term_to c) (gcons (term_to d) (gcons gnil (gnil))))))
+term_to (at a (LetE b c d)) = gcons (gnum 18) (gcons (span_to a) (gcons (bytes_to b) (gcons (term_to c) (gcons (term_to d) (gcons gnil (gnil))))))
+term_to (at a (PlusE b c)) = gcons (gnum 19) (gcons (span_to a) (gcons (term_to b) (gcons (term_to c) (gcons gnil (gcons gnil (gnil))))))
+term_to (at a (MinusE b c)) = gcons (gnum 20) (gcons (span_to a) (gcons (term_to b) (gcons (term_to c) (gcons gnil (gcons gnil (gnil))))))
+term_to (at a (TimesE b c)) = gcons (gnum 21) (gcons (span_to a) (gcons (int_to b) (gcons (term_to c) (gcons gnil (gcons gnil (gnil))))))
+term_to (at a (LeE b c)) = gcons (gnum 22) (gcons (span_to a) (gcons (term_to b) (gcons (term_to c) (gcons gnil (gcons gnil (gnil))))))
+term_to (at a (EqE b c)) = gcons (gnum 23) (gcons (span_to a) (gcons (term_to b) (gcons (term_to c) (gcons gnil (gcons gnil (gnil))))))
+term_to (at a (ClipE b c d)) = gcons (gnum 24) (gcons (span_to a) (gcons (int_to b) (gcons (int_to c) (gcons (term_to d) (gcons gnil (gnil))))))
+term_to (at a (LeastE b)) = gcons (gnum 25) (gcons (span_to a) (gcons (term_to b) (gcons gnil (gcons gnil (gcons gnil (gnil))))))
+term_to (at a (GreatestE b)) = gcons (gnum 26) (gcons (span_to a) (gcons (term_to b) (gcons gnil (gcons gnil (gcons gnil (gnil))))))
+term_to (at a (SizeE b)) = gcons (gnum 27) (gcons (span_to a) (gcons (term_to b) (gcons gnil (gcons gnil (gcons gnil (gnil))))))
+term_to (at a (SumE b c d)) = gcons (gnum 28) (gcons (span_to a) (gcons (int_to b) (gcons (int_to c) (gcons (term_to d) (gcons gnil (gnil))))))
+term_to (at a (UnionE b c)) = gcons (gnum 29) (gcons (span_to a) (gcons (term_to b) (gcons (term_to c) (gcons gnil (gcons gnil (gnil))))))
+term_to (at a (MapE b c)) = gcons (gnum 30) (gcons (span_to a) (gcons (term_to b) (gcons (term_to c) (gcons gnil (gcons gnil (gnil))))))
+term_to (at a (FilterE b c)) = gcons (gnum 31) (gcons (span_to a) (gcons (term_to b) (gcons (term_to c) (gcons gnil (gcons gnil (gnil))))))
+term_to (at a (SplitE b c)) = gcons (gnum 32) (gcons (span_to a) (gcons (term_to b) (gcons (term_to c) (gcons gnil (gcons gnil (gnil))))))
 
-abbrev pub spanned_from : Gv → Spanned
-spanned_from (gcons (gnum k) (gcons a (gcons b (gcons c (gcons d (gcons e f)))))) =
+abbrev pub term_from : Gv → Term
+term_from (gcons (gnum k) (gcons a (gcons b (gcons c (gcons d (gcons e f)))))) =
     get_or (
-    VarAt (span_from a) (bytes_from b) ∷
-    NumAt (span_from a) (int_from b) ∷
-    TextAt (span_from a) (bytes_from b) ∷
-    UnitAt (span_from a) ∷
-    PairAt (span_from a) (spanned_from b) (spanned_from c) ∷
-    WithAt (span_from a) (spanned_from b) (spanned_from c) ∷
-    FstAt (span_from a) (spanned_from b) ∷
-    SndAt (span_from a) (spanned_from b) ∷
-    LetPairAt (span_from a) (bytes_from b) (bytes_from c) (spanned_from d) (spanned_from e) ∷
-    InlAt (span_from a) (span_from b) (type_from c) (spanned_from d) ∷
-    InrAt (span_from a) (span_from b) (type_from c) (spanned_from d) ∷
-    CaseAt (span_from a) (spanned_from b) (bytes_from c) (spanned_from d) (bytes_from e) (spanned_from f) ∷
-    IfAt (span_from a) (spanned_from b) (spanned_from c) (spanned_from d) ∷
-    FunAt (span_from a) (bytes_from b) (span_from c) (type_from d) (spanned_from e) ∷
-    FnAt (span_from a) (bytes_from b) (span_from c) (type_from d) (spanned_from e) ∷
-    AppAt (span_from a) (spanned_from b) (spanned_from c) ∷
-    BangAt (span_from a) (distance_from b) (spanned_from c) ∷
-    LetBangAt (span_from a) (bytes_from b) (spanned_from c) (spanned_from d) ∷
-    LetAt (span_from a) (bytes_from b) (spanned_from c) (spanned_from d) ∷
-    PlusAt (span_from a) (spanned_from b) (spanned_from c) ∷
-    MinusAt (span_from a) (spanned_from b) (spanned_from c) ∷
-    TimesAt (span_from a) (int_from b) (spanned_from c) ∷
-    LeAt (span_from a) (spanned_from b) (spanned_from c) ∷
-    EqAt (span_from a) (spanned_from b) (spanned_from c) ∷
-    ClipAt (span_from a) (int_from b) (int_from c) (spanned_from d) ∷
-    LeastAt (span_from a) (spanned_from b) ∷
-    GreatestAt (span_from a) (spanned_from b) ∷
-    SizeAt (span_from a) (spanned_from b) ∷
-    SumAt (span_from a) (int_from b) (int_from c) (spanned_from d) ∷
-    UnionAt (span_from a) (spanned_from b) (spanned_from c) ∷
-    MapAt (span_from a) (spanned_from b) (spanned_from c) ∷
-    FilterAt (span_from a) (spanned_from b) (spanned_from c) ∷
-    SplitAt (span_from a) (spanned_from b) (spanned_from c) ∷ []) k (UnitAt (span_from gnil))
-spanned_from g = UnitAt (span_from gnil)
+    at (span_from a) (VarE (bytes_from b)) ∷
+    at (span_from a) (NumE (int_from b)) ∷
+    at (span_from a) (TextE (bytes_from b)) ∷
+    at (span_from a) UnitE ∷
+    at (span_from a) (PairE (term_from b) (term_from c)) ∷
+    at (span_from a) (WithE (term_from b) (term_from c)) ∷
+    at (span_from a) (FstE (term_from b)) ∷
+    at (span_from a) (SndE (term_from b)) ∷
+    at (span_from a) (LetPairE (bytes_from b) (bytes_from c) (term_from d) (term_from e)) ∷
+    at (span_from a) (InlE (span_from b) (type_from c) (term_from d)) ∷
+    at (span_from a) (InrE (span_from b) (type_from c) (term_from d)) ∷
+    at (span_from a) (CaseE (term_from b) (bytes_from c) (term_from d) (bytes_from e) (term_from f)) ∷
+    at (span_from a) (IfE (term_from b) (term_from c) (term_from d)) ∷
+    at (span_from a) (FunE (bytes_from b) (span_from c) (type_from d) (term_from e)) ∷
+    at (span_from a) (FnE (bytes_from b) (span_from c) (type_from d) (term_from e)) ∷
+    at (span_from a) (AppE (term_from b) (term_from c)) ∷
+    at (span_from a) (BangE (distance_from b) (term_from c)) ∷
+    at (span_from a) (LetBangE (bytes_from b) (term_from c) (term_from d)) ∷
+    at (span_from a) (LetE (bytes_from b) (term_from c) (term_from d)) ∷
+    at (span_from a) (PlusE (term_from b) (term_from c)) ∷
+    at (span_from a) (MinusE (term_from b) (term_from c)) ∷
+    at (span_from a) (TimesE (int_from b) (term_from c)) ∷
+    at (span_from a) (LeE (term_from b) (term_from c)) ∷
+    at (span_from a) (EqE (term_from b) (term_from c)) ∷
+    at (span_from a) (ClipE (int_from b) (int_from c) (term_from d)) ∷
+    at (span_from a) (LeastE (term_from b)) ∷
+    at (span_from a) (GreatestE (term_from b)) ∷
+    at (span_from a) (SizeE (term_from b)) ∷
+    at (span_from a) (SumE (int_from b) (int_from c) (term_from d)) ∷
+    at (span_from a) (UnionE (term_from b) (term_from c)) ∷
+    at (span_from a) (MapE (term_from b) (term_from c)) ∷
+    at (span_from a) (FilterE (term_from b) (term_from c)) ∷
+    at (span_from a) (SplitE (term_from b) (term_from c)) ∷ []) k (at (span_from gnil) UnitE)
+term_from g = at (span_from gnil) UnitE
 
-pub spanned_back : (x : Spanned) → spanned_from (spanned_to x) ≡ x
-spanned_back (VarAt a b) = λ i. VarAt (span_back a i) (bytes_back b i)
-spanned_back (NumAt a b) = λ i. NumAt (span_back a i) (int_back b i)
-spanned_back (TextAt a b) = λ i. TextAt (span_back a i) (bytes_back b i)
-spanned_back (UnitAt a) = λ i. UnitAt (span_back a i)
-spanned_back (PairAt a b c) = λ i. PairAt (span_back a i) (spanned_back b i) (spanned_back c i)
-spanned_back (WithAt a b c) = λ i. WithAt (span_back a i) (spanned_back b i) (spanned_back c i)
-spanned_back (FstAt a b) = λ i. FstAt (span_back a i) (spanned_back b i)
-spanned_back (SndAt a b) = λ i. SndAt (span_back a i) (spanned_back b i)
-spanned_back (LetPairAt a b c d e) = λ i. LetPairAt (span_back a i) (bytes_back b i) (bytes_back c i) (spanned_back d i) (spanned_back e i)
-spanned_back (InlAt a b c d) = λ i. InlAt (span_back a i) (span_back b i) (type_back c i) (spanned_back d i)
-spanned_back (InrAt a b c d) = λ i. InrAt (span_back a i) (span_back b i) (type_back c i) (spanned_back d i)
-spanned_back (CaseAt a b c d e f) = λ i. CaseAt (span_back a i) (spanned_back b i) (bytes_back c i) (spanned_back d i) (bytes_back e i) (spanned_back f i)
-spanned_back (IfAt a b c d) = λ i. IfAt (span_back a i) (spanned_back b i) (spanned_back c i) (spanned_back d i)
-spanned_back (FunAt a b c d e) = λ i. FunAt (span_back a i) (bytes_back b i) (span_back c i) (type_back d i) (spanned_back e i)
-spanned_back (FnAt a b c d e) = λ i. FnAt (span_back a i) (bytes_back b i) (span_back c i) (type_back d i) (spanned_back e i)
-spanned_back (AppAt a b c) = λ i. AppAt (span_back a i) (spanned_back b i) (spanned_back c i)
-spanned_back (BangAt a b c) = λ i. BangAt (span_back a i) (distance_back b i) (spanned_back c i)
-spanned_back (LetBangAt a b c d) = λ i. LetBangAt (span_back a i) (bytes_back b i) (spanned_back c i) (spanned_back d i)
-spanned_back (LetAt a b c d) = λ i. LetAt (span_back a i) (bytes_back b i) (spanned_back c i) (spanned_back d i)
-spanned_back (PlusAt a b c) = λ i. PlusAt (span_back a i) (spanned_back b i) (spanned_back c i)
-spanned_back (MinusAt a b c) = λ i. MinusAt (span_back a i) (spanned_back b i) (spanned_back c i)
-spanned_back (TimesAt a b c) = λ i. TimesAt (span_back a i) (int_back b i) (spanned_back c i)
-spanned_back (LeAt a b c) = λ i. LeAt (span_back a i) (spanned_back b i) (spanned_back c i)
-spanned_back (EqAt a b c) = λ i. EqAt (span_back a i) (spanned_back b i) (spanned_back c i)
-spanned_back (ClipAt a b c d) = λ i. ClipAt (span_back a i) (int_back b i) (int_back c i) (spanned_back d i)
-spanned_back (LeastAt a b) = λ i. LeastAt (span_back a i) (spanned_back b i)
-spanned_back (GreatestAt a b) = λ i. GreatestAt (span_back a i) (spanned_back b i)
-spanned_back (SizeAt a b) = λ i. SizeAt (span_back a i) (spanned_back b i)
-spanned_back (SumAt a b c d) = λ i. SumAt (span_back a i) (int_back b i) (int_back c i) (spanned_back d i)
-spanned_back (UnionAt a b c) = λ i. UnionAt (span_back a i) (spanned_back b i) (spanned_back c i)
-spanned_back (MapAt a b c) = λ i. MapAt (span_back a i) (spanned_back b i) (spanned_back c i)
-spanned_back (FilterAt a b c) = λ i. FilterAt (span_back a i) (spanned_back b i) (spanned_back c i)
-spanned_back (SplitAt a b c) = λ i. SplitAt (span_back a i) (spanned_back b i) (spanned_back c i)
+pub term_back : (x : Term) → term_from (term_to x) ≡ x
+term_back (at a (VarE b)) = λ i. at (span_back a i) (VarE (bytes_back b i))
+term_back (at a (NumE b)) = λ i. at (span_back a i) (NumE (int_back b i))
+term_back (at a (TextE b)) = λ i. at (span_back a i) (TextE (bytes_back b i))
+term_back (at a UnitE) = λ i. at (span_back a i) UnitE
+term_back (at a (PairE b c)) = λ i. at (span_back a i) (PairE (term_back b i) (term_back c i))
+term_back (at a (WithE b c)) = λ i. at (span_back a i) (WithE (term_back b i) (term_back c i))
+term_back (at a (FstE b)) = λ i. at (span_back a i) (FstE (term_back b i))
+term_back (at a (SndE b)) = λ i. at (span_back a i) (SndE (term_back b i))
+term_back (at a (LetPairE b c d e)) = λ i. at (span_back a i) (LetPairE (bytes_back b i) (bytes_back c i) (term_back d i) (term_back e i))
+term_back (at a (InlE b c d)) = λ i. at (span_back a i) (InlE (span_back b i) (type_back c i) (term_back d i))
+term_back (at a (InrE b c d)) = λ i. at (span_back a i) (InrE (span_back b i) (type_back c i) (term_back d i))
+term_back (at a (CaseE b c d e f)) = λ i. at (span_back a i) (CaseE (term_back b i) (bytes_back c i) (term_back d i) (bytes_back e i) (term_back f i))
+term_back (at a (IfE b c d)) = λ i. at (span_back a i) (IfE (term_back b i) (term_back c i) (term_back d i))
+term_back (at a (FunE b c d e)) = λ i. at (span_back a i) (FunE (bytes_back b i) (span_back c i) (type_back d i) (term_back e i))
+term_back (at a (FnE b c d e)) = λ i. at (span_back a i) (FnE (bytes_back b i) (span_back c i) (type_back d i) (term_back e i))
+term_back (at a (AppE b c)) = λ i. at (span_back a i) (AppE (term_back b i) (term_back c i))
+term_back (at a (BangE b c)) = λ i. at (span_back a i) (BangE (distance_back b i) (term_back c i))
+term_back (at a (LetBangE b c d)) = λ i. at (span_back a i) (LetBangE (bytes_back b i) (term_back c i) (term_back d i))
+term_back (at a (LetE b c d)) = λ i. at (span_back a i) (LetE (bytes_back b i) (term_back c i) (term_back d i))
+term_back (at a (PlusE b c)) = λ i. at (span_back a i) (PlusE (term_back b i) (term_back c i))
+term_back (at a (MinusE b c)) = λ i. at (span_back a i) (MinusE (term_back b i) (term_back c i))
+term_back (at a (TimesE b c)) = λ i. at (span_back a i) (TimesE (int_back b i) (term_back c i))
+term_back (at a (LeE b c)) = λ i. at (span_back a i) (LeE (term_back b i) (term_back c i))
+term_back (at a (EqE b c)) = λ i. at (span_back a i) (EqE (term_back b i) (term_back c i))
+term_back (at a (ClipE b c d)) = λ i. at (span_back a i) (ClipE (int_back b i) (int_back c i) (term_back d i))
+term_back (at a (LeastE b)) = λ i. at (span_back a i) (LeastE (term_back b i))
+term_back (at a (GreatestE b)) = λ i. at (span_back a i) (GreatestE (term_back b i))
+term_back (at a (SizeE b)) = λ i. at (span_back a i) (SizeE (term_back b i))
+term_back (at a (SumE b c d)) = λ i. at (span_back a i) (SumE (int_back b i) (int_back c i) (term_back d i))
+term_back (at a (UnionE b c)) = λ i. at (span_back a i) (UnionE (term_back b i) (term_back c i))
+term_back (at a (MapE b c)) = λ i. at (span_back a i) (MapE (term_back b i) (term_back c i))
+term_back (at a (FilterE b c)) = λ i. at (span_back a i) (FilterE (term_back b i) (term_back c i))
+term_back (at a (SplitE b c)) = λ i. at (span_back a i) (SplitE (term_back b i) (term_back c i))
 
-abbrev pub spanned_code : Coded Spanned
-spanned_code = code_by Gv itself spanned_to spanned_from spanned_back
+abbrev pub term_code : Coded Term
+term_code = code_by Gv itself term_to term_from term_back
 
 abbrev pub parts_code : Coded Parts
-parts_code = code_by (List Ty × List Spanned) (coded× types_code (coded_list spanned_code)) (λ p. (p.types, p.terms)) (λ p. record { types = p.0; terms = p.1 }) (λ _. refl)
+parts_code = code_by (List Ty × List Term) (coded× types_code (coded_list term_code)) (λ p. (p.types, p.terms)) (λ p. record { types = p.0; terms = p.1 }) (λ _. refl)
 
 abbrev pub signature_code : Coded Signature
 signature_code = coded_list (code_by (Name × Ty) (coded× (coded_list coded_ℕ) type_code) (λ t. (t.name, t.row)) (λ p. record { name = p.0; row = p.1 }) (λ _. refl))

@@ -1,4 +1,4 @@
--- Bytes that are kept at the front of an array of fixed length, with zeros after them.
+-- Bytes that are kept as the prefix of an array of fixed length, with zeros after them.
 use Rattle.std.specs.Prelude.{◌≡◌, ℕ, ◌-◌, List, ◌++◌, length, take, replicate}
 
 abbrev pub kept : ℕ → List ℕ → List ℕ

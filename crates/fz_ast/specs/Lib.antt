@@ -1,6 +1,7 @@
+-- The definitions of this crate.
 pub mod Types
 pub mod Terms
-pub mod Spanned
+pub mod Bare
 pub mod Limits
 pub mod Depth
 pub mod Signature

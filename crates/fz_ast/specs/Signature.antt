@@ -1,5 +1,5 @@
 -- The tables that a program may name, in order, with the types of their rows.
-use Rattle.std.specs.Prelude.{◌≡◌, true, false, List, [], ◌∷◌, bytes_eq}
+use Rattle.std.specs.Prelude.{◌≡◌, true, false, List, [], ◌∷◌, bytes_eq, ⊤}
 use Rattle.fz_ast.specs.Types.{Ty, TensorT, BagT, is_flat, WellFormed, formed}
 use Rattle.fz_ast.specs.Terms.{Name}
 use Rattle.fz_ast.specs.Limits.{IsName, TypeLimits}
@@ -22,10 +22,10 @@ row_of c (d ∷ ds) = TensorT c (row_of d ds)
 
 -- no table has this name
 abbrev pub IsFresh : Name → Signature → Type 0
-IsFresh x [] = Unit {0}
+IsFresh x [] = ⊤
 IsFresh x (t ∷ ts) = (bytes_eq t.name x ≡ false) × IsFresh x ts
 
 -- names are distinct, and row types flat and well formed
 abbrev pub IsSignature : Signature → Type 0
-IsSignature [] = Unit {0}
+IsSignature [] = ⊤
 IsSignature (t ∷ ts) = IsName t.name × IsFresh t.name ts × (is_flat t.row ≡ true) × (formed t.row ≡ WellFormed) × TypeLimits t.row × IsSignature ts

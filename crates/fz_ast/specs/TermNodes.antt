@@ -1,10 +1,11 @@
 -- The terms that numbered nodes stand for: each node's parts are nodes before it.
-use Rattle.std.specs.Prelude.{◌≡◌, ℕ, ◌+◌, ◌<◌, ◌≤◌, List, [], ◌∷◌, ◌++◌, length}
+use Rattle.std.specs.Prelude.{◌≡◌, ℕ, ◌+◌, ◌<◌, ◌≤◌, List, [], ◌∷◌, ◌++◌, length, ⊤}
 use Rattle.std.proofs.Common.{get_or}
 use Rattle.fz_frac.specs.Sens.{distance_of}
 use Rattle.fz_ast.specs.declared.span.Span.{Span}
 use Rattle.fz_ast.specs.Types.{Ty}
-use Rattle.fz_ast.specs.Spanned.{Spanned, VarAt, NumAt, TextAt, UnitAt, PairAt, WithAt, FstAt, SndAt, LetPairAt, InlAt, InrAt, CaseAt, IfAt, FunAt, FnAt, AppAt, BangAt, LetBangAt, LetAt, PlusAt, MinusAt, TimesAt, LeAt, EqAt, ClipAt, LeastAt, GreatestAt, SizeAt, SumAt, UnionAt, MapAt, FilterAt, SplitAt, erase}
+use Rattle.fz_ast.specs.Terms.{Term, TermForm, at, VarE, NumE, TextE, UnitE, PairE, WithE, FstE, SndE, LetPairE, InlE, InrE, CaseE, IfE, FunE, FnE, AppE, BangE, LetBangE, LetE, PlusE, MinusE, TimesE, LeE, EqE, ClipE, LeastE, GreatestE, SizeE, SumE, UnionE, MapE, FilterE, SplitE}
+use Rattle.fz_ast.specs.Bare.{nowhere}
 use Rattle.fz_ast.specs.Limits.{IsNumber, IsBang, TypeLimits, TermLimits}
 use Rattle.fz_ast.specs.Depth.{depth}
 use Rattle.fz_ast.specs.Names.{name_of, text_of}
@@ -21,57 +22,61 @@ use Rattle.fz_ast.specs.declared.term.Form.TheVariants.{Var, Num, Text, Unit as 
 use Rattle.fz_ast.specs.declared.term.Node.{Node}
 
 -- term number i of a list
-unfoldable pub term_at : List Spanned → ℕ → Spanned
-term_at N i = get_or N i (UnitAt (record { from = 0; to = 0 }))
+unfoldable pub term_at : List Term → ℕ → Term
+term_at N i = get_or N i (at nowhere UnitE)
 
-abbrev pub unary : Unary → Span → Spanned → Spanned
-unary Fst s e = FstAt s e
-unary Snd s e = SndAt s e
-unary Least s e = LeastAt s e
-unary Greatest s e = GreatestAt s e
-unary Size s e = SizeAt s e
+abbrev pub unary : Unary → Term → TermForm
+unary Fst e = FstE e
+unary Snd e = SndE e
+unary Least e = LeastE e
+unary Greatest e = GreatestE e
+unary Size e = SizeE e
 
-abbrev pub binary : Binary → Span → Spanned → Spanned → Spanned
-binary Pair s a b = PairAt s a b
-binary With s a b = WithAt s a b
-binary App s a b = AppAt s a b
-binary Plus s a b = PlusAt s a b
-binary Minus s a b = MinusAt s a b
-binary AtMost s a b = LeAt s a b
-binary Equal s a b = EqAt s a b
-binary Union s a b = UnionAt s a b
-binary Map s a b = MapAt s a b
-binary Filter s a b = FilterAt s a b
-binary Split s a b = SplitAt s a b
+abbrev pub binary : Binary → Term → Term → TermForm
+binary Pair a b = PairE a b
+binary With a b = WithE a b
+binary App a b = AppE a b
+binary Plus a b = PlusE a b
+binary Minus a b = MinusE a b
+binary AtMost a b = LeE a b
+binary Equal a b = EqE a b
+binary Union a b = UnionE a b
+binary Map a b = MapE a b
+binary Filter a b = FilterE a b
+binary Split a b = SplitE a b
 
--- the tree of this form, ty(i) being the type number i, and at(i) the term number i
-abbrev pub level : (ℕ → Ty) → (ℕ → Spanned) → Span → Form → Spanned
-level ty at s (Var x) = VarAt s (name_of x)
-level ty at s (Num z) = NumAt s z
-level ty at s (Text t) = TextAt s (text_of t)
-level ty at s One = UnitAt s
-level ty at s (Op o e) = unary o s (at e)
-level ty at s (Op2 o a b) = binary o s (at a) (at b)
-level ty at s (Times k e) = TimesAt s k (at e)
-level ty at s (Bounded Sum lo hi e) = SumAt s lo hi (at e)
-level ty at s (Bounded Clip lo hi e) = ClipAt s lo hi (at e)
-level ty at s (Inject Inl u t e) = InlAt s u (ty t) (at e)
-level ty at s (Inject Inr u t e) = InrAt s u (ty t) (at e)
-level ty at s (Bang r e) = BangAt s (distance_of r) (at e)
-level ty at s (Let x e b) = LetAt s (name_of x) (at e) (at b)
-level ty at s (LetBang x e b) = LetBangAt s (name_of x) (at e) (at b)
-level ty at s (LetPair x y e b) = LetPairAt s (name_of x) (name_of y) (at e) (at b)
-level ty at s (If e a b) = IfAt s (at e) (at a) (at b)
-level ty at s (Case e x a y b) = CaseAt s (at e) (name_of x) (at a) (name_of y) (at b)
-level ty at s (Lambda Fun x u t e) = FunAt s (name_of x) u (ty t) (at e)
-level ty at s (Lambda Fn x u t e) = FnAt s (name_of x) u (ty t) (at e)
+-- the form that stands for this one, ty(i) being the type number i, and part(i) the term number i
+abbrev pub form_of : (ℕ → Ty) → (ℕ → Term) → Form → TermForm
+form_of ty part (Var x) = VarE (name_of x)
+form_of ty part (Num z) = NumE z
+form_of ty part (Text t) = TextE (text_of t)
+form_of ty part One = UnitE
+form_of ty part (Op o e) = unary o (part e)
+form_of ty part (Op2 o a b) = binary o (part a) (part b)
+form_of ty part (Times k e) = TimesE k (part e)
+form_of ty part (Bounded Sum lo hi e) = SumE lo hi (part e)
+form_of ty part (Bounded Clip lo hi e) = ClipE lo hi (part e)
+form_of ty part (Inject Inl u t e) = InlE u (ty t) (part e)
+form_of ty part (Inject Inr u t e) = InrE u (ty t) (part e)
+form_of ty part (Bang r e) = BangE (distance_of r) (part e)
+form_of ty part (Let x e b) = LetE (name_of x) (part e) (part b)
+form_of ty part (LetBang x e b) = LetBangE (name_of x) (part e) (part b)
+form_of ty part (LetPair x y e b) = LetPairE (name_of x) (name_of y) (part e) (part b)
+form_of ty part (If e a b) = IfE (part e) (part a) (part b)
+form_of ty part (Case e x a y b) = CaseE (part e) (name_of x) (part a) (name_of y) (part b)
+form_of ty part (Lambda Fun x u t e) = FunE (name_of x) u (ty t) (part e)
+form_of ty part (Lambda Fn x u t e) = FnE (name_of x) u (ty t) (part e)
+
+-- the term of this form at s
+abbrev pub term_of : (ℕ → Ty) → (ℕ → Term) → Span → Form → Term
+term_of ty part s form = at s (form_of ty part form)
 
 -- its types' numbers are below m, and its parts' below n
 abbrev pub IsKnown : ℕ → ℕ → Form → Type 0
-IsKnown m n (Var x) = Unit {0}
-IsKnown m n (Num z) = Unit {0}
-IsKnown m n (Text t) = Unit {0}
-IsKnown m n One = Unit {0}
+IsKnown m n (Var x) = ⊤
+IsKnown m n (Num z) = ⊤
+IsKnown m n (Text t) = ⊤
+IsKnown m n One = ⊤
 IsKnown m n (Op o e) = e < n
 IsKnown m n (Op2 o a b) = (a < n) × (b < n)
 IsKnown m n (Times k e) = e < n
@@ -91,26 +96,26 @@ FormLimits (Num z) = IsNumber z
 FormLimits (Times k e) = IsNumber k
 FormLimits (Bounded o lo hi e) = IsNumber lo × IsNumber hi
 FormLimits (Bang r e) = IsBang (distance_of r)
-FormLimits form = Unit {0}
+FormLimits form = ⊤
 
 -- the terms of nodes that come after those of N
-abbrev pub terms_after : (ℕ → Ty) → List Spanned → List Node → List Spanned
+abbrev pub terms_after : (ℕ → Ty) → List Term → List Node → List Term
 terms_after ty N [] = N
-terms_after ty N (n ∷ ns) = terms_after ty (N ++ level ty (term_at N) n.span n.form ∷ []) ns
+terms_after ty N (n ∷ ns) = terms_after ty (N ++ term_of ty (term_at N) n.span n.form ∷ []) ns
 
 -- what node k keeps of its term e
-pub record TermNotes (e : Spanned) (k : ℕ) (n : Node) : Type 0 where
-  pub limits : TermLimits (erase e)
-  pub depth : n.depth ≡ depth (erase e)
+pub record TermNotes (e : Term) (k : ℕ) (n : Node) : Type 0 where
+  pub limits : TermLimits e
+  pub depth : n.depth ≡ depth e
   pub shallow : n.depth ≤ k + 4294967296
 
 -- node k stands for term number k of N
-pub record Stands (T : List Ty) (N : List Spanned) (k : ℕ) (n : Node) : Type 0 where
-  pub form : term_at N k ≡ level (type_at T) (term_at N) n.span n.form
+pub record Stands (T : List Ty) (N : List Term) (k : ℕ) (n : Node) : Type 0 where
+  pub form : term_at N k ≡ term_of (type_at T) (term_at N) n.span n.form
   pub known : IsKnown (length T) k n.form
   pub notes : TermNotes (term_at N k) k n
 
-pub record AreTerms (T : List Ty) (N : List Spanned) (ns : List Node) : Type 0 where
+pub record AreTerms (T : List Ty) (N : List Term) (ns : List Node) : Type 0 where
   pub types : (k : ℕ) → k < length T → TypeLimits (type_at T k)
   pub size : length N ≡ length ns
   pub each : (k : ℕ) (n : Node) → k < length ns → Stands T N k (get_or ns k n)

@@ -1,68 +1,79 @@
--- Terms without spans: what a program means, and the law on it, go by these.
+-- Terms. Meaning, typing and law go by a term's form and never look at its spans, which the faults tell.
 -- `fn`, `if` and `let x` are forms of their own; `true` is `inl[unit] ()`, `false` is `inr[unit] ()`.
 use Rattle.std.specs.Prelude.{ℕ, List, ℤ}
 use Rattle.fz_frac.specs.Distance.{Distance}
 use Rattle.fz_ast.specs.Types.{Ty, UnitT}
+use Rattle.fz_ast.specs.declared.span.Span.{Span}
 
 -- a name or a text is its bytes
 abbrev pub Name : Type 0
 Name = List ℕ
 
-pub data Term : Type 0 where
-  VarE : (x : Name) → Term
-  NumE : (z : ℤ) → Term
-  TextE : (s : List ℕ) → Term
-  -- ()
-  UnitE : Term
-  -- (a, b)
-  PairE : (a b : Term) → Term
-  -- <a, b>
-  WithE : (a b : Term) → Term
-  FstE : (e : Term) → Term
-  SndE : (e : Term) → Term
-  -- let (x, y) = e in b
-  LetPairE : (x y : Name) (e b : Term) → Term
-  -- inl[t] e
-  InlE : (t : Ty) (e : Term) → Term
-  InrE : (t : Ty) (e : Term) → Term
-  -- case e of inl x => a | inr y => b
-  CaseE : (e : Term) (x : Name) (a : Term) (y : Name) (b : Term) → Term
-  -- if e then a else b
-  IfE : (e a b : Term) → Term
-  -- fun (x : t) => e
-  FunE : (x : Name) (t : Ty) (e : Term) → Term
-  -- fn (x : t) => e
-  FnE : (x : Name) (t : Ty) (e : Term) → Term
-  -- f a
-  AppE : (f a : Term) → Term
-  -- ![r] e
-  BangE : (r : Distance) (e : Term) → Term
-  -- let !x = e in b
-  LetBangE : (x : Name) (e b : Term) → Term
-  -- let x = e in b
-  LetE : (x : Name) (e b : Term) → Term
-  PlusE : (a b : Term) → Term
-  MinusE : (a b : Term) → Term
-  -- k * e
-  TimesE : (k : ℤ) (e : Term) → Term
-  -- a <= b
-  LeE : (a b : Term) → Term
-  -- a == b
-  EqE : (a b : Term) → Term
-  -- clip[lo,hi] e
-  ClipE : (lo hi : ℤ) (e : Term) → Term
-  LeastE : (e : Term) → Term
-  GreatestE : (e : Term) → Term
-  SizeE : (e : Term) → Term
-  -- sum[lo,hi] e
-  SumE : (lo hi : ℤ) (e : Term) → Term
-  UnionE : (a b : Term) → Term
-  MapE : (f b : Term) → Term
-  FilterE : (f b : Term) → Term
-  SplitE : (f b : Term) → Term
+mutual
+  -- a term is a form that stands somewhere
+  pub data Term : Type 0 where
+    at : (s : Span) (f : TermForm) → Term
 
-abbrev pub TrueE : Term
-TrueE = InlE UnitT UnitE
+  -- u is the span of the written type t
+  pub data TermForm : Type 0 where
+    VarE : (x : Name) → TermForm
+    NumE : (z : ℤ) → TermForm
+    TextE : (t : List ℕ) → TermForm
+    -- ()
+    UnitE : TermForm
+    -- (a, b)
+    PairE : (a b : Term) → TermForm
+    -- <a, b>
+    WithE : (a b : Term) → TermForm
+    FstE : (e : Term) → TermForm
+    SndE : (e : Term) → TermForm
+    -- let (x, y) = e in b
+    LetPairE : (x y : Name) (e b : Term) → TermForm
+    -- inl[t] e
+    InlE : (u : Span) (t : Ty) (e : Term) → TermForm
+    InrE : (u : Span) (t : Ty) (e : Term) → TermForm
+    -- case e of inl x => a | inr y => b
+    CaseE : (e : Term) (x : Name) (a : Term) (y : Name) (b : Term) → TermForm
+    -- if e then a else b
+    IfE : (e a b : Term) → TermForm
+    -- fun (x : t) => e
+    FunE : (x : Name) (u : Span) (t : Ty) (e : Term) → TermForm
+    -- fn (x : t) => e
+    FnE : (x : Name) (u : Span) (t : Ty) (e : Term) → TermForm
+    -- f a
+    AppE : (f a : Term) → TermForm
+    -- ![r] e
+    BangE : (r : Distance) (e : Term) → TermForm
+    -- let !x = e in b
+    LetBangE : (x : Name) (e b : Term) → TermForm
+    -- let x = e in b
+    LetE : (x : Name) (e b : Term) → TermForm
+    PlusE : (a b : Term) → TermForm
+    MinusE : (a b : Term) → TermForm
+    -- k * e
+    TimesE : (k : ℤ) (e : Term) → TermForm
+    -- a <= b
+    LeE : (a b : Term) → TermForm
+    -- a == b
+    EqE : (a b : Term) → TermForm
+    -- clip[lo,hi] e
+    ClipE : (lo hi : ℤ) (e : Term) → TermForm
+    LeastE : (e : Term) → TermForm
+    GreatestE : (e : Term) → TermForm
+    SizeE : (e : Term) → TermForm
+    -- sum[lo,hi] e
+    SumE : (lo hi : ℤ) (e : Term) → TermForm
+    UnionE : (a b : Term) → TermForm
+    MapE : (f b : Term) → TermForm
+    FilterE : (f b : Term) → TermForm
+    SplitE : (f b : Term) → TermForm
 
-abbrev pub FalseE : Term
-FalseE = InrE UnitT UnitE
+abbrev pub span_of : Term → Span
+span_of (at s f) = s
+
+-- `true` is two nodes with the token's span
+abbrev pub TrueE : Span → Term
+TrueE s = at s (InlE s UnitT (at s UnitE))
+
+abbrev pub FalseE : Span → Term
+FalseE s = at s (InrE s UnitT (at s UnitE))

@@ -1,5 +1,5 @@
 -- The types that numbered nodes stand for: each node's parts are nodes before it.
-use Rattle.std.specs.Prelude.{◌≡◌, ℕ, ◌+◌, ◌<◌, ◌≤◌, List, [], ◌∷◌, ◌++◌, length}
+use Rattle.std.specs.Prelude.{◌≡◌, ℕ, ◌+◌, ◌<◌, ◌≤◌, List, [], ◌∷◌, ◌++◌, length, ⊤}
 use Rattle.std.proofs.Common.{get_or}
 use Rattle.fz_frac.specs.Sens.{distance_of}
 use Rattle.fz_ast.specs.Types.{Ty, NumT, TextT, UnitT, TensorT, WithT, SumT, ArrowT, BangT, BagT, is_ground, is_flat, Formed as IsFormed, WellFormed, UngroundSum, UnflatBag, formed}
@@ -29,9 +29,9 @@ type_of at (Bag a) = BagT (at a)
 
 -- its parts' numbers are below n
 abbrev pub IsKnownType : ℕ → TypeForm → Type 0
-IsKnownType n Num = Unit {0}
-IsKnownType n Text = Unit {0}
-IsKnownType n One = Unit {0}
+IsKnownType n Num = ⊤
+IsKnownType n Text = ⊤
+IsKnownType n One = ⊤
 IsKnownType n (Tensor a b) = (a < n) × (b < n)
 IsKnownType n (With a b) = (a < n) × (b < n)
 IsKnownType n (Sum a b) = (a < n) × (b < n)
@@ -42,7 +42,7 @@ IsKnownType n (Bag a) = a < n
 -- a bang number is above 0
 abbrev pub HasBang : TypeForm → Type 0
 HasBang (Bang r a) = IsBang (distance_of r)
-HasBang form = Unit {0}
+HasBang form = ⊤
 
 abbrev pub formed_of : Formed → IsFormed
 formed_of Well = WellFormed

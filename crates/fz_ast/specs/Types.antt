@@ -79,7 +79,7 @@ formed (ArrowT A B) = both (formed A) (formed B)
 formed (BangT r A) = formed A
 formed (BagT A) = unless (is_flat A) UnflatBag (formed A)
 
--- the same halves: bang numbers are kept in lowest terms
+-- the same numerator and denominator: bang numbers are kept in lowest terms
 abbrev pub same_bang : Distance → Distance → Bool
 same_bang (Fin p q) (Fin r s) = nat_eq p r && nat_eq q s
 same_bang Inf Inf = true

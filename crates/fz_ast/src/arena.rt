@@ -1,4 +1,4 @@
-// Types by number, each stored once.
+//! Types by number, each stored once.
 ghost use Rattle.std.specs.Prelude.{◌≡◌, ◌<◌, [], length, IfOk, OnOk, OnErr};
 ghost use Rattle.fz_ast.specs.Types.{is_ground, is_flat, formed, same_type};
 ghost use Rattle.fz_ast.specs.Limits.{TypeLimits};

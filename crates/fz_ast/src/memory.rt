@@ -1,3 +1,4 @@
+//! What a call answers that had no memory.
 use std::alloc::AllocError;
 
 /// There was no memory for the answer.

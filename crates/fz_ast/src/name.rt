@@ -1,4 +1,4 @@
-// Names and texts, kept in place: a value that is copied without memory.
+//! Names and texts, kept in place: a value that is copied without memory.
 ghost use Rattle.std.specs.Prelude.{◌≡◌, ◌+◌, ◌-◌, ◌≤◌, ◌<◌, ◌↔◌, ◌++◌, length, drop};
 ghost use Rattle.fz_ast.specs.Kept.{IsPadded};
 
@@ -20,7 +20,7 @@ pub struct Text {
     ghost padded: { IsPadded len bytes },
 }
 
-fn put_front(held: &mut [u8], bytes: &[u8])
+fn put_prefix(held: &mut [u8], bytes: &[u8])
     requires { length bytes.now ≤ length held.old }
     ensures { held.new ≡ bytes.now ++ drop (length bytes.now) held.old }
 {
@@ -36,7 +36,7 @@ impl Name {
         ensures { name_of result ≡ bytes.now }
     {
         let mut held = [0; 32];
-        put_front(&mut held, bytes);
+        put_prefix(&mut held, bytes);
         Name {
             len: bytes.len() as u8,
             bytes: held,
@@ -59,7 +59,7 @@ impl Text {
         ensures { text_of result ≡ bytes.now }
     {
         let mut held = [0; 64];
-        put_front(&mut held, bytes);
+        put_prefix(&mut held, bytes);
         Text {
             len: bytes.len() as u8,
             bytes: held,

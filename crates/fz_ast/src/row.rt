@@ -1,4 +1,4 @@
-// The type of a table's rows.
+//! The type of a table's rows.
 ghost use Rattle.std.specs.Prelude.{◌≡◌, ◌<◌, ◌++◌, [], ◌∷◌, true, length, IfOk, OnOk};
 ghost use Rattle.fz_ast.specs.Types.{is_flat, formed, WellFormed};
 ghost use Rattle.fz_ast.specs.Rows.{column_type, row_type};

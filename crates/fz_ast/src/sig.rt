@@ -1,4 +1,4 @@
-// The tables that a program may name.
+//! The tables that a program may name.
 ghost use Rattle.std.specs.Prelude.{◌≡◌, ◌<◌, ◌++◌, [], ◌∷◌, true, false, ◌↔◌, IsTrue, length, OnOk, OnErr, Some, slice_get};
 ghost use Rattle.fz_ast.specs.Types.{is_flat, formed, WellFormed};
 ghost use Rattle.fz_ast.specs.Signature.{IsFresh, IsSignature};

@@ -1,6 +1,5 @@
-// Terms as numbered nodes, each after its parts.
+//! Terms as numbered nodes, each after its parts.
 ghost use Rattle.std.specs.Prelude.{◌≡◌, ◌+◌, ◌<◌, ◌≤◌, ◌++◌, [], ◌∷◌, length, IfOk, OnOk, OnErr};
-ghost use Rattle.fz_ast.specs.Spanned.{erase};
 ghost use Rattle.fz_ast.specs.Limits.{TermLimits};
 ghost use Rattle.fz_ast.specs.Depth.{depth};
 
@@ -130,7 +129,7 @@ impl Model for Nodes {
 
 impl Nodes {
     ghost use Rattle.fz_ast.specs.TypeNodes.{type_at, type_of, IsKnownType, HasBang};
-    ghost use Rattle.fz_ast.specs.TermNodes.{term_at, level, IsKnown, FormLimits};
+    ghost use Rattle.fz_ast.specs.TermNodes.{term_at, term_of, IsKnown, FormLimits};
     ghost use Rattle.fz_ast.specs.declared.span.Span.{Span};
 
     /// No terms and no types.
@@ -159,16 +158,16 @@ impl Nodes {
 
     pub fn node(&self, i: u32) -> &Node
         requires { i < length self.now.terms }
-        ensures form { term_at self.now.terms i ≡ level (type_at self.now.types) (term_at self.now.terms) result.now.span result.now.form }
+        ensures form { term_at self.now.terms i ≡ term_of (type_at self.now.types) (term_at self.now.terms) result.now.span result.now.form }
         ensures known { IsKnown (length self.now.types) i result.now.form }
-        ensures limits { TermLimits (erase (term_at self.now.terms i)) }
+        ensures limits { TermLimits (term_at self.now.terms i) }
     {
         &self.nodes[i as usize]
     }
 
     pub fn depth(&self, i: u32) -> u64
         requires { i < length self.now.terms }
-        ensures is { result ≡ depth (erase (term_at self.now.terms i)) }
+        ensures is { result ≡ depth (term_at self.now.terms i) }
         ensures shallow { result ≤ i + 4294967296 }
     {
         self.nodes[i as usize].depth
@@ -177,7 +176,7 @@ impl Nodes {
     fn depth_of(&self, form: &Form) -> u64
         requires known { IsKnown (length self.now.types) (length self.now.terms) form.now }
         requires room { length self.now.terms < 4294967296 }
-        ensures is { (s : Span) → result ≡ depth (erase (level (type_at self.now.types) (term_at self.now.terms) s form.now)) }
+        ensures is { (s : Span) → result ≡ depth (term_of (type_at self.now.types) (term_at self.now.terms) s form.now) }
         ensures shallow { result ≤ length self.now.terms + 4294967296 }
     {
         match form {
@@ -215,7 +214,7 @@ impl Nodes {
         requires known { IsKnown (length self.old.types) (length self.old.terms) form }
         requires limits { FormLimits form }
         ensures number { IfOk result (λ n. n ≡ length self.old.terms) }
-        ensures grown { OnOk result (self.new ≡ record { types = self.old.types; terms = self.old.terms ++ level (type_at self.old.types) (term_at self.old.terms) span form ∷ [] }) }
+        ensures grown { OnOk result (self.new ≡ record { types = self.old.types; terms = self.old.terms ++ term_of (type_at self.old.types) (term_at self.old.terms) span form ∷ [] }) }
         ensures err { OnErr result (self.new ≡ self.old) }
     {
         let n = self.nodes.len();

@@ -1,7 +1,6 @@
-// One type and one term, by themselves.
+//! One type and one term, by themselves.
 ghost use Rattle.std.specs.Prelude.{◌≡◌, ◌<◌, ◌≤◌, ◌↔◌, length, IfOk, IsTrue};
 ghost use Rattle.fz_ast.specs.Types.{is_ground, is_flat, formed, same_type, WellFormed};
-ghost use Rattle.fz_ast.specs.Spanned.{erase};
 ghost use Rattle.fz_ast.specs.Limits.{TypeLimits, TermLimits};
 ghost use Rattle.fz_ast.specs.Depth.{depth};
 ghost use Rattle.fz_ast.specs.TypeNodes.{type_at};
@@ -73,18 +72,18 @@ pub struct Term {
 
 impl Model for Term {
     ghost use Rattle.std.specs.Prelude.{◌<◌, ◌≤◌, length};
-    ghost use Rattle.fz_ast.specs.Spanned.{Spanned, erase};
-    ghost use Rattle.fz_ast.specs.Codes.{spanned_code};
+    ghost use Rattle.fz_ast.specs.Terms.{Term};
+    ghost use Rattle.fz_ast.specs.Codes.{term_code};
     ghost use Rattle.fz_ast.specs.Depth.{depth};
     ghost use Rattle.fz_ast.specs.TermNodes.{term_at};
 
-    ghost Value = { Spanned };
+    ghost Value = { Term };
 
-    ghost coded = { spanned_code };
+    ghost coded = { term_code };
 
     ghost view = { λ t. term_at t.nodes.terms t.root };
 
-    ghost invariant = { λ t. (t.root < length t.nodes.terms) × (depth (erase (term_at t.nodes.terms t.root)) ≤ 64) };
+    ghost invariant = { λ t. (t.root < length t.nodes.terms) × (depth (term_at t.nodes.terms t.root) ≤ 64) };
 }
 
 impl Term {
@@ -93,7 +92,7 @@ impl Term {
     /// The term of this number.
     pub fn new(nodes: Nodes, root: u32) -> Term
         requires known { root < length nodes.terms }
-        requires shallow { depth (erase (term_at nodes.terms root)) ≤ 64 }
+        requires shallow { depth (term_at nodes.terms root) ≤ 64 }
         ensures { result ≡ term_at nodes.terms root }
     {
         Term { nodes, root }
@@ -103,8 +102,8 @@ impl Term {
     pub fn parts(&self) -> (&Nodes, u32)
         ensures known { result.1 < length result.0.now.terms }
         ensures is { term_at result.0.now.terms result.1 ≡ self.now }
-        ensures limits { TermLimits (erase self.now) }
-        ensures shallow { depth (erase self.now) ≤ 64 }
+        ensures limits { TermLimits self.now }
+        ensures shallow { depth self.now ≤ 64 }
     {
         let _ = self.nodes.node(self.root);
         (&self.nodes, self.root)
@@ -143,7 +142,9 @@ pub fn well_formed(ty: &Ty) -> bool
     matches!(ty.types.formed(ty.root), Formed::WellFormed)
 }
 
-/// Whether two types are one tree.
+/// Whether two types are one tree. It walks both as trees: where parts are shared, each doubling doubles its time, and it
+/// goes as deep as they are, so a million nested bags outrun the stack. No path of the server calls it: types that are
+/// checked are of one `Arena`, whose numbers are compared.
 pub fn same_type(a: &Ty, b: &Ty) -> bool
     ensures is { result ≡ same_type a.now b.now }
     ensures trees { IsTrue result ↔ (a.now ≡ b.now) }

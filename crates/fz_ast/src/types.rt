@@ -1,4 +1,4 @@
-// Types as numbered nodes, each after its parts.
+//! Types as numbered nodes, each after its parts.
 ghost use Rattle.std.specs.Prelude.{◌≡◌, ◌+◌, ◌<◌, ◌≤◌, ◌++◌, [], ◌∷◌, length, IfOk, OnOk, OnErr};
 ghost use Rattle.fz_ast.specs.Types.{is_ground, is_flat, both, formed, same_type};
 ghost use Rattle.fz_ast.specs.Limits.{TypeLimits};
@@ -246,7 +246,7 @@ impl Types {
         Ok(n as u32)
     }
 
-    /// Whether two types are one tree.
+    /// Whether two types are one tree, by a walk over both, as `same_type` says: a checker compares numbers of an `Arena`.
     pub fn same(&self, i: u32, other: &Types, j: u32) -> bool
         requires here { i < length self.now }
         requires there { j < length other.now }

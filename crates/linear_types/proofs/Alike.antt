@@ -8,7 +8,7 @@ use Rattle.fz_frac.proofs.Laws.{⊑-refl, none-least, add-comm, add-none_r, none
 use Rattle.fz_frac.proofs.Lowest.{out_same, out_same_true, sens_fits, inf_fits, endless_fits}
 use Rattle.fz_ast.specs.Limits.{IsBang}
 use Rattle.linear_types.specs.Sensitivities.{Sensitivities, first, rest, each, plus, join, scale, above_zero}
-use Rattle.linear_types.specs.Verdict.{any_out}
+use Rattle.linear_types.specs.Inferred.{any_out}
 use Rattle.linear_types.specs.Places.{AllAlike, AreAlike, IsCause, IsGiven, distances}
 use Rattle.linear_types.specs.declared.places.EnvFault.{EnvFault}
 use Rattle.linear_types.specs.declared.places.EnvFault.TheVariants.{Range, NoMemory}
@@ -52,7 +52,7 @@ above_zero_alike {a} {b} h = let e = is_le_alike h (≈-refl none) in rw e (go (
     go true = ≈-refl one
     go false = h
 
-over_any : (t : Distance) → quotient t Inf ≡ cond (is_le t none) none one
+pub over_any : (t : Distance) → quotient t Inf ≡ cond (is_le t none) none one
 over_any (Fin p q) = refl
 over_any Inf = refl
 

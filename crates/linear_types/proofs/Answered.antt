@@ -6,14 +6,14 @@ use Rattle.fz_frac.specs.Distance.{Distance, Fin, Inf}
 use Rattle.fz_ast.specs.Signature.{Signature}
 use Rattle.fz_ast.specs.Terms.{Name}
 use Rattle.fz_ast.specs.Types.{NumT, Ty, same_type}
-use Rattle.linear_types.proofs.Decide.{same_type_is}
-use Rattle.linear_types.proofs.Faults.{IsTerms, Local, rule_local}
+use Rattle.fz_ast.proofs.SameTypes.{same_type_is}
 use Rattle.linear_types.proofs.Programs.{accepted}
+use Rattle.linear_types.proofs.Sound.{IsTerms, faults_of_terms}
 use Rattle.linear_types.specs.Laws.{AcceptedExactly, FaultsAreKept, FiniteBelow, IsFirstUnbounded, NotNumExactly, UnboundedExactly, sensitivity_at}
 use Rattle.linear_types.specs.Program.{Accepted, Rejected, context_of, first_unbounded, greatest_of, is_endless, number_rule, program_rule}
 use Rattle.linear_types.specs.Rule.{rule}
 use Rattle.linear_types.specs.Sensitivities.{Sensitivities, first, rest}
-use Rattle.linear_types.specs.Verdict.{Fault, Has, NotNum, Refused, Unbounded, Verdict}
+use Rattle.linear_types.specs.Inferred.{Fault, Has, NotNum, Refused, Unbounded, Inferred}
 
 at_first : (D : Sensitivities) → sensitivity_at D 0 ≡ first D
 at_first [] = refl
@@ -119,25 +119,25 @@ accepted_exactly ts t D r = (
 
 pub unbounded_exactly : UnboundedExactly
 unbounded_exactly ts t x = (
-  λ h. go (rule (context_of ts) t) (rule_local t (context_of ts)) h,
+  λ h. go (rule (context_of ts) t) (faults_of_terms t (context_of ts)) h,
   λ h. ap (λ v. program_rule ts v) h.2 ∙ ap (λ o. number_rule h.0 h.1 o) (some_is ts h.1 x h.3),
 )
   where
-    go : (v : Verdict) → Local v → program_rule ts v ≡ Rejected (Unbounded x) → (A : Ty) × (D : Sensitivities) × (v ≡ Has A D) × IsFirstUnbounded ts D x
+    go : (v : Inferred) → ((f : Fault) → v ≡ Refused f → IsTerms f) → program_rule ts v ≡ Rejected (Unbounded x) → (A : Ty) × (D : Sensitivities) × (v ≡ Has A D) × IsFirstUnbounded ts D x
     go (Has A D) l h = (A, D, refl, some_first ts D x (unbounded_only A D (first_unbounded ts D) x h))
-    go (Refused f) l h = absurd (subst (λ f. IsTerms f) (rejected_is h) l)
+    go (Refused f) l h = absurd (subst (λ f. IsTerms f) (rejected_is h) (l f refl))
 
 pub not_num_exactly : NotNumExactly
 not_num_exactly ts t A = (
-  λ h. go (rule (context_of ts) t) (rule_local t (context_of ts)) h,
+  λ h. go (rule (context_of ts) t) (faults_of_terms t (context_of ts)) h,
   λ h. ap (λ v. program_rule ts v) h.1 ∙ ap (λ o. number_rule A h.0 o) (none_is ts h.0 h.2) ∙ other (same_type A NumT) refl h.0 h.3,
 )
   where
-    go : (v : Verdict) → Local v → program_rule ts v ≡ Rejected (NotNum A) → (D : Sensitivities) × (v ≡ Has A D) × FiniteBelow D (length ts) × (A ≢ NumT)
+    go : (v : Inferred) → ((f : Fault) → v ≡ Refused f → IsTerms f) → program_rule ts v ≡ Rejected (NotNum A) → (D : Sensitivities) × (v ≡ Has A D) × FiniteBelow D (length ts) × (A ≢ NumT)
     go (Has B D) l h =
         let k = not_num_only B D (first_unbounded ts D) A h in
         (D, ap (λ B. Has B D) k.1, none_finite ts D k.0, λ e. k.2 (k.1 ∙ e))
-    go (Refused f) l h = absurd (subst (λ f. IsTerms f) (rejected_is h) l)
+    go (Refused f) l h = absurd (subst (λ f. IsTerms f) (rejected_is h) (l f refl))
 
     other : (b : Bool) → same_type A NumT ≡ b → (D : Sensitivities) → A ≢ NumT → cond b (Accepted D (greatest_of D)) (Rejected (NotNum A)) ≡ Rejected (NotNum A)
     other true e D n = absurd (n (same_type_is A NumT e))

@@ -1,13 +1,22 @@
-pub mod Written
-pub mod Quotient
-pub mod Decide
-pub mod Complete
-pub mod Sound
+-- The lemmas of this crate, and its worked examples.
 pub mod Agree
-pub mod Programs
-pub mod Scope
-pub mod Faults
-pub mod Answered
 pub mod Alike
-pub mod Rest
+pub mod Answered
+pub mod Bare
+pub mod Complete
 pub mod Entries
+mod ExampleTerms
+mod ExamplesOfPairs
+mod ExamplesOfSums
+mod ExamplesOfFunctions
+mod ExamplesOfNumbers
+mod ExamplesOfBags
+mod ExamplesOfPrograms
+mod ExamplesOfEnvironments
+mod ExamplesOfFractions
+pub mod Programs
+pub mod Quotient
+pub mod Rest
+pub mod Scope
+pub mod Sound
+pub mod Written

@@ -4,6 +4,7 @@ use Rattle.std.specs.Prelude.{Bool, cond, false, suc, true, zero, ℕ, ◌*◌, 
 use Rattle.fz_frac.proofs.Laws.{den_of, den_pos, is_le-yes, pos_mul, ⊑-inf, ⊑-refl}
 use Rattle.fz_frac.specs.Distance.{Distance, Fin, Inf, den, is_le, mul, none, one, quotient, ◌⊑◌}
 use Rattle.fz_ast.specs.Limits.{IsBang}
+use Rattle.linear_types.proofs.Alike.{over_any}
 use Rattle.linear_types.specs.Laws.{QuotientIsLeast}
 
 of_finite : (p q r s : ℕ) → 1 ≤ r → Fin p q ⊑ mul (quotient (Fin p q) (Fin r s)) (Fin r s)
@@ -19,10 +20,6 @@ of_inf (suc r) s h = ⊑-refl Inf
 over_inf : (t : Distance) (b : Bool) → is_le t none ≡ b → t ⊑ mul (cond b none one) Inf
 over_inf t true e = is_le-yes t none e
 over_inf t false e = ⊑-inf t
-
-over_any : (t : Distance) → quotient t Inf ≡ cond (is_le t none) none one
-over_any (Fin p q) = refl
-over_any Inf = refl
 
 pub quotient_suffices : (t s : Distance) → IsBang s → t ⊑ mul (quotient t s) s
 quotient_suffices (Fin p q) (Fin r s) h = of_finite p q r s h.0

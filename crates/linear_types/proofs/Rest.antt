@@ -8,7 +8,7 @@ use Rattle.fz_frac.specs.declared.frac.Range.{Range}
 use Rattle.fz_frac.specs.declared.sens.Sens.{Sens}
 use Rattle.fz_frac.proofs.Lowest.{sens_fits, out_same}
 use Rattle.linear_types.specs.Sensitivities.{Sensitivities, each, scale}
-use Rattle.linear_types.specs.Verdict.{any_out}
+use Rattle.linear_types.specs.Inferred.{any_out}
 use Rattle.linear_types.specs.Places.{AllAlike, IsGiven, IsAnswer, IsNext, distances}
 use Rattle.linear_types.proofs.Alike.{alike_refl, kept_in_range}
 

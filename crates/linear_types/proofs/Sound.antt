@@ -1,303 +1,240 @@
--- What has a type by the function has it by the rules.
+-- What the function answers for a term is so: a type that it has by the rules, or a fault that is a term's and no whole program's.
 use Rattle.std.proofs.Common.{refl}
-use Rattle.std.specs.Prelude.{Bool, [], bytes_eq, cond, false, true, ◌∷◌, ◌≡◌}
+use Rattle.std.specs.Prelude.{Bool, [], bytes_eq, cond, false, true, ◌∷◌, ◌≡◌, ⊤}
 use Rattle.fz_frac.proofs.Laws.{is_le-yes}
 use Rattle.fz_frac.specs.Distance.{Distance, Inf, greater, is_le, none, one, quotient}
-use Rattle.fz_ast.specs.Limits.{TermLimits}
-use Rattle.fz_ast.specs.Spanned.{AppAt, BangAt, CaseAt, ClipAt, EqAt, FilterAt, FnAt, FstAt, FunAt, GreatestAt, IfAt, InlAt, InrAt, LeAt, LeastAt, LetAt, LetBangAt, LetPairAt, MapAt, MinusAt, NumAt, PairAt, PlusAt, SizeAt, SndAt, Spanned, SplitAt, SumAt, TextAt, TimesAt, UnionAt, UnitAt, VarAt, WithAt, erase, span_of}
-use Rattle.fz_ast.specs.Terms.{AppE, CaseE, EqE, FilterE, FstE, LetBangE, LetPairE, MapE, Name, SizeE, SndE, SplitE, Term, UnionE}
-use Rattle.fz_ast.specs.Types.{ArrowT, BagT, BangT, BoolT, Formed, NumT, SumT, TensorT, TextT, Ty, UnflatBag, UngroundSum, UnitT, UnlimitedT, WellFormed, WithT, formed, is_flat, is_ground, same_type}
+use Rattle.fz_ast.proofs.SameTypes.{same_type_is}
+use Rattle.fz_ast.specs.Limits.{TermLimits, TypeLimits}
+use Rattle.fz_ast.specs.Terms.{AppE, BangE, CaseE, ClipE, EqE, FilterE, FnE, FstE, FunE, GreatestE, IfE, InlE, InrE, LeE, LeastE, LetBangE, LetE, LetPairE, MapE, MinusE, Name, NumE, PairE, PlusE, SizeE, SndE, SplitE, SumE, Term, TermForm, TextE, TimesE, UnionE, UnitE, VarE, WithE, at, span_of}
+use Rattle.fz_ast.specs.Types.{ArrowT, BagT, BangT, BoolT, Formed, NumT, SumT, TensorT, TextT, Ty, UnflatBag, UngroundSum, UnlimitedT, WellFormed, WithT, formed, is_flat, is_ground, same_type}
 use Rattle.fz_ast.specs.declared.span.Span.{Span}
-use Rattle.linear_types.proofs.Decide.{same_type_is}
-use Rattle.linear_types.specs.Rule.{app_rule, branches_rule, case_rule, eq_rule, exactly, fn_rule, fst_rule, fun_rule, halves, has_bound, has_scaled, has_sum, if_rule, le_rule, let_bang_rule, let_pair_rule, map_rule, past, plus_rule, rule, side_rule, size_rule, snd_rule, test_rule, union_rule, var_rule}
+use Rattle.linear_types.specs.Inferred.{Exactly, Fault, Has, Inferred, Mismatch, NotFlat, NotGround, NotNum, Range, Refused, TooSensitive, Unbounded, any_out, in_range, need, need_formed, one_part, three_parts, two_parts}
+use Rattle.linear_types.specs.Rule.{app_rule, bang_rule, branches_rule, case_rule, clip_rule, eq_rule, exactly, fn_rule, fst_rule, fun_rule, halves, has_bound, has_scaled, has_sum, if_rule, inl_rule, inr_rule, le_rule, least_rule, let_bang_rule, let_pair_rule, let_rule, map_rule, pair_rule, past, plus_rule, rule, side_rule, size_rule, snd_rule, sum_rule, test_rule, times_rule, union_rule, var_rule, with_rule}
 use Rattle.linear_types.specs.Sensitivities.{Sensitivities, above_zero, first, join, plus, rest, scale}
-use Rattle.linear_types.specs.Typing.{Closed, Context, IsBound, Typing, Under, here, is_app, is_at_most, is_bang, is_case, is_clip, is_eq_num, is_eq_text, is_filter, is_fn, is_fst, is_fun, is_greatest, is_if, is_inl, is_inr, is_least, is_let, is_let_bang, is_let_pair, is_map, is_minus, is_num, is_pair, is_plus, is_size, is_snd, is_split, is_sum, is_text, is_times, is_union, is_unit, is_var, is_with, size_of, there, widest_of}
-use Rattle.linear_types.specs.Verdict.{Exactly, Fault, Has, Mismatch, NotFlat, NotGround, Range, Refused, TooSensitive, Verdict, any_out, in_range, need, need_formed, one_part, three_parts, two_parts}
+use Rattle.linear_types.specs.Typing.{Closed, Context, IsBound, IsType, Typing, Under, here, is_app, is_at_most, is_bang, is_case, is_clip, is_eq_num, is_eq_text, is_filter, is_fn, is_fst, is_fun, is_greatest, is_if, is_inl, is_inr, is_least, is_let, is_let_bang, is_let_pair, is_map, is_minus, is_num, is_pair, is_plus, is_size, is_snd, is_split, is_sum, is_text, is_times, is_union, is_unit, is_var, is_with, size_of, there, widest_of}
 
--- a verdict with a type, taken apart
+abbrev pub IsTerms : Fault → Type 0
+IsTerms (Unbounded x) = ⊥
+IsTerms (NotNum A) = ⊥
+IsTerms f = ⊤
 
-one_has : (o : Verdict) (k : Ty → Sensitivities → Verdict) (A : Ty) (F : Sensitivities) → one_part o k ≡ Has A F → (B : Ty) × (D : Sensitivities) × (o ≡ Has B D) × (k B D ≡ Has A F)
-one_has (Has B D) k A F h = (B, D, refl, h)
-one_has (Refused f) k A F h = cc
+-- a type and sensitivities of which P holds, or a fault of a term
+abbrev pub IsSo : (Ty → Sensitivities → Type 0) → Inferred → Type 0
+IsSo P (Has A D) = P A D
+IsSo P (Refused f) = IsTerms f
 
-two_have : (o p : Verdict) (k : Ty → Sensitivities → Ty → Sensitivities → Verdict) (A : Ty) (F : Sensitivities) → two_parts o p k ≡ Has A F
-    → (B : Ty) × (D : Sensitivities) × (C : Ty) × (E : Sensitivities) × (o ≡ Has B D) × (p ≡ Has C E) × (k B D C E ≡ Has A F)
-two_have (Has B D) (Has C E) k A F h = (B, D, C, E, refl, refl, h)
-two_have (Has B D) (Refused f) k A F h = cc
-two_have (Refused f) p k A F h = cc
+pub record So (P : Ty → Sensitivities → Type 0) (v : Inferred) : Type 0 where
+  pub so : IsSo P v
 
-three_have : (o p q : Verdict) (k : Ty → Sensitivities → Ty → Sensitivities → Ty → Sensitivities → Verdict) (A : Ty) (F : Sensitivities) → three_parts o p q k ≡ Has A F
-    → (B : Ty) × (D : Sensitivities) × (C : Ty) × (E : Sensitivities) × (G : Ty) × (H : Sensitivities) × (o ≡ Has B D) × (p ≡ Has C E) × (q ≡ Has G H) × (k B D C E G H ≡ Has A F)
-three_have (Has B D) (Has C E) (Has G H) k A F h = (B, D, C, E, G, H, refl, refl, refl, h)
-three_have (Has B D) (Has C E) (Refused f) k A F h = cc
-three_have (Has B D) (Refused f) q k A F h = cc
-three_have (Refused f) p q k A F h = cc
+-- a term within its limits has this type by the rules
+abbrev pub Typed : Context → Term → Ty → Sensitivities → Type 0
+Typed Γ e A D = TermLimits e → Typing Γ e A D
 
-need_has : (b : Bool) (f : Fault) (v : Verdict) (A : Ty) (F : Sensitivities) → need b f v ≡ Has A F → (b ≡ true) × (v ≡ Has A F)
-need_has true f v A F h = (refl, h)
-need_has false f v A F h = cc
+module _ {P : Ty → Sensitivities → Type 0} where
+  typed : {A : Ty} {D : Sensitivities} → P A D → So P (Has A D)
+  typed p = record { so = p }
 
-exactly_has : (u : Span) (B C : Ty) (v : Verdict) (A : Ty) (F : Sensitivities) → exactly u B C v ≡ Has A F → (B ≡ C) × (v ≡ Has A F)
-exactly_has u B C v A F h = let k = need_has (same_type B C) (Mismatch u B (Exactly C)) v A F h in (same_type_is B C k.0, k.1)
+  refused : {f : Fault} → IsTerms f → So P (Refused f)
+  refused t = record { so = t }
 
-formed_has : (u : Span) (w : Formed) (v : Verdict) (A : Ty) (F : Sensitivities) → need_formed u w v ≡ Has A F → (w ≡ WellFormed) × (v ≡ Has A F)
-formed_has u WellFormed v A F h = (refl, h)
-formed_has u UngroundSum v A F h = cc
-formed_has u UnflatBag v A F h = cc
+  by_one : {Q : Ty → Sensitivities → Type 0} {v : Inferred} (k : Ty → Sensitivities → Inferred) → So Q v → ((A : Ty) (D : Sensitivities) → Q A D → So P (k A D)) → So P (one_part v k)
+  by_one {v = Has A D} k h q = q A D h.so
+  by_one {v = Refused f} k h q = refused h.so
 
-range_has : (s : Span) (D : Sensitivities) (v : Verdict) (A : Ty) (F : Sensitivities) → in_range s D v ≡ Has A F → v ≡ Has A F
-range_has s D v A F h = go (any_out D) h
+  by_two : {Q R : Ty → Sensitivities → Type 0} {v w : Inferred} (k : Ty → Sensitivities → Ty → Sensitivities → Inferred) → So Q v → So R w
+      → ((A : Ty) (D : Sensitivities) (B : Ty) (E : Sensitivities) → Q A D → R B E → So P (k A D B E)) → So P (two_parts v w k)
+  by_two {v = Has A D} {w = Has B E} k h i q = q A D B E h.so i.so
+  by_two {v = Has A D} {w = Refused f} k h i q = refused i.so
+  by_two {v = Refused f} k h i q = refused h.so
+
+  by_three : {Q R S : Ty → Sensitivities → Type 0} {v w x : Inferred} (k : Ty → Sensitivities → Ty → Sensitivities → Ty → Sensitivities → Inferred) → So Q v → So R w → So S x
+      → ((A : Ty) (D : Sensitivities) (B : Ty) (E : Sensitivities) (C : Ty) (F : Sensitivities) → Q A D → R B E → S C F → So P (k A D B E C F)) → So P (three_parts v w x k)
+  by_three {v = Has A D} {w = Has B E} {x = Has C F} k h i j q = q A D B E C F h.so i.so j.so
+  by_three {v = Has A D} {w = Has B E} {x = Refused f} k h i j q = refused j.so
+  by_three {v = Has A D} {w = Refused f} k h i j q = refused i.so
+  by_three {v = Refused f} k h i j q = refused h.so
+
+  by_need : (b : Bool) (f : Fault) {v : Inferred} → IsTerms f → (b ≡ true → So P v) → So P (need b f v)
+  by_need true f t q = q refl
+  by_need false f t q = refused t
+
+  by_type : (u : Span) (A B : Ty) {v : Inferred} → (A ≡ B → So P v) → So P (exactly u A B v)
+  by_type u A B q = by_need (same_type A B) (Mismatch u A (Exactly B)) tt (λ h. q (same_type_is A B h))
+
+  by_formed : (u : Span) (w : Formed) {v : Inferred} → (w ≡ WellFormed → So P v) → So P (need_formed u w v)
+  by_formed u WellFormed q = q refl
+  by_formed u UngroundSum q = refused tt
+  by_formed u UnflatBag q = refused tt
+
+  by_range : (s : Span) (D : Sensitivities) {v : Inferred} → So P v → So P (in_range s D v)
+  by_range s D {v} q = go (any_out D)
+    where
+      go : (b : Bool) → So P (cond b (Refused (Range s)) v)
+      go true = refused tt
+      go false = q
+
+  by_sum : (s : Span) (A : Ty) (D : Sensitivities) → P A D → So P (has_sum s A D)
+  by_sum s A D p = by_range s D (typed p)
+
+  by_bound : (s : Span) (A : Ty) (D : Sensitivities) (r : Distance) (E : Sensitivities) → P A (plus D (scale r E)) → So P (has_bound s A D r E)
+  by_bound s A D r E p = by_range s (scale r E) (by_sum s A (plus D (scale r E)) p)
+
+  by_scaled : (s : Span) (A : Ty) (r : Distance) (D : Sensitivities) → P A (scale r D) → So P (has_scaled s A r D)
+  by_scaled s A r D p = by_range s (r ∷ []) (by_sum s A (scale r D) p)
+
+  by_side : (u : Span) (T : Ty) (v : Span) (A : Ty) {o : Inferred} → (formed T ≡ WellFormed → is_ground T ≡ true → is_ground A ≡ true → So P o) → So P (side_rule u T v A o)
+  by_side u T v A q = by_formed u (formed T) (λ w. by_need (is_ground T) (NotGround u) tt (λ g. by_need (is_ground A) (NotGround v) tt (λ h. q w g h)))
+
+as_type : {Γ : Context} {e : Term} {A B : Ty} {D : Sensitivities} → A ≡ B → Typing Γ e A D → Typing Γ e B D
+as_type i h = rw (← i) h
+
+a_type : {T : Ty} → formed T ≡ WellFormed → TypeLimits T → IsType T
+a_type w l = record { well_formed = w; limits = l }
+
+so_var : (s : Span) (Γ : Context) (x : Name) → So (λ A D. IsBound Γ x A D) (var_rule s Γ x)
+so_var s Closed x = refused tt
+so_var s (Under y B Γ) x = go (so_var s Γ x) (bytes_eq y x) refl
   where
-    go : (b : Bool) → cond b (Refused (Range s)) v ≡ Has A F → v ≡ Has A F
-    go true k = cc
-    go false k = k
+    go : So (λ A D. IsBound Γ x A D) (var_rule s Γ x) → (b : Bool) → bytes_eq y x ≡ b → So (λ A D. IsBound (Under y B Γ) x A D) (cond b (Has B (one ∷ [])) (past (var_rule s Γ x)))
+    go r true e = typed (here e)
+    go r false e = by_one (λ A D. Has A (none ∷ D)) r (λ A D h. typed (there e h))
 
-is_what : (B : Ty) (D : Sensitivities) (A : Ty) (F : Sensitivities) → Has B D ≡ Has A F → (B ≡ A) × (D ≡ F)
-is_what B D A F h = (cc, cc)
+name_so : {Γ : Context} {x : Name} {s : Span} {v : Inferred} → So (λ A D. IsBound Γ x A D) v → So (Typed Γ (at s (VarE x))) v
+name_so {v = Has A D} h = typed (λ l. is_var h.so)
+name_so {v = Refused f} h = refused h.so
 
-sum_has : (s : Span) (B : Ty) (D : Sensitivities) (A : Ty) (F : Sensitivities) → has_sum s B D ≡ Has A F → (B ≡ A) × (D ≡ F)
-sum_has s B D A F h = is_what B D A F (range_has s D (Has B D) A F h)
+module _ {Γ : Context} {e : Term} (s u : Span) where
+  so_fst : (T : Ty) (D : Sensitivities) → Typed Γ e T D → So (Typed Γ (at s (FstE e))) (fst_rule u T D)
+  so_fst (WithT A B) D p = typed (λ l. is_fst (p l))
+  so_fst T D p = refused tt
 
-bound_has : (s : Span) (B : Ty) (D : Sensitivities) (r : Distance) (E : Sensitivities) (A : Ty) (F : Sensitivities) → has_bound s B D r E ≡ Has A F → (B ≡ A) × (plus D (scale r E) ≡ F)
-bound_has s B D r E A F h = sum_has s B (plus D (scale r E)) A F (range_has s (scale r E) (has_sum s B (plus D (scale r E))) A F h)
+  so_snd : (T : Ty) (D : Sensitivities) → Typed Γ e T D → So (Typed Γ (at s (SndE e))) (snd_rule u T D)
+  so_snd (WithT A B) D p = typed (λ l. is_snd (p l))
+  so_snd T D p = refused tt
 
-scaled_has : (s : Span) (B : Ty) (r : Distance) (D : Sensitivities) (A : Ty) (F : Sensitivities) → has_scaled s B r D ≡ Has A F → (B ≡ A) × (scale r D ≡ F)
-scaled_has s B r D A F h = sum_has s B (scale r D) A F (range_has s (r ∷ []) (has_sum s B (scale r D)) A F h)
+  so_size : (T : Ty) (D : Sensitivities) → Typed Γ e T D → So (Typed Γ (at s (SizeE e))) (size_rule u T D)
+  so_size (BagT A) D p = typed (λ l. is_size (p l))
+  so_size T D p = refused tt
 
--- what a verdict says is so
-abbrev Sound : Verdict → Context → Term → Type 0
-Sound o Γ e = (A : Ty) (D : Sensitivities) → o ≡ Has A D → Typing Γ e A D
+  so_let_pair : (x y : Name) {b : Term} (body : Ty → Ty → Inferred) → ((A B : Ty) → So (Typed (Under y B (Under x A Γ)) b) (body A B))
+      → (T : Ty) (E : Sensitivities) → Typed Γ e T E → So (Typed Γ (at s (LetPairE x y e b))) (let_pair_rule s u T E body)
+  so_let_pair x y body q (TensorT A B) E p =
+      by_one (λ C D. has_bound s C (rest (rest D)) (greater (first (rest D)) (first D)) E) (q A B)
+      (λ C D r. by_bound s C (rest (rest D)) (greater (first (rest D)) (first D)) E (λ l. is_let_pair (p l.2) (r l.3)))
+  so_let_pair x y body q T E p = refused tt
 
-bound_at : {Γ : Context} {x : Name} {A B : Ty} {D E : Sensitivities} → A ≡ B → D ≡ E → IsBound Γ x A D → IsBound Γ x B E
-bound_at i j h = rw (← i, ← j) h
+  so_let_bang : (x : Name) {b : Term} (body : Ty → Inferred) → ((A : Ty) → So (Typed (Under x A Γ) b) (body A))
+      → (T : Ty) (E : Sensitivities) → Typed Γ e T E → So (Typed Γ (at s (LetBangE x e b))) (let_bang_rule s u T E body)
+  so_let_bang x body q (BangT r A) E p =
+      by_one (λ B D. in_range s (quotient (first D) r ∷ []) (has_bound s B (rest D) (quotient (first D) r) E)) (q A)
+      (λ B D h. by_range s (quotient (first D) r ∷ []) (by_bound s B (rest D) (quotient (first D) r) E (λ l. is_let_bang (p l.1) (h l.2))))
+  so_let_bang x body q T E p = refused tt
 
-retype : {Γ : Context} {e : Term} {A B : Ty} {D : Sensitivities} → A ≡ B → Typing Γ e A D → Typing Γ e B D
-retype i h = rw (← i) h
+  so_case : (w : Span) (x y : Name) {a b : Term} (left right : Ty → Inferred) → ((A : Ty) → So (Typed (Under x A Γ) a) (left A)) → ((B : Ty) → So (Typed (Under y B Γ) b) (right B))
+      → (T : Ty) (F : Sensitivities) → Typed Γ e T F → So (Typed Γ (at s (CaseE e x a y b))) (case_rule s u w T F left right)
+  so_case w x y left right q r (SumT X Y) F p =
+      by_two (branches_rule s w F) (q X) (r Y)
+      (λ A D B E h k. by_type w B A (λ i. by_need (is_ground A) (NotGround s) tt (λ g.
+      by_bound s A (join (rest D) (rest E)) (above_zero (greater (first D) (first E))) F (λ l. is_case (p l.0) (h l.2) (as_type i (k l.4)) g))))
+  so_case w x y left right q r T F p = refused tt
 
-module _ {Γ : Context} {e : Term} where
-  at_type : {A B : Ty} {D E : Sensitivities} → A ≡ B → D ≡ E → Typing Γ e A D → Typing Γ e B E
-  at_type i j h = rw (← i, ← j) h
+module _ {Γ : Context} {f b : Term} (s u v : Span) where
+  so_app : (T : Ty) (D : Sensitivities) (B : Ty) (E : Sensitivities) → Typed Γ f T D → Typed Γ b B E → So (Typed Γ (at s (AppE f b))) (app_rule s u v T D B E)
+  so_app (ArrowT A C) D B E p q = by_type v B A (λ i. by_sum s C (plus D E) (λ l. is_app (p l.0) (as_type i (q l.1))))
+  so_app T D B E p q = refused tt
 
-sound_var : (s : Span) (Γ : Context) (x : Name) (A : Ty) (D : Sensitivities) → var_rule s Γ x ≡ Has A D → IsBound Γ x A D
-sound_var s Closed x A D h = cc
-sound_var s (Under y B Γ) x A D h = go (sound_var s Γ x) (bytes_eq y x) refl h
-  where
-    go : ((A : Ty) (D : Sensitivities) → var_rule s Γ x ≡ Has A D → IsBound Γ x A D) → (b : Bool) → bytes_eq y x ≡ b → cond b (Has B (one ∷ [])) (past (var_rule s Γ x)) ≡ Has A D → IsBound (Under y B Γ) x A D
-    go rec true e k = let i = is_what B (one ∷ []) A D k in bound_at i.0 i.1 (here e)
-    go rec false e k =
-        let i = one_has (var_rule s Γ x) (λ A D. Has A (none ∷ D)) A D k in
-        let j = is_what i.0 (none ∷ i.1) A D i.3 in
-        bound_at j.0 j.1 (there e (rec i.0 i.1 i.2))
+  so_eq : (T : Ty) (D : Sensitivities) (B : Ty) (E : Sensitivities) → Typed Γ f T D → Typed Γ b B E → So (Typed Γ (at s (EqE f b))) (eq_rule s u v T D B E)
+  so_eq NumT D B E p q = by_type v B NumT (λ i. by_sum s BoolT (plus (scale Inf D) (scale Inf E)) (λ l. is_eq_num (p l.0) (as_type i (q l.1))))
+  so_eq TextT D B E p q = by_type v B TextT (λ i. by_sum s BoolT (plus D E) (λ l. is_eq_text (p l.0) (as_type i (q l.1))))
+  so_eq T D B E p q = refused tt
 
-module _ {Γ : Context} {e : Term} where
-  sound_fst : (u : Span) (B : Ty) (D : Sensitivities) (A : Ty) (F : Sensitivities) → Typing Γ e B D → fst_rule u B D ≡ Has A F → Typing Γ (FstE e) A F
-  sound_fst u (WithT X Y) D A F p h = let i = is_what X D A F h in at_type i.0 i.1 (is_fst p)
-  sound_fst u B D A F p h = cc
+  so_union : (T : Ty) (D : Sensitivities) (B : Ty) (E : Sensitivities) → Typed Γ f T D → Typed Γ b B E → So (Typed Γ (at s (UnionE f b))) (union_rule s u v T D B E)
+  so_union (BagT A) D B E p q = by_type v B (BagT A) (λ i. by_sum s (BagT A) (plus D E) (λ l. is_union (p l.0) (as_type i (q l.1))))
+  so_union T D B E p q = refused tt
 
-  sound_snd : (u : Span) (B : Ty) (D : Sensitivities) (A : Ty) (F : Sensitivities) → Typing Γ e B D → snd_rule u B D ≡ Has A F → Typing Γ (SndE e) A F
-  sound_snd u (WithT X Y) D A F p h = let i = is_what Y D A F h in at_type i.0 i.1 (is_snd p)
-  sound_snd u B D A F p h = cc
-
-  sound_size : (u : Span) (B : Ty) (D : Sensitivities) (A : Ty) (F : Sensitivities) → Typing Γ e B D → size_rule u B D ≡ Has A F → Typing Γ (SizeE e) A F
-  sound_size u (BagT X) D A F p h = let i = is_what NumT D A F h in at_type i.0 i.1 (is_size p)
-  sound_size u B D A F p h = cc
-
-  sound_let_pair : (s u : Span) (x y : Name) (b : Term) (T : Ty) (E : Sensitivities) (body : Ty → Ty → Verdict) (A : Ty) (F : Sensitivities) → Typing Γ e T E
-      → ((X Y : Ty) → Sound (body X Y) (Under y Y (Under x X Γ)) b) → let_pair_rule s u T E body ≡ Has A F → Typing Γ (LetPairE x y e b) A F
-  sound_let_pair s u x y b (TensorT X Y) E body A F p q h =
-      let i = one_has (body X Y) (λ C D. has_bound s C (rest (rest D)) (greater (first (rest D)) (first D)) E) A F h in
-      let j = bound_has s i.0 (rest (rest i.1)) (greater (first (rest i.1)) (first i.1)) E A F i.3 in
-      at_type j.0 j.1 (is_let_pair p (q X Y i.0 i.1 i.2))
-  sound_let_pair s u x y b T E body A F p q h = cc
-
-  sound_let_bang : (s u : Span) (x : Name) (b : Term) (T : Ty) (E : Sensitivities) (body : Ty → Verdict) (A : Ty) (F : Sensitivities) → Typing Γ e T E
-      → ((X : Ty) → Sound (body X) (Under x X Γ) b) → let_bang_rule s u T E body ≡ Has A F → Typing Γ (LetBangE x e b) A F
-  sound_let_bang s u x b (BangT r X) E body A F p q h =
-      let i = one_has (body X) (λ B D. in_range s (quotient (first D) r ∷ []) (has_bound s B (rest D) (quotient (first D) r) E)) A F h in
-      let k = range_has s (quotient (first i.1) r ∷ []) (has_bound s i.0 (rest i.1) (quotient (first i.1) r) E) A F i.3 in
-      let j = bound_has s i.0 (rest i.1) (quotient (first i.1) r) E A F k in
-      at_type j.0 j.1 (is_let_bang p (q X i.0 i.1 i.2))
-  sound_let_bang s u x b T E body A F p q h = cc
-
-  sound_case : (s u w : Span) (x y : Name) (a b : Term) (T : Ty) (G : Sensitivities) (left right : Ty → Verdict) (A : Ty) (F : Sensitivities) → Typing Γ e T G
-      → ((X : Ty) → Sound (left X) (Under x X Γ) a) → ((Y : Ty) → Sound (right Y) (Under y Y Γ) b) → case_rule s u w T G left right ≡ Has A F → Typing Γ (CaseE e x a y b) A F
-  sound_case s u w x y a b (SumT X Y) G left right A F p q r h =
-      let i = two_have (left X) (right Y) (branches_rule s w G) A F h in
-      let k = above_zero (greater (first i.1) (first i.3)) in
-      let v = has_bound s i.0 (join (rest i.1) (rest i.3)) k G in
-      let j = exactly_has w i.2 i.0 (need (is_ground i.0) (NotGround s) v) A F i.6 in
-      let g = need_has (is_ground i.0) (NotGround s) v A F j.1 in
-      let z = bound_has s i.0 (join (rest i.1) (rest i.3)) k G A F g.1 in
-      let second : Typing (Under y Y Γ) b i.0 i.3 = retype j.0 (r Y i.2 i.3 i.5) in
-      at_type z.0 z.1 (is_case p (q X i.0 i.1 i.4) second g.0)
-  sound_case s u w x y a b T G left right A F p q r h = cc
-
-  sound_app : (s u v : Span) (a : Term) (G : Ty) (D : Sensitivities) (T : Ty) (E : Sensitivities) (A : Ty) (F : Sensitivities) → Typing Γ e G D → Typing Γ a T E → app_rule s u v G D T E ≡ Has A F → Typing Γ (AppE e a) A F
-  sound_app s u v a (ArrowT X Y) D T E A F p q h =
-      let i = exactly_has v T X (has_sum s Y (plus D E)) A F h in let j = sum_has s Y (plus D E) A F i.1 in
-      at_type j.0 j.1 (is_app p (retype i.0 q))
-  sound_app s u v a G D T E A F p q h = cc
-
-  sound_eq : (s u v : Span) (b : Term) (B : Ty) (D : Sensitivities) (C : Ty) (E : Sensitivities) (A : Ty) (F : Sensitivities) → Typing Γ e B D → Typing Γ b C E → eq_rule s u v B D C E ≡ Has A F → Typing Γ (EqE e b) A F
-  sound_eq s u v b NumT D C E A F p q h =
-      let D' = plus (scale Inf D) (scale Inf E) in
-      let i = exactly_has v C NumT (has_sum s BoolT D') A F h in let j = sum_has s BoolT D' A F i.1 in
-      at_type j.0 j.1 (is_eq_num p (retype i.0 q))
-  sound_eq s u v b TextT D C E A F p q h =
-      let i = exactly_has v C TextT (has_sum s BoolT (plus D E)) A F h in let j = sum_has s BoolT (plus D E) A F i.1 in
-      at_type j.0 j.1 (is_eq_text p (retype i.0 q))
-  sound_eq s u v b B D C E A F p q h = cc
-
-  sound_union : (s u v : Span) (b : Term) (B : Ty) (D : Sensitivities) (C : Ty) (E : Sensitivities) (A : Ty) (F : Sensitivities) → Typing Γ e B D → Typing Γ b C E → union_rule s u v B D C E ≡ Has A F → Typing Γ (UnionE e b) A F
-  sound_union s u v b (BagT X) D C E A F p q h =
-      let i = exactly_has v C (BagT X) (has_sum s (BagT X) (plus D E)) A F h in let j = sum_has s (BagT X) (plus D E) A F i.1 in
-      at_type j.0 j.1 (is_union p (retype i.0 q))
-  sound_union s u v b B D C E A F p q h = cc
-
-  sound_map : (s u v : Span) (b : Term) (G : Ty) (D : Sensitivities) (C : Ty) (E : Sensitivities) (A : Ty) (F : Sensitivities) → Typing Γ e G D → Typing Γ b C E → map_rule s u v G D C E ≡ Has A F → Typing Γ (MapE e b) A F
-  sound_map s u v b (ArrowT (BangT Inf X) T) D C E A F p q h =
-      let D' = plus (scale Inf D) E in
-      let g = need_has (is_flat T) (NotFlat u) (exactly v C (BagT X) (has_sum s (BagT T) D')) A F h in
-      let i = exactly_has v C (BagT X) (has_sum s (BagT T) D') A F g.1 in let j = sum_has s (BagT T) D' A F i.1 in
-      at_type j.0 j.1 (is_map p g.0 (retype i.0 q))
-  sound_map s u v b G D C E A F p q h = cc
+  so_map : (T : Ty) (D : Sensitivities) (B : Ty) (E : Sensitivities) → Typed Γ f T D → Typed Γ b B E → So (Typed Γ (at s (MapE f b))) (map_rule s u v T D B E)
+  so_map (ArrowT (BangT Inf A) C) D B E p q =
+      by_need (is_flat C) (NotFlat u) tt (λ g. by_type v B (BagT A) (λ i. by_sum s (BagT C) (plus (scale Inf D) E) (λ l. is_map (p l.0) g (as_type i (q l.1)))))
+  so_map T D B E p q = refused tt
 
   -- a test of the elements, by what it makes of theirs
-  sound_test : (T : Ty → Ty) (whole : Term → Term) → ((X : Ty) (D E : Sensitivities) (b : Term) → Typing Γ e (UnlimitedT X BoolT) D → Typing Γ b (BagT X) E → Typing Γ (whole b) (T X) (plus (scale Inf D) E))
-      → (s u v : Span) (b : Term) (G : Ty) (D : Sensitivities) (C : Ty) (E : Sensitivities) (A : Ty) (F : Sensitivities) → Typing Γ e G D → Typing Γ b C E → test_rule T s u v G D C E ≡ Has A F → Typing Γ (whole b) A F
-  sound_test T whole make s u v b (ArrowT (BangT Inf X) Z) D C E A F p q h =
-      let D' = plus (scale Inf D) E in
-      let g = exactly_has u (UnlimitedT X Z) (UnlimitedT X BoolT) (exactly v C (BagT X) (has_sum s (T X) D')) A F h in
-      let i = exactly_has v C (BagT X) (has_sum s (T X) D') A F g.1 in let j = sum_has s (T X) D' A F i.1 in
-      at_type j.0 j.1 (make X D E b (retype g.0 p) (retype i.0 q))
-  sound_test T whole make s u v b G D C E A F p q h = cc
+  so_test : (M : Ty → Ty) (whole : TermForm) → (TermLimits (at s whole) → TermLimits f × TermLimits b)
+      → ((A : Ty) (D E : Sensitivities) → Typing Γ f (UnlimitedT A BoolT) D → Typing Γ b (BagT A) E → Typing Γ (at s whole) (M A) (plus (scale Inf D) E))
+      → (T : Ty) (D : Sensitivities) (B : Ty) (E : Sensitivities) → Typed Γ f T D → Typed Γ b B E → So (Typed Γ (at s whole)) (test_rule M s u v T D B E)
+  so_test M whole parts make (ArrowT (BangT Inf A) C) D B E p q =
+      by_type u (UnlimitedT A C) (UnlimitedT A BoolT) (λ i. by_type v B (BagT A) (λ j.
+      by_sum s (M A) (plus (scale Inf D) E) (λ l. make A D E (as_type i (p (parts l).0)) (as_type j (q (parts l).1)))))
+  so_test M whole parts make T D B E p q = refused tt
 
-pub sound : (t : Spanned) (Γ : Context) → TermLimits (erase t) → (A : Ty) (F : Sensitivities) → rule Γ t ≡ Has A F → Typing Γ (erase t) A F
-sound (VarAt s x) Γ l A F h = is_var (sound_var s Γ x A F h)
-sound (NumAt s z) Γ l A F h = let i = is_what NumT [] A F h in at_type i.0 i.1 (is_num l)
-sound (TextAt s t) Γ l A F h = let i = is_what TextT [] A F h in at_type i.0 i.1 (is_text l)
-sound (UnitAt s) Γ l A F h = let i = is_what UnitT [] A F h in at_type i.0 i.1 is_unit
-sound (PairAt s a b) Γ l A F h =
-    let i = two_have (rule Γ a) (rule Γ b) (λ A D B E. has_sum s (TensorT A B) (plus D E)) A F h in let j = sum_has s (TensorT i.0 i.2) (plus i.1 i.3) A F i.6 in
-    at_type j.0 j.1 (is_pair (sound a Γ l.0 i.0 i.1 i.4) (sound b Γ l.1 i.2 i.3 i.5))
-sound (WithAt s a b) Γ l A F h =
-    let i = two_have (rule Γ a) (rule Γ b) (λ A D B E. Has (WithT A B) (join D E)) A F h in let j = is_what (WithT i.0 i.2) (join i.1 i.3) A F i.6 in
-    at_type j.0 j.1 (is_with (sound a Γ l.0 i.0 i.1 i.4) (sound b Γ l.1 i.2 i.3 i.5))
-sound (FstAt s e) Γ l A F h = let i = one_has (rule Γ e) (fst_rule (span_of e)) A F h in sound_fst (span_of e) i.0 i.1 A F (sound e Γ l i.0 i.1 i.2) i.3
-sound (SndAt s e) Γ l A F h = let i = one_has (rule Γ e) (snd_rule (span_of e)) A F h in sound_snd (span_of e) i.0 i.1 A F (sound e Γ l i.0 i.1 i.2) i.3
-sound (LetPairAt s x y e b) Γ l A F h =
-    let body = λ (X Y : Ty). rule (Under y Y (Under x X Γ)) b in
-    let i = one_has (rule Γ e) (λ T E. let_pair_rule s (span_of e) T E body) A F h in
-    sound_let_pair s (span_of e) x y (erase b) i.0 i.1 body A F (sound e Γ l.2 i.0 i.1 i.2) (λ X Y. sound b (Under y Y (Under x X Γ)) l.3) i.3
-sound (InlAt s u T e) Γ l A F h =
-    let i = one_has (rule Γ e) (λ A D. side_rule u T (span_of e) A (Has (SumT A T) D)) A F h in
-    let o = Has (SumT i.0 T) i.1 in
-    let w = formed_has u (formed T) (need (is_ground T) (NotGround u) (need (is_ground i.0) (NotGround (span_of e)) o)) A F i.3 in
-    let g = need_has (is_ground T) (NotGround u) (need (is_ground i.0) (NotGround (span_of e)) o) A F w.1 in
-    let k = need_has (is_ground i.0) (NotGround (span_of e)) o A F g.1 in
-    let j = is_what (SumT i.0 T) i.1 A F k.1 in
-    at_type j.0 j.1 (is_inl (sound e Γ l.1 i.0 i.1 i.2) (record { well_formed = w.0; limits = l.0 }) g.0 k.0)
-sound (InrAt s u T e) Γ l A F h =
-    let i = one_has (rule Γ e) (λ A D. side_rule u T (span_of e) A (Has (SumT T A) D)) A F h in
-    let o = Has (SumT T i.0) i.1 in
-    let w = formed_has u (formed T) (need (is_ground T) (NotGround u) (need (is_ground i.0) (NotGround (span_of e)) o)) A F i.3 in
-    let g = need_has (is_ground T) (NotGround u) (need (is_ground i.0) (NotGround (span_of e)) o) A F w.1 in
-    let k = need_has (is_ground i.0) (NotGround (span_of e)) o A F g.1 in
-    let j = is_what (SumT T i.0) i.1 A F k.1 in
-    at_type j.0 j.1 (is_inr (sound e Γ l.1 i.0 i.1 i.2) (record { well_formed = w.0; limits = l.0 }) g.0 k.0)
-sound (CaseAt s e x a y b) Γ l A F h =
-    let left = λ (X : Ty). rule (Under x X Γ) a in let right = λ (Y : Ty). rule (Under y Y Γ) b in
-    let i = one_has (rule Γ e) (λ T F. case_rule s (span_of e) (span_of b) T F left right) A F h in
-    sound_case s (span_of e) (span_of b) x y (erase a) (erase b) i.0 i.1 left right A F (sound e Γ l.0 i.0 i.1 i.2) (λ X. sound a (Under x X Γ) l.2) (λ Y. sound b (Under y Y Γ) l.4) i.3
-sound (IfAt s e a b) Γ l A F h =
-    let i = three_have (rule Γ e) (rule Γ a) (rule Γ b) (if_rule s (span_of e) (span_of b)) A F h in
-    let v = has_sum s i.2 (plus (join i.3 i.5) i.1) in
-    let j = exactly_has (span_of e) i.0 BoolT (exactly (span_of b) i.4 i.2 (need (is_ground i.2) (NotGround s) v)) A F i.9 in
-    let k = exactly_has (span_of b) i.4 i.2 (need (is_ground i.2) (NotGround s) v) A F j.1 in
-    let g = need_has (is_ground i.2) (NotGround s) v A F k.1 in
-    let z = sum_has s i.2 (plus (join i.3 i.5) i.1) A F g.1 in
-    at_type z.0 z.1 (is_if (retype j.0 (sound e Γ l.0 i.0 i.1 i.6)) (sound a Γ l.1 i.2 i.3 i.7) (retype k.0 (sound b Γ l.2 i.4 i.5 i.8)) g.0)
-sound (FunAt s x u T e) Γ l A F h =
-    let i = one_has (rule (Under x T Γ) e) (fun_rule s x u T) A F h in
-    let o = Has (ArrowT T i.0) (rest i.1) in
-    let w = formed_has u (formed T) (need (is_le (first i.1) one) (TooSensitive s x (first i.1)) o) A F i.3 in
-    let g = need_has (is_le (first i.1) one) (TooSensitive s x (first i.1)) o A F w.1 in
-    let j = is_what (ArrowT T i.0) (rest i.1) A F g.1 in
-    at_type j.0 j.1 (is_fun (sound e (Under x T Γ) l.2 i.0 i.1 i.2) (record { well_formed = w.0; limits = l.1 }) (is_le-yes (first i.1) one g.0))
-sound (FnAt s x u T e) Γ l A F h =
-    let i = one_has (rule (Under x T Γ) e) (fn_rule u T) A F h in
-    let w = formed_has u (formed T) (Has (UnlimitedT T i.0) (rest i.1)) A F i.3 in
-    let j = is_what (UnlimitedT T i.0) (rest i.1) A F w.1 in
-    at_type j.0 j.1 (is_fn (sound e (Under x T Γ) l.2 i.0 i.1 i.2) (record { well_formed = w.0; limits = l.1 }))
-sound (AppAt s f a) Γ l A F h =
-    let i = two_have (rule Γ f) (rule Γ a) (app_rule s (span_of f) (span_of a)) A F h in
-    sound_app s (span_of f) (span_of a) (erase a) i.0 i.1 i.2 i.3 A F (sound f Γ l.0 i.0 i.1 i.4) (sound a Γ l.1 i.2 i.3 i.5) i.6
-sound (BangAt s r e) Γ l A F h =
-    let i = one_has (rule Γ e) (λ A D. has_sum s (BangT r A) (scale r D)) A F h in let j = sum_has s (BangT r i.0) (scale r i.1) A F i.3 in
-    at_type j.0 j.1 (is_bang (sound e Γ l.1 i.0 i.1 i.2) l.0)
-sound (LetBangAt s x e b) Γ l A F h =
-    let body = λ (X : Ty). rule (Under x X Γ) b in
-    let i = one_has (rule Γ e) (λ T E. let_bang_rule s (span_of e) T E body) A F h in
-    sound_let_bang s (span_of e) x (erase b) i.0 i.1 body A F (sound e Γ l.1 i.0 i.1 i.2) (λ X. sound b (Under x X Γ) l.2) i.3
-sound (LetAt s x e b) Γ l A F h =
-    let i = one_has (rule Γ e) (λ A E. one_part (rule (Under x A Γ) b) (λ B D. has_bound s B (rest D) (first D) E)) A F h in
-    let k = one_has (rule (Under x i.0 Γ) b) (λ B D. has_bound s B (rest D) (first D) i.1) A F i.3 in
-    let j = bound_has s k.0 (rest k.1) (first k.1) i.1 A F k.3 in
-    at_type j.0 j.1 (is_let (sound e Γ l.1 i.0 i.1 i.2) (sound b (Under x i.0 Γ) l.2 k.0 k.1 k.2))
-sound (PlusAt s a b) Γ l A F h =
-    let i = two_have (rule Γ a) (rule Γ b) (plus_rule s (span_of a) (span_of b)) A F h in
-    let j = exactly_has (span_of a) i.0 NumT (exactly (span_of b) i.2 NumT (has_sum s NumT (plus i.1 i.3))) A F i.6 in
-    let k = exactly_has (span_of b) i.2 NumT (has_sum s NumT (plus i.1 i.3)) A F j.1 in
-    let z = sum_has s NumT (plus i.1 i.3) A F k.1 in
-    at_type z.0 z.1 (is_plus (retype j.0 (sound a Γ l.0 i.0 i.1 i.4)) (retype k.0 (sound b Γ l.1 i.2 i.3 i.5)))
-sound (MinusAt s a b) Γ l A F h =
-    let i = two_have (rule Γ a) (rule Γ b) (plus_rule s (span_of a) (span_of b)) A F h in
-    let j = exactly_has (span_of a) i.0 NumT (exactly (span_of b) i.2 NumT (has_sum s NumT (plus i.1 i.3))) A F i.6 in
-    let k = exactly_has (span_of b) i.2 NumT (has_sum s NumT (plus i.1 i.3)) A F j.1 in
-    let z = sum_has s NumT (plus i.1 i.3) A F k.1 in
-    at_type z.0 z.1 (is_minus (retype j.0 (sound a Γ l.0 i.0 i.1 i.4)) (retype k.0 (sound b Γ l.1 i.2 i.3 i.5)))
-sound (TimesAt s k e) Γ l A F h =
-    let i = one_has (rule Γ e) (λ A D. exactly (span_of e) A NumT (has_scaled s NumT (size_of k) D)) A F h in
-    let j = exactly_has (span_of e) i.0 NumT (has_scaled s NumT (size_of k) i.1) A F i.3 in
-    let z = scaled_has s NumT (size_of k) i.1 A F j.1 in
-    at_type z.0 z.1 (is_times (retype j.0 (sound e Γ l.1 i.0 i.1 i.2)))
-sound (LeAt s a b) Γ l A F h =
-    let i = two_have (rule Γ a) (rule Γ b) (le_rule s (span_of a) (span_of b)) A F h in
-    let D' = plus (scale Inf i.1) (scale Inf i.3) in
-    let j = exactly_has (span_of a) i.0 NumT (exactly (span_of b) i.2 NumT (has_sum s BoolT D')) A F i.6 in
-    let k = exactly_has (span_of b) i.2 NumT (has_sum s BoolT D') A F j.1 in
-    let z = sum_has s BoolT D' A F k.1 in
-    at_type z.0 z.1 (is_at_most (retype j.0 (sound a Γ l.0 i.0 i.1 i.4)) (retype k.0 (sound b Γ l.1 i.2 i.3 i.5)))
-sound (EqAt s a b) Γ l A F h =
-    let i = two_have (rule Γ a) (rule Γ b) (eq_rule s (span_of a) (span_of b)) A F h in
-    sound_eq s (span_of a) (span_of b) (erase b) i.0 i.1 i.2 i.3 A F (sound a Γ l.0 i.0 i.1 i.4) (sound b Γ l.1 i.2 i.3 i.5) i.6
-sound (ClipAt s lo hi e) Γ l A F h =
-    let i = one_has (rule Γ e) (λ A D. exactly (span_of e) A NumT (Has NumT D)) A F h in
-    let j = exactly_has (span_of e) i.0 NumT (Has NumT i.1) A F i.3 in let z = is_what NumT i.1 A F j.1 in
-    at_type z.0 z.1 (is_clip (retype j.0 (sound e Γ l.2 i.0 i.1 i.2)) l.0 l.1)
-sound (LeastAt s e) Γ l A F h =
-    let i = one_has (rule Γ e) (λ A D. exactly (span_of e) A (WithT NumT NumT) (Has NumT D)) A F h in
-    let j = exactly_has (span_of e) i.0 (WithT NumT NumT) (Has NumT i.1) A F i.3 in let z = is_what NumT i.1 A F j.1 in
-    at_type z.0 z.1 (is_least (retype j.0 (sound e Γ l i.0 i.1 i.2)))
-sound (GreatestAt s e) Γ l A F h =
-    let i = one_has (rule Γ e) (λ A D. exactly (span_of e) A (WithT NumT NumT) (Has NumT D)) A F h in
-    let j = exactly_has (span_of e) i.0 (WithT NumT NumT) (Has NumT i.1) A F i.3 in let z = is_what NumT i.1 A F j.1 in
-    at_type z.0 z.1 (is_greatest (retype j.0 (sound e Γ l i.0 i.1 i.2)))
-sound (SizeAt s e) Γ l A F h = let i = one_has (rule Γ e) (size_rule (span_of e)) A F h in sound_size (span_of e) i.0 i.1 A F (sound e Γ l i.0 i.1 i.2) i.3
-sound (SumAt s lo hi e) Γ l A F h =
-    let i = one_has (rule Γ e) (λ A D. exactly (span_of e) A (BagT NumT) (has_scaled s NumT (widest_of lo hi) D)) A F h in
-    let j = exactly_has (span_of e) i.0 (BagT NumT) (has_scaled s NumT (widest_of lo hi) i.1) A F i.3 in
-    let z = scaled_has s NumT (widest_of lo hi) i.1 A F j.1 in
-    at_type z.0 z.1 (is_sum (retype j.0 (sound e Γ l.2 i.0 i.1 i.2)))
-sound (UnionAt s a b) Γ l A F h =
-    let i = two_have (rule Γ a) (rule Γ b) (union_rule s (span_of a) (span_of b)) A F h in
-    sound_union s (span_of a) (span_of b) (erase b) i.0 i.1 i.2 i.3 A F (sound a Γ l.0 i.0 i.1 i.4) (sound b Γ l.1 i.2 i.3 i.5) i.6
-sound (MapAt s f b) Γ l A F h =
-    let i = two_have (rule Γ f) (rule Γ b) (map_rule s (span_of f) (span_of b)) A F h in
-    sound_map s (span_of f) (span_of b) (erase b) i.0 i.1 i.2 i.3 A F (sound f Γ l.0 i.0 i.1 i.4) (sound b Γ l.1 i.2 i.3 i.5) i.6
-sound (FilterAt s f b) Γ l A F h =
-    let i = two_have (rule Γ f) (rule Γ b) (test_rule BagT s (span_of f) (span_of b)) A F h in
-    sound_test BagT (λ b. FilterE (erase f) b) (λ X D E b p q. is_filter p q) s (span_of f) (span_of b) (erase b) i.0 i.1 i.2 i.3 A F (sound f Γ l.0 i.0 i.1 i.4) (sound b Γ l.1 i.2 i.3 i.5) i.6
-sound (SplitAt s f b) Γ l A F h =
-    let i = two_have (rule Γ f) (rule Γ b) (test_rule halves s (span_of f) (span_of b)) A F h in
-    sound_test halves (λ b. SplitE (erase f) b) (λ X D E b p q. is_split p q) s (span_of f) (span_of b) (erase b) i.0 i.1 i.2 i.3 A F (sound f Γ l.0 i.0 i.1 i.4) (sound b Γ l.1 i.2 i.3 i.5) i.6
+-- two numbers, and what a row makes of them
+by_numbers : {P : Ty → Sensitivities → Type 0} {Γ : Context} {a b : Term} (s u v : Span) (C : Ty) (F : Sensitivities) (A : Ty) (D : Sensitivities) (B : Ty) (E : Sensitivities) → Typed Γ a A D → Typed Γ b B E
+    → (Typed Γ a NumT D → Typed Γ b NumT E → P C F) → So P (exactly u A NumT (exactly v B NumT (has_sum s C F)))
+by_numbers s u v C F A D B E p q make = by_type u A NumT (λ i. by_type v B NumT (λ j. by_sum s C F (make (λ l. as_type i (p l)) (λ l. as_type j (q l)))))
+
+pub so : (t : Term) (Γ : Context) → So (Typed Γ t) (rule Γ t)
+so (at s (VarE x)) Γ = name_so (so_var s Γ x)
+so (at s (NumE z)) Γ = typed (λ l. is_num l)
+so (at s (TextE t)) Γ = typed (λ l. is_text l)
+so (at s UnitE) Γ = typed (λ l. is_unit)
+so (at s (PairE a b)) Γ = by_two (pair_rule s) (so a Γ) (so b Γ) (λ A D B E p q. by_sum s (TensorT A B) (plus D E) (λ l. is_pair (p l.0) (q l.1)))
+so (at s (WithE a b)) Γ = by_two with_rule (so a Γ) (so b Γ) (λ A D B E p q. typed (λ l. is_with (p l.0) (q l.1)))
+so (at s (FstE e)) Γ = by_one (fst_rule (span_of e)) (so e Γ) (so_fst s (span_of e))
+so (at s (SndE e)) Γ = by_one (snd_rule (span_of e)) (so e Γ) (so_snd s (span_of e))
+so (at s (LetPairE x y e b)) Γ =
+    let body = λ (A B : Ty). rule (Under y B (Under x A Γ)) b in
+    by_one (λ T E. let_pair_rule s (span_of e) T E body) (so e Γ) (so_let_pair s (span_of e) x y body (λ A B. so b (Under y B (Under x A Γ))))
+so (at s (InlE u T e)) Γ = by_one (inl_rule u T (span_of e)) (so e Γ) (λ A D p. by_side u T (span_of e) A (λ w g h. typed (λ l. is_inl (p l.1) (a_type w l.0) g h)))
+so (at s (InrE u T e)) Γ = by_one (inr_rule u T (span_of e)) (so e Γ) (λ A D p. by_side u T (span_of e) A (λ w g h. typed (λ l. is_inr (p l.1) (a_type w l.0) g h)))
+so (at s (CaseE e x a y b)) Γ =
+    let left = λ (A : Ty). rule (Under x A Γ) a in let right = λ (B : Ty). rule (Under y B Γ) b in
+    by_one (λ T F. case_rule s (span_of e) (span_of b) T F left right) (so e Γ) (so_case s (span_of e) (span_of b) x y left right (λ A. so a (Under x A Γ)) (λ B. so b (Under y B Γ)))
+so (at s (IfE e a b)) Γ =
+    by_three (if_rule s (span_of e) (span_of b)) (so e Γ) (so a Γ) (so b Γ)
+    (λ T F A D B E p q r. by_type (span_of e) T BoolT (λ i. by_type (span_of b) B A (λ j. by_need (is_ground A) (NotGround s) tt (λ g.
+    by_sum s A (plus (join D E) F) (λ l. is_if (as_type i (p l.0)) (q l.1) (as_type j (r l.2)) g)))))
+so (at s (FunE x u T e)) Γ =
+    by_one (fun_rule s x u T) (so e (Under x T Γ)) (λ A D p. by_formed u (formed T) (λ w. by_need (is_le (first D) one) (TooSensitive s x (first D)) tt (λ g.
+    typed (λ l. is_fun (p l.2) (a_type w l.1) (is_le-yes (first D) one g)))))
+so (at s (FnE x u T e)) Γ = by_one (fn_rule u T) (so e (Under x T Γ)) (λ A D p. by_formed u (formed T) (λ w. typed (λ l. is_fn (p l.2) (a_type w l.1))))
+so (at s (AppE f a)) Γ = by_two (app_rule s (span_of f) (span_of a)) (so f Γ) (so a Γ) (so_app s (span_of f) (span_of a))
+so (at s (BangE r e)) Γ = by_one (bang_rule s r) (so e Γ) (λ A D p. by_sum s (BangT r A) (scale r D) (λ l. is_bang (p l.1) l.0))
+so (at s (LetBangE x e b)) Γ =
+    let body = λ (A : Ty). rule (Under x A Γ) b in
+    by_one (λ T E. let_bang_rule s (span_of e) T E body) (so e Γ) (so_let_bang s (span_of e) x body (λ A. so b (Under x A Γ)))
+so (at s (LetE x e b)) Γ =
+    by_one (λ A E. one_part (rule (Under x A Γ) b) (let_rule s E)) (so e Γ)
+    (λ A E p. by_one (let_rule s E) (so b (Under x A Γ)) (λ B D q. by_bound s B (rest D) (first D) E (λ l. is_let (p l.1) (q l.2))))
+so (at s (PlusE a b)) Γ =
+    by_two (plus_rule s (span_of a) (span_of b)) (so a Γ) (so b Γ) (λ A D B E p q. by_numbers s (span_of a) (span_of b) NumT (plus D E) A D B E p q (λ h k l. is_plus (h l.0) (k l.1)))
+so (at s (MinusE a b)) Γ =
+    by_two (plus_rule s (span_of a) (span_of b)) (so a Γ) (so b Γ) (λ A D B E p q. by_numbers s (span_of a) (span_of b) NumT (plus D E) A D B E p q (λ h k l. is_minus (h l.0) (k l.1)))
+so (at s (TimesE k e)) Γ = by_one (times_rule s (span_of e) k) (so e Γ) (λ A D p. by_type (span_of e) A NumT (λ i. by_scaled s NumT (size_of k) D (λ l. is_times (as_type i (p l.1)))))
+so (at s (LeE a b)) Γ =
+    by_two (le_rule s (span_of a) (span_of b)) (so a Γ) (so b Γ)
+    (λ A D B E p q. by_numbers s (span_of a) (span_of b) BoolT (plus (scale Inf D) (scale Inf E)) A D B E p q (λ h k l. is_at_most (h l.0) (k l.1)))
+so (at s (EqE a b)) Γ = by_two (eq_rule s (span_of a) (span_of b)) (so a Γ) (so b Γ) (so_eq s (span_of a) (span_of b))
+so (at s (ClipE lo hi e)) Γ = by_one (clip_rule (span_of e)) (so e Γ) (λ A D p. by_type (span_of e) A NumT (λ i. typed (λ l. is_clip (as_type i (p l.2)) l.0 l.1)))
+so (at s (LeastE e)) Γ = by_one (least_rule (span_of e)) (so e Γ) (λ A D p. by_type (span_of e) A (WithT NumT NumT) (λ i. typed (λ l. is_least (as_type i (p l)))))
+so (at s (GreatestE e)) Γ = by_one (least_rule (span_of e)) (so e Γ) (λ A D p. by_type (span_of e) A (WithT NumT NumT) (λ i. typed (λ l. is_greatest (as_type i (p l)))))
+so (at s (SizeE e)) Γ = by_one (size_rule (span_of e)) (so e Γ) (so_size s (span_of e))
+so (at s (SumE lo hi e)) Γ =
+    by_one (sum_rule s (span_of e) lo hi) (so e Γ) (λ A D p. by_type (span_of e) A (BagT NumT) (λ i. by_scaled s NumT (widest_of lo hi) D (λ l. is_sum (as_type i (p l.2)))))
+so (at s (UnionE a b)) Γ = by_two (union_rule s (span_of a) (span_of b)) (so a Γ) (so b Γ) (so_union s (span_of a) (span_of b))
+so (at s (MapE f b)) Γ = by_two (map_rule s (span_of f) (span_of b)) (so f Γ) (so b Γ) (so_map s (span_of f) (span_of b))
+so (at s (FilterE f b)) Γ = by_two (test_rule BagT s (span_of f) (span_of b)) (so f Γ) (so b Γ) (so_test s (span_of f) (span_of b) BagT (FilterE f b) (λ l. l) (λ A D E p q. is_filter p q))
+so (at s (SplitE f b)) Γ = by_two (test_rule halves s (span_of f) (span_of b)) (so f Γ) (so b Γ) (so_test s (span_of f) (span_of b) halves (SplitE f b) (λ l. l) (λ A D E p q. is_split p q))
+
+pub sound : (t : Term) (Γ : Context) → TermLimits t → (A : Ty) (D : Sensitivities) → rule Γ t ≡ Has A D → Typing Γ t A D
+sound t Γ l A D h = go (rule Γ t) (so t Γ) h
+  where
+    go : (v : Inferred) → So (Typed Γ t) v → v ≡ Has A D → Typing Γ t A D
+    go (Has B E) k e = let i : B ≡ A = cc e in let j : E ≡ D = cc e in rw (← i, ← j) (k.so l)
+    go (Refused f) k e = cc e
+
+-- a fault of a term is none of a whole program's
+pub faults_of_terms : (t : Term) (Γ : Context) (f : Fault) → rule Γ t ≡ Refused f → IsTerms f
+faults_of_terms t Γ f h = go (rule Γ t) (so t Γ) h
+  where
+    go : (v : Inferred) → So (Typed Γ t) v → v ≡ Refused f → IsTerms f
+    go (Has B E) k e = cc e
+    go (Refused g) k e = let i : g ≡ f = cc e in rw (← i) k.so

@@ -100,7 +100,7 @@ written t (is_fun p w h) = arrow_type w (written (w, t) p)
 written t (is_fn p w) = arrow_type (bang_type tt w) (written (w, t) p)
 written t (is_app {A = A} {B = B} p q) = (arrow_parts A B (written t p)).1
 written t (is_bang p r) = bang_type r (written t p)
-written t (is_let_bang {s = s} {A = A} p q) = written ((bang_parts s A (written t p)).1, t) q
+written t (is_let_bang {r = s} {A = A} p q) = written ((bang_parts s A (written t p)).1, t) q
 written t (is_let p q) = written (written t p, t) q
 written t (is_plus p q) = num_type
 written t (is_minus p q) = num_type

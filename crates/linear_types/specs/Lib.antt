@@ -1,7 +1,9 @@
+-- The definitions of this crate.
 pub mod Sensitivities
 pub mod Typing
-pub mod Verdict
+pub mod Inferred
 pub mod Rule
+pub mod Groups
 pub mod Fractions
 pub mod Program
 pub mod Laws

@@ -6,7 +6,7 @@ use Rattle.fz_frac.specs.Sens.{distance_of}
 use Rattle.fz_frac.specs.declared.frac.Range.{Range as OutOfRange}
 use Rattle.fz_frac.specs.declared.sens.Sens.{Sens}
 use Rattle.linear_types.specs.Sensitivities.{Sensitivities}
-use Rattle.linear_types.specs.Verdict.{any_out}
+use Rattle.linear_types.specs.Inferred.{any_out}
 use Rattle.linear_types.specs.declared.places.EnvFault.{EnvFault}
 use Rattle.linear_types.specs.declared.places.EnvFault.TheVariants.{Range, NoMemory}
 

@@ -2,12 +2,11 @@
 use Rattle.std.specs.Prelude.{Bool, true, false, cond, [], ◌∷◌, Option, Some, None, bytes_eq}
 use Rattle.fz_frac.specs.Distance.{Distance, Fin, Inf, none, greater}
 use Rattle.fz_ast.specs.Types.{Ty, NumT, same_type}
-use Rattle.fz_ast.specs.Terms.{Name}
-use Rattle.fz_ast.specs.Spanned.{Spanned}
+use Rattle.fz_ast.specs.Terms.{Name, Term}
 use Rattle.fz_ast.specs.Signature.{Signature, table_type}
 use Rattle.linear_types.specs.Sensitivities.{Sensitivities, first, rest}
 use Rattle.linear_types.specs.Typing.{Context, Closed, Under}
-use Rattle.linear_types.specs.Verdict.{Fault, Unbounded, NotNum, Verdict, Has, Refused}
+use Rattle.linear_types.specs.Inferred.{Fault, Unbounded, NotNum, Inferred, Has, Refused}
 use Rattle.linear_types.specs.Rule.{rule}
 
 -- the tables are the names in scope
@@ -44,9 +43,9 @@ abbrev pub number_rule : Ty → Sensitivities → Option Name → Answer
 number_rule A D (Some x) = Rejected (Unbounded x)
 number_rule A D None = cond (same_type A NumT) (Accepted D (greatest_of D)) (Rejected (NotNum A))
 
-abbrev pub program_rule : Signature → Verdict → Answer
+abbrev pub program_rule : Signature → Inferred → Answer
 program_rule ts (Has A D) = number_rule A D (first_unbounded ts D)
 program_rule ts (Refused f) = Rejected f
 
-abbrev pub sensitivity_of : Signature → Spanned → Answer
+abbrev pub sensitivity_of : Signature → Term → Answer
 sensitivity_of ts t = program_rule ts (rule (context_of ts) t)

@@ -1,4 +1,4 @@
-// Environments: a sensitivity for each name.
+//! Environments: a sensitivity for each name.
 ghost use Rattle.std.specs.Prelude.{◌≡◌, ◌↔◌, [], length, IsTrue, IfErr, IfOk, OnErr, MatchOption, MatchResult};
 ghost use Rattle.fz_frac.specs.Distance.{none};
 ghost use Rattle.fz_frac.specs.Sens.{distance_of};
@@ -22,7 +22,9 @@ pub struct Entry {
 
 /// The sensitivity for each name, 0 for a name that has no entry. The entries have distinct names
 /// and aren't at 0, and their order means nothing. A look-up goes over the entries one by one, so a
-/// sum takes time by the product of both lengths: an environment has some dozens of names.
+/// sum takes time by the product of both lengths: an environment has some dozens of names. The checker
+/// goes by places and gives an environment at its end; `plus`, `scale` and `join` are for a caller that
+/// has environments by name, and nothing else here calls them.
 #[derive(Drop)]
 pub struct Env {
     entries: Vec<Entry>,

@@ -1,7 +1,7 @@
 //! The typing rules, as a family with one constructor a rule and as a function with first faults.
 #![tactic(auto)]
 
-ghost use Rattle.linear_types.specs.Laws.{AcceptedExactly, AcceptedIsBounded, FaultsAreKept, NotNumExactly, OnlyNamesInScope, QuotientIsLeast, QuotientSuffices, RuleIsComplete, RuleIsSound, RuleKeepsRange, TypesAreUnique, TypesCanBeWritten, UnboundedExactly};
+ghost use Rattle.linear_types.specs.Laws.{AcceptedExactly, AcceptedIsBounded, FaultsAreKept, NotNumExactly, OnlyNamesInScope, QuotientIsLeast, QuotientSuffices, RuleIsComplete, RuleIsSound, RuleKeepsRange, SpansChangeNoTyping, TypesAreUnique, TypesCanBeWritten, UnboundedExactly};
 
 pub mod env;
 pub mod places;
@@ -16,9 +16,10 @@ pub fn rule_is_typing()
     ensures range { RuleKeepsRange }
 {}
 
-/// A term has at most one type, which can be written, and the scalar of `let !x` suffices; over a finite bang it is the least that does.
+/// A term has at most one type, whatever its spans, which can be written, and the scalar of `let !x` suffices; over a finite bang it is the least that does.
 pub fn types_are_unique()
     ensures unique { TypesAreUnique }
+    ensures spans { SpansChangeNoTyping }
     ensures written { TypesCanBeWritten }
     ensures quotient { QuotientSuffices }
     ensures least { QuotientIsLeast }

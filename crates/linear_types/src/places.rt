@@ -1,4 +1,4 @@
-// Sensitivities by place, the innermost name first.
+//! Sensitivities by place, the innermost name first.
 ghost use Rattle.std.specs.Prelude.{◌≡◌, ◌<◌, ◌⊎◌, ◌+◌, ◌++◌, [], ◌∷◌, length, drop, replicate, MatchResult};
 ghost use Rattle.fz_frac.specs.Distance.{none, one};
 ghost use Rattle.fz_frac.specs.Sens.{distance_of};

@@ -1,3 +1,4 @@
+-- What is left to prove of accepted_is_bounded.
 use Rattle.linear_types.proofs.Scope as scope
 use Rattle.linear_types.proofs.accepted_is_bounded.Goals as goal
 

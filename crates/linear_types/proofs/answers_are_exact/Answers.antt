@@ -1,3 +1,4 @@
+-- What is left to prove of answers_are_exact.
 use Rattle.linear_types.proofs.Answered.{accepted_exactly, faults_are_kept, not_num_exactly, unbounded_exactly}
 use Rattle.linear_types.proofs.answers_are_exact.Goals as goal
 

@@ -1,3 +1,4 @@
+-- What is left to prove of rule_is_typing.
 use Rattle.linear_types.proofs.Agree as agree
 use Rattle.linear_types.proofs.rule_is_typing.Goals as goal
 

@@ -1,3 +1,4 @@
+-- What is left to prove of row::row_type.
 use Rattle.std.proofs.Common.{◌≡◌, ◌+◌, ◌-◌, length, get_or, drop, arith}
 use Rattle.fz_ast.specs.Types.{TensorT}
 use Rattle.fz_ast.specs.TypeNodes.{type_at}

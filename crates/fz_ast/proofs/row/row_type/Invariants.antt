@@ -1,3 +1,4 @@
+-- What the loop of row::row_type keeps.
 use Rattle.std.proofs.Common.{◌≡◌, ◌<◌, length, drop}
 use Rattle.fz_ast.specs.TypeNodes.{type_at}
 use Rattle.fz_ast.specs.Rows.{row_type}

@@ -1,3 +1,4 @@
+-- What is left to prove of tree::same_type.
 use Rattle.fz_ast.proofs.SameTypes.{same_type_iff}
 use Rattle.fz_ast.proofs.tree.same_type.Goals as goal
 

@@ -1,3 +1,4 @@
+-- What is left to prove of env::place.
 use Rattle.std.proofs.Common.{◌≡◌, false, true, sym, add-one, ◌∙◌, get_or}
 use Rattle.std.specs.Prelude.{bytes_eq}
 use Rattle.fz_ast.specs.Names.{name_of}

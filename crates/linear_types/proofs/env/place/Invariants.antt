@@ -1,3 +1,4 @@
+-- What the loop of env::place keeps.
 use Rattle.std.proofs.Common.{take}
 use Rattle.linear_types.specs.Environment.{IsAbsent}
 use Rattle.linear_types.specs.Entries.{amounts_of}

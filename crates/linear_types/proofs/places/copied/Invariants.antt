@@ -1,3 +1,4 @@
+-- What the loop of places::copied keeps.
 use Rattle.std.proofs.Common.{◌≡◌, take}
 use Rattle.linear_types.proofs.places.copied.Given as goal
 

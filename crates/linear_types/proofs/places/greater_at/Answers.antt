@@ -1,3 +1,4 @@
+-- What is left to prove of places::greater_at.
 use Rattle.std.proofs.Common.{arith, inl, inr}
 use Rattle.fz_frac.specs.Distance.{greater}
 use Rattle.linear_types.proofs.Rest.{each_left, each_right, each_both}

@@ -1,3 +1,4 @@
+-- What is left to prove of places::joined.
 use Rattle.std.proofs.Common.{arith, drop, ◌≤◌, length}
 use Rattle.fz_frac.specs.Distance.{greater}
 use Rattle.linear_types.specs.Sensitivities.{join}

@@ -1,3 +1,4 @@
+-- What the loop of places::joined keeps.
 use Rattle.std.proofs.Common.{◌≡◌, ◌++◌, drop}
 use Rattle.linear_types.specs.Sensitivities.{join}
 use Rattle.linear_types.specs.Places.{distances}

@@ -1,3 +1,4 @@
+-- What is left to prove of places::scaled.
 use Rattle.std.proofs.Common.{arith, drop, ◌≤◌, length}
 use Rattle.fz_frac.specs.Sens.{distance_of}
 use Rattle.linear_types.specs.Sensitivities.{scale}

@@ -1,3 +1,4 @@
+-- What the loop of places::scaled keeps.
 use Rattle.std.proofs.Common.{drop}
 use Rattle.fz_frac.specs.Sens.{distance_of}
 use Rattle.linear_types.specs.Sensitivities.{scale}

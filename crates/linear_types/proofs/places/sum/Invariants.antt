@@ -1,3 +1,4 @@
+-- What the loop of places::sum keeps.
 use Rattle.std.proofs.Common.{drop}
 use Rattle.linear_types.specs.Sensitivities.{plus}
 use Rattle.linear_types.specs.Places.{distances}

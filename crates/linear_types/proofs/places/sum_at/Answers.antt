@@ -1,3 +1,4 @@
+-- What is left to prove of places::sum_at.
 use Rattle.std.proofs.Common.{arith, inl, inr}
 use Rattle.fz_frac.specs.Distance.{add}
 use Rattle.fz_frac.proofs.Laws.{≈-refl}

@@ -1,3 +1,4 @@
+-- What the loop of places::used_at keeps.
 use Rattle.std.proofs.Common.{◌≡◌, replicate}
 use Rattle.fz_frac.specs.Distance.{none}
 use Rattle.linear_types.specs.Places.{distances}

@@ -1,3 +1,4 @@
+-- What is left to prove of arena::Arena::intern.
 use Rattle.std.proofs.Common.{sym, arith}
 use Rattle.fz_ast.specs.TypeNodes.{type_at, type_of}
 use Rattle.fz_ast.proofs.Arenas.{found, is_new, arena_pushed, pushed_at, with_found, with_new}

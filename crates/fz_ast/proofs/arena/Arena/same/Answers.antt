@@ -1,3 +1,4 @@
+-- What is left to prove of arena::Arena::same.
 use Rattle.fz_ast.proofs.Arenas.{same_is}
 use Rattle.fz_ast.proofs.arena.Arena.same.Goals as goal
 

@@ -1,3 +1,4 @@
+-- What is left to prove of sig::Sig::contains.
 use Rattle.std.proofs.Common.{◌≡◌, true, false, sym, ◌∙◌}
 use Rattle.std.specs.Prelude.{bytes_eq}
 use Rattle.fz_ast.specs.Names.{name_of}

@@ -1,3 +1,4 @@
+-- What the loop of sig::Sig::contains keeps.
 use Rattle.std.proofs.Common.{take}
 use Rattle.fz_ast.specs.Signature.{IsFresh}
 use Rattle.fz_ast.specs.Tables.{signature_of}

@@ -1,3 +1,4 @@
+-- What is left to prove of sig::Sig::push.
 use Rattle.fz_ast.proofs.Signatures.{signature_pushed}
 use Rattle.fz_ast.proofs.sig.Sig.push.Goals as goal
 

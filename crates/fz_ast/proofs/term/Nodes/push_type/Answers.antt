@@ -1,3 +1,4 @@
+-- What is left to prove of term::Nodes::push_type.
 use Rattle.std.proofs.Common.{refl}
 use Rattle.fz_ast.specs.TypeNodes.{type_at, type_of}
 use Rattle.fz_ast.proofs.TermNodes.{type_pushed, type_kept}

@@ -1,3 +1,4 @@
+-- What is left to prove of types::Types::node_of.
 use Rattle.fz_ast.specs.TypeNodes.{type_at}
 use Rattle.std.proofs.Common.{length}
 use Rattle.fz_ast.proofs.TypeNodes.{limits_of, limits_at}

@@ -1,3 +1,4 @@
+-- What is left to prove of types::Types::push.
 use Rattle.fz_ast.proofs.TypeNodes.{pushed, kept_pushed}
 use Rattle.fz_ast.proofs.types.Types.push.Goals as goal
 

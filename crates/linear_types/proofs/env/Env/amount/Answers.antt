@@ -1,3 +1,4 @@
+-- What is left to prove of env::Env::amount.
 use Rattle.std.proofs.Common.{refl, subst, sym, ◌∙◌}
 use Rattle.linear_types.proofs.Entries.{absent_none, absent_of, found_at, place_of}
 use Rattle.linear_types.specs.Environment.{Amounts, IsAbsent}

@@ -1,3 +1,4 @@
+-- What the loop of env::Env::copy keeps.
 use Rattle.std.proofs.Common.{◌≡◌, take}
 use Rattle.linear_types.proofs.env.Env.copy.Given as goal
 

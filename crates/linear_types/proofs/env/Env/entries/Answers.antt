@@ -1,3 +1,4 @@
+-- What is left to prove of env::Env::entries.
 use Rattle.linear_types.proofs.Entries.{in_range_at}
 use Rattle.linear_types.proofs.env.Env.entries.Goals as goal
 

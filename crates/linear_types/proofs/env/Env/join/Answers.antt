@@ -1,3 +1,4 @@
+-- What is left to prove of env::Env::join.
 use Rattle.std.proofs.Common.{ap, subst, sym, ◌∙◌}
 use Rattle.fz_frac.specs.Distance.{Distance, ◌≈◌, greater}
 use Rattle.fz_frac.specs.Sens.{distance_of}

@@ -1,3 +1,4 @@
+-- What is left to prove of env::Env::plus.
 use Rattle.std.proofs.Common.{refl, subst}
 use Rattle.fz_frac.specs.Distance.{Distance, ◌≈◌, add}
 use Rattle.fz_frac.specs.Sens.{distance_of}

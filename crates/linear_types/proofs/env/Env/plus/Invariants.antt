@@ -1,3 +1,4 @@
+-- What the loop of env::Env::plus keeps.
 use Rattle.std.proofs.Common.{take}
 use Rattle.fz_frac.specs.Distance.{add}
 use Rattle.linear_types.specs.Entries.{amounts_of}

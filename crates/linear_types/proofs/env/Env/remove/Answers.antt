@@ -1,3 +1,4 @@
+-- What is left to prove of env::Env::remove.
 use Rattle.std.proofs.Common.{refl, subst, sym, ◌∙◌}
 use Rattle.linear_types.proofs.Entries.{absent_none, absent_of, env_removed, found_at, place_of, removed_at, set_absent}
 use Rattle.linear_types.specs.Environment.{Amounts, IsAbsent}

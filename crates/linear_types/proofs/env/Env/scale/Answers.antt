@@ -1,3 +1,4 @@
+-- What is left to prove of env::Env::scale.
 use Rattle.std.proofs.Common.{[], refl}
 use Rattle.fz_frac.specs.Distance.{mul}
 use Rattle.fz_frac.specs.Sens.{distance_of}

@@ -1,3 +1,4 @@
+-- What the loop of env::Env::scale keeps.
 use Rattle.std.proofs.Common.{[], take}
 use Rattle.fz_frac.specs.Distance.{mul}
 use Rattle.fz_frac.specs.Sens.{distance_of}

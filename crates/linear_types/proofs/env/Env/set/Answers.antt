@@ -1,3 +1,4 @@
+-- What is left to prove of env::Env::set.
 use Rattle.std.proofs.Common.{◌≡◌, false, sym, subst, ◌∙◌}
 use Rattle.fz_frac.specs.Distance.{Distance, is_le, none}
 use Rattle.fz_frac.specs.Sens.{distance_of}

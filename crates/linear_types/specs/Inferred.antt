@@ -33,33 +33,33 @@ pub data Fault : Type 0 where
   -- the whole program is no number
   NotNum : (found : Ty) → Fault
 
-pub data Verdict : Type 0 where
-  Has : (A : Ty) (D : Sensitivities) → Verdict
-  Refused : (f : Fault) → Verdict
+pub data Inferred : Type 0 where
+  Has : (A : Ty) (D : Sensitivities) → Inferred
+  Refused : (f : Fault) → Inferred
 
 -- parts come first, in written order, and then what their types and sensitivities make of the whole
-abbrev pub one_part : Verdict → (Ty → Sensitivities → Verdict) → Verdict
+abbrev pub one_part : Inferred → (Ty → Sensitivities → Inferred) → Inferred
 one_part (Has A D) k = k A D
 one_part (Refused f) k = Refused f
 
-abbrev pub two_parts : Verdict → Verdict → (Ty → Sensitivities → Ty → Sensitivities → Verdict) → Verdict
+abbrev pub two_parts : Inferred → Inferred → (Ty → Sensitivities → Ty → Sensitivities → Inferred) → Inferred
 two_parts (Has A D) (Has B E) k = k A D B E
 two_parts (Has A D) (Refused f) k = Refused f
 two_parts (Refused f) o k = Refused f
 
-abbrev pub three_parts : Verdict → Verdict → Verdict → (Ty → Sensitivities → Ty → Sensitivities → Ty → Sensitivities → Verdict) → Verdict
+abbrev pub three_parts : Inferred → Inferred → Inferred → (Ty → Sensitivities → Ty → Sensitivities → Ty → Sensitivities → Inferred) → Inferred
 three_parts (Has A D) (Has B E) (Has C F) k = k A D B E C F
 three_parts (Has A D) (Has B E) (Refused f) k = Refused f
 three_parts (Has A D) (Refused f) o k = Refused f
 three_parts (Refused f) o p k = Refused f
 
 -- where a condition holds it goes on, and else that is the fault
-abbrev pub need : Bool → Fault → Verdict → Verdict
+abbrev pub need : Bool → Fault → Inferred → Inferred
 need true f v = v
 need false f v = Refused f
 
 -- a written type is well formed, or its first fault is the term's
-abbrev pub need_formed : Span → Formed → Verdict → Verdict
+abbrev pub need_formed : Span → Formed → Inferred → Inferred
 need_formed u WellFormed v = v
 need_formed u UngroundSum v = Refused (NotGround u)
 need_formed u UnflatBag v = Refused (NotFlat u)
@@ -69,5 +69,5 @@ abbrev pub any_out : Sensitivities → Bool
 any_out [] = false
 any_out (t ∷ D) = is_out t || any_out D
 
-abbrev pub in_range : Span → Sensitivities → Verdict → Verdict
+abbrev pub in_range : Span → Sensitivities → Inferred → Inferred
 in_range s D v = cond (any_out D) (Refused (Range s)) v
