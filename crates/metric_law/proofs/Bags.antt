@@ -2,11 +2,12 @@
 use Rattle.std.proofs.Common.{ap, arith, inl, inr, refl, subst, sym}
 use Rattle.std.proofs.lemmas.Int.{clamps, ints}
 use Rattle.std.proofs.lemmas.List.Elements.{All-cons, All-head, All-tail}
-use Rattle.std.specs.Prelude.{All, List, [], length, max, pos, suc, unsigned_abs, ℕ, ℤ, ◌*◌, ◌++◌, ◌+ℤ◌, ◌+◌, ◌∷◌, ◌≡◌, ◌≤◌, ◌⊎◌}
+use Rattle.std.specs.Prelude.{All, List, [], length, map, max, pos, suc, unsigned_abs, ℕ, ℤ, ◌*◌, ◌++◌, ◌+ℤ◌, ◌+◌, ◌∷◌, ◌≡◌, ◌≤◌, ◌⊎◌}
 use Rattle.metric_values.specs.Distances.{gap}
+use Rattle.metric_values.specs.Numbers.{clip, clipped_sum}
 use Rattle.metric_values.specs.Pairing.{Differ, Insert, at_front, behind, in_both, none_left, on_left, on_right}
 use Rattle.metric_values.specs.Values.{BangV, Flat, InlV, InrV, NumF, UnitV, Value, value_of}
-use Rattle.metric_law.specs.Means.{Applies, Maps, Meaning, Splits, clip, clipped_sum}
+use Rattle.metric_law.specs.Means.{Applies, Maps, Meaning, Splits}
 
 pub insert_all : (P : Flat → Type 0) {x : Flat} {xs ys : List Flat} → Insert x xs ys → All P ys → P x × All P xs
 insert_all P {x} {xs} at_front h = (All-head P x xs h, All-tail P x xs h)
@@ -53,14 +54,18 @@ abbrev adds : ℤ → ℤ → Flat → ℤ
 adds lo hi (NumF z) = clip lo hi z
 adds lo hi x = pos 0
 
-sum_cons : (lo hi : ℤ) (x : Flat) (xs : List Flat) → clipped_sum lo hi (x ∷ xs) ≡ adds lo hi x +ℤ clipped_sum lo hi xs
-sum_cons lo hi (NumF z) xs = refl
-sum_cons lo hi x xs = omega (arith, ints)
+-- what all elements add
+abbrev added : ℤ → ℤ → List Flat → ℤ
+added lo hi [] = pos 0
+added lo hi (x ∷ xs) = adds lo hi x +ℤ added lo hi xs
 
-insert_sum : (lo hi : ℤ) {x : Flat} {xs ys : List Flat} → Insert x xs ys → clipped_sum lo hi ys ≡ adds lo hi x +ℤ clipped_sum lo hi xs
-insert_sum lo hi {x} {xs} at_front = sum_cons lo hi x xs
-insert_sum lo hi {x} (behind {y = y} {xs = xs} {ys = ys} i) =
-    let a = sum_cons lo hi y xs in let b = sum_cons lo hi y ys in let c = insert_sum lo hi i in omega (arith, ints, a, b, c)
+added_numbers : (lo hi : ℤ) (zs : List ℤ) → added lo hi (map NumF zs) ≡ clipped_sum lo hi zs
+added_numbers lo hi [] = refl
+added_numbers lo hi (z ∷ zs) = ap (λ s. clip lo hi z +ℤ s) (added_numbers lo hi zs)
+
+insert_sum : (lo hi : ℤ) {x : Flat} {xs ys : List Flat} → Insert x xs ys → added lo hi ys ≡ adds lo hi x +ℤ added lo hi xs
+insert_sum lo hi at_front = refl
+insert_sum lo hi (behind {y = y} {xs = xs} {ys = ys} i) = let c = insert_sum lo hi i in omega (arith, ints, c)
 
 adds_small : (lo hi : ℤ) (x : Flat) → unsigned_abs (adds lo hi x) ≤ max (unsigned_abs lo) (unsigned_abs hi)
 adds_small lo hi (NumF z) = omega (arith, ints, clamps)
@@ -75,14 +80,17 @@ left_gap a s t k b h l = omega (arith, ints)
 right_gap : (a s t : ℤ) (k b : ℕ) → gap s t ≤ k → unsigned_abs a ≤ b → gap s (a +ℤ t) ≤ k + b
 right_gap a s t k b h l = omega (arith, ints)
 
-pub sums : (lo hi : ℤ) {xs ys : List Flat} {n : ℕ} → Differ xs ys n → gap (clipped_sum lo hi xs) (clipped_sum lo hi ys) ≤ max (unsigned_abs lo) (unsigned_abs hi) * n
-sums lo hi none_left = omega arith
-sums lo hi (in_both {x = x} {xs = xs} {ys = ys} {n = n} d i j) =
-    rw (insert_sum lo hi i, insert_sum lo hi j) (both_gap (adds lo hi x) (clipped_sum lo hi xs) (clipped_sum lo hi ys) _ (sums lo hi d))
-sums lo hi (on_left {x = x} {xs = xs} {ys = ys} {n = n} d i) =
-    rw (insert_sum lo hi i) (let r = left_gap (adds lo hi x) (clipped_sum lo hi xs) (clipped_sum lo hi ys) _ _ (sums lo hi d) (adds_small lo hi x) in omega arith)
-sums lo hi (on_right {x = x} {xs = xs} {ys = ys} {n = n} d j) =
-    rw (insert_sum lo hi j) (let r = right_gap (adds lo hi x) (clipped_sum lo hi xs) (clipped_sum lo hi ys) _ _ (sums lo hi d) (adds_small lo hi x) in omega arith)
+adding : (lo hi : ℤ) {xs ys : List Flat} {n : ℕ} → Differ xs ys n → gap (added lo hi xs) (added lo hi ys) ≤ max (unsigned_abs lo) (unsigned_abs hi) * n
+adding lo hi none_left = omega arith
+adding lo hi (in_both {x = x} {xs = xs} {ys = ys} {n = n} d i j) =
+    rw (insert_sum lo hi i, insert_sum lo hi j) (both_gap (adds lo hi x) (added lo hi xs) (added lo hi ys) _ (adding lo hi d))
+adding lo hi (on_left {x = x} {xs = xs} {ys = ys} {n = n} d i) =
+    rw (insert_sum lo hi i) (let r = left_gap (adds lo hi x) (added lo hi xs) (added lo hi ys) _ _ (adding lo hi d) (adds_small lo hi x) in omega arith)
+adding lo hi (on_right {x = x} {xs = xs} {ys = ys} {n = n} d j) =
+    rw (insert_sum lo hi j) (let r = right_gap (adds lo hi x) (added lo hi xs) (added lo hi ys) _ _ (adding lo hi d) (adds_small lo hi x) in omega arith)
+
+pub sums : (lo hi : ℤ) (ys zs : List ℤ) {n : ℕ} → Differ (map NumF ys) (map NumF zs) n → gap (clipped_sum lo hi ys) (clipped_sum lo hi zs) ≤ max (unsigned_abs lo) (unsigned_abs hi) * n
+sums lo hi ys zs d = rw (sym (added_numbers lo hi ys), sym (added_numbers lo hi zs)) (adding lo hi d)
 
 -- splits
 

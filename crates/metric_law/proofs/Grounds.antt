@@ -7,7 +7,7 @@ use Rattle.fz_ast.specs.Types.{ArrowT, BagT, BangT, NumT, SumT, TensorT, TextT, 
 use Rattle.metric_values.proofs.Elements.{text_is, text_refl}
 use Rattle.metric_values.proofs.Metric.{whole}
 use Rattle.metric_values.proofs.Removal.{differ_by, removal_least}
-use Rattle.metric_values.specs.Distances.{bag_distance, distance_of}
+use Rattle.metric_values.specs.Distances.{bag_distance, distance_between}
 use Rattle.metric_values.specs.Values.{TextV, Value}
 use Rattle.metric_law.proofs.Flatness.{Ground}
 use Rattle.metric_law.proofs.Nearness.{near_more}
@@ -20,7 +20,7 @@ text_le s t d h = go (bytes_eq s t)
     go true = none-least d
     go false = h
 
-pub dist_le : (A : Ty) (v w : Value) (d : Distance) → Ground A → Near A v w d → distance_of A v w ⊑ d
+pub dist_le : (A : Ty) (v w : Value) (d : Distance) → Ground A → Near A v w d → distance_between A v w ⊑ d
 dist_le NumT _ _ d g (near_num h) = h
 dist_le TextT _ _ d g (near_text {s = s}) = rw (text_refl s) (none-least d)
 dist_le TextT _ _ d g (far_text {s = s} {t = t} h) = text_le s t d h
@@ -35,7 +35,7 @@ dist_le (ArrowT A B) v w d g p = absurd g
 dist_le (BangT r A) _ _ d g (near_bang c p h) = (⊑-refl r ⊗ dist_le A _ _ c g p) ⨾ h
 dist_le (BagT A) _ _ d g (near_bag {xs = xs} {ys = ys} n p h) = whole (bag_distance xs ys) n (removal_least xs ys n p) ⨾ h
 
-pub near_dist : (A : Ty) (v w : Value) → Ground A → Typed A v → Typed A w → Near A v w (distance_of A v w)
+pub near_dist : (A : Ty) (v w : Value) → Ground A → Typed A v → Typed A w → Near A v w (distance_between A v w)
 near_dist NumT _ _ g (typed_num _) (typed_num _) = near_num (⊑-refl _)
 near_dist TextT _ _ g (typed_text {s = s} _) (typed_text {s = t} _) = go (bytes_eq s t) refl
   where
@@ -45,7 +45,7 @@ near_dist TextT _ _ g (typed_text {s = s} _) (typed_text {s = t} _) = go (bytes_
 near_dist UnitT _ _ g typed_unit typed_unit = near_unit
 near_dist (TensorT A B) _ _ g (typed_pair a b) (typed_pair a' b') = near_pair _ _ (near_dist A _ _ g.0 a a') (near_dist B _ _ g.1 b b') (⊑-refl _)
 near_dist (WithT A B) _ _ g (typed_pair {a = u} {b = w} a b) (typed_pair {a = u'} {b = w'} a' b') =
-    near_with (near_more A u u' (near_dist A u u' g.0 a a') (greater-left (distance_of A u u') (distance_of B w w'))) (near_more B w w' (near_dist B w w' g.1 b b') (greater-right (distance_of A u u') (distance_of B w w')))
+    near_with (near_more A u u' (near_dist A u u' g.0 a a') (greater-left (distance_between A u u') (distance_between B w w'))) (near_more B w w' (near_dist B w w' g.1 b b') (greater-right (distance_between A u u') (distance_between B w w')))
 near_dist (SumT A B) _ _ g (typed_inl a) (typed_inl b) = near_inl (near_dist A _ _ g.0 a b)
 near_dist (SumT A B) _ _ g (typed_inl a) (typed_inr b) = near_lr (⊑-refl Inf)
 near_dist (SumT A B) _ _ g (typed_inr a) (typed_inl b) = near_rl (⊑-refl Inf)

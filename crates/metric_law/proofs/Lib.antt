@@ -1,4 +1,5 @@
 pub mod Flatness
+pub mod FlatTyping
 pub mod Sums
 pub mod Heights
 pub mod Fine
@@ -12,3 +13,7 @@ pub mod Programs
 pub mod Needed
 pub mod Worked
 pub mod Refusals
+mod Meanings
+pub mod Blanks
+pub mod Reached
+mod Nearby

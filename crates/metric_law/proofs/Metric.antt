@@ -2,8 +2,9 @@
 use Rattle.std.specs.Prelude.{List, ◌∷◌}
 use Rattle.fz_frac.proofs.Laws.{add-comm, greater-left, greater-right, mul-assoc, mul-one, none-add, none-least, ⊑-inf, ⊑-refl, ◌⊕◌, ◌⊗◌, ◌⨾◌}
 use Rattle.fz_frac.specs.Distance.{Distance, Inf, add, greater, mul, none, quotient, ◌⊑◌}
-use Rattle.fz_ast.specs.Terms.{LetBangE, Name, Term}
-use Rattle.fz_ast.specs.Types.{BangT, Ty}
+use Rattle.fz_ast.specs.Terms.{FilterE, LetBangE, Name, SplitE, Term, at}
+use Rattle.fz_ast.specs.declared.span.Span.{Span}
+use Rattle.fz_ast.specs.Types.{BagT, BangT, BoolT, TensorT, Ty, UnlimitedT}
 use Rattle.linear_types.proofs.Quotient.{quotient_suffices}
 use Rattle.linear_types.proofs.Written.{bang_parts, sum_parts, tensor_parts, written}
 use Rattle.linear_types.specs.Sensitivities.{Sensitivities, above_zero, first, join, plus, rest, scale}
@@ -27,12 +28,27 @@ bang_case D E k s c δ h l =
     dot-bind D c δ ⨾ add-comm _ _ ⨾ (⊑-refl (dot (rest D) δ) ⊕ ((h ⊗ ⊑-refl c) ⨾ mul-assoc k s c ⨾ (⊑-refl k ⊗ l) ⨾ dot-scale k E δ)) ⨾ dot-plus (rest D) (scale k E) δ
 
 -- a body under a bang's name, at any scalar that suffices
-bang_body : {Γ : Context} {γ γ' : Env} {δ : List Distance} {x : Name} {e b : Term} {s : Distance} {A B : Ty} (D E : Sensitivities) (k : Distance) → first D ⊑ mul k s
+bang_body : {Γ : Context} {γ γ' : Env} {δ : List Distance} {o : Span} {x : Name} {e b : Term} {s : Distance} {A B : Ty} (D E : Sensitivities) (k : Distance) → first D ⊑ mul k s
     → TypedEnv Γ γ → TypedEnv Γ γ' → NearEnv Γ γ γ' δ → Close γ γ' e (BangT s A) (dot E δ) → Fine γ e (BangT s A) → Fine γ' e (BangT s A)
     → ((γ γ' : Env) (δ : List Distance) → TypedEnv (Under x A Γ) γ → TypedEnv (Under x A Γ) γ' → NearEnv (Under x A Γ) γ γ' δ → Close γ γ' b B (dot D δ))
-    → Close γ γ' (LetBangE x e b) B (dot (plus (rest D) (scale k E)) δ)
+    → Close γ γ' (at o (LetBangE x e b)) B (dot (plus (rest D) (scale k E)) δ)
 bang_body {δ = δ} {s = s} D E k h t t' n p f f' body =
     close_let_bang p f f' (λ c u u' tu tu' nu l. weaken (body _ _ (c ∷ δ) (typed_bind tu t) (typed_bind tu' t') (near_bind nu n)) (bang_case D E k s c δ h l))
+
+-- filter and split, with any factor above 0 for their function
+pub looser_filter : {Γ : Context} {o : Span} {f b : Term} {A : Ty} {D E : Sensitivities} → AllTypes Γ → Typing Γ f (UnlimitedT A BoolT) D → Typing Γ b (BagT A) E → (k : Distance) → (k ⊑ none → ⊥)
+    → (γ γ' : Env) (δ : List Distance) → TypedEnv Γ γ → TypedEnv Γ γ' → NearEnv Γ γ γ' δ → Close γ γ' f (UnlimitedT A BoolT) (dot D δ) → Close γ γ' b (BagT A) (dot E δ)
+    → Close γ γ' (at o (FilterE f b)) (BagT A) (dot (plus (scale k D) E) δ)
+looser_filter {A = A} {D = D} {E = E} ok p q k h γ γ' δ t t' n cf cb =
+    weaken (close_filter k h (elements_flat A (written ok q)) cf cb (fine ok q γ t) (fine ok q γ' t') (fine ok (is_filter p q) γ t) (fine ok (is_filter p q) γ' t'))
+    ((dot-scale k D δ ⊕ ⊑-refl _) ⨾ dot-plus (scale k D) E δ)
+
+pub looser_split : {Γ : Context} {o : Span} {f b : Term} {A : Ty} {D E : Sensitivities} → AllTypes Γ → Typing Γ f (UnlimitedT A BoolT) D → Typing Γ b (BagT A) E → (k : Distance) → (k ⊑ none → ⊥)
+    → (γ γ' : Env) (δ : List Distance) → TypedEnv Γ γ → TypedEnv Γ γ' → NearEnv Γ γ γ' δ → Close γ γ' f (UnlimitedT A BoolT) (dot D δ) → Close γ γ' b (BagT A) (dot E δ)
+    → Close γ γ' (at o (SplitE f b)) (TensorT (BagT A) (BagT A)) (dot (plus (scale k D) E) δ)
+looser_split {A = A} {D = D} {E = E} ok p q k h γ γ' δ t t' n cf cb =
+    weaken (close_split k h (elements_flat A (written ok q)) cf cb (fine ok q γ t) (fine ok q γ' t') (fine ok (is_split p q) γ t) (fine ok (is_split p q) γ' t'))
+    ((dot-scale k D δ ⊕ ⊑-refl _) ⨾ dot-plus (scale k D) E δ)
 
 pub law : {Γ : Context} {e : Term} {A : Ty} {D : Sensitivities} → AllTypes Γ → Typing Γ e A D → (γ γ' : Env) (δ : List Distance) → TypedEnv Γ γ → TypedEnv Γ γ' → NearEnv Γ γ γ' δ → Close γ γ' e A (dot D δ)
 law ok (is_var s) γ γ' δ t t' n = close_var s n
@@ -72,7 +88,7 @@ law ok (is_fn {D = D} p w) γ γ' δ t t' n =
 law ok (is_app {D = D} {E = E} p q) γ γ' δ t t' n =
     weaken (close_app (law ok p γ γ' δ t t' n) (law ok q γ γ' δ t t' n) (fine ok q γ t) (fine ok q γ' t')) (add-comm _ _ ⨾ dot-plus D E δ)
 law ok (is_bang {r = r} {D = D} p w) γ γ' δ t t' n = weaken (close_bang (law ok p γ γ' δ t t' n)) (dot-scale r D δ)
-law ok (is_let_bang {s = s} {A = A} {D = D} {E = E} p q) γ γ' δ t t' n =
+law ok (is_let_bang {r = s} {A = A} {D = D} {E = E} p q) γ γ' δ t t' n =
     let w = bang_parts s A (written ok p) in
     bang_body D E (quotient (first D) s) (quotient_suffices (first D) s w.0) t t' n (law ok p γ γ' δ t t' n) (fine ok p γ t) (fine ok p γ' t') (λ γ γ' δ t t' n. law (w.1, ok) q γ γ' δ t t' n)
 law ok (is_let {D = D} {E = E} p q) γ γ' δ t t' n =
@@ -93,15 +109,11 @@ law ok (is_union {D = D} {E = E} p q) γ γ' δ t t' n = weaken (close_union (la
 law ok (is_map {A = A} {B = B} {D = D} {E = E} p k q) γ γ' δ t t' n =
     weaken (close_map (elements_flat A (written ok q)) (results_flat (BangT Inf A) B (written ok p) k) (law ok p γ γ' δ t t' n) (law ok q γ γ' δ t t' n) (fine ok q γ t) (fine ok q γ' t') (fine ok (is_map p k q) γ t) (fine ok (is_map p k q) γ' t'))
     ((dot-scale Inf D δ ⊕ ⊑-refl _) ⨾ dot-plus (scale Inf D) E δ)
-law ok (is_filter {A = A} {D = D} {E = E} p q) γ γ' δ t t' n =
-    weaken (close_filter (elements_flat A (written ok q)) (law ok p γ γ' δ t t' n) (law ok q γ γ' δ t t' n) (fine ok q γ t) (fine ok q γ' t') (fine ok (is_filter p q) γ t) (fine ok (is_filter p q) γ' t'))
-    ((dot-scale Inf D δ ⊕ ⊑-refl _) ⨾ dot-plus (scale Inf D) E δ)
-law ok (is_split {A = A} {D = D} {E = E} p q) γ γ' δ t t' n =
-    weaken (close_split (elements_flat A (written ok q)) (law ok p γ γ' δ t t' n) (law ok q γ γ' δ t t' n) (fine ok q γ t) (fine ok q γ' t') (fine ok (is_split p q) γ t) (fine ok (is_split p q) γ' t'))
-    ((dot-scale Inf D δ ⊕ ⊑-refl _) ⨾ dot-plus (scale Inf D) E δ)
+law ok (is_filter p q) γ γ' δ t t' n = looser_filter ok p q Inf (λ l. l.le) γ γ' δ t t' n (law ok p γ γ' δ t t' n) (law ok q γ γ' δ t t' n)
+law ok (is_split p q) γ γ' δ t t' n = looser_split ok p q Inf (λ l. l.le) γ γ' δ t t' n (law ok p γ γ' δ t t' n) (law ok q γ γ' δ t t' n)
 
-pub looser : {Γ : Context} {x : Name} {e b : Term} {s : Distance} {A B : Ty} {D E : Sensitivities} → AllTypes Γ → Typing Γ e (BangT s A) E → Typing (Under x A Γ) b B D
-    → (k : Distance) → first D ⊑ mul k s → (γ γ' : Env) (δ : List Distance) → TypedEnv Γ γ → TypedEnv Γ γ' → NearEnv Γ γ γ' δ → Close γ γ' (LetBangE x e b) B (dot (plus (rest D) (scale k E)) δ)
+pub looser : {Γ : Context} {o : Span} {x : Name} {e b : Term} {s : Distance} {A B : Ty} {D E : Sensitivities} → AllTypes Γ → Typing Γ e (BangT s A) E → Typing (Under x A Γ) b B D
+    → (k : Distance) → first D ⊑ mul k s → (γ γ' : Env) (δ : List Distance) → TypedEnv Γ γ → TypedEnv Γ γ' → NearEnv Γ γ γ' δ → Close γ γ' (at o (LetBangE x e b)) B (dot (plus (rest D) (scale k E)) δ)
 looser {s = s} {A = A} {D = D} {E = E} ok p q k h γ γ' δ t t' n =
     let w = bang_parts s A (written ok p) in
     bang_body D E k h t t' n (law ok p γ γ' δ t t' n) (fine ok p γ t) (fine ok p γ' t') (λ γ γ' δ t t' n. law (w.1, ok) q γ γ' δ t t' n)

@@ -1,16 +1,16 @@
 -- What near values are near at.
 use Rattle.std.proofs.Common.{ap, arith, refl}
 use Rattle.std.proofs.lemmas.Int.{clamps, ints}
-use Rattle.std.specs.Prelude.{pos, ℕ, ℤ, ◌+ℤ◌, ◌+◌, ◌≡◌, ◌≤◌}
+use Rattle.std.specs.Prelude.{List, [], map, pos, ℕ, ℤ, ◌+ℤ◌, ◌+◌, ◌∷◌, ◌≡◌, ◌≤◌}
 use Rattle.fz_frac.proofs.Laws.{add-comm, add-none, mul-none, none-add, none-least, ⊑-inf, ⊑-refl, ◌⊕◌, ◌⨾◌}
 use Rattle.fz_frac.specs.Distance.{Distance, Fin, Inf, add, none, ◌⊑◌}
 use Rattle.fz_ast.specs.Types.{ArrowT, BagT, BangT, NumT, SumT, TensorT, TextT, Ty, UnitT, WithT}
 use Rattle.metric_values.proofs.Metric.{gap_zero, no_divisor, whole, whole_none}
 use Rattle.metric_values.specs.Distances.{gap}
+use Rattle.metric_values.specs.Numbers.{clamp}
 use Rattle.metric_values.specs.Values.{BangF, BangV, Flat, InlF, InlV, InrF, InrV, NumF, NumV, PairF, TextF, UnitF, Value, value_of}
 use Rattle.metric_law.proofs.Bags.{all_differ}
 use Rattle.metric_law.proofs.Flatness.{Ground, IsFlat}
-use Rattle.metric_law.specs.Means.{clamp}
 use Rattle.metric_law.specs.Near.{Near, Typed, far_text, near_bag, near_bang, near_inl, near_inr, near_lr, near_num, near_pair, near_rl, near_text, near_unit, near_with, typed_bag, typed_bang, typed_inl, typed_inr, typed_num, typed_pair, typed_text, typed_unit}
 
 pub near_more : (A : Ty) (v w : Value) {d d' : Distance} → Near A v w d → d ⊑ d' → Near A v w d'
@@ -102,3 +102,8 @@ val_inj (InlF a) (InlF b) h = let p = val_inj a b (cc) in cc
 val_inj (InrF a) (InrF b) h = let p = val_inj a b (cc) in cc
 val_inj (BangF a) (BangF b) h = let p = val_inj a b (cc) in cc
 val_inj x y h = cc
+
+pub numbers_inj : (ys zs : List ℤ) → map NumF ys ≡ map NumF zs → ys ≡ zs
+numbers_inj [] [] h = refl
+numbers_inj (y ∷ ys) (z ∷ zs) h = let r = numbers_inj ys zs (cc) in cc
+numbers_inj ys zs h = cc

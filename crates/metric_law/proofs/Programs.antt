@@ -4,8 +4,7 @@ use Rattle.std.specs.Prelude.{List, [], ℤ, ◌∷◌, ◌≡◌}
 use Rattle.fz_frac.proofs.Laws.{greater-left, greater-right, mul-add', none-least, ⊑-refl, ◌⊕◌, ◌⊗◌, ◌⨾◌}
 use Rattle.fz_frac.specs.Distance.{Distance, Fin, greater, mul, ◌⊑◌}
 use Rattle.fz_ast.specs.Limits.{IsNumber, TermLimits}
-use Rattle.fz_ast.specs.Signature.{IsSignature, Signature}
-use Rattle.fz_ast.specs.Spanned.{Spanned, erase}
+use Rattle.fz_ast.specs.Signature.{IsSignature, Signature, table_type}
 use Rattle.fz_ast.specs.Terms.{Term}
 use Rattle.fz_ast.specs.Types.{NumT}
 use Rattle.linear_types.proofs.Programs.{accepted}
@@ -15,18 +14,19 @@ use Rattle.linear_types.specs.Sensitivities.{Sensitivities}
 use Rattle.linear_types.specs.Typing.{AllTypes, Typing}
 use Rattle.metric_values.proofs.Removal.{differ_by}
 use Rattle.metric_values.specs.Distances.{bag_distance, gap}
-use Rattle.metric_values.specs.Tables.{Dataset, apart, rows_of}
-use Rattle.metric_values.specs.Values.{NumV, Value}
+use Rattle.metric_values.specs.Tables.{Dataset, IsDataset, apart, rows_of}
+use Rattle.metric_values.specs.Values.{BagV, NumV, Value}
 use Rattle.metric_law.proofs.Closeness.{Close}
 use Rattle.metric_law.proofs.Fine.{Fine, fine}
+use Rattle.metric_law.proofs.FlatTyping.{typed_ground}
 use Rattle.metric_law.proofs.Metric.{law}
 use Rattle.metric_law.proofs.Nearness.{sum_whole}
-use Rattle.metric_law.specs.Law.{IsDataset, NearEnv, ProgramsAreBounded, ProgramsHaveValues, TypedEnv, dot, near_bind, near_empty, typed_bind, typed_empty}
+use Rattle.metric_law.specs.Law.{NearEnv, ProgramsAreBounded, ProgramsHaveValues, TypedEnv, dot, near_bind, near_empty, typed_bind, typed_empty}
 use Rattle.metric_law.specs.Means.{Means}
 use Rattle.metric_law.specs.Near.{NearNum, TypedNum, near_bag, near_num, typed_num}
 
 -- a signature's names have types that can be written
-context_ok : (ts : Signature) → IsSignature ts → AllTypes (context_of ts)
+pub context_ok : (ts : Signature) → IsSignature ts → AllTypes (context_of ts)
 context_ok [] h = tt
 context_ok (t ∷ ts) h = (record { well_formed = rw (h.2, h.3) refl; limits = h.4 }, context_ok ts h.5)
 
@@ -34,7 +34,7 @@ env_typed : (ts : Signature) (X : Dataset) → IsDataset ts X → TypedEnv (cont
 env_typed [] [] h = typed_empty
 env_typed [] (xs ∷ X) h = absurd h
 env_typed (t ∷ ts) [] h = absurd h
-env_typed (t ∷ ts) (xs ∷ X) h = typed_bind h.0 (env_typed ts X h.1)
+env_typed (t ∷ ts) (xs ∷ X) h = typed_bind (typed_ground (table_type t) (BagV xs) h.0) (env_typed ts X h.1)
 
 -- each table's distance
 abbrev gaps : Dataset → Dataset → List Distance
@@ -76,11 +76,11 @@ bounded ts e D s p X Y h k y z m n =
     let c : Close (rows_of ts X) (rows_of ts Y) e NumT (dot D (gaps X Y)) = law (context_ok ts s) p (rows_of ts X) (rows_of ts Y) (gaps X Y) (env_typed ts X h) (env_typed ts Y k) (env_near ts X Y h k) in
     gap_le y z _ (c.by m.0 n.0 (NumV y) (NumV z) m.1 n.1) ⨾ dot_apart D X Y
 
-typed_program : (ts : Signature) (t : Spanned) (D : Sensitivities) (r : Distance) → TermLimits (erase t) → sensitivity_of ts t ≡ Accepted D r → Typing (context_of ts) (erase t) NumT D
+pub typed_program : (ts : Signature) (t : Term) (D : Sensitivities) (r : Distance) → TermLimits t → sensitivity_of ts t ≡ Accepted D r → Typing (context_of ts) t NumT D
 typed_program ts t D r l h = sound t (context_of ts) l NumT D (accepted ts t D r h).0
 
 pub program_value : ProgramsHaveValues
-program_value ts t D r s l h X k = has_value ts (erase t) D s (typed_program ts t D r l h) X k
+program_value ts t D r s l h X k = has_value ts t D s (typed_program ts t D r l h) X k
 
 pub program_bound : ProgramsAreBounded
-program_bound ts t D r s l h X Y j k y z m n = rw (accepted ts t D r h).1 (bounded ts (erase t) D s (typed_program ts t D r l h) X Y j k y z m n)
+program_bound ts t D r s l h X Y j k y z m n = rw (accepted ts t D r h).1 (bounded ts t D s (typed_program ts t D r l h) X Y j k y z m n)

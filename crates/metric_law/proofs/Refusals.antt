@@ -7,63 +7,63 @@ use Rattle.fz_ast.specs.Types.{BagT, NumT, UnlimitedT}
 use Rattle.linear_types.specs.Program.{Rejected, sensitivity_of}
 use Rattle.linear_types.specs.Rule.{rule}
 use Rattle.linear_types.specs.Typing.{Closed}
-use Rattle.linear_types.specs.Verdict.{ASum, Exactly, Has, Mismatch, NotFlat, NotGround, NotNum, Range, TooSensitive, Unbound, Unbounded}
+use Rattle.linear_types.specs.Inferred.{ASum, Exactly, Has, Mismatch, NotFlat, NotGround, NotNum, Range, TooSensitive, Unbound, Unbounded}
 use Rattle.metric_law.specs.Refusals.{branches_of_functions, compared, condition_before_branches, map_to_bags, part_out_of_range, parts_come_first, range_comes_last, range_of_a_part_first, side_of_functions, table_alone, table_as_number, too_large_a_factor, too_large_a_product, unbound_table, unbounded_comes_first, used_twice, used_twice_without_limit}
-use Rattle.metric_law.specs.Worked.{at, people}
+use Rattle.metric_law.specs.Worked.{span, worked_tables}
 
-pub compared_rejected : sensitivity_of people compared ≡ Rejected (Unbounded (codes "people"))
+pub compared_rejected : sensitivity_of worked_tables compared ≡ Rejected (Unbounded (codes "people"))
 unfolding is_out gcd gcd_in
 compared_rejected = refl
 
-pub factor_rejected : sensitivity_of people too_large_a_factor ≡ Rejected (Range (at 0 30))
+pub factor_rejected : sensitivity_of worked_tables too_large_a_factor ≡ Rejected (Range (span 0 30))
 unfolding is_out gcd gcd_in
 factor_rejected = refl
 
-pub product_rejected : sensitivity_of people too_large_a_product ≡ Rejected (Range (at 0 39))
+pub product_rejected : sensitivity_of worked_tables too_large_a_product ≡ Rejected (Range (span 0 39))
 unfolding is_out gcd gcd_in
 product_rejected = refl
 
-pub used_twice_rejected : sensitivity_of people used_twice ≡ Rejected (TooSensitive (at 1 23) (codes "x") (Fin 2 1))
+pub used_twice_rejected : sensitivity_of worked_tables used_twice ≡ Rejected (TooSensitive (span 1 23) (codes "x") (Fin 2 1))
 unfolding is_out gcd gcd_in
 used_twice_rejected = refl
 
-pub unbound_rejected : sensitivity_of people unbound_table ≡ Rejected (Unbound (at 5 12))
+pub unbound_rejected : sensitivity_of worked_tables unbound_table ≡ Rejected (Unbound (span 5 12))
 unfolding is_out gcd gcd_in
 unbound_rejected = refl
 
-pub mismatch_rejected : sensitivity_of people table_as_number ≡ Rejected (Mismatch (at 0 6) (BagT NumT) (Exactly NumT))
+pub mismatch_rejected : sensitivity_of worked_tables table_as_number ≡ Rejected (Mismatch (span 0 6) (BagT NumT) (Exactly NumT))
 unfolding is_out gcd gcd_in
 mismatch_rejected = refl
 
-pub branches_rejected : sensitivity_of people branches_of_functions ≡ Rejected (NotGround (at 0 59))
+pub branches_rejected : sensitivity_of worked_tables branches_of_functions ≡ Rejected (NotGround (span 0 59))
 unfolding is_out gcd gcd_in
 branches_rejected = refl
 
-pub side_rejected : sensitivity_of people side_of_functions ≡ Rejected (NotGround (at 4 14))
+pub side_rejected : sensitivity_of worked_tables side_of_functions ≡ Rejected (NotGround (span 4 14))
 unfolding is_out gcd gcd_in
 side_rejected = refl
 
-pub map_rejected : sensitivity_of people map_to_bags ≡ Rejected (NotFlat (at 5 27))
+pub map_rejected : sensitivity_of worked_tables map_to_bags ≡ Rejected (NotFlat (span 5 27))
 unfolding is_out gcd gcd_in
 map_rejected = refl
 
-pub no_number_rejected : sensitivity_of people table_alone ≡ Rejected (NotNum (BagT NumT))
+pub no_number_rejected : sensitivity_of worked_tables table_alone ≡ Rejected (NotNum (BagT NumT))
 unfolding is_out gcd gcd_in
 no_number_rejected = refl
 
-pub parts_first_rejected : sensitivity_of people parts_come_first ≡ Rejected (Unbound (at 9 16))
+pub parts_first_rejected : sensitivity_of worked_tables parts_come_first ≡ Rejected (Unbound (span 9 16))
 unfolding is_out gcd gcd_in
 parts_first_rejected = refl
 
-pub condition_first_rejected : sensitivity_of people condition_before_branches ≡ Rejected (Mismatch (at 5 11) (BagT NumT) ASum)
+pub condition_first_rejected : sensitivity_of worked_tables condition_before_branches ≡ Rejected (Mismatch (span 5 11) (BagT NumT) ASum)
 unfolding is_out gcd gcd_in
 condition_first_rejected = refl
 
-pub range_last_rejected : sensitivity_of people range_comes_last ≡ Rejected (Mismatch (at 19 25) (BagT NumT) (Exactly NumT))
+pub range_last_rejected : sensitivity_of worked_tables range_comes_last ≡ Rejected (Mismatch (span 19 25) (BagT NumT) (Exactly NumT))
 unfolding is_out gcd gcd_in
 range_last_rejected = refl
 
-pub unbounded_first_rejected : sensitivity_of people unbounded_comes_first ≡ Rejected (Unbounded (codes "people"))
+pub unbounded_first_rejected : sensitivity_of worked_tables unbounded_comes_first ≡ Rejected (Unbounded (codes "people"))
 unfolding is_out gcd gcd_in
 unbounded_first_rejected = refl
 
@@ -71,10 +71,10 @@ pub without_limit_accepted : rule Closed used_twice_without_limit ≡ Has (Unlim
 unfolding is_out gcd gcd_in
 without_limit_accepted = refl
 
-pub part_range_rejected : sensitivity_of people part_out_of_range ≡ Rejected (Range (at 4 34))
+pub part_range_rejected : sensitivity_of worked_tables part_out_of_range ≡ Rejected (Range (span 4 34))
 unfolding is_out gcd gcd_in
 part_range_rejected = refl
 
-pub part_range_first_rejected : sensitivity_of people range_of_a_part_first ≡ Rejected (Range (at 9 23))
+pub part_range_first_rejected : sensitivity_of worked_tables range_of_a_part_first ≡ Rejected (Range (span 9 23))
 unfolding is_out gcd gcd_in
 part_range_first_rejected = refl

@@ -66,6 +66,13 @@ inf_factor (Fin zero q) = inl (record { le = omega arith })
 inf_factor (Fin (suc p) q) = inr (⊑-refl Inf)
 inf_factor Inf = inr (⊑-refl Inf)
 
+-- a factor above 0 keeps what is at inf there
+pub above_factor : (k d : Distance) → (k ⊑ none → ⊥) → (Inf ⊑ d → ⊥) ⊎ (Inf ⊑ mul k d)
+above_factor k (Fin p q) h = inl (λ l. l.le)
+above_factor (Fin zero q) Inf h = absurd (h (record { le = omega arith }))
+above_factor (Fin (suc p) q) Inf h = inr (⊑-refl Inf)
+above_factor Inf Inf h = inr (⊑-refl Inf)
+
 -- a name's place in a longer sum
 pub bound_one : (D E : Sensitivities) (r d : Distance) (δ : List Distance) → first D ⊑ r → d ⊑ dot E δ → dot D (d ∷ δ) ⊑ dot (plus (rest D) (scale r E)) δ
 bound_one D E r d δ h k =

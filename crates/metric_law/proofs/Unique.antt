@@ -1,9 +1,9 @@
 -- A term has at most one value.
 use Rattle.std.proofs.Common.{inl, inr}
 use Rattle.std.specs.Prelude.{List, [], suc, zero, ℕ, ◌∷◌, ◌≡◌}
-use Rattle.fz_ast.specs.Terms.{AppE, BangE, CaseE, ClipE, EqE, FilterE, FnE, FstE, FunE, GreatestE, IfE, InlE, InrE, LeE, LeastE, LetBangE, LetE, LetPairE, MapE, MinusE, NumE, PairE, PlusE, SizeE, SndE, SplitE, SumE, Term, TextE, TimesE, UnionE, UnitE, VarE, WithE}
+use Rattle.fz_ast.specs.Terms.{AppE, BangE, CaseE, ClipE, EqE, FilterE, FnE, FstE, FunE, GreatestE, IfE, InlE, InrE, LeE, LeastE, LetBangE, LetE, LetPairE, MapE, MinusE, NumE, PairE, PlusE, SizeE, SndE, SplitE, SumE, Term, TermForm, TextE, TimesE, UnionE, UnitE, VarE, WithE, at}
 use Rattle.metric_values.specs.Values.{Bind, Env, Flat, Value}
-use Rattle.metric_law.proofs.Nearness.{val_inj}
+use Rattle.metric_law.proofs.Nearness.{numbers_inj, val_inj}
 use Rattle.metric_law.specs.Means.{Applies, Maps, Meaning, MeansIn, Rules, Splits, apply, apply_fn}
 
 module _ (R R' : Meaning) (ih : (γ : Env) (e : Term) (v w : Value) → R γ e v → R' γ e w → v ≡ w) where
@@ -25,7 +25,7 @@ module _ (R R' : Meaning) (ih : (γ : Env) (e : Term) (v w : Value) → R γ e v
   maps_same c [] ys ys' h k = cc (h, k)
   maps_same c (x ∷ xs) ys ys' h k = let e = val_inj h.0 k.0 (applies_same h.2 k.2) in let r = maps_same c xs h.1 k.1 h.3 k.3 in cc (e, r, h.4, k.4)
 
-  rules_same : (γ : Env) (e : Term) (v w : Value) → Rules R γ e v → Rules R' γ e w → v ≡ w
+  rules_same : (γ : Env) (e : TermForm) (v w : Value) → Rules R γ e v → Rules R' γ e w → v ≡ w
   rules_same γ (VarE x) v w h k = cc (h, k)
   rules_same γ (NumE z) v w h k = cc (h, k)
   rules_same γ (TextE s) v w h k = cc (h, k)
@@ -48,9 +48,9 @@ module _ (R R' : Meaning) (ih : (γ : Env) (e : Term) (v w : Value) → R γ e v
   rules_same γ (IfE e a b) v w (inr h) (inr k) = ih γ b v w h.1 k.1
   rules_same γ (IfE e a b) v w (inl h) (inr k) = let p = ih γ e _ _ h.0 k.0 in absurd (cc p)
   rules_same γ (IfE e a b) v w (inr h) (inl k) = let p = ih γ e _ _ h.0 k.0 in absurd (cc p)
-  rules_same γ (FnE x t e) v w h k = cc (h, k)
+  rules_same γ (FnE x u t e) v w h k = cc (h, k)
   rules_same γ (LetE x e b) v w h k = let p = ih γ e _ _ h.1 k.1 in ih (Bind x h.0 γ) b v w h.2 (rw p k.2)
-  rules_same γ (SumE lo hi e) v w h k = let p = ih γ e _ _ h.1 k.1 in cc (p, h.2, k.2)
+  rules_same γ (SumE lo hi e) v w h k = let p = numbers_inj h.0 k.0 (cc (ih γ e _ _ h.1 k.1)) in cc (p, h.2, k.2)
   rules_same γ (UnionE a b) v w h k = let p = ih γ a _ _ h.2 k.2 in let q = ih γ b _ _ h.3 k.3 in cc (p, q, h.4, k.4)
   rules_same γ (MapE f e) v w h k =
       let p = ih γ f _ _ h.3 k.3 in let q : h.1 ≡ k.1 = cc (ih γ e _ _ h.4 k.4) in
@@ -63,13 +63,13 @@ module _ (R R' : Meaning) (ih : (γ : Env) (e : Term) (v w : Value) → R γ e v
       let r = splits_same h.0 h.1 h.2 h.3 k.2 k.3 h.6 (rw (p, q) k.6) in cc (r.0, h.7, k.7)
   rules_same γ (PairE a b) v w h k = let p = ih γ a _ _ h.2 k.2 in let q = ih γ b _ _ h.3 k.3 in cc (p, q, h.4, k.4)
   rules_same γ (LetPairE x y e b) v w h k = let p : h.0 ≡ k.0 = cc (ih γ e _ _ h.2 k.2) in let q : h.1 ≡ k.1 = cc (ih γ e _ _ h.2 k.2) in ih (Bind y h.1 (Bind x h.0 γ)) b v w h.3 (rw (p, q) k.3)
-  rules_same γ (InlE t e) v w h k = let p = ih γ e _ _ h.1 k.1 in cc (p, h.2, k.2)
-  rules_same γ (InrE t e) v w h k = let p = ih γ e _ _ h.1 k.1 in cc (p, h.2, k.2)
+  rules_same γ (InlE u t e) v w h k = let p = ih γ e _ _ h.1 k.1 in cc (p, h.2, k.2)
+  rules_same γ (InrE u t e) v w h k = let p = ih γ e _ _ h.1 k.1 in cc (p, h.2, k.2)
   rules_same γ (CaseE e x a y b) v w (inl h) (inl k) = let p : h.0 ≡ k.0 = cc (ih γ e _ _ h.1 k.1) in ih (Bind x h.0 γ) a v w h.2 (rw p k.2)
   rules_same γ (CaseE e x a y b) v w (inr h) (inr k) = let p : h.0 ≡ k.0 = cc (ih γ e _ _ h.1 k.1) in ih (Bind y h.0 γ) b v w h.2 (rw p k.2)
   rules_same γ (CaseE e x a y b) v w (inl h) (inr k) = let p = ih γ e _ _ h.1 k.1 in absurd (cc p)
   rules_same γ (CaseE e x a y b) v w (inr h) (inl k) = let p = ih γ e _ _ h.1 k.1 in absurd (cc p)
-  rules_same γ (FunE x t e) v w h k = cc (h, k)
+  rules_same γ (FunE x u t e) v w h k = cc (h, k)
   rules_same γ (AppE f a) v w h k = applies_at h.0 k.0 h.1 k.1 v w (ih γ f _ _ h.2 k.2) (ih γ a _ _ h.3 k.3) h.4 k.4
   rules_same γ (BangE r e) v w h k = let p = ih γ e _ _ h.1 k.1 in cc (p, h.2, k.2)
   rules_same γ (LetBangE x e b) v w h k = let p : h.0 ≡ k.0 = cc (ih γ e _ _ h.1 k.1) in ih (Bind x h.0 γ) b v w h.2 (rw p k.2)
@@ -78,4 +78,4 @@ module _ (R R' : Meaning) (ih : (γ : Env) (e : Term) (v w : Value) → R γ e v
 pub same_value : (n m : ℕ) (γ : Env) (e : Term) (v w : Value) → MeansIn n γ e v → MeansIn m γ e w → v ≡ w
 same_value zero m γ e v w h k = absurd h
 same_value (suc n) zero γ e v w h k = absurd k
-same_value (suc n) (suc m) γ e v w h k = rules_same (MeansIn n) (MeansIn m) (λ γ e v w p q. same_value n m γ e v w p q) γ e v w h k
+same_value (suc n) (suc m) γ (at o e) v w h k = rules_same (MeansIn n) (MeansIn m) (λ γ e v w p q. same_value n m γ e v w p q) γ e v w h k

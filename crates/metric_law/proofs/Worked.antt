@@ -1,24 +1,24 @@
 -- The worked programs, computed.
 use Rattle.std.proofs.Common.{arith, inl, inr, refl}
 use Rattle.std.proofs.lemmas.List.Elements.{All-cons, All-nil}
-use Rattle.std.specs.Prelude.{List, [], codes, neg_ℤ, pos, ℕ, ◌∷◌, ◌≤◌}
+use Rattle.std.specs.Prelude.{List, [], codes, neg_ℤ, pos, ◌∷◌}
 use Rattle.fz_frac.specs.Distance.{Distance, Fin, one, ◌≈◌, ◌⊑◌}
 use Rattle.fz_frac.specs.Lowest.{gcd, gcd_in, is_out}
-use Rattle.fz_ast.specs.Spanned.{erase}
-use Rattle.fz_ast.specs.Terms.{LeE, LetBangE, NumE, PlusE, VarE}
+use Rattle.fz_ast.specs.Bare.{nowhere}
+use Rattle.fz_ast.specs.Terms.{LeE, LetBangE, NumE, PlusE, VarE, at}
 use Rattle.fz_ast.specs.Types.{ArrowT, NumT}
 use Rattle.linear_types.specs.Typing.{Typing, here, is_fun, is_plus, is_var, there}
 use Rattle.metric_values.specs.Tables.{rows_of}
-use Rattle.metric_values.specs.Values.{BagV, BangV, Flat, FnV, FunV, NumF, NumV, value_of}
+use Rattle.metric_values.specs.Typed.{TypedFlat}
+use Rattle.metric_values.specs.Values.{BagV, BangV, Flat, FnV, FunV, NumF, NumV}
 use Rattle.metric_law.proofs.Needed.{at_number, num_type, number, number_near, number_typed, small}
 use Rattle.metric_law.specs.Means.{Means, apply, apply_fn}
-use Rattle.metric_law.specs.Near.{Typed, typed_bag, typed_num}
-use Rattle.metric_law.specs.Worked.{Answers, Datasets, LooserScalar, Premises, adds_n, bang_undone, clipped, counted, counted_twice, filtered_and_mapped, people, scaled_argument, some_ages, split_in_halves, three_ages, unused_names}
+use Rattle.metric_law.specs.Worked.{Answers, Datasets, LooserScalar, Premises, adds_n, bang_undone, clipped, counted, counted_twice, filtered_and_mapped, worked_tables, scaled_argument, some_ages, span, split_in_halves, three_ages, unused_names}
 
 same : {a b : Distance} → a ⊑ b → b ⊑ a → a ≈ b
 same h k = record { le = h; ge = k }
 
-three : Means (rows_of people three_ages) (erase counted) (NumV (pos 3))
+three : Means (rows_of worked_tables three_ages) counted (NumV (pos 3))
 three = (2, (NumF (pos 20) ∷ NumF (pos 30) ∷ NumF (pos 40) ∷ [], refl, refl))
 
 pub bang_undone_answers : Answers bang_undone one three_ages (pos 3)
@@ -35,7 +35,7 @@ scaled_argument_answers = (
   (
     4,
     (
-      FunV (codes "x") (LetBangE (codes "y") (VarE (codes "x")) (VarE (codes "y"))) (rows_of people three_ages),
+      FunV (codes "x") (at (span 25 40) (LetBangE (codes "y") (at (span 34 35) (VarE (codes "x"))) (at (span 39 40) (VarE (codes "y"))))) (rows_of worked_tables three_ages),
       BangV (NumV (pos 3)),
       refl,
       (NumV (pos 3), (NumF (pos 20) ∷ NumF (pos 30) ∷ NumF (pos 40) ∷ [], refl, refl), refl),
@@ -64,7 +64,7 @@ split_in_halves_answers = (
       BagV (NumF (pos 20) ∷ NumF (pos 30) ∷ []),
       BagV (NumF (pos 40) ∷ []),
       (
-        FnV (codes "x") (LeE (VarE (codes "x")) (NumE (pos 30))) (rows_of people three_ages),
+        FnV (codes "x") (at (span 36 43) (LeE (at (span 36 37) (VarE (codes "x"))) (at (span 41 43) (NumE (pos 30))))) (rows_of worked_tables three_ages),
         ages,
         NumF (pos 20) ∷ NumF (pos 30) ∷ [],
         NumF (pos 40) ∷ [],
@@ -99,13 +99,13 @@ filtered_and_mapped_answers = (
     (
       NumF (pos 21) ∷ [],
       (
-        FnV (codes "x") (LeE (VarE (codes "x")) (NumE (pos 30))) (rows_of people three_ages),
+        FnV (codes "x") (at (span 30 37) (LeE (at (span 30 31) (VarE (codes "x"))) (at (span 35 37) (NumE (pos 30))))) (rows_of worked_tables three_ages),
         NumF (pos 21) ∷ NumF (pos 31) ∷ NumF (pos 41) ∷ [],
         NumF (pos 21) ∷ [],
         NumF (pos 31) ∷ NumF (pos 41) ∷ [],
         refl,
         (
-          FnV (codes "y") (PlusE (VarE (codes "y")) (NumE (pos 1))) (rows_of people three_ages),
+          FnV (codes "y") (at (span 61 66) (PlusE (at (span 61 62) (VarE (codes "y"))) (at (span 65 66) (NumE (pos 1))))) (rows_of worked_tables three_ages),
           ages,
           NumF (pos 21) ∷ NumF (pos 31) ∷ NumF (pos 41) ∷ [],
           refl,
@@ -141,14 +141,11 @@ pub clipped_answers : Answers clipped (Fin 100 1) some_ages (pos 140)
 unfolding is_out gcd gcd_in
 clipped_answers = (
   (_, _, refl, same (record { le = omega arith }) (record { le = omega arith })),
-  (2, (NumF (neg_ℤ (pos 5)) ∷ NumF (pos 40) ∷ NumF (pos 1000) ∷ [], refl, refl)),
+  (2, (neg_ℤ (pos 5) ∷ pos 40 ∷ pos 1000 ∷ [], refl, refl)),
 )
 
-age : (k : ℕ) → k ≤ 100 → Typed NumT (NumV (pos k))
-age k h = typed_num (small k h)
-
 abbrev IsAge : Flat → Type 0
-IsAge x = Typed NumT (value_of x)
+IsAge = TypedFlat NumT
 
 pub two_datasets : Datasets counted 3 (pos 2) (pos 3)
 unfolding is_out gcd gcd_in
@@ -158,12 +155,10 @@ two_datasets = record {
   accepted = (_, _, refl);
   left = (NumF (pos 2) ∷ NumF (pos 3) ∷ []) ∷ [];
   right = (NumF (pos 1) ∷ NumF (pos 2) ∷ NumF (pos 2) ∷ []) ∷ [];
-  left_typed = (typed_bag (All-cons IsAge (NumF (pos 2)) (NumF (pos 3) ∷ []) (age 2 (omega arith)) (All-cons IsAge (NumF (pos 3)) [] (age 3 (omega arith)) (All-nil IsAge))), tt);
+  left_typed = (All-cons IsAge (NumF (pos 2)) (NumF (pos 3) ∷ []) (small 2 (omega arith)) (All-cons IsAge (NumF (pos 3)) [] (small 3 (omega arith)) (All-nil IsAge)), tt);
   right_typed = (
-    typed_bag (
-        All-cons IsAge (NumF (pos 1)) (NumF (pos 2) ∷ NumF (pos 2) ∷ []) (age 1 (omega arith))
-        (All-cons IsAge (NumF (pos 2)) (NumF (pos 2) ∷ []) (age 2 (omega arith)) (All-cons IsAge (NumF (pos 2)) [] (age 2 (omega arith)) (All-nil IsAge)))
-        ),
+    All-cons IsAge (NumF (pos 1)) (NumF (pos 2) ∷ NumF (pos 2) ∷ []) (small 1 (omega arith))
+        (All-cons IsAge (NumF (pos 2)) (NumF (pos 2) ∷ []) (small 2 (omega arith)) (All-cons IsAge (NumF (pos 2)) [] (small 2 (omega arith)) (All-nil IsAge))),
     tt,
   );
   are_apart = refl;
@@ -182,8 +177,8 @@ function_premises = record {
   left_typed = number_typed 0 (omega arith);
   right_typed = number_typed 1 (omega arith);
   near = number_near;
-  left_value = FunV (codes "x") (PlusE (VarE (codes "x")) (VarE (codes "n"))) (at_number (pos 0));
-  right_value = FunV (codes "x") (PlusE (VarE (codes "x")) (VarE (codes "n"))) (at_number (pos 1));
+  left_value = FunV (codes "x") (at nowhere (PlusE (at nowhere (VarE (codes "x"))) (at nowhere (VarE (codes "n"))))) (at_number (pos 0));
+  right_value = FunV (codes "x") (at nowhere (PlusE (at nowhere (VarE (codes "x"))) (at nowhere (VarE (codes "n"))))) (at_number (pos 1));
   left_means = (1, refl);
   right_means = (1, refl);
 }

@@ -2,16 +2,17 @@
 use Rattle.std.specs.Prelude.{List, [], true, ℤ, ◌↔◌, ◌∷◌, ◌≡◌}
 use Rattle.fz_frac.specs.Distance.{Distance, Fin, add, mul, none, ◌⊑◌}
 use Rattle.fz_ast.specs.Limits.{IsNumber, TermLimits}
-use Rattle.fz_ast.specs.Signature.{IsSignature, Signature, table_type}
-use Rattle.fz_ast.specs.Spanned.{Spanned, erase}
-use Rattle.fz_ast.specs.Terms.{LetBangE, Name, Term}
-use Rattle.fz_ast.specs.Types.{BangT, Ty, is_ground}
+use Rattle.fz_ast.specs.Signature.{IsSignature, Signature}
+use Rattle.fz_ast.specs.Terms.{FilterE, LetBangE, Name, SplitE, Term, at}
+use Rattle.fz_ast.specs.declared.span.Span.{Span}
+use Rattle.fz_ast.specs.Types.{BagT, BangT, BoolT, TensorT, Ty, UnlimitedT, is_ground}
 use Rattle.linear_types.specs.Program.{Accepted, sensitivity_of}
 use Rattle.linear_types.specs.Sensitivities.{Sensitivities, first, plus, rest, scale}
 use Rattle.linear_types.specs.Typing.{AllTypes, Closed, Context, Typing, Under}
-use Rattle.metric_values.specs.Distances.{distance_of, gap}
-use Rattle.metric_values.specs.Tables.{Dataset, apart, rows_of}
-use Rattle.metric_values.specs.Values.{BagV, Bind, Empty, Env, NumV, Value}
+use Rattle.metric_values.specs.Distances.{distance_between, gap}
+use Rattle.metric_values.specs.Tables.{Dataset, IsDataset, apart, rows_of}
+use Rattle.metric_values.specs.Typed.{TypedFlat, TypedGround}
+use Rattle.metric_values.specs.Values.{Bind, Empty, Env, Flat, NumV, Value, value_of}
 use Rattle.metric_law.specs.Means.{Means}
 use Rattle.metric_law.specs.Near.{Near, Typed}
 
@@ -23,7 +24,8 @@ pub data TypedEnv : Context → Env → Type 0 where
 -- each name's two values are near, at its distance in the list
 pub data NearEnv : Context → Env → Env → List Distance → Type 0 where
   near_empty : NearEnv Closed Empty Empty []
-  near_bind : {x : Name} {A : Ty} {Γ : Context} {v w : Value} {γ γ' : Env} {d : Distance} {δ : List Distance} → Near A v w d → NearEnv Γ γ γ' δ → NearEnv (Under x A Γ) (Bind x v γ) (Bind x w γ') (d ∷ δ)
+  near_bind : {x : Name} {A : Ty} {Γ : Context} {v w : Value} {γ γ' : Env} {d : Distance} {δ : List Distance}
+      → Near A v w d → NearEnv Γ γ γ' δ → NearEnv (Under x A Γ) (Bind x v γ) (Bind x w γ') (d ∷ δ)
 
 -- the sum of sensitivity times distance
 abbrev pub dot : Sensitivities → List Distance → Distance
@@ -32,11 +34,14 @@ dot (t ∷ D) [] = none
 dot (t ∷ D) (d ∷ δ) = add (mul t d) (dot D δ)
 
 -- near environments give near values, at the sum of sensitivity times distance
-abbrev pub MetricPreservation : Type 0
-MetricPreservation =
-    (Γ : Context) (e : Term) (A : Ty) (D : Sensitivities) → AllTypes Γ → Typing Γ e A D
-    → (γ γ' : Env) (δ : List Distance) → TypedEnv Γ γ → TypedEnv Γ γ' → NearEnv Γ γ γ' δ
+abbrev pub Bounds : Context → Term → Ty → Sensitivities → Type 0
+Bounds Γ e A D =
+    (γ γ' : Env) (δ : List Distance) → TypedEnv Γ γ → TypedEnv Γ γ' → NearEnv Γ γ γ' δ
     → (v w : Value) → Means γ e v → Means γ' e w → Near A v w (dot D δ)
+
+-- what the typing rules give bounds the term
+abbrev pub MetricPreservation : Type 0
+MetricPreservation = (Γ : Context) (e : Term) (A : Ty) (D : Sensitivities) → AllTypes Γ → Typing Γ e A D → Bounds Γ e A D
 
 -- a term has a value in each typed environment, and it is typed
 abbrev pub Totality : Type 0
@@ -50,32 +55,44 @@ Uniqueness = (γ : Env) (e : Term) (v w : Value) → Means γ e v → Means γ e
 
 -- on ground types near at d says that the distance is at most d
 abbrev pub NearIsDistance : Type 0
-NearIsDistance = (A : Ty) (v w : Value) (d : Distance) → is_ground A ≡ true → Typed A v → Typed A w → Near A v w d ↔ (distance_of A v w ⊑ d)
+NearIsDistance = (A : Ty) (v w : Value) (d : Distance) → is_ground A ≡ true → Typed A v → Typed A w → Near A v w d ↔ (distance_between A v w ⊑ d)
+
+-- the elements that a ground type has are those whose values it has
+abbrev pub FlatTyping : Type 0
+FlatTyping = (A : Ty) (x : Flat) → is_ground A ≡ true → Typed A (value_of x) ↔ TypedFlat A x
+
+-- on ground types, without functions, typing is without meanings
+abbrev pub GroundTyping : Type 0
+GroundTyping = (A : Ty) (v : Value) → is_ground A ≡ true → Typed A v ↔ TypedGround A v
 
 -- `let !x` may scale by any k that suffices, and not only by the rule's own
 abbrev pub LooserLetBang : Type 0
 LooserLetBang =
-    (Γ : Context) (x : Name) (e b : Term) (s : Distance) (A B : Ty) (D E : Sensitivities) → AllTypes Γ → Typing Γ e (BangT s A) E → Typing (Under x A Γ) b B D
-    → (k : Distance) → first D ⊑ mul k s
-    → (γ γ' : Env) (δ : List Distance) → TypedEnv Γ γ → TypedEnv Γ γ' → NearEnv Γ γ γ' δ
-    → (v w : Value) → Means γ (LetBangE x e b) v → Means γ' (LetBangE x e b) w → Near B v w (dot (plus (rest D) (scale k E)) δ)
+    (Γ : Context) (s : Span) (x : Name) (e b : Term) (r : Distance) (A B : Ty) (D E : Sensitivities)
+    → AllTypes Γ → Typing Γ e (BangT r A) E → Typing (Under x A Γ) b B D
+    → (k : Distance) → first D ⊑ mul k r → Bounds Γ (at s (LetBangE x e b)) B (plus (rest D) (scale k E))
 
--- the dataset has rows of each table's type
-abbrev pub IsDataset : Signature → Dataset → Type 0
-IsDataset [] [] = Unit {0}
-IsDataset (t ∷ ts) (xs ∷ X) = Typed (table_type t) (BagV xs) × IsDataset ts X
-IsDataset ts X = ⊥
+-- `filter` and `split` may scale their function by any k above 0, and not only by inf: a truth value moves by 0 or inf
+abbrev pub LooserFilter : Type 0
+LooserFilter =
+    (Γ : Context) (s : Span) (f b : Term) (A : Ty) (D E : Sensitivities) → AllTypes Γ → Typing Γ f (UnlimitedT A BoolT) D → Typing Γ b (BagT A) E
+    → (k : Distance) → (k ⊑ none → ⊥) → Bounds Γ (at s (FilterE f b)) (BagT A) (plus (scale k D) E)
+
+abbrev pub LooserSplit : Type 0
+LooserSplit =
+    (Γ : Context) (s : Span) (f b : Term) (A : Ty) (D E : Sensitivities) → AllTypes Γ → Typing Γ f (UnlimitedT A BoolT) D → Typing Γ b (BagT A) E
+    → (k : Distance) → (k ⊑ none → ⊥) → Bounds Γ (at s (SplitE f b)) (TensorT (BagT A) (BagT A)) (plus (scale k D) E)
 
 -- an accepted program has a number on each dataset, within -M..M
 abbrev pub ProgramsHaveValues : Type 0
 ProgramsHaveValues =
-    (ts : Signature) (t : Spanned) (D : Sensitivities) (r : Distance) → IsSignature ts → TermLimits (erase t) → sensitivity_of ts t ≡ Accepted D r
-    → (X : Dataset) → IsDataset ts X → (z : ℤ) × Means (rows_of ts X) (erase t) (NumV z) × IsNumber z
+    (ts : Signature) (t : Term) (D : Sensitivities) (r : Distance) → IsSignature ts → TermLimits t → sensitivity_of ts t ≡ Accepted D r
+    → (X : Dataset) → IsDataset ts X → (z : ℤ) × Means (rows_of ts X) t (NumV z) × IsNumber z
 
 -- an accepted program's numbers on two datasets differ by at most its sensitivity times how far the datasets are apart
 abbrev pub ProgramsAreBounded : Type 0
 ProgramsAreBounded =
-    (ts : Signature) (t : Spanned) (D : Sensitivities) (r : Distance) → IsSignature ts → TermLimits (erase t) → sensitivity_of ts t ≡ Accepted D r
+    (ts : Signature) (t : Term) (D : Sensitivities) (r : Distance) → IsSignature ts → TermLimits t → sensitivity_of ts t ≡ Accepted D r
     → (X Y : Dataset) → IsDataset ts X → IsDataset ts Y
-    → (y z : ℤ) → Means (rows_of ts X) (erase t) (NumV y) → Means (rows_of ts Y) (erase t) (NumV z)
+    → (y z : ℤ) → Means (rows_of ts X) t (NumV y) → Means (rows_of ts Y) t (NumV z)
     → Fin (gap y z) 1 ⊑ mul r (Fin (apart X Y) 1)

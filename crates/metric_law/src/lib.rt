@@ -1,29 +1,46 @@
 //! What a program means, and the law that its type bounds how far its value moves.
 #![tactic(auto)]
 
-ghost use Rattle.fz_ast.specs.Types.{ArrowT, BagT, NumT, UnlimitedT};
-ghost use Rattle.fz_frac.specs.Distance.{Fin, one};
+ghost use Rattle.fz_ast.specs.Limits.{IsBang, IsNumber};
+ghost use Rattle.fz_ast.specs.Types.{ArrowT, BagT, BangT, NumT, SumT, TensorT, UnlimitedT};
+ghost use Rattle.fz_frac.specs.Distance.{Distance, Fin, none, one, ◌⊑◌};
 ghost use Rattle.linear_types.specs.Program.{Rejected, sensitivity_of};
 ghost use Rattle.linear_types.specs.Rule.{rule};
 ghost use Rattle.linear_types.specs.Typing.{Closed, Under};
-ghost use Rattle.linear_types.specs.Verdict.{ASum, Exactly, Has, Mismatch, NotFlat, NotGround, NotNum, Range, TooSensitive, Unbound, Unbounded};
-ghost use Rattle.metric_law.specs.Law.{LooserLetBang, MetricPreservation, NearIsDistance, ProgramsAreBounded, ProgramsHaveValues, Totality, Uniqueness};
+ghost use Rattle.linear_types.specs.Inferred.{ASum, Exactly, Has, Mismatch, NotFlat, NotGround, NotNum, Range, TooSensitive, Unbound, Unbounded};
+ghost use Rattle.metric_law.specs.Blanks.{BlanksChangeNoNumber, BlanksChangeNoValue};
+ghost use Rattle.metric_law.specs.Law.{FlatTyping, GroundTyping, LooserFilter, LooserLetBang, LooserSplit, MetricPreservation, NearIsDistance, ProgramsAreBounded, ProgramsHaveValues, Totality, Uniqueness};
+ghost use Rattle.metric_law.specs.Reached.{Reached, at_least_one, at_most_zero, bang, equal_to_zero, first_name_of, left_case_of, let_bang_of, let_of, map_to_n, n, n_and_a_bag, n_of, right_case_of, second_name_of, sum_between, times_of, zero_is_equal};
 ghost use Rattle.metric_law.specs.Refusals.{branches_of_functions, compared, condition_before_branches, map_to_bags, part_out_of_range, parts_come_first, range_comes_last, range_of_a_part_first, side_of_functions, table_alone, table_as_number, too_large_a_factor, too_large_a_product, unbound_table, unbounded_comes_first, used_twice, used_twice_without_limit};
-ghost use Rattle.metric_law.specs.Unsound.{ComparedAtOne, LetBangUndivided, MapWithoutInf, PairByMaximum, RemovedAfterwards, TextComparedAtZero, Unsound, UnusedCaseAtZero};
-ghost use Rattle.metric_law.specs.Worked.{Answers, Datasets, LooserScalar, Premises, adds_n, at, bang_undone, clipped, counted, counted_twice, filtered_and_mapped, people, scaled_argument, some_ages, split_in_halves, three_ages, unused_names};
-ghost use Rattle.std.specs.Prelude.{[], codes, pos, ◌∷◌, ◌≡◌};
+ghost use Rattle.metric_law.specs.Unsound.{ComparedAtOne, FilterAtZero, LetBangUndivided, MapWithoutInf, PairByMaximum, RemovedAfterwards, SplitAtZero, TextComparedAtZero, Unsound, UnusedCaseAtZero, UsedAt};
+ghost use Rattle.metric_law.specs.Worked.{Answers, Datasets, LooserScalar, Premises, adds_n, span, bang_undone, clipped, counted, counted_twice, filtered_and_mapped, worked_tables, scaled_argument, some_ages, split_in_halves, three_ages, unused_names};
+ghost use Rattle.std.specs.Prelude.{[], codes, pos, ℕ, ℤ, ◌∷◌, ◌≡◌, ◌≤ℤ◌};
 
 /// Near environments give near values, at the sum of sensitivity times distance, at every type and for every form of term.
 pub fn metric_preservation()
     ensures law { MetricPreservation }
     ensures distance { NearIsDistance }
     ensures looser { LooserLetBang }
+    ensures filter { LooserFilter }
+    ensures split { LooserSplit }
+{}
+
+/// Where no function is inside, what a type has is said without meanings.
+pub fn ground_typing()
+    ensures elements { FlatTyping }
+    ensures values { GroundTyping }
 {}
 
 /// A term that has a type has exactly one value in each typed environment.
 pub fn one_value()
     ensures total { Totality }
     ensures unique { Uniqueness }
+{}
+
+/// Blanks change no meaning: a term's values are those of the term without its spans, but for the spans in functions.
+pub fn blanks_change_no_meaning()
+    ensures values { BlanksChangeNoValue }
+    ensures numbers { BlanksChangeNoNumber }
 {}
 
 /// An accepted program has a number within the bounds of numbers on each dataset, and on two they differ by at most
@@ -42,6 +59,30 @@ pub fn each_rule_is_needed()
     ensures text_comparison { Unsound TextComparedAtZero }
     ensures removal { Unsound RemovedAfterwards }
     ensures mapping { Unsound MapWithoutInf }
+    ensures filter { Unsound FilterAtZero }
+    ensures split { Unsound SplitAtZero }
+    ensures linear { (r : Distance) → IsBang r → (r ⊑ one → ⊥) → Unsound (UsedAt r) }
+{}
+
+/// Each rule's scalar is the least that suffices: a term for each, and two near environments at which its value moves by just
+/// as much as the rules say. Not so where several suffice: `let !x` over inf takes the least whole number, a case with unused
+/// names 1, and `filter` and `split` inf for their function, where any above 0 does. A sum's bounds are in order here.
+pub fn bounds_are_reached()
+    ensures name { Reached (n_of NumT) n (one ∷ []) }
+    ensures bang { (r : Distance) → IsBang r → Reached (n_of NumT) (bang r n) (one ∷ []) }
+    ensures let_name { (r : Distance) → IsBang r → Reached (n_of NumT) (let_of r) (one ∷ []) }
+    ensures let_bang { (p q : ℕ) (r : Distance) → IsBang (Fin p q) → IsBang r → Reached (n_of (BangT (Fin p q) NumT)) (let_bang_of r) (Fin p q ∷ []) }
+    ensures first_name { (r : Distance) → IsBang r → Reached (n_of (TensorT NumT NumT)) (first_name_of r) (one ∷ []) }
+    ensures second_name { (r : Distance) → IsBang r → Reached (n_of (TensorT NumT NumT)) (second_name_of r) (one ∷ []) }
+    ensures left_case { (r : Distance) → IsBang r → Reached (n_of (SumT NumT NumT)) (left_case_of r) (one ∷ []) }
+    ensures right_case { (r : Distance) → IsBang r → Reached (n_of (SumT NumT NumT)) (right_case_of r) (one ∷ []) }
+    ensures factor { (k : ℤ) → IsNumber k → Reached (n_of NumT) (times_of k) (one ∷ []) }
+    ensures sum { (lo hi : ℤ) → lo ≤ℤ hi → IsNumber lo → IsNumber hi → Reached (n_of (BagT NumT)) (sum_between lo hi) (one ∷ []) }
+    ensures at_most_left { Reached (n_of NumT) at_most_zero (one ∷ []) }
+    ensures at_most_right { Reached (n_of NumT) at_least_one (one ∷ []) }
+    ensures equal_left { Reached (n_of NumT) equal_to_zero (one ∷ []) }
+    ensures equal_right { Reached (n_of NumT) zero_is_equal (one ∷ []) }
+    ensures map { Reached n_and_a_bag map_to_n (one ∷ none ∷ []) }
 {}
 
 /// Worked programs over a table of three ages, each with its sensitivity and its value.
@@ -58,28 +99,28 @@ pub fn worked_programs()
 /// Worked refusals, at least one for each kind of fault: a comparison's sensitivity, a factor and a product past the range,
 /// a linear argument used twice, an unbound table, and so on. Without the limit on its argument that function has a type.
 pub fn worked_refusals()
-    ensures compared { sensitivity_of people compared ≡ Rejected (Unbounded (codes "people")) }
-    ensures factor { sensitivity_of people too_large_a_factor ≡ Rejected (Range (at 0 30)) }
-    ensures product { sensitivity_of people too_large_a_product ≡ Rejected (Range (at 0 39)) }
-    ensures used_twice { sensitivity_of people used_twice ≡ Rejected (TooSensitive (at 1 23) (codes "x") (Fin 2 1)) }
-    ensures unbound { sensitivity_of people unbound_table ≡ Rejected (Unbound (at 5 12)) }
-    ensures mismatch { sensitivity_of people table_as_number ≡ Rejected (Mismatch (at 0 6) (BagT NumT) (Exactly NumT)) }
-    ensures branches { sensitivity_of people branches_of_functions ≡ Rejected (NotGround (at 0 59)) }
-    ensures side { sensitivity_of people side_of_functions ≡ Rejected (NotGround (at 4 14)) }
-    ensures map { sensitivity_of people map_to_bags ≡ Rejected (NotFlat (at 5 27)) }
-    ensures no_number { sensitivity_of people table_alone ≡ Rejected (NotNum (BagT NumT)) }
+    ensures compared { sensitivity_of worked_tables compared ≡ Rejected (Unbounded (codes "people")) }
+    ensures factor { sensitivity_of worked_tables too_large_a_factor ≡ Rejected (Range (span 0 30)) }
+    ensures product { sensitivity_of worked_tables too_large_a_product ≡ Rejected (Range (span 0 39)) }
+    ensures used_twice { sensitivity_of worked_tables used_twice ≡ Rejected (TooSensitive (span 1 23) (codes "x") (Fin 2 1)) }
+    ensures unbound { sensitivity_of worked_tables unbound_table ≡ Rejected (Unbound (span 5 12)) }
+    ensures mismatch { sensitivity_of worked_tables table_as_number ≡ Rejected (Mismatch (span 0 6) (BagT NumT) (Exactly NumT)) }
+    ensures branches { sensitivity_of worked_tables branches_of_functions ≡ Rejected (NotGround (span 0 59)) }
+    ensures side { sensitivity_of worked_tables side_of_functions ≡ Rejected (NotGround (span 4 14)) }
+    ensures map { sensitivity_of worked_tables map_to_bags ≡ Rejected (NotFlat (span 5 27)) }
+    ensures no_number { sensitivity_of worked_tables table_alone ≡ Rejected (NotNum (BagT NumT)) }
     ensures without_limit { rule Closed used_twice_without_limit ≡ Has (UnlimitedT NumT NumT) [] }
 {}
 
 /// Of two faults the first is told: parts come before conditions, a condition on e before the branches,
 /// conditions before range, unbounded before not a number. A part's range is told of the part.
 pub fn first_faults()
-    ensures parts_first { sensitivity_of people parts_come_first ≡ Rejected (Unbound (at 9 16)) }
-    ensures condition_first { sensitivity_of people condition_before_branches ≡ Rejected (Mismatch (at 5 11) (BagT NumT) ASum) }
-    ensures range_last { sensitivity_of people range_comes_last ≡ Rejected (Mismatch (at 19 25) (BagT NumT) (Exactly NumT)) }
-    ensures unbounded_first { sensitivity_of people unbounded_comes_first ≡ Rejected (Unbounded (codes "people")) }
-    ensures part_range { sensitivity_of people part_out_of_range ≡ Rejected (Range (at 4 34)) }
-    ensures part_range_first { sensitivity_of people range_of_a_part_first ≡ Rejected (Range (at 9 23)) }
+    ensures parts_first { sensitivity_of worked_tables parts_come_first ≡ Rejected (Unbound (span 9 16)) }
+    ensures condition_first { sensitivity_of worked_tables condition_before_branches ≡ Rejected (Mismatch (span 5 11) (BagT NumT) ASum) }
+    ensures range_last { sensitivity_of worked_tables range_comes_last ≡ Rejected (Mismatch (span 19 25) (BagT NumT) (Exactly NumT)) }
+    ensures unbounded_first { sensitivity_of worked_tables unbounded_comes_first ≡ Rejected (Unbounded (codes "people")) }
+    ensures part_range { sensitivity_of worked_tables part_out_of_range ≡ Rejected (Range (span 4 34)) }
+    ensures part_range_first { sensitivity_of worked_tables range_of_a_part_first ≡ Rejected (Range (span 9 23)) }
 {}
 
 /// The law's premises are met: by two datasets that are 3 apart, and at the type of a function.

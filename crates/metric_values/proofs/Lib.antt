@@ -1,3 +1,4 @@
 pub mod Elements
 pub mod Removal
 pub mod Metric
+mod Examples

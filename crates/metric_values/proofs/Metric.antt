@@ -8,7 +8,7 @@ use Rattle.fz_ast.specs.Limits.{IsBang, TypeLimits}
 use Rattle.fz_ast.specs.Types.{ArrowT, BagT, BangT, NumT, SumT, TensorT, TextT, Ty, UnitT, WithT}
 use Rattle.metric_values.proofs.Elements.{text_is, text_refl}
 use Rattle.metric_values.proofs.Removal.{permuted_zero, removal_flips, removal_symmetric, removal_triangle, zero_permuted}
-use Rattle.metric_values.specs.Distances.{SameUpToOrder, distance_of, gap}
+use Rattle.metric_values.specs.Distances.{SameUpToOrder, distance_between, gap}
 use Rattle.metric_values.specs.Tables.{Dataset, SameRows, apart}
 use Rattle.metric_values.specs.Values.{BagV, BangV, Flat, InlV, InrV, NumV, PairV, TextV, UnitV, Value}
 
@@ -25,7 +25,7 @@ data Shaped : Ty → Value → Type 0 where
   a_bag : {A : Ty} {xs : List Flat} → Shaped (BagT A) (BagV xs)
 
 -- others are at inf
-view : (A : Ty) (v w : Value) → (Shaped A v × Shaped A w) ⊎ (Inf ⊑ distance_of A v w)
+view : (A : Ty) (v w : Value) → (Shaped A v × Shaped A w) ⊎ (Inf ⊑ distance_between A v w)
 view NumT (NumV y) (NumV z) = inl (a_num, a_num)
 view TextT (TextV s) (TextV t) = inl (a_text, a_text)
 view UnitT UnitV UnitV = inl (a_unit, a_unit)
@@ -89,16 +89,16 @@ text_flips s t = go (bytes_eq t s) refl
     go true e = let f : t ≡ s = text_is t s e in rw (f, text_refl s) (⊑-refl none)
     go false e = ⊑-inf _
 
-by_shape : (A : Ty) (v w : Value) → (Shaped A v → Shaped A w → distance_of A v w ⊑ distance_of A w v) → distance_of A v w ⊑ distance_of A w v
+by_shape : (A : Ty) (v w : Value) → (Shaped A v → Shaped A w → distance_between A v w ⊑ distance_between A w v) → distance_between A v w ⊑ distance_between A w v
 by_shape A v w f = ⊎_elim (λ h. f h.1 h.0) (λ h. ⊑-inf _ ⨾ h) (view A w v)
 
-flips : (A : Ty) (v w : Value) → Shaped A v → Shaped A w → distance_of A v w ⊑ distance_of A w v
+flips : (A : Ty) (v w : Value) → Shaped A v → Shaped A w → distance_between A v w ⊑ distance_between A w v
 flips NumT _ _ (a_num {z = y}) (a_num {z = z}) = whole _ _ (gap_flips y z)
 flips TextT _ _ (a_text {s = s}) (a_text {s = t}) = text_flips s t
 flips UnitT _ _ a_unit a_unit = ⊑-refl none
 flips (TensorT A B) _ _ (a_pair {a = a} {b = b}) (a_pair {a = c} {b = d}) = by_shape A a c (flips A a c) ⊕ by_shape B b d (flips B b d)
 flips (WithT A B) _ _ (a_with {a = a} {b = b}) (a_with {a = c} {b = d}) =
-    greater-least _ _ _ (by_shape A a c (flips A a c) ⨾ greater-left _ (distance_of B d b)) (by_shape B b d (flips B b d) ⨾ greater-right (distance_of A c a) _)
+    greater-least _ _ _ (by_shape A a c (flips A a c) ⨾ greater-left _ (distance_between B d b)) (by_shape B b d (flips B b d) ⨾ greater-right (distance_between A c a) _)
 flips (SumT A B) _ _ (an_inl {a = a}) (an_inl {a = c}) = by_shape A a c (flips A a c)
 flips (SumT A B) _ _ an_inl an_inr = ⊑-refl Inf
 flips (SumT A B) _ _ an_inr an_inl = ⊑-refl Inf
@@ -107,7 +107,7 @@ flips (ArrowT A B) v w h k = ⊑-refl Inf
 flips (BangT r A) _ _ (a_bang {a = a}) (a_bang {a = c}) = ⊑-refl r ⊗ by_shape A a c (flips A a c)
 flips (BagT A) _ _ (a_bag {xs = xs}) (a_bag {xs = ys}) = whole _ _ (removal_flips ys xs)
 
-pub symmetric : (A : Ty) (v w : Value) → distance_of A v w ⊑ distance_of A w v
+pub symmetric : (A : Ty) (v w : Value) → distance_between A v w ⊑ distance_between A w v
 symmetric A v w = by_shape A v w (flips A v w)
 
 -- the triangle
@@ -128,12 +128,12 @@ inf_right : (d : Distance) → Inf ⊑ add d Inf
 inf_right d = right_part d Inf
 
 abbrev Bends : Ty → Value → Value → Value → Type 0
-Bends A u v w = distance_of A u w ⊑ add (distance_of A u v) (distance_of A v w)
+Bends A u v w = distance_between A u w ⊑ add (distance_between A u v) (distance_between A v w)
 
 by_shapes : (A : Ty) (u v w : Value) → (Shaped A u → Shaped A v → Shaped A w → Bends A u v w) → Bends A u v w
 by_shapes A u v w f = ⊎_elim
-    (λ h. ⊎_elim (λ k. f h.0 h.1 k.1) (λ k. ⊑-inf _ ⨾ k ⨾ right_part (distance_of A u v) _) (view A v w))
-    (λ h. ⊑-inf _ ⨾ h ⨾ left_part _ (distance_of A v w))
+    (λ h. ⊎_elim (λ k. f h.0 h.1 k.1) (λ k. ⊑-inf _ ⨾ k ⨾ right_part (distance_between A u v) _) (view A v w))
+    (λ h. ⊑-inf _ ⨾ h ⨾ left_part _ (distance_between A v w))
     (view A u v)
 
 bends : (A : Ty) (u v w : Value) → Shaped A u → Shaped A v → Shaped A w → Bends A u v w
@@ -141,20 +141,20 @@ bends NumT _ _ _ (a_num {z = x}) (a_num {z = y}) (a_num {z = z}) = whole_sum _ _
 bends TextT _ _ _ (a_text {s = s}) (a_text {s = t}) (a_text {s = u}) = text_triangle s t u
 bends UnitT _ _ _ a_unit a_unit a_unit = none-least _
 bends (TensorT A B) _ _ _ (a_pair {a = a} {b = b}) (a_pair {a = c} {b = d}) (a_pair {a = e} {b = f}) =
-    (by_shapes A a c e (bends A a c e) ⊕ by_shapes B b d f (bends B b d f)) ⨾ add-swap (distance_of A a c) (distance_of A c e) (distance_of B b d) (distance_of B d f)
+    (by_shapes A a c e (bends A a c e) ⊕ by_shapes B b d f (bends B b d f)) ⨾ add-swap (distance_between A a c) (distance_between A c e) (distance_between B b d) (distance_between B d f)
 bends (WithT A B) _ _ _ (a_with {a = a} {b = b}) (a_with {a = c} {b = d}) (a_with {a = e} {b = f}) = greater-least _ _ _
-    (by_shapes A a c e (bends A a c e) ⨾ (greater-left _ (distance_of B b d) ⊕ greater-left _ (distance_of B d f)))
-    (by_shapes B b d f (bends B b d f) ⨾ (greater-right (distance_of A a c) _ ⊕ greater-right (distance_of A c e) _))
+    (by_shapes A a c e (bends A a c e) ⨾ (greater-left _ (distance_between B b d) ⊕ greater-left _ (distance_between B d f)))
+    (by_shapes B b d f (bends B b d f) ⨾ (greater-right (distance_between A a c) _ ⊕ greater-right (distance_between A c e) _))
 bends (SumT A B) _ _ _ (an_inl {a = a}) (an_inl {a = c}) (an_inl {a = e}) = by_shapes A a c e (bends A a c e)
-bends (SumT A B) _ _ _ (an_inl {a = a}) (an_inl {a = c}) an_inr = inf_right (distance_of A a c)
+bends (SumT A B) _ _ _ (an_inl {a = a}) (an_inl {a = c}) an_inr = inf_right (distance_between A a c)
 bends (SumT A B) _ _ _ an_inl an_inr an_inl = ⊑-inf _
-bends (SumT A B) _ _ _ an_inl (an_inr {a = c}) (an_inr {a = e}) = inf_left (distance_of B c e)
-bends (SumT A B) _ _ _ an_inr (an_inl {a = c}) (an_inl {a = e}) = inf_left (distance_of A c e)
+bends (SumT A B) _ _ _ an_inl (an_inr {a = c}) (an_inr {a = e}) = inf_left (distance_between B c e)
+bends (SumT A B) _ _ _ an_inr (an_inl {a = c}) (an_inl {a = e}) = inf_left (distance_between A c e)
 bends (SumT A B) _ _ _ an_inr an_inl an_inr = ⊑-inf _
-bends (SumT A B) _ _ _ (an_inr {a = a}) (an_inr {a = c}) an_inl = inf_right (distance_of B a c)
+bends (SumT A B) _ _ _ (an_inr {a = a}) (an_inr {a = c}) an_inl = inf_right (distance_between B a c)
 bends (SumT A B) _ _ _ (an_inr {a = a}) (an_inr {a = c}) (an_inr {a = e}) = by_shapes B a c e (bends B a c e)
 bends (ArrowT A B) u v w h k l = ⊑-inf _
-bends (BangT r A) _ _ _ (a_bang {a = a}) (a_bang {a = c}) (a_bang {a = e}) = (⊑-refl r ⊗ by_shapes A a c e (bends A a c e)) ⨾ mul-add r (distance_of A a c) (distance_of A c e)
+bends (BangT r A) _ _ _ (a_bang {a = a}) (a_bang {a = c}) (a_bang {a = e}) = (⊑-refl r ⊗ by_shapes A a c e (bends A a c e)) ⨾ mul-add r (distance_between A a c) (distance_between A c e)
 bends (BagT A) _ _ _ (a_bag {xs = xs}) (a_bag {xs = ys}) (a_bag {xs = zs}) = whole_sum _ _ _ (removal_triangle xs ys zs)
 
 pub triangle : (A : Ty) (u v w : Value) → Bends A u v w
@@ -185,34 +185,34 @@ no_divisor Inf Inf b h = absurd h.le
 not_far : {d : Distance} → Inf ⊑ d → d ⊑ none → ⊥
 not_far h k = (h ⨾ k).le
 
-by_zero : (A : Ty) (v w : Value) → (Shaped A v → Shaped A w → SameUpToOrder A v w) → distance_of A v w ⊑ none → SameUpToOrder A v w
+by_zero : (A : Ty) (v w : Value) → (Shaped A v → Shaped A w → SameUpToOrder A v w) → distance_between A v w ⊑ none → SameUpToOrder A v w
 by_zero A v w f h = ⊎_elim (λ k. f k.0 k.1) (λ k. absurd (not_far k h)) (view A v w)
 
-zeros : (A : Ty) (v w : Value) → TypeLimits A → distance_of A v w ⊑ none → Shaped A v → Shaped A w → SameUpToOrder A v w
+zeros : (A : Ty) (v w : Value) → TypeLimits A → distance_between A v w ⊑ none → Shaped A v → Shaped A w → SameUpToOrder A v w
 zeros NumT _ _ l h (a_num {z = y}) (a_num {z = z}) = gap_zero y z (whole_none _ h)
 zeros TextT _ _ l h (a_text {s = s}) (a_text {s = t}) = text_zero s t h
 zeros UnitT _ _ l h a_unit a_unit = tt
 zeros (TensorT A B) _ _ l h (a_pair {a = a} {b = b}) (a_pair {a = c} {b = d}) =
-    let f = left_part (distance_of A a c) (distance_of B b d) ⨾ h in let g = right_part (distance_of A a c) (distance_of B b d) ⨾ h in
+    let f = left_part (distance_between A a c) (distance_between B b d) ⨾ h in let g = right_part (distance_between A a c) (distance_between B b d) ⨾ h in
     (by_zero A a c (zeros A a c l.0 f) f, by_zero B b d (zeros B b d l.1 g) g)
 zeros (WithT A B) _ _ l h (a_with {a = a} {b = b}) (a_with {a = c} {b = d}) =
-    let f = greater-left (distance_of A a c) (distance_of B b d) ⨾ h in let g = greater-right (distance_of A a c) (distance_of B b d) ⨾ h in
+    let f = greater-left (distance_between A a c) (distance_between B b d) ⨾ h in let g = greater-right (distance_between A a c) (distance_between B b d) ⨾ h in
     (by_zero A a c (zeros A a c l.0 f) f, by_zero B b d (zeros B b d l.1 g) g)
 zeros (SumT A B) _ _ l h (an_inl {a = a}) (an_inl {a = c}) = by_zero A a c (zeros A a c l.0 h) h
 zeros (SumT A B) _ _ l h an_inl an_inr = absurd h.le
 zeros (SumT A B) _ _ l h an_inr an_inl = absurd h.le
 zeros (SumT A B) _ _ l h (an_inr {a = a}) (an_inr {a = c}) = by_zero B a c (zeros B a c l.1 h) h
 zeros (ArrowT A B) v w l h j k = absurd h.le
-zeros (BangT r A) _ _ l h (a_bang {a = a}) (a_bang {a = c}) = let f = no_divisor r (distance_of A a c) l.0 h in by_zero A a c (zeros A a c l.1 f) f
+zeros (BangT r A) _ _ l h (a_bang {a = a}) (a_bang {a = c}) = let f = no_divisor r (distance_between A a c) l.0 h in by_zero A a c (zeros A a c l.1 f) f
 zeros (BagT A) _ _ l h (a_bag {xs = xs}) (a_bag {xs = ys}) = let n = whole_none _ h in zero_permuted xs ys (omega (arith, n))
 
-pub zero_same : (A : Ty) (v w : Value) → TypeLimits A → distance_of A v w ⊑ none → SameUpToOrder A v w
+pub zero_same : (A : Ty) (v w : Value) → TypeLimits A → distance_between A v w ⊑ none → SameUpToOrder A v w
 zero_same A v w l h = by_zero A v w (zeros A v w l h) h
 
-by_same : (A : Ty) (v w : Value) → (Shaped A v → Shaped A w → distance_of A v w ⊑ none) → SameUpToOrder A v w → distance_of A v w ⊑ none
+by_same : (A : Ty) (v w : Value) → (Shaped A v → Shaped A w → distance_between A v w ⊑ none) → SameUpToOrder A v w → distance_between A v w ⊑ none
 by_same A v w f h = let k = same_view A v w h in f k.0 k.1
 
-sames : (A : Ty) (v w : Value) → SameUpToOrder A v w → Shaped A v → Shaped A w → distance_of A v w ⊑ none
+sames : (A : Ty) (v w : Value) → SameUpToOrder A v w → Shaped A v → Shaped A w → distance_between A v w ⊑ none
 sames NumT _ _ h (a_num {z = y}) (a_num {z = z}) = rw h (whole _ _ (gap_self z))
 sames TextT _ _ h (a_text {s = s}) (a_text {s = t}) = rw (h, text_refl t) (⊑-refl none)
 sames UnitT _ _ h a_unit a_unit = ⊑-refl none
@@ -226,7 +226,7 @@ sames (ArrowT A B) v w h j k = absurd h
 sames (BangT r A) _ _ h (a_bang {a = a}) (a_bang {a = c}) = (⊑-refl r ⊗ by_same A a c (sames A a c h) h) ⨾ mul-none r
 sames (BagT A) _ _ h (a_bag {xs = xs}) (a_bag {xs = ys}) = let e = permuted_zero xs ys h in whole _ _ (omega (arith, e))
 
-pub same_zero : (A : Ty) (v w : Value) → SameUpToOrder A v w → distance_of A v w ⊑ none
+pub same_zero : (A : Ty) (v w : Value) → SameUpToOrder A v w → distance_between A v w ⊑ none
 same_zero A v w h = by_same A v w (sames A v w h) h
 
 -- datasets

@@ -1,5 +1,5 @@
 -- The distance of two values of a ground type.
-use Rattle.std.specs.Prelude.{◌≡◌, ℕ, suc, List, [], ◌∷◌, length, Option, Some, None, cond, Bool, true, false, ◌&&◌, ℤ, ◌-ℤ◌, unsigned_abs, int_le, bytes_eq}
+use Rattle.std.specs.Prelude.{◌≡◌, ℕ, suc, List, [], ◌∷◌, length, Option, Some, None, cond, Bool, true, false, ◌&&◌, ℤ, ◌-ℤ◌, unsigned_abs, int_le, bytes_eq, ⊤}
 use Rattle.std.specs.List.Sorted.{IsPermutation}
 use Rattle.fz_frac.specs.Distance.{Distance, Fin, Inf, none, add, mul, greater}
 use Rattle.fz_ast.specs.Types.{Ty, NumT, TextT, UnitT, TensorT, WithT, SumT, BangT, BagT}
@@ -34,25 +34,25 @@ bag_distance [] ys = length ys
 bag_distance (x ∷ xs) ys = elim (without x ys) [ None ↦ suc (bag_distance xs ys) | Some zs ↦ bag_distance xs zs ]
 
 -- values that aren't both of the type are at inf
-abbrev pub distance_of : Ty → Value → Value → Distance
-distance_of NumT (NumV y) (NumV z) = Fin (gap y z) 1
-distance_of TextT (TextV s) (TextV t) = cond (bytes_eq s t) none Inf
-distance_of UnitT UnitV UnitV = none
-distance_of (TensorT A B) (PairV a b) (PairV c d) = add (distance_of A a c) (distance_of B b d)
-distance_of (WithT A B) (PairV a b) (PairV c d) = greater (distance_of A a c) (distance_of B b d)
-distance_of (SumT A B) (InlV a) (InlV b) = distance_of A a b
-distance_of (SumT A B) (InrV a) (InrV b) = distance_of B a b
-distance_of (SumT A B) (InlV a) (InrV b) = Inf
-distance_of (SumT A B) (InrV a) (InlV b) = Inf
-distance_of (BangT r A) (BangV a) (BangV b) = mul r (distance_of A a b)
-distance_of (BagT A) (BagV xs) (BagV ys) = Fin (bag_distance xs ys) 1
-distance_of A v w = Inf
+abbrev pub distance_between : Ty → Value → Value → Distance
+distance_between NumT (NumV y) (NumV z) = Fin (gap y z) 1
+distance_between TextT (TextV s) (TextV t) = cond (bytes_eq s t) none Inf
+distance_between UnitT UnitV UnitV = none
+distance_between (TensorT A B) (PairV a b) (PairV c d) = add (distance_between A a c) (distance_between B b d)
+distance_between (WithT A B) (PairV a b) (PairV c d) = greater (distance_between A a c) (distance_between B b d)
+distance_between (SumT A B) (InlV a) (InlV b) = distance_between A a b
+distance_between (SumT A B) (InrV a) (InrV b) = distance_between B a b
+distance_between (SumT A B) (InlV a) (InrV b) = Inf
+distance_between (SumT A B) (InrV a) (InlV b) = Inf
+distance_between (BangT r A) (BangV a) (BangV b) = mul r (distance_between A a b)
+distance_between (BagT A) (BagV xs) (BagV ys) = Fin (bag_distance xs ys) 1
+distance_between A v w = Inf
 
 -- values of a ground type that are equal up to the order of their bags
 abbrev pub SameUpToOrder : Ty → Value → Value → Type 0
 SameUpToOrder NumT (NumV y) (NumV z) = y ≡ z
 SameUpToOrder TextT (TextV s) (TextV t) = s ≡ t
-SameUpToOrder UnitT UnitV UnitV = Unit {0}
+SameUpToOrder UnitT UnitV UnitV = ⊤
 SameUpToOrder (TensorT A B) (PairV a b) (PairV c d) = SameUpToOrder A a c × SameUpToOrder B b d
 SameUpToOrder (WithT A B) (PairV a b) (PairV c d) = SameUpToOrder A a c × SameUpToOrder B b d
 SameUpToOrder (SumT A B) (InlV a) (InlV b) = SameUpToOrder A a b

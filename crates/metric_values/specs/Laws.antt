@@ -4,20 +4,20 @@ use Rattle.std.specs.Prelude.{List, length, ℕ, ◌+◌, ◌↔◌, ◌≡◌, 
 use Rattle.fz_frac.specs.Distance.{add, none, ◌⊑◌}
 use Rattle.fz_ast.specs.Limits.{TypeLimits}
 use Rattle.fz_ast.specs.Types.{Ty}
-use Rattle.metric_values.specs.Distances.{SameUpToOrder, bag_distance, distance_of}
+use Rattle.metric_values.specs.Distances.{SameUpToOrder, bag_distance, distance_between}
 use Rattle.metric_values.specs.Pairing.{Differ}
 use Rattle.metric_values.specs.Tables.{Dataset, SameRows, apart}
 use Rattle.metric_values.specs.Values.{Flat, Value}
 
 -- distance 0 is equality up to the order of bags
 abbrev pub ZeroIsSame : Type 0
-ZeroIsSame = (A : Ty) (v w : Value) → TypeLimits A → (distance_of A v w ⊑ none) ↔ SameUpToOrder A v w
+ZeroIsSame = (A : Ty) (v w : Value) → TypeLimits A → (distance_between A v w ⊑ none) ↔ SameUpToOrder A v w
 
 abbrev pub Symmetric : Type 0
-Symmetric = (A : Ty) (v w : Value) → distance_of A v w ⊑ distance_of A w v
+Symmetric = (A : Ty) (v w : Value) → distance_between A v w ⊑ distance_between A w v
 
 abbrev pub Triangle : Type 0
-Triangle = (A : Ty) (u v w : Value) → distance_of A u w ⊑ add (distance_of A u v) (distance_of A v w)
+Triangle = (A : Ty) (u v w : Value) → distance_between A u w ⊑ add (distance_between A u v) (distance_between A v w)
 
 -- what removal leaves can be paired off so, and no pairing leaves fewer
 abbrev pub RemovalLeavesLeast : Type 0

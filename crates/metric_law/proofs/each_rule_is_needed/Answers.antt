@@ -1,4 +1,4 @@
-use Rattle.metric_law.proofs.Needed.{compared_at_one, let_bang_undivided, map_without_inf, pair_by_maximum, removed_afterwards, text_compared_at_zero, unused_case}
+use Rattle.metric_law.proofs.Needed.{compared_at_one, filter_at_zero, let_bang_undivided, map_without_inf, pair_by_maximum, removed_afterwards, split_at_zero, text_compared_at_zero, unused_case, used_over_one}
 use Rattle.metric_law.proofs.each_rule_is_needed.Goals as goal
 
 pub returns-clause-unused_case : goal.returns-clause-unused_case
@@ -21,3 +21,12 @@ returns-clause-removal c = removed_afterwards
 
 pub returns-clause-mapping : goal.returns-clause-mapping
 returns-clause-mapping c = map_without_inf
+
+pub returns-clause-filter : goal.returns-clause-filter
+returns-clause-filter c = filter_at_zero
+
+pub returns-clause-split : goal.returns-clause-split
+returns-clause-split c = split_at_zero
+
+pub returns-clause-linear : goal.returns-clause-linear
+returns-clause-linear c = used_over_one
