@@ -7,11 +7,11 @@ use Rattle.fz_lexer.specs.declared.token.Token.{Token}
 use Rattle.fz_lexer.specs.declared.token.Kind.{Kind}
 use Rattle.fz_lexer.specs.declared.token.LexFault.{LexFault}
 use Rattle.fz_lexer.specs.declared.token.LexFault.TheVariants.{Bad, TooManyTokens, NoMemory}
-use Rattle.fz_lexer.specs.declared.front.Front.{Front}
-use Rattle.fz_lexer.specs.Bytes.{is_blank, each, stops}
+use Rattle.fz_lexer.specs.declared.prefix.TokenPrefix.{TokenPrefix}
+use Rattle.fz_lexer.specs.Bytes.{is_blank, every_byte, stops}
 use Rattle.fz_lexer.specs.Tokens.{IsToken, NoToken, Cut, AreTokens, IsLexed, ExplainsLex}
-use Rattle.fz_lexer.specs.Fronts.{IsFront}
-use Rattle.fz_lexer.proofs.Runs.{run_same, token_same, token_front}
+use Rattle.fz_lexer.specs.Prefixes.{IsTokenPrefix}
+use Rattle.fz_lexer.proofs.Runs.{run_same, token_same, token_start}
 
 abbrev token : Kind → ℕ → ℕ → Token
 token k f t = record { kind = k; span = record { from = f; to = t } }
@@ -26,7 +26,7 @@ from_blanks [] p w q r end last h g =
     let s = run_same is_blank h.0 end g.0 last h.2 h.3 g.2 g.3 e in
     ([], s.1, refl, g.3, omega (arith, h.4, g.4, ap length s.0))
 from_blanks (u ∷ us) p w q r end last h g =
-    let f = token_front g.1 g.2 u.kind g.5 in
+    let f = token_start g.1 g.2 u.kind g.5 in
     let e : h.0 ++ end ≡ g.0 ++ (g.1 ++ g.2) = sym h.1 ∙ g.3 in
     let s = run_same is_blank h.0 end g.0 (g.1 ++ g.2) h.2 h.3 g.4 f.0 e in
     ([], g.1, g.2, s.1, refl, g.5, omega (arith, h.4, g.6, ap length s.0), g.7, g.8)
@@ -39,8 +39,8 @@ pub split : (ts us : List Token) (p : ℕ) (w : List ℕ) (q r : ℕ) (end last 
 split [] us p w q r end last h g = inl (us, refl, from_blanks us p w q r end last h g)
 split (t ∷ ts) [] p w q r end last h g = inr (t ∷ ts, refl, from_blanks (t ∷ ts) p w r q last end g h)
 split (t ∷ ts) (u ∷ us) p w q r end last h g =
-    let f = token_front h.1 h.2 t.kind h.5 in
-    let f' = token_front g.1 g.2 u.kind g.5 in
+    let f = token_start h.1 h.2 t.kind h.5 in
+    let f' = token_start g.1 g.2 u.kind g.5 in
     let e : h.0 ++ (h.1 ++ h.2) ≡ g.0 ++ (g.1 ++ g.2) = sym h.3 ∙ g.3 in
     let s = run_same is_blank h.0 (h.1 ++ h.2) g.0 (g.1 ++ g.2) h.4 f.0 g.4 f'.0 e in
     let m = token_same h.1 h.2 g.1 g.2 t.kind u.kind h.5 g.5 s.1 in
@@ -55,7 +55,7 @@ split (t ∷ ts) (u ∷ us) p w q r end last h g =
 
 -- one more token
 cut_more : (ts : List Token) (t : Token) (p : ℕ) (w : List ℕ) (q : ℕ) (text after blanks end : List ℕ) → Cut p w ts q (text ++ after) → IsToken text after t.kind →
-    t.span.from ≡ q → t.span.to ≡ q + length text → after ≡ blanks ++ end → each is_blank blanks ≡ true → stops is_blank end ≡ true → Cut p w (ts ++ t ∷ []) (t.span.to + length blanks) end
+    t.span.from ≡ q → t.span.to ≡ q + length text → after ≡ blanks ++ end → every_byte is_blank blanks ≡ true → stops is_blank end ≡ true → Cut p w (ts ++ t ∷ []) (t.span.to + length blanks) end
 cut_more [] t p w q text after blanks end h k f g e b s = (h.0, text, after, h.1, h.2, k, omega (arith, f, h.4), omega arith, (blanks, e, b, s, refl))
 cut_more (u ∷ ts) t p w q text after blanks end h k f g e b s =
     (h.0, h.1, h.2, h.3, h.4, h.5, h.6, h.7, cut_more ts t u.span.to h.2 q text after blanks end h.8 k f g e b s)
@@ -63,7 +63,7 @@ cut_more (u ∷ ts) t p w q text after blanks end h k f g e b s =
 none_left : (vs : List Token) (q r : ℕ) → Cut q [] vs r [] → vs ≡ []
 none_left [] q r h = refl
 none_left (v ∷ vs) q r h =
-    let f = token_front h.1 h.2 v.kind h.5 in
+    let f = token_start h.1 h.2 v.kind h.5 in
     absurd (omega (arith, f.1, ap length h.3, length-append h.1 h.2, length-append h.0 (h.1 ++ h.2)))
 
 pub only : (w : List ℕ) (ts us : List Token) → AreTokens w ts → AreTokens w us → us ≡ ts
@@ -78,16 +78,16 @@ drop-drop (suc i) n [] = drop-nil n ∙ sym (drop-nil (suc i + n))
 drop-drop (suc i) n (b ∷ w) = let e : suc i + n ≡ suc (i + n) = omega arith in rw e (drop-drop i n w)
 
 -- the loop's state: the tokens so far, and what is left, which begins with no blank
-pub cut_start : (w : List ℕ) (n : ℕ) → n ≤ length w → each is_blank (take n w) ≡ true → stops is_blank (drop n w) ≡ true → Cut 0 w [] n (drop n w)
+pub cut_start : (w : List ℕ) (n : ℕ) → n ≤ length w → every_byte is_blank (take n w) ≡ true → stops is_blank (drop n w) ≡ true → Cut 0 w [] n (drop n w)
 cut_start w n l h s = (take n w, sym (take-append-drop n w), h, s, omega (arith, length-take n w))
 
-pub cut_on : (ts us : List Token) (w : List ℕ) (front : Front) (i j : ℕ) (R B : List ℕ) → R ≡ drop i w → B ≡ drop (i + front.len) w → i ≤ length w → Cut 0 w ts i (drop i w) →
-    IsFront R (Some front) → j ≤ length B → each is_blank (take j B) ≡ true → stops is_blank (drop j B) ≡ true →
-    us ≡ ts ++ (token front.kind i (i + front.len)) ∷ [] →
-    (i + front.len + j ≤ length w) × Cut 0 w us (i + front.len + j) (drop (i + front.len + j) w)
-cut_on ts us w front i j R B r b l h t lj e s u =
-    let n : ℕ = front.len in
-    let k : front.len ≡ length t.0 = t.3 in
+pub cut_on : (ts us : List Token) (w : List ℕ) (found : TokenPrefix) (i j : ℕ) (R B : List ℕ) → R ≡ drop i w → B ≡ drop (i + found.len) w → i ≤ length w → Cut 0 w ts i (drop i w) →
+    IsTokenPrefix R (Some found) → j ≤ length B → every_byte is_blank (take j B) ≡ true → stops is_blank (drop j B) ≡ true →
+    us ≡ ts ++ (token found.kind i (i + found.len)) ∷ [] →
+    (i + found.len + j ≤ length w) × Cut 0 w us (i + found.len + j) (drop (i + found.len + j) w)
+cut_on ts us w found i j R B r b l h t lj e s u =
+    let n : ℕ = found.len in
+    let k : found.len ≡ length t.0 = t.3 in
     let whole : drop i w ≡ t.0 ++ t.1 = sym r ∙ t.2 in
     let tail : drop n (t.0 ++ t.1) ≡ t.1 = ap (λ x. drop x (t.0 ++ t.1)) k ∙ drop-append_seam t.0 t.1 in
     let rest : t.1 ≡ B = sym tail ∙ ap (drop n) (sym whole) ∙ drop-drop i n w ∙ sym b in
@@ -95,16 +95,16 @@ cut_on ts us w front i j R B r b l h t lj e s u =
     let blanks : t.1 ≡ take j B ++ drop (i + n + j) w = rest ∙ sym (take-append-drop j B) ∙ ap (λ x. take j B ++ x) last in
     let h' : Cut 0 w ts i (t.0 ++ t.1) = subst (λ x. Cut 0 w ts i x) whole h in
     let s' : stops is_blank (drop (i + n + j) w) ≡ true = subst (λ x. stops is_blank x ≡ true) last s in
-    let c = cut_more ts (token front.kind i (i + n)) 0 w i t.0 t.1 (take j B) (drop (i + n + j) w) h' t.5 refl (omega arith) blanks e s' in
+    let c = cut_more ts (token found.kind i (i + n)) 0 w i t.0 t.1 (take j B) (drop (i + n + j) w) h' t.5 refl (omega arith) blanks e s' in
     let q : i + n + length (take j B) ≡ i + n + j = omega (arith, length-take j B) in
-    let c' : Cut 0 w (ts ++ (token front.kind i (i + n)) ∷ []) (i + n + j) (drop (i + n + j) w) = subst (λ x. Cut 0 w (ts ++ (token front.kind i (i + n)) ∷ []) x (drop (i + n + j) w)) q c in (
+    let c' : Cut 0 w (ts ++ (token found.kind i (i + n)) ∷ []) (i + n + j) (drop (i + n + j) w) = subst (λ x. Cut 0 w (ts ++ (token found.kind i (i + n)) ∷ []) x (drop (i + n + j) w)) q c in (
       omega (arith, lj, ap length b, length-drop (i + n) w, ap length whole, length-append t.0 t.1, length-drop i w),
       subst (λ x. Cut 0 w x (i + n + j) (drop (i + n + j) w)) (sym u) c',
     )
 
--- the token at the front lies in what is left
-pub front_within : (w R : List ℕ) (front : Front) (i : ℕ) → R ≡ drop i w → i ≤ length w → IsFront R (Some front) → (i + front.len ≤ length w) × (0 < front.len)
-front_within w R front i r l t = (omega (arith, t.3, ap length (sym t.2 ∙ r), length-append t.0 t.1, length-drop i w), omega (arith, t.3, t.4))
+-- the token that comes next lies in what is left
+pub prefix_within : (w R : List ℕ) (found : TokenPrefix) (i : ℕ) → R ≡ drop i w → i ≤ length w → IsTokenPrefix R (Some found) → (i + found.len ≤ length w) × (0 < found.len)
+prefix_within w R found i r l t = (omega (arith, t.3, ap length (sym t.2 ∙ r), length-append t.0 t.1, length-drop i w), omega (arith, t.3, t.4))
 
 pub lexed : (ts : List Token) (w : List ℕ) (i : ℕ) → i ≡ length w → Cut 0 w ts i (drop i w) → length w ≤ 16000 → length ts ≤ 4096 → IsLexed w ts
 lexed ts w i e h b c =
@@ -128,7 +128,7 @@ stuck [] q r end last c s n =
     let x = run_same is_blank [] end c.0 last refl s c.2 c.3 c.1 in
     (refl, omega (arith, c.4, ap length x.0), sym x.1)
 stuck (v ∷ vs) q r end last c s n =
-    let f = token_front c.1 c.2 v.kind c.5 in
+    let f = token_start c.1 c.2 v.kind c.5 in
     let x = run_same is_blank [] end c.0 (c.1 ++ c.2) refl s c.4 f.0 c.3 in
     absurd (n c.1 c.2 v.kind x.1 c.5)
 
@@ -149,9 +149,9 @@ refused w (Bad p) us (inr x) a = elim (split x.1 us 0 w p (length w) x.2 [] x.3 
 refused w (TooManyTokens p) us x a = elim (split x.1 us 0 w p (length w) (x.2 ++ x.3) [] x.5 a.tokens) [
   | inl v ↦ elim (goes_on v.0 p (length w) x.2 x.3 [] x.4 v.2 (cut_ends x.1 0 w p (x.2 ++ x.3) x.5) x.7) [
     | inl l ↦ absurd (omega (arith, l, x.6, ap length v.1, length-append x.1 v.0, a.count))
-    | inr e ↦ let f = token_front x.2 x.3 x.4 x.7 in absurd (omega (arith, f.1, ap length e.1, length-append x.2 x.3))
+    | inr e ↦ let f = token_start x.2 x.3 x.4 x.7 in absurd (omega (arith, f.1, ap length e.1, length-append x.2 x.3))
   ]
-  | inr v ↦ let f = token_front x.2 x.3 x.4 x.7 in absurd (omega (arith, f.1, cut_length v.0 (length w) p [] (x.2 ++ x.3) v.2, length-append x.2 x.3))
+  | inr v ↦ let f = token_start x.2 x.3 x.4 x.7 in absurd (omega (arith, f.1, cut_length v.0 (length w) p [] (x.2 ++ x.3) v.2, length-append x.2 x.3))
 ]
 refused w NoMemory us x a = refl
 

@@ -1,4 +1,6 @@
 pub mod Spellings
 pub mod Runs
-pub mod Fronts
+pub mod Prefixes
 pub mod Cuts
+pub mod Lexing
+pub mod Examples

@@ -6,23 +6,23 @@ use Rattle.std.proofs.lemmas.List.{append_cancel_left}
 use Rattle.std.proofs.lemmas.Bool.{and_parts, or_cases, cases_Bool, not-true, eqb-true, leb-true}
 use Rattle.fz_lexer.specs.declared.token.Kind.{Kind}
 use Rattle.fz_lexer.specs.declared.token.Kind.TheVariants.{Number, Text, Punctuation}
-use Rattle.fz_lexer.specs.Bytes.{is_blank, is_digit, is_letter, is_name, is_text, each, stops, value_from}
+use Rattle.fz_lexer.specs.Bytes.{is_blank, is_digit, is_letter, is_name_byte, is_text_byte, every_byte, stops, value_from}
 use Rattle.fz_lexer.specs.Signs.{mark}
-use Rattle.fz_lexer.specs.Tokens.{IsReservedOrName, IsName, IsNumber, IsText, IsSign, IsToken}
+use Rattle.fz_lexer.specs.Tokens.{IsReservedOrName, IsNameToken, IsNumberToken, IsTextToken, IsSignToken, IsToken}
 use Rattle.fz_lexer.proofs.Spellings.{spelling-same, mark-same, SortStart, sign_start, mark_some}
 
-pub run_same : (f : ℕ → Bool) (a x b y : List ℕ) → each f a ≡ true → stops f x ≡ true → each f b ≡ true → stops f y ≡ true → a ++ x ≡ b ++ y → (a ≡ b) × (x ≡ y)
+pub run_same : (f : ℕ → Bool) (a x b y : List ℕ) → every_byte f a ≡ true → stops f x ≡ true → every_byte f b ≡ true → stops f y ≡ true → a ++ x ≡ b ++ y → (a ≡ b) × (x ≡ y)
 run_same f [] x [] y h i k j e = (refl, e)
 run_same f [] [] (b ∷ bs) y h i k j e = absurd (cc e)
 run_same f [] (c ∷ x) (b ∷ bs) y h i k j e =
-    let p = and_parts (f b) (each f bs) k in let q : c ≡ b = cc e in
+    let p = and_parts (f b) (every_byte f bs) k in let q : c ≡ b = cc e in
     let n : f c ≡ false = not-true (f c) i in absurd (cc (p.0, n, ap f q))
 run_same f (a ∷ ar) x [] [] h i k j e = absurd (cc e)
 run_same f (a ∷ ar) x [] (c ∷ y) h i k j e =
-    let p = and_parts (f a) (each f ar) h in let q : c ≡ a = cc e in
+    let p = and_parts (f a) (every_byte f ar) h in let q : c ≡ a = cc e in
     let n : f c ≡ false = not-true (f c) j in absurd (cc (p.0, n, ap f q))
 run_same f (a ∷ ar) x (b ∷ bs) y h i k j e =
-    let p = and_parts (f a) (each f ar) h in let q = and_parts (f b) (each f bs) k in
+    let p = and_parts (f a) (every_byte f ar) h in let q = and_parts (f b) (every_byte f bs) k in
     let t : ar ++ x ≡ bs ++ y = cc e in
     let r = run_same f ar x bs y p.1 i q.1 j t in
     (cc (e, r.0), r.1)
@@ -84,7 +84,7 @@ pub record Starts (text : List ℕ) (s : ℕ) : Type 0 where
   pub over : (after : List ℕ) → stops is_blank (text ++ after) ≡ true
   pub some : 0 < length text
 
-pub name_starts : (text after : List ℕ) (kind : Kind) → IsName text after kind → Starts text 1
+pub name_starts : (text after : List ℕ) (kind : Kind) → IsNameToken text after kind → Starts text 1
 unfolding sort_of
 name_starts [] after kind h = absurd (cc h.first)
 name_starts (b ∷ w) after kind h = record {
@@ -97,7 +97,7 @@ pub digit_starts : (b : ℕ) → is_digit b ≡ true → sort_of b ≡ 2
 unfolding sort_of
 digit_starts b h = let r = digit_range b h in rw (no_letter b r.1, h) refl
 
-pub number_starts : (text after : List ℕ) (kind : Kind) → IsNumber text after kind → Starts text 2
+pub number_starts : (text after : List ℕ) (kind : Kind) → IsNumberToken text after kind → Starts text 2
 unfolding sort_of
 number_starts [] after kind h = absurd (cc h.some)
 number_starts (b ∷ w) after kind h =
@@ -111,7 +111,7 @@ pub quote_sort : sort_of 34 ≡ 3
 unfolding sort_of is_letter is_digit
 quote_sort = refl
 
-pub text_starts : (text after : List ℕ) (kind : Kind) → IsText text after kind → Starts text 3
+pub text_starts : (text after : List ℕ) (kind : Kind) → IsTextToken text after kind → Starts text 3
 text_starts text after kind h =
     let e : 34 ∷ (h.inner ++ 34 ∷ []) ≡ text = sym h.quoted in
     subst (λ x. Starts x 3) e (record { sort = λ x. quote_sort; over = λ x. not_blank 34 (omega arith); some = omega arith })
@@ -128,7 +128,7 @@ mark_starts (b ∷ w) l h = record {
   some = omega arith;
 }
 
-pub sign_starts : (text after : List ℕ) (kind : Kind) → IsSign text after kind → Starts text 0
+pub sign_starts : (text after : List ℕ) (kind : Kind) → IsSignToken text after kind → Starts text 0
 sign_starts text after kind h = subst (λ x. Starts x 0) (sym h.stands.0) (mark_starts (mark h.sign) (mark_some h.sign) (sign_start h.sign))
 
 -- a token is the only one at its place
@@ -143,35 +143,35 @@ word_same a b k m e (inl h) (inr g) = absurd (g.0 h.0 (sym e ∙ h.1))
 word_same a b k m e (inr h) (inl g) = absurd (h.0 g.0 (e ∙ g.1))
 word_same a b k m e (inr h) (inr g) = cc (h.1, g.1, e)
 
-names_same : (a x b y : List ℕ) (k m : Kind) → IsName a x k → IsName b y m → a ++ x ≡ b ++ y → Same a x b y k m
+names_same : (a x b y : List ℕ) (k m : Kind) → IsNameToken a x k → IsNameToken b y m → a ++ x ≡ b ++ y → Same a x b y k m
 names_same a x b y k m h g e =
-    let r = run_same is_name a x b y h.every h.ends g.every g.ends e in
+    let r = run_same is_name_byte a x b y h.every h.ends g.every g.ends e in
     record { text = r.0; after = r.1; kind = word_same a b k m r.0 h.is g.is }
 
-numbers_same : (a x b y : List ℕ) (k m : Kind) → IsNumber a x k → IsNumber b y m → a ++ x ≡ b ++ y → Same a x b y k m
+numbers_same : (a x b y : List ℕ) (k m : Kind) → IsNumberToken a x k → IsNumberToken b y m → a ++ x ≡ b ++ y → Same a x b y k m
 numbers_same a x b y k m h g e =
     let r = run_same is_digit a x b y h.every h.ends g.every g.ends e in
     record { text = r.0; after = r.1; kind = h.is ∙ ap (λ w. Number (value_from 0 w)) r.0 ∙ sym g.is }
 
-quote_stops : (x : List ℕ) → stops is_text (34 ∷ x) ≡ true
-unfolding is_text
+quote_stops : (x : List ℕ) → stops is_text_byte (34 ∷ x) ≡ true
+unfolding is_text_byte
 quote_stops x = refl
 
-text_front : (a b : List ℕ) (x y : List ℕ) → 34 ∷ (a ++ 34 ∷ []) ++ x ≡ 34 ∷ (b ++ 34 ∷ []) ++ y → a ++ (34 ∷ x) ≡ b ++ (34 ∷ y)
-text_front a b x y e =
+text_start : (a b : List ℕ) (x y : List ℕ) → 34 ∷ (a ++ 34 ∷ []) ++ x ≡ 34 ∷ (b ++ 34 ∷ []) ++ y → a ++ (34 ∷ x) ≡ b ++ (34 ∷ y)
+text_start a b x y e =
     let t : (a ++ 34 ∷ []) ++ x ≡ (b ++ 34 ∷ []) ++ y = cc e in
     sym (append_assoc a (34 ∷ []) x) ∙ t ∙ append_assoc b (34 ∷ []) y
 
-texts_same : (a x b y : List ℕ) (k m : Kind) → IsText a x k → IsText b y m → a ++ x ≡ b ++ y → Same a x b y k m
+texts_same : (a x b y : List ℕ) (k m : Kind) → IsTextToken a x k → IsTextToken b y m → a ++ x ≡ b ++ y → Same a x b y k m
 texts_same a x b y k m h g e =
     let t : 34 ∷ (h.inner ++ 34 ∷ []) ++ x ≡ 34 ∷ (g.inner ++ 34 ∷ []) ++ y = sym (ap (λ w. w ++ x) h.quoted) ∙ e ∙ ap (λ w. w ++ y) g.quoted in
-    let r = run_same is_text h.inner (34 ∷ x) g.inner (34 ∷ y) h.every (quote_stops x) g.every (quote_stops y) (text_front h.inner g.inner x y t) in
+    let r = run_same is_text_byte h.inner (34 ∷ x) g.inner (34 ∷ y) h.every (quote_stops x) g.every (quote_stops y) (text_start h.inner g.inner x y t) in
     record { text = h.quoted ∙ ap (λ w. 34 ∷ (w ++ 34 ∷ [])) r.0 ∙ sym g.quoted; after = cc r.1; kind = h.is ∙ ap Text r.0 ∙ sym g.is }
 
 parts_same : (a x b y : List ℕ) → length a ≡ length b → a ++ x ≡ b ++ y → a ≡ b
 parts_same a x b y l e = sym (take-append_seam a x) ∙ ap (take (length a)) e ∙ ap (λ n. take n (b ++ y)) l ∙ take-append_seam b y
 
-signs_same : (a x b y : List ℕ) (k m : Kind) → IsSign a x k → IsSign b y m → a ++ x ≡ b ++ y → Same a x b y k m
+signs_same : (a x b y : List ℕ) (k m : Kind) → IsSignToken a x k → IsSignToken b y m → a ++ x ≡ b ++ y → Same a x b y k m
 signs_same a x b y k m h g e =
     let l = h.longest g.sign b y e g.stands in
     let r = g.longest h.sign a x (sym e) h.stands in
@@ -200,8 +200,8 @@ token_same a x b y k m (inr (inr (inr h))) (inl g) e = absurd (omega (arith, cla
 token_same a x b y k m (inr (inr (inr h))) (inr (inl g)) e = absurd (omega (arith, clash a x b y 0 2 (sign_starts a x k h) (number_starts b y m g) e))
 token_same a x b y k m (inr (inr (inr h))) (inr (inr (inl g))) e = absurd (omega (arith, clash a x b y 0 3 (sign_starts a x k h) (text_starts b y m g) e))
 
-pub token_front : (a x : List ℕ) (k : Kind) → IsToken a x k → (stops is_blank (a ++ x) ≡ true) × (0 < length a)
-token_front a x k (inl h) = let s = name_starts a x k h in (s.over x, s.some)
-token_front a x k (inr (inl h)) = let s = number_starts a x k h in (s.over x, s.some)
-token_front a x k (inr (inr (inl h))) = let s = text_starts a x k h in (s.over x, s.some)
-token_front a x k (inr (inr (inr h))) = let s = sign_starts a x k h in (s.over x, s.some)
+pub token_start : (a x : List ℕ) (k : Kind) → IsToken a x k → (stops is_blank (a ++ x) ≡ true) × (0 < length a)
+token_start a x k (inl h) = let s = name_starts a x k h in (s.over x, s.some)
+token_start a x k (inr (inl h)) = let s = number_starts a x k h in (s.over x, s.some)
+token_start a x k (inr (inr (inl h))) = let s = text_starts a x k h in (s.over x, s.some)
+token_start a x k (inr (inr (inr h))) = let s = sign_starts a x k h in (s.over x, s.some)

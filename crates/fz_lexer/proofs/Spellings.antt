@@ -1,6 +1,6 @@
 -- No two reserved words, and no two signs, have the same bytes, and the code's tables hold all of them.
 use Rattle.std.proofs.Common.{◌≡◌, ℕ, ◌<◌, ◌≤◌, List, [], ◌∷◌, Bool, true, false, cond, get_or, refl, arith, sym, ap, ◌∙◌, length, zero, suc, inl, inr}
-use Rattle.std.proofs.lemmas.Bool.{cases_Bool, cases_eq, eqb-true, ltb-false, le-ltb}
+use Rattle.std.proofs.lemmas.Bool.{cases_Bool, cases_eq, and_parts, and_from, eqb-true, eq-eqb, ltb-false, le-ltb}
 use Rattle.std.specs.Prelude.{◌&&◌, nat_eq, nat_lt}
 use Rattle.fz_lexer.specs.declared.token.Word.{Word}
 use Rattle.fz_lexer.specs.declared.token.Sign.{Sign}
@@ -12,22 +12,33 @@ use Rattle.fz_lexer.specs.Words.{spelling}
 use Rattle.fz_lexer.specs.Signs.{mark}
 use Rattle.fz_lexer.specs.Bytes.{is_letter, is_digit}
 
-same : List ℕ → List ℕ → Bool
+unfoldable pub same : List ℕ → List ℕ → Bool
 same [] [] = true
 same [] (b ∷ w) = false
 same (a ∷ v) [] = false
 same (a ∷ v) (b ∷ w) = nat_eq a b && same v w
 
-find_word : List Word → List ℕ → Word
+unfoldable pub find_word : List Word → List ℕ → Word
 find_word [] w = At
 find_word (x ∷ xs) w = cond (same (spelling x) w) x (find_word xs w)
 
+pub same_self : (w : List ℕ) → same w w ≡ true
+unfolding same
+same_self [] = refl
+same_self (b ∷ w) = and_from (nat_eq b b) (same w w) (eq-eqb b b refl) (same_self w)
+
+pub same_is : (v w : List ℕ) → same v w ≡ true → v ≡ w
+unfolding same
+same_is [] [] h = refl
+same_is [] (b ∷ w) h = absurd (cc h)
+same_is (a ∷ v) [] h = absurd (cc h)
+same_is (a ∷ v) (b ∷ w) h = let p = and_parts (nat_eq a b) (same v w) h in cc (eqb-true a b p.0, same_is v w p.1)
+
 -- the word with these bytes
-word_with : List ℕ → Word
-unfolding same find_word
+unfoldable pub word_with : List ℕ → Word
 word_with w = find_word WORDS w
 
-word_back : (x : Word) → word_with (spelling x) ≡ x
+pub word_back : (x : Word) → word_with (spelling x) ≡ x
 unfolding same find_word word_with spelling
 word_back Fun = refl
 word_back Fn = refl

@@ -14,23 +14,23 @@ is_digit b = nat_le 48 b && nat_le b 57
 unfoldable pub is_letter : ℕ → Bool
 is_letter b = (nat_le 97 b && nat_le b 122) || (nat_le 65 b && nat_le b 90) || (b == 95)
 
-unfoldable pub is_name : ℕ → Bool
-is_name b = is_letter b || is_digit b
+unfoldable pub is_name_byte : ℕ → Bool
+is_name_byte b = is_letter b || is_digit b
 
 -- 0x20 to 0x7E without the quote, or 0x80 on
-unfoldable pub is_text : ℕ → Bool
-is_text b = (nat_le 32 b && nat_le b 126 && not (b == 34)) || nat_le 128 b
+unfoldable pub is_text_byte : ℕ → Bool
+is_text_byte b = (nat_le 32 b && nat_le b 126 && not (b == 34)) || nat_le 128 b
 
 abbrev pub within : Class → ℕ → Bool
 within Blank b = is_blank b
-within Name b = is_name b
+within Name b = is_name_byte b
 within Digit b = is_digit b
-within Text b = is_text b
+within Text b = is_text_byte b
 
 -- each byte passes
-abbrev pub each : (ℕ → Bool) → List ℕ → Bool
-each f [] = true
-each f (b ∷ w) = f b && each f w
+abbrev pub every_byte : (ℕ → Bool) → List ℕ → Bool
+every_byte f [] = true
+every_byte f (b ∷ w) = f b && every_byte f w
 
 -- there is a first byte, and it passes
 abbrev pub begins : (ℕ → Bool) → List ℕ → Bool

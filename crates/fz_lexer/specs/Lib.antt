@@ -2,4 +2,4 @@ pub mod Bytes
 pub mod Words
 pub mod Signs
 pub mod Tokens
-pub mod Fronts
+pub mod Prefixes

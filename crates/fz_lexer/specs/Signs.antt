@@ -1,8 +1,8 @@
 -- The signs.
-use Rattle.std.specs.Prelude.{◌≡◌, ◌≤◌, ℕ, List, ◌++◌, codes, Bool, true, length}
+use Rattle.std.specs.Prelude.{◌≡◌, ◌≤◌, ℕ, List, ◌++◌, codes, Bool, true, length, take, drop}
 use Rattle.fz_lexer.specs.declared.token.Sign.{Sign}
 use Rattle.fz_lexer.specs.declared.token.Sign.TheVariants.{Yields, Arrow, Lollipop, AtMost, EqualTo, LeftParenthesis, RightParenthesis, LeftAngle, RightAngle, LeftBracket, RightBracket, Comma, Colon, Is, Bang, Bar, Plus, Minus, Star, Ampersand, Slash}
-use Rattle.fz_lexer.specs.Bytes.{is_name, stops}
+use Rattle.fz_lexer.specs.Bytes.{is_name_byte, stops}
 
 unfoldable pub mark : Sign → List ℕ
 mark Yields = codes "=>"
@@ -29,14 +29,22 @@ mark Slash = codes "/"
 
 -- what may follow a sign: after `-o` no name byte
 unfoldable pub may_follow : Sign → List ℕ → Bool
-may_follow Lollipop after = stops is_name after
+may_follow Lollipop after = stops is_name_byte after
 may_follow _ after = true
 
 -- the text is the sign, where these bytes follow it
-abbrev pub Stands : Sign → List ℕ → List ℕ → Type 0
-Stands sign text after = (text ≡ mark sign) × (may_follow sign after ≡ true)
+abbrev pub SpellsSign : Sign → List ℕ → List ℕ → Type 0
+SpellsSign sign text after = (text ≡ mark sign) × (may_follow sign after ≡ true)
 
 -- and no longer sign begins there
 abbrev pub IsLongest : Sign → List ℕ → List ℕ → Type 0
 IsLongest sign text after =
-    (other : Sign) (front rest : List ℕ) → text ++ after ≡ front ++ rest → Stands other front rest → length front ≤ length text
+    (other : Sign) (word rest : List ℕ) → text ++ after ≡ word ++ rest → SpellsSign other word rest → length word ≤ length text
+
+-- the sign begins the bytes, and no longer one does
+abbrev pub IsLongestSign : List ℕ → Sign → Type 0
+IsLongestSign w sign = let n = length (mark sign) in SpellsSign sign (take n w) (drop n w) × IsLongest sign (take n w) (drop n w)
+
+-- no sign begins the bytes
+abbrev pub NoSign : List ℕ → Type 0
+NoSign w = (sign : Sign) (text after : List ℕ) → w ≡ text ++ after → SpellsSign sign text after → ⊥

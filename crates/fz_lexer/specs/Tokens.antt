@@ -1,5 +1,5 @@
 -- The cut of a program into blanks and longest tokens.
-use Rattle.std.specs.Prelude.{◌≡◌, ℕ, ◌+◌, ◌^◌, ◌<◌, ◌≤◌, List, [], ◌∷◌, ◌++◌, length, true, ◌⊎◌}
+use Rattle.std.specs.Prelude.{◌≡◌, ℕ, ◌+◌, ◌^◌, ◌<◌, ◌≤◌, List, [], ◌∷◌, ◌++◌, length, true, ◌⊎◌, ⊤}
 use Rattle.fz_lexer.specs.declared.token.Token.{Token}
 use Rattle.fz_lexer.specs.declared.token.Kind.{Kind}
 use Rattle.fz_lexer.specs.declared.token.Kind.TheVariants.{Name, Number, Text, Reserved, Punctuation}
@@ -7,9 +7,9 @@ use Rattle.fz_lexer.specs.declared.token.Word.{Word}
 use Rattle.fz_lexer.specs.declared.token.Sign.{Sign}
 use Rattle.fz_lexer.specs.declared.token.LexFault.{LexFault}
 use Rattle.fz_lexer.specs.declared.token.LexFault.TheVariants.{Bad, TooManyTokens, NoMemory}
-use Rattle.fz_lexer.specs.Bytes.{is_blank, is_digit, is_letter, is_name, is_text, each, begins, stops, value_from}
+use Rattle.fz_lexer.specs.Bytes.{is_blank, is_digit, is_letter, is_name_byte, is_text_byte, every_byte, begins, stops, value_from}
 use Rattle.fz_lexer.specs.Words.{spelling}
-use Rattle.fz_lexer.specs.Signs.{Stands, IsLongest}
+use Rattle.fz_lexer.specs.Signs.{SpellsSign, IsLongest}
 
 -- a whole run of name bytes is a reserved word, or else a name
 abbrev pub IsReservedOrName : List ℕ → Kind → Type 0
@@ -17,35 +17,35 @@ IsReservedOrName text kind =
     ((word : Word) × (text ≡ spelling word) × (kind ≡ Reserved word)) ⊎ (((word : Word) → text ≡ spelling word → ⊥) × (kind ≡ Name text))
 
 -- Each of these says that the text is one whole token where `after` follows it.
-pub record IsName (text after : List ℕ) (kind : Kind) : Type 0 where
+pub record IsNameToken (text after : List ℕ) (kind : Kind) : Type 0 where
   pub first : begins is_letter text ≡ true
-  pub every : each is_name text ≡ true
-  pub ends : stops is_name after ≡ true
+  pub every : every_byte is_name_byte text ≡ true
+  pub ends : stops is_name_byte after ≡ true
   pub short : length text ≤ 32
   pub is : IsReservedOrName text kind
 
-pub record IsNumber (text after : List ℕ) (kind : Kind) : Type 0 where
+pub record IsNumberToken (text after : List ℕ) (kind : Kind) : Type 0 where
   pub some : begins is_digit text ≡ true
-  pub every : each is_digit text ≡ true
+  pub every : every_byte is_digit text ≡ true
   pub ends : stops is_digit after ≡ true
   pub small : value_from 0 text ≤ 2 ^ 50
   pub is : kind ≡ Number (value_from 0 text)
 
-pub record IsText (text after : List ℕ) (kind : Kind) : Type 0 where
+pub record IsTextToken (text after : List ℕ) (kind : Kind) : Type 0 where
   pub inner : List ℕ
   pub quoted : text ≡ 34 ∷ (inner ++ 34 ∷ [])
-  pub every : each is_text inner ≡ true
+  pub every : every_byte is_text_byte inner ≡ true
   pub short : length inner ≤ 64
   pub is : kind ≡ Text inner
 
-pub record IsSign (text after : List ℕ) (kind : Kind) : Type 0 where
+pub record IsSignToken (text after : List ℕ) (kind : Kind) : Type 0 where
   pub sign : Sign
-  pub stands : Stands sign text after
+  pub stands : SpellsSign sign text after
   pub longest : IsLongest sign text after
   pub is : kind ≡ Punctuation sign
 
 abbrev pub IsToken : List ℕ → List ℕ → Kind → Type 0
-IsToken text after kind = IsName text after kind ⊎ (IsNumber text after kind ⊎ (IsText text after kind ⊎ IsSign text after kind))
+IsToken text after kind = IsNameToken text after kind ⊎ (IsNumberToken text after kind ⊎ (IsTextToken text after kind ⊎ IsSignToken text after kind))
 
 -- no token begins these bytes
 abbrev pub NoToken : List ℕ → Type 0
@@ -53,9 +53,9 @@ NoToken w = (text after : List ℕ) (kind : Kind) → w ≡ text ++ after → Is
 
 -- From place p on, w is these tokens, each after blanks; then blanks to place q, and then `end`, which begins with no blank.
 abbrev pub Cut : ℕ → List ℕ → List Token → ℕ → List ℕ → Type 0
-Cut p w [] q end = (blanks : List ℕ) × (w ≡ blanks ++ end) × (each is_blank blanks ≡ true) × (stops is_blank end ≡ true) × (q ≡ p + length blanks)
+Cut p w [] q end = (blanks : List ℕ) × (w ≡ blanks ++ end) × (every_byte is_blank blanks ≡ true) × (stops is_blank end ≡ true) × (q ≡ p + length blanks)
 Cut p w (t ∷ ts) q end =
-    (blanks : List ℕ) × (text : List ℕ) × (after : List ℕ) × (w ≡ blanks ++ (text ++ after)) × (each is_blank blanks ≡ true) ×
+    (blanks : List ℕ) × (text : List ℕ) × (after : List ℕ) × (w ≡ blanks ++ (text ++ after)) × (every_byte is_blank blanks ≡ true) ×
     IsToken text after t.kind × (t.span.from ≡ p + length blanks) × (t.span.to ≡ t.span.from + length text) × Cut t.span.to after ts q end
 
 -- the whole text is these tokens
@@ -76,4 +76,8 @@ ExplainsLex w (Bad place) =
 ExplainsLex w (TooManyTokens place) =
     (length w ≤ 16000) × (ts : List Token) × (text : List ℕ) × (after : List ℕ) × (kind : Kind) ×
     Cut 0 w ts place (text ++ after) × (length ts ≡ 4096) × IsToken text after kind
-ExplainsLex w NoMemory = Unit {0}
+ExplainsLex w NoMemory = ⊤
+
+-- the text is tokens, or has a fault other than want of memory
+abbrev pub IsLexedOrRefused : List ℕ → Type 0
+IsLexedOrRefused w = ((ts : List Token) × IsLexed w ts) ⊎ ((fault : LexFault) × (fault ≡ NoMemory → ⊥) × ExplainsLex w fault)

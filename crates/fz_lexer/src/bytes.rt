@@ -1,5 +1,6 @@
+//! Classes of bytes, and runs of them.
 ghost use Rattle.std.specs.Prelude.{◌≡◌, ◌≤◌, ◌↔◌, IsTrue, true, length, take, drop};
-ghost use Rattle.fz_lexer.specs.Bytes.{is_blank, is_digit, is_letter, is_name, is_text, within, each, stops};
+ghost use Rattle.fz_lexer.specs.Bytes.{is_blank, is_digit, is_letter, is_name_byte, is_text_byte, within, every_byte, stops};
 
 /// Bytes that go together.
 #[derive(Clone, Copy, Debug, PartialEq, Eq)]
@@ -24,9 +25,9 @@ pub fn is_letter(b: u8) -> bool
     97 <= b && b <= 122 || 65 <= b && b <= 90 || b == 95
 }
 
-#[tactic(auto, unfolding(crate::specs::Bytes::is_name))]
-pub fn is_name(b: u8) -> bool
-    ensures { result ≡ is_name b }
+#[tactic(auto, unfolding(crate::specs::Bytes::is_name_byte))]
+pub fn is_name_byte(b: u8) -> bool
+    ensures { result ≡ is_name_byte b }
 {
     is_letter(b) || is_digit(b)
 }
@@ -38,9 +39,9 @@ fn is_blank(b: u8) -> bool
     b == 32 || b == 9 || b == 13 || b == 10
 }
 
-#[tactic(auto, unfolding(crate::specs::Bytes::is_text))]
-fn is_text(b: u8) -> bool
-    ensures { result ≡ is_text b }
+#[tactic(auto, unfolding(crate::specs::Bytes::is_text_byte))]
+fn is_text_byte(b: u8) -> bool
+    ensures { result ≡ is_text_byte b }
 {
     32 <= b && b <= 126 && b != 34 || 128 <= b
 }
@@ -50,16 +51,16 @@ fn is_within(class: Class, b: u8) -> bool
 {
     match class {
         Class::Blank => is_blank(b),
-        Class::Name => is_name(b),
+        Class::Name => is_name_byte(b),
         Class::Digit => is_digit(b),
-        Class::Text => is_text(b),
+        Class::Text => is_text_byte(b),
     }
 }
 
-/// How many bytes at the front are in the class.
+/// How many of the first bytes are in the class.
 pub fn run(bytes: &[u8], class: Class) -> usize
     ensures within { result ≤ length bytes.now }
-    ensures each { each (within class) (take result bytes.now) ≡ true }
+    ensures each { every_byte (within class) (take result bytes.now) ≡ true }
     ensures stops { stops (within class) (drop result bytes.now) ≡ true }
 {
     let mut n = 0;

@@ -1,10 +1,12 @@
+//! The cut of a program into its tokens.
 ghost use Rattle.std.specs.Prelude.{◌≡◌, ◌≢◌, ◌≤◌, ◌+◌, ◌∷◌, ◌++◌, [], ℕ, List, length, IfOk, IfErr};
-ghost use Rattle.fz_lexer.specs.Tokens.{AreTokens, IsLexed, ExplainsLex};
+ghost use Rattle.fz_lexer.specs.Prefixes.{token_at};
+ghost use Rattle.fz_lexer.specs.Tokens.{AreTokens, IsLexed, ExplainsLex, IsLexedOrRefused};
 ghost use Rattle.fz_lexer.specs.declared.token.Token.{Token};
 ghost use Rattle.fz_lexer.specs.declared.token.LexFault.{LexFault};
 
 use crate::bytes::{Class, run};
-use crate::front::{Front, front_token};
+use crate::prefix::{TokenPrefix, token_prefix};
 use crate::token::{LexFault, Token};
 use fz_ast::span::Span;
 use std::alloc::{AllocError, Global};
@@ -25,16 +27,16 @@ impl From<AllocError> for LexFault {
 }
 
 /// Puts a token that begins at a place to the others.
-fn add(tokens: &mut Vec<Token>, front: Front, place: usize) -> Result<(), AllocError>
-    requires { place + front.len ≤ 16000 }
-    ensures { IfOk result (λ _. tokens.new.items ≡ tokens.old.items ++ (record { kind = front.kind; span = record { from = place; to = place + front.len } }) ∷ []) }
+fn add(tokens: &mut Vec<Token>, found: TokenPrefix, place: usize) -> Result<(), AllocError>
+    requires { place + found.len ≤ 16000 }
+    ensures { IfOk result (λ _. tokens.new.items ≡ tokens.old.items ++ token_at place found ∷ []) }
 {
     let span = Span {
         from: place as u32,
-        to: (place + front.len) as u32,
+        to: (place + found.len) as u32,
     };
     tokens.push(Token {
-        kind: front.kind,
+        kind: found.kind,
         span,
     })?;
     Ok(())
@@ -56,7 +58,7 @@ pub fn lex(alloc: Global, bytes: &[u8]) -> Result<Vec<Token>, LexFault>
     let mut tokens = Vec::new(alloc);
     let mut place = run(bytes, Class::Blank);
     while place < bytes.len() {
-        match front_token(alloc, &bytes[place..])? {
+        match token_prefix(alloc, &bytes[place..])? {
             None => return Err(LexFault::Bad {
                 place: place as u32,
             }),
@@ -87,5 +89,11 @@ pub fn refused_is_none()
 
 /// Nothing but want of memory can stand in the place of a program's fault.
 pub fn one_fault()
-    ensures { (w : List ℕ) (fault other : LexFault) → ExplainsLex w fault → ExplainsLex w other → fault ≢ LexFault.NoMemory → other ≢ LexFault.NoMemory → other ≡ fault }
+    ensures { (w : List ℕ) (fault other : LexFault) → ExplainsLex w fault → ExplainsLex w other →
+        fault ≢ LexFault.NoMemory → other ≢ LexFault.NoMemory → other ≡ fault }
+{}
+
+/// Any bytes are the tokens of a program, or have a fault that is no want of memory.
+pub fn every_text_is_lexed()
+    ensures { (w : List ℕ) → IsLexedOrRefused w }
 {}

@@ -1,9 +1,10 @@
+//! The signs.
 ghost use Rattle.std.specs.Prelude.{◌≡◌, ◌≤◌, ◌++◌, ℕ, List, true, false, IfSome, IfNone, length, take, drop};
-ghost use Rattle.fz_lexer.specs.Bytes.{stops, is_name};
-ghost use Rattle.fz_lexer.specs.Signs.{mark, may_follow, Stands, IsLongest};
+ghost use Rattle.fz_lexer.specs.Bytes.{stops, is_name_byte};
+ghost use Rattle.fz_lexer.specs.Signs.{mark, may_follow, SpellsSign, IsLongestSign, NoSign};
 ghost use Rattle.fz_lexer.specs.declared.token.Sign.{Sign};
 
-use crate::bytes::{is_name, is_same};
+use crate::bytes::{is_name_byte, is_same};
 use crate::token::Sign;
 
 /// The longer ones first.
@@ -65,28 +66,28 @@ fn may_follow(sign: Sign, after: &[u8]) -> bool
     ensures { result ≡ may_follow sign after.now }
 {
     match sign {
-        Sign::Lollipop => after.is_empty() || !is_name(after[0]),
+        Sign::Lollipop => after.is_empty() || !is_name_byte(after[0]),
         _ => true,
     }
 }
 
-/// Whether the sign stands at the front.
+/// Whether the bytes begin with the sign.
 fn stands(sign: Sign, bytes: &[u8]) -> bool
-    ensures yes { result ≡ true → Stands sign (take (length (mark sign)) bytes.now) (drop (length (mark sign)) bytes.now) }
-    ensures no { result ≡ false → (text after : List ℕ) → bytes.now ≡ text ++ after → Stands sign text after → ⊥ }
+    ensures yes { result ≡ true → SpellsSign sign (take (length (mark sign)) bytes.now) (drop (length (mark sign)) bytes.now) }
+    ensures no { result ≡ false → (text after : List ℕ) → bytes.now ≡ text ++ after → SpellsSign sign text after → ⊥ }
 {
     let mark = mark(sign);
     if bytes.len() < mark.len() {
         return false;
     }
-    let (front, after) = bytes.split_at(mark.len());
-    is_same(front, mark) && may_follow(sign, after)
+    let (text, after) = bytes.split_at(mark.len());
+    is_same(text, mark) && may_follow(sign, after)
 }
 
-/// The longest sign at the front.
+/// The longest sign that begins the bytes.
 pub fn sign_at(bytes: &[u8]) -> Option<Sign>
-    ensures found { IfSome result (λ sign. let n = length (mark sign) in Stands sign (take n bytes.now) (drop n bytes.now) × IsLongest sign (take n bytes.now) (drop n bytes.now)) }
-    ensures none { IfNone result ((sign : Sign) (text after : List ℕ) → bytes.now ≡ text ++ after → Stands sign text after → ⊥) }
+    ensures found { IfSome result (IsLongestSign bytes.now) }
+    ensures none { IfNone result (NoSign bytes.now) }
 {
     for i in 0..SIGNS.len() {
         let sign = SIGNS[i];

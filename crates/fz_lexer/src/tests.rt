@@ -1,3 +1,4 @@
+//! Programs by hand, and a plain reader that tries each length.
 use crate::lexer::lex;
 use crate::token::{Kind, LexFault, Token};
 use std::alloc::{AllocError, Global};

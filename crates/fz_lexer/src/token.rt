@@ -1,3 +1,4 @@
+//! What tokens are, and faults.
 ghost use Rattle.std.specs.Prelude.{◌≡◌};
 
 use fz_ast::span::Span;

@@ -1,3 +1,4 @@
+//! The reserved words.
 ghost use Rattle.std.specs.Prelude.{◌≡◌, IfSome, IfNone};
 ghost use Rattle.fz_lexer.specs.Words.{spelling};
 ghost use Rattle.fz_lexer.specs.declared.token.Word.{Word};

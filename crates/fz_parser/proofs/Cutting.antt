@@ -4,7 +4,7 @@ use Rattle.fz_lexer.specs.declared.token.Token.{Token}
 use Rattle.fz_parser.specs.declared.grammar.Item.{Item}
 use Rattle.fz_parser.specs.declared.grammar.Item.TheVariants.{Take, Read, Make}
 use Rattle.fz_parser.specs.Parts.{State, shift, build}
-use Rattle.fz_parser.specs.Grammar.{body, Stands, Row, DerivesIn, Derives}
+use Rattle.fz_parser.specs.Grammar.{body, StandsFor, Row, DerivesIn, Derives}
 use Rattle.fz_parser.specs.Reads.{ReadsIn, Reads}
 
 -- what is read by the one and then by the other is read by both
@@ -22,7 +22,7 @@ join (suc n) m (Read a ∷ α) β u v s q r h k =
 
 -- one level: what stands below is read
 module _ (D : List Item → List Token → State → State → Type 0) (ih : (σ : List Item) (w : List Token) (s r : State) → D σ w s r → Reads σ w s r) where
-  item_down : (i : Item) (w : List Token) (s r : State) → Stands D i w s r → Reads (i ∷ []) w s r
+  item_down : (i : Item) (w : List Token) (s r : State) → StandsFor D i w s r → Reads (i ∷ []) w s r
   item_down (Take k) w s r h = subst (λ w. Reads (Take k ∷ []) w s r) (sym h.1) (1, (h.2, sym h.3))
   item_down (Make a) w s r h = subst (λ w. Reads (Make a ∷ []) w s r) (sym h.0) (1, sym h.1)
   item_down (Read a) w s r h =
@@ -42,7 +42,7 @@ down (suc n) σ w s r h = row_down (DerivesIn n) (down n) σ w s r h
 
 -- the other way: rows are put together and taken apart, and a higher derivation may stand for a lower one
 module _ (D E : List Item → List Token → State → State → Type 0) (up : (σ : List Item) (w : List Token) (s r : State) → D σ w s r → E σ w s r) where
-  item_up : (i : Item) (w : List Token) (s r : State) → Stands D i w s r → Stands E i w s r
+  item_up : (i : Item) (w : List Token) (s r : State) → StandsFor D i w s r → StandsFor E i w s r
   item_up (Take k) w s r h = h
   item_up (Make a) w s r h = h
   item_up (Read a) w s r h = (h.0, h.1, h.2, up (body h.0) w s r h.3)

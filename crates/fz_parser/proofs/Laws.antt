@@ -2,7 +2,7 @@
 use Rattle.std.proofs.Common.{◌≡◌, ℕ, zero, suc, ◌+◌, ◌<◌, ◌≤◌, List, [], ◌∷◌, ◌++◌, refl, arith, sym, ap, ◌∙◌, subst, inl, inr, take, drop, append_assoc}
 use Rattle.std.proofs.lemmas.List.{take-append-drop}
 use Rattle.std.proofs.lemmas.Bool.{cases_order}
-use Rattle.fz_ast.specs.Spanned.{Spanned, erase}
+use Rattle.fz_ast.specs.Terms.{Term}
 use Rattle.fz_ast.specs.Depth.{depth}
 use Rattle.fz_lexer.specs.declared.token.Token.{Token}
 use Rattle.fz_parser.specs.declared.fault.ParseFault.{ParseFault}
@@ -11,11 +11,11 @@ use Rattle.fz_parser.specs.Grammar.{IsTerm, BeginsTerm}
 use Rattle.fz_parser.specs.Reading.{IsParsed, IsStuck, ExplainsParse}
 use Rattle.fz_parser.proofs.Machine.{one_only}
 
-pub refused : (ts : List Token) (fault : ParseFault) (e : Spanned) → ExplainsParse ts fault → IsParsed ts e → fault ≡ NoMemory
+pub refused : (ts : List Token) (fault : ParseFault) (e : Term) → ExplainsParse ts fault → IsParsed ts e → fault ≡ NoMemory
 refused ts (Stuck k) e x h = absurd (x.none e h.term)
 refused ts (TooNested d) e x h =
     let s : e ≡ x.1 = one_only ts e x.1 h.term x.2 in
-    absurd (omega (arith, x.0, x.3, h.nesting, ap (λ y. depth (erase y)) s))
+    absurd (omega (arith, x.0, x.3, h.nesting, ap depth s))
 refused ts NoMemory e x h = refl
 
 take-take : (m n : ℕ) (ts : List Token) → m ≤ n → take m (take n ts) ≡ take m ts
@@ -41,7 +41,7 @@ pub once : (ts : List Token) (fault other : ParseFault) → ExplainsParse ts fau
 once ts (Stuck k) (Stuck j) x y m n = ap Stuck (stuck_once ts k j x y)
 once ts (Stuck k) (TooNested d) x y m n = absurd (x.none y.1 y.2)
 once ts (TooNested d) (Stuck k) x y m n = absurd (y.none x.1 x.2)
-once ts (TooNested d) (TooNested f) x y m n = ap TooNested (sym y.3 ∙ ap (λ z. depth (erase z)) (one_only ts y.1 x.1 y.2 x.2) ∙ x.3)
+once ts (TooNested d) (TooNested f) x y m n = ap TooNested (sym y.3 ∙ ap depth (one_only ts y.1 x.1 y.2 x.2) ∙ x.3)
 once ts (Stuck k) NoMemory x y m n = absurd (n refl)
 once ts (TooNested d) NoMemory x y m n = absurd (n refl)
 once ts NoMemory other x y m n = absurd (m refl)

@@ -11,3 +11,6 @@ pub mod Stacks
 pub mod Laws
 pub mod Written
 pub mod Limits
+pub mod Parsing
+pub mod Printing
+pub mod Examples

@@ -1,12 +1,12 @@
 -- A term keeps the limits: the tokens that may stand somewhere do, and each action's part does where its own parts do.
 use Rattle.std.proofs.Common.{◌≡◌, ℕ, zero, suc, ◌*◌, ◌/◌, ◌^◌, ◌<◌, ◌≤◌, List, [], ◌∷◌, ◌++◌, true, refl, arith, subst, get_or, drop}
-use Rattle.std.specs.Prelude.{pos, neg_ℤ}
+use Rattle.std.specs.Prelude.{pos, neg_ℤ, ⊤}
 use Rattle.std.proofs.lemmas.Bool.{and_parts}
 use Rattle.std.proofs.lemmas.Int.{ints}
 use Rattle.fz_frac.specs.Distance.{Fin}
 use Rattle.fz_frac.specs.Lowest.{gcd, widest}
 use Rattle.fz_frac.proofs.Lowest.{gcd_is, gcd_one, coprime, lowest as lowest_parts}
-use Rattle.fz_ast.specs.Spanned.{Spanned, erase}
+use Rattle.fz_ast.specs.Terms.{Term, at}
 use Rattle.fz_ast.specs.Limits.{IsNumber, IsName, IsText, IsBang, TypeLimits, TermLimits}
 use Rattle.fz_ast.specs.declared.term.Arrow.TheVariants.{Fun, Fn}
 use Rattle.fz_ast.specs.declared.term.Ranged.TheVariants.{Sum as SumRanged, Clip as ClipRanged}
@@ -27,7 +27,7 @@ use Rattle.fz_parser.specs.declared.grammar.Terminal.TheVariants.{Named, Numeral
 use Rattle.fz_parser.specs.declared.grammar.Joint.TheVariants.{Lollipop, Sum, Tensor, With as Both}
 use Rattle.fz_parser.specs.declared.grammar.Action.{Action}
 use Rattle.fz_parser.specs.declared.grammar.Action.TheVariants.{Begin, LambdaTerm, LetBangTerm, LetPairTerm, LetTerm, CaseTerm, IfTerm, InfixTerm, NegativeTerm, NegativeTimesTerm, TimesTerm, NumberTerm, UnaryTerm, RangedTerm, InjectTerm, BangTerm, PrefixTerm, NameTerm, TextTerm, TruthTerm, UnitTerm, GroupTerm, PlainInteger, NegativeInteger, WholeFactor, FractionFactor, InfFactor, JoinType, ArrowType, BangType, BagType, NumType, TextType, UnitType, BoolType, GroupType}
-use Rattle.fz_parser.specs.Parts.{What, BegunPart, NamePart, NumberPart, PositivePart, TextPart, IntegerPart, FactorPart, TypePart, TermPart, Part, State, sort_of, takes, made, build, shift, kept, nothing, part, in_name, in_number, in_positive, in_text, in_integer, in_factor, in_type, in_term, lowest, arity, whole}
+use Rattle.fz_parser.specs.Parts.{What, BegunPart, NamePart, NumberPart, PositivePart, TextPart, IntegerPart, FactorPart, TypePart, TermPart, StackPart, State, sort_of, takes, made, build, shift, token_parts, nothing, part, in_name, in_number, in_positive, in_text, in_integer, in_factor, in_type, in_term, in_lowest_terms, arity, whole}
 use Rattle.fz_parser.specs.Grammar.{Fits, body, empty, only, IsTerm}
 use Rattle.fz_parser.specs.Reads.{ReadsIn}
 use Rattle.fz_parser.specs.Tests.{begins_with}
@@ -39,7 +39,7 @@ use Rattle.fz_parser.proofs.Machine.{sound_start, reads_of}
 
 -- what is kept of a part
 abbrev IsLimited : What → Type 0
-IsLimited BegunPart = Unit {0}
+IsLimited BegunPart = ⊤
 IsLimited (NamePart x) = IsName x
 IsLimited (NumberPart n) = n ≤ 2 ^ 50
 IsLimited (PositivePart n) = (0 < n) × (n < 2 ^ 32)
@@ -47,18 +47,18 @@ IsLimited (TextPart s) = IsText s
 IsLimited (IntegerPart z) = IsNumber z
 IsLimited (FactorPart r) = IsBang r
 IsLimited (TypePart u t) = TypeLimits t
-IsLimited (TermPart e) = TermLimits (erase e)
+IsLimited (TermPart e) = TermLimits e
 
-abbrev AllLimited : List Part → Type 0
-AllLimited [] = Unit {0}
+abbrev AllLimited : List StackPart → Type 0
+AllLimited [] = ⊤
 AllLimited (p ∷ ps) = IsLimited p.what × AllLimited ps
 
-part_limited : (ps : List Part) (i : ℕ) → AllLimited ps → IsLimited (get_or ps i nothing).what
+part_limited : (ps : List StackPart) (i : ℕ) → AllLimited ps → IsLimited (get_or ps i nothing).what
 part_limited [] i h = tt
 part_limited (p ∷ ps) zero h = h.0
 part_limited (p ∷ ps) (suc i) h = part_limited ps i h.1
 
-rest_limited : (ps : List Part) (n : ℕ) → AllLimited ps → AllLimited (drop n ps)
+rest_limited : (ps : List StackPart) (n : ℕ) → AllLimited ps → AllLimited (drop n ps)
 rest_limited ps zero h = h
 rest_limited [] (suc n) h = h
 rest_limited (p ∷ ps) (suc n) h = rest_limited ps n h.1
@@ -147,7 +147,7 @@ type_in (FactorPart r) h = tt
 type_in (TypePart u t) h = h
 type_in (TermPart e) h = tt
 
-term_in : (w : What) → IsLimited w → TermLimits (erase (in_term w))
+term_in : (w : What) → IsLimited w → TermLimits (in_term w)
 term_in BegunPart h = tt
 term_in (NamePart x) h = tt
 term_in (NumberPart n) h = tt
@@ -158,14 +158,14 @@ term_in (FactorPart r) h = tt
 term_in (TypePart u t) h = tt
 term_in (TermPart e) h = h
 
-unary_limited : (o : Unary) (w : Span) (e : Spanned) → TermLimits (erase e) → TermLimits (erase (unary o w e))
+unary_limited : (o : Unary) (w : Span) (e : Term) → TermLimits e → TermLimits (at w (unary o e))
 unary_limited Fst w e h = h
 unary_limited Snd w e h = h
 unary_limited Least w e h = h
 unary_limited Greatest w e h = h
 unary_limited Size w e h = h
 
-binary_limited : (o : Binary) (w : Span) (a b : Spanned) → TermLimits (erase a) → TermLimits (erase b) → TermLimits (erase (binary o w a b))
+binary_limited : (o : Binary) (w : Span) (a b : Term) → TermLimits a → TermLimits b → TermLimits (at w (binary o a b))
 binary_limited Pair w a b h k = (h, k)
 binary_limited With w a b h k = (h, k)
 binary_limited App w a b h k = (h, k)
@@ -179,8 +179,8 @@ binary_limited Filter w a b h k = (h, k)
 binary_limited Split w a b h k = (h, k)
 
 -- a fraction in lowest terms
-lowest_bang : (p q : ℕ) → 0 < p → p < 2 ^ 32 → 0 < q → q < 2 ^ 32 → IsBang (lowest p q)
-unfolding lowest
+lowest_bang : (p q : ℕ) → 0 < p → p < 2 ^ 32 → 0 < q → q < 2 ^ 32 → IsBang (in_lowest_terms p q)
+unfolding in_lowest_terms
 lowest_bang p q a b c d =
     let l = lowest_parts p q c in
     let g = gcd p q in
@@ -200,29 +200,29 @@ made_limited : (a : Action) (w : Span) (s : State) → begins_with (takes a) (so
 unfolding takes
 made_limited a w s b h = go a refl
   where
-    at : (i : ℕ) → IsLimited (part i s).what
-    at i = part_limited s.parts i h
+    part_is : (i : ℕ) → IsLimited (part i s).what
+    part_is i = part_limited s.parts i h
 
     x : (i : ℕ) → IsName (in_name (part i s).what)
-    x i = name_in (part i s).what (at i)
+    x i = name_in (part i s).what (part_is i)
 
     n : (i : ℕ) → in_number (part i s).what ≤ 2 ^ 50
-    n i = number_in (part i s).what (at i)
+    n i = number_in (part i s).what (part_is i)
 
     z : (i : ℕ) → IsNumber (in_integer (part i s).what)
-    z i = integer_in (part i s).what (at i)
+    z i = integer_in (part i s).what (part_is i)
 
     t : (i : ℕ) → TypeLimits (in_type (part i s).what)
-    t i = type_in (part i s).what (at i)
+    t i = type_in (part i s).what (part_is i)
 
-    e : (i : ℕ) → TermLimits (erase (in_term (part i s).what))
-    e i = term_in (part i s).what (at i)
+    e : (i : ℕ) → TermLimits (in_term (part i s).what)
+    e i = term_in (part i s).what (part_is i)
 
     r : (i : ℕ) → IsBang (in_factor (part i s).what)
-    r i = factor_in (part i s).what (at i)
+    r i = factor_in (part i s).what (part_is i)
 
     p : (i : ℕ) → sort_at i s ≡ 3 → (0 < in_positive (part i s).what) × (in_positive (part i s).what < 2 ^ 32)
-    p i k = positive_in (part i s).what k (at i)
+    p i k = positive_in (part i s).what k (part_is i)
 
     whole_bang : (k : ℕ) → (0 < k) × (k < 2 ^ 32) → IsBang (Fin k 1)
     whole_bang k l = (omega (arith, l.0), omega (arith, l.1), omega arith, omega arith, gcd_one k)
@@ -249,7 +249,7 @@ made_limited a w s b h = go a refl
     go BangTerm q = (r 1, e 0)
     go (PrefixTerm o) q = binary_limited o w _ _ (e 1) (e 0)
     go NameTerm q = x 0
-    go TextTerm q = text_in (part 0 s).what (at 0)
+    go TextTerm q = text_in (part 0 s).what (part_is 0)
     go (TruthTerm Inl) q = (tt, tt)
     go (TruthTerm Inr) q = (tt, tt)
     go UnitTerm q = tt
@@ -283,7 +283,7 @@ shift_limited : (k : Terminal) (t : Token) (s : State) → Fits k t.kind → All
 unfolding shift
 shift_limited k t s f h = go k t.kind f
   where
-    go : (k : Terminal) (kind : Kind) → Fits k kind → AllLimited (kept k (record { kind = kind; span = t.span }) ++ s.parts)
+    go : (k : Terminal) (kind : Kind) → Fits k kind → AllLimited (token_parts k (record { kind = kind; span = t.span }) ++ s.parts)
     go Named (Name x) f = (f, h)
     go Named (Number n) f = elim f [ ]
     go Named (Text x) f = elim f [ ]
@@ -319,7 +319,7 @@ limited (suc n) (Make a ∷ σ) w s r h v l =
 limited (suc n) (Read a ∷ σ) w s r h v l = limited n (body h.0 ++ σ) w s r h.3 (level_rule h.0 a σ (sorts s) h.1 h.2 v) l
 
 -- names, numbers, texts and bang numbers of a term are within the limits
-pub term_limits : (ts : List Token) (e : Spanned) → IsTerm ts e → TermLimits (erase e)
+pub term_limits : (ts : List Token) (e : Term) → IsTerm ts e → TermLimits e
 term_limits ts e h =
     let x = reads_of ts e h in
     (limited x.2.0 START ts empty (only x.0 x.1 e) x.2.1 sound_start.level tt).0

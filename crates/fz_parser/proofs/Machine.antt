@@ -3,7 +3,7 @@ use Rattle.std.proofs.Common.{◌≡◌, ℕ, zero, suc, ◌<◌, List, [], ◌�
 use Rattle.std.specs.Prelude.{nat_eq}
 use Rattle.std.proofs.lemmas.Bool.{eqb-true}
 use Rattle.fz_ast.specs.declared.span.Span.{Span}
-use Rattle.fz_ast.specs.Spanned.{Spanned}
+use Rattle.fz_ast.specs.Terms.{Term}
 use Rattle.fz_lexer.specs.declared.token.Token.{Token}
 use Rattle.fz_parser.specs.declared.grammar.Item.{Item}
 use Rattle.fz_parser.specs.declared.grammar.Item.TheVariants.{Take, Read, Make}
@@ -12,11 +12,11 @@ use Rattle.fz_parser.specs.declared.grammar.Phrase.{Phrase}
 use Rattle.fz_parser.specs.declared.grammar.Phrase.TheVariants.{Expression}
 use Rattle.fz_parser.specs.declared.grammar.Action.{Action}
 use Rattle.fz_parser.specs.Table.{rule_count}
-use Rattle.fz_parser.specs.Parts.{Part, What, State, BegunPart, NamePart, NumberPart, PositivePart, TextPart, IntegerPart, FactorPart, TypePart, TermPart, sort_of, term, shift, build, part, in_term}
+use Rattle.fz_parser.specs.Parts.{StackPart, What, State, BegunPart, NamePart, NumberPart, PositivePart, TextPart, IntegerPart, FactorPart, TypePart, TermPart, sort_of, term, shift, build, part, in_term}
 use Rattle.fz_parser.specs.Grammar.{Fits, head, body, empty, only, IsTerm, BeginsTerm}
 use Rattle.fz_parser.specs.Reads.{Reads}
 use Rattle.fz_parser.specs.Classes.{class, terminal_number, may_stand, phrase_number}
-use Rattle.fz_parser.specs.Tests.{choice, follows, need, gift}
+use Rattle.fz_parser.specs.Tests.{choice, follows, phrase_takes, phrase_gives}
 use Rattle.fz_parser.specs.Rows.{follow_rows, need_rows, gift_rows}
 use Rattle.fz_parser.specs.Steps.{Good, front, sorts_of, sorts, Level, START, Sound, At, Refused}
 use Rattle.fz_parser.proofs.Cutting.{one}
@@ -38,7 +38,7 @@ unfolding follows follow_rows phrase_number
 follow_end c h = rw (eqb-true c 0 h) refl
 
 level_start : Level START (sorts empty)
-unfolding need need_rows gift gift_rows phrase_number
+unfolding phrase_takes need_rows phrase_gives gift_rows phrase_number
 level_start = record { enough = refl; one = refl }
 
 pub sound_start : Sound START empty
@@ -117,7 +117,7 @@ refused_name read rest a σ s good c h = record {
 }
 
 -- the ends
-in_what : (w : What) → sort_of w ≡ 8 → (e : Spanned) × (w ≡ TermPart e)
+in_what : (w : What) → sort_of w ≡ 8 → (e : Term) × (w ≡ TermPart e)
 in_what BegunPart h = absurd (omega (arith, h))
 in_what (NamePart x) h = absurd (omega (arith, h))
 in_what (NumberPart n) h = absurd (omega (arith, h))
@@ -128,10 +128,10 @@ in_what (FactorPart r) h = absurd (omega (arith, h))
 in_what (TypePart u t) h = absurd (omega (arith, h))
 in_what (TermPart e) h = (e, refl)
 
-one_term : (p : Part) → sort_of p.what ≡ 8 → (e : Spanned) × (p.what ≡ TermPart e)
+one_term : (p : StackPart) → sort_of p.what ≡ 8 → (e : Term) × (p.what ≡ TermPart e)
 one_term p h = in_what p.what h
 
-one_part : (ps : List Part) → sorts_of ps ≡ term ∷ [] → (from : ℕ) × (e : Spanned) × (ps ≡ (record { from = from; what = TermPart e }) ∷ [])
+one_part : (ps : List StackPart) → sorts_of ps ≡ term ∷ [] → (from : ℕ) × (e : Term) × (ps ≡ (record { from = from; what = TermPart e }) ∷ [])
 one_part [] h = absurd (cc h)
 one_part (p ∷ []) h =
     let s : sort_of p.what ≡ 8 = cc h in
@@ -139,31 +139,31 @@ one_part (p ∷ []) h =
     (p.from, q.0, ap (λ w. (record { from = p.from; what = w }) ∷ []) q.1)
 one_part (p ∷ q ∷ ps) h = absurd (cc h)
 
-one_state : (s : State) → sorts s ≡ term ∷ [] → (from : ℕ) × (e : Spanned) × (s ≡ only s.last from e)
+one_state : (s : State) → sorts s ≡ term ∷ [] → (from : ℕ) × (e : Term) × (s ≡ only s.last from e)
 one_state s h = let q = one_part s.parts h in (q.0, q.1, ap (λ ps. let r : State = record { last = s.last; parts = ps } in r) q.2)
 
 -- what the start reads is a term
-term_of : (ts : List Token) (r : State) → Reads START ts empty r → (from : ℕ) × (e : Spanned) × (r ≡ only r.last from e) × IsTerm ts e
+term_of : (ts : List Token) (r : State) → Reads START ts empty r → (from : ℕ) × (e : Term) × (r ≡ only r.last from e) × IsTerm ts e
 unfolding IsTerm
 term_of ts r h =
     let q = one_state r (one_left h.0 START ts empty r h.1 level_start) in
     let g : Reads START ts empty (only r.last q.0 q.1) = subst (λ x. Reads START ts empty x) q.2 h in
     (q.0, q.1, q.2, (r.last, q.0, (one START ts empty _).0 g))
 
-pub reads_of : (ts : List Token) (e : Spanned) → IsTerm ts e → (last : Span) × (from : ℕ) × Reads START ts empty (only last from e)
+pub reads_of : (ts : List Token) (e : Term) → IsTerm ts e → (last : Span) × (from : ℕ) × Reads START ts empty (only last from e)
 unfolding IsTerm
 reads_of ts e h = (h.0, h.1, (one START ts empty _).1 h.2)
 
-term_same : (l m : Span) (f g : ℕ) (e e' : Spanned) → only l f e ≡ only m g e' → e ≡ e'
+term_same : (l m : Span) (f g : ℕ) (e e' : Term) → only l f e ≡ only m g e' → e ≡ e'
 term_same l m f g e e' h = ap (λ s. in_term (part 0 s).what) h
 
 -- a text has at most one term
-pub one_only : (ts : List Token) (e e' : Spanned) → IsTerm ts e → IsTerm ts e' → e ≡ e'
+pub one_only : (ts : List Token) (e e' : Term) → IsTerm ts e → IsTerm ts e' → e ≡ e'
 one_only ts e e' h k =
     let x = reads_of ts e h in let y = reads_of ts e' k in
     term_same x.0 y.0 x.1 y.1 e e' (unique x.2.0 y.2.0 START ts empty (only x.0 x.1 e) (only y.0 y.1 e') x.2.1 y.2.1 sound_start.good)
 
-pub done : (read : List Token) (s : State) → At read [] [] s → (from : ℕ) × (e : Spanned) × (s ≡ only s.last from e) × IsTerm read e
+pub done : (read : List Token) (s : State) → At read [] [] s → (from : ℕ) × (e : Term) × (s ≡ only s.last from e) × IsTerm read e
 done read s h =
     let g : Reads START (read ++ []) empty s = h.up [] s refl (0, refl) in
     term_of read s (subst (λ w. Reads START w empty s) (append-nil read) g)
@@ -193,7 +193,7 @@ stuck_here read t rest h = (
       h.never (t ∷ b.0) (only x.0 x.1 b.1) refl (subst (λ w. Reads START w empty (only x.0 x.1 b.1)) (append_assoc read (t ∷ []) b.0) x.2),
 )
 
-pub stuck_end : (read : List Token) → Refused read [] → BeginsTerm read × ((e : Spanned) → IsTerm read e → ⊥)
+pub stuck_end : (read : List Token) → Refused read [] → BeginsTerm read × ((e : Term) → IsTerm read e → ⊥)
 stuck_end read h = (
   viable_from read h.viable,
   λ e b.

@@ -12,15 +12,15 @@ use Rattle.fz_ast.specs.declared.term.Side.{Side}
 use Rattle.fz_ast.specs.declared.term.Side.TheVariants.{Inl, Inr}
 use Rattle.fz_ast.specs.declared.term.Form.TheVariants.{Inject}
 use Rattle.fz_ast.specs.Types.{Ty, UnitT, SumT, ArrowT, BangT, BoolT, UnlimitedT}
-use Rattle.fz_ast.specs.Spanned.{Spanned, UnitAt}
+use Rattle.fz_ast.specs.Terms.{Term, at, UnitE}
 use Rattle.fz_ast.specs.Parts.{Parts}
 use Rattle.fz_ast.specs.TypeNodes.{type_at}
-use Rattle.fz_ast.specs.TermNodes.{term_at, level}
+use Rattle.fz_ast.specs.TermNodes.{term_at, term_of}
 use Rattle.fz_parser.specs.declared.reader.Held.{Held}
-use Rattle.fz_parser.specs.declared.reader.Held.TheVariants.{Written, Term}
+use Rattle.fz_parser.specs.declared.reader.Held.TheVariants.{Written, Term as HeldTerm}
 use Rattle.fz_parser.specs.declared.reader.Reader.{Reader}
-use Rattle.fz_parser.specs.Parts.{What, TypePart, TermPart, in_type, in_term, truth, lowest}
-use Rattle.fz_parser.specs.Kept.{IsKept, Makes}
+use Rattle.fz_parser.specs.Parts.{What, TypePart, TermPart, in_type, in_term, truth_term, in_lowest_terms}
+use Rattle.fz_parser.specs.Kept.{IsInOrder, Makes}
 use Rattle.fz_parser.proofs.Entries.{more_terms, more_types, term_makes, type_makes, type_stays}
 
 -- the reader with other nodes
@@ -33,7 +33,7 @@ then a b c h i v w x y = record { kept = y.kept; entries = y.entries ∙ x.entri
 is_then : (a b : Reader) (h : Held) (v w : What) → v ≡ w → Makes a b h v → Makes a b h w
 is_then a b h v w e x = subst (Makes a b h) e x
 
-pub bool_makes : (r : Reader) (N1 N2 : Parts) (i n : ℕ) (u : Span) → IsKept r → i ≡ length r.nodes.types → N1 ≡ more_types r.nodes UnitT → n ≡ length N1.types →
+pub bool_makes : (r : Reader) (N1 N2 : Parts) (i n : ℕ) (u : Span) → IsInOrder r → i ≡ length r.nodes.types → N1 ≡ more_types r.nodes UnitT → n ≡ length N1.types →
     N2 ≡ more_types N1 (SumT (type_at N1.types i) (type_at N1.types i)) → Makes r (with_nodes r N2) (Written u n) (TypePart u BoolT)
 bool_makes r N1 N2 i n u k l g m h =
     let x = type_makes r (with_nodes r N1) i u UnitT (refl, refl) k l g in
@@ -41,7 +41,7 @@ bool_makes r N1 N2 i n u k l g m h =
     let e : type_at N1.types i ≡ UnitT = ap in_type x.is in
     is_then _ _ _ _ _ (ap (λ t. TypePart u (SumT t t)) e) (then _ _ _ _ _ _ _ x y)
 
-pub arrow_makes : (r : Reader) (N1 N2 : Parts) (a b i n : ℕ) (s t : Ty) (u : Span) → IsKept r → b < length r.nodes.types → type_at r.nodes.types a ≡ s → type_at r.nodes.types b ≡ t →
+pub arrow_makes : (r : Reader) (N1 N2 : Parts) (a b i n : ℕ) (s t : Ty) (u : Span) → IsInOrder r → b < length r.nodes.types → type_at r.nodes.types a ≡ s → type_at r.nodes.types b ≡ t →
     i ≡ length r.nodes.types → N1 ≡ more_types r.nodes (BangT Inf (type_at r.nodes.types a)) → n ≡ length N1.types → N2 ≡ more_types N1 (ArrowT (type_at N1.types i) (type_at N1.types b)) →
     Makes r (with_nodes r N2) (Written u n) (TypePart u (UnlimitedT s t))
 arrow_makes r N1 N2 a b i n s t u k bl ea eb l g m h =
@@ -51,20 +51,20 @@ arrow_makes r N1 N2 a b i n s t u k bl ea eb l g m h =
     let f : type_at N1.types b ≡ t = ap (λ M. type_at M.types b) g ∙ type_stays r.nodes.types _ b bl ∙ eb in
     is_then _ _ _ _ _ (cc (e, f)) (then _ _ _ _ _ _ _ x y)
 
-pub truth_makes : (r : Reader) (N1 N2 N3 : Parts) (i e n : ℕ) (o : Side) (u : Span) → IsKept r → i ≡ length r.nodes.types → N1 ≡ more_types r.nodes UnitT →
-    e ≡ length N1.terms → N2 ≡ more_terms N1 (UnitAt u) → n ≡ length N2.terms → N3 ≡ more_terms N2 (level (type_at N2.types) (term_at N2.terms) u (Inject o u i e)) →
-    Makes r (with_nodes r N3) (Term n) (TermPart (truth o u))
+pub truth_makes : (r : Reader) (N1 N2 N3 : Parts) (i e n : ℕ) (o : Side) (u : Span) → IsInOrder r → i ≡ length r.nodes.types → N1 ≡ more_types r.nodes UnitT →
+    e ≡ length N1.terms → N2 ≡ more_terms N1 (at u UnitE) → n ≡ length N2.terms → N3 ≡ more_terms N2 (term_of (type_at N2.types) (term_at N2.terms) u (Inject o u i e)) →
+    Makes r (with_nodes r N3) (HeldTerm n) (TermPart (truth_term o u))
 truth_makes r N1 N2 N3 i e n o u k l g m h p q =
     let x = type_makes r (with_nodes r N1) i u UnitT (refl, refl) k l g in
-    let y = term_makes (with_nodes r N1) (with_nodes r N2) e (UnitAt u) (refl, refl) x.kept m h in
-    let z = term_makes (with_nodes r N2) (with_nodes r N3) n (level (type_at N2.types) (term_at N2.terms) u (Inject o u i e)) (refl, refl) y.kept p q in
+    let y = term_makes (with_nodes r N1) (with_nodes r N2) e (at u UnitE) (refl, refl) x.kept m h in
+    let z = term_makes (with_nodes r N2) (with_nodes r N3) n (term_of (type_at N2.types) (term_at N2.terms) u (Inject o u i e)) (refl, refl) y.kept p q in
     let t : type_at N2.types i ≡ UnitT = ap (λ M. type_at M.types i) h ∙ ap in_type x.is in
-    let f : term_at N2.terms e ≡ UnitAt u = ap in_term y.is in
+    let f : term_at N2.terms e ≡ at u UnitE = ap in_term y.is in
     is_then _ _ _ _ _ (true_is o u (type_at N2.types) (term_at N2.terms) i e t f) (then _ _ _ _ _ _ _ (then _ _ _ _ _ _ _ x y) z)
   where
-    true_is : (o : Side) (u : Span) (ty : ℕ → Ty) (at : ℕ → Spanned) (i e : ℕ) → ty i ≡ UnitT → at e ≡ UnitAt u → TermPart (level ty at u (Inject o u i e)) ≡ TermPart (truth o u)
-    true_is Inl u ty at i e t f = cc (t, f)
-    true_is Inr u ty at i e t f = cc (t, f)
+    true_is : (o : Side) (u : Span) (ty : ℕ → Ty) (part : ℕ → Term) (i e : ℕ) → ty i ≡ UnitT → part e ≡ at u UnitE → TermPart (term_of ty part u (Inject o u i e)) ≡ TermPart (truth_term o u)
+    true_is Inl u ty part i e t f = cc (t, f)
+    true_is Inr u ty part i e t f = cc (t, f)
 
 -- fractions
 pub fits : (p q : ℕ) → 0 < q → p < 4294967296 → q < 4294967296 → is_out (Fin p q) ≡ false
@@ -80,8 +80,8 @@ reduced_same p q n d g a b h z =
     let i : n * q ≡ p * d = rw (a, b) (omega arith) in
     record { le = record { le = rw (e, f) (omega arith) }; ge = record { le = rw (e, f) (omega arith) } }
 
-pub lowest_is : (f : Frac) (p q : ℕ) → 0 < q → Fin f.p f.q ≈ Fin p q → Fin f.p f.q ≡ lowest p q
-unfolding lowest
+pub lowest_is : (f : Frac) (p q : ℕ) → 0 < q → Fin f.p f.q ≈ Fin p q → Fin f.p f.q ≡ in_lowest_terms p q
+unfolding in_lowest_terms
 lowest_is f p q z e =
     let l = lowest_parts p q z in
     let s = reduced_same p q (p / gcd p q) (q / gcd p q) (gcd p q) l.top l.low l.pos_d z in

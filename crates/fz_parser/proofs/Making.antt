@@ -12,17 +12,17 @@ use Rattle.fz_parser.specs.declared.reader.Entry.{Entry}
 use Rattle.fz_parser.specs.declared.reader.Reader.{Reader}
 use Rattle.fz_parser.specs.declared.grammar.Action.{Action}
 use Rattle.fz_parser.specs.declared.grammar.Terminal.{Terminal}
-use Rattle.fz_parser.specs.Parts.{Part, What, State, sort_of, nothing, start_at, takes, arity, build, made, whole, shift, kept}
+use Rattle.fz_parser.specs.Parts.{StackPart, What, State, sort_of, nothing, start_at, takes, arity, build, made, whole, shift, token_parts}
 use Rattle.fz_parser.specs.Tests.{begins_with}
 use Rattle.fz_parser.specs.Steps.{sorts_of, sorts}
-use Rattle.fz_parser.specs.Kept.{what_of, parts_of, state_of, IsHeld, AllHeld, IsKept, IsValue, sort_at, Makes}
+use Rattle.fz_parser.specs.Kept.{what_of, parts_in, state_of, IsHeld, AllHeld, IsInOrder, IsValue, sort_at, Makes}
 
 abbrev pub sort_in : List ℕ → ℕ → ℕ
 sort_in [] i = 9
 sort_in (x ∷ xs) zero = x
 sort_in (x ∷ xs) (suc i) = sort_in xs i
 
-at_parts : (xs : List ℕ) (ps : List Part) (i k : ℕ) → begins_with xs (sorts_of ps) ≡ true → sort_in xs i ≡ k → k < 9 → sort_of (get_or ps i nothing).what ≡ k
+at_parts : (xs : List ℕ) (ps : List StackPart) (i k : ℕ) → begins_with xs (sorts_of ps) ≡ true → sort_in xs i ≡ k → k < 9 → sort_of (get_or ps i nothing).what ≡ k
 at_parts [] ps i k b e l = absurd (omega (arith, e, l))
 at_parts (x ∷ xs) [] i k b e l = absurd (cc b)
 at_parts (x ∷ xs) (p ∷ ps) zero k b e l = let q = and_parts (nat_eq x (sort_of p.what)) (begins_with xs (sorts_of ps)) b in sym (eqb-true x (sort_of p.what) q.0) ∙ e
@@ -45,7 +45,7 @@ left_over xs n = elim (cases_lt (length xs) n) [
       sym (ap (drop n) e ∙ ap (λ i. drop i (reverse (drop (length xs - n) xs) ++ reverse (take (length xs - n) xs))) k ∙ drop-append_seam (reverse (drop (length xs - n) xs)) (reverse (take (length xs - n) xs)))
 ]
 
-parts-drop : (N : Parts) (n : ℕ) (xs : List Entry) → parts_of N (drop n xs) ≡ drop n (parts_of N xs)
+parts-drop : (N : Parts) (n : ℕ) (xs : List Entry) → parts_in N (drop n xs) ≡ drop n (parts_in N xs)
 parts-drop N zero xs = refl
 parts-drop N (suc n) [] = refl
 parts-drop N (suc n) (x ∷ xs) = parts-drop N n xs
@@ -58,7 +58,7 @@ held-drop N (suc n) (x ∷ xs) h = held-drop N n xs h.1
 replaced : (xs ys : List Entry) (n : ℕ) (x : Entry) → ys ≡ take (length xs - n) xs ++ x ∷ [] → reverse ys ≡ x ∷ drop n (reverse xs)
 replaced xs ys n x e = ap reverse e ∙ reverse-append (take (length xs - n) xs) (x ∷ []) ∙ ap (λ zs. x ∷ zs) (left_over xs n)
 
-pub replace_kept : (old new : Reader) (n : ℕ) (x : Entry) → new.nodes ≡ old.nodes → new.entries.items ≡ take (length old.entries.items - n) old.entries.items ++ x ∷ [] → IsKept old → IsHeld old.nodes x.held → IsKept new
+pub replace_kept : (old new : Reader) (n : ℕ) (x : Entry) → new.nodes ≡ old.nodes → new.entries.items ≡ take (length old.entries.items - n) old.entries.items ++ x ∷ [] → IsInOrder old → IsHeld old.nodes x.held → IsInOrder new
 replace_kept old new n x m e k h =
     let r = replaced old.entries.items new.entries.items n x e in
     let a : AllHeld old.nodes (x ∷ drop n (reverse old.entries.items)) = (h, held-drop old.nodes n (reverse old.entries.items) k.held) in
@@ -69,8 +69,8 @@ pub replace_state : (old new : Reader) (n : ℕ) (x : Entry) → new.last ≡ ol
 unfolding state_of
 replace_state old new n x l m e =
     let r = replaced old.entries.items new.entries.items n x e in
-    let p : parts_of new.nodes (reverse new.entries.items) ≡ record { from = x.from; what = what_of old.nodes x.held } ∷ drop n (parts_of old.nodes (reverse old.entries.items)) =
-    ap (λ xs. parts_of new.nodes xs) r ∙ ap (λ M. parts_of M (x ∷ drop n (reverse old.entries.items))) m ∙ ap (λ ps. (record { from = x.from; what = what_of old.nodes x.held }) ∷ ps) (parts-drop old.nodes n (reverse old.entries.items)) in
+    let p : parts_in new.nodes (reverse new.entries.items) ≡ record { from = x.from; what = what_of old.nodes x.held } ∷ drop n (parts_in old.nodes (reverse old.entries.items)) =
+    ap (λ xs. parts_in new.nodes xs) r ∙ ap (λ M. parts_in M (x ∷ drop n (reverse old.entries.items))) m ∙ ap (λ ps. (record { from = x.from; what = what_of old.nodes x.held }) ∷ ps) (parts-drop old.nodes n (reverse old.entries.items)) in
     cc (l, p)
 
 -- an action's part takes the place of those that it takes
@@ -94,15 +94,15 @@ pub take_state : (old mid new : Reader) (k : Terminal) (t : Token) (h : Held) �
     state_of new ≡ record { last = mid.last; parts = record { from = t.span.from; what = what_of mid.nodes h } ∷ drop 0 (state_of mid).parts } → state_of new ≡ shift k t (state_of old)
 unfolding state_of shift
 take_state old mid new k t h l e n v g =
-    let p : kept k t ≡ (record { from = t.span.from; what = what_of mid.nodes h }) ∷ [] = (v mid.nodes).1 in
-    let q : parts_of mid.nodes (reverse mid.entries.items) ≡ parts_of old.nodes (reverse old.entries.items) = ap (λ xs. parts_of mid.nodes (reverse xs)) e ∙ ap (λ M. parts_of M (reverse old.entries.items)) n in
-    g ∙ cc (l, ap (λ ps. ps ++ parts_of old.nodes (reverse old.entries.items)) p, ap (λ ps. (record { from = t.span.from; what = what_of mid.nodes h }) ∷ ps) q)
+    let p : token_parts k t ≡ (record { from = t.span.from; what = what_of mid.nodes h }) ∷ [] = (v mid.nodes).1 in
+    let q : parts_in mid.nodes (reverse mid.entries.items) ≡ parts_in old.nodes (reverse old.entries.items) = ap (λ xs. parts_in mid.nodes (reverse xs)) e ∙ ap (λ M. parts_in M (reverse old.entries.items)) n in
+    g ∙ cc (l, ap (λ ps. ps ++ parts_in old.nodes (reverse old.entries.items)) p, ap (λ ps. (record { from = t.span.from; what = what_of mid.nodes h }) ∷ ps) q)
 
-pub take_none : (old new : Reader) (k : Terminal) (t : Token) → new.last ≡ t.span → new.entries.items ≡ old.entries.items → new.nodes ≡ old.nodes → kept k t ≡ [] → state_of new ≡ shift k t (state_of old)
+pub take_none : (old new : Reader) (k : Terminal) (t : Token) → new.last ≡ t.span → new.entries.items ≡ old.entries.items → new.nodes ≡ old.nodes → token_parts k t ≡ [] → state_of new ≡ shift k t (state_of old)
 unfolding state_of shift
 take_none old new k t l e n p =
-    let q : parts_of new.nodes (reverse new.entries.items) ≡ parts_of old.nodes (reverse old.entries.items) = ap (λ xs. parts_of new.nodes (reverse xs)) e ∙ ap (λ M. parts_of M (reverse old.entries.items)) n in
-    cc (l, ap (λ ps. ps ++ parts_of old.nodes (reverse old.entries.items)) p, q)
+    let q : parts_in new.nodes (reverse new.entries.items) ≡ parts_in old.nodes (reverse old.entries.items) = ap (λ xs. parts_in new.nodes (reverse xs)) e ∙ ap (λ M. parts_in M (reverse old.entries.items)) n in
+    cc (l, ap (λ ps. ps ++ parts_in old.nodes (reverse old.entries.items)) p, q)
 
-pub makes_none : (r : Reader) (h : Held) (w : What) → IsKept r → IsHeld r.nodes h → what_of r.nodes h ≡ w → Makes r r h w
+pub makes_none : (r : Reader) (h : Held) (w : What) → IsInOrder r → IsHeld r.nodes h → what_of r.nodes h ≡ w → Makes r r h w
 makes_none r h w k i e = record { kept = k; entries = refl; state = refl; known = i; is = e }

@@ -13,6 +13,7 @@ use Rattle.fz_parser.specs.declared.grammar.Action.{Action}
 use Rattle.fz_parser.specs.declared.grammar.Top.{Top}
 use Rattle.fz_parser.specs.declared.grammar.Top.TheVariants.{Empty, Wants, Refuses}
 use Rattle.fz_parser.specs.declared.reader.Reader.{Reader}
+use Rattle.fz_parser.specs.declared.tables.TheConstants.{CHOICES}
 use Rattle.fz_parser.specs.Table.{rule_count}
 use Rattle.fz_parser.specs.Parts.{State, takes, shift, build}
 use Rattle.fz_parser.specs.Grammar.{Fits, head, body, empty, IsTerm, BeginsTerm}
@@ -20,8 +21,8 @@ use Rattle.fz_parser.specs.Reading.{IsStuck}
 use Rattle.fz_parser.specs.Classes.{class, phrase_number, terminal_number, may_stand}
 use Rattle.fz_parser.specs.Tests.{phrase_at, choice, lead, is_rule, below, begins_with}
 use Rattle.fz_parser.specs.Steps.{front, sorts, Sound, At, Refused, Outcome, Left, START}
-use Rattle.fz_parser.specs.Kept.{state_of, IsKept, IsRead}
-use Rattle.fz_parser.proofs.Checks.{ruled}
+use Rattle.fz_parser.specs.Kept.{state_of, IsInOrder, IsReadAsTerm}
+use Rattle.fz_parser.proofs.Checks.{ruled, tabled}
 use Rattle.fz_parser.proofs.Numbers.{class_bound, may_means, phrase_below, phrase_same, phrase_is}
 use Rattle.fz_parser.proofs.Theory.{below_each, then_true}
 use Rattle.fz_parser.proofs.Words.{lead_rule}
@@ -63,6 +64,13 @@ rule_found a c x b e p =
     let y = then_true (nat_lt 0 (choice a c)) _ u (lt-ltb 0 (choice a c) (omega arith)) in
     let z = and_parts (nat_eq (phrase_number (head (choice a c - 1))) (phrase_number a)) (nat_lt (choice a c - 1) rule_count) y in
     rw e (ltb-true _ _ z.1, phrase_same (head (choice a c - 1)) a (eqb-true _ _ z.0), omega arith)
+
+-- the code's table has the choices
+pub tabled_is : (a : Phrase) (c : ℕ) → c < 64 → get_or (get_or CHOICES (phrase_number a) []) c 0 ≡ choice a c
+tabled_is a c b =
+    let e = below_each 64 (λ c. nat_eq (get_or (get_or CHOICES (phrase_number a) []) c 0) (choice (phrase_at (phrase_number a)) c))
+    (below_each 25 (λ a. below 64 (λ c. nat_eq (get_or (get_or CHOICES a []) c 0) (choice (phrase_at a) c))) tabled (phrase_number a) (phrase_below a)) c b in
+    eqb-true _ _ e ∙ ap (λ x. choice x c) (phrase_is a)
 
 pub non_sound : (old new newer : List Item) (i : Item) (a : Phrase) (p : ℕ) (s : State) → old ≡ new ++ i ∷ [] → i ≡ Read a → reverse newer ≡ body p ++ reverse new → p < rule_count → head p ≡ a → Sound (reverse old) s → Sound (reverse newer) s
 non_sound old new newer i a p s h e n l d x = subst (λ σ. Sound σ s) (sym n) (sound_rule p a (reverse new) s l d (sound_top old new i (Read a) s h e x))
@@ -133,7 +141,7 @@ stuck_more ts i t s l e a =
     stuck_before ts i t l e (subst (λ w. Refused (take i ts) w) (sym (rest_at ts i t l e)) (refused_more (take i ts) t (drop (i + 1) ts) s a'))
 
 -- at the end
-at_end : (ts : List Token) (n : ℕ) (σ : List Item) (s : State) → length ts ≤ n → At (take n ts) (drop n ts) σ s → At ts [] σ s
+pub at_end : (ts : List Token) (n : ℕ) (σ : List Item) (s : State) → length ts ≤ n → At (take n ts) (drop n ts) σ s → At ts [] σ s
 at_end ts n σ s l a = rw (take_all n ts l, drop_all n ts l) at a
 
 stuck_after : (ts : List Token) → Refused ts [] → IsStuck ts (length ts)
@@ -141,12 +149,12 @@ stuck_after ts r =
     let s = stuck_end ts r in
     record { within = omega arith; before = rw (take_all (length ts) ts (omega arith)) s.0; not_with = λ h. absurd (omega arith); none = s.1 }
 
-end_refused : (ts : List Token) (n : ℕ) → n ≡ length ts → Refused (take n ts) (drop n ts) → IsStuck ts n
+pub end_refused : (ts : List Token) (n : ℕ) → n ≡ length ts → Refused (take n ts) (drop n ts) → IsStuck ts n
 end_refused ts n e r =
     let l : length ts ≤ n = omega arith in
     rw e (stuck_after ts (rw (take_all n ts l, drop_all n ts l) at r))
 
-end_wanted : (ts : List Token) (n : ℕ) (k : Terminal) (σ : List Item) (s : State) → n ≡ length ts → At (take n ts) (drop n ts) (Take k ∷ σ) s → IsStuck ts n
+pub end_wanted : (ts : List Token) (n : ℕ) (k : Terminal) (σ : List Item) (s : State) → n ≡ length ts → At (take n ts) (drop n ts) (Take k ∷ σ) s → IsStuck ts n
 end_wanted ts n k σ s e a = rw e (stuck_after ts (refused_end ts k σ s (at_end ts n (Take k ∷ σ) s (omega arith) a)))
 
 -- the outcomes before a token
@@ -181,7 +189,7 @@ wanted_on ts i t k top σ s u l w f e g o = subst (λ x. At (take (i + 1) ts) (d
 pub wanted_sound : (t : Token) (k : Terminal) (top : Top) (σ : List Item) (s u : State) → top ≡ Wants k → u ≡ shift k t s → Left top σ s → Sound σ u
 wanted_sound t k top σ s u e g o = subst (λ x. Sound σ x) (sym g) (sound_token k σ s t (subst (λ x. Left x σ s) e o))
 
-pub empty_end : (ts : List Token) (n : ℕ) (top : Top) (σ : List Item) (r : Reader) → n ≡ length ts → top ≡ Empty → IsKept r → Outcome top (take n ts) (drop n ts) σ (state_of r) → IsRead ts r
+pub empty_end : (ts : List Token) (n : ℕ) (top : Top) (σ : List Item) (r : Reader) → n ≡ length ts → top ≡ Empty → IsInOrder r → Outcome top (take n ts) (drop n ts) σ (state_of r) → IsReadAsTerm ts r
 unfolding state_of
 empty_end ts n top σ r l e k o =
     let d = done ts (state_of r) (at_end ts n [] (state_of r) (omega arith) (subst (λ x. Outcome x (take n ts) (drop n ts) σ (state_of r)) e o)) in

@@ -14,13 +14,13 @@ use Rattle.fz_parser.specs.declared.grammar.Action.{Action}
 use Rattle.fz_parser.specs.declared.grammar.Action.TheVariants.{Begin, LambdaTerm, LetBangTerm, LetPairTerm, LetTerm, CaseTerm, IfTerm, InfixTerm, NegativeTerm, NegativeTimesTerm, TimesTerm, NumberTerm, UnaryTerm, RangedTerm, InjectTerm, BangTerm, PrefixTerm, NameTerm, TextTerm, TruthTerm, UnitTerm, GroupTerm, PlainInteger, NegativeInteger, WholeFactor, FractionFactor, InfFactor, JoinType, ArrowType, BangType, BagType, NumType, TextType, UnitType, BoolType, GroupType}
 use Rattle.fz_parser.specs.declared.tables.TheConstants.{ITEMS, STARTS}
 use Rattle.fz_parser.specs.Table.{rule_count}
-use Rattle.fz_parser.specs.Parts.{Part, State, shift, build, made, whole, arity, takes, gives, sort_of, term}
+use Rattle.fz_parser.specs.Parts.{StackPart, State, shift, build, made, whole, arity, takes, gives, sort_of, term}
 use Rattle.fz_parser.specs.Grammar.{head, body}
 use Rattle.fz_parser.specs.Reads.{ReadsIn, Reads}
 use Rattle.fz_parser.specs.Classes.{phrase_number}
-use Rattle.fz_parser.specs.Tests.{phrase_at, cost, cost_all, least, is_least, need, gift, kept_sorts, begins_with, fine, after, same_sorts, is_level, weight, may_be_empty, lead, must, is_quick, part_of, is_part}
+use Rattle.fz_parser.specs.Tests.{phrase_at, cost, cost_all, least, is_least, phrase_takes, phrase_gives, kept_sorts, begins_with, fine, sorts_after, same_sorts, is_level, weight, may_be_empty, lead, must, is_quick}
 use Rattle.fz_parser.specs.Steps.{sorts_of, sorts, Level}
-use Rattle.fz_parser.proofs.Checks.{finished, level, quick, parted, placed, parts_from, bodies_from}
+use Rattle.fz_parser.proofs.Checks.{finished, level, quick, parted, placed, parts_from, bodies_from, part_of, is_part}
 use Rattle.fz_parser.proofs.Numbers.{phrase_below, phrase_same, phrase_is, sample, sampled}
 use Rattle.fz_parser.proofs.Theory.{below_each}
 
@@ -64,7 +64,7 @@ sorts_same [] (y ∷ ys) h = absurd (cc h)
 sorts_same (x ∷ xs) [] h = absurd (cc h)
 sorts_same (x ∷ xs) (y ∷ ys) h = let p = and_parts (nat_eq x y) (same_sorts xs ys) h in cc (eqb-true x y p.0, sorts_same xs ys p.1)
 
-level_at : (p : ℕ) → p < rule_count → (fine (body p) (need (head p)) ≡ true) × (after (body p) (need (head p)) ≡ gift (head p) ∷ [])
+level_at : (p : ℕ) → p < rule_count → (fine (body p) (phrase_takes (head p)) ≡ true) × (sorts_after (body p) (phrase_takes (head p)) ≡ phrase_gives (head p) ∷ [])
 unfolding is_level
 level_at p l = let x = and_parts _ _ (below_each rule_count is_level level p l) in (x.0, sorts_same _ _ x.1)
 
@@ -82,7 +82,7 @@ begins_more (x ∷ xs) (y ∷ ys) d e =
     let q = begins_more xs ys d p.1 in
     (and_from _ _ p.0 q.0, q.1)
 
-raised : (β : List Item) (h d : List ℕ) → fine β h ≡ true → (fine β (h ++ d) ≡ true) × (after β (h ++ d) ≡ after β h ++ d)
+raised : (β : List Item) (h d : List ℕ) → fine β h ≡ true → (fine β (h ++ d) ≡ true) × (sorts_after β (h ++ d) ≡ sorts_after β h ++ d)
 raised [] h d f = (refl, refl)
 raised (Take k ∷ β) h d f =
     let y = raised β (kept_sorts k ++ h) d f in
@@ -94,18 +94,18 @@ raised (Make a ∷ β) h d f =
     let y = raised β (gives a ∷ drop (length (takes a)) h) d x.1 in
     (and_from _ _ m.0 (rw m.1 y.0), rw m.1 y.1)
 raised (Read a ∷ β) h d f =
-    let x = and_parts (begins_with (need a) h) (fine β (gift a ∷ drop (length (need a)) h)) f in
-    let m = begins_more (need a) h d x.0 in
-    let y = raised β (gift a ∷ drop (length (need a)) h) d x.1 in
+    let x = and_parts (begins_with (phrase_takes a) h) (fine β (phrase_gives a ∷ drop (length (phrase_takes a)) h)) f in
+    let m = begins_more (phrase_takes a) h d x.0 in
+    let y = raised β (phrase_gives a ∷ drop (length (phrase_takes a)) h) d x.1 in
     (and_from _ _ m.0 (rw m.1 y.0), rw m.1 y.1)
 
-fine-append : (β σ : List Item) (h : List ℕ) → fine β h ≡ true → fine σ (after β h) ≡ true → fine (β ++ σ) h ≡ true
+fine-append : (β σ : List Item) (h : List ℕ) → fine β h ≡ true → fine σ (sorts_after β h) ≡ true → fine (β ++ σ) h ≡ true
 fine-append [] σ h f g = g
 fine-append (Take k ∷ β) σ h f g = fine-append β σ _ f g
 fine-append (Make a ∷ β) σ h f g = let x = and_parts (begins_with (takes a) h) (fine β (gives a ∷ drop (length (takes a)) h)) f in and_from _ _ x.0 (fine-append β σ _ x.1 g)
-fine-append (Read a ∷ β) σ h f g = let x = and_parts (begins_with (need a) h) (fine β (gift a ∷ drop (length (need a)) h)) f in and_from _ _ x.0 (fine-append β σ _ x.1 g)
+fine-append (Read a ∷ β) σ h f g = let x = and_parts (begins_with (phrase_takes a) h) (fine β (phrase_gives a ∷ drop (length (phrase_takes a)) h)) f in and_from _ _ x.0 (fine-append β σ _ x.1 g)
 
-after-append : (β σ : List Item) (h : List ℕ) → after (β ++ σ) h ≡ after σ (after β h)
+after-append : (β σ : List Item) (h : List ℕ) → sorts_after (β ++ σ) h ≡ sorts_after σ (sorts_after β h)
 after-append [] σ h = refl
 after-append (Take k ∷ β) σ h = after-append β σ _
 after-append (Make a ∷ β) σ h = after-append β σ _
@@ -113,14 +113,14 @@ after-append (Read a ∷ β) σ h = after-append β σ _
 
 pub level_rule : (p : ℕ) (a : Phrase) (σ : List Item) (h : List ℕ) → p < rule_count → head p ≡ a → Level (Read a ∷ σ) h → Level (body p ++ σ) h
 level_rule p a σ h l e v =
-    let x = and_parts (begins_with (need a) h) (fine σ (gift a ∷ drop (length (need a)) h)) v.enough in
+    let x = and_parts (begins_with (phrase_takes a) h) (fine σ (phrase_gives a ∷ drop (length (phrase_takes a)) h)) v.enough in
     let b = level_at p l in
-    let f : fine (body p) (need a) ≡ true = subst (λ x. fine (body p) (need x) ≡ true) e b.0 in
-    let g : after (body p) (need a) ≡ gift a ∷ [] = subst (λ x. after (body p) (need x) ≡ gift x ∷ []) e b.1 in
-    let y = raised (body p) (need a) (drop (length (need a)) h) f in
-    let k : need a ++ drop (length (need a)) h ≡ h = sym (begins_rest (need a) h x.0) in
+    let f : fine (body p) (phrase_takes a) ≡ true = subst (λ x. fine (body p) (phrase_takes x) ≡ true) e b.0 in
+    let g : sorts_after (body p) (phrase_takes a) ≡ phrase_gives a ∷ [] = subst (λ x. sorts_after (body p) (phrase_takes x) ≡ phrase_gives x ∷ []) e b.1 in
+    let y = raised (body p) (phrase_takes a) (drop (length (phrase_takes a)) h) f in
+    let k : phrase_takes a ++ drop (length (phrase_takes a)) h ≡ h = sym (begins_rest (phrase_takes a) h x.0) in
     let f' : fine (body p) h ≡ true = subst (λ n. fine (body p) n ≡ true) k y.0 in
-    let g' : after (body p) h ≡ gift a ∷ drop (length (need a)) h = subst (λ n. after (body p) n ≡ gift a ∷ drop (length (need a)) h) k (y.1 ∙ ap (λ z. z ++ drop (length (need a)) h) g) in
+    let g' : sorts_after (body p) h ≡ phrase_gives a ∷ drop (length (phrase_takes a)) h = subst (λ n. sorts_after (body p) n ≡ phrase_gives a ∷ drop (length (phrase_takes a)) h) k (y.1 ∙ ap (λ z. z ++ drop (length (phrase_takes a)) h) g) in
     record { enough = fine-append (body p) σ h f' (rw g' x.1); one = after-append (body p) σ h ∙ rw g' v.one }
 
 -- what is made has the sort that is given
@@ -163,7 +163,7 @@ made_sort UnitType w s = refl
 made_sort BoolType w s = refl
 made_sort GroupType w s = refl
 
-sorts-drop : (n : ℕ) (ps : List Part) → sorts_of (drop n ps) ≡ drop n (sorts_of ps)
+sorts-drop : (n : ℕ) (ps : List StackPart) → sorts_of (drop n ps) ≡ drop n (sorts_of ps)
 sorts-drop zero ps = refl
 sorts-drop (suc n) [] = refl
 sorts-drop (suc n) (p ∷ ps) = sorts-drop n ps

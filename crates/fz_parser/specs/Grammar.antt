@@ -1,7 +1,7 @@
 -- What it is for tokens to be a term: each item of a rule's body stands for a part of the text, and the text is cut.
 use Rattle.std.specs.Prelude.{◌≡◌, ℕ, zero, suc, ◌^◌, ◌<◌, ◌≤◌, List, [], ◌∷◌, ◌++◌, get_or, length}
 use Rattle.fz_ast.specs.declared.span.Span.{Span}
-use Rattle.fz_ast.specs.Spanned.{Spanned}
+use Rattle.fz_ast.specs.Terms.{Term}
 use Rattle.fz_lexer.specs.declared.token.Token.{Token}
 use Rattle.fz_lexer.specs.declared.token.Kind.{Kind}
 use Rattle.fz_lexer.specs.declared.token.Kind.TheVariants.{Name, Number, Text, Reserved, Punctuation}
@@ -34,15 +34,15 @@ unfoldable pub body : ℕ → List Item
 body p = (get_or rules p no_rule).body
 
 -- what an item stands for, given what a list of items stands for one level below: from the state s to the state r
-abbrev pub Stands : (List Item → List Token → State → State → Type 0) → Item → List Token → State → State → Type 0
-Stands D (Take k) w s r = (t : Token) × (w ≡ t ∷ []) × Fits k t.kind × (r ≡ shift k t s)
-Stands D (Make a) w s r = (w ≡ []) × (r ≡ build a s)
-Stands D (Read a) w s r = (p : ℕ) × (p < rule_count) × (head p ≡ a) × D (body p) w s r
+abbrev pub StandsFor : (List Item → List Token → State → State → Type 0) → Item → List Token → State → State → Type 0
+StandsFor D (Take k) w s r = (t : Token) × (w ≡ t ∷ []) × Fits k t.kind × (r ≡ shift k t s)
+StandsFor D (Make a) w s r = (w ≡ []) × (r ≡ build a s)
+StandsFor D (Read a) w s r = (p : ℕ) × (p < rule_count) × (head p ≡ a) × D (body p) w s r
 
 -- the items of a list, one after another
 abbrev pub Row : (List Item → List Token → State → State → Type 0) → List Item → List Token → State → State → Type 0
 Row D [] w s r = (w ≡ []) × (r ≡ s)
-Row D (i ∷ σ) w s r = (u : List Token) × (v : List Token) × (m : State) × (w ≡ u ++ v) × Stands D i u s m × Row D σ v m r
+Row D (i ∷ σ) w s r = (u : List Token) × (v : List Token) × (m : State) × (w ≡ u ++ v) × StandsFor D i u s m × Row D σ v m r
 
 -- by derivations of height at most n
 abbrev pub DerivesIn : ℕ → List Item → List Token → State → State → Type 0
@@ -57,13 +57,13 @@ abbrev pub empty : State
 empty = record { last = record { from = 0; to = 0 }; parts = [] }
 
 -- one part, which is the term
-abbrev pub only : Span → ℕ → Spanned → State
+abbrev pub only : Span → ℕ → Term → State
 only last from e = record { last = last; parts = record { from = from; what = TermPart e } ∷ [] }
 
 -- the tokens are the term
-unfoldable pub IsTerm : List Token → Spanned → Type 0
+unfoldable pub IsTerm : List Token → Term → Type 0
 IsTerm ts e = (last : Span) × (from : ℕ) × Derives (Read Expression ∷ []) ts empty (only last from e)
 
 -- a term begins with these tokens
 abbrev pub BeginsTerm : List Token → Type 0
-BeginsTerm ts = (more : List Token) × (e : Spanned) × IsTerm (ts ++ more) e
+BeginsTerm ts = (more : List Token) × (e : Term) × IsTerm (ts ++ more) e

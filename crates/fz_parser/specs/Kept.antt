@@ -1,7 +1,7 @@
 -- What the code's entries stand for.
-use Rattle.std.specs.Prelude.{◌≡◌, ℕ, ◌^◌, ◌<◌, ◌≤◌, List, [], ◌∷◌, reverse, Option, Some, None}
+use Rattle.std.specs.Prelude.{◌≡◌, ℕ, ◌^◌, ◌<◌, ◌≤◌, List, [], ◌∷◌, reverse, Option, Some, None, ⊤}
 use Rattle.fz_frac.specs.Sens.{distance_of}
-use Rattle.fz_ast.specs.Spanned.{Spanned}
+use Rattle.fz_ast.specs.Terms.{Term}
 use Rattle.fz_ast.specs.Parts.{Parts}
 use Rattle.fz_ast.specs.Names.{name_of, text_of}
 use Rattle.fz_ast.specs.TypeNodes.{type_at}
@@ -11,11 +11,11 @@ use Rattle.std.specs.Prelude.{length}
 use Rattle.fz_lexer.specs.declared.token.Token.{Token}
 use Rattle.fz_parser.specs.declared.grammar.Terminal.{Terminal}
 use Rattle.fz_parser.specs.declared.reader.Held.{Held}
-use Rattle.fz_parser.specs.declared.reader.Held.TheVariants.{Begun, Name, Number, Positive, Text, Integer, Factor, Written, Term}
+use Rattle.fz_parser.specs.declared.reader.Held.TheVariants.{Begun, Name, Number, Positive, Text, Integer, Factor, Written, Term as HeldTerm}
 use Rattle.fz_parser.specs.declared.reader.Entry.{Entry}
 use Rattle.fz_parser.specs.declared.reader.Reader.{Reader}
 use Rattle.fz_parser.specs.Grammar.{only, IsTerm}
-use Rattle.fz_parser.specs.Parts.{Part, What, BegunPart, NamePart, NumberPart, PositivePart, TextPart, IntegerPart, FactorPart, TypePart, TermPart, State, part, sort_of, kept}
+use Rattle.fz_parser.specs.Parts.{StackPart, What, BegunPart, NamePart, NumberPart, PositivePart, TextPart, IntegerPart, FactorPart, TypePart, TermPart, State, part, sort_of, token_parts}
 
 abbrev pub what_of : Parts → Held → What
 what_of N Begun = BegunPart
@@ -26,39 +26,39 @@ what_of N (Text t) = TextPart (text_of t)
 what_of N (Integer z) = IntegerPart z
 what_of N (Factor r) = FactorPart (distance_of r)
 what_of N (Written u i) = TypePart u (type_at N.types i)
-what_of N (Term i) = TermPart (term_at N.terms i)
+what_of N (HeldTerm i) = TermPart (term_at N.terms i)
 
-abbrev pub parts_of : Parts → List Entry → List Part
-parts_of N [] = []
-parts_of N (x ∷ xs) = record { from = x.from; what = what_of N x.held } ∷ parts_of N xs
+abbrev pub parts_in : Parts → List Entry → List StackPart
+parts_in N [] = []
+parts_in N (x ∷ xs) = record { from = x.from; what = what_of N x.held } ∷ parts_in N xs
 
 unfoldable pub state_of : Reader → State
-state_of r = record { last = r.last; parts = parts_of r.nodes (reverse r.entries.items) }
+state_of r = record { last = r.last; parts = parts_in r.nodes (reverse r.entries.items) }
 
 -- it is within the limits, and its node is there
 abbrev pub IsHeld : Parts → Held → Type 0
-IsHeld N Begun = Unit {0}
-IsHeld N (Name x) = Unit {0}
+IsHeld N Begun = ⊤
+IsHeld N (Name x) = ⊤
 IsHeld N (Number n) = n ≤ 2 ^ 50
 IsHeld N (Positive n) = (0 < n) × (n < 2 ^ 32)
-IsHeld N (Text t) = Unit {0}
+IsHeld N (Text t) = ⊤
 IsHeld N (Integer z) = IsNumber z
 IsHeld N (Factor r) = IsBang (distance_of r)
 IsHeld N (Written u i) = i < length N.types
-IsHeld N (Term i) = i < length N.terms
+IsHeld N (HeldTerm i) = i < length N.terms
 
 abbrev pub AllHeld : Parts → List Entry → Type 0
-AllHeld N [] = Unit {0}
+AllHeld N [] = ⊤
 AllHeld N (x ∷ xs) = IsHeld N x.held × AllHeld N xs
 
 -- the entries are in order
-pub record IsKept (r : Reader) : Type 0 where
+pub record IsInOrder (r : Reader) : Type 0 where
   pub held : AllHeld r.nodes (reverse r.entries.items)
 
 -- what is kept of a token
 abbrev pub IsValue : Terminal → Token → Option Held → Type 0
-IsValue k t None = kept k t ≡ []
-IsValue k t (Some h) = (N : Parts) → IsHeld N h × (kept k t ≡ (record { from = t.span.from; what = what_of N h }) ∷ [])
+IsValue k t None = token_parts k t ≡ []
+IsValue k t (Some h) = (N : Parts) → IsHeld N h × (token_parts k t ≡ (record { from = t.span.from; what = what_of N h }) ∷ [])
 
 -- the sort of part i, 0 being the last one
 abbrev pub sort_at : ℕ → State → ℕ
@@ -66,12 +66,12 @@ sort_at i s = sort_of (part i s).what
 
 -- nodes were added, and what they hold is this; the parts are as before
 pub record Makes (old new : Reader) (held : Held) (what : What) : Type 0 where
-  pub kept : IsKept new
+  pub kept : IsInOrder new
   pub entries : new.entries.items ≡ old.entries.items
   pub state : state_of new ≡ state_of old
   pub known : IsHeld new.nodes held
   pub is : what_of new.nodes held ≡ what
 
 -- the tokens are a term, which is the one part that was read
-abbrev pub IsRead : List Token → Reader → Type 0
-IsRead ts r = (from : ℕ) × (e : Spanned) × (state_of r ≡ only r.last from e) × IsKept r × IsTerm ts e
+abbrev pub IsReadAsTerm : List Token → Reader → Type 0
+IsReadAsTerm ts r = (from : ℕ) × (e : Term) × (state_of r ≡ only r.last from e) × IsInOrder r × IsTerm ts e

@@ -2,6 +2,7 @@ pub mod Table
 pub mod Parts
 pub mod Grammar
 pub mod Reading
+pub mod Printer
 pub mod Classes
 pub mod Reads
 pub mod Rows

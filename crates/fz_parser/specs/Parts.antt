@@ -4,7 +4,8 @@ use Rattle.fz_frac.specs.Distance.{Distance, Fin, Inf}
 use Rattle.fz_frac.specs.Lowest.{gcd}
 use Rattle.fz_ast.specs.declared.span.Span.{Span}
 use Rattle.fz_ast.specs.Types.{Ty, NumT, TextT, UnitT, TensorT, WithT, SumT, ArrowT, BangT, BagT, BoolT, UnlimitedT}
-use Rattle.fz_ast.specs.Spanned.{Spanned, VarAt, NumAt, TextAt, UnitAt, LetPairAt, InlAt, InrAt, CaseAt, IfAt, FunAt, FnAt, BangAt, LetBangAt, LetAt, TimesAt, ClipAt, SumAt, TrueAt, FalseAt}
+use Rattle.fz_ast.specs.Terms.{Term, TermForm, at, VarE, NumE, TextE, UnitE, LetPairE, InlE, InrE, CaseE, IfE, FunE, FnE, BangE, LetBangE, LetE, TimesE, ClipE, SumE, TrueE, FalseE}
+use Rattle.fz_ast.specs.Bare.{nowhere}
 use Rattle.fz_lexer.specs.declared.token.Token.{Token}
 use Rattle.fz_lexer.specs.declared.token.Kind.{Kind}
 use Rattle.fz_lexer.specs.declared.token.Kind.TheVariants.{Name, Number, Text, Reserved, Punctuation}
@@ -33,17 +34,17 @@ pub data What : Type 0 where
   FactorPart : (r : Distance) → What
   -- a written type, and its span
   TypePart : (u : Span) (t : Ty) → What
-  TermPart : (e : Spanned) → What
+  TermPart : (e : Term) → What
 
 -- a part, and where its text begins: at its parentheses, if it stands in some
-pub record Part : Type 0 where
+pub record StackPart : Type 0 where
   pub from : ℕ
   pub what : What
 
 -- the last token's span, and the parts so far, the last one first
 pub record State : Type 0 where
   pub last : Span
-  pub parts : List Part
+  pub parts : List StackPart
 
 -- sorts of parts
 abbrev begun : ℕ
@@ -67,7 +68,7 @@ integer = 5
 abbrev factor : ℕ
 factor = 6
 
-abbrev type_ : ℕ
+abbrev pub type_ : ℕ
 type_ = 7
 
 abbrev pub term : ℕ
@@ -163,43 +164,43 @@ gives BoolType = type_
 gives GroupType = type_
 
 -- What a token leaves, by what it has to be.
-abbrev pub name_of : Kind → List ℕ
-name_of (Name x) = x
-name_of (Number n) = []
-name_of (Text x) = []
-name_of (Reserved w) = []
-name_of (Punctuation s) = []
+abbrev pub kind_name : Kind → List ℕ
+kind_name (Name x) = x
+kind_name (Number n) = []
+kind_name (Text x) = []
+kind_name (Reserved w) = []
+kind_name (Punctuation s) = []
 
-abbrev pub number_of : Kind → ℕ
-number_of (Name x) = 0
-number_of (Number n) = n
-number_of (Text x) = 0
-number_of (Reserved w) = 0
-number_of (Punctuation s) = 0
+abbrev pub kind_number : Kind → ℕ
+kind_number (Name x) = 0
+kind_number (Number n) = n
+kind_number (Text x) = 0
+kind_number (Reserved w) = 0
+kind_number (Punctuation s) = 0
 
-abbrev pub text_of : Kind → List ℕ
-text_of (Name x) = []
-text_of (Number n) = []
-text_of (Text x) = x
-text_of (Reserved w) = []
-text_of (Punctuation s) = []
+abbrev pub kind_text : Kind → List ℕ
+kind_text (Name x) = []
+kind_text (Number n) = []
+kind_text (Text x) = x
+kind_text (Reserved w) = []
+kind_text (Punctuation s) = []
 
-abbrev pub kept : Terminal → Token → List Part
-kept Named t = record { from = t.span.from; what = NamePart (name_of t.kind) } ∷ []
-kept Numeral t = record { from = t.span.from; what = NumberPart (number_of t.kind) } ∷ []
-kept Positive t = record { from = t.span.from; what = PositivePart (number_of t.kind) } ∷ []
-kept Quoted t = record { from = t.span.from; what = TextPart (text_of t.kind) } ∷ []
-kept (Keyword w) t = []
-kept (Symbol s) t = []
+abbrev pub token_parts : Terminal → Token → List StackPart
+token_parts Named t = record { from = t.span.from; what = NamePart (kind_name t.kind) } ∷ []
+token_parts Numeral t = record { from = t.span.from; what = NumberPart (kind_number t.kind) } ∷ []
+token_parts Positive t = record { from = t.span.from; what = PositivePart (kind_number t.kind) } ∷ []
+token_parts Quoted t = record { from = t.span.from; what = TextPart (kind_text t.kind) } ∷ []
+token_parts (Keyword w) t = []
+token_parts (Symbol s) t = []
 
 unfoldable pub shift : Terminal → Token → State → State
-shift k t s = record { last = t.span; parts = kept k t ++ s.parts }
+shift k t s = record { last = t.span; parts = token_parts k t ++ s.parts }
 
 -- What the parts hold, 0 being the last one. (Where a part is of another sort, which no rule comes to, these answer something.)
-abbrev pub nothing : Part
+abbrev pub nothing : StackPart
 nothing = record { from = 0; what = BegunPart }
 
-abbrev pub part : ℕ → State → Part
+abbrev pub part : ℕ → State → StackPart
 part i s = get_or s.parts i nothing
 
 abbrev pub in_name : What → List ℕ
@@ -225,15 +226,15 @@ in_number (TypePart u t) = 0
 in_number (TermPart e) = 0
 
 abbrev pub in_positive : What → ℕ
-in_positive BegunPart = 0
-in_positive (NamePart x) = 0
-in_positive (NumberPart n) = 0
+in_positive BegunPart = 1
+in_positive (NamePart x) = 1
+in_positive (NumberPart n) = 1
 in_positive (PositivePart n) = n
-in_positive (TextPart s) = 0
-in_positive (IntegerPart z) = 0
-in_positive (FactorPart r) = 0
-in_positive (TypePart u t) = 0
-in_positive (TermPart e) = 0
+in_positive (TextPart s) = 1
+in_positive (IntegerPart z) = 1
+in_positive (FactorPart r) = 1
+in_positive (TypePart u t) = 1
+in_positive (TermPart e) = 1
 
 abbrev pub in_text : What → List ℕ
 in_text BegunPart = []
@@ -268,9 +269,6 @@ in_factor (FactorPart r) = r
 in_factor (TypePart u t) = Inf
 in_factor (TermPart e) = Inf
 
-abbrev nowhere : Span
-nowhere = record { from = 0; to = 0 }
-
 abbrev pub in_span : What → Span
 in_span BegunPart = nowhere
 in_span (NamePart x) = nowhere
@@ -293,15 +291,15 @@ in_type (FactorPart r) = UnitT
 in_type (TypePart u t) = t
 in_type (TermPart e) = UnitT
 
-abbrev pub in_term : What → Spanned
-in_term BegunPart = UnitAt nowhere
-in_term (NamePart x) = UnitAt nowhere
-in_term (NumberPart n) = UnitAt nowhere
-in_term (PositivePart n) = UnitAt nowhere
-in_term (TextPart s) = UnitAt nowhere
-in_term (IntegerPart z) = UnitAt nowhere
-in_term (FactorPart r) = UnitAt nowhere
-in_term (TypePart u t) = UnitAt nowhere
+abbrev pub in_term : What → Term
+in_term BegunPart = at nowhere UnitE
+in_term (NamePart x) = at nowhere UnitE
+in_term (NumberPart n) = at nowhere UnitE
+in_term (PositivePart n) = at nowhere UnitE
+in_term (TextPart s) = at nowhere UnitE
+in_term (IntegerPart z) = at nowhere UnitE
+in_term (FactorPart r) = at nowhere UnitE
+in_term (TypePart u t) = at nowhere UnitE
 in_term (TermPart e) = e
 
 abbrev x_ : ℕ → State → List ℕ
@@ -328,12 +326,12 @@ u_ i s = in_span (part i s).what
 abbrev t_ : ℕ → State → Ty
 t_ i s = in_type (part i s).what
 
-abbrev e_ : ℕ → State → Spanned
+abbrev e_ : ℕ → State → Term
 e_ i s = in_term (part i s).what
 
 -- a fraction in lowest terms
-unfoldable pub lowest : ℕ → ℕ → Distance
-lowest p q = Fin (p / gcd p q) (q / gcd p q)
+unfoldable pub in_lowest_terms : ℕ → ℕ → Distance
+in_lowest_terms p q = Fin (p / gcd p q) (q / gcd p q)
 
 -- where what the top parts make begins
 abbrev pub start_at : ℕ → State → ℕ
@@ -348,22 +346,22 @@ abbrev pub whole : Action → State → Span
 whole a s = record { from = start_at (arity a) s; to = s.last.to }
 
 -- fun, fn
-abbrev pub lambda : Arrow → Span → List ℕ → Span → Ty → Spanned → Spanned
-lambda Fun w x u t e = FunAt w x u t e
-lambda Fn w x u t e = FnAt w x u t e
+abbrev pub lambda : Arrow → List ℕ → Span → Ty → Term → TermForm
+lambda Fun x u t e = FunE x u t e
+lambda Fn x u t e = FnE x u t e
 
-abbrev pub inject : Side → Span → Span → Ty → Spanned → Spanned
-inject Inl w u t e = InlAt w u t e
-inject Inr w u t e = InrAt w u t e
+abbrev pub inject : Side → Span → Ty → Term → TermForm
+inject Inl u t e = InlE u t e
+inject Inr u t e = InrE u t e
 
-abbrev pub ranged : Ranged → Span → ℤ → ℤ → Spanned → Spanned
-ranged SumRanged w lo hi e = SumAt w lo hi e
-ranged ClipRanged w lo hi e = ClipAt w lo hi e
+abbrev pub ranged : Ranged → ℤ → ℤ → Term → TermForm
+ranged SumRanged lo hi e = SumE lo hi e
+ranged ClipRanged lo hi e = ClipE lo hi e
 
 -- `true` is inl[unit] (), `false` is inr[unit] (), each with the token's span
-abbrev pub truth : Side → Span → Spanned
-truth Inl w = TrueAt w
-truth Inr w = FalseAt w
+abbrev pub truth_term : Side → Span → Term
+truth_term Inl w = TrueE w
+truth_term Inr w = FalseE w
 
 abbrev pub joint : Joint → Ty → Ty → Ty
 joint Lollipop a b = ArrowT a b
@@ -375,35 +373,35 @@ joint With a b = WithT a b
 abbrev pub made : Action → Span → State → What
 made Begin w s = BegunPart
 -- fun (x : t) => e, fn (x : t) => e
-made (LambdaTerm o) w s = TermPart (lambda o w (x_ 2 s) (u_ 1 s) (t_ 1 s) (e_ 0 s))
-made LetBangTerm w s = TermPart (LetBangAt w (x_ 2 s) (e_ 1 s) (e_ 0 s))
-made LetPairTerm w s = TermPart (LetPairAt w (x_ 3 s) (x_ 2 s) (e_ 1 s) (e_ 0 s))
-made LetTerm w s = TermPart (LetAt w (x_ 2 s) (e_ 1 s) (e_ 0 s))
-made CaseTerm w s = TermPart (CaseAt w (e_ 4 s) (x_ 3 s) (e_ 2 s) (x_ 1 s) (e_ 0 s))
-made IfTerm w s = TermPart (IfAt w (e_ 2 s) (e_ 1 s) (e_ 0 s))
+made (LambdaTerm o) w s = TermPart (at w (lambda o (x_ 2 s) (u_ 1 s) (t_ 1 s) (e_ 0 s)))
+made LetBangTerm w s = TermPart (at w (LetBangE (x_ 2 s) (e_ 1 s) (e_ 0 s)))
+made LetPairTerm w s = TermPart (at w (LetPairE (x_ 3 s) (x_ 2 s) (e_ 1 s) (e_ 0 s)))
+made LetTerm w s = TermPart (at w (LetE (x_ 2 s) (e_ 1 s) (e_ 0 s)))
+made CaseTerm w s = TermPart (at w (CaseE (e_ 4 s) (x_ 3 s) (e_ 2 s) (x_ 1 s) (e_ 0 s)))
+made IfTerm w s = TermPart (at w (IfE (e_ 2 s) (e_ 1 s) (e_ 0 s)))
 -- a <= b, a == b, a + b, a - b, f a
-made (InfixTerm o) w s = TermPart (binary o w (e_ 1 s) (e_ 0 s))
+made (InfixTerm o) w s = TermPart (at w (binary o (e_ 1 s) (e_ 0 s)))
 -- a negative number is one leaf
-made NegativeTerm w s = TermPart (NumAt w (neg_ℤ (pos (n_ 0 s))))
-made NegativeTimesTerm w s = TermPart (TimesAt w (neg_ℤ (pos (n_ 1 s))) (e_ 0 s))
-made TimesTerm w s = TermPart (TimesAt w (pos (n_ 1 s)) (e_ 0 s))
-made NumberTerm w s = TermPart (NumAt w (pos (n_ 0 s)))
-made (UnaryTerm o) w s = TermPart (unary o w (e_ 0 s))
-made (RangedTerm o) w s = TermPart (ranged o w (z_ 2 s) (z_ 1 s) (e_ 0 s))
-made (InjectTerm o) w s = TermPart (inject o w (u_ 1 s) (t_ 1 s) (e_ 0 s))
-made BangTerm w s = TermPart (BangAt w (r_ 1 s) (e_ 0 s))
+made NegativeTerm w s = TermPart (at w (NumE (neg_ℤ (pos (n_ 0 s)))))
+made NegativeTimesTerm w s = TermPart (at w (TimesE (neg_ℤ (pos (n_ 1 s))) (e_ 0 s)))
+made TimesTerm w s = TermPart (at w (TimesE (pos (n_ 1 s)) (e_ 0 s)))
+made NumberTerm w s = TermPart (at w (NumE (pos (n_ 0 s))))
+made (UnaryTerm o) w s = TermPart (at w (unary o (e_ 0 s)))
+made (RangedTerm o) w s = TermPart (at w (ranged o (z_ 2 s) (z_ 1 s) (e_ 0 s)))
+made (InjectTerm o) w s = TermPart (at w (inject o (u_ 1 s) (t_ 1 s) (e_ 0 s)))
+made BangTerm w s = TermPart (at w (BangE (r_ 1 s) (e_ 0 s)))
 -- (a, b), <a, b>, map, filter, split, union
-made (PrefixTerm o) w s = TermPart (binary o w (e_ 1 s) (e_ 0 s))
-made NameTerm w s = TermPart (VarAt w (x_ 0 s))
-made TextTerm w s = TermPart (TextAt w (s_ 0 s))
-made (TruthTerm o) w s = TermPart (truth o w)
-made UnitTerm w s = TermPart (UnitAt w)
+made (PrefixTerm o) w s = TermPart (at w (binary o (e_ 1 s) (e_ 0 s)))
+made NameTerm w s = TermPart (at w (VarE (x_ 0 s)))
+made TextTerm w s = TermPart (at w (TextE (s_ 0 s)))
+made (TruthTerm o) w s = TermPart (truth_term o w)
+made UnitTerm w s = TermPart (at w UnitE)
 -- parentheses round a term are outside its span
 made GroupTerm w s = TermPart (e_ 0 s)
 made PlainInteger w s = IntegerPart (pos (n_ 0 s))
 made NegativeInteger w s = IntegerPart (neg_ℤ (pos (n_ 0 s)))
 made WholeFactor w s = FactorPart (Fin (p_ 0 s) 1)
-made FractionFactor w s = FactorPart (lowest (p_ 1 s) (p_ 0 s))
+made FractionFactor w s = FactorPart (in_lowest_terms (p_ 1 s) (p_ 0 s))
 made InfFactor w s = FactorPart Inf
 made (JoinType o) w s = TypePart w (joint o (t_ 1 s) (t_ 0 s))
 -- S -> T stands for ![inf] S -o T

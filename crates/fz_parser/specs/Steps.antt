@@ -1,5 +1,5 @@
 -- What holds at each step of the reading.
-use Rattle.std.specs.Prelude.{◌≡◌, ℕ, ◌<◌, List, [], ◌∷◌, ◌++◌, true}
+use Rattle.std.specs.Prelude.{◌≡◌, ℕ, ◌<◌, List, [], ◌∷◌, ◌++◌, true, ⊤}
 use Rattle.fz_lexer.specs.declared.token.Token.{Token}
 use Rattle.fz_parser.specs.declared.grammar.Item.{Item}
 use Rattle.fz_parser.specs.declared.grammar.Item.TheVariants.{Take, Read, Make}
@@ -7,13 +7,13 @@ use Rattle.fz_parser.specs.declared.grammar.Phrase.{Phrase}
 use Rattle.fz_parser.specs.declared.grammar.Phrase.TheVariants.{Expression}
 use Rattle.fz_parser.specs.declared.grammar.Top.{Top}
 use Rattle.fz_parser.specs.declared.grammar.Top.TheVariants.{Empty, Wants, Refuses}
-use Rattle.fz_parser.specs.Parts.{Part, State, sort_of, term}
+use Rattle.fz_parser.specs.Parts.{StackPart, State, sort_of, term}
 use Rattle.fz_parser.specs.Grammar.{empty}
 use Rattle.fz_parser.specs.Classes.{class}
 use Rattle.fz_parser.specs.Reads.{Reads}
-use Rattle.fz_parser.specs.Tests.{follows, starts, fine, after}
+use Rattle.fz_parser.specs.Tests.{follows, starts, fine, sorts_after}
 
-abbrev pub sorts_of : List Part → List ℕ
+abbrev pub sorts_of : List StackPart → List ℕ
 sorts_of [] = []
 sorts_of (p ∷ ps) = sort_of p.what ∷ sorts_of ps
 
@@ -25,7 +25,7 @@ abbrev pub Follows : Phrase → List Item → Type 0
 Follows a σ = (c : ℕ) → c < 64 → starts σ c ≡ true → follows a c ≡ true
 
 abbrev pub Good : List Item → Type 0
-Good [] = Unit {0}
+Good [] = ⊤
 Good (Take k ∷ σ) = Good σ
 Good (Make a ∷ σ) = Good σ
 Good (Read a ∷ σ) = Follows a σ × Good σ
@@ -38,7 +38,7 @@ front (t ∷ w) = class t
 -- the items find their parts, and leave one term
 pub record Level (σ : List Item) (h : List ℕ) : Type 0 where
   pub enough : fine σ h ≡ true
-  pub one : after σ h ≡ term ∷ []
+  pub one : sorts_after σ h ≡ term ∷ []
 
 abbrev pub START : List Item
 START = Read Expression ∷ []
@@ -68,4 +68,4 @@ Outcome Refuses read rest σ s = Refused read rest
 abbrev pub Left : Top → List Item → State → Type 0
 Left Empty σ s = Sound [] s
 Left (Wants k) σ s = Sound (Take k ∷ σ) s
-Left Refuses σ s = Unit {0}
+Left Refuses σ s = ⊤

@@ -1,17 +1,16 @@
 -- What the tables must pass, as tests that compute.
-use Rattle.std.specs.Prelude.{ℕ, zero, suc, ◌+◌, ◌-◌, List, [], ◌∷◌, ◌++◌, Bool, true, false, cond, get_or, take, drop, length, ◌&&◌, ◌||◌, nat_eq, nat_lt, nat_le}
+use Rattle.std.specs.Prelude.{ℕ, zero, suc, ◌+◌, ◌-◌, List, [], ◌∷◌, ◌++◌, Bool, true, false, cond, get_or, drop, length, ◌&&◌, ◌||◌, nat_eq, nat_lt}
 use Rattle.fz_parser.specs.declared.grammar.Item.{Item}
 use Rattle.fz_parser.specs.declared.grammar.Item.TheVariants.{Take, Read, Make}
 use Rattle.fz_parser.specs.declared.grammar.Terminal.{Terminal}
 use Rattle.fz_parser.specs.declared.grammar.Terminal.TheVariants.{Named, Numeral, Positive, Quoted, Keyword, Symbol}
 use Rattle.fz_parser.specs.declared.grammar.Phrase.{Phrase}
 use Rattle.fz_parser.specs.declared.grammar.Phrase.TheVariants.{Expression}
-use Rattle.fz_parser.specs.declared.tables.TheConstants.{CHOICES, ITEMS, STARTS}
 use Rattle.fz_parser.specs.Table.{rule_count}
 use Rattle.fz_parser.specs.Grammar.{head, body}
 use Rattle.fz_parser.specs.Parts.{takes, gives}
 use Rattle.fz_parser.specs.Classes.{phrase_number, phrases, terminal_number, may_stand}
-use Rattle.fz_parser.specs.Rows.{follow_rows, need_rows, gift_rows, cost_rows, least_rows, weight_rows, empty_rows}
+use Rattle.fz_parser.specs.Rows.{follow_rows, choice_rows, need_rows, gift_rows, cost_rows, least_rows, weight_rows, empty_rows}
 
 -- the phrase of a number
 abbrev pub phrase_at : ℕ → Phrase
@@ -24,9 +23,15 @@ has (x ∷ xs) c = nat_eq x c || has xs c
 unfoldable pub follows : Phrase → ℕ → Bool
 follows a c = has (get_or follow_rows (phrase_number a) []) c
 
+-- one more than the rule whose classes c is among; 0 where there is none
+abbrev pub chosen_in : List (List ℕ) → ℕ → ℕ
+chosen_in [] c = 0
+chosen_in ([] ∷ rows) c = chosen_in rows c
+chosen_in ((p ∷ cs) ∷ rows) c = cond (has cs c) p (chosen_in rows c)
+
 -- one more than the rule for a before a token of class c; 0 where there is none
 unfoldable pub choice : Phrase → ℕ → ℕ
-choice a c = get_or (get_or CHOICES (phrase_number a) []) c 0
+choice a c = chosen_in (get_or choice_rows (phrase_number a) []) c
 
 -- may a stack with these items on top meet a token of class c (0: the end)
 abbrev pub starts : List Item → ℕ → Bool
@@ -36,15 +41,15 @@ starts (Make a ∷ σ) c = starts σ c
 starts (Read a ∷ σ) c = nat_lt 0 (choice a c)
 
 -- actions alone
-abbrev pub bare : List Item → Bool
-bare [] = true
-bare (Take k ∷ σ) = false
-bare (Make a ∷ σ) = bare σ
-bare (Read a ∷ σ) = false
+abbrev pub only_actions : List Item → Bool
+only_actions [] = true
+only_actions (Take k ∷ σ) = false
+only_actions (Make a ∷ σ) = only_actions σ
+only_actions (Read a ∷ σ) = false
 
 -- what may come where β stands, and behind it what may follow a
 abbrev pub coming : Phrase → List Item → ℕ → Bool
-coming a β c = cond (bare β) (follows a c) (starts β c)
+coming a β c = cond (only_actions β) (follows a c) (starts β c)
 
 -- what may follow each phrase in β may follow by the rows
 abbrev pub passes : Phrase → List Item → ℕ → Bool
@@ -84,14 +89,15 @@ cost_all (Read a ∷ σ) = cost a + cost_all σ
 
 -- a phrase's least rule is for it and takes fewer steps
 unfoldable pub is_least : ℕ → Bool
-is_least a = nat_eq (phrase_number (head (least (phrase_at a)))) a && (nat_lt (least (phrase_at a)) rule_count && nat_lt (cost_all (body (least (phrase_at a)))) (cost (phrase_at a)))
+is_least a = nat_eq (phrase_number (head (least (phrase_at a)))) a &&
+    (nat_lt (least (phrase_at a)) rule_count && nat_lt (cost_all (body (least (phrase_at a)))) (cost (phrase_at a)))
 
 -- the sorts of parts: what a phrase takes and gives
-unfoldable pub need : Phrase → List ℕ
-need a = get_or need_rows (phrase_number a) []
+unfoldable pub phrase_takes : Phrase → List ℕ
+phrase_takes a = get_or need_rows (phrase_number a) []
 
-unfoldable pub gift : Phrase → ℕ
-gift a = get_or gift_rows (phrase_number a) 0
+unfoldable pub phrase_gives : Phrase → ℕ
+phrase_gives a = get_or gift_rows (phrase_number a) 0
 
 -- the sorts that a token leaves
 abbrev pub kept_sorts : Terminal → List ℕ
@@ -113,13 +119,13 @@ abbrev pub fine : List Item → List ℕ → Bool
 fine [] h = true
 fine (Take k ∷ σ) h = fine σ (kept_sorts k ++ h)
 fine (Make a ∷ σ) h = begins_with (takes a) h && fine σ (gives a ∷ drop (length (takes a)) h)
-fine (Read a ∷ σ) h = begins_with (need a) h && fine σ (gift a ∷ drop (length (need a)) h)
+fine (Read a ∷ σ) h = begins_with (phrase_takes a) h && fine σ (phrase_gives a ∷ drop (length (phrase_takes a)) h)
 
-abbrev pub after : List Item → List ℕ → List ℕ
-after [] h = h
-after (Take k ∷ σ) h = after σ (kept_sorts k ++ h)
-after (Make a ∷ σ) h = after σ (gives a ∷ drop (length (takes a)) h)
-after (Read a ∷ σ) h = after σ (gift a ∷ drop (length (need a)) h)
+abbrev pub sorts_after : List Item → List ℕ → List ℕ
+sorts_after [] h = h
+sorts_after (Take k ∷ σ) h = sorts_after σ (kept_sorts k ++ h)
+sorts_after (Make a ∷ σ) h = sorts_after σ (gives a ∷ drop (length (takes a)) h)
+sorts_after (Read a ∷ σ) h = sorts_after σ (phrase_gives a ∷ drop (length (phrase_takes a)) h)
 
 abbrev pub same_sorts : List ℕ → List ℕ → Bool
 same_sorts [] [] = true
@@ -128,7 +134,7 @@ same_sorts (x ∷ xs) [] = false
 same_sorts (x ∷ xs) (y ∷ ys) = nat_eq x y && same_sorts xs ys
 
 unfoldable pub is_level : ℕ → Bool
-is_level p = fine (body p) (need (head p)) && same_sorts (after (body p) (need (head p))) (gift (head p) ∷ [])
+is_level p = fine (body p) (phrase_takes (head p)) && same_sorts (sorts_after (body p) (phrase_takes (head p))) (phrase_gives (head p) ∷ [])
 
 -- how many steps there are before a token is taken
 unfoldable pub weight : Phrase → ℕ
@@ -152,10 +158,3 @@ must (Read a ∷ σ) = cond (may_be_empty a) (must σ) true
 
 unfoldable pub is_quick : ℕ → Bool
 is_quick p = nat_lt (lead (body p)) (weight (head p)) && (may_be_empty (head p) || must (body p))
-
--- the body of rule p, as the code has it
-unfoldable pub part_of : ℕ → List Item
-part_of p = take (get_or STARTS (suc p) 0 - get_or STARTS p 0) (drop (get_or STARTS p 0) ITEMS)
-
-unfoldable pub is_part : ℕ → Bool
-is_part p = nat_le (get_or STARTS p 0) (get_or STARTS (suc p) 0) && nat_le (get_or STARTS (suc p) 0) 276

@@ -1,3 +1,4 @@
+//! Why tokens are no term.
 use fz_ast::NoMemory;
 use std::alloc::AllocError;
 

@@ -1,4 +1,4 @@
-// What the grammar is made of.
+//! What the grammar is made of.
 use fz_ast::{Arrow, Binary, Ranged, Side, Unary};
 use fz_lexer::{Sign, Word};
 

@@ -1,5 +1,5 @@
-// Looking tables up.
-ghost use Rattle.std.specs.Prelude.{◌≡◌, ◌<◌, ◌≤◌, slice_index, slice_index_or};
+//! Looking tables up.
+ghost use Rattle.std.specs.Prelude.{◌≡◌, ◌<◌, ◌≤◌, [], get_or, slice_index, slice_index_or};
 ghost use Rattle.fz_parser.specs.Classes.{word_number, sign_number, phrase_number, terminal_number, class_of, may_stand};
 ghost use Rattle.fz_parser.specs.Tests.{choice};
 ghost use Rattle.fz_parser.specs.declared.grammar.Item.{Item};
@@ -104,11 +104,17 @@ pub fn item_at(place: usize) -> Item
     ITEMS[place]
 }
 
+fn tabled(phrase: Phrase, class: u8) -> u8
+    requires { class < 64 }
+    ensures { result ≡ get_or (get_or CHOICES (phrase_number phrase) []) class 0 }
+{
+    CHOICES[phrase_number(phrase) as usize][class as usize]
+}
+
 /// One more than the rule for the phrase before a token of that class, or 0.
-#[tactic(auto, unfolding(crate::specs::Tests::choice))]
 pub fn choice_at(phrase: Phrase, class: u8) -> u8
     requires { class < 64 }
     ensures { result ≡ choice phrase class }
 {
-    CHOICES[phrase_number(phrase) as usize][class as usize]
+    tabled(phrase, class)
 }

@@ -1,10 +1,10 @@
-// One action, and one token.
+//! One action, and one token.
 ghost use Rattle.std.specs.Prelude.{◌≡◌, ◌≤◌, ◌∷◌, ◌++◌, [], length, drop, true, IfOk, OnOk};
-ghost use Rattle.fz_parser.specs.Parts.{made, takes, gives, arity, build, shift};
+ghost use Rattle.fz_parser.specs.Parts.{made, takes, gives, arity, build, shift, type_};
 ghost use Rattle.fz_parser.specs.Grammar.{Fits};
 ghost use Rattle.fz_parser.specs.Tests.{begins_with};
 ghost use Rattle.fz_parser.specs.Steps.{sorts};
-ghost use Rattle.fz_parser.specs.Kept.{what_of, state_of, IsHeld, IsKept, IsValue, Makes};
+ghost use Rattle.fz_parser.specs.Kept.{what_of, state_of, IsHeld, IsInOrder, IsValue, Makes};
 ghost use Rattle.fz_parser.specs.declared.grammar.Action.{Action};
 
 use crate::grammar::{Action, Terminal};
@@ -40,9 +40,9 @@ fn arity(action: Action) -> usize
 /// What an action that gives a type makes of them.
 #[tactic(auto, unfolding(crate::specs::Parts::gives))]
 fn made_type(reader: &mut Reader, action: Action, whole: Span) -> Result<Held, NoMemory>
-    requires kept { IsKept reader.old }
+    requires kept { IsInOrder reader.old }
     requires ready { begins_with (takes action) (sorts (state_of reader.old)) ≡ true }
-    requires gives { gives action ≡ 7 }
+    requires gives { gives action ≡ type_ }
     ensures { IfOk result (λ held. Makes reader.old reader.new held (made action whole (state_of reader.old))) }
 {
     match action {
@@ -62,7 +62,7 @@ fn made_type(reader: &mut Reader, action: Action, whole: Span) -> Result<Held, N
 /// What an action makes of the parts on top.
 #[tactic(auto, unfolding(crate::specs::Parts::gives))]
 fn made(reader: &mut Reader, action: Action, whole: Span) -> Result<Held, NoMemory>
-    requires kept { IsKept reader.old }
+    requires kept { IsInOrder reader.old }
     requires ready { begins_with (takes action) (sorts (state_of reader.old)) ≡ true }
     ensures { IfOk result (λ held. Makes reader.old reader.new held (made action whole (state_of reader.old))) }
 {
@@ -107,10 +107,11 @@ fn push(entries: &mut Vec<Entry>, entry: Entry) -> Result<(), AllocError>
 
 /// One part in the place of the last `count`.
 fn replace(reader: &mut Reader, count: usize, entry: Entry) -> Result<(), NoMemory>
-    requires kept { IsKept reader.old }
+    requires kept { IsInOrder reader.old }
     requires held { IsHeld reader.old.nodes entry.held }
-    ensures kept { OnOk result (IsKept reader.new) }
-    ensures state { OnOk result (state_of reader.new ≡ record { last = reader.old.last; parts = record { from = entry.from; what = what_of reader.old.nodes entry.held } ∷ drop count (state_of reader.old).parts }) }
+    ensures kept { OnOk result (IsInOrder reader.new) }
+    ensures state { OnOk result (state_of reader.new ≡
+        record { last = reader.old.last; parts = record { from = entry.from; what = what_of reader.old.nodes entry.held } ∷ drop count (state_of reader.old).parts }) }
 {
     let rest = reader.entries.len().saturating_sub(count);
     reader.entries.truncate(rest);
@@ -120,9 +121,9 @@ fn replace(reader: &mut Reader, count: usize, entry: Entry) -> Result<(), NoMemo
 
 /// The part that an action makes takes the place of those that it is made of.
 pub fn make(reader: &mut Reader, action: Action) -> Result<(), NoMemory>
-    requires kept { IsKept reader.old }
+    requires kept { IsInOrder reader.old }
     requires ready { begins_with (takes action) (sorts (state_of reader.old)) ≡ true }
-    ensures kept { OnOk result (IsKept reader.new) }
+    ensures kept { OnOk result (IsInOrder reader.new) }
     ensures state { OnOk result (state_of reader.new ≡ build action (state_of reader.old)) }
 {
     let count = arity(action);
@@ -162,9 +163,9 @@ fn value(terminal: Terminal, token: &Token) -> Option<Held>
 
 /// Takes a token where such a one is wanted.
 pub fn take(reader: &mut Reader, terminal: Terminal, token: &Token) -> Result<(), NoMemory>
-    requires kept { IsKept reader.old }
+    requires kept { IsInOrder reader.old }
     requires fits { Fits terminal token.now.kind }
-    ensures kept { OnOk result (IsKept reader.new) }
+    ensures kept { OnOk result (IsInOrder reader.new) }
     ensures state { OnOk result (state_of reader.new ≡ shift terminal token.now (state_of reader.old)) }
 {
     let span = token.span;

@@ -1,7 +1,7 @@
-// What each action makes of the parts on top.
+//! What each action makes of the parts on top.
 ghost use Rattle.std.specs.Prelude.{◌≡◌, IfOk};
-ghost use Rattle.fz_parser.specs.Parts.{made};
-ghost use Rattle.fz_parser.specs.Kept.{what_of, state_of, IsHeld, IsKept, sort_at, Makes};
+ghost use Rattle.fz_parser.specs.Parts.{made, type_, term};
+ghost use Rattle.fz_parser.specs.Kept.{what_of, state_of, IsHeld, IsInOrder, sort_at, Makes};
 ghost use Rattle.fz_parser.specs.declared.grammar.Action.{Action};
 ghost use Rattle.fz_ast.specs.declared.span.Span.{Span};
 
@@ -12,10 +12,9 @@ use fz_frac::{Frac, Sens};
 
 /// `fun (x : t) => e`, `fn (x : t) => e`
 pub fn lambda(reader: &mut Reader, arrow: Arrow, whole: Span) -> Result<Held, NoMemory>
-    requires kept { IsKept reader.old }
-    requires at_0 { sort_at 0 (state_of reader.old) ≡ 8 }
-    requires at_1 { sort_at 1 (state_of reader.old) ≡ 7 }
-    requires at_2 { sort_at 2 (state_of reader.old) ≡ 1 }
+    requires kept { IsInOrder reader.old }
+    requires at_0 { sort_at 0 (state_of reader.old) ≡ term }
+    requires at_1 { sort_at 1 (state_of reader.old) ≡ type_ }
     ensures { IfOk result (λ held. Makes reader.old reader.new held (made (Action.LambdaTerm arrow) whole (state_of reader.old))) }
 {
     let name = reader.name(2);
@@ -25,10 +24,9 @@ pub fn lambda(reader: &mut Reader, arrow: Arrow, whole: Span) -> Result<Held, No
 }
 
 pub fn let_bang(reader: &mut Reader, whole: Span) -> Result<Held, NoMemory>
-    requires kept { IsKept reader.old }
-    requires at_0 { sort_at 0 (state_of reader.old) ≡ 8 }
-    requires at_1 { sort_at 1 (state_of reader.old) ≡ 8 }
-    requires at_2 { sort_at 2 (state_of reader.old) ≡ 1 }
+    requires kept { IsInOrder reader.old }
+    requires at_0 { sort_at 0 (state_of reader.old) ≡ term }
+    requires at_1 { sort_at 1 (state_of reader.old) ≡ term }
     ensures { IfOk result (λ held. Makes reader.old reader.new held (made Action.LetBangTerm whole (state_of reader.old))) }
 {
     let name = reader.name(2);
@@ -38,11 +36,9 @@ pub fn let_bang(reader: &mut Reader, whole: Span) -> Result<Held, NoMemory>
 }
 
 pub fn let_pair(reader: &mut Reader, whole: Span) -> Result<Held, NoMemory>
-    requires kept { IsKept reader.old }
-    requires at_0 { sort_at 0 (state_of reader.old) ≡ 8 }
-    requires at_1 { sort_at 1 (state_of reader.old) ≡ 8 }
-    requires at_2 { sort_at 2 (state_of reader.old) ≡ 1 }
-    requires at_3 { sort_at 3 (state_of reader.old) ≡ 1 }
+    requires kept { IsInOrder reader.old }
+    requires at_0 { sort_at 0 (state_of reader.old) ≡ term }
+    requires at_1 { sort_at 1 (state_of reader.old) ≡ term }
     ensures { IfOk result (λ held. Makes reader.old reader.new held (made Action.LetPairTerm whole (state_of reader.old))) }
 {
     let first = reader.name(3);
@@ -53,10 +49,9 @@ pub fn let_pair(reader: &mut Reader, whole: Span) -> Result<Held, NoMemory>
 }
 
 pub fn let_plain(reader: &mut Reader, whole: Span) -> Result<Held, NoMemory>
-    requires kept { IsKept reader.old }
-    requires at_0 { sort_at 0 (state_of reader.old) ≡ 8 }
-    requires at_1 { sort_at 1 (state_of reader.old) ≡ 8 }
-    requires at_2 { sort_at 2 (state_of reader.old) ≡ 1 }
+    requires kept { IsInOrder reader.old }
+    requires at_0 { sort_at 0 (state_of reader.old) ≡ term }
+    requires at_1 { sort_at 1 (state_of reader.old) ≡ term }
     ensures { IfOk result (λ held. Makes reader.old reader.new held (made Action.LetTerm whole (state_of reader.old))) }
 {
     let name = reader.name(2);
@@ -66,12 +61,10 @@ pub fn let_plain(reader: &mut Reader, whole: Span) -> Result<Held, NoMemory>
 }
 
 pub fn case(reader: &mut Reader, whole: Span) -> Result<Held, NoMemory>
-    requires kept { IsKept reader.old }
-    requires at_0 { sort_at 0 (state_of reader.old) ≡ 8 }
-    requires at_1 { sort_at 1 (state_of reader.old) ≡ 1 }
-    requires at_2 { sort_at 2 (state_of reader.old) ≡ 8 }
-    requires at_3 { sort_at 3 (state_of reader.old) ≡ 1 }
-    requires at_4 { sort_at 4 (state_of reader.old) ≡ 8 }
+    requires kept { IsInOrder reader.old }
+    requires at_0 { sort_at 0 (state_of reader.old) ≡ term }
+    requires at_2 { sort_at 2 (state_of reader.old) ≡ term }
+    requires at_4 { sort_at 4 (state_of reader.old) ≡ term }
     ensures { IfOk result (λ held. Makes reader.old reader.new held (made Action.CaseTerm whole (state_of reader.old))) }
 {
     let subject = reader.term(4);
@@ -84,10 +77,10 @@ pub fn case(reader: &mut Reader, whole: Span) -> Result<Held, NoMemory>
 
 /// `if e then a else b`
 pub fn choice(reader: &mut Reader, whole: Span) -> Result<Held, NoMemory>
-    requires kept { IsKept reader.old }
-    requires at_0 { sort_at 0 (state_of reader.old) ≡ 8 }
-    requires at_1 { sort_at 1 (state_of reader.old) ≡ 8 }
-    requires at_2 { sort_at 2 (state_of reader.old) ≡ 8 }
+    requires kept { IsInOrder reader.old }
+    requires at_0 { sort_at 0 (state_of reader.old) ≡ term }
+    requires at_1 { sort_at 1 (state_of reader.old) ≡ term }
+    requires at_2 { sort_at 2 (state_of reader.old) ≡ term }
     ensures { IfOk result (λ held. Makes reader.old reader.new held (made Action.IfTerm whole (state_of reader.old))) }
 {
     let test = reader.term(2);
@@ -98,9 +91,9 @@ pub fn choice(reader: &mut Reader, whole: Span) -> Result<Held, NoMemory>
 
 /// `a + b` and the like, or `(a, b)` and the like, which begin at their first token.
 pub fn binary(reader: &mut Reader, op: Binary, whole: Span) -> Result<Held, NoMemory>
-    requires kept { IsKept reader.old }
-    requires at_0 { sort_at 0 (state_of reader.old) ≡ 8 }
-    requires at_1 { sort_at 1 (state_of reader.old) ≡ 8 }
+    requires kept { IsInOrder reader.old }
+    requires at_0 { sort_at 0 (state_of reader.old) ≡ term }
+    requires at_1 { sort_at 1 (state_of reader.old) ≡ term }
     ensures infix { IfOk result (λ held. Makes reader.old reader.new held (made (Action.InfixTerm op) whole (state_of reader.old))) }
     ensures prefix { IfOk result (λ held. Makes reader.old reader.new held (made (Action.PrefixTerm op) whole (state_of reader.old))) }
 {
@@ -110,8 +103,7 @@ pub fn binary(reader: &mut Reader, op: Binary, whole: Span) -> Result<Held, NoMe
 }
 
 pub fn negative(reader: &mut Reader, whole: Span) -> Result<Held, NoMemory>
-    requires kept { IsKept reader.old }
-    requires at_0 { sort_at 0 (state_of reader.old) ≡ 2 }
+    requires { IsInOrder reader.old }
     ensures { IfOk result (λ held. Makes reader.old reader.new held (made Action.NegativeTerm whole (state_of reader.old))) }
 {
     let number = reader.number(0);
@@ -119,9 +111,8 @@ pub fn negative(reader: &mut Reader, whole: Span) -> Result<Held, NoMemory>
 }
 
 pub fn negative_times(reader: &mut Reader, whole: Span) -> Result<Held, NoMemory>
-    requires kept { IsKept reader.old }
-    requires at_0 { sort_at 0 (state_of reader.old) ≡ 8 }
-    requires at_1 { sort_at 1 (state_of reader.old) ≡ 2 }
+    requires kept { IsInOrder reader.old }
+    requires at_0 { sort_at 0 (state_of reader.old) ≡ term }
     ensures { IfOk result (λ held. Makes reader.old reader.new held (made Action.NegativeTimesTerm whole (state_of reader.old))) }
 {
     let number = reader.number(1);
@@ -130,9 +121,8 @@ pub fn negative_times(reader: &mut Reader, whole: Span) -> Result<Held, NoMemory
 }
 
 pub fn times(reader: &mut Reader, whole: Span) -> Result<Held, NoMemory>
-    requires kept { IsKept reader.old }
-    requires at_0 { sort_at 0 (state_of reader.old) ≡ 8 }
-    requires at_1 { sort_at 1 (state_of reader.old) ≡ 2 }
+    requires kept { IsInOrder reader.old }
+    requires at_0 { sort_at 0 (state_of reader.old) ≡ term }
     ensures { IfOk result (λ held. Makes reader.old reader.new held (made Action.TimesTerm whole (state_of reader.old))) }
 {
     let number = reader.number(1);
@@ -141,8 +131,7 @@ pub fn times(reader: &mut Reader, whole: Span) -> Result<Held, NoMemory>
 }
 
 pub fn plain_number(reader: &mut Reader, whole: Span) -> Result<Held, NoMemory>
-    requires kept { IsKept reader.old }
-    requires at_0 { sort_at 0 (state_of reader.old) ≡ 2 }
+    requires { IsInOrder reader.old }
     ensures { IfOk result (λ held. Makes reader.old reader.new held (made Action.NumberTerm whole (state_of reader.old))) }
 {
     let number = reader.number(0);
@@ -150,8 +139,8 @@ pub fn plain_number(reader: &mut Reader, whole: Span) -> Result<Held, NoMemory>
 }
 
 pub fn unary(reader: &mut Reader, op: Unary, whole: Span) -> Result<Held, NoMemory>
-    requires kept { IsKept reader.old }
-    requires at_0 { sort_at 0 (state_of reader.old) ≡ 8 }
+    requires kept { IsInOrder reader.old }
+    requires at_0 { sort_at 0 (state_of reader.old) ≡ term }
     ensures { IfOk result (λ held. Makes reader.old reader.new held (made (Action.UnaryTerm op) whole (state_of reader.old))) }
 {
     let e = reader.term(0);
@@ -159,10 +148,8 @@ pub fn unary(reader: &mut Reader, op: Unary, whole: Span) -> Result<Held, NoMemo
 }
 
 pub fn ranged(reader: &mut Reader, op: Ranged, whole: Span) -> Result<Held, NoMemory>
-    requires kept { IsKept reader.old }
-    requires at_0 { sort_at 0 (state_of reader.old) ≡ 8 }
-    requires at_1 { sort_at 1 (state_of reader.old) ≡ 5 }
-    requires at_2 { sort_at 2 (state_of reader.old) ≡ 5 }
+    requires kept { IsInOrder reader.old }
+    requires at_0 { sort_at 0 (state_of reader.old) ≡ term }
     ensures { IfOk result (λ held. Makes reader.old reader.new held (made (Action.RangedTerm op) whole (state_of reader.old))) }
 {
     let low = reader.integer(2);
@@ -172,9 +159,9 @@ pub fn ranged(reader: &mut Reader, op: Ranged, whole: Span) -> Result<Held, NoMe
 }
 
 pub fn inject(reader: &mut Reader, side: Side, whole: Span) -> Result<Held, NoMemory>
-    requires kept { IsKept reader.old }
-    requires at_0 { sort_at 0 (state_of reader.old) ≡ 8 }
-    requires at_1 { sort_at 1 (state_of reader.old) ≡ 7 }
+    requires kept { IsInOrder reader.old }
+    requires at_0 { sort_at 0 (state_of reader.old) ≡ term }
+    requires at_1 { sort_at 1 (state_of reader.old) ≡ type_ }
     ensures { IfOk result (λ held. Makes reader.old reader.new held (made (Action.InjectTerm side) whole (state_of reader.old))) }
 {
     let (span, ty) = reader.written(1);
@@ -183,9 +170,8 @@ pub fn inject(reader: &mut Reader, side: Side, whole: Span) -> Result<Held, NoMe
 }
 
 pub fn bang(reader: &mut Reader, whole: Span) -> Result<Held, NoMemory>
-    requires kept { IsKept reader.old }
-    requires at_0 { sort_at 0 (state_of reader.old) ≡ 8 }
-    requires at_1 { sort_at 1 (state_of reader.old) ≡ 6 }
+    requires kept { IsInOrder reader.old }
+    requires at_0 { sort_at 0 (state_of reader.old) ≡ term }
     ensures { IfOk result (λ held. Makes reader.old reader.new held (made Action.BangTerm whole (state_of reader.old))) }
 {
     let factor = reader.factor(1);
@@ -194,8 +180,7 @@ pub fn bang(reader: &mut Reader, whole: Span) -> Result<Held, NoMemory>
 }
 
 pub fn variable(reader: &mut Reader, whole: Span) -> Result<Held, NoMemory>
-    requires kept { IsKept reader.old }
-    requires at_0 { sort_at 0 (state_of reader.old) ≡ 1 }
+    requires { IsInOrder reader.old }
     ensures { IfOk result (λ held. Makes reader.old reader.new held (made Action.NameTerm whole (state_of reader.old))) }
 {
     let name = reader.name(0);
@@ -203,8 +188,7 @@ pub fn variable(reader: &mut Reader, whole: Span) -> Result<Held, NoMemory>
 }
 
 pub fn literal(reader: &mut Reader, whole: Span) -> Result<Held, NoMemory>
-    requires kept { IsKept reader.old }
-    requires at_0 { sort_at 0 (state_of reader.old) ≡ 4 }
+    requires { IsInOrder reader.old }
     ensures { IfOk result (λ held. Makes reader.old reader.new held (made Action.TextTerm whole (state_of reader.old))) }
 {
     let text = reader.text(0);
@@ -213,7 +197,7 @@ pub fn literal(reader: &mut Reader, whole: Span) -> Result<Held, NoMemory>
 
 /// `true` is `inl[unit] ()`, and `false` is `inr[unit] ()`.
 pub fn truth(reader: &mut Reader, side: Side, whole: Span) -> Result<Held, NoMemory>
-    requires { IsKept reader.old }
+    requires { IsInOrder reader.old }
     ensures { IfOk result (λ held. Makes reader.old reader.new held (made (Action.TruthTerm side) whole (state_of reader.old))) }
 {
     let ty = reader.nodes.push_type(TypeForm::Unit)?;
@@ -223,9 +207,9 @@ pub fn truth(reader: &mut Reader, side: Side, whole: Span) -> Result<Held, NoMem
 }
 
 pub fn join(reader: &mut Reader, joint: Joint, whole: Span) -> Result<Held, NoMemory>
-    requires kept { IsKept reader.old }
-    requires at_0 { sort_at 0 (state_of reader.old) ≡ 7 }
-    requires at_1 { sort_at 1 (state_of reader.old) ≡ 7 }
+    requires kept { IsInOrder reader.old }
+    requires at_0 { sort_at 0 (state_of reader.old) ≡ type_ }
+    requires at_1 { sort_at 1 (state_of reader.old) ≡ type_ }
     ensures { IfOk result (λ held. Makes reader.old reader.new held (made (Action.JoinType joint) whole (state_of reader.old))) }
 {
     let (_, a) = reader.written(1);
@@ -241,9 +225,9 @@ pub fn join(reader: &mut Reader, joint: Joint, whole: Span) -> Result<Held, NoMe
 
 /// `a -> b` is `![inf] a -o b`.
 pub fn arrow(reader: &mut Reader, whole: Span) -> Result<Held, NoMemory>
-    requires kept { IsKept reader.old }
-    requires at_0 { sort_at 0 (state_of reader.old) ≡ 7 }
-    requires at_1 { sort_at 1 (state_of reader.old) ≡ 7 }
+    requires kept { IsInOrder reader.old }
+    requires at_0 { sort_at 0 (state_of reader.old) ≡ type_ }
+    requires at_1 { sort_at 1 (state_of reader.old) ≡ type_ }
     ensures { IfOk result (λ held. Makes reader.old reader.new held (made Action.ArrowType whole (state_of reader.old))) }
 {
     let (_, a) = reader.written(1);
@@ -254,9 +238,8 @@ pub fn arrow(reader: &mut Reader, whole: Span) -> Result<Held, NoMemory>
 }
 
 pub fn bang_type(reader: &mut Reader, whole: Span) -> Result<Held, NoMemory>
-    requires kept { IsKept reader.old }
-    requires at_0 { sort_at 0 (state_of reader.old) ≡ 7 }
-    requires at_1 { sort_at 1 (state_of reader.old) ≡ 6 }
+    requires kept { IsInOrder reader.old }
+    requires at_0 { sort_at 0 (state_of reader.old) ≡ type_ }
     ensures { IfOk result (λ held. Makes reader.old reader.new held (made Action.BangType whole (state_of reader.old))) }
 {
     let factor = reader.factor(1);
@@ -265,8 +248,8 @@ pub fn bang_type(reader: &mut Reader, whole: Span) -> Result<Held, NoMemory>
 }
 
 pub fn bag_type(reader: &mut Reader, whole: Span) -> Result<Held, NoMemory>
-    requires kept { IsKept reader.old }
-    requires at_0 { sort_at 0 (state_of reader.old) ≡ 7 }
+    requires kept { IsInOrder reader.old }
+    requires at_0 { sort_at 0 (state_of reader.old) ≡ type_ }
     ensures { IfOk result (λ held. Makes reader.old reader.new held (made Action.BagType whole (state_of reader.old))) }
 {
     let (_, a) = reader.written(0);
@@ -275,7 +258,7 @@ pub fn bag_type(reader: &mut Reader, whole: Span) -> Result<Held, NoMemory>
 
 /// `bool` is `unit + unit`.
 pub fn bool_type(reader: &mut Reader, whole: Span) -> Result<Held, NoMemory>
-    requires { IsKept reader.old }
+    requires { IsInOrder reader.old }
     ensures { IfOk result (λ held. Makes reader.old reader.new held (made Action.BoolType whole (state_of reader.old))) }
 {
     let unit = reader.nodes.push_type(TypeForm::Unit)?;
@@ -284,8 +267,8 @@ pub fn bool_type(reader: &mut Reader, whole: Span) -> Result<Held, NoMemory>
 }
 
 pub fn group_term(reader: &Reader) -> Held
-    requires kept { IsKept reader.now }
-    requires at_0 { sort_at 0 (state_of reader.now) ≡ 8 }
+    requires kept { IsInOrder reader.now }
+    requires at_0 { sort_at 0 (state_of reader.now) ≡ term }
     ensures known { IsHeld reader.now.nodes result }
     ensures is { (whole : Span) → what_of reader.now.nodes result ≡ made Action.GroupTerm whole (state_of reader.now) }
 {
@@ -294,8 +277,8 @@ pub fn group_term(reader: &Reader) -> Held
 }
 
 pub fn group_type(reader: &Reader) -> Held
-    requires kept { IsKept reader.now }
-    requires at_0 { sort_at 0 (state_of reader.now) ≡ 7 }
+    requires kept { IsInOrder reader.now }
+    requires at_0 { sort_at 0 (state_of reader.now) ≡ type_ }
     ensures known { IsHeld reader.now.nodes result }
     ensures is { (whole : Span) → what_of reader.now.nodes result ≡ made Action.GroupType whole (state_of reader.now) }
 {
@@ -304,8 +287,7 @@ pub fn group_type(reader: &Reader) -> Held
 }
 
 pub fn plain_integer(reader: &Reader) -> Held
-    requires kept { IsKept reader.now }
-    requires at_0 { sort_at 0 (state_of reader.now) ≡ 2 }
+    requires { IsInOrder reader.now }
     ensures known { IsHeld reader.now.nodes result }
     ensures is { (whole : Span) → what_of reader.now.nodes result ≡ made Action.PlainInteger whole (state_of reader.now) }
 {
@@ -314,8 +296,7 @@ pub fn plain_integer(reader: &Reader) -> Held
 }
 
 pub fn negative_integer(reader: &Reader) -> Held
-    requires kept { IsKept reader.now }
-    requires at_0 { sort_at 0 (state_of reader.now) ≡ 2 }
+    requires { IsInOrder reader.now }
     ensures known { IsHeld reader.now.nodes result }
     ensures is { (whole : Span) → what_of reader.now.nodes result ≡ made Action.NegativeInteger whole (state_of reader.now) }
 {
@@ -324,8 +305,7 @@ pub fn negative_integer(reader: &Reader) -> Held
 }
 
 pub fn whole_factor(reader: &Reader) -> Held
-    requires kept { IsKept reader.now }
-    requires at_0 { sort_at 0 (state_of reader.now) ≡ 3 }
+    requires { IsInOrder reader.now }
     ensures known { IsHeld reader.now.nodes result }
     ensures is { (whole : Span) → what_of reader.now.nodes result ≡ made Action.WholeFactor whole (state_of reader.now) }
 {
@@ -334,9 +314,7 @@ pub fn whole_factor(reader: &Reader) -> Held
 }
 
 pub fn fraction(reader: &Reader) -> Held
-    requires kept { IsKept reader.now }
-    requires at_0 { sort_at 0 (state_of reader.now) ≡ 3 }
-    requires at_1 { sort_at 1 (state_of reader.now) ≡ 3 }
+    requires { IsInOrder reader.now }
     ensures known { IsHeld reader.now.nodes result }
     ensures is { (whole : Span) → what_of reader.now.nodes result ≡ made Action.FractionFactor whole (state_of reader.now) }
 {

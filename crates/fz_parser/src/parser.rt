@@ -1,17 +1,20 @@
+//! The parser: a stack of what is still to come, and a step a token.
 ghost use Rattle.std.specs.Prelude.{◌≡◌, ◌≢◌, ◌↔◌, ◌<◌, ◌≤◌, ◌++◌, ◌∷◌, [], ℕ, List, reverse, length, take, drop, IfOk, IfErr, OnOk};
 ghost use Rattle.fz_ast.specs.declared.span.Span.{Span};
-ghost use Rattle.fz_ast.specs.Spanned.{Spanned, erase};
+ghost use Rattle.fz_ast.specs.Terms.{Term};
+ghost use Rattle.fz_ast.specs.Bare.{bare};
 ghost use Rattle.fz_ast.specs.Limits.{TermLimits};
 ghost use Rattle.fz_lexer.specs.declared.token.Token.{Token};
 ghost use Rattle.fz_parser.specs.Table.{rule_count};
 ghost use Rattle.fz_parser.specs.Grammar.{body, IsTerm, Derives};
 ghost use Rattle.fz_parser.specs.Parts.{State};
 ghost use Rattle.fz_parser.specs.Written.{IsProduct};
+ghost use Rattle.fz_parser.specs.Printer.{written};
 ghost use Rattle.fz_parser.specs.declared.grammar.Item.{Item};
 ghost use Rattle.fz_parser.specs.declared.grammar.Phrase.{Phrase};
-ghost use Rattle.fz_parser.specs.Reading.{IsParsed, IsStuck, ExplainsParse};
+ghost use Rattle.fz_parser.specs.Reading.{IsParsed, IsStuck, ExplainsParse, IsParsedOrRefused};
 ghost use Rattle.fz_parser.specs.Steps.{front, Sound, At, Outcome, Left, START};
-ghost use Rattle.fz_parser.specs.Kept.{state_of, IsKept, IsRead};
+ghost use Rattle.fz_parser.specs.Kept.{state_of, IsInOrder, IsReadAsTerm};
 ghost use Rattle.fz_parser.specs.declared.fault.ParseFault.{ParseFault};
 
 use crate::fault::ParseFault;
@@ -40,9 +43,9 @@ fn push_body(stack: &mut Vec<Item>, rule: u8) -> Result<(), AllocError>
 /// Goes on until a token is wanted, before a token of this class.
 fn settle(class: u8, stack: &mut Vec<Item>, reader: &mut Reader) -> Result<Top, NoMemory>
     requires class { class < 64 }
-    requires kept { IsKept reader.old }
+    requires kept { IsInOrder reader.old }
     requires sound { Sound (reverse stack.old.items) (state_of reader.old) }
-    ensures kept { OnOk result (IsKept reader.new) }
+    ensures kept { OnOk result (IsInOrder reader.new) }
     ensures left { IfOk result (λ top. Left top (reverse stack.new.items) (state_of reader.new)) }
     ensures outcome { IfOk result (λ top. (read rest : List Token) → front rest ≡ class →
         At read rest (reverse stack.old.items) (state_of reader.old) → Outcome top read rest (reverse stack.new.items) (state_of reader.new)) }
@@ -73,7 +76,7 @@ fn start(alloc: Global) -> Result<Vec<Item>, AllocError>
 
 /// The parts of a term, however deep it is: one, which is the term.
 fn read(alloc: Global, tokens: &[Token]) -> Result<Reader, ParseFault>
-    ensures term { IfOk result (IsRead tokens.now) }
+    ensures term { IfOk result (IsReadAsTerm tokens.now) }
     ensures fault { IfErr result (λ fault. ExplainsParse tokens.now fault) }
 {
     let mut stack = start(alloc)?;
@@ -122,25 +125,36 @@ pub fn parse(alloc: Global, tokens: &[Token]) -> Result<Term, ParseFault>
 
 /// Tokens are at most one term.
 pub fn one_term()
-    ensures { (ts : List Token) (e other : Spanned) → IsTerm ts e → IsTerm ts other → other ≡ e }
+    ensures { (ts : List Token) (e other : Term) → IsTerm ts e → IsTerm ts other → other ≡ e }
 {}
 
 /// Names, numbers, texts and bang numbers of a term are within the limits.
 pub fn terms_keep_limits()
-    ensures { (ts : List Token) (e : Spanned) → IsTerm ts e → TermLimits (erase e) }
+    ensures { (ts : List Token) (e : Term) → IsTerm ts e → TermLimits e }
 {}
 
 /// Tokens that are refused, other than for want of memory, are no term within the limit on nesting.
 pub fn refused_is_none()
-    ensures { (ts : List Token) (fault : ParseFault) (e : Spanned) → ExplainsParse ts fault → IsParsed ts e → fault ≡ ParseFault.NoMemory }
+    ensures { (ts : List Token) (fault : ParseFault) (e : Term) → ExplainsParse ts fault → IsParsed ts e → fault ≡ ParseFault.NoMemory }
 {}
 
 /// Nothing but want of memory can stand in the place of the tokens' fault.
 pub fn one_fault()
-    ensures { (ts : List Token) (fault other : ParseFault) → ExplainsParse ts fault → ExplainsParse ts other → fault ≢ ParseFault.NoMemory → other ≢ ParseFault.NoMemory → other ≡ fault }
+    ensures { (ts : List Token) (fault other : ParseFault) → ExplainsParse ts fault → ExplainsParse ts other →
+        fault ≢ ParseFault.NoMemory → other ≢ ParseFault.NoMemory → other ≡ fault }
 {}
 
 /// Products are what they are usually written as, though the table keeps what begins with a number together.
 pub fn products_as_written()
     ensures { (w : List Token) (s r : State) → Derives (Item.Read Phrase.Multiplication ∷ []) w s r ↔ IsProduct w s r }
+{}
+
+/// Any tokens are a term within the limit on nesting, or have a fault that is no want of memory.
+pub fn every_list_of_tokens_is_parsed()
+    ensures { (ts : List Token) → IsParsedOrRefused ts }
+{}
+
+/// What a term is written as reads as the term, but for its spans.
+pub fn what_is_written_reads_back()
+    ensures { (e : Term) → TermLimits e → IsTerm (written e []) (bare e) }
 {}

@@ -1,5 +1,5 @@
-// A plain reader by the grammar as it is written: which parts of the tokens each phrase stands for, found by trying all
-// rules until nothing is added. Capital letters are phrases, other bytes are tokens.
+//! A plain reader by the grammar as it is written: which parts of the tokens each phrase stands for, found by trying all
+//! rules until nothing is added. Capital letters are phrases, other bytes are tokens.
 ghost use Rattle.std.specs.Prelude.{◌<◌};
 
 use crate::fault::ParseFault;

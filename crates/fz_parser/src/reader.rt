@@ -1,11 +1,12 @@
-// The parts that were read, and the nodes that are made of them.
+//! The parts that were read, and the nodes that are made of them.
 ghost use Rattle.std.specs.Prelude.{◌≡◌, ◌<◌, ◌≤◌, ◌++◌, [], ◌∷◌, length, IfOk, OnOk, pos};
 ghost use Rattle.fz_frac.specs.Sens.{distance_of};
 ghost use Rattle.fz_ast.specs.Names.{name_of, text_of};
 ghost use Rattle.fz_ast.specs.Limits.{IsNumber, IsBang};
 ghost use Rattle.fz_ast.specs.TypeNodes.{type_at, type_of, IsKnownType, HasBang};
-ghost use Rattle.fz_ast.specs.TermNodes.{term_at, level, IsKnown, FormLimits};
-ghost use Rattle.fz_parser.specs.Parts.{TypePart, TermPart, part, start_at, in_name, in_number, in_positive, in_text, in_integer, in_factor, in_span, in_type, in_term, shift};
+ghost use Rattle.fz_ast.specs.TermNodes.{term_at, term_of, IsKnown, FormLimits};
+ghost use Rattle.fz_parser.specs.Parts.{TypePart, TermPart, part, type_, term};
+ghost use Rattle.fz_parser.specs.Parts.{start_at, in_name, in_number, in_positive, in_text, in_integer, in_factor, in_span, in_type, in_term, shift};
 ghost use Rattle.fz_parser.specs.Grammar.{Fits, empty};
 
 use crate::grammar::Terminal;
@@ -47,10 +48,10 @@ pub struct Reader {
 }
 
 impl Reader {
-    ghost use Rattle.fz_parser.specs.Kept.{what_of, state_of, IsHeld, IsKept, sort_at, Makes};
+    ghost use Rattle.fz_parser.specs.Kept.{what_of, state_of, IsHeld, IsInOrder, sort_at, Makes};
 
     pub fn new(alloc: Global) -> Reader
-        ensures kept { IsKept result }
+        ensures kept { IsInOrder result }
         ensures state { state_of result ≡ empty }
     {
         Reader {
@@ -62,7 +63,7 @@ impl Reader {
 
     /// What part `i` holds, 0 being the last one.
     fn held(&self, i: usize) -> Held
-        requires { IsKept self.now }
+        requires { IsInOrder self.now }
         ensures is { what_of self.now.nodes result ≡ (part i (state_of self.now)).what }
         ensures known { IsHeld self.now.nodes result }
     {
@@ -88,8 +89,7 @@ impl Reader {
     }
 
     pub fn name(&self, i: usize) -> Name
-        requires kept { IsKept self.now }
-        requires sort { sort_at i (state_of self.now) ≡ 1 }
+        requires { IsInOrder self.now }
         ensures { name_of result ≡ in_name (part i (state_of self.now)).what }
     {
         match self.held(i) {
@@ -99,8 +99,7 @@ impl Reader {
     }
 
     pub fn number(&self, i: usize) -> i64
-        requires kept { IsKept self.now }
-        requires sort { sort_at i (state_of self.now) ≡ 2 }
+        requires { IsInOrder self.now }
         ensures is { result ≡ pos (in_number (part i (state_of self.now)).what) }
         ensures limit { IsNumber result }
     {
@@ -111,8 +110,7 @@ impl Reader {
     }
 
     pub fn positive(&self, i: usize) -> u32
-        requires kept { IsKept self.now }
-        requires sort { sort_at i (state_of self.now) ≡ 3 }
+        requires { IsInOrder self.now }
         ensures is { result ≡ in_positive (part i (state_of self.now)).what }
         ensures some { 0 < result }
     {
@@ -123,8 +121,7 @@ impl Reader {
     }
 
     pub fn text(&self, i: usize) -> Text
-        requires kept { IsKept self.now }
-        requires sort { sort_at i (state_of self.now) ≡ 4 }
+        requires { IsInOrder self.now }
         ensures { text_of result ≡ in_text (part i (state_of self.now)).what }
     {
         match self.held(i) {
@@ -134,8 +131,7 @@ impl Reader {
     }
 
     pub fn integer(&self, i: usize) -> i64
-        requires kept { IsKept self.now }
-        requires sort { sort_at i (state_of self.now) ≡ 5 }
+        requires { IsInOrder self.now }
         ensures is { result ≡ in_integer (part i (state_of self.now)).what }
         ensures limit { IsNumber result }
     {
@@ -146,8 +142,7 @@ impl Reader {
     }
 
     pub fn factor(&self, i: usize) -> Sens
-        requires kept { IsKept self.now }
-        requires sort { sort_at i (state_of self.now) ≡ 6 }
+        requires { IsInOrder self.now }
         ensures is { distance_of result ≡ in_factor (part i (state_of self.now)).what }
         ensures limit { IsBang (distance_of result) }
     {
@@ -159,8 +154,8 @@ impl Reader {
 
     /// A written type's span, and its number.
     pub fn written(&self, i: usize) -> (Span, u32)
-        requires kept { IsKept self.now }
-        requires sort { sort_at i (state_of self.now) ≡ 7 }
+        requires kept { IsInOrder self.now }
+        requires sort { sort_at i (state_of self.now) ≡ type_ }
         ensures span { result.0 ≡ in_span (part i (state_of self.now)).what }
         ensures is { type_at self.now.nodes.types result.1 ≡ in_type (part i (state_of self.now)).what }
         ensures known { result.1 < length self.now.nodes.types }
@@ -172,8 +167,8 @@ impl Reader {
     }
 
     pub fn term(&self, i: usize) -> u32
-        requires kept { IsKept self.now }
-        requires sort { sort_at i (state_of self.now) ≡ 8 }
+        requires kept { IsInOrder self.now }
+        requires sort { sort_at i (state_of self.now) ≡ term }
         ensures is { term_at self.now.nodes.terms result ≡ in_term (part i (state_of self.now)).what }
         ensures known { result < length self.now.nodes.terms }
     {
@@ -185,10 +180,11 @@ impl Reader {
 
     /// A new term of this form.
     pub fn new_term(&mut self, whole: Span, form: Form) -> Result<Held, NoMemory>
-        requires kept { IsKept self.old }
+        requires kept { IsInOrder self.old }
         requires known { IsKnown (length self.old.nodes.types) (length self.old.nodes.terms) form }
         requires limits { FormLimits form }
-        ensures { IfOk result (λ held. Makes self.old self.new held (TermPart (level (type_at self.old.nodes.types) (term_at self.old.nodes.terms) whole form))) }
+        ensures { IfOk result (λ held.
+            Makes self.old self.new held (TermPart (term_of (type_at self.old.nodes.types) (term_at self.old.nodes.terms) whole form))) }
     {
         let number = self.nodes.push(whole, form)?;
         Ok(Held::Term(number))
@@ -196,7 +192,7 @@ impl Reader {
 
     /// A new written type of this form.
     pub fn new_type(&mut self, whole: Span, form: TypeForm) -> Result<Held, NoMemory>
-        requires kept { IsKept self.old }
+        requires kept { IsInOrder self.old }
         requires known { IsKnownType (length self.old.nodes.types) form }
         requires bang { HasBang form }
         ensures { IfOk result (λ held. Makes self.old self.new held (TypePart whole (type_of (type_at self.old.nodes.types) form))) }

@@ -1,4 +1,4 @@
-// Written by tools/grammar.py. The proofs test each table against the grammar of specs/Table.
+//! Written by tools/grammar.py. The proofs test each table against the grammar of specs/Table.
 use crate::grammar::Item::{Make, Read, Take};
 use crate::grammar::Terminal::{Keyword, Named, Numeral, Positive, Quoted, Symbol};
 use crate::grammar::{Action, Item, Joint, Phrase};

@@ -1,3 +1,4 @@
+//! Readings by hand, and a plain reader compared with the parser.
 use crate::fault::ParseFault;
 use crate::parser::parse;
 use fz_ast::{Form, Name, Node, Span, Term, TypeForm, Types};

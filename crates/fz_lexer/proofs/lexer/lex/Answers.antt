@@ -1,8 +1,8 @@
 use Rattle.std.proofs.Common.{ℕ, ◌+◌, ◌-◌, ◌<◌, List, arith, length, inr, take, drop, subst, ap, length-drop, length-append}
 use Rattle.fz_lexer.specs.declared.token.Token.{Token}
 use Rattle.std.specs.Prelude.{None, Some}
-use Rattle.fz_lexer.specs.Fronts.{IsFront}
-use Rattle.fz_lexer.proofs.Fronts.{tail_all}
+use Rattle.fz_lexer.specs.Prefixes.{IsTokenPrefix}
+use Rattle.fz_lexer.proofs.Prefixes.{tail_all}
 use Rattle.fz_lexer.proofs.Cuts.{cut_start, cut_on, lexed}
 use Rattle.fz_lexer.proofs.lexer.lex.Goals as goal
 
@@ -17,13 +17,13 @@ pub returns-in-None-clause-fault : goal.returns-in-None-clause-fault
 returns-in-None-clause-fault c =
     let R : List ℕ = drop c.loop-place.place c.args.bytes.now in
     let l : 0 < length (drop c.loop-place.place c.args.bytes.now) = omega (arith, length-drop c.loop-place.place c.args.bytes.now) in
-    let n : IsFront (drop c.loop-place.place c.args.bytes.now) None =
-    subst (λ x. IsFront x None) (tail_all c.args.bytes.now c.loop-place.place) (subst (IsFront _) c.in-None.is c.in_ok-front_token.ensures) in
+    let n : IsTokenPrefix (drop c.loop-place.place c.args.bytes.now) None =
+    subst (λ x. IsTokenPrefix x None) (tail_all c.args.bytes.now c.loop-place.place) (subst (IsTokenPrefix _) c.in-None.is c.in_ok-token_prefix.ensures) in
     inr (omega arith, c.loop-place.tokens.items, R, c.loop-place.invariant.cut, c.loop-place.invariant.count, l, n)
 
 pub loop-place-preserved : goal.loop-place-preserved
 loop-place-preserved c =
-    let f : IsFront (take (length c.args.bytes.now - c.loop-place.place) (drop c.loop-place.place c.args.bytes.now)) (Some c.in-Some.found) = subst (IsFront _) c.in-Some.is c.in_ok-front_token.ensures in
+    let f : IsTokenPrefix (take (length c.args.bytes.now - c.loop-place.place) (drop c.loop-place.place c.args.bytes.now)) (Some c.in-Some.found) = subst (IsTokenPrefix _) c.in-Some.is c.in_ok-token_prefix.ensures in
     let x = cut_on c.loop-place.tokens.items c.add.new.tokens.items c.args.bytes.now c.in-Some.found c.loop-place.place c.run.result _ _
     (tail_all c.args.bytes.now c.loop-place.place) (tail_all c.args.bytes.now (c.loop-place.place + c.in-Some.found.len)) c.loop-place.invariant.within c.loop-place.invariant.cut
     f c.run.ensures.within c.run.ensures.each c.run.ensures.stops c.in_ok-add-in-Some.ensures in

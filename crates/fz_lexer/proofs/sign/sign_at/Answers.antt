@@ -1,6 +1,6 @@
 use Rattle.std.proofs.Common.{arith, refl}
 use Rattle.fz_lexer.proofs.Spellings.{sign_at, sign_below, sign_place}
-use Rattle.fz_lexer.proofs.Fronts.{longest_at}
+use Rattle.fz_lexer.proofs.Prefixes.{longest_at}
 use Rattle.fz_lexer.proofs.sign.sign_at.Goals as goal
 
 pub returns-then-stands-clause-found : goal.returns-then-stands-clause-found

@@ -1,5 +1,5 @@
 use Rattle.std.proofs.Common.{refl, arith, ◌∙◌, ap, sym}
-use Rattle.fz_parser.specs.declared.grammar.Action.TheVariants.{BangTerm, CaseTerm, FractionFactor, GroupTerm, IfTerm, InfixTerm, InjectTerm, LambdaTerm, LetBangTerm, LetPairTerm, LetTerm, NameTerm, NegativeInteger, NegativeTerm, NegativeTimesTerm, NumberTerm, PlainInteger, PrefixTerm, RangedTerm, TextTerm, TimesTerm, UnaryTerm, WholeFactor}
+use Rattle.fz_parser.specs.declared.grammar.Action.TheVariants.{BangTerm, CaseTerm, GroupTerm, IfTerm, InfixTerm, InjectTerm, LambdaTerm, LetBangTerm, LetPairTerm, LetTerm, NegativeTimesTerm, PrefixTerm, RangedTerm, TimesTerm, UnaryTerm}
 use Rattle.fz_parser.specs.Parts.{takes, made}
 use Rattle.fz_parser.specs.Kept.{state_of}
 use Rattle.fz_parser.proofs.Making.{ready_at, makes_none}
@@ -13,10 +13,6 @@ pub lambda-requires-clause-at_1 : goal.lambda-requires-clause-at_1
 unfolding takes
 lambda-requires-clause-at_1 c = ready_at c.args.action (LambdaTerm c.in-LambdaTerm.arrow) (state_of c.args.reader.now) 1 7 c.in-LambdaTerm.is c.requires.ready refl (omega arith)
 
-pub lambda-requires-clause-at_2 : goal.lambda-requires-clause-at_2
-unfolding takes
-lambda-requires-clause-at_2 c = ready_at c.args.action (LambdaTerm c.in-LambdaTerm.arrow) (state_of c.args.reader.now) 2 1 c.in-LambdaTerm.is c.requires.ready refl (omega arith)
-
 pub let_bang-requires-clause-at_0 : goal.let_bang-requires-clause-at_0
 unfolding takes
 let_bang-requires-clause-at_0 c = ready_at c.args.action LetBangTerm (state_of c.args.reader.now) 0 8 c.in-LetBangTerm.is c.requires.ready refl (omega arith)
@@ -24,10 +20,6 @@ let_bang-requires-clause-at_0 c = ready_at c.args.action LetBangTerm (state_of c
 pub let_bang-requires-clause-at_1 : goal.let_bang-requires-clause-at_1
 unfolding takes
 let_bang-requires-clause-at_1 c = ready_at c.args.action LetBangTerm (state_of c.args.reader.now) 1 8 c.in-LetBangTerm.is c.requires.ready refl (omega arith)
-
-pub let_bang-requires-clause-at_2 : goal.let_bang-requires-clause-at_2
-unfolding takes
-let_bang-requires-clause-at_2 c = ready_at c.args.action LetBangTerm (state_of c.args.reader.now) 2 1 c.in-LetBangTerm.is c.requires.ready refl (omega arith)
 
 pub let_pair-requires-clause-at_0 : goal.let_pair-requires-clause-at_0
 unfolding takes
@@ -37,14 +29,6 @@ pub let_pair-requires-clause-at_1 : goal.let_pair-requires-clause-at_1
 unfolding takes
 let_pair-requires-clause-at_1 c = ready_at c.args.action LetPairTerm (state_of c.args.reader.now) 1 8 c.in-LetPairTerm.is c.requires.ready refl (omega arith)
 
-pub let_pair-requires-clause-at_2 : goal.let_pair-requires-clause-at_2
-unfolding takes
-let_pair-requires-clause-at_2 c = ready_at c.args.action LetPairTerm (state_of c.args.reader.now) 2 1 c.in-LetPairTerm.is c.requires.ready refl (omega arith)
-
-pub let_pair-requires-clause-at_3 : goal.let_pair-requires-clause-at_3
-unfolding takes
-let_pair-requires-clause-at_3 c = ready_at c.args.action LetPairTerm (state_of c.args.reader.now) 3 1 c.in-LetPairTerm.is c.requires.ready refl (omega arith)
-
 pub let_plain-requires-clause-at_0 : goal.let_plain-requires-clause-at_0
 unfolding takes
 let_plain-requires-clause-at_0 c = ready_at c.args.action LetTerm (state_of c.args.reader.now) 0 8 c.in-LetTerm.is c.requires.ready refl (omega arith)
@@ -53,25 +37,13 @@ pub let_plain-requires-clause-at_1 : goal.let_plain-requires-clause-at_1
 unfolding takes
 let_plain-requires-clause-at_1 c = ready_at c.args.action LetTerm (state_of c.args.reader.now) 1 8 c.in-LetTerm.is c.requires.ready refl (omega arith)
 
-pub let_plain-requires-clause-at_2 : goal.let_plain-requires-clause-at_2
-unfolding takes
-let_plain-requires-clause-at_2 c = ready_at c.args.action LetTerm (state_of c.args.reader.now) 2 1 c.in-LetTerm.is c.requires.ready refl (omega arith)
-
 pub case-requires-clause-at_0 : goal.case-requires-clause-at_0
 unfolding takes
 case-requires-clause-at_0 c = ready_at c.args.action CaseTerm (state_of c.args.reader.now) 0 8 c.in-CaseTerm.is c.requires.ready refl (omega arith)
 
-pub case-requires-clause-at_1 : goal.case-requires-clause-at_1
-unfolding takes
-case-requires-clause-at_1 c = ready_at c.args.action CaseTerm (state_of c.args.reader.now) 1 1 c.in-CaseTerm.is c.requires.ready refl (omega arith)
-
 pub case-requires-clause-at_2 : goal.case-requires-clause-at_2
 unfolding takes
 case-requires-clause-at_2 c = ready_at c.args.action CaseTerm (state_of c.args.reader.now) 2 8 c.in-CaseTerm.is c.requires.ready refl (omega arith)
-
-pub case-requires-clause-at_3 : goal.case-requires-clause-at_3
-unfolding takes
-case-requires-clause-at_3 c = ready_at c.args.action CaseTerm (state_of c.args.reader.now) 3 1 c.in-CaseTerm.is c.requires.ready refl (omega arith)
 
 pub case-requires-clause-at_4 : goal.case-requires-clause-at_4
 unfolding takes
@@ -105,29 +77,13 @@ pub binary-requires-in-PrefixTerm-clause-at_1 : goal.binary-requires-in-PrefixTe
 unfolding takes
 binary-requires-in-PrefixTerm-clause-at_1 c = ready_at c.args.action (PrefixTerm c.in-PrefixTerm.op) (state_of c.args.reader.now) 1 8 c.in-PrefixTerm.is c.requires.ready refl (omega arith)
 
-pub negative-requires-clause-at_0 : goal.negative-requires-clause-at_0
-unfolding takes
-negative-requires-clause-at_0 c = ready_at c.args.action NegativeTerm (state_of c.args.reader.now) 0 2 c.in-NegativeTerm.is c.requires.ready refl (omega arith)
-
 pub negative_times-requires-clause-at_0 : goal.negative_times-requires-clause-at_0
 unfolding takes
 negative_times-requires-clause-at_0 c = ready_at c.args.action NegativeTimesTerm (state_of c.args.reader.now) 0 8 c.in-NegativeTimesTerm.is c.requires.ready refl (omega arith)
 
-pub negative_times-requires-clause-at_1 : goal.negative_times-requires-clause-at_1
-unfolding takes
-negative_times-requires-clause-at_1 c = ready_at c.args.action NegativeTimesTerm (state_of c.args.reader.now) 1 2 c.in-NegativeTimesTerm.is c.requires.ready refl (omega arith)
-
 pub times-requires-clause-at_0 : goal.times-requires-clause-at_0
 unfolding takes
 times-requires-clause-at_0 c = ready_at c.args.action TimesTerm (state_of c.args.reader.now) 0 8 c.in-TimesTerm.is c.requires.ready refl (omega arith)
-
-pub times-requires-clause-at_1 : goal.times-requires-clause-at_1
-unfolding takes
-times-requires-clause-at_1 c = ready_at c.args.action TimesTerm (state_of c.args.reader.now) 1 2 c.in-TimesTerm.is c.requires.ready refl (omega arith)
-
-pub plain_number-requires-clause-at_0 : goal.plain_number-requires-clause-at_0
-unfolding takes
-plain_number-requires-clause-at_0 c = ready_at c.args.action NumberTerm (state_of c.args.reader.now) 0 2 c.in-NumberTerm.is c.requires.ready refl (omega arith)
 
 pub unary-requires-clause-at_0 : goal.unary-requires-clause-at_0
 unfolding takes
@@ -136,14 +92,6 @@ unary-requires-clause-at_0 c = ready_at c.args.action (UnaryTerm c.in-UnaryTerm.
 pub ranged-requires-clause-at_0 : goal.ranged-requires-clause-at_0
 unfolding takes
 ranged-requires-clause-at_0 c = ready_at c.args.action (RangedTerm c.in-RangedTerm.op) (state_of c.args.reader.now) 0 8 c.in-RangedTerm.is c.requires.ready refl (omega arith)
-
-pub ranged-requires-clause-at_1 : goal.ranged-requires-clause-at_1
-unfolding takes
-ranged-requires-clause-at_1 c = ready_at c.args.action (RangedTerm c.in-RangedTerm.op) (state_of c.args.reader.now) 1 5 c.in-RangedTerm.is c.requires.ready refl (omega arith)
-
-pub ranged-requires-clause-at_2 : goal.ranged-requires-clause-at_2
-unfolding takes
-ranged-requires-clause-at_2 c = ready_at c.args.action (RangedTerm c.in-RangedTerm.op) (state_of c.args.reader.now) 2 5 c.in-RangedTerm.is c.requires.ready refl (omega arith)
 
 pub inject-requires-clause-at_0 : goal.inject-requires-clause-at_0
 unfolding takes
@@ -157,41 +105,9 @@ pub bang-requires-clause-at_0 : goal.bang-requires-clause-at_0
 unfolding takes
 bang-requires-clause-at_0 c = ready_at c.args.action BangTerm (state_of c.args.reader.now) 0 8 c.in-BangTerm.is c.requires.ready refl (omega arith)
 
-pub bang-requires-clause-at_1 : goal.bang-requires-clause-at_1
-unfolding takes
-bang-requires-clause-at_1 c = ready_at c.args.action BangTerm (state_of c.args.reader.now) 1 6 c.in-BangTerm.is c.requires.ready refl (omega arith)
-
-pub variable-requires-clause-at_0 : goal.variable-requires-clause-at_0
-unfolding takes
-variable-requires-clause-at_0 c = ready_at c.args.action NameTerm (state_of c.args.reader.now) 0 1 c.in-NameTerm.is c.requires.ready refl (omega arith)
-
-pub literal-requires-clause-at_0 : goal.literal-requires-clause-at_0
-unfolding takes
-literal-requires-clause-at_0 c = ready_at c.args.action TextTerm (state_of c.args.reader.now) 0 4 c.in-TextTerm.is c.requires.ready refl (omega arith)
-
 pub group_term-requires-clause-at_0 : goal.group_term-requires-clause-at_0
 unfolding takes
 group_term-requires-clause-at_0 c = ready_at c.args.action GroupTerm (state_of c.args.reader.now) 0 8 c.in-GroupTerm.is c.requires.ready refl (omega arith)
-
-pub plain_integer-requires-clause-at_0 : goal.plain_integer-requires-clause-at_0
-unfolding takes
-plain_integer-requires-clause-at_0 c = ready_at c.args.action PlainInteger (state_of c.args.reader.now) 0 2 c.in-PlainInteger.is c.requires.ready refl (omega arith)
-
-pub negative_integer-requires-clause-at_0 : goal.negative_integer-requires-clause-at_0
-unfolding takes
-negative_integer-requires-clause-at_0 c = ready_at c.args.action NegativeInteger (state_of c.args.reader.now) 0 2 c.in-NegativeInteger.is c.requires.ready refl (omega arith)
-
-pub whole_factor-requires-clause-at_0 : goal.whole_factor-requires-clause-at_0
-unfolding takes
-whole_factor-requires-clause-at_0 c = ready_at c.args.action WholeFactor (state_of c.args.reader.now) 0 3 c.in-WholeFactor.is c.requires.ready refl (omega arith)
-
-pub fraction-requires-clause-at_0 : goal.fraction-requires-clause-at_0
-unfolding takes
-fraction-requires-clause-at_0 c = ready_at c.args.action FractionFactor (state_of c.args.reader.now) 0 3 c.in-FractionFactor.is c.requires.ready refl (omega arith)
-
-pub fraction-requires-clause-at_1 : goal.fraction-requires-clause-at_1
-unfolding takes
-fraction-requires-clause-at_1 c = ready_at c.args.action FractionFactor (state_of c.args.reader.now) 1 3 c.in-FractionFactor.is c.requires.ready refl (omega arith)
 
 pub returns-in-GroupTerm : goal.returns-in-GroupTerm
 returns-in-GroupTerm c = makes_none c.args.reader.now c.group_term.result _ c.requires.kept c.group_term.ensures.known (c.group_term.ensures.is c.args.whole ∙ ap (λ a. made a c.args.whole (state_of c.args.reader.now)) (sym c.in-GroupTerm.is))

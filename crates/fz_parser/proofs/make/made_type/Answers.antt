@@ -25,10 +25,6 @@ pub bang_type-requires-clause-at_0 : goal.bang_type-requires-clause-at_0
 unfolding takes
 bang_type-requires-clause-at_0 c = ready_at c.args.action BangType (state_of c.args.reader.now) 0 7 c.in-BangType.is c.requires.ready refl (omega arith)
 
-pub bang_type-requires-clause-at_1 : goal.bang_type-requires-clause-at_1
-unfolding takes
-bang_type-requires-clause-at_1 c = ready_at c.args.action BangType (state_of c.args.reader.now) 1 6 c.in-BangType.is c.requires.ready refl (omega arith)
-
 pub bag_type-requires-clause-at_0 : goal.bag_type-requires-clause-at_0
 unfolding takes
 bag_type-requires-clause-at_0 c = ready_at c.args.action BagType (state_of c.args.reader.now) 0 7 c.in-BagType.is c.requires.ready refl (omega arith)

@@ -2,12 +2,12 @@ use Rattle.std.proofs.Common.{◌≡◌, reverse, List}
 use Rattle.fz_lexer.specs.declared.token.Token.{Token}
 use Rattle.fz_parser.specs.Tests.{lead}
 use Rattle.fz_parser.specs.Steps.{front, Sound, At}
-use Rattle.fz_parser.specs.Kept.{state_of, IsKept}
+use Rattle.fz_parser.specs.Kept.{state_of, IsInOrder}
 use Rattle.fz_parser.proofs.parser.settle.Given as goal
 
 abbrev pub invariant-loop-item : goal.invariant-loop-item
 invariant-loop-item l = record {
-  kept : IsKept l.reader;
+  kept : IsInOrder l.reader;
   sound : Sound (reverse l.stack.items) (state_of l.reader);
   at : (read rest : List Token) → front rest ≡ l.class → At read rest (reverse l.initial.stack.items) (state_of l.initial.reader) →
       At read rest (reverse l.stack.items) (state_of l.reader);

@@ -1,6 +1,6 @@
 use Rattle.std.proofs.Common.{◌^◌, arith, refl}
-use Rattle.fz_lexer.proofs.Fronts.{digit_next, value_over}
-use Rattle.fz_lexer.proofs.front.value_of.Goals as goal
+use Rattle.fz_lexer.proofs.Prefixes.{digit_next, value_over}
+use Rattle.fz_lexer.proofs.prefix.value_of.Goals as goal
 
 pub overflow_sub-value : goal.overflow_sub-value
 overflow_sub-value c = (digit_next c.args.digits.now c.loop-b.b-index _ (omega arith) refl c.loop-b.invariant.digits).0

@@ -1,6 +1,6 @@
 use Rattle.std.proofs.Common.{ap, length}
-use Rattle.fz_lexer.proofs.Fronts.{sign_found, sign_over}
-use Rattle.fz_lexer.proofs.front.sign.Goals as goal
+use Rattle.fz_lexer.proofs.Prefixes.{sign_found, sign_over}
+use Rattle.fz_lexer.proofs.prefix.sign.Goals as goal
 
 pub returns-in-Some : goal.returns-in-Some
 returns-in-Some c = sign_found c.args.bytes.now c.in-Some.sign _ (ap length c.mark.ensures) c.in-Some.ensures.found.0 c.in-Some.ensures.found.1

@@ -1,7 +1,8 @@
+//! The token that some bytes begin with.
 ghost use Rattle.std.specs.Prelude.{◌≡◌, ◌<◌, ◌≤◌, ◌^◌, ◌≢◌, false, ℕ, List, true, length, IfOk, IfSome, IfNone, slice_index, slice_get};
-ghost use Rattle.fz_lexer.specs.Bytes.{begins, each, is_digit, is_letter, value_from};
+ghost use Rattle.fz_lexer.specs.Bytes.{begins, every_byte, is_digit, is_letter, value_from};
 ghost use Rattle.fz_lexer.specs.Tokens.{IsReservedOrName};
-ghost use Rattle.fz_lexer.specs.Fronts.{IsFront};
+ghost use Rattle.fz_lexer.specs.Prefixes.{IsTokenPrefix};
 
 use crate::bytes::{Class, is_digit, is_letter, run};
 use crate::sign::{mark, sign_at};
@@ -9,9 +10,9 @@ use crate::token::{Kind, Lexeme};
 use crate::word::reserved;
 use std::alloc::{AllocError, Global};
 
-/// A token at the front of some bytes, and how many of them it takes.
+/// A token that begins some bytes, and how many of them it takes.
 #[derive(Drop)]
-pub struct Front {
+pub struct TokenPrefix {
     pub kind: Kind,
     pub len: usize,
 }
@@ -32,21 +33,21 @@ fn word_kind(alloc: Global, text: &[u8]) -> Result<Kind, AllocError>
     }
 }
 
-fn name(alloc: Global, bytes: &[u8]) -> Result<Option<Front>, AllocError>
+fn name(alloc: Global, bytes: &[u8]) -> Result<Option<TokenPrefix>, AllocError>
     requires { begins is_letter bytes.now ≡ true }
-    ensures { IfOk result (IsFront bytes.now) }
+    ensures { IfOk result (IsTokenPrefix bytes.now) }
 {
     let len = run(bytes, Class::Name);
     if len > 32 {
         return Ok(None);
     }
     let kind = word_kind(alloc, &bytes[..len])?;
-    Ok(Some(Front { kind, len }))
+    Ok(Some(TokenPrefix { kind, len }))
 }
 
 /// The value of digits, where it is at most 2^50.
 fn value_of(digits: &[u8]) -> Option<u64>
-    requires { each is_digit digits.now ≡ true }
+    requires { every_byte is_digit digits.now ≡ true }
     ensures value { IfSome result (λ v. (v ≡ value_from 0 digits.now) × (v ≤ 2 ^ 50)) }
     ensures none { IfNone result (2 ^ 50 < value_from 0 digits.now) }
 {
@@ -60,24 +61,24 @@ fn value_of(digits: &[u8]) -> Option<u64>
     Some(value)
 }
 
-fn number(bytes: &[u8]) -> Option<Front>
+fn number(bytes: &[u8]) -> Option<TokenPrefix>
     requires { begins is_digit bytes.now ≡ true }
-    ensures { IsFront bytes.now result }
+    ensures { IsTokenPrefix bytes.now result }
 {
     let len = run(bytes, Class::Digit);
     match value_of(&bytes[..len]) {
         None => None,
-        Some(number) => Some(Front {
+        Some(number) => Some(TokenPrefix {
             kind: Kind::Number(number),
             len,
         }),
     }
 }
 
-fn text(alloc: Global, bytes: &[u8]) -> Result<Option<Front>, AllocError>
+fn text(alloc: Global, bytes: &[u8]) -> Result<Option<TokenPrefix>, AllocError>
     requires some { 0 < length bytes.now }
     requires quote { slice_index bytes.now 0 ≡ 34 }
-    ensures { IfOk result (IsFront bytes.now) }
+    ensures { IfOk result (IsTokenPrefix bytes.now) }
 {
     let rest = &bytes[1..];
     let len = run(rest, Class::Text);
@@ -91,32 +92,32 @@ fn text(alloc: Global, bytes: &[u8]) -> Result<Option<Front>, AllocError>
         return Ok(None);
     }
     let text = lexeme(alloc, &rest[..len])?;
-    Ok(Some(Front {
+    Ok(Some(TokenPrefix {
         kind: Kind::Text(text),
         len: len + 2,
     }))
 }
 
-fn sign(bytes: &[u8]) -> Option<Front>
+fn sign(bytes: &[u8]) -> Option<TokenPrefix>
     requires some { 0 < length bytes.now }
     requires no_letter { is_letter (slice_index bytes.now 0) ≡ false }
     requires no_digit { is_digit (slice_index bytes.now 0) ≡ false }
     requires no_quote { slice_index bytes.now 0 ≢ 34 }
-    ensures { IsFront bytes.now result }
+    ensures { IsTokenPrefix bytes.now result }
 {
     match sign_at(bytes) {
         None => None,
-        Some(sign) => Some(Front {
+        Some(sign) => Some(TokenPrefix {
             kind: Kind::Punctuation(sign),
             len: mark(sign).len(),
         }),
     }
 }
 
-/// The token at the front of the bytes.
-pub fn front_token(alloc: Global, bytes: &[u8]) -> Result<Option<Front>, AllocError>
+/// The token that begins the bytes.
+pub fn token_prefix(alloc: Global, bytes: &[u8]) -> Result<Option<TokenPrefix>, AllocError>
     requires { 0 < length bytes.now }
-    ensures { IfOk result (IsFront bytes.now) }
+    ensures { IfOk result (IsTokenPrefix bytes.now) }
 {
     let first = bytes[0];
     if is_letter(first) {

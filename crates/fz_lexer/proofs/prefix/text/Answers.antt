@@ -2,9 +2,9 @@ use Rattle.std.proofs.Common.{◌<◌, ◌-◌, arith, length, inl, inr, take, d
 use Rattle.std.proofs.Common.{subst, sym, ◌+◌}
 use Rattle.std.specs.Prelude.{Some}
 use Rattle.fz_lexer.specs.declared.token.Kind.TheVariants.{Text}
-use Rattle.fz_lexer.specs.Fronts.{IsFront}
-use Rattle.fz_lexer.proofs.Fronts.{text_found, text_over, tail_all}
-use Rattle.fz_lexer.proofs.front.text.Goals as goal
+use Rattle.fz_lexer.specs.Prefixes.{IsTokenPrefix}
+use Rattle.fz_lexer.proofs.Prefixes.{text_found, text_over, tail_all}
+use Rattle.fz_lexer.proofs.prefix.text.Goals as goal
 
 pub returns-then-len-gt64 : goal.returns-then-len-gt64
 returns-then-len-gt64 c = text_over c.args.bytes.now _ c.run-len.result c.requires.some c.requires.quote (tail_all c.args.bytes.now 1) c.run-len.ensures.within c.run-len.ensures.each c.run-len.ensures.stops (inl c.if-len-gt64.true)
@@ -19,5 +19,5 @@ pub returns : goal.returns
 returns c =
     let e = tail_all c.args.bytes.now 1 in
     let l : c.run-len.result < length (take (length c.args.bytes.now - 1) (drop 1 c.args.bytes.now)) = omega arith in
-    subst (λ x. IsFront c.args.bytes.now (Some (record { kind = Text x; len = c.run-len.result + 2 }))) (sym c.in_ok-text.ensures)
+    subst (λ x. IsTokenPrefix c.args.bytes.now (Some (record { kind = Text x; len = c.run-len.result + 2 }))) (sym c.in_ok-text.ensures)
     (text_found c.args.bytes.now _ c.run-len.result c.requires.some c.requires.quote e l c.run-len.ensures.each c.if-rest-len-ne34.false c.if-len-gt64.false)

@@ -1,5 +1,5 @@
-use Rattle.fz_lexer.proofs.Fronts.{name_found, name_over}
-use Rattle.fz_lexer.proofs.front.name.Goals as goal
+use Rattle.fz_lexer.proofs.Prefixes.{name_found, name_over}
+use Rattle.fz_lexer.proofs.prefix.name.Goals as goal
 
 pub returns-then-len-gt32 : goal.returns-then-len-gt32
 returns-then-len-gt32 c = name_over c.args.bytes.now c.run-len.result c.requires c.run-len.ensures.within c.run-len.ensures.each c.run-len.ensures.stops c.if-len-gt32.true

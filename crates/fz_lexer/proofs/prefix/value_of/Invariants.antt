@@ -1,10 +1,10 @@
 use Rattle.std.proofs.Common.{◌≡◌, ◌≤◌, ◌^◌, true, drop}
-use Rattle.fz_lexer.specs.Bytes.{value_from, each, is_digit}
-use Rattle.fz_lexer.proofs.front.value_of.Given as goal
+use Rattle.fz_lexer.specs.Bytes.{value_from, every_byte, is_digit}
+use Rattle.fz_lexer.proofs.prefix.value_of.Given as goal
 
 abbrev pub invariant-loop-b : goal.invariant-loop-b
 invariant-loop-b l = record {
   small : l.value ≤ 2 ^ 50;
   same : value_from 0 l.digits ≡ value_from l.value (drop l.b-index l.digits);
-  digits : each is_digit (drop l.b-index l.digits) ≡ true;
+  digits : every_byte is_digit (drop l.b-index l.digits) ≡ true;
 }
