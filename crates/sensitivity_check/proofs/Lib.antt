@@ -5,3 +5,5 @@ pub mod Judging
 pub mod Binders
 pub mod TableAmounts
 pub mod Programs
+pub mod Ready
+mod Examples

@@ -1,4 +1,4 @@
--- A whole program's answer from its type and sensitivities, or from its refusal.
+-- A whole program's answer from its type and sensitivities, or from its fault.
 use Rattle.std.proofs.Common.{◌≡◌, ℕ, ◌<◌, refl, sym, ap, ◌∙◌, List, [], length, get_or}
 use Rattle.std.specs.Prelude.{Ok, Some, slice_get, ◌≢◌}
 use Rattle.std.proofs.lemmas.Option.{slice_get-get_or}
@@ -9,8 +9,7 @@ use Rattle.fz_frac.specs.Sens.{distance_of}
 use Rattle.fz_frac.specs.declared.sens.Sens.{Sens}
 use Rattle.fz_ast.specs.Limits.{TermLimits}
 use Rattle.fz_ast.specs.Signature.{IsSignature, Signature, TableType}
-use Rattle.fz_ast.specs.Spanned.{Spanned, erase}
-use Rattle.fz_ast.specs.Terms.{Name}
+use Rattle.fz_ast.specs.Terms.{Name, Term}
 use Rattle.fz_ast.specs.TypeNodes.{type_at, type_of}
 use Rattle.fz_ast.specs.Types.{NumT, Ty}
 use Rattle.fz_ast.specs.declared.types.TypeForm.{TypeForm}
@@ -22,38 +21,38 @@ use Rattle.linear_types.specs.Places.{AreAlike, distances}
 use Rattle.linear_types.specs.Program.{Accepted, Rejected, context_of, greatest_of, sensitivity_of, sensitivity_to}
 use Rattle.linear_types.specs.Rule.{rule}
 use Rattle.linear_types.specs.Sensitivities.{Sensitivities}
-use Rattle.linear_types.specs.Verdict.{Fault, Verdict, Has, Refused}
-use Rattle.linear_types.specs.Verdict as rules
+use Rattle.linear_types.specs.Inferred.{Fault, Inferred, Has, Refused}
+use Rattle.linear_types.specs.Inferred as rules
 use Rattle.metric_law.proofs.Programs.{program_value, program_bound}
-use Rattle.sensitivity_check.specs.Answered.{HasBound, IsChecked, IsRefused}
-use Rattle.typing_rows.specs.Says.{IsFault, IsFine, Refuses, Says}
+use Rattle.sensitivity_check.specs.Answered.{HasBound, IsChecked, IsFirstFault}
+use Rattle.typing_rows.specs.Says.{IsRowFault, IsFine, IsFaultOf, Says}
 use Rattle.sensitivity_check.specs.declared.checker.Checked.{Checked}
 use Rattle.typing_rows.specs.declared.clause.Judged.{Judged}
-use Rattle.typing_rows.specs.declared.clause.Refusal.{Refusal}
-use Rattle.typing_rows.specs.declared.clause.Refusal.TheVariants.{Unbound, Mismatch, NotGround, NotFlat, TooSensitive, Range, NoMemory}
+use Rattle.typing_rows.specs.declared.clause.RowFault.{RowFault}
+use Rattle.typing_rows.specs.declared.clause.RowFault.TheVariants.{Unbound, Mismatch, NotGround, NotFlat, TooSensitive, Range, NoMemory}
 use Rattle.sensitivity_check.specs.declared.fault.CheckFault.TheVariants.{Unbounded, NotNum}
 use Rattle.sensitivity_check.proofs.TableAmounts.{finite_alike, greatest_alike, inf_alike, to_alike}
 
-told : (T : List Ty) (r : Refusal) (v : Verdict) → (r ≡ NoMemory → ⊥) → Refuses T r v → (f : Fault) × (v ≡ Refused f) × IsFault T r f
-told T NoMemory v n h = absurd (n refl)
-told T (Unbound s) (Refused f) n h = (f, refl, h)
-told T (Unbound s) (Has A D) n h = absurd h
-told T (Mismatch s t w) (Refused f) n h = (f, refl, h)
-told T (Mismatch s t w) (Has A D) n h = absurd h
-told T (NotGround s) (Refused f) n h = (f, refl, h)
-told T (NotGround s) (Has A D) n h = absurd h
-told T (NotFlat s) (Refused f) n h = (f, refl, h)
-told T (NotFlat s) (Has A D) n h = absurd h
-told T (TooSensitive s x q) (Refused f) n h = (f, refl, h)
-told T (TooSensitive s x q) (Has A D) n h = absurd h
-told T (Range s) (Refused f) n h = (f, refl, h)
-told T (Range s) (Has A D) n h = absurd h
+fault_found : (T : List Ty) (r : RowFault) (v : Inferred) → (r ≡ NoMemory → ⊥) → IsFaultOf T r v → (f : Fault) × (v ≡ Refused f) × IsRowFault T r f
+fault_found T NoMemory v n h = absurd (n refl)
+fault_found T (Unbound s) (Refused f) n h = (f, refl, h)
+fault_found T (Unbound s) (Has A D) n h = absurd h
+fault_found T (Mismatch s t w) (Refused f) n h = (f, refl, h)
+fault_found T (Mismatch s t w) (Has A D) n h = absurd h
+fault_found T (NotGround s) (Refused f) n h = (f, refl, h)
+fault_found T (NotGround s) (Has A D) n h = absurd h
+fault_found T (NotFlat s) (Refused f) n h = (f, refl, h)
+fault_found T (NotFlat s) (Has A D) n h = absurd h
+fault_found T (TooSensitive s x q) (Refused f) n h = (f, refl, h)
+fault_found T (TooSensitive s x q) (Has A D) n h = absurd h
+fault_found T (Range s) (Refused f) n h = (f, refl, h)
+fault_found T (Range s) (Has A D) n h = absurd h
 
--- a term's refusal is the program's
-pub refused : (ts : Signature) (e : Spanned) (T : List Ty) (r : Refusal) → (r ≡ NoMemory → ⊥) → Refuses T r (rule (context_of ts) e) → (f : Fault) × (sensitivity_of ts e ≡ Rejected f) × IsFault T r f
-refused ts e T r n h = let k = told T r (rule (context_of ts) e) n h in (k.0, faults_are_kept ts e k.0 k.1, k.2)
+-- a term's fault is the program's
+pub first_fault_is : (ts : Signature) (e : Term) (T : List Ty) (r : RowFault) → (r ≡ NoMemory → ⊥) → IsFaultOf T r (rule (context_of ts) e) → (f : Fault) × (sensitivity_of ts e ≡ Rejected f) × IsRowFault T r f
+first_fault_is ts e T r n h = let k = fault_found T r (rule (context_of ts) e) n h in (k.0, faults_are_kept ts e k.0 k.1, k.2)
 
-has : (T : List Ty) (o : Judged) (v : Verdict) → Says T (Ok o) v → (A : Ty) × (D : Sensitivities) × (v ≡ Has A D) × IsFine T o A D
+has : (T : List Ty) (o : Judged) (v : Inferred) → Says T (Ok o) v → (A : Ty) × (D : Sensitivities) × (v ≡ Has A D) × IsFine T o A D
 has T o (Has A D) h = (A, D, refl, h)
 has T o (Refused f) h = absurd h
 
@@ -71,8 +70,8 @@ no_num at (BagF a) n = λ e. cc
 nothing : TableType
 nothing = record { name = []; row = NumT }
 
-module _ (ts : Signature) (e : Spanned) (T : List Ty) (o : Judged) (h : Says T (Ok o) (rule (context_of ts) e)) where
-  pub unbounded : (i : ℕ) → i < length ts → sensitivity_at (distances o.amounts.items) i ≡ Inf → FiniteBelow (distances o.amounts.items) i → IsRefused ts e (Unbounded i)
+module _ (ts : Signature) (e : Term) (T : List Ty) (o : Judged) (h : Says T (Ok o) (rule (context_of ts) e)) where
+  pub unbounded : (i : ℕ) → i < length ts → sensitivity_at (distances o.amounts.items) i ≡ Inf → FiniteBelow (distances o.amounts.items) i → IsFirstFault ts e (Unbounded i)
   unbounded i l q below =
       let k = has T o (rule (context_of ts) e) h in
       let D = k.1 in
@@ -82,7 +81,7 @@ module _ (ts : Signature) (e : Spanned) (T : List Ty) (o : Judged) (h : Says T (
       let fin = finite_alike (distances o.amounts.items) D i k.3.alike below in
       (rules.Unbounded t.name, (unbounded_exactly ts e t.name).1 (k.0, D, k.2, (i, t, s, refl, inf, fin)), (t, s, refl))
 
-  pub not_num : (f : TypeForm) → type_at T o.ty ≡ type_of (type_at T) f → (f ≡ NumF → ⊥) → FiniteBelow (distances o.amounts.items) (length ts) → IsRefused ts e (NotNum T o.ty)
+  pub not_num : (f : TypeForm) → type_at T o.ty ≡ type_of (type_at T) f → (f ≡ NumF → ⊥) → FiniteBelow (distances o.amounts.items) (length ts) → IsFirstFault ts e (NotNum T o.ty)
   not_num f q n below =
       let k = has T o (rule (context_of ts) e) h in
       let D = k.1 in
@@ -99,13 +98,13 @@ module _ (ts : Signature) (e : Spanned) (T : List Ty) (o : Judged) (h : Says T (
       let num : rule (context_of ts) e ≡ Has NumT D = k.2 ∙ ap (λ A. Has A D) (sym k.3.is ∙ q) in
       (D, (accepted_exactly ts e D (greatest_of D)).1 (num, fin, refl), rw g (greatest_alike (distances o.amounts.items) D k.3.alike), k.3.alike)
 
-  pub checked : (c : Checked) → c.term.now ≡ e → type_at T o.ty ≡ NumT → FiniteBelow (distances o.amounts.items) (length ts) → distance_of c.sens ≡ greatest_of (distances o.amounts.items)
+  pub checked : (c : Checked) → c.sig.now ≡ ts → c.term.now ≡ e → type_at T o.ty ≡ NumT → FiniteBelow (distances o.amounts.items) (length ts) → distance_of c.sens ≡ greatest_of (distances o.amounts.items)
       → ((x : Name) → amount_of c.env x ≡ sensitivity_to ts (distances o.amounts.items) x) → IsChecked ts e c
-  checked c t q below g m =
+  checked c i t q below g m =
       let k = accepted_as c.sens q below g in
-      record { term = t; D = k.0; r = greatest_of k.0; accepted = k.1; sens = sens_lowest c.sens (greatest_of k.0) k.2; env = λ x. rw (m x) (to_alike ts (distances o.amounts.items) k.0 x k.3) }
+      record { sig = i; term = t; D = k.0; r = greatest_of k.0; accepted = k.1; sens = sens_lowest c.sens (greatest_of k.0) k.2; env = λ x. rw (m x) (to_alike ts (distances o.amounts.items) k.0 x k.3) }
 
-  pub bound_holds : (r : Sens) → IsSignature ts → TermLimits (erase e) → type_at T o.ty ≡ NumT → FiniteBelow (distances o.amounts.items) (length ts) → distance_of r ≡ greatest_of (distances o.amounts.items) → HasBound ts e r
+  pub bound_holds : (r : Sens) → IsSignature ts → TermLimits e → type_at T o.ty ≡ NumT → FiniteBelow (distances o.amounts.items) (length ts) → distance_of r ≡ greatest_of (distances o.amounts.items) → HasBound ts e r
   bound_holds r s l q below g =
       let k = accepted_as r q below g in
       let d = greatest_of k.0 in

@@ -13,11 +13,11 @@ use Rattle.linear_types.proofs.Alike.{alike_refl}
 use Rattle.linear_types.specs.Places.{distances}
 use Rattle.linear_types.specs.Rule.{var_rule}
 use Rattle.linear_types.specs.Typing.{Under}
-use Rattle.linear_types.specs.Verdict.{Has, Refused, Unbound}
+use Rattle.linear_types.specs.Inferred.{Has, Refused, Unbound}
 use Rattle.typing_rows.specs.Says.{Says}
 use Rattle.sensitivity_check.specs.Scope.{context_in, AllInScope, IsScope, IsUnbound, IsInnermost}
 use Rattle.typing_rows.specs.declared.clause.Judged.{Judged}
-use Rattle.typing_rows.specs.declared.clause.Refusal.TheVariants.{Unbound as NotBound}
+use Rattle.typing_rows.specs.declared.clause.RowFault.TheVariants.{Unbound as NotBound}
 use Rattle.sensitivity_check.specs.declared.scope.Bound.{Bound}
 
 pub unbound_take : (x : Name) (bs : List Bound) (i : ℕ) (b : Bound) → i < length bs → bytes_eq (name_of (get_or bs i b).name) x ≡ false → IsUnbound x (take i bs) → IsUnbound x (take (suc i) bs)

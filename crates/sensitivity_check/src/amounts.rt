@@ -1,4 +1,4 @@
-// The sensitivities of a whole program, each to a table.
+//! The sensitivities of a whole program, each to a table.
 ghost use Rattle.std.specs.Prelude.{◌≡◌, ◌<◌, IfOk, MatchOption};
 ghost use Rattle.fz_ast.specs.Signature.{IsSignature};
 ghost use Rattle.fz_ast.specs.Terms.{Name};

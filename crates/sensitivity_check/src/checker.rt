@@ -1,13 +1,13 @@
-// A whole program, over the tables of a signature.
+//! A whole program, over the tables of a signature.
 ghost use Rattle.std.specs.Prelude.{◌≡◌, IfOk, IfErr, Ok};
 ghost use Rattle.fz_ast.specs.Arena.{Grows};
 ghost use Rattle.fz_ast.specs.Limits.{TermLimits};
 ghost use Rattle.fz_ast.specs.Signature.{Signature};
-ghost use Rattle.fz_ast.specs.Spanned.{Spanned, erase};
+ghost use Rattle.fz_ast.specs.Terms.{Term};
 ghost use Rattle.linear_types.specs.Program.{context_of};
 ghost use Rattle.linear_types.specs.Rule.{rule};
-ghost use Rattle.sensitivity_check.specs.Answered.{IsChecked, IsRefused, HasBound};
-ghost use Rattle.typing_rows.specs.Says.{Refuses, Says};
+ghost use Rattle.sensitivity_check.specs.Answered.{IsChecked, IsFirstFault, HasBound};
+ghost use Rattle.typing_rows.specs.Says.{IsFaultOf, Says};
 
 use crate::amounts::{by_name, first_endless, greatest};
 use crate::fault::CheckFault;
@@ -18,21 +18,22 @@ use fz_ast::{Arena, Sig, Term, TypeForm};
 use fz_frac::Sens;
 use linear_types::env::Env;
 use std::alloc::Global;
-use typing_rows::clause::{Judged, Refusal};
+use typing_rows::clause::{Judged, RowFault};
 
-/// A program that was accepted: the term, its greatest sensitivity over the tables, in lowest terms,
-/// and its sensitivity to each table by name.
+/// A program that was accepted: the tables' signature and the term, both as they were handed in, its greatest sensitivity
+/// over the tables, in lowest terms, and its sensitivity to each table by name.
 #[derive(Drop)]
 pub struct Checked<'a> {
+    pub sig: &'a Sig,
     pub term: &'a Term,
     pub sens: Sens,
     pub env: Env,
 }
 
 // The program's type and sensitivities, the tables being the names in scope.
-fn judged(alloc: Global, arena: &mut Arena, sig: &Sig, term: &Term) -> Result<Judged, Refusal>
+fn judged(alloc: Global, arena: &mut Arena, sig: &Sig, term: &Term) -> Result<Judged, RowFault>
     ensures says { Says arena.new result (rule (context_of sig.now) term.now) }
-    ensures limits { TermLimits (erase term.now) }
+    ensures limits { TermLimits term.now }
 {
     let (nodes, root) = term.parts();
     let scope = tables_in_scope(alloc, arena, sig)?;
@@ -45,13 +46,13 @@ fn judged(alloc: Global, arena: &mut Arena, sig: &Sig, term: &Term) -> Result<Ju
     walk.judge(arena, &scope, root)
 }
 
-// The refusal with its types.
-fn fault(arena: Arena, refusal: Refusal) -> CheckFault
-    ensures { (ts : Signature) (e : Spanned) → Refuses arena refusal (rule (context_of ts) e) → IsRefused ts e result }
+// The fault with its types.
+fn with_types(arena: Arena, fault: RowFault) -> CheckFault
+    ensures { (ts : Signature) (e : Term) → IsFaultOf arena fault (rule (context_of ts) e) → IsFirstFault ts e result }
 {
-    match refusal {
-        Refusal::Unbound { span } => CheckFault::Unbound { span },
-        Refusal::Mismatch {
+    match fault {
+        RowFault::Unbound { span } => CheckFault::Unbound { span },
+        RowFault::Mismatch {
             span,
             found,
             wanted,
@@ -61,11 +62,11 @@ fn fault(arena: Arena, refusal: Refusal) -> CheckFault
             found,
             wanted,
         },
-        Refusal::NotGround { span } => CheckFault::NotGround { span },
-        Refusal::NotFlat { span } => CheckFault::NotFlat { span },
-        Refusal::TooSensitive { span, name, r } => CheckFault::TooSensitive { span, name, r },
-        Refusal::Range { span } => CheckFault::Range { span },
-        Refusal::NoMemory => CheckFault::NoMemory,
+        RowFault::NotGround { span } => CheckFault::NotGround { span },
+        RowFault::NotFlat { span } => CheckFault::NotFlat { span },
+        RowFault::TooSensitive { span, name, r } => CheckFault::TooSensitive { span, name, r },
+        RowFault::Range { span } => CheckFault::Range { span },
+        RowFault::NoMemory => CheckFault::NoMemory,
     }
 }
 
@@ -73,14 +74,14 @@ fn fault(arena: Arena, refusal: Refusal) -> CheckFault
 fn accepted<'a>(
     alloc: Global,
     arena: Arena,
-    sig: &Sig,
+    sig: &'a Sig,
     term: &'a Term,
     judged: Judged,
 ) -> Result<Checked<'a>, CheckFault>
     requires says { Says arena (Ok judged) (rule (context_of sig.now) term.now) }
-    requires limits { TermLimits (erase term.now) }
+    requires limits { TermLimits term.now }
     ensures checked { IfOk result (IsChecked sig.now term.now) }
-    ensures fault { IfErr result (IsRefused sig.now term.now) }
+    ensures fault { IfErr result (IsFirstFault sig.now term.now) }
     ensures bound { IfOk result (λ checked. HasBound sig.now term.now (checked.sens)) }
 {
     if let Some(table) = first_endless(&judged.amounts, sig.len()) {
@@ -94,6 +95,7 @@ fn accepted<'a>(
     };
     match by_name(alloc, sig, &judged.amounts) {
         Ok(env) => Ok(Checked {
+            sig,
             term,
             sens: greatest(&judged.amounts),
             env,
@@ -104,17 +106,20 @@ fn accepted<'a>(
 
 /// Checks a program by the typing rules.
 ///
+/// Types are kept once each and compared by their numbers, and none is walked over as a tree, so a type that is exponentially
+/// large as a tree costs its nodes alone. The recursion goes down the term, which is at most 64 deep.
+///
 /// # Errors
 ///
 /// The first fault in the order of the rules; `Unbounded` and then `NotNum` come last. `NoMemory` where memory ran out.
-pub fn check<'a>(alloc: Global, sig: &Sig, term: &'a Term) -> Result<Checked<'a>, CheckFault>
+pub fn check<'a>(alloc: Global, sig: &'a Sig, term: &'a Term) -> Result<Checked<'a>, CheckFault>
     ensures checked { IfOk result (IsChecked sig.now term.now) }
-    ensures fault { IfErr result (IsRefused sig.now term.now) }
+    ensures fault { IfErr result (IsFirstFault sig.now term.now) }
     ensures bound { IfOk result (λ checked. HasBound sig.now term.now (checked.sens)) }
 {
     let mut arena = Arena::new(alloc);
     match judged(alloc, &mut arena, sig, term) {
         Ok(judged) => accepted(alloc, arena, sig, term, judged),
-        Err(refusal) => Err(fault(arena, refusal)),
+        Err(fault) => Err(with_types(arena, fault)),
     }
 }

@@ -1,4 +1,4 @@
-// What the checker finds wrong with a program.
+//! What the checker finds wrong with a program.
 use fz_ast::{Name, Span, Types};
 use fz_frac::Sens;
 use typing_rows::Wanted;

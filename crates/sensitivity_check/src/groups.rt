@@ -1,23 +1,23 @@
-// The row of each form of a group.
+//! The row of each form of a group.
 ghost use Rattle.std.specs.Prelude.{◌<◌, length};
 ghost use Rattle.fz_ast.specs.Arena.{Grows};
 ghost use Rattle.fz_ast.specs.TypeNodes.{type_at};
 ghost use Rattle.linear_types.specs.Places.{AreAlike, distances};
 ghost use Rattle.linear_types.specs.Sensitivities.{Sensitivities};
 ghost use Rattle.fz_ast.specs.Names.{name_of};
-ghost use Rattle.sensitivity_check.specs.Judging.{unary_rule, binary_rule, ranged_rule, inject_rule, lambda_rule};
+ghost use Rattle.linear_types.specs.Groups.{unary_rule, binary_rule, ranged_rule, inject_rule, lambda_rule};
 ghost use Rattle.typing_rows.specs.Says.{Says};
 
 use fz_ast::{Arena, Arrow, Binary, Name, Ranged, Side, Span, Unary};
 use std::alloc::Global;
 use typing_rows::bags::{filter, map, size, split, sum, union};
-use typing_rows::clause::{Judged, Refusal};
+use typing_rows::clause::{Judged, RowFault};
 use typing_rows::functions::{app, linear, unlimited};
 use typing_rows::numbers::{at_most, clip, equal, extreme, plus};
 use typing_rows::products::{fst, inl, inr, pair, snd, with_pair};
 
 /// A form of one part, which stands at `u`.
-pub fn unary(arena: &mut Arena, form: Unary, u: Span, o: Judged) -> Result<Judged, Refusal>
+pub fn unary(arena: &mut Arena, form: Unary, u: Span, o: Judged) -> Result<Judged, RowFault>
     requires o_known { o.ty < length arena.old }
     ensures grows { Grows arena.old arena.new }
     ensures says { (D : Sensitivities) → AreAlike (distances o.amounts.items) D
@@ -41,7 +41,7 @@ pub fn binary(
     v: Span,
     o: &Judged,
     p: &Judged,
-) -> Result<Judged, Refusal>
+) -> Result<Judged, RowFault>
     requires o_known { o.now.ty < length arena.old }
     requires p_known { p.now.ty < length arena.old }
     ensures grows { Grows arena.old arena.new }
@@ -72,7 +72,7 @@ pub fn ranged(
     lo: i64,
     hi: i64,
     o: Judged,
-) -> Result<Judged, Refusal>
+) -> Result<Judged, RowFault>
     requires o_known { o.ty < length arena.old }
     ensures grows { Grows arena.old arena.new }
     ensures says { (D : Sensitivities) → AreAlike (distances o.amounts.items) D
@@ -92,7 +92,7 @@ pub fn inject(
     t: u32,
     v: Span,
     o: Judged,
-) -> Result<Judged, Refusal>
+) -> Result<Judged, RowFault>
     requires o_known { o.ty < length arena.old }
     requires t_known { t < length arena.old }
     ensures grows { Grows arena.old arena.new }
@@ -115,7 +115,7 @@ pub fn lambda(
     u: Span,
     t: u32,
     o: &Judged,
-) -> Result<Judged, Refusal>
+) -> Result<Judged, RowFault>
     requires o_known { o.now.ty < length arena.old }
     requires t_known { t < length arena.old }
     ensures grows { Grows arena.old arena.new }

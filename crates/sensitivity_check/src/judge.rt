@@ -1,27 +1,30 @@
-// The walk over a term's nodes: its type and sensitivities, or its first fault.
-ghost use Rattle.std.specs.Prelude.{◌≡◌, ◌<◌, length, List};
-ghost use Rattle.fz_ast.specs.Arena.{Grows};
-ghost use Rattle.fz_ast.specs.Names.{name_of};
-ghost use Rattle.fz_ast.specs.Spanned.{CaseAt, IfAt, LetAt, LetBangAt, LetPairAt, span_of};
-ghost use Rattle.fz_ast.specs.TermNodes.{level, term_at};
-ghost use Rattle.fz_ast.specs.TypeNodes.{type_at};
-ghost use Rattle.fz_ast.specs.Types.{Ty};
-ghost use Rattle.linear_types.specs.Rule.{rule, var_rule};
-ghost use Rattle.linear_types.specs.Typing.{Under};
-ghost use Rattle.sensitivity_check.specs.Judging.{SayTwo};
-ghost use Rattle.typing_rows.specs.Says.{Says};
-ghost use Rattle.sensitivity_check.specs.Scope.{context_in, IsScope};
-ghost use Rattle.sensitivity_check.specs.Written.{AreWritten};
-ghost use Rattle.fz_ast.specs.declared.term.Form.TheVariants.{Lambda};
+//! The walk over a term's nodes: its type and sensitivities, or its first fault.
+#![tactic(none)]
 
-use crate::branches::{branches, choice};
+ghost use Rattle.std.specs.Prelude.{◌≡◌, ◌<◌, length, slice_index};
+ghost use Rattle.fz_ast.specs.Arena.{Grows};
+ghost use Rattle.fz_ast.specs.Limits.{IsBang, IsNumber};
+ghost use Rattle.fz_ast.specs.Names.{name_of};
+ghost use Rattle.fz_ast.specs.TermNodes.{term_at};
+ghost use Rattle.fz_ast.specs.Terms.{span_of};
+ghost use Rattle.fz_ast.specs.TypeNodes.{type_at};
+ghost use Rattle.fz_ast.specs.declared.span.Span.{Span};
+ghost use Rattle.fz_ast.specs.declared.term.Form.TheVariants.{Unary as Op, Binary as Op2, Times, Ranged as Bounded, Inject, Bang, Let, LetBang, LetPair, If, Case, Lambda};
+ghost use Rattle.fz_frac.specs.Sens.{distance_of};
+ghost use Rattle.linear_types.specs.Rule.{rule};
+ghost use Rattle.linear_types.specs.Typing.{Under};
+ghost use Rattle.sensitivity_check.specs.Judging.{IsReady, SayTwo, node_term};
+ghost use Rattle.sensitivity_check.specs.Scope.{context_in};
+ghost use Rattle.typing_rows.specs.Says.{Says};
+
 use crate::groups::{binary, inject, lambda, ranged, unary};
-use crate::scope::{Bound, place_of, under};
-use fz_ast::{Arena, Arrow, Form, Name, Nodes, Span, TypeForm};
-use linear_types::places::used_at;
+use crate::scope::{Bound, look, under};
+use fz_ast::{Arena, Arrow, Binary, Form, Name, Nodes, Ranged, Side, Span, TypeForm, Unary};
+use fz_frac::Sens;
 use std::alloc::Global;
 use typing_rows::Wanted;
-use typing_rows::clause::{Judged, Refusal};
+use typing_rows::branches::{branches, choice};
+use typing_rows::clause::{Judged, RowFault};
 use typing_rows::functions::{bang, let_bang, let_name};
 use typing_rows::numbers::{number, text, times, unit};
 use typing_rows::products::let_pair;
@@ -41,23 +44,8 @@ pub struct Two {
     pub second: Judged,
 }
 
-// A name's type, at 1 in its own place.
-fn look(alloc: Global, s: Span, scope: &[Bound], name: Name) -> Result<Judged, Refusal>
-    ensures { (T : List Ty) → IsScope T scope.now → Says T result (var_rule s (context_in T scope.now) (name_of name)) }
-{
-    let Some(i) = place_of(scope, &name) else {
-        return Err(Refusal::Unbound { span: s });
-    };
-    match used_at(alloc, i) {
-        Ok(amounts) => Ok(Judged {
-            ty: scope[i].ty,
-            amounts,
-        }),
-        Err(_) => Err(Refusal::NoMemory),
-    }
-}
-
 impl Walk<'_> {
+    #[tactic(auto)]
     fn span(&self, i: u32) -> Span
         requires { i < length self.now.nodes.now.terms }
         ensures { result ≡ span_of (term_at self.now.nodes.now.terms i) }
@@ -65,12 +53,21 @@ impl Walk<'_> {
         self.nodes.node(i).span
     }
 
+    // The number in the arena of the type written as number `t`.
+    #[tactic(auto)]
+    fn arena_number(&self, t: u32) -> u32
+        requires { t < length self.now.written.now }
+        ensures { result ≡ slice_index self.now.written.now t }
+    {
+        self.written[t as usize]
+    }
+
+    // Two parts, the first one first.
     #[cycle(judging)]
-    fn judge_two(&self, arena: &mut Arena, scope: &[Bound], a: u32, b: u32) -> Result<Two, Refusal>
+    fn judge_two(&self, arena: &mut Arena, scope: &[Bound], a: u32, b: u32) -> Result<Two, RowFault>
         requires a_known { a < length self.now.nodes.now.terms }
         requires b_known { b < length self.now.nodes.now.terms }
-        requires written { AreWritten self.now.nodes.now.types arena.old self.now.written.now }
-        requires scope { IsScope arena.old scope.now }
+        requires ready { IsReady self.now.nodes.now arena.old self.now.written.now scope.now }
         ensures grows { Grows arena.old arena.new }
         ensures says { SayTwo arena.new result (rule (context_in arena.old scope.now) (term_at self.now.nodes.now.terms a)) (rule (context_in arena.old scope.now) (term_at self.now.nodes.now.terms b)) }
     {
@@ -87,16 +84,139 @@ impl Walk<'_> {
         scope: &[Bound],
         bound: Bound,
         i: u32,
-    ) -> Result<Judged, Refusal>
+    ) -> Result<Judged, RowFault>
         requires known { i < length self.now.nodes.now.terms }
         requires bound { bound.ty < length arena.old }
-        requires written { AreWritten self.now.nodes.now.types arena.old self.now.written.now }
-        requires scope { IsScope arena.old scope.now }
+        requires ready { IsReady self.now.nodes.now arena.old self.now.written.now scope.now }
         ensures grows { Grows arena.old arena.new }
         ensures says { Says arena.new result (rule (Under (name_of bound.name) (type_at arena.old bound.ty) (context_in arena.old scope.now)) (term_at self.now.nodes.now.terms i)) }
     {
         let inner = under(self.alloc, scope, bound)?;
         self.judge(arena, &inner, i)
+    }
+
+    // A form of one part.
+    #[cycle(judging)]
+    fn judge_unary(
+        &self,
+        arena: &mut Arena,
+        scope: &[Bound],
+        form: Unary,
+        e: u32,
+    ) -> Result<Judged, RowFault>
+        requires e_known { e < length self.now.nodes.now.terms }
+        requires ready { IsReady self.now.nodes.now arena.old self.now.written.now scope.now }
+        ensures grows { Grows arena.old arena.new }
+        ensures says { (s : Span) → Says arena.new result (rule (context_in arena.old scope.now) (node_term self.now.nodes.now s (Op form e))) }
+    {
+        let o = self.judge(arena, scope, e)?;
+        unary(arena, form, self.span(e), o)
+    }
+
+    // A form of two parts.
+    #[cycle(judging)]
+    fn judge_binary(
+        &self,
+        arena: &mut Arena,
+        scope: &[Bound],
+        s: Span,
+        form: Binary,
+        a: u32,
+        b: u32,
+    ) -> Result<Judged, RowFault>
+        requires a_known { a < length self.now.nodes.now.terms }
+        requires b_known { b < length self.now.nodes.now.terms }
+        requires ready { IsReady self.now.nodes.now arena.old self.now.written.now scope.now }
+        ensures grows { Grows arena.old arena.new }
+        ensures says { Says arena.new result (rule (context_in arena.old scope.now) (node_term self.now.nodes.now s (Op2 form a b))) }
+    {
+        let two = self.judge_two(arena, scope, a, b)?;
+        let (u, v) = (self.span(a), self.span(b));
+        binary(self.alloc, arena, form, s, u, v, &two.first, &two.second)
+    }
+
+    // k * e
+    #[cycle(judging)]
+    fn judge_times(
+        &self,
+        arena: &mut Arena,
+        scope: &[Bound],
+        s: Span,
+        k: i64,
+        e: u32,
+    ) -> Result<Judged, RowFault>
+        requires e_known { e < length self.now.nodes.now.terms }
+        requires number { IsNumber k }
+        requires ready { IsReady self.now.nodes.now arena.old self.now.written.now scope.now }
+        ensures grows { Grows arena.old arena.new }
+        ensures says { Says arena.new result (rule (context_in arena.old scope.now) (node_term self.now.nodes.now s (Times k e))) }
+    {
+        let o = self.judge(arena, scope, e)?;
+        times(self.alloc, arena, s, self.span(e), k, &o)
+    }
+
+    // A form with bounds.
+    #[cycle(judging)]
+    fn judge_ranged(
+        &self,
+        arena: &mut Arena,
+        scope: &[Bound],
+        s: Span,
+        form: Ranged,
+        lo: i64,
+        hi: i64,
+        e: u32,
+    ) -> Result<Judged, RowFault>
+        requires e_known { e < length self.now.nodes.now.terms }
+        requires lo_number { IsNumber lo }
+        requires hi_number { IsNumber hi }
+        requires ready { IsReady self.now.nodes.now arena.old self.now.written.now scope.now }
+        ensures grows { Grows arena.old arena.new }
+        ensures says { Says arena.new result (rule (context_in arena.old scope.now) (node_term self.now.nodes.now s (Bounded form lo hi e))) }
+    {
+        let o = self.judge(arena, scope, e)?;
+        ranged(self.alloc, arena, form, s, self.span(e), lo, hi, o)
+    }
+
+    // inl[t] e, inr[t] e
+    #[cycle(judging)]
+    fn judge_inject(
+        &self,
+        arena: &mut Arena,
+        scope: &[Bound],
+        side: Side,
+        u: Span,
+        t: u32,
+        e: u32,
+    ) -> Result<Judged, RowFault>
+        requires e_known { e < length self.now.nodes.now.terms }
+        requires t_known { t < length self.now.nodes.now.types }
+        requires ready { IsReady self.now.nodes.now arena.old self.now.written.now scope.now }
+        ensures grows { Grows arena.old arena.new }
+        ensures says { (s : Span) → Says arena.new result (rule (context_in arena.old scope.now) (node_term self.now.nodes.now s (Inject side u t e))) }
+    {
+        let o = self.judge(arena, scope, e)?;
+        inject(arena, side, u, self.arena_number(t), self.span(e), o)
+    }
+
+    // ![r] e
+    #[cycle(judging)]
+    fn judge_bang(
+        &self,
+        arena: &mut Arena,
+        scope: &[Bound],
+        s: Span,
+        r: Sens,
+        e: u32,
+    ) -> Result<Judged, RowFault>
+        requires e_known { e < length self.now.nodes.now.terms }
+        requires bang { IsBang (distance_of r) }
+        requires ready { IsReady self.now.nodes.now arena.old self.now.written.now scope.now }
+        ensures grows { Grows arena.old arena.new }
+        ensures says { Says arena.new result (rule (context_in arena.old scope.now) (node_term self.now.nodes.now s (Bang r e))) }
+    {
+        let o = self.judge(arena, scope, e)?;
+        bang(self.alloc, arena, s, r, &o)
     }
 
     // let x = e in b
@@ -109,13 +229,12 @@ impl Walk<'_> {
         x: Name,
         e: u32,
         b: u32,
-    ) -> Result<Judged, Refusal>
+    ) -> Result<Judged, RowFault>
         requires e_known { e < length self.now.nodes.now.terms }
         requires b_known { b < length self.now.nodes.now.terms }
-        requires written { AreWritten self.now.nodes.now.types arena.old self.now.written.now }
-        requires scope { IsScope arena.old scope.now }
+        requires ready { IsReady self.now.nodes.now arena.old self.now.written.now scope.now }
         ensures grows { Grows arena.old arena.new }
-        ensures says { Says arena.new result (rule (context_in arena.old scope.now) (LetAt s (name_of x) (term_at self.now.nodes.now.terms e) (term_at self.now.nodes.now.terms b))) }
+        ensures says { Says arena.new result (rule (context_in arena.old scope.now) (node_term self.now.nodes.now s (Let x e b))) }
     {
         let o = self.judge(arena, scope, e)?;
         let p = self.judge_under(arena, scope, Bound { name: x, ty: o.ty }, b)?;
@@ -132,17 +251,17 @@ impl Walk<'_> {
         x: Name,
         e: u32,
         b: u32,
-    ) -> Result<Judged, Refusal>
+    ) -> Result<Judged, RowFault>
         requires e_known { e < length self.now.nodes.now.terms }
         requires b_known { b < length self.now.nodes.now.terms }
-        requires written { AreWritten self.now.nodes.now.types arena.old self.now.written.now }
-        requires scope { IsScope arena.old scope.now }
+        requires ready { IsReady self.now.nodes.now arena.old self.now.written.now scope.now }
         ensures grows { Grows arena.old arena.new }
-        ensures says { Says arena.new result (rule (context_in arena.old scope.now) (LetBangAt s (name_of x) (term_at self.now.nodes.now.terms e) (term_at self.now.nodes.now.terms b))) }
+        ensures says { Says arena.new result (rule (context_in arena.old scope.now) (node_term self.now.nodes.now s (LetBang x e b))) }
     {
         let o = self.judge(arena, scope, e)?;
+        #[tactic(auto)]
         let TypeForm::Bang(r, ty) = arena.form(o.ty) else {
-            return Err(Refusal::Mismatch {
+            return Err(RowFault::Mismatch {
                 span: self.span(e),
                 found: o.ty,
                 wanted: Wanted::Bang,
@@ -163,17 +282,17 @@ impl Walk<'_> {
         y: Name,
         e: u32,
         b: u32,
-    ) -> Result<Judged, Refusal>
+    ) -> Result<Judged, RowFault>
         requires e_known { e < length self.now.nodes.now.terms }
         requires b_known { b < length self.now.nodes.now.terms }
-        requires written { AreWritten self.now.nodes.now.types arena.old self.now.written.now }
-        requires scope { IsScope arena.old scope.now }
+        requires ready { IsReady self.now.nodes.now arena.old self.now.written.now scope.now }
         ensures grows { Grows arena.old arena.new }
-        ensures says { Says arena.new result (rule (context_in arena.old scope.now) (LetPairAt s (name_of x) (name_of y) (term_at self.now.nodes.now.terms e) (term_at self.now.nodes.now.terms b))) }
+        ensures says { Says arena.new result (rule (context_in arena.old scope.now) (node_term self.now.nodes.now s (LetPair x y e b))) }
     {
         let o = self.judge(arena, scope, e)?;
+        #[tactic(auto)]
         let TypeForm::Tensor(first, second) = arena.form(o.ty) else {
-            return Err(Refusal::Mismatch {
+            return Err(RowFault::Mismatch {
                 span: self.span(e),
                 found: o.ty,
                 wanted: Wanted::Tensor,
@@ -202,14 +321,13 @@ impl Walk<'_> {
         e: u32,
         a: u32,
         b: u32,
-    ) -> Result<Judged, Refusal>
+    ) -> Result<Judged, RowFault>
         requires e_known { e < length self.now.nodes.now.terms }
         requires a_known { a < length self.now.nodes.now.terms }
         requires b_known { b < length self.now.nodes.now.terms }
-        requires written { AreWritten self.now.nodes.now.types arena.old self.now.written.now }
-        requires scope { IsScope arena.old scope.now }
+        requires ready { IsReady self.now.nodes.now arena.old self.now.written.now scope.now }
         ensures grows { Grows arena.old arena.new }
-        ensures says { Says arena.new result (rule (context_in arena.old scope.now) (IfAt s (term_at self.now.nodes.now.terms e) (term_at self.now.nodes.now.terms a) (term_at self.now.nodes.now.terms b))) }
+        ensures says { Says arena.new result (rule (context_in arena.old scope.now) (node_term self.now.nodes.now s (If e a b))) }
     {
         let o = self.judge(arena, scope, e)?;
         let two = self.judge_two(arena, scope, a, b)?;
@@ -229,18 +347,18 @@ impl Walk<'_> {
         a: u32,
         y: Name,
         b: u32,
-    ) -> Result<Judged, Refusal>
+    ) -> Result<Judged, RowFault>
         requires e_known { e < length self.now.nodes.now.terms }
         requires a_known { a < length self.now.nodes.now.terms }
         requires b_known { b < length self.now.nodes.now.terms }
-        requires written { AreWritten self.now.nodes.now.types arena.old self.now.written.now }
-        requires scope { IsScope arena.old scope.now }
+        requires ready { IsReady self.now.nodes.now arena.old self.now.written.now scope.now }
         ensures grows { Grows arena.old arena.new }
-        ensures says { Says arena.new result (rule (context_in arena.old scope.now) (CaseAt s (term_at self.now.nodes.now.terms e) (name_of x) (term_at self.now.nodes.now.terms a) (name_of y) (term_at self.now.nodes.now.terms b))) }
+        ensures says { Says arena.new result (rule (context_in arena.old scope.now) (node_term self.now.nodes.now s (Case e x a y b))) }
     {
         let o = self.judge(arena, scope, e)?;
+        #[tactic(auto)]
         let TypeForm::Sum(left, right) = arena.form(o.ty) else {
-            return Err(Refusal::Mismatch {
+            return Err(RowFault::Mismatch {
                 span: self.span(e),
                 found: o.ty,
                 wanted: Wanted::Sum,
@@ -263,25 +381,23 @@ impl Walk<'_> {
         u: Span,
         t: u32,
         e: u32,
-    ) -> Result<Judged, Refusal>
+    ) -> Result<Judged, RowFault>
         requires e_known { e < length self.now.nodes.now.terms }
         requires t_known { t < length self.now.nodes.now.types }
-        requires written { AreWritten self.now.nodes.now.types arena.old self.now.written.now }
-        requires scope { IsScope arena.old scope.now }
+        requires ready { IsReady self.now.nodes.now arena.old self.now.written.now scope.now }
         ensures grows { Grows arena.old arena.new }
-        ensures says { Says arena.new result (rule (context_in arena.old scope.now) (level (type_at self.now.nodes.now.types) (term_at self.now.nodes.now.terms) s (Lambda form x u t e))) }
+        ensures says { Says arena.new result (rule (context_in arena.old scope.now) (node_term self.now.nodes.now s (Lambda form x u t e))) }
     {
-        let ty = self.written[t as usize];
+        let ty = self.arena_number(t);
         let o = self.judge_under(arena, scope, Bound { name: x, ty }, e)?;
         lambda(self.alloc, arena, form, s, x, u, ty, &o)
     }
 
     /// The type and sensitivities of the term of number `i`, or its first fault.
     #[cycle(judging)]
-    pub fn judge(&self, arena: &mut Arena, scope: &[Bound], i: u32) -> Result<Judged, Refusal>
+    pub fn judge(&self, arena: &mut Arena, scope: &[Bound], i: u32) -> Result<Judged, RowFault>
         requires known { i < length self.now.nodes.now.terms }
-        requires written { AreWritten self.now.nodes.now.types arena.old self.now.written.now }
-        requires scope { IsScope arena.old scope.now }
+        requires ready { IsReady self.now.nodes.now arena.old self.now.written.now scope.now }
         ensures grows { Grows arena.old arena.new }
         ensures says { Says arena.new result (rule (context_in arena.old scope.now) (term_at self.now.nodes.now.terms i)) }
     {
@@ -292,31 +408,12 @@ impl Walk<'_> {
             Form::Num(_) => number(self.alloc, arena),
             Form::Text(_) => text(self.alloc, arena),
             Form::Unit => unit(self.alloc, arena),
-            Form::Unary(form, e) => {
-                let o = self.judge(arena, scope, e)?;
-                unary(arena, form, self.span(e), o)
-            }
-            Form::Binary(form, a, b) => {
-                let two = self.judge_two(arena, scope, a, b)?;
-                let (u, v) = (self.span(a), self.span(b));
-                binary(self.alloc, arena, form, s, u, v, &two.first, &two.second)
-            }
-            Form::Times(k, e) => {
-                let o = self.judge(arena, scope, e)?;
-                times(self.alloc, arena, s, self.span(e), k, &o)
-            }
-            Form::Ranged(form, lo, hi, e) => {
-                let o = self.judge(arena, scope, e)?;
-                ranged(self.alloc, arena, form, s, self.span(e), lo, hi, o)
-            }
-            Form::Inject(side, u, t, e) => {
-                let o = self.judge(arena, scope, e)?;
-                inject(arena, side, u, self.written[t as usize], self.span(e), o)
-            }
-            Form::Bang(r, e) => {
-                let o = self.judge(arena, scope, e)?;
-                bang(self.alloc, arena, s, r, &o)
-            }
+            Form::Unary(form, e) => self.judge_unary(arena, scope, form, e),
+            Form::Binary(form, a, b) => self.judge_binary(arena, scope, s, form, a, b),
+            Form::Times(k, e) => self.judge_times(arena, scope, s, k, e),
+            Form::Ranged(form, lo, hi, e) => self.judge_ranged(arena, scope, s, form, lo, hi, e),
+            Form::Inject(side, u, t, e) => self.judge_inject(arena, scope, side, u, t, e),
+            Form::Bang(r, e) => self.judge_bang(arena, scope, s, r, e),
             Form::Let(x, e, b) => self.judge_let(arena, scope, s, x, e, b),
             Form::LetBang(x, e, b) => self.judge_let_bang(arena, scope, s, x, e, b),
             Form::LetPair(x, y, e, b) => self.judge_let_pair(arena, scope, s, x, y, e, b),

@@ -2,7 +2,6 @@
 #![tactic(auto)]
 
 pub mod amounts;
-pub mod branches;
 pub mod checker;
 pub mod fault;
 pub mod groups;

@@ -1,10 +1,15 @@
-// The names in scope.
-ghost use Rattle.std.specs.Prelude.{◌≡◌, ◌<◌, ◌∷◌, length, MatchOption, IfOk, IfSome};
+//! The names in scope.
+ghost use Rattle.std.specs.Prelude.{◌≡◌, ◌<◌, ◌∷◌, List, length, MatchOption, IfOk, IfSome};
 ghost use Rattle.fz_ast.specs.Names.{name_of};
-ghost use Rattle.sensitivity_check.specs.Scope.{IsInnermost, IsUnbound};
+ghost use Rattle.fz_ast.specs.Types.{Ty};
+ghost use Rattle.linear_types.specs.Rule.{var_rule};
+ghost use Rattle.sensitivity_check.specs.Scope.{IsInnermost, IsScope, IsUnbound, context_in};
+ghost use Rattle.typing_rows.specs.Says.{Says};
 
-use fz_ast::{Name, NoMemory};
+use fz_ast::{Name, NoMemory, Span};
+use linear_types::places::used_at;
 use std::alloc::Global;
+use typing_rows::clause::{Judged, RowFault};
 
 /// A name in scope, and the number of its type in the arena.
 #[derive(Clone, Copy)]
@@ -40,4 +45,20 @@ pub fn under(alloc: Global, scope: &[Bound], bound: Bound) -> Result<Vec<Bound>,
         }
     }
     Ok(inner)
+}
+
+/// A name's type, at 1 in its own place.
+pub fn look(alloc: Global, s: Span, scope: &[Bound], name: Name) -> Result<Judged, RowFault>
+    ensures { (T : List Ty) → IsScope T scope.now → Says T result (var_rule s (context_in T scope.now) (name_of name)) }
+{
+    let Some(i) = place_of(scope, &name) else {
+        return Err(RowFault::Unbound { span: s });
+    };
+    match used_at(alloc, i) {
+        Ok(amounts) => Ok(Judged {
+            ty: scope[i].ty,
+            amounts,
+        }),
+        Err(_) => Err(RowFault::NoMemory),
+    }
 }

@@ -1,4 +1,4 @@
-// The tables of a signature as the names in scope of a program.
+//! The tables of a signature as the names in scope of a program.
 ghost use Rattle.std.specs.Prelude.{◌≡◌, IfOk};
 ghost use Rattle.fz_ast.specs.Types.{BagT};
 ghost use Rattle.fz_ast.specs.Arena.{Grows};

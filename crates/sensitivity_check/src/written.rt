@@ -1,4 +1,4 @@
-// The types written in a term, each by its number in an arena.
+//! The types written in a term, each by its number in an arena.
 ghost use Rattle.std.specs.Prelude.{◌≡◌, ◌<◌, length, IfOk, List};
 ghost use Rattle.fz_ast.specs.Types.{Ty};
 ghost use Rattle.fz_ast.specs.TypeNodes.{type_at, type_of, HasBang, IsKnownType};

@@ -17,10 +17,10 @@ use Rattle.linear_types.specs.Sensitivities.{Sensitivities, first, rest, plus, j
 use Rattle.linear_types.specs.Places.{AreAlike, distances}
 use Rattle.linear_types.specs.Rule.{exactly, has_sum, has_bound, fun_rule, branches_rule, test_rule}
 use Rattle.linear_types.proofs.Alike.{first_alike, rest_alike, is_le_alike, greater_alike, above_zero_alike}
-use Rattle.typing_rows.specs.Says.{IsFine, Says, Refuses}
+use Rattle.typing_rows.specs.Says.{IsFine, Says, IsFaultOf}
 use Rattle.typing_rows.specs.declared.clause.Judged.{Judged}
-use Rattle.typing_rows.specs.declared.clause.Refusal.{Refusal}
-use Rattle.typing_rows.specs.declared.clause.Refusal.TheVariants.{TooSensitive}
+use Rattle.typing_rows.specs.declared.clause.RowFault.{RowFault}
+use Rattle.typing_rows.specs.declared.clause.RowFault.TheVariants.{TooSensitive}
 
 -- what calls of `first_of` and `rest_of` answer
 
@@ -41,16 +41,16 @@ pub unlimited_is : {A B C D : Ty} → A ≡ C → B ≡ D → UnlimitedT A B ≡
 unlimited_is e f = rw (e, f) refl
 
 pub too_sensitive : (T : List Ty) (s u : Span) (x : Name) (r k : Sens) (A B : Ty) (D : Sensitivities) → formed A ≡ WellFormed → false ≡ is_le (distance_of r) (distance_of k) → distance_of k ≡ one → distance_of r ≈ first D
-    → Refuses T (TooSensitive s x r) (fun_rule s (name_of x) u A B D)
+    → IsFaultOf T (TooSensitive s x r) (fun_rule s (name_of x) u A B D)
 too_sensitive T s u x r k A B D f e o h =
     let i : is_le (first D) one ≡ false = sym (e ∙ (ap (is_le (distance_of r)) o ∙ is_le_alike h (≈-refl one))) in
     rw (f, i) (first D, sens_lowest r (first D) h, refl)
 
-pub branches_says : (T : List Ty) (q : Result Judged Refusal) (s w : Span) (F : Sensitivities) (A : Ty) (D : Sensitivities) (B : Ty) (E : Sensitivities) → true ≡ same_type B A → true ≡ is_ground A
+pub branches_says : (T : List Ty) (q : Result Judged RowFault) (s w : Span) (F : Sensitivities) (A : Ty) (D : Sensitivities) (B : Ty) (E : Sensitivities) → true ≡ same_type B A → true ≡ is_ground A
     → Says T q (has_bound s A (join (rest D) (rest E)) (above_zero (greater (first D) (first E))) F) → Says T q (branches_rule s w F A D B E)
 branches_says T q s w F A D B E i g h = rw (← i, ← g) h
 
-pub test_says : (T : List Ty) (q : Result Judged Refusal) (K : Ty → Ty) (s u v : Span) (F A C B : Ty) (D E : Sensitivities) → F ≡ UnlimitedT A C → true ≡ same_type C BoolT
+pub test_says : (T : List Ty) (q : Result Judged RowFault) (K : Ty → Ty) (s u v : Span) (F A C B : Ty) (D E : Sensitivities) → F ≡ UnlimitedT A C → true ≡ same_type C BoolT
     → Says T q (exactly v B (BagT A) (has_sum s (K A) (plus (scale Inf D) E))) → Says T q (test_rule K s u v F D B E)
 test_says T q K s u v F A C B D E f i h = rw (f, same_type_refl A, ← i) h
 

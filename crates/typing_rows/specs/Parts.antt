@@ -9,11 +9,11 @@ abbrev pub IsTyped : List Ty → ℕ → Ty → Type 0
 IsTyped T t A = (t < length T) × (type_at T t ≡ A)
 
 -- what an unlimited function takes and gives
-abbrev pub parts_of : Ty → Option (Ty × Ty)
-parts_of (ArrowT (BangT Inf A) B) = Some (A, B)
-parts_of A = None
+abbrev pub taken_and_given : Ty → Option (Ty × Ty)
+taken_and_given (ArrowT (BangT Inf A) B) = Some (A, B)
+taken_and_given A = None
 
 -- the numbers of these
 abbrev pub AreParts : List Ty → Option (ℕ × ℕ) → Ty → Type 0
 AreParts T (Some x) A = (x.0 < length T) × (x.1 < length T) × (A ≡ UnlimitedT (type_at T x.0) (type_at T x.1))
-AreParts T None A = parts_of A ≡ None
+AreParts T None A = taken_and_given A ≡ None

@@ -13,13 +13,13 @@ use Rattle.linear_types.specs.Places.{AreAlike, IsGiven, distances}
 use Rattle.linear_types.specs.declared.places.EnvFault.{EnvFault}
 use Rattle.linear_types.specs.declared.places.EnvFault.TheVariants.{Range as OutOfRange, NoMemory as Wanting}
 use Rattle.linear_types.specs.Sensitivities.{Sensitivities}
-use Rattle.linear_types.specs.Verdict.{Fault, Verdict, Has, Refused, any_out}
-use Rattle.linear_types.specs.Verdict as rules
+use Rattle.linear_types.specs.Inferred.{Fault, Inferred, Has, Refused, any_out}
+use Rattle.linear_types.specs.Inferred as rules
 use Rattle.typing_rows.specs.declared.clause.Wanted.{Wanted}
 use Rattle.typing_rows.specs.declared.clause.Wanted.TheVariants.{Exactly, WithPair, Tensor, Sum, Arrow, Bang, Bag, UnlimitedArrow, NumberOrText}
 use Rattle.typing_rows.specs.declared.clause.Judged.{Judged}
-use Rattle.typing_rows.specs.declared.clause.Refusal.{Refusal}
-use Rattle.typing_rows.specs.declared.clause.Refusal.TheVariants.{Unbound, Mismatch, NotGround, NotFlat, TooSensitive, Range, NoMemory}
+use Rattle.typing_rows.specs.declared.clause.RowFault.{RowFault}
+use Rattle.typing_rows.specs.declared.clause.RowFault.TheVariants.{Unbound, Mismatch, NotGround, NotFlat, TooSensitive, Range, NoMemory}
 
 -- what was wanted, a type being its number in T
 abbrev pub IsWanted : List Ty → Wanted → rules.Wanted → Type 0
@@ -40,42 +40,42 @@ pub record IsFine (T : List Ty) (j : Judged) (A : Ty) (D : Sensitivities) : Type
   pub alike : AreAlike (distances j.amounts.items) D
 
 -- the code's refusal is this fault, with all its data
-abbrev pub IsFault : List Ty → Refusal → Fault → Type 0
-IsFault T (Unbound s) f = f ≡ rules.Unbound s
-IsFault T (Mismatch s t w) f = (wanted : rules.Wanted) × (t < length T) × IsWanted T w wanted × (f ≡ rules.Mismatch s (type_at T t) wanted)
-IsFault T (NotGround s) f = f ≡ rules.NotGround s
-IsFault T (NotFlat s) f = f ≡ rules.NotFlat s
-IsFault T (TooSensitive s x r) f = (d : Distance) × (distance_of r ≡ lowest d) × (f ≡ rules.TooSensitive s (name_of x) d)
-IsFault T (Range s) f = f ≡ rules.Range s
-IsFault T NoMemory f = ⊤
+abbrev pub IsRowFault : List Ty → RowFault → Fault → Type 0
+IsRowFault T (Unbound s) f = f ≡ rules.Unbound s
+IsRowFault T (Mismatch s t w) f = (wanted : rules.Wanted) × (t < length T) × IsWanted T w wanted × (f ≡ rules.Mismatch s (type_at T t) wanted)
+IsRowFault T (NotGround s) f = f ≡ rules.NotGround s
+IsRowFault T (NotFlat s) f = f ≡ rules.NotFlat s
+IsRowFault T (TooSensitive s x r) f = (d : Distance) × (distance_of r ≡ lowest d) × (f ≡ rules.TooSensitive s (name_of x) d)
+IsRowFault T (Range s) f = f ≡ rules.Range s
+IsRowFault T NoMemory f = ⊤
 
 -- the verdict is this refusal, unless memory is wanted
-abbrev pub Refuses : List Ty → Refusal → Verdict → Type 0
-Refuses T NoMemory v = ⊤
-Refuses T r (Refused f) = IsFault T r f
-Refuses T r (Has A D) = ⊥
+abbrev pub IsFaultOf : List Ty → RowFault → Inferred → Type 0
+IsFaultOf T NoMemory v = ⊤
+IsFaultOf T r (Refused f) = IsRowFault T r f
+IsFaultOf T r (Has A D) = ⊥
 
 -- the code's answer is the verdict, or memory is wanted
-abbrev pub Says : List Ty → Result Judged Refusal → Verdict → Type 0
+abbrev pub Says : List Ty → Result Judged RowFault → Inferred → Type 0
 Says T (Ok j) (Has A D) = IsFine T j A D
 Says T (Ok j) (Refused f) = ⊥
-Says T (Err r) v = Refuses T r v
+Says T (Err r) v = IsFaultOf T r v
 
 -- sensitivities that are given, or out of range at the term s, or memory is wanted
-abbrev pub IsRefusal : Span → Sensitivities → Refusal → Type 0
-IsRefusal s D (Range u) = (u ≡ s) × (any_out D ≡ true)
-IsRefusal s D NoMemory = ⊤
-IsRefusal s D r = ⊥
+abbrev pub IsCauseAt : Span → Sensitivities → RowFault → Type 0
+IsCauseAt s D (Range u) = (u ≡ s) × (any_out D ≡ true)
+IsCauseAt s D NoMemory = ⊤
+IsCauseAt s D r = ⊥
 
-abbrev pub Gives : Result (Vec Sens Global) Refusal → Span → Sensitivities → Type 0
+abbrev pub Gives : Result (Vec Sens Global) RowFault → Span → Sensitivities → Type 0
 Gives (Ok v) s D = IsGiven v.items D
-Gives (Err r) s D = IsRefusal s D r
+Gives (Err r) s D = IsCauseAt s D r
 
 -- d, or it is out of range at the term s
-abbrev pub GivesOne : Result Sens Refusal → Span → Distance → Type 0
+abbrev pub GivesOne : Result Sens RowFault → Span → Distance → Type 0
 GivesOne (Ok k) s d = (is_out d ≡ false) × (distance_of k ≈ d)
 GivesOne (Err r) s d = (r ≡ Range s) × (is_out d ≡ true)
 
-abbrev pub refusal_of : Span → EnvFault → Refusal
-refusal_of s OutOfRange = Range s
-refusal_of s Wanting = NoMemory
+abbrev pub fault_at : Span → EnvFault → RowFault
+fault_at s OutOfRange = Range s
+fault_at s Wanting = NoMemory

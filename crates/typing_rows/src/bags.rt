@@ -1,16 +1,15 @@
-// Bags.
+//! Bags.
 ghost use Rattle.std.specs.Prelude.{◌<◌, length};
 ghost use Rattle.fz_frac.specs.Distance.{Inf};
-ghost use Rattle.fz_ast.specs.Types.{NumT, BagT};
+ghost use Rattle.fz_ast.specs.Types.{BagT};
 ghost use Rattle.fz_ast.specs.TypeNodes.{type_at};
 ghost use Rattle.fz_ast.specs.Arena.{Grows};
 ghost use Rattle.linear_types.specs.Places.{AreAlike, distances};
 ghost use Rattle.linear_types.specs.Sensitivities.{Sensitivities, plus, scale};
-ghost use Rattle.linear_types.specs.Typing.{widest_of};
-ghost use Rattle.linear_types.specs.Rule.{exactly, has_sum, has_scaled, size_rule, union_rule, map_rule, test_rule, halves};
+ghost use Rattle.linear_types.specs.Rule.{exactly, has_sum, size_rule, sum_rule, union_rule, map_rule, test_rule, halves};
 ghost use Rattle.typing_rows.specs.Says.{Says, Gives};
 
-use crate::clause::{Judged, Refusal, Wanted};
+use crate::clause::{Judged, RowFault, Wanted};
 use crate::ranged::{endless, scaled_at, sum_at, whole_at};
 use crate::wanted::{
     halves_type, is_bag_of, is_number_bag, is_truth, not_form, not_number_bag, not_test,
@@ -21,7 +20,7 @@ use fz_frac::Sens;
 use std::alloc::Global;
 
 // inf D + E, with D of the function and E of the bag
-fn each_element(alloc: Global, s: Span, o: &Judged, p: &Judged) -> Result<Vec<Sens>, Refusal>
+fn each_element(alloc: Global, s: Span, o: &Judged, p: &Judged) -> Result<Vec<Sens>, RowFault>
     ensures { (D E : Sensitivities) → AreAlike (distances o.now.amounts.items) D → AreAlike (distances p.now.amounts.items) E → Gives result s (plus (scale Inf D) E) }
 {
     let a = endless(alloc, &o.amounts)?;
@@ -29,7 +28,7 @@ fn each_element(alloc: Global, s: Span, o: &Judged, p: &Judged) -> Result<Vec<Se
 }
 
 /// `size e`, with e at `u`.
-pub fn size(arena: &mut Arena, u: Span, o: Judged) -> Result<Judged, Refusal>
+pub fn size(arena: &mut Arena, u: Span, o: Judged) -> Result<Judged, RowFault>
     requires o_known { o.ty < length arena.old }
     ensures grows { Grows arena.old arena.new }
     ensures says { (D : Sensitivities) → AreAlike (distances o.amounts.items) D
@@ -43,7 +42,7 @@ pub fn size(arena: &mut Arena, u: Span, o: Judged) -> Result<Judged, Refusal>
                 amounts: o.amounts,
             })
         }
-        _ => Err(Refusal::Mismatch {
+        _ => Err(RowFault::Mismatch {
             span: u,
             found: o.ty,
             wanted: Wanted::Bag,
@@ -60,11 +59,11 @@ pub fn sum(
     lo: i64,
     hi: i64,
     o: &Judged,
-) -> Result<Judged, Refusal>
+) -> Result<Judged, RowFault>
     requires o_known { o.now.ty < length arena.old }
     ensures grows { Grows arena.old arena.new }
     ensures says { (D : Sensitivities) → AreAlike (distances o.now.amounts.items) D
-        → Says arena.new result (exactly u (type_at arena.old o.now.ty) (BagT NumT) (has_scaled s NumT (widest_of lo hi) D)) }
+        → Says arena.new result (sum_rule s u lo hi (type_at arena.old o.now.ty) D) }
 {
     if !is_number_bag(arena, o.ty) {
         return Err(not_number_bag(arena, u, o.ty));
@@ -84,7 +83,7 @@ pub fn union(
     v: Span,
     o: &Judged,
     p: &Judged,
-) -> Result<Judged, Refusal>
+) -> Result<Judged, RowFault>
     requires o_known { o.now.ty < length arena.now }
     requires p_known { p.now.ty < length arena.now }
     ensures says { (D E : Sensitivities) → AreAlike (distances o.now.amounts.items) D → AreAlike (distances p.now.amounts.items) E
@@ -93,7 +92,7 @@ pub fn union(
     match arena.form(o.ty) {
         TypeForm::Bag(_) => {
             if !arena.same(p.ty, o.ty) {
-                return Err(Refusal::Mismatch {
+                return Err(RowFault::Mismatch {
                     span: v,
                     found: p.ty,
                     wanted: Wanted::Exactly(o.ty),
@@ -102,7 +101,7 @@ pub fn union(
             let amounts = sum_at(alloc, s, &o.amounts, &p.amounts)?;
             Ok(Judged { ty: o.ty, amounts })
         }
-        _ => Err(Refusal::Mismatch {
+        _ => Err(RowFault::Mismatch {
             span: u,
             found: o.ty,
             wanted: Wanted::Bag,
@@ -119,7 +118,7 @@ pub fn map(
     v: Span,
     o: &Judged,
     p: &Judged,
-) -> Result<Judged, Refusal>
+) -> Result<Judged, RowFault>
     requires o_known { o.now.ty < length arena.old }
     requires p_known { p.now.ty < length arena.old }
     ensures grows { Grows arena.old arena.new }
@@ -127,14 +126,14 @@ pub fn map(
         → Says arena.new result (map_rule s u v (type_at arena.old o.now.ty) D (type_at arena.old p.now.ty) E) }
 {
     match unlimited_parts(arena, o.ty) {
-        None => Err(Refusal::Mismatch {
+        None => Err(RowFault::Mismatch {
             span: u,
             found: o.ty,
             wanted: Wanted::UnlimitedArrow,
         }),
         Some((a, b)) => {
             if !arena.is_flat(b) {
-                return Err(Refusal::NotFlat { span: u });
+                return Err(RowFault::NotFlat { span: u });
             }
             if !is_bag_of(arena, p.ty, a) {
                 return Err(not_form(arena, v, p.ty, TypeForm::Bag(a)));
@@ -155,7 +154,7 @@ fn filtered(
     a: u32,
     o: &Judged,
     p: &Judged,
-) -> Result<Judged, Refusal>
+) -> Result<Judged, RowFault>
     requires a_known { a < length arena.old }
     requires p_known { p.now.ty < length arena.old }
     ensures grows { Grows arena.old arena.new }
@@ -179,7 +178,7 @@ pub fn filter(
     v: Span,
     o: &Judged,
     p: &Judged,
-) -> Result<Judged, Refusal>
+) -> Result<Judged, RowFault>
     requires o_known { o.now.ty < length arena.old }
     requires p_known { p.now.ty < length arena.old }
     ensures grows { Grows arena.old arena.new }
@@ -187,7 +186,7 @@ pub fn filter(
         → Says arena.new result (test_rule BagT s u v (type_at arena.old o.now.ty) D (type_at arena.old p.now.ty) E) }
 {
     match unlimited_parts(arena, o.ty) {
-        None => Err(Refusal::Mismatch {
+        None => Err(RowFault::Mismatch {
             span: u,
             found: o.ty,
             wanted: Wanted::UnlimitedArrow,
@@ -210,7 +209,7 @@ fn halved(
     a: u32,
     o: &Judged,
     p: &Judged,
-) -> Result<Judged, Refusal>
+) -> Result<Judged, RowFault>
     requires a_known { a < length arena.old }
     requires p_known { p.now.ty < length arena.old }
     ensures grows { Grows arena.old arena.new }
@@ -234,7 +233,7 @@ pub fn split(
     v: Span,
     o: &Judged,
     p: &Judged,
-) -> Result<Judged, Refusal>
+) -> Result<Judged, RowFault>
     requires o_known { o.now.ty < length arena.old }
     requires p_known { p.now.ty < length arena.old }
     ensures grows { Grows arena.old arena.new }
@@ -242,7 +241,7 @@ pub fn split(
         → Says arena.new result (test_rule halves s u v (type_at arena.old o.now.ty) D (type_at arena.old p.now.ty) E) }
 {
     match unlimited_parts(arena, o.ty) {
-        None => Err(Refusal::Mismatch {
+        None => Err(RowFault::Mismatch {
             span: u,
             found: o.ty,
             wanted: Wanted::UnlimitedArrow,

@@ -1,4 +1,4 @@
-// What a row of the typing rules answers.
+//! What a row of the typing rules answers.
 use fz_ast::{Name, NoMemory, Span};
 use fz_frac::Sens;
 
@@ -25,7 +25,7 @@ pub struct Judged {
 
 /// The first fault of a term. Types are numbers in the arena.
 #[derive(Clone, Copy)]
-pub enum Refusal {
+pub enum RowFault {
     Unbound {
         span: Span,
     },
@@ -51,13 +51,13 @@ pub enum Refusal {
     NoMemory,
 }
 
-impl From<NoMemory> for Refusal {
+impl From<NoMemory> for RowFault {
     ghost use Rattle.std.specs.Prelude.{◌≡◌};
-    ghost use Rattle.typing_rows.specs.declared.clause.Refusal.TheVariants.{NoMemory as Wanting};
+    ghost use Rattle.typing_rows.specs.declared.clause.RowFault.TheVariants.{NoMemory as Wanting};
 
-    ghost from_gives = { λ _ refusal. refusal ≡ Wanting };
+    ghost from_gives = { λ _ fault. fault ≡ Wanting };
 
-    fn from(_: NoMemory) -> Refusal {
-        Refusal::NoMemory
+    fn from(_: NoMemory) -> RowFault {
+        RowFault::NoMemory
     }
 }

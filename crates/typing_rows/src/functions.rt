@@ -1,19 +1,19 @@
-// Functions, bangs and names.
+//! Functions, bangs and names.
 ghost use Rattle.std.specs.Prelude.{◌<◌, length, List, [], ◌∷◌};
 ghost use Rattle.fz_frac.specs.Distance.{quotient};
 ghost use Rattle.fz_frac.specs.Sens.{distance_of};
-ghost use Rattle.fz_ast.specs.Types.{Ty, BangT};
+ghost use Rattle.fz_ast.specs.Types.{Ty};
 ghost use Rattle.fz_ast.specs.TypeNodes.{type_at};
 ghost use Rattle.fz_ast.specs.Arena.{Grows};
 ghost use Rattle.fz_ast.specs.Names.{name_of};
 ghost use Rattle.fz_ast.specs.Limits.{IsBang};
 ghost use Rattle.linear_types.specs.Places.{AreAlike, distances};
-ghost use Rattle.linear_types.specs.Sensitivities.{Sensitivities, first, rest, scale};
-ghost use Rattle.linear_types.specs.Verdict.{in_range};
-ghost use Rattle.linear_types.specs.Rule.{has_sum, has_bound, fun_rule, fn_rule, app_rule};
+ghost use Rattle.linear_types.specs.Sensitivities.{Sensitivities, first, rest};
+ghost use Rattle.linear_types.specs.Inferred.{in_range};
+ghost use Rattle.linear_types.specs.Rule.{has_bound, fun_rule, fn_rule, app_rule, bang_rule, let_rule};
 ghost use Rattle.typing_rows.specs.Says.{Says};
 
-use crate::clause::{Judged, Refusal, Wanted};
+use crate::clause::{Judged, RowFault, Wanted};
 use crate::ranged::{bound, others, quotient_at, scaled_at, sum_at};
 use crate::wanted::{unlimited_type, written};
 use fz_ast::{Arena, Name, Span, TypeForm};
@@ -30,7 +30,7 @@ pub fn linear(
     u: Span,
     t: u32,
     o: &Judged,
-) -> Result<Judged, Refusal>
+) -> Result<Judged, RowFault>
     requires o_known { o.now.ty < length arena.old }
     requires t_known { t < length arena.old }
     ensures grows { Grows arena.old arena.new }
@@ -40,7 +40,7 @@ pub fn linear(
     written(arena, u, t)?;
     let r = first_of(&o.amounts);
     if !r.le(Sens::whole(1)) {
-        return Err(Refusal::TooSensitive {
+        return Err(RowFault::TooSensitive {
             span: s,
             name: x,
             r,
@@ -58,7 +58,7 @@ pub fn unlimited(
     u: Span,
     t: u32,
     o: &Judged,
-) -> Result<Judged, Refusal>
+) -> Result<Judged, RowFault>
     requires o_known { o.now.ty < length arena.old }
     requires t_known { t < length arena.old }
     ensures grows { Grows arena.old arena.new }
@@ -80,7 +80,7 @@ pub fn app(
     v: Span,
     o: &Judged,
     p: &Judged,
-) -> Result<Judged, Refusal>
+) -> Result<Judged, RowFault>
     requires o_known { o.now.ty < length arena.now }
     requires p_known { p.now.ty < length arena.now }
     ensures says { (D E : Sensitivities) → AreAlike (distances o.now.amounts.items) D → AreAlike (distances p.now.amounts.items) E
@@ -89,7 +89,7 @@ pub fn app(
     match arena.form(o.ty) {
         TypeForm::Arrow(taken, given) => {
             if !arena.same(p.ty, taken) {
-                return Err(Refusal::Mismatch {
+                return Err(RowFault::Mismatch {
                     span: v,
                     found: p.ty,
                     wanted: Wanted::Exactly(taken),
@@ -98,7 +98,7 @@ pub fn app(
             let amounts = sum_at(alloc, s, &o.amounts, &p.amounts)?;
             Ok(Judged { ty: given, amounts })
         }
-        _ => Err(Refusal::Mismatch {
+        _ => Err(RowFault::Mismatch {
             span: u,
             found: o.ty,
             wanted: Wanted::Arrow,
@@ -113,12 +113,12 @@ pub fn bang(
     s: Span,
     r: Sens,
     o: &Judged,
-) -> Result<Judged, Refusal>
+) -> Result<Judged, RowFault>
     requires o_known { o.now.ty < length arena.old }
     requires bang { IsBang (distance_of r) }
     ensures grows { Grows arena.old arena.new }
     ensures says { (D : Sensitivities) → AreAlike (distances o.now.amounts.items) D
-        → Says arena.new result (has_sum s (BangT (distance_of r) (type_at arena.old o.now.ty)) (scale (distance_of r) D)) }
+        → Says arena.new result (bang_rule s (distance_of r) (type_at arena.old o.now.ty) D) }
 {
     let amounts = scaled_at(alloc, s, r, &o.amounts)?;
     let ty = arena.intern(TypeForm::Bang(r, o.ty))?;
@@ -126,7 +126,7 @@ pub fn bang(
 }
 
 /// `let !x = e in b`, where e is a bang of `r`: `e` is the sensitivities of e, and `o` is b under x.
-pub fn let_bang(alloc: Global, s: Span, r: Sens, e: &[Sens], o: &Judged) -> Result<Judged, Refusal>
+pub fn let_bang(alloc: Global, s: Span, r: Sens, e: &[Sens], o: &Judged) -> Result<Judged, RowFault>
     requires bang { IsBang (distance_of r) }
     ensures says { (T : List Ty) (E D : Sensitivities) → o.now.ty < length T → AreAlike (distances e.now) E → AreAlike (distances o.now.amounts.items) D
         → Says T result (in_range s (quotient (first D) (distance_of r) ∷ []) (has_bound s (type_at T o.now.ty) (rest D) (quotient (first D) (distance_of r)) E)) }
@@ -136,9 +136,9 @@ pub fn let_bang(alloc: Global, s: Span, r: Sens, e: &[Sens], o: &Judged) -> Resu
 }
 
 /// `let x = e in b`: `e` is the sensitivities of e, and `o` is b under x.
-pub fn let_name(alloc: Global, s: Span, e: &[Sens], o: &Judged) -> Result<Judged, Refusal>
+pub fn let_name(alloc: Global, s: Span, e: &[Sens], o: &Judged) -> Result<Judged, RowFault>
     ensures says { (T : List Ty) (E D : Sensitivities) → o.now.ty < length T → AreAlike (distances e.now) E → AreAlike (distances o.now.amounts.items) D
-        → Says T result (has_bound s (type_at T o.now.ty) (rest D) (first D) E) }
+        → Says T result (let_rule s E (type_at T o.now.ty) D) }
 {
     bound(alloc, s, first_of(&o.amounts), e, o.ty, rest_of(&o.amounts))
 }

@@ -2,6 +2,7 @@
 #![tactic(auto)]
 
 pub mod bags;
+pub mod branches;
 pub mod clause;
 pub mod functions;
 pub mod numbers;
@@ -9,4 +10,4 @@ pub mod products;
 pub mod ranged;
 pub mod wanted;
 
-pub use clause::{Judged, Refusal, Wanted};
+pub use clause::{Judged, RowFault, Wanted};

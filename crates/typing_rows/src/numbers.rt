@@ -1,17 +1,16 @@
-// Numbers, texts and what is reckoned with them.
+//! Numbers, texts and what is reckoned with them.
 ghost use Rattle.std.specs.Prelude.{◌<◌, length, []};
 ghost use Rattle.fz_frac.specs.Distance.{Inf};
-ghost use Rattle.fz_ast.specs.Types.{NumT, TextT, UnitT, BoolT, WithT};
+ghost use Rattle.fz_ast.specs.Types.{NumT, TextT, UnitT, BoolT};
 ghost use Rattle.fz_ast.specs.TypeNodes.{type_at};
 ghost use Rattle.fz_ast.specs.Arena.{Grows};
 ghost use Rattle.linear_types.specs.Places.{AreAlike, distances};
 ghost use Rattle.linear_types.specs.Sensitivities.{Sensitivities, plus, scale};
-ghost use Rattle.linear_types.specs.Typing.{size_of};
-ghost use Rattle.linear_types.specs.Verdict.{Has};
-ghost use Rattle.linear_types.specs.Rule.{exactly, has_sum, has_scaled, plus_rule, le_rule, eq_rule};
+ghost use Rattle.linear_types.specs.Inferred.{Has};
+ghost use Rattle.linear_types.specs.Rule.{exactly, has_sum, plus_rule, times_rule, le_rule, eq_rule, clip_rule, least_rule};
 ghost use Rattle.typing_rows.specs.Says.{Says};
 
-use crate::clause::{Judged, Refusal, Wanted};
+use crate::clause::{Judged, RowFault, Wanted};
 use crate::ranged::{endless, scaled_at, sum_at, whole_at};
 use crate::wanted::{is_number, is_number_pair, is_text, not_form, not_number_pair, truth};
 use fz_ast::{Arena, Span, TypeForm};
@@ -25,7 +24,7 @@ fn compared(
     v: Span,
     o: &Judged,
     p: &Judged,
-) -> Result<Judged, Refusal>
+) -> Result<Judged, RowFault>
     requires o_known { o.now.ty < length arena.old }
     requires p_known { p.now.ty < length arena.old }
     ensures grows { Grows arena.old arena.new }
@@ -50,7 +49,7 @@ fn equal_texts(
     v: Span,
     o: &Judged,
     p: &Judged,
-) -> Result<Judged, Refusal>
+) -> Result<Judged, RowFault>
     requires o_known { o.now.ty < length arena.old }
     requires p_known { p.now.ty < length arena.old }
     ensures grows { Grows arena.old arena.new }
@@ -66,7 +65,7 @@ fn equal_texts(
 }
 
 /// A number.
-pub fn number(alloc: Global, arena: &mut Arena) -> Result<Judged, Refusal>
+pub fn number(alloc: Global, arena: &mut Arena) -> Result<Judged, RowFault>
     ensures grows { Grows arena.old arena.new }
     ensures says { Says arena.new result (Has NumT []) }
 {
@@ -78,7 +77,7 @@ pub fn number(alloc: Global, arena: &mut Arena) -> Result<Judged, Refusal>
 }
 
 /// A text.
-pub fn text(alloc: Global, arena: &mut Arena) -> Result<Judged, Refusal>
+pub fn text(alloc: Global, arena: &mut Arena) -> Result<Judged, RowFault>
     ensures grows { Grows arena.old arena.new }
     ensures says { Says arena.new result (Has TextT []) }
 {
@@ -90,7 +89,7 @@ pub fn text(alloc: Global, arena: &mut Arena) -> Result<Judged, Refusal>
 }
 
 /// `()`
-pub fn unit(alloc: Global, arena: &mut Arena) -> Result<Judged, Refusal>
+pub fn unit(alloc: Global, arena: &mut Arena) -> Result<Judged, RowFault>
     ensures grows { Grows arena.old arena.new }
     ensures says { Says arena.new result (Has UnitT []) }
 {
@@ -110,7 +109,7 @@ pub fn plus(
     v: Span,
     o: &Judged,
     p: &Judged,
-) -> Result<Judged, Refusal>
+) -> Result<Judged, RowFault>
     requires o_known { o.now.ty < length arena.old }
     requires p_known { p.now.ty < length arena.old }
     ensures grows { Grows arena.old arena.new }
@@ -136,11 +135,11 @@ pub fn times(
     u: Span,
     k: i64,
     o: &Judged,
-) -> Result<Judged, Refusal>
+) -> Result<Judged, RowFault>
     requires o_known { o.now.ty < length arena.old }
     ensures grows { Grows arena.old arena.new }
     ensures says { (D : Sensitivities) → AreAlike (distances o.now.amounts.items) D
-        → Says arena.new result (exactly u (type_at arena.old o.now.ty) NumT (has_scaled s NumT (size_of k) D)) }
+        → Says arena.new result (times_rule s u k (type_at arena.old o.now.ty) D) }
 {
     if !is_number(arena, o.ty) {
         return Err(not_form(arena, u, o.ty, TypeForm::Num));
@@ -160,7 +159,7 @@ pub fn at_most(
     v: Span,
     o: &Judged,
     p: &Judged,
-) -> Result<Judged, Refusal>
+) -> Result<Judged, RowFault>
     requires o_known { o.now.ty < length arena.old }
     requires p_known { p.now.ty < length arena.old }
     ensures grows { Grows arena.old arena.new }
@@ -182,7 +181,7 @@ pub fn equal(
     v: Span,
     o: &Judged,
     p: &Judged,
-) -> Result<Judged, Refusal>
+) -> Result<Judged, RowFault>
     requires o_known { o.now.ty < length arena.old }
     requires p_known { p.now.ty < length arena.old }
     ensures grows { Grows arena.old arena.new }
@@ -192,7 +191,7 @@ pub fn equal(
     match arena.form(o.ty) {
         TypeForm::Num => compared(alloc, arena, s, v, o, p),
         TypeForm::Text => equal_texts(alloc, arena, s, v, o, p),
-        _ => Err(Refusal::Mismatch {
+        _ => Err(RowFault::Mismatch {
             span: u,
             found: o.ty,
             wanted: Wanted::NumberOrText,
@@ -201,11 +200,11 @@ pub fn equal(
 }
 
 /// `clip[lo,hi] e`, with e at `u`.
-pub fn clip(arena: &mut Arena, u: Span, o: Judged) -> Result<Judged, Refusal>
+pub fn clip(arena: &mut Arena, u: Span, o: Judged) -> Result<Judged, RowFault>
     requires o_known { o.ty < length arena.old }
     ensures grows { Grows arena.old arena.new }
     ensures says { (D : Sensitivities) → AreAlike (distances o.amounts.items) D
-        → Says arena.new result (exactly u (type_at arena.old o.ty) NumT (Has NumT D)) }
+        → Says arena.new result (clip_rule u (type_at arena.old o.ty) D) }
 {
     if !is_number(arena, o.ty) {
         return Err(not_form(arena, u, o.ty, TypeForm::Num));
@@ -218,11 +217,11 @@ pub fn clip(arena: &mut Arena, u: Span, o: Judged) -> Result<Judged, Refusal>
 }
 
 /// `least e` and `greatest e`, with e at `u`.
-pub fn extreme(arena: &mut Arena, u: Span, o: Judged) -> Result<Judged, Refusal>
+pub fn extreme(arena: &mut Arena, u: Span, o: Judged) -> Result<Judged, RowFault>
     requires o_known { o.ty < length arena.old }
     ensures grows { Grows arena.old arena.new }
     ensures says { (D : Sensitivities) → AreAlike (distances o.amounts.items) D
-        → Says arena.new result (exactly u (type_at arena.old o.ty) (WithT NumT NumT) (Has NumT D)) }
+        → Says arena.new result (least_rule u (type_at arena.old o.ty) D) }
 {
     if !is_number_pair(arena, o.ty) {
         return Err(not_number_pair(arena, u, o.ty));

@@ -1,16 +1,16 @@
-// Pairs, sums and their uses.
+//! Pairs, sums and their uses.
 ghost use Rattle.std.specs.Prelude.{◌≡◌, ◌<◌, length, List, IfOk, IfErr, true};
 ghost use Rattle.fz_frac.specs.Distance.{greater};
-ghost use Rattle.fz_ast.specs.Types.{Ty, TensorT, WithT, SumT, WellFormed, formed, is_ground};
+ghost use Rattle.fz_ast.specs.Types.{Ty, WellFormed, formed, is_ground};
 ghost use Rattle.fz_ast.specs.TypeNodes.{type_at};
 ghost use Rattle.fz_ast.specs.Arena.{Grows};
 ghost use Rattle.linear_types.specs.Places.{AreAlike, distances};
-ghost use Rattle.linear_types.specs.Sensitivities.{Sensitivities, first, rest, plus, join};
-ghost use Rattle.linear_types.specs.Verdict.{Verdict, Has};
-ghost use Rattle.linear_types.specs.Rule.{has_sum, has_bound, fst_rule, snd_rule, side_rule};
-ghost use Rattle.typing_rows.specs.Says.{Says, Refuses};
+ghost use Rattle.linear_types.specs.Sensitivities.{Sensitivities, first, rest};
+ghost use Rattle.linear_types.specs.Inferred.{Inferred};
+ghost use Rattle.linear_types.specs.Rule.{has_bound, pair_rule, with_rule, fst_rule, snd_rule, side_rule, inl_rule, inr_rule};
+ghost use Rattle.typing_rows.specs.Says.{Says, IsFaultOf};
 
-use crate::clause::{Judged, Refusal, Wanted};
+use crate::clause::{Judged, RowFault, Wanted};
 use crate::ranged::{bound, greatest, sum_at};
 use crate::wanted::written;
 use fz_ast::{Arena, Span, TypeForm};
@@ -19,18 +19,18 @@ use linear_types::places::{first_of, rest_of};
 use std::alloc::Global;
 
 // The conditions on an injection: the other side's type `t` is written at `u`, and the part at `v` has the type `a`.
-fn sides(arena: &Arena, u: Span, t: u32, v: Span, a: u32) -> Result<(), Refusal>
+fn sides(arena: &Arena, u: Span, t: u32, v: Span, a: u32) -> Result<(), RowFault>
     requires t_known { t < length arena.now }
     requires a_known { a < length arena.now }
     ensures ok { IfOk result (λ _. (formed (type_at arena.now t) ≡ WellFormed) × (is_ground (type_at arena.now t) ≡ true) × (is_ground (type_at arena.now a) ≡ true)) }
-    ensures err { IfErr result (λ refusal. (T : List Ty) (o : Verdict) → Refuses T refusal (side_rule u (type_at arena.now t) v (type_at arena.now a) o)) }
+    ensures err { IfErr result (λ fault. (T : List Ty) (o : Inferred) → IsFaultOf T fault (side_rule u (type_at arena.now t) v (type_at arena.now a) o)) }
 {
     written(arena, u, t)?;
     if !arena.is_ground(t) {
-        return Err(Refusal::NotGround { span: u });
+        return Err(RowFault::NotGround { span: u });
     }
     if !arena.is_ground(a) {
-        return Err(Refusal::NotGround { span: v });
+        return Err(RowFault::NotGround { span: v });
     }
     Ok(())
 }
@@ -42,12 +42,12 @@ pub fn pair(
     s: Span,
     o: &Judged,
     p: &Judged,
-) -> Result<Judged, Refusal>
+) -> Result<Judged, RowFault>
     requires o_known { o.now.ty < length arena.old }
     requires p_known { p.now.ty < length arena.old }
     ensures grows { Grows arena.old arena.new }
     ensures says { (D E : Sensitivities) → AreAlike (distances o.now.amounts.items) D → AreAlike (distances p.now.amounts.items) E
-        → Says arena.new result (has_sum s (TensorT (type_at arena.old o.now.ty) (type_at arena.old p.now.ty)) (plus D E)) }
+        → Says arena.new result (pair_rule s (type_at arena.old o.now.ty) D (type_at arena.old p.now.ty) E) }
 {
     let amounts = sum_at(alloc, s, &o.amounts, &p.amounts)?;
     let ty = arena.intern(TypeForm::Tensor(o.ty, p.ty))?;
@@ -60,12 +60,12 @@ pub fn with_pair(
     arena: &mut Arena,
     o: &Judged,
     p: &Judged,
-) -> Result<Judged, Refusal>
+) -> Result<Judged, RowFault>
     requires o_known { o.now.ty < length arena.old }
     requires p_known { p.now.ty < length arena.old }
     ensures grows { Grows arena.old arena.new }
     ensures says { (D E : Sensitivities) → AreAlike (distances o.now.amounts.items) D → AreAlike (distances p.now.amounts.items) E
-        → Says arena.new result (Has (WithT (type_at arena.old o.now.ty) (type_at arena.old p.now.ty)) (join D E)) }
+        → Says arena.new result (with_rule (type_at arena.old o.now.ty) D (type_at arena.old p.now.ty) E) }
 {
     let amounts = greatest(alloc, &o.amounts, &p.amounts)?;
     let ty = arena.intern(TypeForm::With(o.ty, p.ty))?;
@@ -73,7 +73,7 @@ pub fn with_pair(
 }
 
 /// `fst e`, with e at `u`.
-pub fn fst(arena: &Arena, u: Span, o: Judged) -> Result<Judged, Refusal>
+pub fn fst(arena: &Arena, u: Span, o: Judged) -> Result<Judged, RowFault>
     requires o_known { o.ty < length arena.now }
     ensures says { (D : Sensitivities) → AreAlike (distances o.amounts.items) D
         → Says arena.now result (fst_rule u (type_at arena.now o.ty) D) }
@@ -83,7 +83,7 @@ pub fn fst(arena: &Arena, u: Span, o: Judged) -> Result<Judged, Refusal>
             ty,
             amounts: o.amounts,
         }),
-        _ => Err(Refusal::Mismatch {
+        _ => Err(RowFault::Mismatch {
             span: u,
             found: o.ty,
             wanted: Wanted::WithPair,
@@ -92,7 +92,7 @@ pub fn fst(arena: &Arena, u: Span, o: Judged) -> Result<Judged, Refusal>
 }
 
 /// `snd e`, with e at `u`.
-pub fn snd(arena: &Arena, u: Span, o: Judged) -> Result<Judged, Refusal>
+pub fn snd(arena: &Arena, u: Span, o: Judged) -> Result<Judged, RowFault>
     requires o_known { o.ty < length arena.now }
     ensures says { (D : Sensitivities) → AreAlike (distances o.amounts.items) D
         → Says arena.now result (snd_rule u (type_at arena.now o.ty) D) }
@@ -102,7 +102,7 @@ pub fn snd(arena: &Arena, u: Span, o: Judged) -> Result<Judged, Refusal>
             ty,
             amounts: o.amounts,
         }),
-        _ => Err(Refusal::Mismatch {
+        _ => Err(RowFault::Mismatch {
             span: u,
             found: o.ty,
             wanted: Wanted::WithPair,
@@ -111,7 +111,7 @@ pub fn snd(arena: &Arena, u: Span, o: Judged) -> Result<Judged, Refusal>
 }
 
 /// `let (x, y) = e in b`: `e` is the sensitivities of e, and `o` the body, under y and x.
-pub fn let_pair(alloc: Global, s: Span, e: &[Sens], o: &Judged) -> Result<Judged, Refusal>
+pub fn let_pair(alloc: Global, s: Span, e: &[Sens], o: &Judged) -> Result<Judged, RowFault>
     ensures says { (T : List Ty) (E D : Sensitivities) → o.now.ty < length T → AreAlike (distances e.now) E → AreAlike (distances o.now.amounts.items) D
         → Says T result (has_bound s (type_at T o.now.ty) (rest (rest D)) (greater (first (rest D)) (first D)) E) }
 {
@@ -121,12 +121,12 @@ pub fn let_pair(alloc: Global, s: Span, e: &[Sens], o: &Judged) -> Result<Judged
 }
 
 /// `inl[t] e`, with `t` at `u` and e at `v`.
-pub fn inl(arena: &mut Arena, u: Span, t: u32, v: Span, o: Judged) -> Result<Judged, Refusal>
+pub fn inl(arena: &mut Arena, u: Span, t: u32, v: Span, o: Judged) -> Result<Judged, RowFault>
     requires o_known { o.ty < length arena.old }
     requires t_known { t < length arena.old }
     ensures grows { Grows arena.old arena.new }
     ensures says { (D : Sensitivities) → AreAlike (distances o.amounts.items) D
-        → Says arena.new result (side_rule u (type_at arena.old t) v (type_at arena.old o.ty) (Has (SumT (type_at arena.old o.ty) (type_at arena.old t)) D)) }
+        → Says arena.new result (inl_rule u (type_at arena.old t) v (type_at arena.old o.ty) D) }
 {
     sides(arena, u, t, v, o.ty)?;
     let ty = arena.intern(TypeForm::Sum(o.ty, t))?;
@@ -137,12 +137,12 @@ pub fn inl(arena: &mut Arena, u: Span, t: u32, v: Span, o: Judged) -> Result<Jud
 }
 
 /// `inr[t] e`, with `t` at `u` and e at `v`.
-pub fn inr(arena: &mut Arena, u: Span, t: u32, v: Span, o: Judged) -> Result<Judged, Refusal>
+pub fn inr(arena: &mut Arena, u: Span, t: u32, v: Span, o: Judged) -> Result<Judged, RowFault>
     requires o_known { o.ty < length arena.old }
     requires t_known { t < length arena.old }
     ensures grows { Grows arena.old arena.new }
     ensures says { (D : Sensitivities) → AreAlike (distances o.amounts.items) D
-        → Says arena.new result (side_rule u (type_at arena.old t) v (type_at arena.old o.ty) (Has (SumT (type_at arena.old t) (type_at arena.old o.ty)) D)) }
+        → Says arena.new result (inr_rule u (type_at arena.old t) v (type_at arena.old o.ty) D) }
 {
     sides(arena, u, t, v, o.ty)?;
     let ty = arena.intern(TypeForm::Sum(t, o.ty))?;

@@ -1,14 +1,14 @@
-// What a row asks of a type, and the types that it wants.
+//! What a row asks of a type, and the types that it wants.
 ghost use Rattle.std.specs.Prelude.{◌≡◌, ◌<◌, length, List, IfOk, IfErr};
 ghost use Rattle.fz_ast.specs.Types.{Ty, NumT, TextT, UnitT, BoolT, WithT, BagT, UnlimitedT, WellFormed, formed, same_type};
 ghost use Rattle.fz_ast.specs.TypeNodes.{type_at, type_of, IsKnownType, HasBang};
 ghost use Rattle.fz_ast.specs.Arena.{Grows};
-ghost use Rattle.linear_types.specs.Verdict.{Verdict, Refused, Mismatch, Exactly, need_formed};
+ghost use Rattle.linear_types.specs.Inferred.{Inferred, Refused, Mismatch, Exactly, need_formed};
 ghost use Rattle.linear_types.specs.Rule.{halves};
 ghost use Rattle.typing_rows.specs.Parts.{IsTyped, AreParts};
-ghost use Rattle.typing_rows.specs.Says.{Refuses};
+ghost use Rattle.typing_rows.specs.Says.{IsFaultOf};
 
-use crate::clause::{Refusal, Wanted};
+use crate::clause::{RowFault, Wanted};
 use fz_ast::{Arena, Formed, NoMemory, Span, TypeForm};
 use fz_frac::Sens;
 
@@ -153,80 +153,80 @@ pub fn halves_type(arena: &mut Arena, a: u32) -> Result<u32, NoMemory>
 }
 
 /// The type number `t`, written at `u`, is well formed.
-pub fn written(arena: &Arena, u: Span, t: u32) -> Result<(), Refusal>
+pub fn written(arena: &Arena, u: Span, t: u32) -> Result<(), RowFault>
     requires { t < length arena.now }
     ensures ok { IfOk result (λ _. formed (type_at arena.now t) ≡ WellFormed) }
-    ensures err { IfErr result (λ refusal. (T : List Ty) (o : Verdict) → Refuses T refusal (need_formed u (formed (type_at arena.now t)) o)) }
+    ensures err { IfErr result (λ fault. (T : List Ty) (o : Inferred) → IsFaultOf T fault (need_formed u (formed (type_at arena.now t)) o)) }
 {
     match arena.formed(t) {
         Formed::WellFormed => Ok(()),
-        Formed::UngroundSum => Err(Refusal::NotGround { span: u }),
-        Formed::UnflatBag => Err(Refusal::NotFlat { span: u }),
+        Formed::UngroundSum => Err(RowFault::NotGround { span: u }),
+        Formed::UnflatBag => Err(RowFault::NotFlat { span: u }),
     }
 }
 
-// The refusal of a part at `span` whose type number is `found`, where another type was wanted.
-fn mismatch(span: Span, found: u32, wanted: Result<u32, NoMemory>) -> Refusal
-    ensures { (T U : List Ty) (A : Ty) → found < length T → Grows T U → IfOk wanted (λ t. IsTyped U t A) → Refuses U result (Refused (Mismatch span (type_at T found) (Exactly A))) }
+// The fault of a part at `span` whose type number is `found`, where another type was wanted.
+fn mismatch(span: Span, found: u32, wanted: Result<u32, NoMemory>) -> RowFault
+    ensures { (T U : List Ty) (A : Ty) → found < length T → Grows T U → IfOk wanted (λ t. IsTyped U t A) → IsFaultOf U result (Refused (Mismatch span (type_at T found) (Exactly A))) }
 {
     match wanted {
-        Ok(t) => Refusal::Mismatch {
+        Ok(t) => RowFault::Mismatch {
             span,
             found,
             wanted: Wanted::Exactly(t),
         },
-        Err(NoMemory) => Refusal::NoMemory,
+        Err(NoMemory) => RowFault::NoMemory,
     }
 }
 
-/// The refusal of a part whose type isn't of this form.
-pub fn not_form(arena: &mut Arena, span: Span, found: u32, form: TypeForm) -> Refusal
+/// The fault of a part whose type isn't of this form.
+pub fn not_form(arena: &mut Arena, span: Span, found: u32, form: TypeForm) -> RowFault
     requires found_known { found < length arena.old }
     requires known { IsKnownType (length arena.old) form }
     requires bang { HasBang form }
     ensures grows { Grows arena.old arena.new }
-    ensures is { Refuses arena.new result (Refused (Mismatch span (type_at arena.old found) (Exactly (type_of (type_at arena.old) form)))) }
+    ensures is { IsFaultOf arena.new result (Refused (Mismatch span (type_at arena.old found) (Exactly (type_of (type_at arena.old) form)))) }
 {
     let wanted = arena.intern(form);
     mismatch(span, found, wanted)
 }
 
-/// The refusal of a part that isn't a `bool`.
-pub fn not_truth(arena: &mut Arena, span: Span, found: u32) -> Refusal
+/// The fault of a part that isn't a `bool`.
+pub fn not_truth(arena: &mut Arena, span: Span, found: u32) -> RowFault
     requires found_known { found < length arena.old }
     ensures grows { Grows arena.old arena.new }
-    ensures is { Refuses arena.new result (Refused (Mismatch span (type_at arena.old found) (Exactly BoolT))) }
+    ensures is { IsFaultOf arena.new result (Refused (Mismatch span (type_at arena.old found) (Exactly BoolT))) }
 {
     let wanted = truth(arena);
     mismatch(span, found, wanted)
 }
 
-/// The refusal of a part that isn't a `num & num`.
-pub fn not_number_pair(arena: &mut Arena, span: Span, found: u32) -> Refusal
+/// The fault of a part that isn't a `num & num`.
+pub fn not_number_pair(arena: &mut Arena, span: Span, found: u32) -> RowFault
     requires found_known { found < length arena.old }
     ensures grows { Grows arena.old arena.new }
-    ensures is { Refuses arena.new result (Refused (Mismatch span (type_at arena.old found) (Exactly (WithT NumT NumT)))) }
+    ensures is { IsFaultOf arena.new result (Refused (Mismatch span (type_at arena.old found) (Exactly (WithT NumT NumT)))) }
 {
     let wanted = number_pair(arena);
     mismatch(span, found, wanted)
 }
 
-/// The refusal of a part that isn't a `bag num`.
-pub fn not_number_bag(arena: &mut Arena, span: Span, found: u32) -> Refusal
+/// The fault of a part that isn't a `bag num`.
+pub fn not_number_bag(arena: &mut Arena, span: Span, found: u32) -> RowFault
     requires found_known { found < length arena.old }
     ensures grows { Grows arena.old arena.new }
-    ensures is { Refuses arena.new result (Refused (Mismatch span (type_at arena.old found) (Exactly (BagT NumT)))) }
+    ensures is { IsFaultOf arena.new result (Refused (Mismatch span (type_at arena.old found) (Exactly (BagT NumT)))) }
 {
     let wanted = number_bag(arena);
     mismatch(span, found, wanted)
 }
 
-/// The refusal of a part that isn't an `A -> bool`, with A the type number `a`.
-pub fn not_test(arena: &mut Arena, span: Span, found: u32, a: u32) -> Refusal
+/// The fault of a part that isn't an `A -> bool`, with A the type number `a`.
+pub fn not_test(arena: &mut Arena, span: Span, found: u32, a: u32) -> RowFault
     requires found_known { found < length arena.old }
     requires a_known { a < length arena.old }
     ensures grows { Grows arena.old arena.new }
-    ensures is { Refuses arena.new result (Refused (Mismatch span (type_at arena.old found) (Exactly (UnlimitedT (type_at arena.old a) BoolT)))) }
+    ensures is { IsFaultOf arena.new result (Refused (Mismatch span (type_at arena.old found) (Exactly (UnlimitedT (type_at arena.old a) BoolT)))) }
 {
     let wanted = test_type(arena, a);
     mismatch(span, found, wanted)

@@ -30,7 +30,7 @@ returns-in-Ok-clause-checked c =
     let b = subst (λ (L : List Sens). FiniteBelow (distances L) c.len.result) c.deref.ensures.value c.in_default.ensures in
     let below = subst (λ (n : ℕ). FiniteBelow (distances c.args.judged.amounts.items) n) c.len.ensures b in
     let g = subst (λ (L : List Sens). distance_of c.greatest.result ≡ greatest_of (distances L)) c.deref-in-Ok.ensures.value c.greatest.ensures in
-    checked c.args.sig.now c.args.term.now c.args.arena c.args.judged c.requires.says (record { term = c.args.term; sens = c.greatest.result; env = c.in-Ok.env }) refl c.in-Num.ensures.form below g
+    checked c.args.sig.now c.args.term.now c.args.arena c.args.judged c.requires.says (record { sig = c.args.sig; term = c.args.term; sens = c.greatest.result; env = c.in-Ok.env }) refl refl c.in-Num.ensures.form below g
     (λ x. subst (λ (L : List Sens). amount_of c.in-Ok.env x ≡ sensitivity_to c.args.sig.now (distances L) x) c.deref-2.ensures.value (c.in-Ok.ensures.amounts x))
 
 pub returns-in-Ok-clause-bound : goal.returns-in-Ok-clause-bound

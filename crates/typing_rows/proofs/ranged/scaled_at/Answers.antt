@@ -9,4 +9,4 @@ pub returns-in-Ok : goal.returns-in-Ok
 returns-in-Ok c = λ d D g h. given_alike c.in-Ok.v.items (scale (distance_of c.args.r) (distances c.args.a.now)) (scale d D) (scale_alike g h) c.in-Ok.ensures
 
 pub returns-in-Err : goal.returns-in-Err
-returns-in-Err c = λ d D g h. refused_alike c.args.s c.in-Err.fault c.refusal.result (scale (distance_of c.args.r) (distances c.args.a.now)) (scale d D) c.refusal.ensures (scale_alike g h) c.in-Err.ensures
+returns-in-Err c = λ d D g h. refused_alike c.args.s c.in-Err.fault c.fault_at.result (scale (distance_of c.args.r) (distances c.args.a.now)) (scale d D) c.fault_at.ensures (scale_alike g h) c.in-Err.ensures

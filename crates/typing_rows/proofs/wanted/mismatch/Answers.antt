@@ -2,7 +2,7 @@ use Rattle.std.proofs.Common.{ℕ, sym, ap, subst, IfOk}
 use Rattle.std.specs.Prelude.{Result}
 use Rattle.fz_ast.specs.declared.memory.NoMemory.{NoMemory}
 use Rattle.fz_ast.proofs.Arenas.{grows_at, grows_known}
-use Rattle.linear_types.specs.Verdict.{Mismatch, Exactly}
+use Rattle.linear_types.specs.Inferred.{Mismatch, Exactly}
 use Rattle.typing_rows.specs.Parts.{IsTyped}
 use Rattle.typing_rows.proofs.wanted.mismatch.Goals as goal
 

@@ -28,3 +28,21 @@ decreases-judge_case l = 4 * max l.e (max l.a l.b) + 2
 
 abbrev pub decreases-judge_lambda : goal.decreases-judge_lambda
 decreases-judge_lambda l = 4 * l.e + 2
+
+abbrev pub decreases-judge_unary : goal.decreases-judge_unary
+decreases-judge_unary l = 4 * l.e + 2
+
+abbrev pub decreases-judge_binary : goal.decreases-judge_binary
+decreases-judge_binary l = 4 * max l.a l.b + 2
+
+abbrev pub decreases-judge_times : goal.decreases-judge_times
+decreases-judge_times l = 4 * l.e + 2
+
+abbrev pub decreases-judge_ranged : goal.decreases-judge_ranged
+decreases-judge_ranged l = 4 * l.e + 2
+
+abbrev pub decreases-judge_inject : goal.decreases-judge_inject
+decreases-judge_inject l = 4 * l.e + 2
+
+abbrev pub decreases-judge_bang : goal.decreases-judge_bang
+decreases-judge_bang l = 4 * l.e + 2

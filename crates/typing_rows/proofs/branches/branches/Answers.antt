@@ -5,7 +5,7 @@ use Rattle.linear_types.specs.Places.{AreAlike, distances}
 use Rattle.std.proofs.Common.{sym, subst, List}
 use Rattle.fz_frac.specs.declared.sens.Sens.{Sens}
 use Rattle.typing_rows.proofs.Answering.{first_by, rest_by, greater_by, above_by, branches_says}
-use Rattle.sensitivity_check.proofs.branches.branches.Goals as goal
+use Rattle.typing_rows.proofs.branches.branches.Goals as goal
 
 pub returns : goal.returns
 returns c = record {

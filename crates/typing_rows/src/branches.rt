@@ -1,4 +1,4 @@
-// Case and if: what is made of two branches, of which one is chosen.
+//! Case and if: what is made of two branches, of which one is chosen.
 ghost use Rattle.std.specs.Prelude.{◌≡◌, ◌<◌, length};
 ghost use Rattle.fz_frac.specs.Sens.{distance_of};
 ghost use Rattle.fz_ast.specs.TypeNodes.{type_at};
@@ -8,13 +8,13 @@ ghost use Rattle.linear_types.specs.Sensitivities.{Sensitivities, above_zero};
 ghost use Rattle.linear_types.specs.Rule.{branches_rule, if_rule};
 ghost use Rattle.typing_rows.specs.Says.{Says};
 
+use crate::clause::{Judged, RowFault, Wanted};
+use crate::ranged::{bound, greatest, sum_at};
+use crate::wanted::{is_truth, not_truth};
 use fz_ast::{Arena, Span};
 use fz_frac::Sens;
 use linear_types::places::{first_of, rest_of};
 use std::alloc::Global;
-use typing_rows::clause::{Judged, Refusal, Wanted};
-use typing_rows::ranged::{bound, greatest, sum_at};
-use typing_rows::wanted::{is_truth, not_truth};
 
 // 1 in the place of 0
 fn above_zero(r: Sens) -> Sens
@@ -36,21 +36,21 @@ pub fn branches(
     e: &[Sens],
     o: &Judged,
     p: &Judged,
-) -> Result<Judged, Refusal>
+) -> Result<Judged, RowFault>
     requires o_known { o.now.ty < length arena.now }
     requires p_known { p.now.ty < length arena.now }
     ensures says { (F D E : Sensitivities) → AreAlike (distances e.now) F → AreAlike (distances o.now.amounts.items) D → AreAlike (distances p.now.amounts.items) E
         → Says arena.now result (branches_rule s w F (type_at arena.now o.now.ty) D (type_at arena.now p.now.ty) E) }
 {
     if !arena.same(p.ty, o.ty) {
-        return Err(Refusal::Mismatch {
+        return Err(RowFault::Mismatch {
             span: w,
             found: p.ty,
             wanted: Wanted::Exactly(o.ty),
         });
     }
     if !arena.is_ground(o.ty) {
-        return Err(Refusal::NotGround { span: s });
+        return Err(RowFault::NotGround { span: s });
     }
     let r = above_zero(first_of(&o.amounts).max(first_of(&p.amounts)));
     let amounts = greatest(alloc, rest_of(&o.amounts), rest_of(&p.amounts))?;
@@ -67,7 +67,7 @@ pub fn choice(
     e: &Judged,
     o: &Judged,
     p: &Judged,
-) -> Result<Judged, Refusal>
+) -> Result<Judged, RowFault>
     requires e_known { e.now.ty < length arena.old }
     requires o_known { o.now.ty < length arena.old }
     requires p_known { p.now.ty < length arena.old }
@@ -79,14 +79,14 @@ pub fn choice(
         return Err(not_truth(arena, u, e.ty));
     }
     if !arena.same(p.ty, o.ty) {
-        return Err(Refusal::Mismatch {
+        return Err(RowFault::Mismatch {
             span: w,
             found: p.ty,
             wanted: Wanted::Exactly(o.ty),
         });
     }
     if !arena.is_ground(o.ty) {
-        return Err(Refusal::NotGround { span: s });
+        return Err(RowFault::NotGround { span: s });
     }
     let b = greatest(alloc, &o.amounts, &p.amounts)?;
     let amounts = sum_at(alloc, s, &b, &e.amounts)?;
