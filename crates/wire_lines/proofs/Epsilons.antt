@@ -12,7 +12,7 @@ use Rattle.std.proofs.lemmas.Str.Parse.{IsNumeralModel, numerals_by_value, IsDig
 use Rattle.std.proofs.lemmas.Str.{digit_value_digit}
 use Rattle.std.proofs.lemmas.Int.Digits.{digits_value_more}
 use Rattle.wire_lines.proofs.Cuts.{cut_cases}
-use Rattle.wire_lines.specs.Epsilon.{point, GREATEST, IsNumeral, IsEpsilon, is_numeral, in_millionths, in_range, epsilon_between, epsilon_of}
+use Rattle.wire_lines.specs.Epsilon.{point, GREATEST, IsNumeral, IsEpsilonText, is_numeral, in_millionths, epsilon_in_range, epsilon_between, epsilon_of}
 
 tells_digits : IsDigitsTest (λ ds. list_all is_ascii_digit ds ≡ true)
 tells_digits = search rules
@@ -65,11 +65,11 @@ apart_tests : (text : List ℕ) → All (λ b. b ≢ point) text → All (λ b. 
 apart_tests text apart k d h = ne_eqb _ _ (apart k d h)
 
 -- a text without a point
-pub epsilon_whole : (text : List ℕ) → All (λ b. b ≢ point) text → epsilon_of text ≡ cond (is_numeral 4 text) (in_range (in_millionths text [])) None
+pub epsilon_whole : (text : List ℕ) → All (λ b. b ≢ point) text → epsilon_of text ≡ cond (is_numeral 4 text) (epsilon_in_range (in_millionths text [])) None
 epsilon_whole text apart = rw (slice_split_none is_point text (apart_tests text apart)) refl
 
 -- a text with a point, of which this is the first
-pub epsilon_cut : (text whole fraction : List ℕ) → All (λ b. b ≢ point) whole → text ≡ whole ++ point ∷ fraction → epsilon_of text ≡ cond (is_numeral 4 whole && is_numeral 6 fraction) (in_range (in_millionths whole fraction)) None
+pub epsilon_cut : (text whole fraction : List ℕ) → All (λ b. b ≢ point) whole → text ≡ whole ++ point ∷ fraction → epsilon_of text ≡ cond (is_numeral 4 whole && is_numeral 6 fraction) (epsilon_in_range (in_millionths whole fraction)) None
 epsilon_cut text whole fraction apart cut =
     ap epsilon_of cut ∙ ap epsilon_between (slice_split_at is_point whole point fraction (apart_tests whole apart) refl)
     ∙ elim (split_cases fraction) [
@@ -90,7 +90,7 @@ numeral_from n text h =
 numeral_to : (n : ℕ) (text : List ℕ) → IsNumeral n text → is_numeral n text ≡ true
 numeral_to n text (some, short, digits) = and_from _ _ (and_from _ _ (lt-ltb 0 (length text) some) (le-leb (length text) n short)) digits
 
-range_from : (m n : ℕ) → in_range m ≡ Some n → (n ≡ m) × (0 < n) × (n ≤ GREATEST)
+range_from : (m n : ℕ) → epsilon_in_range m ≡ Some n → (n ≡ m) × (0 < n) × (n ≤ GREATEST)
 range_from m n h =
     let (inside, same) = cond_some (ltb 0 m && leb m GREATEST) m n h in
     let (some, small) = and_parts (ltb 0 m) (leb m GREATEST) inside in
@@ -98,7 +98,7 @@ range_from m n h =
     let high = leb-true m GREATEST small in
     ((sym same), omega arith, omega arith)
 
-range_to : (m n : ℕ) → n ≡ m → 0 < n → n ≤ GREATEST → in_range m ≡ Some n
+range_to : (m n : ℕ) → n ≡ m → 0 < n → n ≤ GREATEST → epsilon_in_range m ≡ Some n
 range_to m n same low high = cond-true (ltb 0 m && leb m GREATEST) _ _ (and_from _ _ (lt-ltb 0 m (omega arith)) (le-leb m GREATEST (omega arith))) ∙ ap (λ k. Some k) (sym same)
 
 -- no digit is a point
@@ -115,20 +115,20 @@ chosen : (b : Bool) (o : Option ℕ) (n : ℕ) → cond b o None ≡ Some n → 
 chosen true o n h = (refl, h)
 chosen false o n h = absurd (none-some n h)
 
-pub epsilon_from : (text : List ℕ) (n : ℕ) → epsilon_of text ≡ Some n → IsEpsilon text n
+pub epsilon_from : (text : List ℕ) (n : ℕ) → epsilon_of text ≡ Some n → IsEpsilonText text n
 epsilon_from text n h = elim (cut_cases point text) [
   | inl apart ↦
-      let (numeral, found) = chosen (is_numeral 4 text) (in_range (in_millionths text [])) n (sym (epsilon_whole text apart) ∙ h) in
+      let (numeral, found) = chosen (is_numeral 4 text) (epsilon_in_range (in_millionths text [])) n (sym (epsilon_whole text apart) ∙ h) in
       let (value, low, high) = range_from (in_millionths text []) n found in
       (text, [], numeral_from 4 text numeral, inl (refl, refl), value, low, high)
   | inr (whole, fraction, apart, cut) ↦
-      let (numerals, found) = chosen (is_numeral 4 whole && is_numeral 6 fraction) (in_range (in_millionths whole fraction)) n (sym (epsilon_cut text whole fraction apart cut) ∙ h) in
+      let (numerals, found) = chosen (is_numeral 4 whole && is_numeral 6 fraction) (epsilon_in_range (in_millionths whole fraction)) n (sym (epsilon_cut text whole fraction apart cut) ∙ h) in
       let (first, second) = and_parts (is_numeral 4 whole) (is_numeral 6 fraction) numerals in
       let (value, low, high) = range_from (in_millionths whole fraction) n found in
       (whole, fraction, numeral_from 4 whole first, inr (cut, numeral_from 6 fraction second), value, low, high)
 ]
 
-pub epsilon_to : (text : List ℕ) (n : ℕ) → IsEpsilon text n → epsilon_of text ≡ Some n
+pub epsilon_to : (text : List ℕ) (n : ℕ) → IsEpsilonText text n → epsilon_of text ≡ Some n
 epsilon_to text n (whole, fraction, numeral, inl (same, none), value, low, high) =
     ap epsilon_of same ∙ epsilon_whole whole (no_point 4 whole numeral)
     ∙ cond-true _ _ _ (numeral_to 4 whole numeral) ∙ range_to (in_millionths whole []) n (value ∙ ap (in_millionths whole) none) low high

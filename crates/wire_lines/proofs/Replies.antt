@@ -12,12 +12,17 @@ use Rattle.std.proofs.lemmas.List.Folds.{list_all-append}
 use Rattle.std.proofs.lemmas.Fmt.{length-decimal-le, digits_decimal, digits_value-decimal}
 use Rattle.std.proofs.lemmas.List.Splits.{length-slice_split, slice_split_none, slice_split_at}
 use Rattle.wire_lines.specs.Lines.{lf, space, words_of, pieces_of}
-use Rattle.wire_lines.specs.Reply.{Replied, greeted, answered, ended, unbounded, refused, Datum, number, signed, text, ratio, datum_text, sensitivity_text, reply_words, reply_text, HasSize, IsReply, type_fault_text}
-use Rattle.wire_lines.specs.declared.refusal.Refusal.TheVariants.{Malformed, LineTooLong, Unknown, NoEpsilon, NoHello, NoToken, NoTerm, TooNested, IllTyped, TooSensitive, OutOfRange, NoNumber, Unread, OverBudget, JournalFull, Exhausted, Lost, NoMemory}
+use Rattle.fz_frac.specs.Distance.{Distance, Fin, Inf}
+use Rattle.wire_lines.specs.Refusal.{ProgramRefusal, no_token, no_term, too_nested, ill_typed, too_sensitive, out_of_range, unbounded, no_number, unread, Refusal, by_line, by_program, by_money, by_number, no_memory}
+use Rattle.wire_lines.specs.Reply.{Replied, greeted, answered, ended, refused, Datum, number, signed, text, ratio, datum_text, sensitivity_text, reply_words, refusal_words, reply_text, HasSize, IsReply, type_fault_text}
+use Rattle.wire_lines.specs.declared.refusal.LineRefusal.{LineRefusal}
+use Rattle.wire_lines.specs.declared.refusal.LineRefusal.TheVariants.{Malformed, TooLong, Unknown, NoEpsilon, NoHello}
+use Rattle.wire_lines.specs.declared.refusal.MoneyRefusal.{MoneyRefusal}
+use Rattle.wire_lines.specs.declared.refusal.MoneyRefusal.TheVariants.{OverBudget, JournalFull}
+use Rattle.wire_lines.specs.declared.refusal.NumberRefusal.{NumberRefusal}
+use Rattle.wire_lines.specs.declared.refusal.NumberRefusal.TheVariants.{Exhausted, Lost}
 use Rattle.wire_lines.specs.declared.refusal.TypeFault.{TypeFault}
 use Rattle.wire_lines.specs.declared.refusal.TypeFault.TheVariants.{Unbound, Mismatch, NotGround, NotFlat}
-use Rattle.wire_lines.specs.declared.refusal.Sensitivity.{Sensitivity}
-use Rattle.wire_lines.specs.declared.refusal.Sensitivity.TheVariants.{Finite, Infinite}
 use Rattle.wire_lines.proofs.Cuts.{pieces_of_at}
 use Rattle.wire_lines.proofs.Epsilons.{numerals}
 use Rattle.wire_lines.proofs.Requests.{words_one}
@@ -64,8 +69,8 @@ datum_plain (number n) small = decimal_plain n small
 datum_plain (signed (pos n)) fits = decimal_plain n (omega (arith, ints))
 datum_plain (signed (negsuc n)) fits = decimal_plain (suc n) (omega (arith, ints))
 datum_plain (text bytes) name = (and_parts (leb (length bytes) 32) (list_all is_plain bytes) name).1
-datum_plain (ratio Infinite) h = refl
-datum_plain (ratio (Finite p q)) (first, second) = elim (cases_Bool (eqb q 1)) [
+datum_plain (ratio Inf) h = refl
+datum_plain (ratio (Fin p q)) (first, second) = elim (cases_Bool (eqb q 1)) [
   | inl whole ↦ rw whole (decimal_plain p first)
   | inr part ↦ rw part (list_all-append is_plain (decimal p) (47 ∷ decimal q) ∙ and_from _ _ (decimal_plain p first) (decimal_plain q second))
 ]
@@ -111,12 +116,12 @@ abbrev signed_value : List ℕ → ℤ
 signed_value [] = pos 0
 signed_value (b ∷ bytes) = cond (eqb b 45) (negsuc (value bytes - 1)) (pos (value (b ∷ bytes)))
 
-abbrev ratio_between : List (List ℕ) → Sensitivity
-ratio_between (p ∷ q ∷ parts) = Finite (value p) (value q)
-ratio_between (p ∷ []) = cond (bytes_eq p (codes "inf")) Infinite (Finite (value p) 1)
-ratio_between [] = Infinite
+abbrev ratio_between : List (List ℕ) → Distance
+ratio_between (p ∷ q ∷ parts) = Fin (value p) (value q)
+ratio_between (p ∷ []) = cond (bytes_eq p (codes "inf")) Inf (Fin (value p) 1)
+ratio_between [] = Inf
 
-abbrev ratio_value : List ℕ → Sensitivity
+abbrev ratio_value : List ℕ → Distance
 ratio_value word = ratio_between (slice_split (λ b. eqb b 47) word)
 
 abbrev fault_value : List ℕ → TypeFault
@@ -133,25 +138,25 @@ rows =
     (codes "hello", λ ws. greeted (nth ws 0))
     ∷ (codes "answer", λ ws. answered (num ws 0) (signed_value (nth ws 1)) (num ws 2))
     ∷ (codes "bye", λ ws. ended)
-    ∷ (codes "10", λ ws. refused (Malformed (num ws 0)))
-    ∷ (codes "11", λ ws. refused LineTooLong)
-    ∷ (codes "12", λ ws. refused (Unknown (num ws 0)))
-    ∷ (codes "13", λ ws. refused NoEpsilon)
-    ∷ (codes "14", λ ws. refused NoHello)
-    ∷ (codes "20", λ ws. refused (NoToken (num ws 0)))
-    ∷ (codes "21", λ ws. refused (NoTerm (num ws 0)))
-    ∷ (codes "22", λ ws. refused (TooNested (num ws 0)))
-    ∷ (codes "30", λ ws. refused (IllTyped (fault_value (nth ws 0)) (num ws 1) (num ws 2)))
-    ∷ (codes "31", λ ws. refused (TooSensitive (num ws 0) (num ws 1) (ratio_value (nth ws 2))))
-    ∷ (codes "32", λ ws. refused (OutOfRange (num ws 0) (num ws 1)))
-    ∷ (codes "33", λ ws. unbounded (nth ws 0))
-    ∷ (codes "34", λ ws. refused NoNumber)
-    ∷ (codes "39", λ ws. refused (Unread (num ws 0) (num ws 1)))
-    ∷ (codes "40", λ ws. refused (OverBudget (num ws 0) (num ws 1) (num ws 2) (num ws 3)))
-    ∷ (codes "41", λ ws. refused (JournalFull (num ws 0) (num ws 1) (num ws 2)))
-    ∷ (codes "50", λ ws. refused (Exhausted (num ws 0)))
-    ∷ (codes "51", λ ws. refused (Lost (num ws 0)))
-    ∷ (codes "90", λ ws. refused NoMemory)
+    ∷ (codes "10", λ ws. refused (by_line (Malformed (num ws 0))))
+    ∷ (codes "11", λ ws. refused (by_line TooLong))
+    ∷ (codes "12", λ ws. refused (by_line (Unknown (num ws 0))))
+    ∷ (codes "13", λ ws. refused (by_line NoEpsilon))
+    ∷ (codes "14", λ ws. refused (by_line NoHello))
+    ∷ (codes "20", λ ws. refused (by_program (no_token (num ws 0))))
+    ∷ (codes "21", λ ws. refused (by_program (no_term (num ws 0))))
+    ∷ (codes "22", λ ws. refused (by_program (too_nested (num ws 0))))
+    ∷ (codes "30", λ ws. refused (by_program (ill_typed (fault_value (nth ws 0)) (num ws 1) (num ws 2))))
+    ∷ (codes "31", λ ws. refused (by_program (too_sensitive (num ws 0) (num ws 1) (ratio_value (nth ws 2)))))
+    ∷ (codes "32", λ ws. refused (by_program (out_of_range (num ws 0) (num ws 1))))
+    ∷ (codes "33", λ ws. refused (by_program (unbounded (nth ws 0))))
+    ∷ (codes "34", λ ws. refused (by_program no_number))
+    ∷ (codes "39", λ ws. refused (by_program (unread (num ws 0) (num ws 1))))
+    ∷ (codes "40", λ ws. refused (by_money (OverBudget (num ws 0) (num ws 1) (num ws 2) (num ws 3))))
+    ∷ (codes "41", λ ws. refused (by_money (JournalFull (num ws 0) (num ws 1) (num ws 2))))
+    ∷ (codes "50", λ ws. refused (by_number (Exhausted (num ws 0))))
+    ∷ (codes "51", λ ws. refused (by_number (Lost (num ws 0))))
+    ∷ (codes "90", λ ws. refused no_memory)
     ∷ []
 
 abbrev look_up : List ℕ → List (List ℕ × (List (List ℕ) → Replied)) → List (List ℕ) → Replied
@@ -195,15 +200,15 @@ not_inf : (digits : List ℕ) → list_all is_ascii_digit digits ≡ true → by
 not_inf [] h = refl
 not_inf (b ∷ digits) h = and_left (eqb b 105) _ (not_digit b 105 (and_parts (is_ascii_digit b) (list_all is_ascii_digit digits) h).0 refl)
 
-ratio_is : (r : Sensitivity) → HasSize (ratio r) → ratio_value (sensitivity_text r) ≡ r
-ratio_is Infinite h = refl
-ratio_is (Finite p q) (first, second) =
+ratio_is : (r : Distance) → HasSize (ratio r) → ratio_value (sensitivity_text r) ≡ r
+ratio_is Inf h = refl
+ratio_is (Fin p q) (first, second) =
     let one : slice_split (λ b. eqb b 47) (decimal p) ≡ decimal p ∷ [] = slice_split_none _ (decimal p) (All-from_recursion _ (decimal p) (no_slash (decimal p) (decimal_digits p first))) in
     let two : slice_split (λ b. eqb b 47) (decimal p ++ (47 ∷ decimal q)) ≡ decimal p ∷ decimal q ∷ [] =
     slice_split_at _ (decimal p) 47 (decimal q) (All-from_recursion _ (decimal p) (no_slash (decimal p) (decimal_digits p first))) refl
     ∙ ap (λ ws. decimal p ∷ ws) (slice_split_none _ (decimal q) (All-from_recursion _ (decimal q) (no_slash (decimal q) (decimal_digits q second)))) in
     elim (cases_Bool (eqb q 1)) [
-      | inl whole ↦ rw (whole, one, not_inf (decimal p) (decimal_digits p first), value_is p first) (ap (Finite p) (sym (eqb-true q 1 whole)))
+      | inl whole ↦ rw (whole, one, not_inf (decimal p) (decimal_digits p first), value_is p first) (ap (Fin p) (sym (eqb-true q 1 whole)))
       | inr part ↦ rw (part, two, value_is p first, value_is q second) refl
     ]
 
@@ -211,54 +216,66 @@ read_back_is : (reply : Replied) → IsReply reply → read_back (words_in reply
 read_back_is (greeted analyst) h = refl
 read_back_is (answered n z taken) h = rw (value_is n h.0, signed_is z h.1.0, value_is taken h.1.1.0) refl
 read_back_is ended h = refl
-read_back_is (unbounded table) h = refl
-read_back_is (refused (Malformed n)) h = rw (value_is n h.0) refl
-read_back_is (refused LineTooLong) h = refl
-read_back_is (refused (Unknown n)) h = rw (value_is n h.0) refl
-read_back_is (refused NoEpsilon) h = refl
-read_back_is (refused NoHello) h = refl
-read_back_is (refused (NoToken n)) h = rw (value_is n h.0) refl
-read_back_is (refused (NoTerm n)) h = rw (value_is n h.0) refl
-read_back_is (refused (TooNested n)) h = rw (value_is n h.0) refl
-read_back_is (refused (IllTyped fault from to)) h = rw (value_is from h.1.0, value_is to h.1.1.0, fault_is fault) refl
-read_back_is (refused (TooSensitive from to r)) h = rw (value_is from h.0, value_is to h.1.0, ratio_is r h.1.1.0) refl
-read_back_is (refused (OutOfRange from to)) h = rw (value_is from h.0, value_is to h.1.0) refl
-read_back_is (refused NoNumber) h = refl
-read_back_is (refused (Unread from to)) h = rw (value_is from h.0, value_is to h.1.0) refl
-read_back_is (refused (OverBudget spent after budget seen)) h = rw (value_is spent h.0, value_is after h.1.0, value_is budget h.1.1.0, value_is seen h.1.1.1.0) refl
-read_back_is (refused (JournalFull used unsettled capacity)) h = rw (value_is used h.0, value_is unsettled h.1.0, value_is capacity h.1.1.0) refl
-read_back_is (refused (Exhausted n)) h = rw (value_is n h.0) refl
-read_back_is (refused (Lost n)) h = rw (value_is n h.0) refl
-read_back_is (refused NoMemory) h = refl
+read_back_is (refused (by_line (Malformed n))) h = rw (value_is n h.0) refl
+read_back_is (refused (by_line TooLong)) h = refl
+read_back_is (refused (by_line (Unknown n))) h = rw (value_is n h.0) refl
+read_back_is (refused (by_line NoEpsilon)) h = refl
+read_back_is (refused (by_line NoHello)) h = refl
+read_back_is (refused (by_program (no_token n))) h = rw (value_is n h.0) refl
+read_back_is (refused (by_program (no_term n))) h = rw (value_is n h.0) refl
+read_back_is (refused (by_program (too_nested n))) h = rw (value_is n h.0) refl
+read_back_is (refused (by_program (ill_typed fault from to))) h = rw (value_is from h.1.0, value_is to h.1.1.0, fault_is fault) refl
+read_back_is (refused (by_program (too_sensitive from to r))) h = rw (value_is from h.0, value_is to h.1.0, ratio_is r h.1.1.0) refl
+read_back_is (refused (by_program (out_of_range from to))) h = rw (value_is from h.0, value_is to h.1.0) refl
+read_back_is (refused (by_program (unbounded table))) h = refl
+read_back_is (refused (by_program no_number)) h = refl
+read_back_is (refused (by_program (unread from to))) h = rw (value_is from h.0, value_is to h.1.0) refl
+read_back_is (refused (by_money (OverBudget spent after budget seen))) h = rw (value_is spent h.0, value_is after h.1.0, value_is budget h.1.1.0, value_is seen h.1.1.1.0) refl
+read_back_is (refused (by_money (JournalFull used unsettled capacity))) h = rw (value_is used h.0, value_is unsettled h.1.0, value_is capacity h.1.1.0) refl
+read_back_is (refused (by_number (Exhausted n))) h = rw (value_is n h.0) refl
+read_back_is (refused (by_number (Lost n))) h = rw (value_is n h.0) refl
+read_back_is (refused no_memory) h = refl
 
 -- No LF stands before the one at the end.
 no_lf : List ℕ → Bool
 no_lf bytes = list_all (λ b. not (eqb b lf)) bytes
+
+line_no_lf : (refusal : LineRefusal) → no_lf (refusal_words (by_line refusal)).0 ≡ true
+unfolding no_lf
+line_no_lf (Malformed n) = refl
+line_no_lf TooLong = refl
+line_no_lf (Unknown n) = refl
+line_no_lf NoEpsilon = refl
+line_no_lf NoHello = refl
+
+program_no_lf : (refusal : ProgramRefusal) → no_lf (refusal_words (by_program refusal)).0 ≡ true
+unfolding no_lf
+program_no_lf (no_token n) = refl
+program_no_lf (no_term n) = refl
+program_no_lf (too_nested n) = refl
+program_no_lf (ill_typed fault from to) = refl
+program_no_lf (too_sensitive from to r) = refl
+program_no_lf (out_of_range from to) = refl
+program_no_lf (unbounded table) = refl
+program_no_lf no_number = refl
+program_no_lf (unread from to) = refl
+
+refusal_no_lf : (refusal : Refusal) → no_lf (refusal_words refusal).0 ≡ true
+unfolding no_lf
+refusal_no_lf (by_line refusal) = line_no_lf refusal
+refusal_no_lf (by_program refusal) = program_no_lf refusal
+refusal_no_lf (by_money (OverBudget spent after budget seen)) = refl
+refusal_no_lf (by_money (JournalFull used unsettled capacity)) = refl
+refusal_no_lf (by_number (Exhausted n)) = refl
+refusal_no_lf (by_number (Lost n)) = refl
+refusal_no_lf no_memory = refl
 
 kind_no_lf : (reply : Replied) → no_lf (reply_words reply).0 ≡ true
 unfolding no_lf
 kind_no_lf (greeted analyst) = refl
 kind_no_lf (answered n z taken) = refl
 kind_no_lf ended = refl
-kind_no_lf (unbounded table) = refl
-kind_no_lf (refused (Malformed n)) = refl
-kind_no_lf (refused LineTooLong) = refl
-kind_no_lf (refused (Unknown n)) = refl
-kind_no_lf (refused NoEpsilon) = refl
-kind_no_lf (refused NoHello) = refl
-kind_no_lf (refused (NoToken n)) = refl
-kind_no_lf (refused (NoTerm n)) = refl
-kind_no_lf (refused (TooNested n)) = refl
-kind_no_lf (refused (IllTyped fault from to)) = refl
-kind_no_lf (refused (TooSensitive from to r)) = refl
-kind_no_lf (refused (OutOfRange from to)) = refl
-kind_no_lf (refused NoNumber) = refl
-kind_no_lf (refused (Unread from to)) = refl
-kind_no_lf (refused (OverBudget spent after budget seen)) = refl
-kind_no_lf (refused (JournalFull used unsettled capacity)) = refl
-kind_no_lf (refused (Exhausted n)) = refl
-kind_no_lf (refused (Lost n)) = refl
-kind_no_lf (refused NoMemory) = refl
+kind_no_lf (refused refusal) = refusal_no_lf refusal
 
 apart_append : (xs ys : List ℕ) → AllByRecursion (λ b. b ≢ lf) xs → AllByRecursion (λ b. b ≢ lf) ys → AllByRecursion (λ b. b ≢ lf) (xs ++ ys)
 apart_append [] ys first second = second

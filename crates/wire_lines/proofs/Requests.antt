@@ -1,5 +1,6 @@
 -- A request line is read as its grammar says.
-use Rattle.std.proofs.Common.{◌≡◌, ◌≢◌, ◌↔◌, ℕ, ◌<◌, ◌≤◌, true, false, not, eqb, ltb, List, [], ◌∷◌, ◌++◌, length, All, Option, Some, None, Result, Ok, Err, IfOk, codes, bytes_eq, inl, inr, refl, sym, ap, subst, ◌∙◌, arith, append_assoc}
+use Rattle.std.proofs.Common.{◌≡◌, ◌≢◌, ◌↔◌, ℕ, ◌<◌, ◌≤◌, true, false, not, eqb, ltb, List, [], ◌∷◌, ◌++◌, length, All, Option, Some, None, Result, Ok, Err, IfOk, IfErr, codes, bytes_eq, inl, inr, refl, sym, ap, subst, ◌∙◌, arith, append_assoc}
+use Rattle.std.specs.Prelude.{⊤}
 use Rattle.std.specs.List.{list_all, AllByRecursion}
 use Rattle.std.proofs.lemmas.Bool.{ne_eqb, eqb-false, not-true, and_parts, cases_Bool, cases_lt, lt-ltb, le-ltb, cond-true, cond-false}
 use Rattle.std.proofs.lemmas.List.Elements.{All-from_recursion}
@@ -8,12 +9,12 @@ use Rattle.std.proofs.lemmas.Option.{none-some, same_Some}
 use Rattle.std.proofs.lemmas.Slice.Eq.{bytes_eq-Decides}
 use Rattle.wire_lines.specs.Lines.{space, words_of, joined}
 use Rattle.wire_lines.specs.Epsilon.{epsilon_of}
-use Rattle.wire_lines.specs.Request.{Asked, hello, ask, bye, IsWord, IsAmount, IsRequest, one_word, all_rest, fault_from, fault_among, fault_of, word_at, rest_at, end_at, hello_from, ask_from, bye_from, request_from, request_of, asked, reading, HasEpsilonInRange}
+use Rattle.wire_lines.specs.Request.{Asked, hello, ask, bye, IsWord, IsAmount, IsRequest, line_limit, one_word, all_rest, fault_from, fault_among, fault_of, word_at, rest_at, end_at, hello_from, ask_from, bye_from, request_from, request_of, asked, reading, HasEpsilonInRange}
 use Rattle.wire_lines.specs.declared.request.Request.{Request}
 use Rattle.wire_lines.specs.declared.request.Request.TheVariants.{Hello, Ask, Bye}
-use Rattle.wire_lines.specs.declared.request.LineFault.{LineFault}
-use Rattle.wire_lines.specs.declared.request.LineFault.TheVariants.{Malformed, TooLong}
-use Rattle.wire_lines.specs.declared.request.TheConstants.{LINE_LIMIT}
+use Rattle.wire_lines.specs.declared.refusal.LineRefusal.{LineRefusal}
+use Rattle.wire_lines.specs.declared.refusal.LineRefusal.TheVariants.{Malformed, TooLong, Unknown, NoEpsilon, NoHello}
+use Rattle.wire_lines.specs.Refusal.{IsFormRefusal}
 use Rattle.wire_lines.proofs.Epsilons.{epsilon_from, epsilon_to}
 
 apart_tests : (line : List ℕ) → All (λ b. b ≢ space) line → All (λ b. eqb b space ≡ false) line
@@ -163,127 +164,147 @@ request_taken line (ask owner epsilon program) (amount, first, second, written, 
     ∙ ap (λ bytes. Ok (ask owner epsilon bytes)) (sym (ap joined e) ∙ join_with_byte-slice_split space program)
 request_taken line bye spelled = ap (λ bytes. request_from (words_of bytes)) spelled
 
--- A reading and a fault that say the same.
-Agree : Result Asked LineFault → Option ℕ → Type 0
-Agree (Ok r) None = Unit {0}
-Agree (Ok r) (Some w) = ⊥
-Agree (Err (Malformed v)) (Some w) = v ≡ w
-Agree (Err (Malformed v)) None = ⊥
-Agree (Err TooLong) o = ⊥
+-- A reading and a fault that say the same, the fault being one of the first four words.
+Agree : Result Asked LineRefusal → Option ℕ → Type 0
+Agree (Ok r) None = ⊤
+Agree (Err (Malformed v)) (Some w) = (v ≡ w) × (v ≤ 3)
+Agree r o = ⊥
 
 hello_agrees : (words : List (List ℕ)) → Agree (hello_from words) (fault_from 1 (one_word ∷ []) words)
 unfolding Agree
-hello_agrees [] = refl
-hello_agrees ([] ∷ words) = refl
+hello_agrees [] = (refl, omega arith)
+hello_agrees ([] ∷ words) = (refl, omega arith)
 hello_agrees ((b ∷ bytes) ∷ []) = tt
-hello_agrees ((b ∷ bytes) ∷ w ∷ words) = refl
+hello_agrees ((b ∷ bytes) ∷ w ∷ words) = (refl, omega arith)
 
 ask_agrees : (words : List (List ℕ)) → Agree (ask_from words) (fault_from 1 (one_word ∷ one_word ∷ all_rest ∷ []) words)
 unfolding Agree
-ask_agrees [] = refl
-ask_agrees ([] ∷ words) = refl
-ask_agrees ((b ∷ bytes) ∷ []) = refl
-ask_agrees ((b ∷ bytes) ∷ [] ∷ words) = refl
-ask_agrees ((b ∷ bytes) ∷ (c ∷ amount) ∷ []) = refl
+ask_agrees [] = (refl, omega arith)
+ask_agrees ([] ∷ words) = (refl, omega arith)
+ask_agrees ((b ∷ bytes) ∷ []) = (refl, omega arith)
+ask_agrees ((b ∷ bytes) ∷ [] ∷ words) = (refl, omega arith)
+ask_agrees ((b ∷ bytes) ∷ (c ∷ amount) ∷ []) = (refl, omega arith)
 ask_agrees ((b ∷ bytes) ∷ (c ∷ amount) ∷ w ∷ words) = tt
 
 bye_agrees : (words : List (List ℕ)) → Agree (bye_from words) (fault_from 1 [] words)
 unfolding Agree
 bye_agrees [] = tt
-bye_agrees (w ∷ words) = refl
+bye_agrees (w ∷ words) = (refl, omega arith)
 
 agree : (words : List (List ℕ)) → Agree (request_from words) (fault_among words)
 unfolding Agree
-agree [] = refl
+agree [] = (refl, omega arith)
 agree (kind ∷ words) = elim (cases_Bool (bytes_eq kind (codes "hello"))) [
   | inl is_hello ↦ rw is_hello (hello_agrees words)
   | inr not_hello ↦ elim (cases_Bool (bytes_eq kind (codes "ask"))) [
     | inl is_ask ↦ rw (not_hello, is_ask) (ask_agrees words)
     | inr not_ask ↦ elim (cases_Bool (bytes_eq kind (codes "bye"))) [
       | inl is_bye ↦ rw (not_hello, not_ask, is_bye) (bye_agrees words)
-      | inr not_bye ↦ rw (not_hello, not_ask, not_bye) refl
+      | inr not_bye ↦ rw (not_hello, not_ask, not_bye) (refl, omega arith)
     ]
   ]
 ]
 
-agree_from : (r : Result Asked LineFault) (o : Option ℕ) (w : ℕ) → Agree r o → r ≡ Err (Malformed w) → o ≡ Some w
+agree_from : (r : Result Asked LineRefusal) (o : Option ℕ) (w : ℕ) → Agree r o → r ≡ Err (Malformed w) → o ≡ Some w
 unfolding Agree
-agree_from (Ok r) o w both h = absurd cc
-agree_from (Err (Malformed v)) (Some u) w both h = ap (λ n. Some n) (sym both ∙ cc)
+agree_from (Err (Malformed v)) (Some u) w both h = ap (λ n. Some n) (sym both.0 ∙ cc)
 agree_from (Err (Malformed v)) None w both h = absurd both
-agree_from (Err TooLong) o w both h = absurd both
+agree_from (Err TooLong) o w both h = absurd cc
+agree_from (Err (Unknown v)) o w both h = absurd cc
+agree_from (Err NoEpsilon) o w both h = absurd cc
+agree_from (Err NoHello) o w both h = absurd cc
+agree_from (Ok r) o w both h = absurd cc
 
-agree_to : (r : Result Asked LineFault) (o : Option ℕ) (w : ℕ) → Agree r o → o ≡ Some w → r ≡ Err (Malformed w)
+agree_to : (r : Result Asked LineRefusal) (o : Option ℕ) (w : ℕ) → Agree r o → o ≡ Some w → r ≡ Err (Malformed w)
 unfolding Agree
-agree_to (Ok r) None w both h = absurd (none-some w h)
+agree_to r None w both h = absurd (none-some w h)
+agree_to (Err (Malformed v)) (Some u) w both h = ap (λ n. Err (Malformed n)) (both.0 ∙ same_Some u w h)
+agree_to (Err TooLong) (Some u) w both h = absurd both
+agree_to (Err (Unknown v)) (Some u) w both h = absurd both
+agree_to (Err NoEpsilon) (Some u) w both h = absurd both
+agree_to (Err NoHello) (Some u) w both h = absurd both
 agree_to (Ok r) (Some u) w both h = absurd both
-agree_to (Err (Malformed v)) (Some u) w both h = ap (λ n. Err (Malformed n)) (both ∙ same_Some u w h)
-agree_to (Err (Malformed v)) None w both h = absurd both
-agree_to (Err TooLong) o w both h = absurd both
 
-agree_short : (r : Result Asked LineFault) (o : Option ℕ) → Agree r o → r ≡ Err TooLong → ⊥
+-- a refusal that agrees with a fault is of one of the first four words
+agree_form : (refusal : LineRefusal) (o : Option ℕ) → Agree (Err refusal) o → (word : ℕ) × (refusal ≡ Malformed word) × (word ≤ 3)
 unfolding Agree
-agree_short (Ok r) o both h = cc
-agree_short (Err (Malformed v)) o both h = cc
-agree_short (Err TooLong) o both h = both
+agree_form (Malformed v) (Some u) both = (v, refl, both.1)
+agree_form (Malformed v) None both = absurd both
+agree_form TooLong o both = absurd both
+agree_form (Unknown v) o both = absurd both
+agree_form NoEpsilon o both = absurd both
+agree_form NoHello o both = absurd both
 
 -- The same with the limit.
-looked_at : (line : List ℕ) → length line ≤ LINE_LIMIT → request_of line ≡ request_from (words_of line)
+looked_at : (line : List ℕ) → length line ≤ line_limit → request_of line ≡ request_from (words_of line)
 unfolding request_of
-looked_at line short = cond-false (ltb LINE_LIMIT (length line)) (Err TooLong) (request_from (words_of line)) (le-ltb LINE_LIMIT (length line) short)
+looked_at line short = cond-false (ltb line_limit (length line)) (Err TooLong) (request_from (words_of line)) (le-ltb line_limit (length line) short)
 
-skipped : (line : List ℕ) → LINE_LIMIT < length line → request_of line ≡ Err TooLong
+skipped : (line : List ℕ) → line_limit < length line → request_of line ≡ Err TooLong
 unfolding request_of
-skipped line long = cond-true (ltb LINE_LIMIT (length line)) (Err TooLong) (request_from (words_of line)) (lt-ltb LINE_LIMIT (length line) long)
+skipped line long = cond-true (ltb line_limit (length line)) (Err TooLong) (request_from (words_of line)) (lt-ltb line_limit (length line) long)
 
-pub grammar_from : (line : List ℕ) (r : Asked) → request_of line ≡ Ok r → (length line ≤ LINE_LIMIT) × IsRequest line r
-grammar_from line r h = elim (cases_lt LINE_LIMIT (length line)) [
+pub grammar_from : (line : List ℕ) (r : Asked) → request_of line ≡ Ok r → (length line ≤ line_limit) × IsRequest line r
+grammar_from line r h = elim (cases_lt line_limit (length line)) [
   | inl long ↦ let none : Err TooLong ≡ Ok r = sym (skipped line long) ∙ h in absurd cc
   | inr short ↦ (short, request_found line r (sym (looked_at line short) ∙ h))
 ]
 
-pub grammar_to : (line : List ℕ) (r : Asked) → (length line ≤ LINE_LIMIT) × IsRequest line r → request_of line ≡ Ok r
+pub grammar_to : (line : List ℕ) (r : Asked) → (length line ≤ line_limit) × IsRequest line r → request_of line ≡ Ok r
 grammar_to line r (short, spelled) = looked_at line short ∙ request_taken line r spelled
 
 pub one_request : (line : List ℕ) (a b : Asked) → IsRequest line a → IsRequest line b → a ≡ b
 one_request line a b first second = let same : Ok a ≡ Ok b = sym (request_taken line a first) ∙ request_taken line b second in cc
 
-pub malformed_from : (line : List ℕ) (w : ℕ) → request_of line ≡ Err (Malformed w) → (length line ≤ LINE_LIMIT) × (fault_of line ≡ Some w)
-malformed_from line w h = elim (cases_lt LINE_LIMIT (length line)) [
+pub malformed_from : (line : List ℕ) (w : ℕ) → request_of line ≡ Err (Malformed w) → (length line ≤ line_limit) × (fault_of line ≡ Some w)
+malformed_from line w h = elim (cases_lt line_limit (length line)) [
   | inl long ↦ let none : Err TooLong ≡ Err (Malformed w) = sym (skipped line long) ∙ h in absurd cc
   | inr short ↦ (short, agree_from (request_from (words_of line)) (fault_of line) w (agree (words_of line)) (sym (looked_at line short) ∙ h))
 ]
 
-pub malformed_to : (line : List ℕ) (w : ℕ) → (length line ≤ LINE_LIMIT) × (fault_of line ≡ Some w) → request_of line ≡ Err (Malformed w)
+pub malformed_to : (line : List ℕ) (w : ℕ) → (length line ≤ line_limit) × (fault_of line ≡ Some w) → request_of line ≡ Err (Malformed w)
 malformed_to line w (short, fault) = looked_at line short ∙ agree_to (request_from (words_of line)) (fault_of line) w (agree (words_of line)) fault
 
-pub long_from : (line : List ℕ) → request_of line ≡ Err TooLong → LINE_LIMIT < length line
-long_from line h = elim (cases_lt LINE_LIMIT (length line)) [
-  | inl long ↦ long
-  | inr short ↦ absurd (agree_short (request_from (words_of line)) (fault_of line) (agree (words_of line)) (sym (looked_at line short) ∙ h))
+read_form : (line : List ℕ) (refusal : LineRefusal) → request_from (words_of line) ≡ Err refusal → (word : ℕ) × (refusal ≡ Malformed word) × (word ≤ 3)
+read_form line refusal h = agree_form refusal (fault_of line) (subst (λ r. Agree r (fault_of line)) h (agree (words_of line)))
+
+pub form_only : (line : List ℕ) (refusal : LineRefusal) → request_of line ≡ Err refusal → IsFormRefusal refusal
+form_only line refusal h = elim (cases_lt line_limit (length line)) [
+  | inl long ↦ let same : TooLong ≡ refusal = cc (skipped line long, h) in subst IsFormRefusal same tt
+  | inr short ↦ let (word, same, low) = read_form line refusal (sym (looked_at line short) ∙ h) in subst IsFormRefusal (sym same) low
 ]
 
-pub long_to : (line : List ℕ) → LINE_LIMIT < length line → request_of line ≡ Err TooLong
+pub long_from : (line : List ℕ) → request_of line ≡ Err TooLong → line_limit < length line
+long_from line h = elim (cases_lt line_limit (length line)) [
+  | inl long ↦ long
+  | inr short ↦ let (word, same, low) = read_form line TooLong (sym (looked_at line short) ∙ h) in absurd cc
+]
+
+pub long_to : (line : List ℕ) → line_limit < length line → request_of line ≡ Err TooLong
 long_to line long = skipped line long
 
 -- What the program returns, against what its reading says.
-err_from : (r : Result Request LineFault) (fault : LineFault) → reading r ≡ Err fault → r ≡ Err fault
+err_from : (r : Result Request LineRefusal) (fault : LineRefusal) → reading r ≡ Err fault → r ≡ Err fault
 err_from (Ok request) fault h = absurd cc
 err_from (Err e) fault h = let same : e ≡ fault = cc in ap (λ f. Err f) same
 
-pub result_found : (line : List ℕ) (r : Result Request LineFault) → reading r ≡ request_of line → IfOk r (λ request. IsRequest line (asked request))
+pub result_found : (line : List ℕ) (r : Result Request LineRefusal) → reading r ≡ request_of line → IfOk r (λ request. IsRequest line (asked request))
 result_found line (Ok request) h = (grammar_from line (asked request) (sym h)).1
 result_found line (Err fault) h = tt
 
-pub result_epsilon : (line : List ℕ) (r : Result Request LineFault) → reading r ≡ request_of line → IfOk r HasEpsilonInRange
+pub result_epsilon : (line : List ℕ) (r : Result Request LineRefusal) → reading r ≡ request_of line → IfOk r HasEpsilonInRange
 result_epsilon line (Ok (Hello analyst)) h = tt
 result_epsilon line (Ok (Ask owner None program)) h = tt
 result_epsilon line (Ok (Ask owner (Some n) program)) h = let (amount, first, second, (whole, fraction, numeral, written, value, low, high), spelled) = (grammar_from line (ask owner.now (Some n) program.now) (sym h)).1 in (low, high)
 result_epsilon line (Ok Bye) h = tt
 result_epsilon line (Err fault) h = tt
 
-pub result_malformed : (line : List ℕ) (r : Result Request LineFault) → reading r ≡ request_of line → (w : ℕ) → (r ≡ Err (Malformed w)) ↔ ((length line ≤ LINE_LIMIT) × (fault_of line ≡ Some w))
+pub result_malformed : (line : List ℕ) (r : Result Request LineRefusal) → reading r ≡ request_of line → (w : ℕ) → (r ≡ Err (Malformed w)) ↔ ((length line ≤ line_limit) × (fault_of line ≡ Some w))
 result_malformed line r h w = (λ e. malformed_from line w (sym h ∙ ap reading e), λ f. err_from r (Malformed w) (h ∙ malformed_to line w f))
 
-pub result_long : (line : List ℕ) (r : Result Request LineFault) → reading r ≡ request_of line → (r ≡ Err TooLong) ↔ (LINE_LIMIT < length line)
+pub result_long : (line : List ℕ) (r : Result Request LineRefusal) → reading r ≡ request_of line → (r ≡ Err TooLong) ↔ (line_limit < length line)
 result_long line r h = (λ e. long_from line (sym h ∙ ap reading e), λ f. err_from r TooLong (h ∙ long_to line f))
+
+pub result_form : (line : List ℕ) (r : Result Request LineRefusal) → reading r ≡ request_of line → IfErr r IsFormRefusal
+result_form line (Ok request) h = tt
+result_form line (Err refusal) h = form_only line refusal (sym h)

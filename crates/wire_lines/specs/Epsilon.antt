@@ -31,20 +31,22 @@ abbrev pub IsWritten : List ℕ → List ℕ → List ℕ → Type 0
 IsWritten text whole fraction = ((text ≡ whole) × (fraction ≡ [])) ⊎ ((text ≡ whole ++ point ∷ fraction) × IsNumeral FRACTION_DIGITS fraction)
 
 -- a decimal from 0.000001 to 1000, and its millionths
-abbrev pub IsEpsilon : List ℕ → ℕ → Type 0
-IsEpsilon text n = (whole fraction : List ℕ) × IsNumeral WHOLE_DIGITS whole × IsWritten text whole fraction × (n ≡ in_millionths whole fraction) × (0 < n) × (n ≤ GREATEST)
+abbrev pub IsEpsilonText : List ℕ → ℕ → Type 0
+IsEpsilonText text n =
+    (whole fraction : List ℕ) × IsNumeral WHOLE_DIGITS whole × IsWritten text whole fraction × (n ≡ in_millionths whole fraction) × (0 < n) × (n ≤ GREATEST)
 
 -- The same as a function: the millionths, or nothing where the text is no decimal in range.
 abbrev pub is_numeral : ℕ → List ℕ → Bool
 is_numeral n text = nat_lt 0 (length text) && nat_le (length text) n && list_all is_ascii_digit text
 
-abbrev pub in_range : ℕ → Option ℕ
-in_range n = if nat_lt 0 n && nat_le n GREATEST then Some n else None
+abbrev pub epsilon_in_range : ℕ → Option ℕ
+epsilon_in_range n = if nat_lt 0 n && nat_le n GREATEST then Some n else None
 
 abbrev pub epsilon_between : List (List ℕ) → Option ℕ
 epsilon_between [] = None
-epsilon_between (whole ∷ []) = if is_numeral WHOLE_DIGITS whole then in_range (in_millionths whole []) else None
-epsilon_between (whole ∷ fraction ∷ []) = if is_numeral WHOLE_DIGITS whole && is_numeral FRACTION_DIGITS fraction then in_range (in_millionths whole fraction) else None
+epsilon_between (whole ∷ []) = if is_numeral WHOLE_DIGITS whole then epsilon_in_range (in_millionths whole []) else None
+epsilon_between (whole ∷ fraction ∷ []) =
+    if is_numeral WHOLE_DIGITS whole && is_numeral FRACTION_DIGITS fraction then epsilon_in_range (in_millionths whole fraction) else None
 epsilon_between (_ ∷ _ ∷ _ ∷ _) = None
 
 abbrev pub epsilon_of : List ℕ → Option ℕ

@@ -2,4 +2,5 @@ pub mod Lines
 pub mod Epsilon
 pub mod Request
 pub mod Name
+pub mod Refusal
 pub mod Reply

@@ -3,12 +3,15 @@ use Rattle.std.specs.Prelude.{◌≡◌, ◌≢◌, ℕ, ◌+◌, ◌<◌, ◌�
 use Rattle.std.specs.Borrow.{Bor}
 use Rattle.std.specs.Result.{result_map_both}
 use Rattle.wire_lines.specs.Lines.{space, words_of, joined}
-use Rattle.wire_lines.specs.Epsilon.{IsEpsilon, epsilon_of, GREATEST}
+use Rattle.wire_lines.specs.Epsilon.{IsEpsilonText, epsilon_of, GREATEST}
 use Rattle.wire_lines.specs.declared.request.Request.{Request}
 use Rattle.wire_lines.specs.declared.request.Request.TheVariants.{Hello, Ask, Bye}
-use Rattle.wire_lines.specs.declared.request.LineFault.{LineFault}
-use Rattle.wire_lines.specs.declared.request.LineFault.TheVariants.{Malformed, TooLong}
-use Rattle.wire_lines.specs.declared.request.TheConstants.{LINE_LIMIT}
+use Rattle.wire_lines.specs.declared.refusal.LineRefusal.{LineRefusal}
+use Rattle.wire_lines.specs.declared.refusal.LineRefusal.TheVariants.{Malformed, TooLong}
+
+-- the most bytes of a line, without its end
+abbrev pub line_limit : ℕ
+line_limit = 16384
 
 -- what a line asks for; an epsilon that is no decimal in range is none
 pub data Asked : Type 0 where
@@ -22,29 +25,31 @@ IsWord word = (0 < length word) × All (λ b. b ≢ space) word
 
 -- a text is written for this epsilon, or is no epsilon
 abbrev pub IsAmount : List ℕ → Option ℕ → Type 0
-IsAmount text (Some n) = IsEpsilon text n
-IsAmount text None = (n : ℕ) → IsEpsilon text n → ⊥
+IsAmount text (Some n) = IsEpsilonText text n
+IsAmount text None = (n : ℕ) → IsEpsilonText text n → ⊥
 
 -- The grammar. A program is the whole rest of its line, perhaps empty, spaces and all.
 abbrev pub IsRequest : List ℕ → Asked → Type 0
 IsRequest line (hello analyst) = IsWord analyst × (line ≡ codes "hello " ++ analyst)
-IsRequest line (ask owner epsilon program) = (amount : List ℕ) × IsWord owner × IsWord amount × IsAmount amount epsilon × (line ≡ codes "ask " ++ owner ++ (space ∷ amount) ++ (space ∷ program))
+IsRequest line (ask owner epsilon program) =
+    (amount : List ℕ) × IsWord owner × IsWord amount × IsAmount amount epsilon
+    × (line ≡ codes "ask " ++ owner ++ (space ∷ amount) ++ (space ∷ program))
 IsRequest line bye = line ≡ codes "bye"
 
 -- What stands at a place of a line: a word, or the rest of the line.
-pub data Part : Type 0 where
-  one_word : Part
-  all_rest : Part
+pub data Slot : Type 0 where
+  one_word : Slot
+  all_rest : Slot
 
 -- the kinds of lines, each with what follows its first word
-abbrev pub parts_of : List ℕ → Option (List Part)
-parts_of kind =
+abbrev pub slots_of : List ℕ → Option (List Slot)
+slots_of kind =
     if bytes_eq kind (codes "hello") then Some (one_word ∷ [])
     else (if bytes_eq kind (codes "ask") then Some (one_word ∷ one_word ∷ all_rest ∷ [])
     else (if bytes_eq kind (codes "bye") then Some [] else None))
 
 -- from word number n on, the first word that is missing, empty or too many
-abbrev pub fault_from : ℕ → List Part → List (List ℕ) → Option ℕ
+abbrev pub fault_from : ℕ → List Slot → List (List ℕ) → Option ℕ
 fault_from n [] [] = None
 fault_from n [] (_ ∷ _) = Some n
 fault_from n (all_rest ∷ parts) [] = Some n
@@ -53,13 +58,13 @@ fault_from n (one_word ∷ parts) [] = Some n
 fault_from n (one_word ∷ parts) ([] ∷ words) = Some n
 fault_from n (one_word ∷ parts) ((_ ∷ _) ∷ words) = fault_from (n + 1) parts words
 
-abbrev pub fault_behind : Option (List Part) → List (List ℕ) → Option ℕ
+abbrev pub fault_behind : Option (List Slot) → List (List ℕ) → Option ℕ
 fault_behind None words = Some 0
 fault_behind (Some parts) words = fault_from 1 parts words
 
 abbrev pub fault_among : List (List ℕ) → Option ℕ
 fault_among [] = Some 0
-fault_among (kind ∷ words) = fault_behind (parts_of kind) words
+fault_among (kind ∷ words) = fault_behind (slots_of kind) words
 
 -- The first word at fault, counted from 0: the first word of all where it names no kind of line.
 abbrev pub fault_of : List ℕ → Option ℕ
@@ -67,46 +72,46 @@ fault_of line = fault_among (words_of line)
 
 -- Reading goes on where the step before it was no fault.
 infixl 10 ◌>>=◌
-abbrev pub ◌>>=◌ : {A B : Type 0} → Result A LineFault → (A → Result B LineFault) → Result B LineFault
+abbrev pub ◌>>=◌ : {A B : Type 0} → Result A LineRefusal → (A → Result B LineRefusal) → Result B LineRefusal
 (Ok x) >>= f = f x
-(Err fault) >>= f = Err fault
+(Err refusal) >>= f = Err refusal
 
 -- word number n, which has a byte, and the words behind it
-abbrev pub word_at : ℕ → List (List ℕ) → Result (List ℕ × List (List ℕ)) LineFault
+abbrev pub word_at : ℕ → List (List ℕ) → Result (List ℕ × List (List ℕ)) LineRefusal
 word_at n [] = Err (Malformed n)
 word_at n ([] ∷ _) = Err (Malformed n)
 word_at n ((b ∷ bytes) ∷ words) = Ok (b ∷ bytes, words)
 
 -- the rest of the line from word number n on, which is there and may be empty
-abbrev pub rest_at : ℕ → List (List ℕ) → Result (List ℕ) LineFault
+abbrev pub rest_at : ℕ → List (List ℕ) → Result (List ℕ) LineRefusal
 rest_at n [] = Err (Malformed n)
 rest_at n (w ∷ words) = Ok (joined (w ∷ words))
 
 -- no word number n is there
-abbrev pub end_at : ℕ → List (List ℕ) → Result (Unit {0}) LineFault
+abbrev pub end_at : ℕ → List (List ℕ) → Result ⊤ LineRefusal
 end_at n [] = Ok tt
 end_at n (_ ∷ _) = Err (Malformed n)
 
 -- What a line asks for, by the words behind its first one.
-abbrev pub hello_from : List (List ℕ) → Result Asked LineFault
+abbrev pub hello_from : List (List ℕ) → Result Asked LineRefusal
 hello_from words = do
   analyst ← word_at 1 words
   _ ← end_at 2 analyst.1
   Ok (hello analyst.0)
 
-abbrev pub ask_from : List (List ℕ) → Result Asked LineFault
+abbrev pub ask_from : List (List ℕ) → Result Asked LineRefusal
 ask_from words = do
   owner ← word_at 1 words
   amount ← word_at 2 owner.1
   program ← rest_at 3 amount.1
   Ok (ask owner.0 (epsilon_of amount.0) program)
 
-abbrev pub bye_from : List (List ℕ) → Result Asked LineFault
+abbrev pub bye_from : List (List ℕ) → Result Asked LineRefusal
 bye_from words = do
   _ ← end_at 1 words
   Ok bye
 
-abbrev pub request_from : List (List ℕ) → Result Asked LineFault
+abbrev pub request_from : List (List ℕ) → Result Asked LineRefusal
 request_from [] = Err (Malformed 0)
 request_from (kind ∷ words) =
     if bytes_eq kind (codes "hello") then hello_from words
@@ -114,8 +119,8 @@ request_from (kind ∷ words) =
     else (if bytes_eq kind (codes "bye") then bye_from words else Err (Malformed 0)))
 
 -- A line over the limit isn't looked at.
-unfoldable pub request_of : List ℕ → Result Asked LineFault
-request_of line = if nat_lt LINE_LIMIT (length line) then Err TooLong else request_from (words_of line)
+unfoldable pub request_of : List ℕ → Result Asked LineRefusal
+request_of line = if nat_lt line_limit (length line) then Err TooLong else request_from (words_of line)
 
 -- what a request of the program asks for
 abbrev pub asked : Request → Asked
@@ -123,7 +128,7 @@ asked (Hello analyst) = hello analyst.now
 asked (Ask owner epsilon program) = ask owner.now epsilon program.now
 asked Bye = bye
 
-abbrev pub reading : Result Request LineFault → Result Asked LineFault
+abbrev pub reading : Result Request LineRefusal → Result Asked LineRefusal
 reading r = result_map_both asked (λ fault. fault) r
 
 -- what is left of a line behind some word of it: nothing, or the words behind a space

@@ -1,3 +1,5 @@
+//! A list of bytes is cut at a byte.
+
 ghost use Rattle.std.specs.Prelude.{◌≡◌, ◌≢◌, ◌++◌, ◌∷◌, All, IfSome, IfNone};
 
 /// What stands before and behind the first such byte. None where there is none.

@@ -1,8 +1,10 @@
+//! An epsilon is read.
+
 ghost use Rattle.std.specs.Prelude.{◌≡◌, ℕ, ◌+◌, ◌*◌, ◌<◌, ◌≤◌, ◌^◌, IsTrue, length};
 ghost use Rattle.std.specs.Char.{is_ascii_digit};
 ghost use Rattle.std.specs.List.{list_all};
 ghost use Rattle.std.specs.Str.Parse.{digits_value};
-ghost use Rattle.wire_lines.specs.Epsilon.{epsilon_of, in_millionths, in_range, is_numeral};
+ghost use Rattle.wire_lines.specs.Epsilon.{epsilon_of, in_millionths, epsilon_in_range, is_numeral};
 
 use crate::cut::cut_at;
 
@@ -57,7 +59,7 @@ fn millionths(whole: &[u8], fraction: &[u8]) -> u64
 
 /// An epsilon of so many millionths, where it may be one.
 fn within(millionths: u64) -> Option<u32>
-    ensures { result ≡ in_range millionths }
+    ensures { result ≡ epsilon_in_range millionths }
 {
     if millionths > 0 && millionths <= GREATEST {
         Some(millionths as u32)

@@ -16,9 +16,11 @@ pub use crate::laws::{
 };
 pub use crate::lines::next_line;
 pub use crate::name::Name;
-pub use crate::refusal::{Refusal, Sensitivity, TypeFault};
-pub use crate::reply::{REPLY_LIMIT, Reply, write_reply};
-pub use crate::request::{LINE_LIMIT, LineFault, Request, read_request};
+pub use crate::refusal::{
+    LineRefusal, MoneyRefusal, NumberRefusal, ProgramRefusal, Refusal, TypeFault,
+};
+pub use crate::reply::{REPLY_LIMIT, Reply, write_reply, write_sensitivity};
+pub use crate::request::{LINE_LIMIT, Request, read_request};
 
 #[cfg(test)]
 mod tests;

@@ -1,3 +1,5 @@
+//! A script is cut into lines.
+
 ghost use Rattle.std.specs.Prelude.{◌≡◌, ◌<◌, ◌++◌, List, ℕ, [], ◌∷◌, length, MatchOption, IfSome};
 ghost use Rattle.wire_lines.specs.Lines.{lines_of, without_cr};
 

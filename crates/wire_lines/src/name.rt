@@ -1,3 +1,5 @@
+//! Names that a reply can hold.
+
 ghost use Rattle.std.specs.Prelude.{IsTrue};
 ghost use Rattle.wire_lines.specs.Name.{is_name};
 

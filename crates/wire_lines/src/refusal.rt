@@ -1,3 +1,7 @@
+//! Refusals, by who says them.
+use crate::name::Name;
+use fz_frac::Sens;
+
 /// What the checker found wrong with a type.
 #[derive(Clone, Copy, Debug, PartialEq, Eq)]
 pub enum TypeFault {
@@ -7,30 +11,24 @@ pub enum TypeFault {
     NotFlat,
 }
 
-/// How sensitive a program is: a fraction, in lowest terms, or without bound.
+/// What a line is refused for by itself.
 #[derive(Clone, Copy, Debug, PartialEq, Eq)]
-pub enum Sensitivity {
-    Finite { p: u32, q: u32 },
-    Infinite,
-}
-
-/// A refusal whose data are numbers. Spans are from a byte to the one behind the last.
-#[derive(Clone, Copy, Debug, PartialEq, Eq)]
-pub enum Refusal {
-    /// 10: the number of the first word at fault.
-    Malformed {
-        word: u32,
-    },
-    /// 11: the line is too long.
-    LineTooLong,
+pub enum LineRefusal {
+    /// 10: the number, from 0, of the first word that is missing, empty, too many or not of its kind.
+    Malformed { word: u32 },
+    /// 11: the line has more than `LINE_LIMIT` bytes.
+    TooLong,
     /// 12: the number of the word that names no owner or analyst.
-    Unknown {
-        word: u32,
-    },
+    Unknown { word: u32 },
     /// 13: the epsilon is no decimal from 0.000001 to 1000.
     NoEpsilon,
     /// 14: no analyst has said hello yet.
     NoHello,
+}
+
+/// What a program is refused for. Spans are from a byte to the one behind the last.
+#[derive(Clone, Copy, Debug, PartialEq, Eq)]
+pub enum ProgramRefusal<'a> {
     /// 20: the byte at which no token begins.
     NoToken {
         place: u32,
@@ -53,12 +51,16 @@ pub enum Refusal {
     TooSensitive {
         from: u32,
         to: u32,
-        r: Sensitivity,
+        sens: Sens,
     },
     /// 32: the span of the term at which a fraction is out of range.
     OutOfRange {
         from: u32,
         to: u32,
+    },
+    /// 33: the table on which the program's sensitivity has no bound.
+    Unbounded {
+        table: Name<'a>,
     },
     /// 34: the value of the program is no number.
     NoNumber,
@@ -67,6 +69,11 @@ pub enum Refusal {
         from: u32,
         to: u32,
     },
+}
+
+/// What the owner's budget refuses.
+#[derive(Clone, Copy, Debug, PartialEq, Eq)]
+pub enum MoneyRefusal {
     /// 40: in millionths what is spent, what would be spent, and the budget; and the records seen.
     OverBudget {
         spent: u64,
@@ -80,14 +87,28 @@ pub enum Refusal {
         open: u32,
         capacity: u32,
     },
-    /// 50: the number of a reservation whose draws were exhausted.
-    Exhausted {
-        number: u32,
-    },
-    /// 51: the number of a reservation that was lost for want of memory.
-    Lost {
-        number: u32,
-    },
+}
+
+/// What is refused of a reservation, by its number.
+#[derive(Clone, Copy, Debug, PartialEq, Eq)]
+pub enum NumberRefusal {
+    /// 50: its draws were exhausted.
+    Exhausted { number: u32 },
+    /// 51: its answer was lost.
+    Lost { number: u32 },
+}
+
+/// A refusal, by who says it.
+#[derive(Clone, Copy, Debug, PartialEq, Eq)]
+pub enum Refusal<'a> {
+    /// 10 to 14
+    Line(LineRefusal),
+    /// 20 to 34, and 39
+    Program(ProgramRefusal<'a>),
+    /// 40 and 41
+    Money(MoneyRefusal),
+    /// 50 and 51
+    Number(NumberRefusal),
     /// 90: want of memory before a reservation.
     NoMemory,
 }

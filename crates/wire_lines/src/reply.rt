@@ -1,12 +1,19 @@
+//! A reply is written as a line.
+
 ghost use Rattle.std.specs.Prelude.{◌≡◌, ◌+◌, ◌≤◌, ◌<◌, ◌^◌, ◌++◌, ◌∷◌, length, take, map, decimal};
-ghost use Rattle.wire_lines.specs.Reply.{IsReply, HasSize, ratio, reply_text, replied, line_text, refusal_words, datum_text, sensitivity_text, type_fault_text, datum_of};
+ghost use Rattle.fz_frac.specs.Sens.{distance_of};
+ghost use Rattle.wire_lines.specs.Refusal.{program_refusal_at, refusal_at};
+ghost use Rattle.wire_lines.specs.Reply.{IsReply, HasSize, ratio, reply_text, replied, line_text, line_words, program_words, money_words, number_words, refusal_words, datum_text, sensitivity_text, type_fault_text, datum_of};
 ghost use Rattle.wire_lines.specs.Lines.{space};
 ghost use Rattle.std.specs.List.{AllByRecursion};
 ghost use Rattle.std.specs.Fmt.{signed_decimal};
 
 use crate::name::Name;
-use crate::refusal::{Refusal, Sensitivity, TypeFault};
+use crate::refusal::{
+    LineRefusal, MoneyRefusal, NumberRefusal, ProgramRefusal, Refusal, TypeFault,
+};
 use Field::{Amount, Fault, Number, Ratio};
+use fz_frac::Sens;
 use itoa::Buffer;
 
 /// A reply line.
@@ -18,10 +25,8 @@ pub enum Reply<'a> {
     Answer { number: u32, value: i64, taken: u64 },
     /// The session ends.
     Bye,
-    /// 33: the program's sensitivity on a table has no bound.
-    Unbounded { table: Name<'a> },
-    /// Any other refusal.
-    Refused(Refusal),
+    /// `no`, a code and its data.
+    Refused(Refusal<'a>),
 }
 
 /// The most bytes of a reply.
@@ -35,7 +40,7 @@ enum Field<'a> {
     Signed(i64),
     Name(Name<'a>),
     Fault(TypeFault),
-    Ratio(Sensitivity),
+    Ratio(Sens),
 }
 
 /// Puts bytes at a place, and answers the place behind them.
@@ -69,19 +74,19 @@ fn put_signed(out: &mut [u8; REPLY_LIMIT], at: usize, n: i64) -> usize
     put(out, at, buffer.format(n).as_bytes())
 }
 
-fn put_ratio(out: &mut [u8; REPLY_LIMIT], at: usize, r: Sensitivity) -> usize
+fn put_ratio(out: &mut [u8; REPLY_LIMIT], at: usize, r: Sens) -> usize
     requires { at + 32 ≤ REPLY_LIMIT }
     ensures room { result ≤ at + 32 }
-    ensures sized { HasSize (ratio r) }
-    ensures text { take result out.new ≡ take at out.old ++ sensitivity_text r }
+    ensures sized { HasSize (ratio (distance_of r)) }
+    ensures text { take result out.new ≡ take at out.old ++ sensitivity_text (distance_of r) }
 {
     match r {
-        Sensitivity::Infinite => put(out, at, b"inf"),
-        Sensitivity::Finite { p, q: 1 } => put_number(out, at, u64::from(p)),
-        Sensitivity::Finite { p, q } => {
-            let at = put_number(out, at, u64::from(p));
+        Sens::Inf => put(out, at, b"inf"),
+        Sens::Finite(f) if f.q == 1 => put_number(out, at, u64::from(f.p)),
+        Sens::Finite(f) => {
+            let at = put_number(out, at, u64::from(f.p));
             let at = put(out, at, b"/");
-            put_number(out, at, u64::from(q))
+            put_number(out, at, u64::from(f.q))
         }
     }
 }
@@ -131,32 +136,54 @@ fn put_line(out: &mut [u8; REPLY_LIMIT], kind: &[u8], fields: &[Field<'_>]) -> u
     put(out, at, b"\n")
 }
 
-/// Writes the line of a refusal.
-#[tactic(auto, unfolding(crate::specs::Reply::reply_text))]
-fn write_refusal(refusal: &Refusal, out: &mut [u8; REPLY_LIMIT]) -> usize
+/// Writes what a line is refused for.
+fn write_line_refusal(refusal: LineRefusal, out: &mut [u8; REPLY_LIMIT]) -> usize
     ensures fits { result ≤ REPLY_LIMIT }
-    ensures sized { AllByRecursion HasSize (refusal_words refusal.now).1 }
-    ensures text { take result out.new ≡ line_text (refusal_words refusal.now) }
+    ensures sized { AllByRecursion HasSize (line_words refusal).1 }
+    ensures text { take result out.new ≡ line_text (line_words refusal) }
 {
-    match *refusal {
-        Refusal::Malformed { word } => put_line(out, b"no 10", &[Number(word)]),
-        Refusal::LineTooLong => put_line(out, b"no 11", &[]),
-        Refusal::Unknown { word } => put_line(out, b"no 12", &[Number(word)]),
-        Refusal::NoEpsilon => put_line(out, b"no 13", &[]),
-        Refusal::NoHello => put_line(out, b"no 14", &[]),
-        Refusal::NoToken { place } => put_line(out, b"no 20", &[Number(place)]),
-        Refusal::NoTerm { token } => put_line(out, b"no 21", &[Number(token)]),
-        Refusal::TooNested { depth } => put_line(out, b"no 22", &[Amount(depth)]),
-        Refusal::IllTyped { fault, from, to } => {
+    match refusal {
+        LineRefusal::Malformed { word } => put_line(out, b"no 10", &[Number(word)]),
+        LineRefusal::TooLong => put_line(out, b"no 11", &[]),
+        LineRefusal::Unknown { word } => put_line(out, b"no 12", &[Number(word)]),
+        LineRefusal::NoEpsilon => put_line(out, b"no 13", &[]),
+        LineRefusal::NoHello => put_line(out, b"no 14", &[]),
+    }
+}
+
+/// Writes what a program is refused for.
+fn write_program_refusal(refusal: ProgramRefusal<'_>, out: &mut [u8; REPLY_LIMIT]) -> usize
+    ensures fits { result ≤ REPLY_LIMIT }
+    ensures sized { AllByRecursion HasSize (program_words (program_refusal_at refusal.entry)).1 }
+    ensures text { take result out.new ≡ line_text (program_words (program_refusal_at refusal.entry)) }
+{
+    match refusal {
+        ProgramRefusal::NoToken { place } => put_line(out, b"no 20", &[Number(place)]),
+        ProgramRefusal::NoTerm { token } => put_line(out, b"no 21", &[Number(token)]),
+        ProgramRefusal::TooNested { depth } => put_line(out, b"no 22", &[Amount(depth)]),
+        ProgramRefusal::IllTyped { fault, from, to } => {
             put_line(out, b"no 30", &[Fault(fault), Number(from), Number(to)])
         }
-        Refusal::TooSensitive { from, to, r } => {
-            put_line(out, b"no 31", &[Number(from), Number(to), Ratio(r)])
+        ProgramRefusal::TooSensitive { from, to, sens } => {
+            put_line(out, b"no 31", &[Number(from), Number(to), Ratio(sens)])
         }
-        Refusal::OutOfRange { from, to } => put_line(out, b"no 32", &[Number(from), Number(to)]),
-        Refusal::NoNumber => put_line(out, b"no 34", &[]),
-        Refusal::Unread { from, to } => put_line(out, b"no 39", &[Number(from), Number(to)]),
-        Refusal::OverBudget {
+        ProgramRefusal::OutOfRange { from, to } => {
+            put_line(out, b"no 32", &[Number(from), Number(to)])
+        }
+        ProgramRefusal::Unbounded { table } => put_line(out, b"no 33", &[Field::Name(table)]),
+        ProgramRefusal::NoNumber => put_line(out, b"no 34", &[]),
+        ProgramRefusal::Unread { from, to } => put_line(out, b"no 39", &[Number(from), Number(to)]),
+    }
+}
+
+/// Writes what the budget refuses.
+fn write_money_refusal(refusal: MoneyRefusal, out: &mut [u8; REPLY_LIMIT]) -> usize
+    ensures fits { result ≤ REPLY_LIMIT }
+    ensures sized { AllByRecursion HasSize (money_words refusal).1 }
+    ensures text { take result out.new ≡ line_text (money_words refusal) }
+{
+    match refusal {
+        MoneyRefusal::OverBudget {
             spent,
             after,
             budget,
@@ -168,7 +195,7 @@ fn write_refusal(refusal: &Refusal, out: &mut [u8; REPLY_LIMIT]) -> usize
                 &[Amount(spent), Amount(after), Amount(budget), Number(seen)],
             )
         }
-        Refusal::JournalFull {
+        MoneyRefusal::JournalFull {
             used,
             open,
             capacity,
@@ -179,8 +206,32 @@ fn write_refusal(refusal: &Refusal, out: &mut [u8; REPLY_LIMIT]) -> usize
                 &[Number(used), Number(open), Number(capacity)],
             )
         }
-        Refusal::Exhausted { number } => put_line(out, b"no 50", &[Number(number)]),
-        Refusal::Lost { number } => put_line(out, b"no 51", &[Number(number)]),
+    }
+}
+
+/// Writes what is refused of a number.
+fn write_number_refusal(refusal: NumberRefusal, out: &mut [u8; REPLY_LIMIT]) -> usize
+    ensures fits { result ≤ REPLY_LIMIT }
+    ensures sized { AllByRecursion HasSize (number_words refusal).1 }
+    ensures text { take result out.new ≡ line_text (number_words refusal) }
+{
+    match refusal {
+        NumberRefusal::Exhausted { number } => put_line(out, b"no 50", &[Number(number)]),
+        NumberRefusal::Lost { number } => put_line(out, b"no 51", &[Number(number)]),
+    }
+}
+
+/// Writes the line of a refusal.
+fn write_refusal(refusal: Refusal<'_>, out: &mut [u8; REPLY_LIMIT]) -> usize
+    ensures fits { result ≤ REPLY_LIMIT }
+    ensures sized { AllByRecursion HasSize (refusal_words (refusal_at refusal.entry)).1 }
+    ensures text { take result out.new ≡ line_text (refusal_words (refusal_at refusal.entry)) }
+{
+    match refusal {
+        Refusal::Line(refusal) => write_line_refusal(refusal, out),
+        Refusal::Program(refusal) => write_program_refusal(refusal, out),
+        Refusal::Money(refusal) => write_money_refusal(refusal, out),
+        Refusal::Number(refusal) => write_number_refusal(refusal, out),
         Refusal::NoMemory => put_line(out, b"no 90", &[]),
     }
 }
@@ -206,8 +257,7 @@ fn write_line(reply: &Reply<'_>, out: &mut [u8; REPLY_LIMIT]) -> usize
             )
         }
         Reply::Bye => put_line(out, b"bye", &[]),
-        Reply::Unbounded { table } => put_line(out, b"no 33", &[Field::Name(table)]),
-        Reply::Refused(refusal) => write_refusal(&refusal, out),
+        Reply::Refused(refusal) => write_refusal(refusal, out),
     }
 }
 
@@ -219,4 +269,12 @@ pub fn write_reply(reply: &Reply<'_>, out: &mut [u8; REPLY_LIMIT]) -> usize
     ensures text { take result out.new ≡ reply_text (replied reply.now) }
 {
     write_line(reply, out)
+}
+
+/// Writes a sensitivity, a whole one without its denominator, and answers how many bytes it has.
+pub fn write_sensitivity(sens: Sens, out: &mut [u8; REPLY_LIMIT]) -> usize
+    ensures fits { result ≤ 32 }
+    ensures text { take result out.new ≡ sensitivity_text (distance_of sens) }
+{
+    put_ratio(out, 0, sens)
 }

@@ -1,10 +1,14 @@
-ghost use Rattle.std.specs.Prelude.{◌≡◌, ◌≤◌, ◌<◌, ◌↔◌, ℕ, length, IfOk, Ok, Err, Some, ◌∷◌};
-ghost use Rattle.wire_lines.specs.Request.{Asked, IsRequest, HasEpsilonInRange, request_of, fault_of, reading, asked, word_at, end_at, hello_from, ask_from, bye_from, words_behind, word_and_words};
+//! A line is read as a request.
+
+ghost use Rattle.std.specs.Prelude.{◌≡◌, ◌≤◌, ◌<◌, ◌↔◌, ℕ, length, IfOk, IfErr, Ok, Err, Some, ◌∷◌};
+ghost use Rattle.wire_lines.specs.Request.{Asked, IsRequest, HasEpsilonInRange, line_limit, request_of, fault_of, reading, asked, word_at, end_at, hello_from, ask_from, bye_from, words_behind, word_and_words};
 ghost use Rattle.wire_lines.specs.Lines.{words_of};
+ghost use Rattle.wire_lines.specs.Refusal.{IsFormRefusal};
 ghost use Rattle.std.specs.Result.{result_map_both};
 
 use crate::cut::cut_at;
 use crate::epsilon::read_epsilon;
+use crate::refusal::LineRefusal;
 
 /// The most bytes of a line, without its end.
 pub const LINE_LIMIT: usize = 16_384;
@@ -27,15 +31,6 @@ pub enum Request<'a> {
     Bye,
 }
 
-/// Why a line is no request.
-#[derive(Clone, Copy, Debug, PartialEq, Eq)]
-pub enum LineFault {
-    /// The number, from 0, of the first word that is missing, empty, too many or not of its kind.
-    Malformed { word: u32 },
-    /// The line has more than `LINE_LIMIT` bytes.
-    TooLong,
-}
-
 /// The first word of a line, and what is left behind it and a space.
 #[tactic(auto, using(crate::proofs::Requests::words_one, crate::proofs::Requests::words_cut))]
 fn split_word(line: &[u8]) -> (&[u8], Option<&[u8]>)
@@ -49,13 +44,13 @@ fn split_word(line: &[u8]) -> (&[u8], Option<&[u8]>)
 
 /// Word number `word`, which has a byte, and what is left behind it.
 #[tactic(auto, using(crate::proofs::Requests::word_there, crate::proofs::Requests::word_empty))]
-fn next_word(rest: Option<&[u8]>, word: u32) -> Result<(&[u8], Option<&[u8]>), LineFault>
+fn next_word(rest: Option<&[u8]>, word: u32) -> Result<(&[u8], Option<&[u8]>), LineRefusal>
     ensures { result_map_both word_and_words (λ fault. fault) result ≡ word_at word (words_behind rest.entry) }
 {
-    let line = rest.ok_or(LineFault::Malformed { word })?;
+    let line = rest.ok_or(LineRefusal::Malformed { word })?;
     let (first, rest) = split_word(line);
     if first.is_empty() {
-        Err(LineFault::Malformed { word })
+        Err(LineRefusal::Malformed { word })
     } else {
         Ok((first, rest))
     }
@@ -63,17 +58,17 @@ fn next_word(rest: Option<&[u8]>, word: u32) -> Result<(&[u8], Option<&[u8]>), L
 
 /// There is no word number `word`.
 #[tactic(auto, using(crate::proofs::Requests::end_there))]
-fn expect_end(rest: Option<&[u8]>, word: u32) -> Result<(), LineFault>
+fn expect_end(rest: Option<&[u8]>, word: u32) -> Result<(), LineRefusal>
     ensures { result_map_both (λ _. tt) (λ fault. fault) result ≡ end_at word (words_behind rest.entry) }
 {
     match rest {
         None => Ok(()),
-        Some(_) => Err(LineFault::Malformed { word }),
+        Some(_) => Err(LineRefusal::Malformed { word }),
     }
 }
 
 /// Reads what is left of a line behind `hello`.
-fn read_hello(rest: Option<&[u8]>) -> Result<Request<'_>, LineFault>
+fn read_hello(rest: Option<&[u8]>) -> Result<Request<'_>, LineRefusal>
     ensures { reading result ≡ hello_from (words_behind rest.entry) }
 {
     let (analyst, rest) = next_word(rest, 1)?;
@@ -83,12 +78,12 @@ fn read_hello(rest: Option<&[u8]>) -> Result<Request<'_>, LineFault>
 
 /// Reads what is left of a line behind `ask`.
 #[tactic(auto, using(crate::proofs::Requests::rest_is))]
-fn read_ask(rest: Option<&[u8]>) -> Result<Request<'_>, LineFault>
+fn read_ask(rest: Option<&[u8]>) -> Result<Request<'_>, LineRefusal>
     ensures { reading result ≡ ask_from (words_behind rest.entry) }
 {
     let (owner, rest) = next_word(rest, 1)?;
     let (amount, rest) = next_word(rest, 2)?;
-    let program = rest.ok_or(LineFault::Malformed { word: 3 })?;
+    let program = rest.ok_or(LineRefusal::Malformed { word: 3 })?;
     Ok(Request::Ask {
         owner,
         epsilon: read_epsilon(amount),
@@ -97,7 +92,7 @@ fn read_ask(rest: Option<&[u8]>) -> Result<Request<'_>, LineFault>
 }
 
 /// Reads what is left of a line behind `bye`.
-fn read_bye(rest: Option<&[u8]>) -> Result<Request<'_>, LineFault>
+fn read_bye(rest: Option<&[u8]>) -> Result<Request<'_>, LineRefusal>
     ensures { reading result ≡ bye_from (words_behind rest.entry) }
 {
     expect_end(rest, 1)?;
@@ -106,33 +101,36 @@ fn read_bye(rest: Option<&[u8]>) -> Result<Request<'_>, LineFault>
 
 /// Reads a line.
 #[tactic(auto, unfolding(crate::specs::Request::request_of))]
-fn read_line(line: &[u8]) -> Result<Request<'_>, LineFault>
+fn read_line(line: &[u8]) -> Result<Request<'_>, LineRefusal>
     ensures { reading result ≡ request_of line.now }
 {
     if line.len() > LINE_LIMIT {
-        return Err(LineFault::TooLong);
+        return Err(LineRefusal::TooLong);
     }
     let (kind, rest) = split_word(line);
     match kind {
         b"hello" => read_hello(rest),
         b"ask" => read_ask(rest),
         b"bye" => read_bye(rest),
-        _ => Err(LineFault::Malformed { word: 0 }),
+        _ => Err(LineRefusal::Malformed { word: 0 }),
     }
 }
 
 /// Reads a line, which comes without its end.
-pub fn read_request(line: &[u8]) -> Result<Request<'_>, LineFault>
+pub fn read_request(line: &[u8]) -> Result<Request<'_>, LineRefusal>
     ensures exact { reading result ≡ request_of line.now }
     ensures epsilon { IfOk result HasEpsilonInRange }
     // What is read is in the grammar.
     ensures found { IfOk result (λ request. IsRequest line.now (asked request)) }
     // What is in the grammar is read.
-    ensures only { (request : Asked) → length line.now ≤ LINE_LIMIT → IsRequest line.now request →
+    ensures only { (request : Asked) → length line.now ≤ line_limit → IsRequest line.now request →
         reading result ≡ Ok request }
     // The fault is the first word that is missing, empty, too many or not of its kind.
-    ensures malformed { (word : ℕ) → (result ≡ Err (LineFault.Malformed word)) ↔ ((length line.now ≤ LINE_LIMIT) × (fault_of line.now ≡ Some word)) }
-    ensures long { (result ≡ Err LineFault.TooLong) ↔ (LINE_LIMIT < length line.now) }
+    ensures malformed { (word : ℕ) →
+        (result ≡ Err (LineRefusal.Malformed word)) ↔ ((length line.now ≤ line_limit) × (fault_of line.now ≡ Some word)) }
+    // No other refusal comes of a line's form.
+    ensures form { IfErr result IsFormRefusal }
+    ensures long { (result ≡ Err LineRefusal.TooLong) ↔ (line_limit < length line.now) }
 {
     read_line(line)
 }

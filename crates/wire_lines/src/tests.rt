@@ -1,13 +1,20 @@
+//! Lines with texts from the protocol's description.
+
+ghost use Rattle.std.specs.Prelude.{◌<◌};
+
 use crate::name::Name;
-use crate::refusal::{Refusal, Sensitivity, TypeFault};
+use crate::refusal::{
+    LineRefusal, MoneyRefusal, NumberRefusal, ProgramRefusal, Refusal, TypeFault,
+};
 use crate::reply::{REPLY_LIMIT, Reply, write_reply};
-use crate::request::{LINE_LIMIT, LineFault, Request, read_request};
+use crate::request::{LINE_LIMIT, Request, read_request};
 use crate::{
     epsilons_are_read_by_the_grammar, lines_are_read_by_the_grammar, next_line,
     replies_differ_in_their_texts,
 };
+use fz_frac::{Frac, Sens};
 
-fn ask(epsilon: Option<u32>, program: &[u8]) -> Result<Request<'_>, LineFault> {
+fn ask(epsilon: Option<u32>, program: &[u8]) -> Result<Request<'_>, LineRefusal> {
     Ok(Request::Ask {
         owner: b"census",
         epsilon,
@@ -15,13 +22,13 @@ fn ask(epsilon: Option<u32>, program: &[u8]) -> Result<Request<'_>, LineFault> {
     })
 }
 
-fn malformed(word: u32) -> Result<Request<'static>, LineFault> {
-    Err(LineFault::Malformed { word })
+fn malformed(word: u32) -> Result<Request<'static>, LineRefusal> {
+    Err(LineRefusal::Malformed { word })
 }
 
 #[test]
 fn reads_requests(rt: HostRuntime) {
-    let rows: [(&[u8], Result<Request<'_>, LineFault>); 24] = [
+    let rows: [(&[u8], Result<Request<'_>, LineRefusal>); 24] = [
         (b"hello ann", Ok(Request::Hello { analyst: b"ann" })),
         (b"hello", malformed(1)),
         (b"hello ", malformed(1)),
@@ -58,7 +65,7 @@ fn reads_requests(rt: HostRuntime) {
 #[test]
 fn skips_long_lines(rt: HostRuntime) {
     let line = [b'x'; LINE_LIMIT + 1];
-    assert!(rt; read_request(&line) == Err(LineFault::TooLong));
+    assert!(rt; read_request(&line) == Err(LineRefusal::TooLong));
     assert!(rt; read_request(&line[1..]) == malformed(0));
 }
 
@@ -105,102 +112,105 @@ fn writes_replies(rt: HostRuntime) {
     assert!(rt; writes(Reply::Bye, b"bye\n"));
     assert!(rt;
         writes(
-            Reply::Unbounded { table },
+            Reply::Refused(Refusal::Program(ProgramRefusal::Unbounded { table })),
             b"no 33 a_name_of_thirty_two_bytes_00001\n"
         )
     );
 }
 
+fn frac(p: u64, q: u64) -> Sens
+    requires { 0 < q }
+{
+    match Frac::new(p, q) {
+        Ok(sens) => Sens::Finite(sens),
+        Err(_) => Sens::Inf,
+    }
+}
+
+fn ill_typed(fault: TypeFault) -> Refusal<'static> {
+    Refusal::Program(ProgramRefusal::IllTyped {
+        fault,
+        from: 0,
+        to: 4,
+    })
+}
+
+fn too_sensitive(sens: Sens) -> Refusal<'static> {
+    Refusal::Program(ProgramRefusal::TooSensitive {
+        from: 1,
+        to: 9,
+        sens,
+    })
+}
+
 #[test]
 fn writes_refusals(rt: HostRuntime) {
-    let third = Sensitivity::Finite { p: 3, q: 2 };
-    let rows: [(Refusal, &[u8]); 23] = [
-        (Refusal::Malformed { word: 2 }, b"no 10 2\n"),
-        (Refusal::LineTooLong, b"no 11\n"),
-        (Refusal::Unknown { word: 1 }, b"no 12 1\n"),
-        (Refusal::NoEpsilon, b"no 13\n"),
-        (Refusal::NoHello, b"no 14\n"),
-        (Refusal::NoToken { place: 12 }, b"no 20 12\n"),
-        (Refusal::NoTerm { token: 1 }, b"no 21 1\n"),
-        (Refusal::TooNested { depth: 65 }, b"no 22 65\n"),
+    let half = frac(3, 2);
+    let rows: [(Refusal<'_>, &[u8]); 23] = [
         (
-            Refusal::IllTyped {
-                fault: TypeFault::Unbound,
-                from: 0,
-                to: 4,
-            },
-            b"no 30 unbound 0 4\n",
+            Refusal::Line(LineRefusal::Malformed { word: 2 }),
+            b"no 10 2\n",
+        ),
+        (Refusal::Line(LineRefusal::TooLong), b"no 11\n"),
+        (
+            Refusal::Line(LineRefusal::Unknown { word: 1 }),
+            b"no 12 1\n",
+        ),
+        (Refusal::Line(LineRefusal::NoEpsilon), b"no 13\n"),
+        (Refusal::Line(LineRefusal::NoHello), b"no 14\n"),
+        (
+            Refusal::Program(ProgramRefusal::NoToken { place: 12 }),
+            b"no 20 12\n",
         ),
         (
-            Refusal::IllTyped {
-                fault: TypeFault::Mismatch,
-                from: 0,
-                to: 4,
-            },
-            b"no 30 mismatch 0 4\n",
+            Refusal::Program(ProgramRefusal::NoTerm { token: 1 }),
+            b"no 21 1\n",
         ),
         (
-            Refusal::IllTyped {
-                fault: TypeFault::NotGround,
-                from: 0,
-                to: 4,
-            },
-            b"no 30 notground 0 4\n",
+            Refusal::Program(ProgramRefusal::TooNested { depth: 65 }),
+            b"no 22 65\n",
+        ),
+        (ill_typed(TypeFault::Unbound), b"no 30 unbound 0 4\n"),
+        (ill_typed(TypeFault::Mismatch), b"no 30 mismatch 0 4\n"),
+        (ill_typed(TypeFault::NotGround), b"no 30 notground 0 4\n"),
+        (ill_typed(TypeFault::NotFlat), b"no 30 notflat 0 4\n"),
+        (too_sensitive(half), b"no 31 1 9 3/2\n"),
+        (too_sensitive(Sens::whole(2)), b"no 31 1 9 2\n"),
+        (too_sensitive(Sens::Inf), b"no 31 1 9 inf\n"),
+        (
+            Refusal::Program(ProgramRefusal::OutOfRange { from: 0, to: 14 }),
+            b"no 32 0 14\n",
+        ),
+        (Refusal::Program(ProgramRefusal::NoNumber), b"no 34\n"),
+        (
+            Refusal::Program(ProgramRefusal::Unread { from: 0, to: 0 }),
+            b"no 39 0 0\n",
         ),
         (
-            Refusal::IllTyped {
-                fault: TypeFault::NotFlat,
-                from: 0,
-                to: 4,
-            },
-            b"no 30 notflat 0 4\n",
-        ),
-        (
-            Refusal::TooSensitive {
-                from: 1,
-                to: 9,
-                r: third,
-            },
-            b"no 31 1 9 3/2\n",
-        ),
-        (
-            Refusal::TooSensitive {
-                from: 1,
-                to: 9,
-                r: Sensitivity::Finite { p: 2, q: 1 },
-            },
-            b"no 31 1 9 2\n",
-        ),
-        (
-            Refusal::TooSensitive {
-                from: 1,
-                to: 9,
-                r: Sensitivity::Infinite,
-            },
-            b"no 31 1 9 inf\n",
-        ),
-        (Refusal::OutOfRange { from: 0, to: 14 }, b"no 32 0 14\n"),
-        (Refusal::NoNumber, b"no 34\n"),
-        (Refusal::Unread { from: 0, to: 0 }, b"no 39 0 0\n"),
-        (
-            Refusal::OverBudget {
+            Refusal::Money(MoneyRefusal::OverBudget {
                 spent: 1,
                 after: 3,
                 budget: 2,
                 seen: 4,
-            },
+            }),
             b"no 40 1 3 2 4\n",
         ),
         (
-            Refusal::JournalFull {
+            Refusal::Money(MoneyRefusal::JournalFull {
                 used: 100,
                 open: 0,
                 capacity: 100,
-            },
+            }),
             b"no 41 100 0 100\n",
         ),
-        (Refusal::Exhausted { number: 7 }, b"no 50 7\n"),
-        (Refusal::Lost { number: 8 }, b"no 51 8\n"),
+        (
+            Refusal::Number(NumberRefusal::Exhausted { number: 7 }),
+            b"no 50 7\n",
+        ),
+        (
+            Refusal::Number(NumberRefusal::Lost { number: 8 }),
+            b"no 51 8\n",
+        ),
         (Refusal::NoMemory, b"no 90\n"),
     ];
     for (refusal, want) in rows {

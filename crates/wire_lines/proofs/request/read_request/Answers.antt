@@ -1,5 +1,5 @@
 use Rattle.std.proofs.Common.{◌∙◌}
-use Rattle.wire_lines.proofs.Requests.{result_found, result_epsilon, result_malformed, result_long, grammar_to}
+use Rattle.wire_lines.proofs.Requests.{result_found, result_epsilon, result_malformed, result_form, result_long, grammar_to}
 use Rattle.wire_lines.proofs.request.read_request.Goals as goal
 
 pub returns-clause-epsilon : goal.returns-clause-epsilon
@@ -16,3 +16,6 @@ returns-clause-malformed c = result_malformed c.args.line.now c.read_line.result
 
 pub returns-clause-long : goal.returns-clause-long
 returns-clause-long c = result_long c.args.line.now c.read_line.result c.read_line.ensures
+
+pub returns-clause-form : goal.returns-clause-form
+returns-clause-form c = result_form c.args.line.now c.read_line.result c.read_line.ensures
