@@ -7,7 +7,7 @@ use Rattle.fz_frac.proofs.Laws.{den_of, den_pos, ⊑-refl, ◌⨾◌, ◌⊗◌}
 use Rattle.fz_frac.proofs.Lowest.{lowest as lowest_parts}
 use Rattle.fz_ast.specs.Limits.{TermLimits}
 use Rattle.fz_ast.specs.Signature.{Signature}
-use Rattle.fz_ast.specs.Spanned.{Spanned, erase}
+use Rattle.fz_ast.specs.Terms.{Term}
 use Rattle.fz_parser.proofs.Limits.{term_limits}
 use Rattle.linear_types.specs.Program.{Answer, Accepted, Rejected, sensitivity_of}
 use Rattle.linear_types.specs.Sensitivities.{Sensitivities}
@@ -18,7 +18,7 @@ use Rattle.metric_law.proofs.Programs.{program_bound, program_value}
 use Rattle.metric_law.proofs.Unique.{same_value}
 use Rattle.answer_path.specs.Reading.{read, IsReading}
 use Rattle.answer_path.specs.Judgement.{accepted, checked_of, judged_by, HasValue}
-use Rattle.answer_path.specs.Laws.{OneValue, ProgramsAreBounded, ProgramsHaveValues}
+use Rattle.answer_path.specs.Laws.{OneValue, AcceptedAreBounded, AcceptedHaveValues}
 use Rattle.answer_path.proofs.Readings.{one_reading}
 
 -- lowest terms are the same number
@@ -35,7 +35,7 @@ lowest_most (Fin p q) =
 lowest_most Inf = ⊑-refl Inf
 
 -- what it is to be accepted
-pub accepted_is : (ts : Signature) (e t : Spanned) (r : Distance) → checked_of ts (read e) ≡ accepted t r → (D : Sensitivities) × (s : Distance) × (sensitivity_of ts e ≡ Accepted D s) × (t ≡ e) × (r ≡ lowest s)
+pub accepted_is : (ts : Signature) (e t : Term) (r : Distance) → checked_of ts (read e) ≡ accepted t r → (D : Sensitivities) × (s : Distance) × (sensitivity_of ts e ≡ Accepted D s) × (t ≡ e) × (r ≡ lowest s)
 unfolding checked_of
 accepted_is ts e t r h = go (sensitivity_of ts e) refl h
   where
@@ -44,33 +44,33 @@ accepted_is ts e t r h = go (sensitivity_of ts e) refl h
     go (Rejected f) q k = absurd (cc k)
 
 -- what is read keeps the limits
-pub read_limits : (w : List ℕ) (e : Spanned) → IsReading w (read e) → TermLimits (erase e)
+pub read_limits : (w : List ℕ) (e : Term) → IsReading w (read e) → TermLimits e
 unfolding IsReading
 read_limits w e h = term_limits h.0 e h.2.term
 
-pub same_term : (w : List ℕ) (e d : Spanned) → IsReading w (read e) → IsReading w (read d) → e ≡ d
+pub same_term : (w : List ℕ) (e d : Term) → IsReading w (read e) → IsReading w (read d) → e ≡ d
 same_term w e d h k = cc (one_reading w (read e) (read d) h k)
 
-pub programs_have_values : ProgramsHaveValues
+pub accepted_have_values : AcceptedHaveValues
 unfolding HasValue
-programs_have_values ts w e t r s h a X x =
+accepted_have_values ts w e t r s h a X x =
     let b = accepted_is ts e t r a in
     let v = program_value ts e b.0 b.1 s (read_limits w e h) b.2 X x in
     (v.0, (e, h, v.1), v.2)
 
 -- the value of the reading's term
-pub value_of_reading : (ts : Signature) (X : _) (w : List ℕ) (e : Spanned) (z : ℤ) → IsReading w (read e) → HasValue ts X w z → Means (rows_of ts X) (erase e) (NumV z)
+pub value_of_reading : (ts : Signature) (X : _) (w : List ℕ) (e : Term) (z : ℤ) → IsReading w (read e) → HasValue ts X w z → Means (rows_of ts X) e (NumV z)
 unfolding HasValue
-value_of_reading ts X w e z h v = subst (λ d. Means (rows_of ts X) (erase d) (NumV z)) (same_term w v.0 e v.1 h) v.2
+value_of_reading ts X w e z h v = subst (λ d. Means (rows_of ts X) d (NumV z)) (same_term w v.0 e v.1 h) v.2
 
 pub one_value : OneValue
 unfolding HasValue
 one_value ts X w y z h k =
     let m = value_of_reading ts X w h.0 z h.1 k in
-    cc (same_value h.2.0 m.0 (rows_of ts X) (erase h.0) (NumV y) (NumV z) h.2.1 m.1)
+    cc (same_value h.2.0 m.0 (rows_of ts X) (h.0) (NumV y) (NumV z) h.2.1 m.1)
 
-pub programs_are_bounded : ProgramsAreBounded
-programs_are_bounded ts w e t r s h a X Y j k y z m n =
+pub accepted_are_bounded : AcceptedAreBounded
+accepted_are_bounded ts w e t r s h a X Y j k y z m n =
     let b = accepted_is ts e t r a in
     let l = program_bound ts e b.0 b.1 s (read_limits w e h) b.2 X Y j k y z (value_of_reading ts X w e y h m) (value_of_reading ts Y w e z h n) in
     rw b.4 (l ⨾ (lowest_most b.1 ⊗ ⊑-refl _))

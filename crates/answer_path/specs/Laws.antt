@@ -1,25 +1,41 @@
 -- What is proved of readings and of judgements.
-use Rattle.std.specs.Prelude.{◌≡◌, ◌↔◌, ℕ, ℤ, pos, List, [], get_or, length}
+use Rattle.std.specs.Prelude.{◌≡◌, ◌↔◌, ◌⊎◌, ℕ, ℤ, pos, List, [], ◌++◌, get_or, length}
+use Rattle.budget_core.specs.declared.records.Record.{Record}
+use Rattle.budget_core.specs.declared.records.View.{View}
+use Rattle.budget_core.specs.Bare.{without_answers}
+use Rattle.budget_core.specs.Entries.{Entry}
 use Rattle.std.specs.Int.{int_min}
 use Rattle.fz_frac.specs.Distance.{Distance, Fin, mul, one, ◌⊑◌}
 use Rattle.fz_ast.specs.Limits.{IsNumber, limit}
 use Rattle.fz_ast.specs.Signature.{Signature, IsSignature}
-use Rattle.fz_ast.specs.Spanned.{Spanned}
+use Rattle.fz_ast.specs.Terms.{Term, at}
 use Rattle.metric_values.specs.Distances.{gap}
 use Rattle.metric_values.specs.Tables.{Dataset, apart}
-use Rattle.metric_law.specs.Law.{IsDataset}
-use Rattle.wire_lines.specs.Reply.{Replied}
+use Rattle.metric_values.specs.Tables.{IsDataset}
+use Rattle.wire_lines.specs.Refusal.{ProgramRefusal, by_number}
+use Rattle.wire_lines.specs.Reply.{Replied, refused}
+use Rattle.wire_lines.specs.declared.refusal.NumberRefusal.TheVariants.{Lost}
+use Rattle.answer_path.specs.Owner.{Owner}
+use Rattle.answer_path.specs.Query.{Query}
+use Rattle.answer_path.specs.Program.{IsCharged, HasValueIn}
+use Rattle.answer_path.specs.Verdict.{Verdict, IsVerdict}
+use Rattle.answer_path.specs.Answered.{Told, IsAsked, IsAnswered, IsUnanswered}
+use Rattle.answer_path.specs.Pass.{records_told}
 use Rattle.answer_path.specs.Reading.{Reading, read, IsReading}
-use Rattle.answer_path.specs.Judgement.{declined, accepted, checked_of, judgement_of, HasValue, IsSizeOf, IsDecline}
+use Rattle.answer_path.specs.Judgement.{refused_for, accepted, checked_of, judgement_of, HasValue, IsSizeOf}
 
 -- a program comes to one thing at most
 abbrev pub OneReading : Type 0
 OneReading = (w : List ℕ) (a b : Reading) → IsReading w a → IsReading w b → a ≡ b
 
+-- and to one thing at least
+abbrev pub EveryReading : Type 0
+EveryReading = (w : List ℕ) → (reading : Reading) × IsReading w reading
+
 -- an accepted program has a number within -M..M on each dataset
-abbrev pub ProgramsHaveValues : Type 0
-ProgramsHaveValues =
-    (ts : Signature) (w : List ℕ) (e t : Spanned) (r : Distance) → IsSignature ts → IsReading w (read e) → checked_of ts (read e) ≡ accepted t r
+abbrev pub AcceptedHaveValues : Type 0
+AcceptedHaveValues =
+    (ts : Signature) (w : List ℕ) (e t : Term) (r : Distance) → IsSignature ts → IsReading w (read e) → checked_of ts (read e) ≡ accepted t r
     → (X : Dataset) → IsDataset ts X → (z : ℤ) × HasValue ts X w z × IsNumber z
 
 -- a program has one number at most on a dataset
@@ -27,28 +43,55 @@ abbrev pub OneValue : Type 0
 OneValue = (ts : Signature) (X : Dataset) (w : List ℕ) (y z : ℤ) → HasValue ts X w y → HasValue ts X w z → y ≡ z
 
 -- an accepted program's numbers on two datasets differ by at most its sensitivity times how far the datasets are apart
-abbrev pub ProgramsAreBounded : Type 0
-ProgramsAreBounded =
-    (ts : Signature) (w : List ℕ) (e t : Spanned) (r : Distance) → IsSignature ts → IsReading w (read e) → checked_of ts (read e) ≡ accepted t r
+abbrev pub AcceptedAreBounded : Type 0
+AcceptedAreBounded =
+    (ts : Signature) (w : List ℕ) (e t : Term) (r : Distance) → IsSignature ts → IsReading w (read e) → checked_of ts (read e) ≡ accepted t r
     → (X Y : Dataset) → IsDataset ts X → IsDataset ts Y → (y z : ℤ) → HasValue ts X w y → HasValue ts Y w z
     → Fin (gap y z) 1 ⊑ mul r (Fin (apart X Y) 1)
 
 -- a program that is accepted where it is asked is the size of a table, and its sensitivity is 1
 abbrev pub AnswerableIsSize : Type 0
 AnswerableIsSize =
-    (ts : Signature) (e t : Spanned) (r : Distance) → judgement_of ts (read e) ≡ accepted t r
+    (ts : Signature) (e t : Term) (r : Distance) → judgement_of ts (read e) ≡ accepted t r
     → (t ≡ e) × (checked_of ts (read e) ≡ accepted e r) × (r ≡ one) × ((i : ℕ) × IsSizeOf ts e i)
 
 -- the value of the size of a table is how many rows it has, or M where that is less
 abbrev pub SizeIsRows : Type 0
 SizeIsRows =
-    (ts : Signature) (X : Dataset) (w : List ℕ) (e : Spanned) (i : ℕ) (z : ℤ) → IsDataset ts X → IsReading w (read e) → IsSizeOf ts e i
+    (ts : Signature) (X : Dataset) (w : List ℕ) (e : Term) (i : ℕ) (z : ℤ) → IsDataset ts X → IsReading w (read e) → IsSizeOf ts e i
     → HasValue ts X w z ↔ (z ≡ int_min limit (pos (length (get_or X i []))))
 
--- a program is declined by the codes 20 to 34 and 39 alone: never for want of memory
-abbrev pub DeclinesAreCodes : Type 0
-DeclinesAreCodes = (ts : Signature) (w : List ℕ) (reading : Reading) (reply : Replied) → IsReading w reading → judgement_of ts reading ≡ declined reply → IsDecline reply
+-- what the typing rules refuse is refused alike where it is asked
+abbrev pub RefusalsAreKept : Type 0
+RefusalsAreKept =
+    (ts : Signature) (reading : Reading) (refusal : ProgramRefusal) → checked_of ts reading ≡ refused_for refusal → judgement_of ts reading ≡ refused_for refusal
 
--- what the typing rules decline is declined alike where it is asked
-abbrev pub DeclinesAreKept : Type 0
-DeclinesAreKept = (ts : Signature) (reading : Reading) (reply : Replied) → checked_of ts reading ≡ declined reply → judgement_of ts reading ≡ declined reply
+-- a program that is accepted in a view has a value on each dataset of the tables, and only one
+abbrev pub ChargedHaveValues : Type 0
+ChargedHaveValues =
+    (tables : Signature) (rows : Dataset) (view : View) (program : List ℕ) (p q : ℕ) → IsSignature tables → IsDataset tables rows
+    → IsCharged tables view program p q → (z : ℤ) × HasValueIn tables rows view program z
+
+abbrev pub OneValueIn : Type 0
+OneValueIn =
+    (tables : Signature) (rows : Dataset) (view : View) (program : List ℕ) (y z : ℤ)
+    → HasValueIn tables rows view program y → HasValueIn tables rows view program z → y ≡ z
+
+-- a verdict is the same with every answer in the records set to 0; rows and noise it isn't given
+abbrev pub VerdictsSeeNoAnswers : Type 0
+VerdictsSeeNoAnswers =
+    (entry : Entry) (tables : Signature) (start : ℕ) (records : List Record) (query : Query) (verdict : Verdict)
+    → IsVerdict entry tables start (without_answers records) query verdict ↔ IsVerdict entry tables start records query verdict
+
+-- where no other line adds records, a line is answered on those that it saw, or memory ran out
+abbrev pub AloneIsAnswered : Type 0
+AloneIsAnswered =
+    (owner : Owner) (draws : ℕ → ℕ → ℕ) (start : ℕ) (query : Query) (seen : List Record) (reply : Replied) (told : List Told) (after : List Record)
+    → IsAsked owner draws start query seen reply told after → after ≡ seen ++ records_told told
+    → IsAnswered owner draws start seen query reply (records_told told) ⊎ IsUnanswered reply (records_told told)
+
+-- no reply to a query says that an answer was lost
+abbrev pub NoneIsLost : Type 0
+NoneIsLost =
+    (owner : Owner) (draws : ℕ → ℕ → ℕ) (start : ℕ) (query : Query) (seen : List Record) (reply : Replied) (told : List Told)
+    → (after : List Record) (n : ℕ) → IsAsked owner draws start query seen reply told after → reply ≡ refused (by_number (Lost n)) → ⊥

@@ -1,4 +1,11 @@
 pub mod Reading
 pub mod Judgement
+pub mod Owner
+pub mod Query
+pub mod Program
+pub mod Noise
+pub mod Verdict
+pub mod Answered
+pub mod Pass
 pub mod Code
 pub mod Laws

@@ -1,11 +1,22 @@
-//! One program, from its bytes to what an analyst is told of it.
+//! One query, from the bytes of its program to what an analyst is told of it.
 #![tactic(auto)]
 
+mod answer;
+mod dataset;
 mod laws;
+mod pass;
 pub mod program;
-mod replies;
+pub mod query;
+mod refusals;
 mod size;
 
-pub use laws::{answered_programs_are_sizes, programs_are_bounded, programs_are_read_in_one_way};
+pub use answer::ask;
+pub use dataset::Dataset;
+pub use laws::{
+    accepted_programs_have_values, answered_programs_are_sizes, lone_asks_are_answered,
+    no_answer_is_lost, programs_are_bounded, programs_are_read_in_one_way, verdicts_see_no_answers,
+};
+pub use pass::{Desk, Pass};
 pub use program::{Accepted, check_program};
+pub use query::Query;
 pub use size::{TableSize, judge_program};

@@ -1,16 +1,17 @@
-// The programs that are answered: the sizes of tables.
+//! The programs that are answered: the sizes of tables.
+
 ghost use Rattle.std.specs.Prelude.{◌≡◌, false, IfOk, IfErr, IfSome, None};
 ghost use Rattle.fz_ast.specs.Signature.{IsFresh};
-ghost use Rattle.fz_ast.specs.Spanned.{span_of};
-ghost use Rattle.wire_lines.specs.Reply.{replied};
+ghost use Rattle.fz_ast.specs.Terms.{Term, span_of};
+ghost use Rattle.wire_lines.specs.Refusal.{refusal_at};
 ghost use Rattle.answer_path.specs.Judgement.{AreNames, IsFirstNamed, IsSizeOf, is_size_of_table};
-ghost use Rattle.answer_path.specs.Code.{IsJudged, IsTurnedAway, part_of_size, name_of_form};
+ghost use Rattle.answer_path.specs.Code.{IsAnswerable, IsAskRefusal, part_of_size, name_of_form};
 
 use crate::program::check_program;
 use fz_ast::{Form, Name, Sig, Span, Term, Unary};
 use fz_frac::Sens;
 use std::alloc::Global;
-use wire_lines::{Refusal, Reply};
+use wire_lines::{ProgramRefusal, Refusal};
 
 /// A program that is the size of a table: the table's number in the signature, and the program's sensitivity.
 #[derive(Clone, Copy, Debug, PartialEq, Eq)]
@@ -72,15 +73,19 @@ fn span_of(term: &Term) -> Span
 ///
 /// # Errors
 ///
-/// The reply that refuses it, by the codes 20, 21, 22, 30 to 34 and 39; or 90 where memory ran out.
-pub fn judge_program<'s>(alloc: Global, sig: &'s Sig, bytes: &[u8]) -> Result<TableSize, Reply<'s>>
+/// What it is refused for, by the codes 20, 21, 22, 30 to 34 and 39; or that memory ran out.
+pub fn judge_program<'s>(
+    alloc: Global,
+    sig: &'s Sig,
+    bytes: &[u8],
+) -> Result<TableSize, Refusal<'s>>
     requires { AreNames sig.now }
-    ensures judged { IfOk result (IsJudged sig.now bytes.now) }
-    ensures declined { IfErr result (λ reply. IsTurnedAway sig.now bytes.now (replied reply)) }
+    ensures answerable { IfOk result (IsAnswerable sig.now bytes.now) }
+    ensures refused { IfErr result (λ refusal. IsAskRefusal sig.now bytes.now (refusal_at refusal)) }
 {
     let accepted = match check_program(alloc, sig, bytes) {
         Ok(accepted) => accepted,
-        Err(reply) => return Err(reply),
+        Err(refusal) => return Err(refusal),
     };
     match size_of(sig, &accepted.term) {
         Some(table) => {
@@ -91,7 +96,7 @@ pub fn judge_program<'s>(alloc: Global, sig: &'s Sig, bytes: &[u8]) -> Result<Ta
         }
         None => {
             let span = span_of(&accepted.term);
-            Err(Reply::Refused(Refusal::Unread {
+            Err(Refusal::Program(ProgramRefusal::Unread {
                 from: span.from,
                 to: span.to,
             }))

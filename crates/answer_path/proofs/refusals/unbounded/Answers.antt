@@ -2,7 +2,7 @@ use Rattle.std.proofs.Common.{sym, subst}
 use Rattle.std.specs.Prelude.{IsTrue}
 use Rattle.wire_lines.specs.Name.{is_name}
 use Rattle.answer_path.proofs.Told.{named}
-use Rattle.answer_path.proofs.replies.unbounded.Goals as goal
+use Rattle.answer_path.proofs.refusals.unbounded.Goals as goal
 
 pub invariant_of-name : goal.invariant_of-name
 invariant_of-name c =

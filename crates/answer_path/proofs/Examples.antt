@@ -1,0 +1,300 @@
+-- The definitions, computed on small inputs.
+use Rattle.std.proofs.Common.{◌≡◌, ℕ, ◌≤◌, arith, List, [], ◌∷◌, ◌++◌, Some, None, codes, refl, sym, ◌∙◌, ap, pos, negsuc, inl, inr}
+use Rattle.budget_core.specs.declared.records.View.TheVariants.{Whole}
+use Rattle.budget_core.specs.declared.records.Outcome.TheVariants.{Answered, Exhausted, Lost}
+use Rattle.budget_core.specs.declared.records.Record.{Record}
+use Rattle.budget_core.specs.declared.records.Record.TheVariants.{Reserve, Settle}
+use Rattle.budget_core.specs.declared.entry.Ask.{Ask}
+use Rattle.budget_core.specs.declared.entry.Grant.{Grant}
+use Rattle.budget_core.specs.declared.entry.ReserveFault.TheVariants.{OverBudget, Full}
+use Rattle.budget_core.specs.Cost.{cost_of, partition_cost}
+use Rattle.fz_frac.specs.Distance.{Fin, Inf}
+use Rattle.fz_frac.specs.Lowest.{gcd, gcd_in}
+use Rattle.fz_ast.specs.Signature.{TableType, row_of}
+use Rattle.fz_ast.specs.Terms.{NumE, VarE, at}
+use Rattle.fz_ast.specs.Types.{NumT, TextT}
+use Rattle.fz_outside.specs.Draws.{first_draws, padded}
+use Rattle.discrete_laplace.specs.DiscreteLaplace.{draw_limit}
+use Rattle.discrete_laplace.specs.Noise.{noise_of}
+use Rattle.discrete_laplace.specs.Readers.{read_sample, read_attempt, read_geometric, read_bernoulli_exp, read_run, read_bernoulli, read_uniform}
+use Rattle.discrete_laplace.proofs.Fewer.{noise_of_first}
+use Rattle.linear_types.specs.Inferred as rules
+use Rattle.metric_values.specs.Values.{Flat, NumF}
+use Rattle.wire_lines.specs.Reply.{answered, refused}
+use Rattle.wire_lines.specs.Refusal.{by_number, no_memory, no_token, no_term, too_nested, ill_typed, too_sensitive, out_of_range, unbounded, no_number, unread}
+use Rattle.wire_lines.specs.declared.refusal.MoneyRefusal.TheVariants.{OverBudget as NoBudget, JournalFull}
+use Rattle.wire_lines.specs.declared.refusal.NumberRefusal.TheVariants.{Exhausted as NoNoise, Lost as NoAnswer}
+use Rattle.wire_lines.specs.declared.refusal.TypeFault.TheVariants.{Unbound, Mismatch, NotGround, NotFlat}
+use Rattle.answer_path.specs.Reading.{unlexed, stuck, nested, read}
+use Rattle.answer_path.specs.Judgement.{refused_for, accepted, fault_refusal, checked_of, judgement_of, IsFirstNamed, IsSizeOf, HasValue}
+use Rattle.answer_path.specs.Owner.{Owner, Holding, rows_held}
+use Rattle.answer_path.specs.Query.{Query}
+use Rattle.answer_path.specs.Program.{IsCharged, HasValueIn}
+use Rattle.answer_path.specs.Noise.{scale_numerator, scale_denominator, noise_at}
+use Rattle.answer_path.specs.Verdict.{program_refused, money_refused, granted, ask_for, money_refusal, IsVerdict}
+use Rattle.answer_path.specs.Answered.{settled_by, outcome_reply, grant_records, IsAsked}
+use Rattle.answer_path.specs.Pass.{first_of_run, told_behind, records_told}
+use Rattle.answer_path.proofs.Answering.{IsAcceptedAt, money_says, noise_is}
+use Rattle.answer_path.proofs.Scales.{scale_is}
+use Rattle.answer_path.proofs.SizePeople.{size_people, size_term, size_reads, span}
+
+-- two tables, of numbers and of texts
+abbrev people : TableType
+people = record { name = codes "people"; row = row_of NumT [] }
+
+abbrev words : TableType
+words = record { name = codes "words"; row = row_of TextT [] }
+
+-- What each fault of the typing rules is told by.
+unbound_is : fault_refusal (rules.Unbound (span 3 9)) ≡ ill_typed Unbound 3 9
+unbound_is = refl
+
+mismatch_is : fault_refusal (rules.Mismatch (span 0 4) NumT rules.ABag) ≡ ill_typed Mismatch 0 4
+mismatch_is = refl
+
+notground_is : fault_refusal (rules.NotGround (span 1 2)) ≡ ill_typed NotGround 1 2
+notground_is = refl
+
+notflat_is : fault_refusal (rules.NotFlat (span 1 2)) ≡ ill_typed NotFlat 1 2
+notflat_is = refl
+
+too_sensitive_is : fault_refusal (rules.TooSensitive (span 7 12) (codes "x") (Fin 6 4)) ≡ too_sensitive 7 12 (Fin 3 2)
+unfolding gcd gcd_in
+too_sensitive_is = refl
+
+endless_is : fault_refusal (rules.TooSensitive (span 7 12) (codes "x") Inf) ≡ too_sensitive 7 12 Inf
+endless_is = refl
+
+range_is : fault_refusal (rules.Range (span 0 14)) ≡ out_of_range 0 14
+range_is = refl
+
+unbounded_is : fault_refusal (rules.Unbounded (codes "people")) ≡ unbounded (codes "people")
+unbounded_is = refl
+
+no_number_is : fault_refusal (rules.NotNum TextT) ≡ no_number
+no_number_is = refl
+
+-- What a program comes to.
+unlexed_is : checked_of [] (unlexed 12) ≡ refused_for (no_token 12)
+unfolding checked_of
+unlexed_is = refl
+
+stuck_is : checked_of [] (stuck 3) ≡ refused_for (no_term 3)
+unfolding checked_of
+stuck_is = refl
+
+nested_is : checked_of [] (nested 65) ≡ refused_for (too_nested 65)
+unfolding checked_of
+nested_is = refl
+
+size_checked : checked_of (people ∷ []) (read size_term) ≡ accepted size_term (Fin 1 1)
+unfolding checked_of gcd gcd_in
+size_checked = refl
+
+-- it is answered where it is asked, and a number isn't yet
+size_judged : judgement_of (people ∷ []) (read size_term) ≡ accepted size_term (Fin 1 1)
+unfolding checked_of gcd gcd_in
+size_judged = refl
+
+number_checked : checked_of (people ∷ []) (read (at (span 0 1) (NumE (pos 1)))) ≡ accepted (at (span 0 1) (NumE (pos 1))) (Fin 0 1)
+unfolding checked_of gcd gcd_in
+number_checked = refl
+
+number_judged : judgement_of (people ∷ []) (read (at (span 0 1) (NumE (pos 1)))) ≡ refused_for (unread 0 1)
+unfolding checked_of gcd gcd_in
+number_judged = refl
+
+-- without its table the name is unbound, and a table alone is no number
+no_table : judgement_of (words ∷ []) (read size_term) ≡ refused_for (ill_typed Unbound 5 11)
+unfolding checked_of
+no_table = refl
+
+table_alone : judgement_of (people ∷ []) (read (at (span 0 6) (VarE (codes "people")))) ≡ refused_for no_number
+unfolding checked_of gcd gcd_in
+table_alone = refl
+
+-- the first table of the name
+second_table : IsSizeOf (words ∷ people ∷ people ∷ []) size_term 1
+second_table = record {
+  span = span 0 11;
+  name_span = span 5 11;
+  name = codes "people";
+  is = refl;
+  first = record { table = people; at = refl; named = refl; before = (refl, tt) };
+}
+
+not_the_later : IsFirstNamed (people ∷ people ∷ []) (codes "people") 1 → ⊥
+not_the_later h = cc (h.before.0)
+
+-- the value of the size is how many rows that table has
+abbrev holding : Holding
+holding = record { tables = people ∷ []; numbers = (pos 20 ∷ pos 30 ∷ pos 40 ∷ []) ∷ [] }
+
+abbrev rows : List Flat
+rows = NumF (pos 20) ∷ NumF (pos 30) ∷ NumF (pos 40) ∷ []
+
+rows_are : rows_held holding ≡ rows ∷ []
+rows_are = refl
+
+three_value : HasValueIn (people ∷ []) (rows ∷ []) Whole size_people (pos 3)
+unfolding HasValue
+three_value = (size_term, size_reads, (2, (rows, refl, refl)))
+
+-- The noise's scale is 10^6/e in lowest terms: at the greatest and least epsilon, at 1, and where parts have a common divisor.
+scale_at_one : (1 ≡ scale_numerator 1000000) × (1 ≡ scale_denominator 1000000)
+unfolding gcd gcd_in
+scale_at_one = scale_is 1 1 1000000 (record { least = omega arith; most = omega arith }) (omega arith) refl (record { le = record { le = omega arith }; ge = record { le = omega arith } })
+
+scale_at_half : (2 ≡ scale_numerator 500000) × (1 ≡ scale_denominator 500000)
+unfolding gcd gcd_in
+scale_at_half = scale_is 2 1 500000 (record { least = omega arith; most = omega arith }) (omega arith) refl (record { le = record { le = omega arith }; ge = record { le = omega arith } })
+
+scale_at_three_halves : (2 ≡ scale_numerator 1500000) × (3 ≡ scale_denominator 1500000)
+unfolding gcd gcd_in
+scale_at_three_halves = scale_is 2 3 1500000 (record { least = omega arith; most = omega arith }) (omega arith) refl (record { le = record { le = omega arith }; ge = record { le = omega arith } })
+
+scale_at_least : (1000000 ≡ scale_numerator 1) × (1 ≡ scale_denominator 1)
+unfolding gcd gcd_in
+scale_at_least = scale_is 1000000 1 1 (record { least = omega arith; most = omega arith }) (omega arith) refl (record { le = record { le = omega arith }; ge = record { le = omega arith } })
+
+scale_at_greatest : (1 ≡ scale_numerator 1000000000) × (1000 ≡ scale_denominator 1000000000)
+unfolding gcd gcd_in
+scale_at_greatest = scale_is 1 1000 1000000000 (record { least = omega arith; most = omega arith }) (omega arith) refl (record { le = record { le = omega arith }; ge = record { le = omega arith } })
+
+-- draws of one of exp(-1) and a negative sign: at epsilon 1 their noise is -1
+abbrev draws_of_minus_one : ℕ → ℕ
+draws_of_minus_one = padded (0 ∷ 0 ∷ 0 ∷ 0 ∷ 1 ∷ 0 ∷ 1 ∷ 0 ∷ [])
+
+in_front : noise_of 1 1 (first_draws 8 draws_of_minus_one) ≡ Some (negsuc 0)
+unfolding noise_of draw_limit read_sample read_attempt read_geometric read_bernoulli_exp read_run read_bernoulli read_uniform
+in_front = refl
+
+within_limit : 8 ≤ draw_limit
+unfolding draw_limit
+within_limit = omega arith
+
+pub minus_one : noise_at 1000000 draws_of_minus_one ≡ Some (negsuc 0)
+minus_one =
+    noise_is 1000000 1 1 draws_of_minus_one draws_of_minus_one scale_at_one.0 scale_at_one.1 refl
+    ∙ (noise_of_first 1 1 8 draws_of_minus_one (negsuc 0) within_limit in_front).0
+
+-- How a reservation is settled, and what is said of it.
+answer_settles : settled_by (pos 3) (Some (negsuc 0)) ≡ Answered (pos 2)
+answer_settles = refl
+
+below_zero : settled_by (pos 0) (Some (negsuc 4)) ≡ Answered (negsuc 4)
+below_zero = refl
+
+no_noise_settles : settled_by (pos 3) None ≡ Exhausted
+no_noise_settles = refl
+
+abbrev a_grant : (number taken seen : ℕ) → Grant
+a_grant number taken seen = record { number = number; taken = taken; seen = seen }
+
+answer_is : outcome_reply (a_grant 4 7 9) (Answered (negsuc 0)) ≡ answered 4 (negsuc 0) 7
+answer_is = refl
+
+exhausted_is : outcome_reply (a_grant 4 7 9) Exhausted ≡ refused (by_number (NoNoise 4))
+exhausted_is = refl
+
+lost_is : outcome_reply (a_grant 4 7 9) Lost ≡ refused (by_number (NoAnswer 4))
+lost_is = refl
+
+-- an ask carries the query's analyst, view and epsilon, and a reservation the ask's
+abbrev a_query : List ℕ → Query
+a_query program = record { owner = 2; analyst = 5; view = Whole; e = 1000000; program = program }
+
+abbrev an_ask : Ask
+an_ask = record { analyst = 5; view = Whole; e = 1000000; p = 1; q = 1 }
+
+ask_is : ask_for (a_query size_people) 1 1 ≡ an_ask
+ask_is = refl
+
+abbrev reserved : ℕ → Record
+reserved number = Reserve (record { number = number; view = Whole; e = 1000000; p = 1; q = 1; taken = 1000000; analyst = 5 })
+
+records_are : grant_records an_ask (a_grant 4 1000000 9) Exhausted ≡ reserved 4 ∷ Settle 4 Exhausted ∷ []
+records_are = refl
+
+-- Verdicts: the budget is asked after the program, and then the journal's room.
+over_is : money_refusal (OverBudget 1 2 3 4) ≡ NoBudget 1 2 3 4
+over_is = refl
+
+full_is : money_refusal (Full 1 2 3) ≡ JournalFull 1 2 3
+full_is = refl
+
+abbrev owner : (budget capacity : ℕ) → Owner
+owner budget capacity = record {
+  name = codes "census";
+  entry = record { budget = budget; capacity = capacity; analysts = 6; keys = [] };
+  tables = people ∷ [];
+  rows = rows ∷ [];
+}
+
+size_accepted : IsAcceptedAt (people ∷ []) size_people 1 1
+size_accepted = (size_term, size_reads, size_judged)
+
+charged : IsCharged (people ∷ []) Whole size_people 1 1
+charged = (size_term, size_reads, size_checked)
+
+just_enough : IsVerdict (owner 1000000 2).entry (people ∷ []) 0 [] (a_query size_people) (granted an_ask (a_grant 0 1000000 1))
+unfolding cost_of partition_cost
+just_enough = money_says (owner 1000000 2) 0 [] (a_query size_people) 1 1 _ size_accepted refl
+
+over_budget : IsVerdict (owner 999999 2).entry (people ∷ []) 0 [] (a_query size_people) (money_refused (NoBudget 0 1000000 999999 0))
+unfolding cost_of partition_cost
+over_budget = money_says (owner 999999 2) 0 [] (a_query size_people) 1 1 _ size_accepted refl
+
+no_room : IsVerdict (owner 2000000 3).entry (people ∷ []) 0 (reserved 0 ∷ Settle 0 Exhausted ∷ []) (a_query size_people) (money_refused (JournalFull 2 0 3))
+unfolding cost_of partition_cost
+no_room = money_says (owner 2000000 3) 0 (reserved 0 ∷ Settle 0 Exhausted ∷ []) (a_query size_people) 1 1 _ size_accepted refl
+
+-- A line that saw nothing, where another line reserved and settled before it, and a third reserves meanwhile.
+abbrev before : List Record
+before = reserved 0 ∷ Settle 0 Exhausted ∷ []
+
+abbrev meanwhile : List Record
+meanwhile = before ++ reserved 1 ∷ reserved 2 ∷ []
+
+asked_among_others : IsAsked (owner 9000000 100) (λ number. draws_of_minus_one) 0 (a_query size_people) [] (answered 1 (pos 2) 1000000)
+    ((2, reserved 1) ∷ (4, Settle 1 (Answered (pos 2))) ∷ []) (meanwhile ++ Settle 1 (Answered (pos 2)) ∷ [])
+unfolding IsAsked cost_of partition_cost
+asked_among_others = (
+  before,
+  (before, refl),
+  inl (
+    granted an_ask (a_grant 1 1000000 3),
+    money_says (owner 9000000 100) 0 before (a_query size_people) 1 1 _ size_accepted refl,
+    record {
+      outcome = Answered (pos 2);
+      u = meanwhile;
+      settled = (pos 3, three_value, ap (settled_by (pos 3)) (sym minus_one));
+      reserved = (reserved 2 ∷ [], refl);
+      reply_is = refl;
+      told_is = refl;
+      after_is = refl;
+    },
+  ),
+)
+
+-- memory may run out, and nothing is added then; nor may records that were seen be gone
+asked_without_memory : IsAsked (owner 9000000 100) (λ number. draws_of_minus_one) 0 (a_query []) before (refused no_memory) [] before
+unfolding IsAsked
+asked_without_memory = (before, ([], refl), inr (refl, refl, refl))
+
+nothing_is_unseen : (draws : ℕ → ℕ → ℕ) (after : List Record) → IsAsked (owner 1000000 2) draws 0 (a_query []) before (refused no_memory) [] after → after ≡ [] → ⊥
+unfolding IsAsked
+nothing_is_unseen draws after (g, begins, inl (program_refused r, is, (said, none, rest))) gone = cc (said)
+nothing_is_unseen draws after (g, begins, inl (money_refused r, is, (said, none, rest))) gone = cc (said)
+nothing_is_unseen draws after (g, begins, inl (granted asking grant, is, two)) gone = cc (two.told_is)
+nothing_is_unseen draws after (g, begins, inr (said, none, rest)) gone = cc (begins.1, rest, gone)
+
+-- What a pass shows: its own records have their places behind those found.
+told_is : told_behind (reserved 0 ∷ []) (reserved 0 ∷ reserved 1 ∷ Settle 1 Lost ∷ []) ≡ (1, reserved 1) ∷ (2, Settle 1 Lost) ∷ []
+told_is = refl
+
+told_records : records_told ((1, reserved 1) ∷ (4, Settle 1 Lost) ∷ []) ≡ reserved 1 ∷ Settle 1 Lost ∷ []
+told_records = refl
+
+run_begins : first_of_run (record { entry = (owner 1 2).entry; found = reserved 0 ∷ Settle 0 Lost ∷ reserved 1 ∷ []; seen = []; own = [] }) ≡ 2
+run_begins = refl

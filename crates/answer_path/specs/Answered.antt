@@ -1,0 +1,95 @@
+-- the reply to a query, and the records that it adds
+use Rattle.std.specs.Prelude.{◌≡◌, ℕ, ℤ, ◌+ℤ◌, List, [], ◌∷◌, ◌++◌, length, Option, Some, None, ◌⊎◌}
+use mathlib.Core.List.{IsPrefix}
+use Rattle.budget_core.specs.declared.records.Outcome.{Outcome}
+use Rattle.budget_core.specs.declared.records.Outcome.TheVariants.{Answered, Exhausted, Lost}
+use Rattle.budget_core.specs.declared.records.Record.{Record}
+use Rattle.budget_core.specs.declared.records.Record.TheVariants.{Reserve, Settle}
+use Rattle.budget_core.specs.declared.entry.Ask.{Ask}
+use Rattle.budget_core.specs.declared.entry.Grant.{Grant}
+use Rattle.budget_core.specs.Ledger.{reservation_numbered}
+use Rattle.wire_lines.specs.Reply.{Replied, answered, refused}
+use Rattle.wire_lines.specs.Refusal.{Refusal, by_program, by_money, by_number, no_memory}
+use Rattle.wire_lines.specs.declared.refusal.NumberRefusal.TheVariants.{Exhausted as NoNoise, Lost as NoAnswer}
+use Rattle.answer_path.specs.Owner.{Owner}
+use Rattle.answer_path.specs.Query.{Query}
+use Rattle.answer_path.specs.Program.{HasValueIn}
+use Rattle.answer_path.specs.Noise.{noise_at}
+use Rattle.answer_path.specs.Verdict.{Verdict, program_refused, money_refused, granted, IsVerdict}
+
+-- how a reservation is settled, by its program's value and its noise
+abbrev pub settled_by : ℤ → Option ℤ → Outcome
+settled_by value (Some noise) = Answered (value +ℤ noise)
+settled_by value None = Exhausted
+
+-- this owner's reservation of this number is settled so; the owner's numbers have these draws
+abbrev pub IsSettledBy : Owner → (ℕ → ℕ → ℕ) → Query → ℕ → Outcome → Type 0
+IsSettledBy owner draws query number outcome =
+    (value : ℤ) × HasValueIn owner.tables owner.rows query.view query.program value
+    × (outcome ≡ settled_by value (noise_at query.e (draws number)))
+
+abbrev pub outcome_reply : Grant → Outcome → Replied
+outcome_reply grant (Answered value) = answered grant.number value grant.taken
+outcome_reply grant Exhausted = refused (by_number (NoNoise grant.number))
+outcome_reply grant Lost = refused (by_number (NoAnswer grant.number))
+
+-- the reservation that was granted
+abbrev pub granted_record : Ask → Grant → Record
+granted_record asking grant = Reserve (reservation_numbered grant.number asking grant.taken)
+
+-- A grant adds its reservation and its settlement.
+abbrev pub grant_records : Ask → Grant → Outcome → List Record
+grant_records asking grant outcome = granted_record asking grant ∷ Settle grant.number outcome ∷ []
+
+abbrev pub IsAnsweredBy : Owner → (ℕ → ℕ → ℕ) → Query → Verdict → Replied → (added : List Record) → Type 0
+IsAnsweredBy owner draws query (program_refused refusal) reply added = (reply ≡ refused (by_program refusal)) × (added ≡ [])
+IsAnsweredBy owner draws query (money_refused refusal) reply added = (reply ≡ refused (by_money refusal)) × (added ≡ [])
+IsAnsweredBy owner draws query (granted asking grant) reply added =
+    (outcome : Outcome) × IsSettledBy owner draws query grant.number outcome
+    × (reply ≡ outcome_reply grant outcome) × (added ≡ grant_records asking grant outcome)
+
+-- What is said to a query of an owner, and the records that it adds where no other line adds any, where the owner has
+-- these records and those before start were found.
+unfoldable pub IsAnswered : Owner → (ℕ → ℕ → ℕ) → (start : ℕ) → List Record → Query → Replied → (added : List Record) → Type 0
+IsAnswered owner draws start records query reply added =
+    (verdict : Verdict) × IsVerdict owner.entry owner.tables start records query verdict
+    × IsAnsweredBy owner draws query verdict reply added
+
+-- memory ran out before a reservation
+abbrev pub IsUnanswered : Replied → (added : List Record) → Type 0
+IsUnanswered reply added = (reply ≡ refused no_memory) × (added ≡ [])
+
+-- A record that a line added, with its position.
+abbrev pub Told : Type 0
+Told = ℕ × Record
+
+-- a refusal adds nothing to these records
+abbrev pub AddsNothing : List Record → Refusal → Replied → (told : List Told) → (after : List Record) → Type 0
+AddsNothing g refusal reply told after = (reply ≡ refused refusal) × (told ≡ []) × (after ≡ g)
+
+-- A grant adds its reservation to the records g, and its settlement to some records u that are there by then.
+pub record AddsTwo (owner : Owner) (draws : ℕ → ℕ → ℕ) (query : Query) (asking : Ask) (grant : Grant) (g : List Record) (reply : Replied)
+    (told : List Told) (after : List Record) : Type 0 where
+  pub outcome : Outcome
+  pub u : List Record
+  pub settled : IsSettledBy owner draws query grant.number outcome
+  pub reserved : IsPrefix (g ++ granted_record asking grant ∷ []) u
+  pub reply_is : reply ≡ outcome_reply grant outcome
+  pub told_is : told ≡ (length g, granted_record asking grant) ∷ (length u, Settle grant.number outcome) ∷ []
+  pub after_is : after ≡ u ++ Settle grant.number outcome ∷ []
+
+abbrev pub IsAskedBy :
+    Owner → (ℕ → ℕ → ℕ) → Query → Verdict → List Record → Replied → (told : List Told) → (after : List Record) → Type 0
+IsAskedBy owner draws query (program_refused refusal) g reply told after = AddsNothing g (by_program refusal) reply told after
+IsAskedBy owner draws query (money_refused refusal) g reply told after = AddsNothing g (by_money refusal) reply told after
+IsAskedBy owner draws query (granted asking grant) g reply told after = AddsTwo owner draws query asking grant g reply told after
+
+-- What is said to a query where its line saw these of the owner's records, what the line added, with positions, and the
+-- records after it: by the verdict on some records g that begin with those seen, or memory ran out before a reservation.
+-- Other lines may add records before g, between the two of a grant, and later.
+unfoldable pub IsAsked :
+    Owner → (ℕ → ℕ → ℕ) → (start : ℕ) → Query → (seen : List Record) → Replied → (told : List Told) → (after : List Record) → Type 0
+IsAsked owner draws start query seen reply told after =
+    (g : List Record) × IsPrefix seen g
+    × (((verdict : Verdict) × IsVerdict owner.entry owner.tables start g query verdict × IsAskedBy owner draws query verdict g reply told after)
+    ⊎ AddsNothing g no_memory reply told after)

@@ -1,0 +1,11 @@
+-- what an analyst asks
+use Rattle.std.specs.Prelude.{ℕ, List}
+use Rattle.budget_core.specs.declared.records.View.{View}
+
+-- which owner, by its number, which analyst, in which view, at which epsilon in millionths, and which program
+pub record Query : Type 0 where
+  pub owner : ℕ
+  pub analyst : ℕ
+  pub view : View
+  pub e : ℕ
+  pub program : List ℕ

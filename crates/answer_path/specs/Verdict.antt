@@ -1,0 +1,47 @@
+-- the verdict on an ask: it sees no rows, no noise and no answer
+use Rattle.std.specs.Prelude.{◌≡◌, ℕ, List, Result, Ok, Err}
+use Rattle.budget_core.specs.declared.records.Record.{Record}
+use Rattle.budget_core.specs.Entries.{Entry}
+use Rattle.budget_core.specs.declared.entry.Ask.{Ask}
+use Rattle.budget_core.specs.declared.entry.Grant.{Grant}
+use Rattle.budget_core.specs.declared.entry.ReserveFault.{ReserveFault}
+use Rattle.budget_core.specs.declared.entry.ReserveFault.TheVariants.{OverBudget, Full}
+use Rattle.budget_core.specs.Ledger.{money_verdict}
+use Rattle.wire_lines.specs.Refusal.{ProgramRefusal}
+use Rattle.wire_lines.specs.declared.refusal.MoneyRefusal.{MoneyRefusal}
+use Rattle.wire_lines.specs.declared.refusal.MoneyRefusal.TheVariants.{OverBudget as NoBudget, JournalFull}
+use Rattle.fz_frac.specs.Distance.{Fin, Inf}
+use Rattle.fz_ast.specs.Signature.{Signature}
+use Rattle.answer_path.specs.Reading.{Reading, IsReading}
+use Rattle.answer_path.specs.Judgement.{Judgement, refused_for, accepted, judgement_of}
+use Rattle.answer_path.specs.Query.{Query}
+
+-- an ask is refused for its program, or by the budget, or is granted a reservation
+pub data Verdict : Type 0 where
+  program_refused : ProgramRefusal → Verdict
+  money_refused : MoneyRefusal → Verdict
+  granted : Ask → Grant → Verdict
+
+-- what a query of sensitivity p/q asks of the budget
+abbrev pub ask_for : Query → (p q : ℕ) → Ask
+ask_for query p q = record { analyst = query.analyst; view = query.view; e = query.e; p = p; q = q }
+
+abbrev pub money_refusal : ReserveFault → MoneyRefusal
+money_refusal (OverBudget spent after budget seen) = NoBudget spent after budget seen
+money_refusal (Full used unsettled capacity) = JournalFull used unsettled capacity
+
+abbrev pub verdict_by_money : Ask → Result Grant ReserveFault → Verdict
+verdict_by_money ask (Ok grant) = granted ask grant
+verdict_by_money ask (Err fault) = money_refused (money_refusal fault)
+
+-- The budget is asked with the sensitivity of an accepted program. It is finite, so the last case doesn't come.
+abbrev pub IsVerdictBy : Entry → (start : ℕ) → List Record → Query → Judgement → Verdict → Type 0
+IsVerdictBy entry start records query (refused_for refusal) verdict = verdict ≡ program_refused refusal
+IsVerdictBy entry start records query (accepted e (Fin p q)) verdict =
+    verdict ≡ verdict_by_money (ask_for query p q) (money_verdict entry start records (ask_for query p q))
+IsVerdictBy entry start records query (accepted e Inf) verdict = ⊥
+
+-- First the program is read and checked, then the budget is asked.
+unfoldable pub IsVerdict : Entry → Signature → (start : ℕ) → List Record → Query → Verdict → Type 0
+IsVerdict entry tables start records query verdict =
+    (reading : Reading) × IsReading query.program reading × IsVerdictBy entry start records query (judgement_of tables reading) verdict

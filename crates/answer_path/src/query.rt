@@ -1,0 +1,16 @@
+//! What an analyst asks.
+
+use budget_core::records::View;
+
+/// What an analyst asks of an owner. It borrows the line.
+#[derive(Clone, Copy, Debug)]
+pub struct Query<'a> {
+    /// The number of the owner.
+    pub owner: u32,
+    /// The number of the analyst.
+    pub analyst: u16,
+    pub view: View,
+    /// In millionths, 1 to 10^9.
+    pub epsilon: u32,
+    pub program: &'a [u8],
+}

@@ -1,0 +1,177 @@
+-- The definitions, computed on small records.
+use Rattle.std.proofs.Common.{◌≡◌, ℕ, List, [], ◌∷◌, Some, None, codes, refl, sym, ◌∙◌, ap, pos, negsuc, arith}
+use Rattle.std.specs.Prelude.{ℤ, ◌+ℤ◌}
+use Rattle.budget_core.specs.declared.records.View.TheVariants.{Whole}
+use Rattle.budget_core.specs.declared.records.Outcome.{Outcome}
+use Rattle.budget_core.specs.declared.records.Outcome.TheVariants.{Answered, Exhausted, Lost}
+use Rattle.budget_core.specs.declared.records.Reservation.{Reservation}
+use Rattle.budget_core.specs.declared.records.Record.{Record}
+use Rattle.budget_core.specs.declared.records.Record.TheVariants.{Reserve, Settle}
+use Rattle.fz_frac.specs.Lowest.{gcd, gcd_in}
+use Rattle.fz_ast.specs.Signature.{TableType, row_of}
+use Rattle.fz_ast.specs.Types.{NumT}
+use Rattle.metric_values.specs.Values.{NumF}
+use Rattle.metric_values.specs.Tables.{Dataset}
+use Rattle.wire_lines.specs.Reply.{greeted, answered, ended, refused}
+use Rattle.wire_lines.specs.Refusal.{by_line, by_program, by_money, by_number, no_memory, no_number}
+use Rattle.wire_lines.specs.declared.refusal.LineRefusal.TheVariants.{NoHello}
+use Rattle.wire_lines.specs.declared.refusal.MoneyRefusal.TheVariants.{JournalFull}
+use Rattle.wire_lines.specs.declared.refusal.NumberRefusal.TheVariants.{Exhausted as NoNoise, Lost as NoAnswer}
+use Rattle.answer_path.specs.Owner.{Owner}
+use Rattle.answer_path.specs.Query.{Query}
+use Rattle.answer_path.specs.Judgement.{checked_of, HasValue}
+use Rattle.answer_path.specs.Program.{IsCharged, HasValueIn}
+use Rattle.answer_path.specs.Noise.{noise_at}
+use Rattle.answer_path.proofs.Charged.{one_value_in}
+use Rattle.answer_path.proofs.SizePeople.{size_people, size_term, size_reads}
+use Rattle.owner_history.specs.Explains.{ExplainsOutcome, IsExplained, Explains}
+use Rattle.owner_history.specs.Shown.{IsShown}
+use Rattle.owner_history.specs.Granted.{settlement_in, IsGranted, IsBorneOut}
+
+abbrev people : TableType
+people = record { name = codes "people"; row = row_of NumT [] }
+
+-- an owner with three rows, and its rows without the first
+abbrev three : Owner
+three = record {
+  name = codes "census";
+  entry = record { budget = 10000000; capacity = 100; analysts = 2; keys = [] };
+  tables = people ∷ [];
+  rows = (NumF (pos 20) ∷ NumF (pos 30) ∷ NumF (pos 40) ∷ []) ∷ [];
+}
+
+abbrev two_rows : Dataset
+two_rows = (NumF (pos 30) ∷ NumF (pos 40) ∷ []) ∷ []
+
+size_charged : IsCharged (people ∷ []) Whole size_people 1 1
+unfolding checked_of gcd gcd_in
+size_charged = (size_term, size_reads, refl)
+
+three_value : HasValueIn (people ∷ []) three.rows Whole size_people (pos 3)
+unfolding HasValue
+three_value = (size_term, size_reads, (2, (NumF (pos 20) ∷ NumF (pos 30) ∷ NumF (pos 40) ∷ [], refl, refl)))
+
+two_value : HasValueIn (people ∷ []) two_rows Whole size_people (pos 2)
+unfolding HasValue
+two_value = (size_term, size_reads, (2, (NumF (pos 30) ∷ NumF (pos 40) ∷ [], refl, refl)))
+
+-- the size at epsilon 1, by the first analyst, and its answer: three rows and the noise -1
+abbrev reserved : Reservation
+reserved = record { number = 0; view = Whole; e = 1000000; p = 1; q = 1; taken = 1000000; analyst = 0 }
+
+abbrev settled_as : Outcome → List Record
+settled_as outcome = Reserve reserved ∷ Settle 0 outcome ∷ []
+
+explained_two : (draws : ℕ → ℕ) → noise_at 1000000 draws ≡ Some (negsuc 0) → IsExplained three draws reserved size_people (Some (Answered (pos 2)))
+explained_two draws noise = record { charged = size_charged; settled = record { value = pos 3; noise = negsuc 0; has_value = three_value; has_noise = noise; sum = refl } }
+
+-- another answer isn't explained, nor is a number exhausted that has noise
+not_three : (draws : ℕ → ℕ) → noise_at 1000000 draws ≡ Some (negsuc 0) → ExplainsOutcome three draws reserved size_people (Some (Answered (pos 3))) → ⊥
+not_three draws noise h =
+    let value : h.value ≡ pos 3 = one_value_in (people ∷ []) three.rows Whole size_people h.value (pos 3) h.has_value three_value in
+    let both : Some h.noise ≡ Some (negsuc 0) = sym h.has_noise ∙ noise in
+    let drawn : h.noise ≡ negsuc 0 = cc (both) in
+    let sum : pos 3 ≡ pos 2 = h.sum ∙ ap (λ (v : ℤ). v +ℤ h.noise) value ∙ ap (λ (k : ℤ). pos 3 +ℤ k) drawn in
+    cc (sum)
+
+not_exhausted : (draws : ℕ → ℕ) → noise_at 1000000 draws ≡ Some (negsuc 0) → ExplainsOutcome three draws reserved size_people (Some Exhausted) → ⊥
+not_exhausted draws noise none = let both : Some (negsuc 0) ≡ None = sym noise ∙ none in cc (both)
+
+-- where there is no noise a number is exhausted; nothing is asked of one that is open or lost
+exhausted_is : (draws : ℕ → ℕ) → noise_at 1000000 draws ≡ None → ExplainsOutcome three draws reserved size_people (Some Exhausted)
+exhausted_is draws none = none
+
+open_is : (draws : ℕ → ℕ) → ExplainsOutcome three draws reserved size_people None
+open_is draws = tt
+
+lost_is : (draws : ℕ → ℕ) → ExplainsOutcome three draws reserved size_people (Some Lost)
+lost_is draws = tt
+
+-- a reservation without a program isn't explained
+not_each : (draws : ℕ → ℕ → ℕ) → Explains three draws [] (settled_as (Answered (pos 2))) → ⊥
+not_each draws h = cc (h.each_has)
+
+-- one row less moves an answer at epsilon 1 by 1, in millionths; nothing is moved where nothing was answered
+shown_one : IsShown (people ∷ []) (size_people ∷ []) (settled_as (Answered (pos 2))) three.rows two_rows 1000000
+unfolding IsShown
+shown_one = (1000000, 0, (pos 3, pos 2, three_value, two_value, refl), refl, refl)
+
+shown_exhausted : IsShown (people ∷ []) (size_people ∷ []) (settled_as Exhausted) three.rows two_rows 0
+unfolding IsShown
+shown_exhausted = (0, 0, refl, refl, refl)
+
+shown_lost : IsShown (people ∷ []) (size_people ∷ []) (settled_as Lost) three.rows two_rows 0
+unfolding IsShown
+shown_lost = (0, 0, refl, refl, refl)
+
+shown_open : IsShown (people ∷ []) (size_people ∷ []) (Reserve reserved ∷ []) three.rows two_rows 0
+unfolding IsShown
+shown_open = (0, 0, refl, refl, refl)
+
+-- which replies speak of a reservation
+of_answer : settlement_in (answered 7 (pos 2) 1000000) ≡ Some (7, Answered (pos 2))
+of_answer = refl
+
+of_exhausted : settlement_in (refused (by_number (NoNoise 7))) ≡ Some (7, Exhausted)
+of_exhausted = refl
+
+of_lost : settlement_in (refused (by_number (NoAnswer 7))) ≡ Some (7, Lost)
+of_lost = refl
+
+of_greeting : settlement_in (greeted (codes "ann")) ≡ None
+of_greeting = refl
+
+of_end : settlement_in ended ≡ None
+of_end = refl
+
+of_line : settlement_in (refused (by_line NoHello)) ≡ None
+of_line = refl
+
+of_program : settlement_in (refused (by_program no_number)) ≡ None
+of_program = refl
+
+of_money : settlement_in (refused (by_money (JournalFull 2 0 3))) ≡ None
+of_money = refl
+
+of_memory : settlement_in (refused no_memory) ≡ None
+of_memory = refl
+
+-- a query, and what the records say of it
+abbrev query_by : (analyst e : ℕ) → Query
+query_by analyst e = record { owner = 0; analyst = analyst; view = Whole; e = e; program = size_people }
+
+granted_two : IsGranted (size_people ∷ []) (settled_as (Answered (pos 2))) (query_by 0 1000000) 0 (Answered (pos 2))
+granted_two = record { reserved = reserved; numbered = refl; analyst = refl; view = refl; epsilon = refl; settled = refl; program = refl }
+
+-- a refusal says nothing that the records must bear out
+quiet_out : IsBorneOut [] [] (query_by 0 1000000) (refused no_memory)
+quiet_out = λ n outcome said. absurd (cc (said))
+
+-- the records don't bear out another value, an exhausted number, another number, analyst, epsilon or program
+not_the_value : IsBorneOut (size_people ∷ []) (settled_as (Answered (pos 2))) (query_by 0 1000000) (answered 0 (pos 3) 1000000) → ⊥
+not_the_value h = let g = h 0 (Answered (pos 3)) refl in cc (g.settled)
+
+not_the_outcome : IsBorneOut (size_people ∷ []) (settled_as (Answered (pos 2))) (query_by 0 1000000) (refused (by_number (NoNoise 0))) → ⊥
+not_the_outcome h = let g = h 0 Exhausted refl in cc (g.settled)
+
+not_the_number : IsBorneOut (size_people ∷ []) (settled_as (Answered (pos 2))) (query_by 0 1000000) (answered 1 (pos 2) 1000000) → ⊥
+not_the_number h = let g = h 1 (Answered (pos 2)) refl in cc (g.settled)
+
+not_the_analyst : IsBorneOut (size_people ∷ []) (settled_as (Answered (pos 2))) (query_by 1 1000000) (answered 0 (pos 2) 1000000) → ⊥
+not_the_analyst h =
+    let g = h 0 (Answered (pos 2)) refl in
+    let both : Some (Reserve reserved) ≡ Some (Reserve g.reserved) = g.numbered in
+    let same : reserved ≡ g.reserved = cc (both) in
+    let other : 0 ≡ 1 = ap (λ (r : Reservation). r.analyst) same ∙ g.analyst in
+    cc (other)
+
+not_the_epsilon : IsBorneOut (size_people ∷ []) (settled_as (Answered (pos 2))) (query_by 0 500000) (answered 0 (pos 2) 1000000) → ⊥
+not_the_epsilon h =
+    let g = h 0 (Answered (pos 2)) refl in
+    let both : Some (Reserve reserved) ≡ Some (Reserve g.reserved) = g.numbered in
+    let same : reserved ≡ g.reserved = cc (both) in
+    let other : 1000000 ≡ 500000 = ap (λ (r : Reservation). r.e) same ∙ g.epsilon in
+    omega (arith, other)
+
+not_the_program : IsBorneOut ([] ∷ []) (settled_as (Answered (pos 2))) (query_by 0 1000000) (answered 0 (pos 2) 1000000) → ⊥
+not_the_program h = let g = h 0 (Answered (pos 2)) refl in cc (g.program)

@@ -1,0 +1,105 @@
+-- programs explain records with one record more
+use Rattle.std.proofs.Common.{◌≡◌, ℕ, ◌+◌, cond, List, [], ◌∷◌, ◌++◌, length, slice_get, Option, Some, None, refl, sym, ◌∙◌, ap, subst, arith, length-append, append-nil}
+use Rattle.std.specs.Prelude.{ℤ}
+use Rattle.std.specs.Option.{option_or}
+use Rattle.std.proofs.lemmas.Bool.{ne_eqb}
+use Rattle.std.proofs.lemmas.List.Elements.{filter-append}
+use mathlib.Core.Logic.{dite, inl, inr}
+use native.Mathlib.Decide.{ℕ_discrete}
+use Rattle.budget_core.specs.declared.records.Outcome.{Outcome}
+use Rattle.budget_core.specs.declared.records.Reservation.{Reservation}
+use Rattle.budget_core.specs.declared.records.Record.{Record}
+use Rattle.budget_core.specs.declared.records.Record.TheVariants.{Reserve, Settle}
+use Rattle.budget_core.specs.Counts.{is_reservation, reservations_of, outcome_of}
+use Rattle.budget_core.specs.Legal.{IsHistory}
+use Rattle.budget_core.proofs.Histories.{push_cases}
+use Rattle.budget_core.proofs.Numbers.{outcome_past, outcome_of-append-Reserve, outcome_of-append-Settle, outcome_of-append-new}
+use Rattle.answer_path.specs.Owner.{Owner}
+use Rattle.answer_path.specs.Query.{Query}
+use Rattle.answer_path.specs.Program.{IsCharged, HasValueIn}
+use Rattle.answer_path.specs.Noise.{noise_at}
+use Rattle.answer_path.specs.Answered.{settled_by, IsSettledBy}
+use Rattle.owner_history.specs.Explains.{ExplainsOutcome, IsExplained, Explains}
+
+same_reserved : (r s : Reservation) → Some (Reserve r) ≡ Some (Reserve s) → r ≡ s
+same_reserved r s is = cc
+
+or_none : {X : Type 0} → (o : Option X) → option_or o None ≡ o
+or_none None = refl
+or_none (Some x) = refl
+
+settlements_reserve_nothing : (records : List Record) (n : ℕ) (outcome : Outcome) → reservations_of (records ++ Settle n outcome ∷ []) ≡ reservations_of records
+settlements_reserve_nothing records n outcome = filter-append is_reservation records (Settle n outcome ∷ []) ∙ append-nil (reservations_of records)
+
+-- nothing explains nothing
+pub explains_none : (owner : Owner) (draws : ℕ → ℕ → ℕ) → Explains owner draws [] []
+explains_none owner draws = record { each_has = refl; explained = λ n program reserved at made. cc }
+
+module _ (owner : Owner) (draws : ℕ → ℕ → ℕ) (programs : List (List ℕ)) (records : List Record) (ex : Explains owner draws programs records) where
+  -- a reservation more, which is charged its program's sensitivity
+  pub explains_reservation : (program : List ℕ) (reserved : Reservation) → IsHistory owner.entry records → IsCharged owner.tables reserved.view program reserved.p reserved.q
+      → Explains owner draws (programs ++ program ∷ []) (records ++ Reserve reserved ∷ [])
+  explains_reservation program reserved h charged =
+      let made : reservations_of (records ++ Reserve reserved ∷ []) ≡ reservations_of records ++ Reserve reserved ∷ [] = filter-append is_reservation records (Reserve reserved ∷ []) in
+      record {
+        each_has = length-append programs (program ∷ []) ∙ ap (λ m. m + 1) ex.each_has ∙ sym (ap length made ∙ length-append (reservations_of records) (Reserve reserved ∷ []));
+        explained = λ m other found at made_at. subst (λ (o : Option Outcome). IsExplained owner (draws m) found other o) (sym (outcome_of-append-Reserve records reserved m))
+            (elim (push_cases (reservations_of records) (Reserve reserved) m (Reserve found) (ap (λ (rs : List Record). slice_get rs m) (sym made) ∙ made_at)) [
+              | inl before ↦ elim (push_cases programs program m other at) [
+                | inl known ↦ ex.explained m other found known.1 before.1
+                | inr seam ↦ absurd (omega (arith, ex.each_has, before.0, seam.0))
+              ]
+              | inr last ↦ elim (push_cases programs program m other at) [
+                | inl known ↦ absurd (omega (arith, ex.each_has, known.0, last.0))
+                | inr seam ↦
+                    let none : outcome_of records m ≡ None = outcome_past owner.entry records h m (omega (arith, last.0)) in
+                    let same : reserved ≡ found = same_reserved reserved found (ap (λ r. Some r) last.1) in
+                    let new : IsExplained owner (draws m) reserved program None = record { charged = charged; settled = tt } in
+                    subst (λ (o : Option Outcome). IsExplained owner (draws m) found other o) (sym none)
+                    (subst (λ (r : Reservation). IsExplained owner (draws m) r other None) same
+                    (subst (λ (x : List ℕ). IsExplained owner (draws m) reserved x None) seam.1 new))
+              ]
+            ]);
+      }
+
+  -- a settlement more, which the reservation's program explains
+  pub explains_settlement : (n : ℕ) (program : List ℕ) (reserved : Reservation) (outcome : Outcome) → slice_get programs n ≡ Some program
+      → slice_get (reservations_of records) n ≡ Some (Reserve reserved) → outcome_of records n ≡ None → ExplainsOutcome owner (draws n) reserved program (Some outcome)
+      → Explains owner draws programs (records ++ Settle n outcome ∷ [])
+  explains_settlement n program reserved outcome at_n made_n none settled =
+      let same : reservations_of (records ++ Settle n outcome ∷ []) ≡ reservations_of records = settlements_reserve_nothing records n outcome in
+      record {
+        each_has = ex.each_has ∙ ap length (sym same);
+        explained = λ m other found at made_at.
+            let made : slice_get (reservations_of records) m ≡ Some (Reserve found) = ap (λ (rs : List Record). slice_get rs m) (sym same) ∙ made_at in
+            let before = ex.explained m other found at made in record {
+              charged = before.charged;
+              settled = dite (ℕ_discrete m n)
+                  (λ is.
+                  let here : Some (Reserve reserved) ≡ Some (Reserve found) = sym made_n ∙ ap (λ k. slice_get (reservations_of records) k) (sym is) ∙ made in
+                  let there : Some program ≡ Some other = sym at_n ∙ ap (λ k. slice_get programs k) (sym is) ∙ at in
+                  let asked : program ≡ other = cc in
+                  let now : outcome_of (records ++ Settle n outcome ∷ []) m ≡ Some outcome = ap (λ k. outcome_of (records ++ Settle n outcome ∷ []) k) is ∙ outcome_of-append-new records n outcome none in
+                  subst (λ (o : Option Outcome). ExplainsOutcome owner (draws m) found other o) (sym now)
+                  (subst (λ (x : List ℕ). ExplainsOutcome owner (draws m) found x (Some outcome)) asked
+                  (subst (λ (r : Reservation). ExplainsOutcome owner (draws m) r program (Some outcome)) (same_reserved reserved found here)
+                  (subst (λ (k : ℕ). ExplainsOutcome owner (draws k) reserved program (Some outcome)) (sym is) settled))))
+                  (λ other_number.
+                  let old : outcome_of (records ++ Settle n outcome ∷ []) m ≡ outcome_of records m
+                  = outcome_of-append-Settle records n outcome m ∙ ap (λ b. option_or (outcome_of records m) (cond b (Some outcome) None)) (ne_eqb m n other_number) ∙ or_none (outcome_of records m) in
+                  subst (λ (o : Option Outcome). ExplainsOutcome owner (draws m) found other o) (sym old) before.settled);
+            };
+      }
+
+settled_explains : (owner : Owner) (draws : ℕ → ℕ) (reserved : Reservation) (program : List ℕ) (v : ℤ) (k : Option ℤ) → HasValueIn owner.tables owner.rows reserved.view program v
+    → noise_at reserved.e draws ≡ k → ExplainsOutcome owner draws reserved program (Some (settled_by v k))
+settled_explains owner draws reserved program v (Some k) has_v has_k = record { value = v; noise = k; has_value = has_v; has_noise = has_k; sum = refl }
+settled_explains owner draws reserved program v None has_v has_k = has_k
+
+-- how a query's reservation is settled explains it
+pub outcome_explains : (owner : Owner) (draws : ℕ → ℕ → ℕ) (query : Query) (n : ℕ) (outcome : Outcome) (reserved : Reservation) → reserved.view ≡ query.view → reserved.e ≡ query.e
+    → IsSettledBy owner draws query n outcome → ExplainsOutcome owner (draws n) reserved query.program (Some outcome)
+outcome_explains owner draws query n outcome reserved view e settled =
+    subst (λ (o : Outcome). ExplainsOutcome owner (draws n) reserved query.program (Some o)) (sym (settled.2 ∙ ap (λ (k : ℕ). settled_by settled.0 (noise_at k (draws n))) (sym e)))
+    (settled_explains owner (draws n) reserved query.program settled.0 (noise_at reserved.e (draws n))
+    (subst (λ v. HasValueIn owner.tables owner.rows v query.program settled.0) (sym view) settled.1) refl)

@@ -1,0 +1,67 @@
+-- what a verdict that grants says
+use Rattle.std.proofs.Common.{◌≡◌, ℕ, Bool, true, false, cond, List, refl, ap, subst, ◌∙◌}
+use Rattle.std.specs.Prelude.{Result, Ok, Err}
+use Rattle.budget_core.specs.declared.records.View.TheVariants.{Whole}
+use Rattle.budget_core.specs.declared.records.Record.{Record}
+use Rattle.budget_core.specs.declared.entry.Ask.{Ask}
+use Rattle.budget_core.specs.declared.entry.Grant.{Grant}
+use Rattle.budget_core.specs.declared.entry.ReserveFault.{ReserveFault}
+use Rattle.budget_core.specs.Ledger.{money_verdict}
+use Rattle.fz_frac.specs.Distance.{Distance, Fin, Inf}
+use Rattle.fz_ast.specs.Signature.{Signature}
+use Rattle.fz_ast.specs.Terms.{Term}
+use Rattle.answer_path.specs.Owner.{Owner}
+use Rattle.answer_path.specs.Query.{Query}
+use Rattle.answer_path.specs.Program.{IsCharged}
+use Rattle.answer_path.specs.Reading.{Reading, unlexed, stuck, nested, read, IsReading}
+use Rattle.answer_path.specs.Judgement.{Judgement, refused_for, accepted, judged_by, checked_of, is_size_of_table, answerable, judgement_of}
+use Rattle.answer_path.specs.Verdict.{granted, ask_for, verdict_by_money, IsVerdictBy, IsVerdict}
+use Rattle.linear_types.specs.Program.{Answer, Accepted, Rejected, sensitivity_of}
+
+-- a reading that is accepted is of the term, which the typing rules accept so
+chosen : (ts : Signature) (b : Bool) (t e : Term) (s r : Distance) (other : _) → cond b (accepted t s) (refused_for other) ≡ accepted e r → (t ≡ e) × (s ≡ r)
+chosen ts true t e s r other is = (cc, cc)
+chosen ts false t e s r other is = absurd (cc (is))
+
+pub accepted_as : (ts : Signature) (reading : Reading) (e : Term) (r : Distance) → judgement_of ts reading ≡ accepted e r → (reading ≡ read e) × (checked_of ts (read e) ≡ accepted e r)
+unfolding checked_of
+accepted_as ts (unlexed place) e r is = absurd (cc (is))
+accepted_as ts (stuck token) e r is = absurd (cc (is))
+accepted_as ts (nested depth) e r is = absurd (cc (is))
+accepted_as ts (read t) e r is = judged (sensitivity_of ts t) refl is
+  where
+    judged : (a : Answer) → sensitivity_of ts t ≡ a → answerable ts (judged_by t a) ≡ accepted e r → (read t ≡ read e) × (judged_by e (sensitivity_of ts e) ≡ accepted e r)
+    judged (Rejected fault) was by = absurd (cc (by))
+    judged (Accepted D s) was by =
+        let same = chosen ts (is_size_of_table ts t) t e _ r _ by in (
+          ap read same.0,
+          subst (λ (u : Term). judged_by u (sensitivity_of ts u) ≡ accepted u r) same.0 (ap (judged_by t) was ∙ ap (λ (d : Distance). accepted t d) same.1),
+        )
+
+-- an ask is granted by its sensitivity and the budget
+pub record IsGrantFor (owner : Owner) (start : ℕ) (records : List Record) (query : Query) (asking : Ask) (grant : Grant) : Type 0 where
+  pub p : ℕ
+  pub q : ℕ
+  pub charged : IsCharged owner.tables Whole query.program p q
+  pub asks : asking ≡ ask_for query p q
+  pub money : money_verdict owner.entry start records (ask_for query p q) ≡ Ok grant
+
+money_grants : (ask asking : Ask) (grant : Grant) (money : Result Grant ReserveFault) → granted asking grant ≡ verdict_by_money ask money → (asking ≡ ask) × (money ≡ Ok grant)
+money_grants ask asking grant (Ok given) is =
+    let one : granted asking grant ≡ granted ask given = is in
+    let asks : asking ≡ ask = cc in let gives : given ≡ grant = cc in
+    (asks, ap (λ (g : Grant). Ok g) gives)
+money_grants ask asking grant (Err fault) is = absurd (cc (is))
+
+pub verdict_grants : (owner : Owner) (start : ℕ) (records : List Record) (query : Query) (asking : Ask) (grant : Grant)
+    → IsVerdict owner.entry owner.tables start records query (granted asking grant) → IsGrantFor owner start records query asking grant
+unfolding IsVerdict
+verdict_grants owner start records query asking grant v = here (judgement_of owner.tables v.0) refl v.2
+  where
+    here : (j : Judgement) → judgement_of owner.tables v.0 ≡ j → IsVerdictBy owner.entry start records query j (granted asking grant) → IsGrantFor owner start records query asking grant
+    here (refused_for refusal) was by = absurd (cc (by))
+    here (accepted e Inf) was by = absurd by
+    here (accepted e (Fin p q)) was by =
+        let a = accepted_as owner.tables v.0 e (Fin p q) was in
+        let m = money_grants (ask_for query p q) asking grant (money_verdict owner.entry start records (ask_for query p q)) by in
+        record { p = p; q = q; charged = (e, subst (λ (r : Reading). IsReading query.program r) a.0 v.1, a.1); asks = m.0; money = m.1 }

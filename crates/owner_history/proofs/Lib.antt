@@ -1,0 +1,9 @@
+pub mod Prefixes
+pub mod Explaining
+pub mod Charges
+pub mod Bounded
+pub mod OneShown
+pub mod Grants
+pub mod Steps
+pub mod Sound
+pub mod Examples

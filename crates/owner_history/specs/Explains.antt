@@ -1,0 +1,38 @@
+-- programs explain records
+use Rattle.std.specs.Prelude.{◌≡◌, ℕ, ℤ, ◌+ℤ◌, List, length, slice_get, Option, Some, None}
+use Rattle.budget_core.specs.declared.records.Outcome.{Outcome}
+use Rattle.budget_core.specs.declared.records.Outcome.TheVariants.{Answered, Exhausted, Lost}
+use Rattle.budget_core.specs.declared.records.Reservation.{Reservation}
+use Rattle.budget_core.specs.declared.records.Record.{Record}
+use Rattle.budget_core.specs.declared.records.Record.TheVariants.{Reserve}
+use Rattle.budget_core.specs.Counts.{reservations_of, outcome_of}
+use Rattle.answer_path.specs.Owner.{Owner}
+use Rattle.answer_path.specs.Program.{IsCharged, HasValueIn}
+use Rattle.answer_path.specs.Noise.{noise_at}
+
+-- An answer is the program's value plus the noise of the number's own draws.
+pub record IsNoisedValue (owner : Owner) (draws : ℕ → ℕ) (reserved : Reservation) (program : List ℕ) (answer : ℤ) : Type 0 where
+  pub value : ℤ
+  pub noise : ℤ
+  pub has_value : HasValueIn owner.tables owner.rows reserved.view program value
+  pub has_noise : noise_at reserved.e draws ≡ Some noise
+  pub sum : answer ≡ value +ℤ noise
+
+-- what explains how a reservation was settled
+abbrev pub ExplainsOutcome : Owner → (ℕ → ℕ) → Reservation → List ℕ → Option Outcome → Type 0
+ExplainsOutcome owner draws reserved program None = Unit {0}
+ExplainsOutcome owner draws reserved program (Some (Answered answer)) = IsNoisedValue owner draws reserved program answer
+ExplainsOutcome owner draws reserved program (Some Exhausted) = noise_at reserved.e draws ≡ None
+ExplainsOutcome owner draws reserved program (Some Lost) = Unit {0}
+
+-- A reservation is charged by its program's sensitivity, and settled by its value and noise.
+pub record IsExplained (owner : Owner) (draws : ℕ → ℕ) (reserved : Reservation) (program : List ℕ) (outcome : Option Outcome) : Type 0 where
+  pub charged : IsCharged owner.tables reserved.view program reserved.p reserved.q
+  pub settled : ExplainsOutcome owner draws reserved program outcome
+
+-- There is a program for each reservation, in order, and it explains it. The owner's numbers have these draws.
+pub record Explains (owner : Owner) (draws : ℕ → ℕ → ℕ) (programs : List (List ℕ)) (records : List Record) : Type 0 where
+  pub each_has : length programs ≡ length (reservations_of records)
+  pub explained : (n : ℕ) (program : List ℕ) (reserved : Reservation)
+      → slice_get programs n ≡ Some program → slice_get (reservations_of records) n ≡ Some (Reserve reserved)
+      → IsExplained owner (draws n) reserved program (outcome_of records n)

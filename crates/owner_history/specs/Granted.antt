@@ -1,0 +1,40 @@
+-- what an owner's records say of a query that was granted, and of its reply
+use Rattle.std.specs.Prelude.{◌≡◌, ℕ, List, slice_get, Option, Some, None}
+use Rattle.budget_core.specs.declared.records.Outcome.{Outcome}
+use Rattle.budget_core.specs.declared.records.Outcome.TheVariants.{Answered, Exhausted, Lost}
+use Rattle.budget_core.specs.declared.records.Reservation.{Reservation}
+use Rattle.budget_core.specs.declared.records.Record.{Record}
+use Rattle.budget_core.specs.declared.records.Record.TheVariants.{Reserve}
+use Rattle.budget_core.specs.Counts.{reservation_of, outcome_of}
+use Rattle.wire_lines.specs.Reply.{Replied, greeted, answered, ended, refused}
+use Rattle.wire_lines.specs.Refusal.{by_line, by_program, by_money, by_number, no_memory}
+use Rattle.wire_lines.specs.declared.refusal.NumberRefusal.TheVariants.{Exhausted as NoNoise, Lost as NoAnswer}
+use Rattle.answer_path.specs.Query.{Query}
+
+-- The query was granted the number n, and the records settle n so. Number n's reservation has the query's analyst, view and
+-- epsilon, and its program is the query's.
+pub record IsGranted (programs : List (List ℕ)) (records : List Record) (query : Query) (n : ℕ) (outcome : Outcome) : Type 0 where
+  pub reserved : Reservation
+  pub numbered : reservation_of records n ≡ Some (Reserve reserved)
+  pub analyst : reserved.analyst ≡ query.analyst
+  pub view : reserved.view ≡ query.view
+  pub epsilon : reserved.e ≡ query.e
+  pub settled : outcome_of records n ≡ Some outcome
+  pub program : slice_get programs n ≡ Some query.program
+
+-- the number of the reservation that a reply speaks of, and how it was settled
+abbrev pub settlement_in : Replied → Option (ℕ × Outcome)
+settlement_in (answered n value taken) = Some (n, Answered value)
+settlement_in (refused (by_number (NoNoise n))) = Some (n, Exhausted)
+settlement_in (refused (by_number (NoAnswer n))) = Some (n, Lost)
+settlement_in (refused (by_line refusal)) = None
+settlement_in (refused (by_program refusal)) = None
+settlement_in (refused (by_money refusal)) = None
+settlement_in (refused no_memory) = None
+settlement_in (greeted name) = None
+settlement_in ended = None
+
+-- The records bear out what a reply to a query says: a reservation that it speaks of was granted, and settled so.
+abbrev pub IsBorneOut : (programs : List (List ℕ)) → List Record → Query → Replied → Type 0
+IsBorneOut programs records query reply =
+    (n : ℕ) (outcome : Outcome) → settlement_in reply ≡ Some (n, outcome) → IsGranted programs records query n outcome

@@ -1,0 +1,4 @@
+pub mod Explains
+pub mod Shown
+pub mod Sound
+pub mod Granted

@@ -1,0 +1,35 @@
+-- what is owed to an owner, whatever becomes of a run
+use Rattle.std.specs.Prelude.{ℕ, ◌*◌, ◌≤◌, List}
+use Rattle.budget_core.specs.declared.records.Record.{Record}
+use Rattle.budget_core.specs.Cost.{cost_of}
+use Rattle.budget_core.specs.Legal.{IsHistory, IsLegal}
+use Rattle.fz_ast.specs.Signature.{IsSignature}
+use Rattle.metric_values.specs.Tables.{Dataset, apart}
+use Rattle.metric_values.specs.Tables.{IsDataset}
+use Rattle.answer_path.specs.Owner.{Owner}
+use Rattle.owner_history.specs.Explains.{Explains}
+use Rattle.owner_history.specs.Shown.{IsShown}
+
+-- Against any second dataset of the owner's tables the displacement shown is at most the cost times the distance.
+abbrev pub IsDisplacementBounded : Owner → (programs : List (List ℕ)) → List Record → Type 0
+IsDisplacementBounded owner programs records = (other : Dataset) → IsDataset owner.tables other
+    → (displaced : ℕ) × IsShown owner.tables programs records owner.rows other displaced
+    × (displaced ≤ cost_of records * apart owner.rows other)
+
+-- An owner's records: legal after the found ones, within the budget, explained by programs, with a bounded displacement.
+pub record IsSound (owner : Owner) (draws : ℕ → ℕ → ℕ) (found : List Record) (programs : List (List ℕ)) (records : List Record) : Type 0 where
+  pub legal : IsLegal owner.entry found records
+  pub within : cost_of records ≤ owner.entry.budget
+  pub explained : Explains owner draws programs records
+  pub bounded : IsDisplacementBounded owner programs records
+
+-- what a run may find: each record may follow those before it, their cost is within the budget, and programs explain them
+pub record IsFound (owner : Owner) (draws : ℕ → ℕ → ℕ) (programs : List (List ℕ)) (found : List Record) : Type 0 where
+  pub history : IsHistory owner.entry found
+  pub within : cost_of found ≤ owner.entry.budget
+  pub explained : Explains owner draws programs found
+
+-- the owner's rows are a dataset of its tables
+pub record HasData (owner : Owner) : Type 0 where
+  pub tables : IsSignature owner.tables
+  pub rows : IsDataset owner.tables owner.rows
