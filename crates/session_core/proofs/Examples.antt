@@ -1,47 +1,46 @@
--- The definitions, computed.
-use Rattle.std.proofs.Common.{◌≡◌, ℕ, ◌≤◌, arith, List, [], ◌∷◌, Option, Some, None, codes, refl, sym, ◌∙◌, ap, pos, negsuc, inl, inr}
-use Rattle.std.specs.Prelude.{ℤ}
+-- The definitions, computed on small scripts.
+use Rattle.std.proofs.Common.{◌≡◌, ℕ, zero, suc, List, [], ◌∷◌, map, Option, Some, None, slice_get, codes, refl, sym, ◌∙◌, ap, subst, pos, negsuc, inl, inr, arith}
+use Rattle.std.specs.Prelude.{ℤ, Ok}
 use Rattle.std.specs.Fmt.{digits}
 use Rattle.std.specs.List.{flat_map}
+use mathlib.Core.List.{IsPrefix}
 use Rattle.budget_core.specs.declared.records.View.TheVariants.{Whole}
 use Rattle.budget_core.specs.declared.records.Outcome.{Outcome}
-use Rattle.budget_core.specs.declared.records.Outcome.TheVariants.{Answered, Exhausted}
+use Rattle.budget_core.specs.declared.records.Outcome.TheVariants.{Answered}
 use Rattle.budget_core.specs.declared.records.Record.{Record}
-use Rattle.budget_core.specs.declared.records.Record.TheVariants.{Reserve, Settle}
 use Rattle.budget_core.specs.declared.entry.Ask.{Ask}
 use Rattle.budget_core.specs.declared.entry.Grant.{Grant}
 use Rattle.budget_core.specs.Cost.{cost_of, partition_cost}
-use Rattle.fz_frac.specs.Distance.{Fin}
+use Rattle.budget_core.specs.Ledger.{money_verdict}
 use Rattle.fz_frac.specs.Lowest.{gcd, gcd_in}
-use Rattle.fz_outside.specs.Draws.{first, padded}
-use Rattle.discrete_laplace.specs.DiscreteLaplace.{draw_limit}
-use Rattle.discrete_laplace.specs.Noise.{noise_of}
-use Rattle.discrete_laplace.specs.Readers.{read_sample, read_attempt, read_geometric, read_bernoulli_exp, read_run, read_bernoulli, read_uniform}
-use Rattle.discrete_laplace.proofs.Fewer.{noise_of_first}
-use Rattle.metric_values.specs.Values.{NumF}
 use Rattle.wire_lines.specs.Lines.{lines_of}
 use Rattle.wire_lines.specs.Request.{request_of}
-use Rattle.wire_lines.specs.Reply.{greeted, ended, refused, reply_text}
-use Rattle.wire_lines.specs.declared.refusal.Refusal.TheVariants.{Malformed, Unknown, NoEpsilon, NoHello, OverBudget as NoBudget, JournalFull, NoMemory}
-use Rattle.answer_path.specs.Reading.{read}
-use Rattle.answer_path.specs.Judgement.{accepted, checked_of, judgement_of, HasValue}
-use Rattle.session_core.specs.House.{Register, house_of, owner_of, people}
-use Rattle.session_core.specs.Program.{IsCharged, HasValueIn}
-use Rattle.session_core.specs.Noise.{scale_over, scale_under, noise_at}
-use Rattle.session_core.specs.Verdict.{Query, granted, IsVerdict}
-use Rattle.session_core.specs.Reply.{meant_by, outcome_reply, settled_by, grant_records}
-use Rattle.session_core.specs.Transcript.{IsRun, AreReplies, IsTranscript}
-use Rattle.session_core.specs.Explains.{ExplainsOutcome, IsExplained}
-use Rattle.session_core.specs.Shown.{IsShown}
-use Rattle.budget_core.specs.Entries.{IsEpsilon}
-use Rattle.session_core.proofs.Answering.{IsAsked, noise_is, money_says, refused_says, granted_says}
-use Rattle.session_core.proofs.Scales.{scale_is}
-use Rattle.session_core.proofs.SizePeople.{size_people, size_term, size_reads}
-use Rattle.session_core.proofs.Runs.{fresh}
+use Rattle.wire_lines.specs.Reply.{Replied, greeted, answered, ended, refused, reply_text}
+use Rattle.wire_lines.specs.Refusal.{by_line, by_money, no_memory}
+use Rattle.wire_lines.specs.declared.refusal.LineRefusal.TheVariants.{Malformed, Unknown, NoEpsilon, NoHello}
+use Rattle.wire_lines.specs.declared.refusal.MoneyRefusal.TheVariants.{OverBudget as NoBudget, JournalFull}
+use Rattle.metric_values.specs.Values.{NumF}
+use Rattle.answer_path.specs.Owner.{Owner, rows_held}
+use Rattle.answer_path.specs.Query.{Query}
+use Rattle.answer_path.specs.Judgement.{checked_of, HasValue}
+use Rattle.answer_path.specs.Program.{HasValueIn}
+use Rattle.answer_path.specs.Noise.{noise_at}
+use Rattle.answer_path.specs.Verdict.{program_refused, money_refused, granted, ask_for}
+use Rattle.answer_path.specs.Answered.{settled_by, outcome_reply, grant_records, IsAnswered, IsAsked}
+use Rattle.answer_path.proofs.Answering.{IsAcceptedAt, money_says}
+use Rattle.answer_path.proofs.SizePeople.{size_people, size_term, size_reads}
+use Rattle.owner_history.specs.Granted.{settlement_in}
+use Rattle.session_core.specs.House.{Register, house_of, owner_of, people_table, people_holding}
+use Rattle.session_core.specs.Meant.{meant_by}
+use Rattle.session_core.specs.Turns.{Turn, turns_of}
+use Rattle.session_core.specs.Exchanges.{Exchange, told_of}
+use Rattle.session_core.specs.Transcript.{Journals, LeadExactly, placed_from, IsScriptRun, IsScriptWritten, IsTranscript}
+use Rattle.session_core.specs.Served.{AnswersOn, StandIn, Sources, IsAskedAt, AreAskedBy, ArePlaced}
+use Rattle.session_core.proofs.Exactly.{answers_on}
 
 -- a house of two analysts, with these ages
 abbrev house : (budget capacity : ℕ) → List ℤ → Register
-house budget capacity ages = record { analysts = codes "ann" ∷ codes "bob" ∷ []; owner = codes "census"; budget = budget; capacity = capacity; numbers = ages }
+house budget capacity ages = record { analysts = codes "ann" ∷ codes "bob" ∷ []; owner = codes "census"; budget = budget; capacity = capacity; holding = people_holding ages }
 
 abbrev three_rows : Register
 three_rows = house 10000000 100 (pos 20 ∷ pos 30 ∷ pos 40 ∷ [])
@@ -49,61 +48,168 @@ three_rows = house 10000000 100 (pos 20 ∷ pos 30 ∷ pos 40 ∷ [])
 abbrev no_rows : Register
 no_rows = house 10000000 100 []
 
--- draws of one of exp(-1) and a negative sign
-abbrev draws_of_minus_one : ℕ → ℕ
-draws_of_minus_one = padded (0 ∷ 0 ∷ 0 ∷ 0 ∷ 1 ∷ 0 ∷ 1 ∷ 0 ∷ [])
+-- nothing was found
+abbrev fresh : Journals
+fresh o = []
+
+-- what the one owner adds
+abbrev only : List Record → Journals
+only records zero = records
+only records (suc o) = []
 
 -- the program is judged by the rules, and its value is how many rows there are
-size_judged : judgement_of (people ∷ []) (read size_term) ≡ accepted size_term (Fin 1 1)
+size_asked : IsAcceptedAt (people_table ∷ []) size_people 1 1
 unfolding checked_of gcd gcd_in
-size_judged = refl
+size_asked = (size_term, size_reads, refl)
 
-size_checked : checked_of (people ∷ []) (read size_term) ≡ accepted size_term (Fin 1 1)
-unfolding checked_of gcd gcd_in
-size_checked = refl
-
-size_asked : IsAsked (people ∷ []) size_people 1 1
-size_asked = (size_term, size_reads, size_judged)
-
-size_charged : IsCharged (people ∷ []) Whole size_people 1 1
-size_charged = (size_term, size_reads, size_checked)
-
-three_value : HasValueIn (people ∷ []) ((NumF (pos 20) ∷ NumF (pos 30) ∷ NumF (pos 40) ∷ []) ∷ []) Whole size_people (pos 3)
+three_value : HasValueIn (people_table ∷ []) (rows_held (people_holding (pos 20 ∷ pos 30 ∷ pos 40 ∷ []))) Whole size_people (pos 3)
 unfolding HasValue
 three_value = (size_term, size_reads, (2, (NumF (pos 20) ∷ NumF (pos 30) ∷ NumF (pos 40) ∷ [], refl, refl)))
 
-two_value : HasValueIn (people ∷ []) ((NumF (pos 20) ∷ NumF (pos 30) ∷ []) ∷ []) Whole size_people (pos 2)
-unfolding HasValue
-two_value = (size_term, size_reads, (2, (NumF (pos 20) ∷ NumF (pos 30) ∷ [], refl, refl)))
-
-one_value : HasValueIn (people ∷ []) ((NumF (pos 30) ∷ []) ∷ []) Whole size_people (pos 1)
-unfolding HasValue
-one_value = (size_term, size_reads, (2, (NumF (pos 30) ∷ [], refl, refl)))
-
-no_value : HasValueIn (people ∷ []) ([] ∷ []) Whole size_people (pos 0)
+no_value : HasValueIn (people_table ∷ []) (rows_held (people_holding [])) Whole size_people (pos 0)
 unfolding HasValue
 no_value = (size_term, size_reads, (2, ([], refl, refl)))
 
--- verdicts
-abbrev a_query : List ℕ → Query
-a_query program = record { analyst = 0; view = Whole; e = 1000000; program = program }
+abbrev a_query : Query
+a_query = record { owner = 0; analyst = 0; view = Whole; e = 1000000; program = size_people }
 
 abbrev an_ask : Ask
 an_ask = record { analyst = 0; view = Whole; e = 1000000; p = 1; q = 1 }
 
-abbrev a_grant : (number seen : ℕ) → Grant
-a_grant number seen = record { number = number; taken = 1000000; seen = seen }
+abbrev a_grant : Grant
+a_grant = record { number = 0; taken = 1000000; seen = 1 }
 
-first_verdict : IsVerdict (owner_of three_rows).entry (owner_of three_rows).tables 0 [] (a_query size_people) (granted an_ask (a_grant 0 1))
-unfolding cost_of partition_cost
-first_verdict = money_says (owner_of three_rows) 0 [] (a_query size_people) 1 1 _ size_asked refl
+abbrev made : Outcome → List Record
+made outcome = grant_records an_ask a_grant outcome
 
--- a script of one ask, whatever its noise
+abbrev outcome_of_size : (size : ℕ) → (ℕ → ℕ → ℕ → ℕ) → Outcome
+outcome_of_size size draws = settled_by (pos size) (noise_at 1000000 (draws 0 0))
+
+first_answer : (register : Register) (draws : ℕ → ℕ → ℕ → ℕ) (size : ℕ) → register.holding.tables ≡ people_table ∷ [] → IsAcceptedAt (owner_of register).tables size_people 1 1
+    → money_verdict (owner_of register).entry 0 [] (ask_for a_query 1 1) ≡ Ok a_grant → HasValueIn (owner_of register).tables (owner_of register).rows Whole size_people (pos size)
+    → IsAnswered (owner_of register) (draws 0) 0 [] a_query (outcome_reply a_grant (outcome_of_size size draws)) (made (outcome_of_size size draws))
+unfolding IsAnswered
+first_answer register draws size tables accepts money value =
+    (granted an_ask a_grant, money_says (owner_of register) 0 [] a_query 1 1 _ accepts money, (outcome_of_size size draws, (pos size, value, refl), refl, refl))
+
+-- a script of one ask: ann greets, asks and ends
 abbrev one_ask_script : List ℕ
 one_ask_script = codes "hello ann\nask census 1 size people\nbye\n"
 
+abbrev turn : Option ℕ → List ℕ → Turn
+turn who line = record { who = who; line = line }
+
+abbrev quiet : Option ℕ → List ℕ → Replied → Exchange
+quiet who line reply = record { turn = turn who line; reply = reply; told = [] }
+
+abbrev ask_line : List ℕ
+ask_line = codes "ask census 1 size people"
+
+abbrev asked : Outcome → Exchange
+asked outcome = record { turn = turn (Some 0) ask_line; reply = outcome_reply a_grant outcome; told = placed_from 0 (made outcome) }
+
+abbrev one_ask : Outcome → List Exchange
+one_ask outcome = quiet None (codes "hello ann") (greeted (codes "ann")) ∷ asked outcome ∷ quiet (Some 0) (codes "bye") ended ∷ []
+
+-- its turns, and its transcript, whatever the noise ..
+one_ask_turns : turns_of (house_of three_rows) one_ask_script ≡ turn None (codes "hello ann") ∷ turn (Some 0) ask_line ∷ turn (Some 0) (codes "bye") ∷ []
+unfolding lines_of meant_by request_of
+one_ask_turns = refl
+
+one_owner : (register : Register) (draws : ℕ → ℕ → ℕ → ℕ) (xs : List Exchange) (records : List Record) → LeadExactly (house_of register) draws 0 0 [] xs records
+    → (o : ℕ) (owner : Owner) → slice_get (owner_of register ∷ []) o ≡ Some owner → LeadExactly (house_of register) draws o 0 [] xs (only records o)
+one_owner register draws xs records leads zero owner at = leads
+one_owner register draws xs records leads (suc o) owner at = absurd (cc (at))
+
+three_leads : (draws : ℕ → ℕ → ℕ → ℕ) → LeadExactly (house_of three_rows) draws 0 0 [] (one_ask (outcome_of_size 3 draws)) (made (outcome_of_size 3 draws))
+unfolding meant_by request_of cost_of partition_cost
+three_leads draws =
+    let outcome = outcome_of_size 3 draws in
+    (made outcome, (made outcome, inl (first_answer three_rows draws 3 refl size_asked refl three_value), refl, refl), refl)
+
+three_run : (draws : ℕ → ℕ → ℕ → ℕ) → let outcome : Outcome = outcome_of_size 3 draws in
+    IsScriptRun (house_of three_rows) draws fresh one_ask_script (greeted (codes "ann") ∷ outcome_reply a_grant outcome ∷ ended ∷ []) (only (made outcome))
+unfolding lines_of meant_by request_of
+three_run draws =
+    let outcome = outcome_of_size 3 draws in record {
+      exchanges = one_ask outcome;
+      turns = refl;
+      replied = refl;
+      plain = ((refl, refl), (tt, ((refl, refl), tt)));
+      owners = one_owner three_rows draws (one_ask outcome) (made outcome) (three_leads draws);
+    }
+
+-- .. or memory ran out before
+without_memory : (draws : ℕ → ℕ → ℕ → ℕ) → IsScriptRun (house_of three_rows) draws fresh one_ask_script (greeted (codes "ann") ∷ refused no_memory ∷ ended ∷ []) (only [])
+unfolding lines_of meant_by request_of
+without_memory draws =
+    let xs : List Exchange = quiet None (codes "hello ann") (greeted (codes "ann")) ∷ quiet (Some 0) ask_line (refused no_memory) ∷ quiet (Some 0) (codes "bye") ended ∷ [] in record {
+      exchanges = xs;
+      turns = refl;
+      replied = refl;
+      plain = ((refl, refl), (tt, ((refl, refl), tt)));
+      owners = one_owner three_rows draws xs [] ([], ([], inr (refl, refl), refl, refl), refl);
+    }
+
+-- behind a bye nobody speaks
+behind_bye : (draws : ℕ → ℕ → ℕ → ℕ) → IsScriptRun (house_of three_rows) draws fresh (codes "hello ann\nbye\nask census 1 x\n") (greeted (codes "ann") ∷ ended ∷ refused (by_line NoHello) ∷ []) (only [])
+unfolding lines_of meant_by request_of
+behind_bye draws =
+    let xs : List Exchange = quiet None (codes "hello ann") (greeted (codes "ann")) ∷ quiet (Some 0) (codes "bye") ended ∷ quiet None (codes "ask census 1 x") (refused (by_line NoHello)) ∷ [] in record {
+      exchanges = xs;
+      turns = refl;
+      replied = refl;
+      plain = ((refl, refl), ((refl, refl), ((refl, refl), tt)));
+      owners = one_owner three_rows draws xs [] refl;
+    }
+
+-- lines before any hello, in the order of the refusals
+abbrev first_lines : List Exchange
+first_lines =
+    quiet None [] (refused (by_line (Malformed 0))) ∷ quiet None (codes "ask nobody 0 x") (refused (by_line (Unknown 1)))
+    ∷ quiet None (codes "ask census 0 size people") (refused (by_line NoEpsilon)) ∷ quiet None ask_line (refused (by_line NoHello))
+    ∷ quiet None (codes "hello eve") (refused (by_line (Unknown 1))) ∷ quiet None (codes "hello ann") (greeted (codes "ann")) ∷ []
+
+refusals : (draws : ℕ → ℕ → ℕ → ℕ)
+    → IsScriptRun (house_of three_rows) draws fresh (codes "\nask nobody 0 x\nask census 0 size people\nask census 1 size people\nhello eve\nhello ann\n") (map (λ (x : Exchange). x.reply) first_lines) (only [])
+unfolding lines_of meant_by request_of
+refusals draws = record {
+  exchanges = first_lines;
+  turns = refl;
+  replied = refl;
+  plain = ((refl, refl), ((refl, refl), ((refl, refl), ((refl, refl), ((refl, refl), ((refl, refl), tt))))));
+  owners = one_owner three_rows draws first_lines [] refl;
+}
+
+-- a second ask over the budget, and one without room for two more records
+abbrev two_asks : Outcome → Replied → List Exchange
+two_asks outcome reply = quiet None (codes "hello ann") (greeted (codes "ann")) ∷ asked outcome ∷ quiet (Some 0) ask_line reply ∷ []
+
+second_over : (draws : ℕ → ℕ → ℕ → ℕ) → let outcome : Outcome = outcome_of_size 0 draws in
+    LeadExactly (house_of (house 1000000 100 [])) draws 0 0 [] (two_asks outcome (refused (by_money (NoBudget 1000000 2000000 1000000 2)))) (made outcome)
+unfolding meant_by request_of cost_of partition_cost IsAnswered
+second_over draws =
+    let register = house 1000000 100 [] in
+    let outcome = outcome_of_size 0 draws in (
+      made outcome,
+      (made outcome, inl (first_answer register draws 0 refl size_asked refl no_value), refl, refl),
+      (made outcome, ([], inl (money_refused (NoBudget 1000000 2000000 1000000 2), money_says (owner_of register) 0 (made outcome) a_query 1 1 _ size_asked refl, (refl, refl)), refl, refl), refl),
+    )
+
+second_full : (draws : ℕ → ℕ → ℕ → ℕ) → let outcome : Outcome = outcome_of_size 0 draws in
+    LeadExactly (house_of (house 10000000 3 [])) draws 0 0 [] (two_asks outcome (refused (by_money (JournalFull 2 0 3)))) (made outcome)
+unfolding meant_by request_of cost_of partition_cost IsAnswered
+second_full draws =
+    let register = house 10000000 3 [] in
+    let outcome = outcome_of_size 0 draws in (
+      made outcome,
+      (made outcome, inl (first_answer register draws 0 refl size_asked refl no_value), refl, refl),
+      (made outcome, ([], inl (money_refused (JournalFull 2 0 3), money_says (owner_of register) 0 (made outcome) a_query 1 1 _ size_asked refl, (refl, refl)), refl, refl), refl),
+    )
+
+-- what is written, with the noise -1, with none, and on no rows
 abbrev text_of : (size : ℕ) → Option ℤ → List ℕ
-text_of size noise = flat_map reply_text (greeted (codes "ann") ∷ outcome_reply (a_grant 0 1) (settled_by (pos size) noise) ∷ ended ∷ [])
+text_of size noise = flat_map reply_text (greeted (codes "ann") ∷ outcome_reply a_grant (settled_by (pos size) noise) ∷ ended ∷ [])
 
 three_text : text_of 3 (Some (negsuc 0)) ≡ codes "hello ann\nanswer 0 2 1000000\nbye\n"
 unfolding reply_text digits
@@ -117,156 +223,75 @@ exhausted_text : text_of 3 None ≡ codes "hello ann\nno 50 0\nbye\n"
 unfolding reply_text digits
 exhausted_text = refl
 
--- a second ask over the budget, and one without room for two more records
-abbrev two_asks_script : List ℕ
-two_asks_script = codes "hello ann\nask census 1 size people\nask census 1 size people\n"
+three_transcript : (draws : ℕ → ℕ → ℕ → ℕ) → noise_at 1000000 (draws 0 0) ≡ Some (negsuc 0) → IsTranscript (house_of three_rows) draws fresh one_ask_script (codes "hello ann\nanswer 0 2 1000000\nbye\n")
+unfolding IsTranscript IsScriptWritten
+three_transcript draws noise =
+    (only (made (outcome_of_size 3 draws)), (greeted (codes "ann") ∷ outcome_reply a_grant (outcome_of_size 3 draws) ∷ ended ∷ [], three_run draws, sym (ap (text_of 3) noise ∙ three_text)))
 
--- the records of an answer explain it: 2 is three rows and the noise -1
-abbrev answered_two : List Record
-answered_two = Reserve 0 Whole 1000000 1 1 1000000 0 ∷ Settle 0 (Answered (pos 2)) ∷ []
+-- The promise of the three turns, part by part. They are answered on records that begin with what was seen ..
+three_answers : (draws : ℕ → ℕ → ℕ → ℕ) → AnswersOn (house_of three_rows) draws 0 0 [] (one_ask (outcome_of_size 3 draws)) (made (outcome_of_size 3 draws))
+three_answers draws = answers_on (house_of three_rows) draws 0 0 [] (one_ask (outcome_of_size 3 draws)) (made (outcome_of_size 3 draws)) (three_leads draws)
 
--- one row more moves an answer at epsilon 1 by 1, and none is moved where nothing was answered
-shown_one : IsShown (people ∷ []) (size_people ∷ []) answered_two ((NumF (pos 20) ∷ NumF (pos 30) ∷ []) ∷ []) ((NumF (pos 30) ∷ []) ∷ []) 1000000
-unfolding IsShown
-shown_one = (1000000, 0, (pos 2, pos 1, two_value, one_value, refl), refl, refl)
+-- .. and not where an answer added nothing, nor where more was seen than there is in the end
+untold : (draws : ℕ → ℕ → ℕ → ℕ) (last : List Record) → AnswersOn (house_of three_rows) draws 0 0 [] (quiet (Some 0) ask_line (answered 0 (pos 2) 1000000) ∷ []) last → ⊥
+unfolding meant_by request_of IsAsked
+untold draws last (after, (g, begins, inl (program_refused refusal, is, (said, none, rest))), ends) = cc (said)
+untold draws last (after, (g, begins, inl (money_refused refusal, is, (said, none, rest))), ends) = cc (said)
+untold draws last (after, (g, begins, inl (granted asking grant, is, two)), ends) = cc (two.told_is)
+untold draws last (after, (g, begins, inr (said, none, rest)), ends) = cc (said)
 
-shown_none : IsShown (people ∷ []) (size_people ∷ []) (Reserve 0 Whole 1000000 1 1 1000000 0 ∷ []) ((NumF (pos 20) ∷ []) ∷ []) ([] ∷ []) 0
-unfolding IsShown
-shown_none = (0, 0, refl, refl, refl)
+unseen : IsPrefix (made (Answered (pos 2))) [] → ⊥
+unseen (more, is) = cc (is)
 
-in_front : noise_of 1 1 (first 8 draws_of_minus_one) ≡ Some (negsuc 0)
-unfolding noise_of draw_limit read_sample read_attempt read_geometric read_bernoulli_exp read_run read_bernoulli read_uniform
-in_front = refl
+-- what was told stands in the records, in its places and no others
+told_stands : StandIn (made (Answered (pos 2))) (told_of (house_of three_rows) 0 (one_ask (Answered (pos 2))))
+unfolding meant_by request_of
+told_stands = (refl, (refl, tt))
 
-within_limit : 8 ≤ draw_limit
-unfolding draw_limit
-within_limit = omega arith
+told_elsewhere : StandIn (made (Answered (pos 2))) (placed_from 1 (made (Answered (pos 2)))) → ⊥
+told_elsewhere h = cc (h.0)
 
-abbrev outcome_of_size : (size : ℕ) → (ℕ → ℕ → ℕ → ℕ) → Outcome
-outcome_of_size size draws = settled_by (pos size) (noise_at 1000000 (draws 0 0))
+-- the reservation's program is asked by the turn at 1 ..
+abbrev sources : (place : ℕ) → Sources
+sources place = record { programs = size_people ∷ []; places = place ∷ [] }
 
--- one ask is answered, whatever its noise ..
-three_replies : (draws : ℕ → ℕ → ℕ → ℕ) → AreReplies (house_of three_rows) draws fresh one_ask_script
-    (greeted (codes "ann") ∷ outcome_reply (a_grant 0 1) (outcome_of_size 3 draws) ∷ ended ∷ [])
-unfolding AreReplies IsRun lines_of meant_by request_of cost_of partition_cost
-three_replies draws = (
-  grant_records an_ask (a_grant 0 1) (outcome_of_size 3 draws) ∷ [],
-  (
-    [],
-    (refl, refl),
-    (
-      grant_records an_ask (a_grant 0 1) (outcome_of_size 3 draws),
-      inl (granted_says (owner_of three_rows) (draws 0) 0 [] (a_query size_people) 1 1 (a_grant 0 1) (outcome_of_size 3 draws) size_asked refl (pos 3, three_value, refl)),
-      ([], (refl, refl), refl),
-    ),
-  ),
-)
+abbrev three_turns : List Turn
+three_turns = turn None (codes "hello ann") ∷ turn (Some 0) ask_line ∷ turn (Some 0) (codes "bye") ∷ []
 
-no_rows_replies : (draws : ℕ → ℕ → ℕ → ℕ) → AreReplies (house_of no_rows) draws fresh one_ask_script
-    (greeted (codes "ann") ∷ outcome_reply (a_grant 0 1) (outcome_of_size 0 draws) ∷ ended ∷ [])
-unfolding AreReplies IsRun lines_of meant_by request_of cost_of partition_cost
-no_rows_replies draws = (
-  grant_records an_ask (a_grant 0 1) (outcome_of_size 0 draws) ∷ [],
-  (
-    [],
-    (refl, refl),
-    (
-      grant_records an_ask (a_grant 0 1) (outcome_of_size 0 draws),
-      inl (granted_says (owner_of no_rows) (draws 0) 0 [] (a_query size_people) 1 1 (a_grant 0 1) (outcome_of_size 0 draws) size_asked refl (pos 0, no_value, refl)),
-      ([], (refl, refl), refl),
-    ),
-  ),
-)
+asked_at : IsAskedAt (house_of three_rows) 0 (owner_of three_rows) three_turns 1 size_people
+unfolding meant_by request_of
+asked_at = record { turn = turn (Some 0) ask_line; query = a_query; stands = refl; written = (codes "census", 1000000, refl); comes_to = refl; asks = refl }
 
--- .. or memory ran out before
-without_memory : (draws : ℕ → ℕ → ℕ → ℕ) → AreReplies (house_of three_rows) draws fresh one_ask_script (greeted (codes "ann") ∷ refused NoMemory ∷ ended ∷ [])
-unfolding AreReplies IsRun lines_of meant_by request_of
-without_memory draws = (fresh, ([], (refl, refl), ([], inr (refl, refl), ([], (refl, refl), refl))))
+asked_once : AreAskedBy (house_of three_rows) 0 (owner_of three_rows) three_turns (sources 1)
+asked_once = record { each_has = refl; once = λ m n below within same. absurd (omega arith); asked = λ n place program placed programmed. one n place program placed programmed }
+  where
+    one : (n place : ℕ) (program : List ℕ) → slice_get (1 ∷ []) n ≡ Some place → slice_get (size_people ∷ []) n ≡ Some program → IsAskedAt (house_of three_rows) 0 (owner_of three_rows) three_turns place program
+    one zero place program placed programmed =
+        let there : 1 ≡ place = cc (placed) in
+        let same : size_people ≡ program = cc (programmed) in
+        subst (λ (k : ℕ). IsAskedAt (house_of three_rows) 0 (owner_of three_rows) three_turns k program) there
+        (subst (λ (x : List ℕ). IsAskedAt (house_of three_rows) 0 (owner_of three_rows) three_turns 1 x) same asked_at)
+    one (suc n) place program placed programmed = absurd (cc (placed))
 
--- behind a bye nobody speaks
-behind_bye : (draws : ℕ → ℕ → ℕ → ℕ) → AreReplies (house_of three_rows) draws fresh (codes "hello ann\nbye\nask census 1 x\n") (greeted (codes "ann") ∷ ended ∷ refused NoHello ∷ [])
-unfolding AreReplies IsRun lines_of meant_by request_of
-behind_bye draws = (fresh, ([], (refl, refl), ([], (refl, refl), ([], (refl, refl), refl))))
+-- .. not by one past the end, not twice, and not with another program
+not_asked_past : IsAskedAt (house_of three_rows) 0 (owner_of three_rows) three_turns 3 size_people → ⊥
+not_asked_past h = cc (h.stands)
 
--- lines before any hello, in the order of the refusals
-refusals : (draws : ℕ → ℕ → ℕ → ℕ) → AreReplies (house_of three_rows) draws fresh (codes "\nask nobody 0 x\nask census 0 size people\nask census 1 size people\nhello eve\nhello ann\n")
-    (refused (Malformed 0) ∷ refused (Unknown 1) ∷ refused NoEpsilon ∷ refused NoHello ∷ refused (Unknown 1) ∷ greeted (codes "ann") ∷ [])
-unfolding AreReplies IsRun lines_of meant_by request_of
-refusals draws = (fresh, ([], (refl, refl), ([], (refl, refl), ([], (refl, refl), ([], (refl, refl), ([], (refl, refl), ([], (refl, refl), refl)))))))
+not_asked_twice : AreAskedBy (house_of three_rows) 0 (owner_of three_rows) three_turns (record { programs = size_people ∷ size_people ∷ []; places = 1 ∷ 1 ∷ [] }) → ⊥
+not_asked_twice h = h.once 0 1 (omega arith) (omega arith) refl
 
--- a second ask over the budget, and one without room
-second_over : (draws : ℕ → ℕ → ℕ → ℕ) → AreReplies (house_of (house 1000000 100 [])) draws fresh two_asks_script
-    (greeted (codes "ann") ∷ outcome_reply (a_grant 0 1) (outcome_of_size 0 draws) ∷ refused (NoBudget 1000000 2000000 1000000 2) ∷ [])
-unfolding AreReplies IsRun lines_of meant_by request_of cost_of partition_cost
-second_over draws =
-    let owner = owner_of (house 1000000 100 []) in
-    let made : List Record = grant_records an_ask (a_grant 0 1) (outcome_of_size 0 draws) in (
-      made ∷ [],
-      (
-        [],
-        (refl, refl),
-        (
-          made,
-          inl (granted_says owner (draws 0) 0 [] (a_query size_people) 1 1 (a_grant 0 1) (outcome_of_size 0 draws) size_asked refl (pos 0, no_value, refl)),
-          ([], inl (refused_says owner (draws 0) 0 made (a_query size_people) 1 1 _ size_asked refl), refl),
-        ),
-      ),
-    )
+-- the reply at the turn's place speaks of the reservation; the greeting doesn't, and a later number isn't spoken of
+placed_at : ArePlaced 0 (1 ∷ []) (one_ask (Answered (pos 2)))
+placed_at zero place at =
+    let there : 1 ≡ place = cc (at) in
+    (asked (Answered (pos 2)), Answered (pos 2), ap (λ k. slice_get (one_ask (Answered (pos 2))) k) (sym there), refl)
+placed_at (suc n) place at = absurd (cc (at))
 
-second_full : (draws : ℕ → ℕ → ℕ → ℕ) → AreReplies (house_of (house 10000000 3 [])) draws fresh two_asks_script
-    (greeted (codes "ann") ∷ outcome_reply (a_grant 0 1) (outcome_of_size 0 draws) ∷ refused (JournalFull 2 0 3) ∷ [])
-unfolding AreReplies IsRun lines_of meant_by request_of cost_of partition_cost
-second_full draws =
-    let owner = owner_of (house 10000000 3 []) in
-    let made : List Record = grant_records an_ask (a_grant 0 1) (outcome_of_size 0 draws) in (
-      made ∷ [],
-      (
-        [],
-        (refl, refl),
-        (
-          made,
-          inl (granted_says owner (draws 0) 0 [] (a_query size_people) 1 1 (a_grant 0 1) (outcome_of_size 0 draws) size_asked refl (pos 0, no_value, refl)),
-          ([], inl (refused_says owner (draws 0) 0 made (a_query size_people) 1 1 _ size_asked refl), refl),
-        ),
-      ),
-    )
-
--- at epsilon 1 the scale is 1/1, so the noise out of a stream that begins so is -1
-gcd_of_ones : gcd 1 1 ≡ 1
-unfolding gcd gcd_in
-gcd_of_ones = refl
-
-one_in_range : IsEpsilon 1000000
-one_in_range = record { least = omega arith; most = omega arith }
-
-scale_at_one : (1 ≡ scale_over 1000000) × (1 ≡ scale_under 1000000)
-scale_at_one = scale_is 1 1 1000000 one_in_range (omega arith) gcd_of_ones (record { le = omega arith; ge = omega arith })
-
-minus_one : noise_at 1000000 draws_of_minus_one ≡ Some (negsuc 0)
-minus_one =
-    noise_is 1000000 1 1 draws_of_minus_one draws_of_minus_one scale_at_one.0 scale_at_one.1 refl
-    ∙ (noise_of_first 1 1 8 draws_of_minus_one (negsuc 0) within_limit in_front).0
-
--- the transcripts with the noise -1: of three rows, and of none
-three_transcript : IsTranscript (house_of three_rows) (λ owner number. draws_of_minus_one) fresh one_ask_script (codes "hello ann\nanswer 0 2 1000000\nbye\n")
-unfolding IsTranscript
-three_transcript = (
-  greeted (codes "ann") ∷ outcome_reply (a_grant 0 1) (outcome_of_size 3 (λ owner number. draws_of_minus_one)) ∷ ended ∷ [],
-  three_replies (λ owner number. draws_of_minus_one),
-  sym (ap (text_of 3) minus_one ∙ three_text),
-)
-
-no_rows_transcript : IsTranscript (house_of no_rows) (λ owner number. draws_of_minus_one) fresh one_ask_script (codes "hello ann\nanswer 0 -1 1000000\nbye\n")
-unfolding IsTranscript
-no_rows_transcript = (
-  greeted (codes "ann") ∷ outcome_reply (a_grant 0 1) (outcome_of_size 0 (λ owner number. draws_of_minus_one)) ∷ ended ∷ [],
-  no_rows_replies (λ owner number. draws_of_minus_one),
-  sym (ap (text_of 0) minus_one ∙ no_rows_text),
-)
-
-explained_two : IsExplained (owner_of three_rows) draws_of_minus_one answered_two 0 Whole 1000000 1 1 size_people
-explained_two = record { charged = size_charged; settled = record { value = pos 3; noise = negsuc 0; has_value = three_value; has_noise = minus_one; sum = refl } }
-
--- a number that has noise wasn't exhausted
-not_exhausted : ExplainsOutcome (owner_of three_rows) draws_of_minus_one Whole 1000000 size_people (Some Exhausted) → ⊥
-not_exhausted none = let both : Some (negsuc 0) ≡ None = sym minus_one ∙ none in cc
+not_placed : ArePlaced 0 (0 ∷ []) (one_ask (Answered (pos 2))) → ⊥
+not_placed h = let p = h 0 0 refl in wrong p.0 p.1 p.2 p.3
+  where
+    wrong : (x : Exchange) (outcome : Outcome) → Some (quiet None (codes "hello ann") (greeted (codes "ann"))) ≡ Some x → settlement_in x.reply ≡ Some (0, outcome) → ⊥
+    wrong x outcome at said =
+        let same : quiet None (codes "hello ann") (greeted (codes "ann")) ≡ x = cc (at) in
+        let none : None ≡ Some (0, outcome) = ap (λ (y : Exchange). settlement_in y.reply) same ∙ said in
+        cc (none)

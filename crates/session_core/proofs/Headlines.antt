@@ -1,145 +1,81 @@
--- the headline of every script
-use Rattle.std.proofs.Common.{◌≡◌, ℕ, zero, suc, ◌+◌, ◌*◌, ◌≤◌, List, [], ◌∷◌, length, slice_get, Some, refl, sym, ◌∙◌, ap, subst, arith}
-use Rattle.std.specs.List.{flat_map}
-use Rattle.budget_core.specs.declared.records.Outcome.{Outcome}
+-- the headline of every run
+use Rattle.std.proofs.Common.{◌≡◌, ℕ, ◌≤◌, List, [], ◌++◌, map, slice_get, Some, refl, sym, ◌∙◌, ap, subst, arith, append-nil}
 use Rattle.budget_core.specs.declared.records.Record.{Record}
-use Rattle.budget_core.specs.declared.records.Record.TheVariants.{Reserve, Settle}
-use Rattle.budget_core.specs.Cost.{cost_of, partition_cost}
-use Rattle.budget_core.specs.Counts.{reservations_of}
-use Rattle.fz_ast.specs.Signature.{Signature, IsSignature}
-use Rattle.metric_values.specs.Tables.{Dataset, apart}
-use Rattle.metric_law.specs.Law.{IsDataset}
-use Rattle.wire_lines.specs.Reply.{Replied, reply_text}
-use Rattle.session_core.specs.House.{Register, IsRegister, House, Owner, house_of, owner_of, entry_of}
-use Rattle.session_core.specs.Explains.{Explains}
-use Rattle.session_core.specs.Shown.{IsShown}
-use Rattle.session_core.specs.Served.{History, HasNumber, ArePlaced}
-use Rattle.session_core.specs.Transcript.{Journals, Turn, turns_of, IsRun, AreReplies, IsTranscript, records_at}
-use Rattle.session_core.specs.Headline.{IsHonoured, Headline, programs_at}
-use Rattle.session_core.proofs.Turns.{turns_lines, turns_known}
-use Rattle.session_core.proofs.Bounded.{IsChargedFor, AreCharged, shown_bounded}
-use Rattle.session_core.proofs.Rows.{people_signed, register_rows}
-use Rattle.session_core.proofs.Steps.{IsFine}
-use Rattle.session_core.proofs.Runs.{Ran, IsPlaced, ran, fresh}
-use Rattle.budget_core.proofs.LegalLemmas.{legal-cost}
+use Rattle.wire_lines.specs.Reply.{Replied}
+use Rattle.answer_path.specs.Owner.{Owner}
+use Rattle.owner_history.specs.Sound.{IsFound}
+use Rattle.owner_history.proofs.Prefixes.{prefix_self}
+use Rattle.owner_history.proofs.Steps.{IsWell}
+use Rattle.session_core.specs.House.{House, IsOwnerIn, AreOwners}
+use Rattle.session_core.specs.Turns.{Turn, turns_of}
+use Rattle.session_core.specs.Exchanges.{Exchange}
+use Rattle.session_core.specs.Transcript.{Journals, first_new, LeadExactly, IsScriptRun}
+use Rattle.session_core.specs.Served.{Sources, AreAskedBy, ArePlaced}
+use Rattle.session_core.specs.Headline.{Programs, IsOwed, IsHonoured, AreOwed, Headline, AreFound}
+use Rattle.session_core.proofs.Turns.{AreKnown, turns_lines, turns_known}
+use Rattle.session_core.proofs.Exactly.{answers_on}
+use Rattle.session_core.proofs.Runs.{IsFine, IsPlaced, Ran, ran}
+use Rattle.owner_history.proofs.Sound.{well_found, well_sound}
 
 -- nothing was asked yet
-abbrev begins : History
-begins = record { start = 0; records = []; programs = []; places = [] }
+abbrev pub nothing_asked : Sources
+nothing_asked = record { programs = []; places = [] }
 
-begins_fine : (house : House) (owner : Owner) (draws : ℕ → ℕ → ℕ) (spoken : List Turn) → IsFine house owner draws spoken 0 begins
-begins_fine house owner draws spoken = record {
-  starts = refl;
-  legal = record { begins = refl; follows = λ k next past at. cc; settles = λ k number outcome past at. cc; room = λ fits k more upto. absurd (omega arith); valid = λ k next past at. cc };
-  explained = record { each_has = refl; explained = λ n program number view e p q taken analyst at made. cc };
-  asked = record { each_has = refl; once = λ m n below within same. omega arith; asked = λ n place program placed at. cc };
-  earlier = λ n place placed. cc;
-}
+module _ (house : House) (draws : ℕ → ℕ → ℕ → ℕ) (script : List ℕ) (o : ℕ) (owner : Owner) (found : List Record) (earlier : List (List ℕ)) (begun : IsFound owner (draws o) earlier found) (of : IsOwnerIn house owner) where
+  asked_nothing : AreAskedBy house o owner (turns_of house script) nothing_asked
+  asked_nothing = record { each_has = refl; once = λ m n below within same. absurd (omega arith); asked = λ n place program placed at. absurd (cc (placed)) }
 
--- no settlement is among the reservations
-reserved_only : (records : List Record) (i n : ℕ) (outcome : Outcome) → slice_get (reservations_of records) i ≡ Some (Settle n outcome) → ⊥
-reserved_only [] i n outcome at = cc
-reserved_only (Reserve number view e p q taken analyst ∷ records) zero n outcome at = cc
-reserved_only (Reserve number view e p q taken analyst ∷ records) (suc i) n outcome at = reserved_only records i n outcome at
-reserved_only (Settle number settled ∷ records) i n outcome at = reserved_only records i n outcome at
+  first_fine : IsFine house draws (turns_of house script) o owner found earlier 0 found nothing_asked
+  first_fine = record {
+    well = subst (λ (ps : List (List ℕ)). IsWell owner (draws o) found ps found) (sym (append-nil earlier)) (well_found owner (draws o) found earlier begun);
+    counted = omega arith;
+    asked = asked_nothing;
+    before = λ n place placed. absurd (cc (placed));
+  }
 
-charged_from : (tables : Signature) (programs : List (List ℕ)) (reservations : List Record) → length programs ≡ length reservations
-    → ((i : ℕ) (program : List ℕ) (r : Record) → slice_get programs i ≡ Some program → slice_get reservations i ≡ Some r → IsChargedFor tables program r)
-    → AreCharged tables programs reservations
-charged_from tables [] [] same each = tt
-charged_from tables [] (r ∷ rs) same each = absurd (omega arith)
-charged_from tables (program ∷ programs) [] same each = absurd (omega arith)
-charged_from tables (program ∷ programs) (r ∷ rs) same each =
-    (each 0 program r refl refl, charged_from tables programs rs (omega arith) (λ i other s at there. each (suc i) other s at there))
+  owed_of : (records : List Record) (s : Sources) → IsWell owner (draws o) found (earlier ++ s.programs) records → AreAskedBy house o owner (turns_of house script) s → IsOwed house draws script o owner found earlier s records
+  owed_of records s well asked = record { sound = well_sound owner (draws o) found (earlier ++ s.programs) records of.data_of begun.within well; asked = asked }
 
--- programs that explain records are charged by their sensitivities
-charged_all : (owner : Owner) (draws : ℕ → ℕ → ℕ) (programs : List (List ℕ)) (records : List Record) → Explains owner draws programs records → AreCharged owner.tables programs (reservations_of records)
-charged_all owner draws programs records ex = charged_from owner.tables programs (reservations_of records) ex.each_has of
-  where
-    of : (i : ℕ) (program : List ℕ) (r : Record) → slice_get programs i ≡ Some program → slice_get (reservations_of records) i ≡ Some r → IsChargedFor owner.tables program r
-    of i program (Settle number outcome) at there = reserved_only records i number outcome there
-    of i program (Reserve number view e p q taken analyst) at there = (ex.explained i program number view e p q taken analyst at there).charged
+  -- The records that were found are owed.
+  pub found_owed : IsOwed house draws script o owner found earlier nothing_asked found
+  found_owed = owed_of found nothing_asked first_fine.well asked_nothing
 
--- Whatever programs explain an owner's records, against any second dataset these show at most their cost times the distance.
-pub explained_bounded : (owner : Owner) (draws : ℕ → ℕ → ℕ) (programs : List (List ℕ)) (records : List Record) (other : Dataset) → IsSignature owner.tables → IsDataset owner.tables owner.rows → IsDataset owner.tables other
-    → Explains owner draws programs records → (d : ℕ) × IsShown owner.tables programs records owner.rows other d × (d ≤ cost_of records * apart owner.rows other)
-explained_bounded owner draws programs records other well are others ex =
-    shown_bounded owner.tables records owner.rows other programs (record { well = well; first = are; second = others }) (charged_all owner draws programs records ex)
+  placed_of : (s : Sources) (xs : List Exchange) → ((n place : ℕ) → 0 ≤ n → slice_get s.places n ≡ Some place → IsPlaced house draws (turns_of house script) o owner found earlier 0 n place xs) → ArePlaced (first_new found) s.places xs
+  placed_of s xs each n place stands =
+      let p = each n place (omega arith) stands in
+      let same : p.behind ≡ place = omega (arith, p.there) in
+      (p.x, p.outcome, ap (λ k. slice_get xs k) (sym same) ∙ p.stands, p.said)
 
-bounded_other : (register : Register) (draws : ℕ → ℕ → ℕ) (programs : List (List ℕ)) (records : List Record) → IsRegister register → Explains (owner_of register) draws programs records
-    → (other : Dataset) → IsDataset (owner_of register).tables other
-    → (d : ℕ) × IsShown (owner_of register).tables programs records (owner_of register).rows other d × (d ≤ cost_of records * apart (owner_of register).rows other)
-bounded_other register draws programs records of ex other are =
-    explained_bounded (owner_of register) draws programs records other people_signed (register_rows register of) are ex
+  honoured_of : (xs : List Exchange) (records : List Record) → slice_get house.owners o ≡ Some owner → map (λ (x : Exchange). x.turn) xs ≡ turns_of house script
+      → LeadExactly house draws o (first_new found) found xs records → IsHonoured house draws script o owner found earlier xs records
+  honoured_of xs records here turns leads =
+      let known : AreKnown house (map (λ (x : Exchange). x.turn) xs) = subst (λ (ts : List Turn). AreKnown house ts) (sym turns) (turns_known house script) in
+      let r : Ran house draws (turns_of house script) o owner found earlier 0 found nothing_asked xs records
+      = ran house draws (turns_of house script) o owner found earlier begun.history here of.analysts xs records 0 known turns found nothing_asked first_fine leads in
+      record {
+        sources = r.sources;
+        owed = owed_of records r.sources r.fine.well r.fine.asked;
+        replied = record {
+          last = records;
+          answers = answers_on house draws o (first_new found) found xs records leads;
+          begins = prefix_self records;
+          held = r.held;
+          placed = placed_of r.sources xs r.placed;
+        };
+      }
 
-placed_at : (replies : List Replied) (n place : ℕ) → IsPlaced 0 n place replies → (reply : Replied) × (slice_get replies place ≡ Some reply) × HasNumber n reply
-placed_at replies n place p =
-    let same : p.behind ≡ place = omega (arith, p.there) in
-    (p.reply, ap (λ k. slice_get replies k) (sym same) ∙ p.stands, p.says)
-
-placed_from : (start : ℕ) (places : List ℕ) (replies : List Replied) → start ≡ 0
-    → ((n place : ℕ) → slice_get places n ≡ Some place → (reply : Replied) × (slice_get replies place ≡ Some reply) × HasNumber n reply) → ArePlaced start places replies
-placed_from start places replies none each = λ n place stands.
-    let found = each n place stands in
-    let same : n ≡ start + n = omega (arith, none) in
-    (found.0, found.1, subst (λ (k : ℕ). HasNumber k found.0) same found.2)
-
-free : cost_of [] ≡ 0
-unfolding cost_of partition_cost
-free = refl
-
-honoured_of : (register : Register) (draws : ℕ → ℕ → ℕ → ℕ) (script : List ℕ) (replies : List Replied) (journals : Journals) → IsRegister register
-    → Ran (house_of register) (owner_of register) draws (turns_of (house_of register) script) 0 begins (turns_of (house_of register) script) replies journals
-    → (o : ℕ) (owner : Owner) → slice_get (owner_of register ∷ []) o ≡ Some owner
-    → (history : History) × (history.records ≡ records_at journals o)
-    × IsHonoured (house_of register) draws script o owner (records_at fresh o) (programs_at ([] ∷ []) o) replies history
-honoured_of register draws script replies journals of run (suc o) owner at = cc
-honoured_of register draws script replies journals of run zero owner at =
-    let one : owner_of register ≡ owner = cc in
-    let honoured : IsHonoured (house_of register) draws script 0 (owner_of register) [] [] replies run.last = record {
-      start = run.fine.starts;
-      legal = run.fine.legal;
-      within = legal-cost (entry_of register) [] run.last.records (omega (arith, free)) run.fine.legal;
-      explained = run.fine.explained;
-      added = run.last.programs;
-      begins = refl;
-      asked = run.fine.asked;
-      served = run.served 0 (omega arith);
-      placed = placed_from run.last.start run.last.places replies run.fine.starts
-          (λ n place stands. placed_at replies n place (run.placed n place (omega arith) stands));
-      bounded = bounded_other register (draws 0) run.last.programs run.last.records of run.fine.explained;
-    } in (
-      run.last,
-      sym (ap (λ J. records_at J 0) run.ends),
-      subst (λ (o : Owner). IsHonoured (house_of register) draws script 0 o [] [] replies run.last) one honoured,
-    )
-
-headline_from : (register : Register) (draws : ℕ → ℕ → ℕ → ℕ) (script text : List ℕ) (replies : List Replied) (journals : Journals) → IsRegister register
-    → IsRun (house_of register) draws fresh script replies journals → text ≡ flat_map reply_text replies → Headline (house_of register) draws fresh ([] ∷ []) script text
-unfolding IsRun
-headline_from register draws script text replies journals of run written =
-    let house : House = house_of register in
-    let owner : Owner = owner_of register in
-    let turns : List Turn = turns_of house script in
-    record {
-      replies = replies;
-      journals = journals;
-      run = run;
-      lines = written;
-      turns = turns_lines house script;
-      owners = honoured_of register draws script replies journals of
-          (ran house owner draws turns turns replies journals 0 begins refl refl (turns_known house script) refl (begins_fine house owner (draws 0) turns) run);
-    }
+-- The found records of every owner are owed.
+pub all_found_owed : (house : House) (draws : ℕ → ℕ → ℕ → ℕ) (found : Journals) (earlier : Programs) (script : List ℕ) → AreOwners house → AreFound house draws earlier found → AreOwed house draws found earlier script found
+all_found_owed house draws found earlier script owners founds = λ o owner at. (nothing_asked, found_owed house draws script o owner (found o) (earlier o) (founds o owner at) (owners o owner at))
 
 -- What is written for a script keeps the headline.
-pub headline_of : (register : Register) (draws : ℕ → ℕ → ℕ → ℕ) (script text : List ℕ) → IsRegister register
-    → IsTranscript (house_of register) draws fresh script text → Headline (house_of register) draws fresh ([] ∷ []) script text
-unfolding IsTranscript AreReplies
-headline_of register draws script text of is = headline_from register draws script text is.0 is.1.0 of is.1.1 is.2
-
--- The headline is kept by those very replies and records.
-pub headline_of_run : (register : Register) (draws : ℕ → ℕ → ℕ → ℕ) (script : List ℕ) (replies : List Replied) (journals : Journals) → IsRegister register
-    → IsRun (house_of register) draws fresh script replies journals
-    → (h : Headline (house_of register) draws fresh ([] ∷ []) script (flat_map reply_text replies)) × (h.replies ≡ replies) × (h.journals ≡ journals)
-unfolding headline_from
-headline_of_run register draws script replies journals of run = (headline_from register draws script (flat_map reply_text replies) replies journals of run refl, refl, refl)
+pub headline_of : (house : House) (draws : ℕ → ℕ → ℕ → ℕ) (found : Journals) (earlier : Programs) (script : List ℕ) (replies : List Replied) (last : Journals) → AreOwners house → AreFound house draws earlier found
+    → IsScriptRun house draws found script replies last → Headline house draws found earlier script replies last
+headline_of house draws found earlier script replies last owners founds run = record {
+  exchanges = run.exchanges;
+  turns = run.turns;
+  lines = turns_lines house script;
+  replied = run.replied;
+  plain = run.plain;
+  owners = λ o owner at. honoured_of house draws script o owner (found o) (earlier o) (founds o owner at) (owners o owner at) run.exchanges (last o) at run.turns (run.owners o owner at);
+}

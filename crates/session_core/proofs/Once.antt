@@ -1,6 +1,6 @@
 -- two lists of replies to one script, in which memory didn't run out, are the same
-use Rattle.std.proofs.Common.{◌≡◌, ℕ, List, [], ◌∷◌, refl, sym, ◌∙◌, ap, subst}
-use Rattle.std.specs.Prelude.{ℤ}
+use Rattle.std.proofs.Common.{◌≡◌, ℕ, ◌==◌, Bool, true, false, List, [], ◌∷◌, ◌++◌, map, slice_get, Some, refl, sym, ◌∙◌, ap, subst, eq-eqb}
+use Rattle.std.specs.Prelude.{ℤ, MatchBool}
 use Rattle.std.specs.List.{AllByRecursion}
 use mathlib.Core.Logic.{inl, inr}
 use Rattle.budget_core.specs.declared.records.Outcome.{Outcome}
@@ -8,21 +8,28 @@ use Rattle.budget_core.specs.declared.records.Record.{Record}
 use Rattle.budget_core.specs.Entries.{Entry}
 use Rattle.fz_frac.specs.Distance.{Fin, Inf}
 use Rattle.fz_ast.specs.Signature.{Signature}
-use Rattle.answer_path.specs.Reading.{Reading}
-use Rattle.answer_path.specs.Judgement.{Judgement, declined as unanswerable, accepted, judgement_of}
-use Rattle.answer_path.proofs.Readings.{one_reading}
 use Rattle.wire_lines.specs.Reply.{Replied, refused}
-use Rattle.wire_lines.specs.declared.refusal.Refusal.TheVariants.{NoMemory}
-use Rattle.session_core.specs.House.{House, Owner}
-use Rattle.session_core.specs.Noise.{noise_at}
-use Rattle.session_core.specs.Verdict.{Query, Verdict, declined, granted, IsVerdictBy, IsVerdict}
-use Rattle.session_core.specs.Reply.{Meant, told, wants, settled_by, outcome_reply, grant_records, IsSettledBy, IsAnsweredBy, IsAnswered, IsReplyTo}
-use Rattle.session_core.specs.Transcript.{Turn, Journals, meant_at, start_for, records_for, journals_with, AreRepliesFrom, IsRun, turns_of}
-use Rattle.session_core.specs.Code.{HadMemory}
-use Rattle.session_core.proofs.Programs.{one_value}
+use Rattle.wire_lines.specs.Refusal.{no_memory}
+use Rattle.answer_path.specs.Owner.{Owner}
+use Rattle.answer_path.specs.Query.{Query}
+use Rattle.answer_path.specs.Noise.{noise_at}
+use Rattle.answer_path.specs.Reading.{Reading}
+use Rattle.answer_path.specs.Judgement.{Judgement, refused_for, accepted, judgement_of}
+use Rattle.answer_path.specs.Verdict.{Verdict, program_refused, money_refused, granted, IsVerdictBy, IsVerdict}
+use Rattle.answer_path.specs.Answered.{settled_by, outcome_reply, grant_records, IsSettledBy, IsAnsweredBy, IsAnswered}
+use Rattle.answer_path.proofs.Readings.{one_reading}
+use Rattle.answer_path.proofs.Charged.{one_value_in}
+use Rattle.session_core.specs.House.{House}
+use Rattle.session_core.specs.Meant.{Demand, asks, Meant, says, wants}
+use Rattle.session_core.specs.Turns.{Turn, meant_at}
+use Rattle.session_core.specs.Exchanges.{Exchange, IsPlain, ArePlain, TurnLeads}
+use Rattle.session_core.specs.Transcript.{Journals, first_new, MeetsExactly, LeadExactly, IsScriptRun}
+use Rattle.session_core.specs.Said.{HadMemory}
+use Rattle.session_core.proofs.Wants.{AsksOnly, asks_only}
+use Rattle.session_core.proofs.Turns.{AreKnown, turns_known}
 
 judged_once : (entry : Entry) (start : ℕ) (records : List Record) (query : Query) (j : Judgement) (v w : Verdict) → IsVerdictBy entry start records query j v → IsVerdictBy entry start records query j w → v ≡ w
-judged_once entry start records query (unanswerable reply) v w f g = f ∙ sym g
+judged_once entry start records query (refused_for refusal) v w f g = f ∙ sym g
 judged_once entry start records query (accepted e (Fin p q)) v w f g = f ∙ sym g
 judged_once entry start records query (accepted e Inf) v w f g = absurd f
 
@@ -37,49 +44,104 @@ verdict_once entry tables start records query v w f g =
 -- a reservation is settled in one way
 outcome_once : (owner : Owner) (draws : ℕ → ℕ → ℕ) (query : Query) (n : ℕ) (o u : Outcome) → IsSettledBy owner draws query n o → IsSettledBy owner draws query n u → o ≡ u
 outcome_once owner draws query n o u f g =
-    let same : f.0 ≡ g.0 = one_value owner.tables owner.rows query.view query.program f.0 g.0 f.1 g.1 in
+    let same : f.0 ≡ g.0 = one_value_in owner.tables owner.rows query.view query.program f.0 g.0 f.1 g.1 in
     f.2 ∙ ap (λ (z : ℤ). settled_by z (noise_at query.e (draws n))) same ∙ sym g.2
 
 answered_once : (owner : Owner) (draws : ℕ → ℕ → ℕ) (query : Query) (v : Verdict) (reply other : Replied) (added more : List Record)
     → IsAnsweredBy owner draws query v reply added → IsAnsweredBy owner draws query v other more → (reply ≡ other) × (added ≡ more)
-answered_once owner draws query (declined due) reply other added more f g = (f.0 ∙ sym g.0, f.1 ∙ sym g.1)
+answered_once owner draws query (program_refused refusal) reply other added more f g = (f.0 ∙ sym g.0, f.1 ∙ sym g.1)
+answered_once owner draws query (money_refused refusal) reply other added more f g = (f.0 ∙ sym g.0, f.1 ∙ sym g.1)
 answered_once owner draws query (granted asking grant) reply other added more f g =
     let same : f.0 ≡ g.0 = outcome_once owner draws query grant.number f.0 g.0 f.1 g.1 in
     (f.2 ∙ ap (λ (o : Outcome). outcome_reply grant o) same ∙ sym g.2, f.3 ∙ ap (λ (o : Outcome). grant_records asking grant o) same ∙ sym g.3)
 
-no_memory : (reply : Replied) → HadMemory reply → reply ≡ refused NoMemory → ⊥
-no_memory reply had is = subst (λ (r : Replied). HadMemory r) is had
+ran_out : (reply : Replied) → HadMemory reply → reply ≡ refused no_memory → ⊥
+ran_out reply had is = subst (λ (r : Replied). HadMemory r) is had
 
--- a line has one reply, and adds one list of records
-reply_once : (draws : ℕ → ℕ → ℕ → ℕ) (start : ℕ) (records : List Record) (m : Meant) (reply other : Replied) (added more : List Record) → HadMemory reply → HadMemory other
-    → IsReplyTo draws start records m reply added → IsReplyTo draws start records m other more → (reply ≡ other) × (added ≡ more)
+-- a demand is met in one way
+met_once : (draws : ℕ → ℕ → ℕ) (start : ℕ) (owner : Owner) (demand : Demand) (seen : List Record) (x y : Exchange) (a b : List Record) → HadMemory x.reply → HadMemory y.reply
+    → MeetsExactly draws start owner demand seen x a → MeetsExactly draws start owner demand seen y b → (x.reply ≡ y.reply) × (a ≡ b)
 unfolding IsAnswered
-reply_once draws start records (told said next) reply other added more had has f g = (f.0 ∙ sym g.0, f.1 ∙ sym g.1)
-reply_once draws start records (wants n owner query) reply other added more had has (inr f) g = absurd (no_memory reply had f.0)
-reply_once draws start records (wants n owner query) reply other added more had has (inl f) (inr g) = absurd (no_memory other has g.0)
-reply_once draws start records (wants n owner query) reply other added more had has (inl f) (inl g) =
-    let same : f.0 ≡ g.0 = verdict_once owner.entry owner.tables start records query f.0 g.0 f.1 g.1 in
-    answered_once owner (draws n) query f.0 reply other added more f.2
-    (subst (λ (v : Verdict). IsAnsweredBy owner (draws n) query v other more) (sym same) g.2)
+met_once draws start owner (asks query) seen x y a b had has (added, inr f, told, is) g = absurd (ran_out x.reply had f.0)
+met_once draws start owner (asks query) seen x y a b had has (added, inl f, told, is) (more, inr g, said, ends) = absurd (ran_out y.reply has g.0)
+met_once draws start owner (asks query) seen x y a b had has (added, inl f, told, is) (more, inl g, said, ends) =
+    let same : f.0 ≡ g.0 = verdict_once owner.entry owner.tables start seen query f.0 g.0 f.1 g.1 in
+    let both = answered_once owner draws query f.0 x.reply y.reply added more f.2 (subst (λ (v : Verdict). IsAnsweredBy owner draws query v y.reply more) (sym same) g.2) in
+    (both.0, is ∙ ap (λ rs. seen ++ rs) both.1 ∙ sym ends)
 
-turns_once : (house : House) (draws : ℕ → ℕ → ℕ → ℕ) (found journals : Journals) (turns : List Turn) (replies others : List Replied) (last end : Journals)
-    → AreRepliesFrom house draws found journals turns replies last → AreRepliesFrom house draws found journals turns others end → AllByRecursion HadMemory replies → AllByRecursion HadMemory others → (replies ≡ others) × (last ≡ end)
-turns_once house draws found journals [] [] [] last end f g had has = (refl, f ∙ sym g)
-turns_once house draws found journals [] [] (other ∷ others) last end f g had has = absurd g
-turns_once house draws found journals [] (reply ∷ replies) others last end f g had has = absurd f
-turns_once house draws found journals (turn ∷ turns) [] others last end f g had has = absurd f
-turns_once house draws found journals (turn ∷ turns) (reply ∷ replies) [] last end f g had has = absurd g
-turns_once house draws found journals (turn ∷ turns) (reply ∷ replies) (other ∷ others) last end f g had has =
-    let m : Meant = meant_at house turn in
-    let first = reply_once draws (start_for found m) (records_for journals m) m reply other f.0 g.0 had.0 has.0 f.1 g.1 in
-    let on : AreRepliesFrom house draws found (journals_with journals m f.0) turns others end
-    = subst (λ (rs : List Record). AreRepliesFrom house draws found (journals_with journals m rs) turns others end) (sym first.1) g.2 in
-    let more = turns_once house draws found (journals_with journals m f.0) turns replies others last end f.2 on had.1 has.1 in
-    (ap (λ (r : Replied). r ∷ replies) first.0 ∙ ap (λ (rs : List Replied). other ∷ rs) more.0, more.1)
+-- what two runs of one owner's part come from
+record AreBoth (house : House) (draws : ℕ → ℕ → ℕ → ℕ) (o start : ℕ) (xs ys : List Exchange) (last end : List Record) : Type 0 where
+  seen : List Record
+  first : LeadExactly house draws o start seen xs last
+  second : LeadExactly house draws o start seen ys end
 
--- Replies to a script in which memory didn't run out are the same, and so are the records after it.
+module _ (house : House) (draws : ℕ → ℕ → ℕ → ℕ) (start : ℕ → ℕ) (last end : Journals) where
+  abbrev Both : List Exchange → List Exchange → Type 0
+  Both xs ys = (o : ℕ) (owner : Owner) → slice_get house.owners o ≡ Some owner → AreBoth house draws o (start o) xs ys (last o) (end o)
+
+  -- the same, where the first turn comes to this
+  record BothTurns (m : Meant) (o : ℕ) (x y : Exchange) (xs ys : List Exchange) : Type 0 where
+    seen : List Record
+    first : TurnLeads house o (MeetsExactly (draws o) (start o)) m seen x (λ after. LeadExactly house draws o (start o) after xs (last o))
+    second : TurnLeads house o (MeetsExactly (draws o) (start o)) m seen y (λ after. LeadExactly house draws o (start o) after ys (end o))
+
+  -- a turn leaves each owner's records the same
+  turn_both : (m : Meant) (o : ℕ) (x y : Exchange) (xs ys : List Exchange) → HadMemory x.reply → HadMemory y.reply → BothTurns m o x y xs ys → AreBoth house draws o (start o) xs ys (last o) (end o)
+  turn_both (says reply next) o x y xs ys had has b = record { seen = b.seen; first = b.first; second = b.second }
+  turn_both (wants n owner demand) o x y xs ys had has b = here (n == o) b.first b.second
+    where
+      here : (hit : Bool) → MatchBool hit ((after : List Record) × MeetsExactly (draws o) (start o) owner demand b.seen x after × LeadExactly house draws o (start o) after xs (last o)) (LeadExactly house draws o (start o) b.seen xs (last o))
+          → MatchBool hit ((after : List Record) × MeetsExactly (draws o) (start o) owner demand b.seen y after × LeadExactly house draws o (start o) after ys (end o)) (LeadExactly house draws o (start o) b.seen ys (end o))
+          → AreBoth house draws o (start o) xs ys (last o) (end o)
+      here false f g = record { seen = b.seen; first = f; second = g }
+      here true f g =
+          let same = met_once (draws o) (start o) owner demand b.seen x y f.0 g.0 had has f.1 g.1 in
+          record { seen = f.0; first = f.2; second = subst (λ (s : List Record). LeadExactly house draws o (start o) s ys (end o)) (sym same.1) g.2 }
+
+  -- a turn has one reply
+  turn_reply : (m : Meant) (line : List ℕ) (x y : Exchange) (xs ys : List Exchange) → AsksOnly house line m → HadMemory x.reply → HadMemory y.reply → IsPlain m x → IsPlain m y
+      → ((o : ℕ) (owner : Owner) → slice_get house.owners o ≡ Some owner → BothTurns m o x y xs ys) → x.reply ≡ y.reply
+  turn_reply (says reply next) line x y xs ys only had has f g both = f.0 ∙ sym g.0
+  turn_reply (wants n owner (asks query)) line x y xs ys only had has f g both =
+      let b = both n owner only.stands in here (n == n) (eq-eqb n n refl) b.seen b.first b.second
+    where
+      here : (hit : Bool) → hit ≡ true → (seen : List Record)
+          → MatchBool hit ((after : List Record) × MeetsExactly (draws n) (start n) owner (asks query) seen x after × LeadExactly house draws n (start n) after xs (last n)) (LeadExactly house draws n (start n) seen xs (last n))
+          → MatchBool hit ((after : List Record) × MeetsExactly (draws n) (start n) owner (asks query) seen y after × LeadExactly house draws n (start n) after ys (end n)) (LeadExactly house draws n (start n) seen ys (end n))
+          → x.reply ≡ y.reply
+      here false is seen f g = absurd (cc (is))
+      here true is seen f g = (met_once (draws n) (start n) owner (asks query) seen x y f.0 g.0 had has f.1 g.1).0
+
+  abbrev AllHad : List Exchange → Type 0
+  AllHad xs = AllByRecursion HadMemory (map (λ (x : Exchange). x.reply) xs)
+
+  turns_once : (xs ys : List Exchange) → AreKnown house (map (λ (x : Exchange). x.turn) xs) → map (λ (x : Exchange). x.turn) xs ≡ map (λ (y : Exchange). y.turn) ys → ArePlain house xs → ArePlain house ys → AllHad xs → AllHad ys
+      → Both xs ys → (map (λ (x : Exchange). x.reply) xs ≡ map (λ (y : Exchange). y.reply) ys) × ((o : ℕ) (owner : Owner) → slice_get house.owners o ≡ Some owner → last o ≡ end o)
+  turns_once [] [] known turns f g had has both = (refl, λ o owner at. let b = both o owner at in b.first ∙ sym b.second)
+  turns_once [] (y ∷ ys) known turns f g had has both = absurd (cc (turns))
+  turns_once (x ∷ xs) [] known turns f g had has both = absurd (cc (turns))
+  turns_once (x ∷ xs) (y ∷ ys) known turns f g had has both =
+      let same : x.turn ≡ y.turn = cc in
+      let rest : map (λ (x : Exchange). x.turn) xs ≡ map (λ (y : Exchange). y.turn) ys = cc in
+      let m : Meant = meant_at house x.turn in
+      let is : meant_at house y.turn ≡ m = ap (meant_at house) (sym same) in
+      let each : (o : ℕ) (owner : Owner) → slice_get house.owners o ≡ Some owner → BothTurns m o x y xs ys = λ o owner at.
+      let b = both o owner at in record {
+        seen = b.seen;
+        first = b.first;
+        second = subst (λ (k : Meant). TurnLeads house o (MeetsExactly (draws o) (start o)) k b.seen y (λ after. LeadExactly house draws o (start o) after ys (end o))) is b.second;
+      } in
+      let reply : x.reply ≡ y.reply = turn_reply m x.turn.line x y xs ys (asks_only house x.turn.line x.turn.who known.0) had.0 has.0 f.0 (subst (λ (k : Meant). IsPlain k y) is g.0) each in
+      let more = turns_once xs ys known.1 rest f.1 g.1 had.1 has.1 (λ o owner at. turn_both m o x y xs ys had.0 has.0 (each o owner at)) in
+      (cc (reply, more.0), more.1)
+
+-- Replies to a script in which memory didn't run out are the same, and so are each owner's records after it.
 pub runs_once : (house : House) (draws : ℕ → ℕ → ℕ → ℕ) (found : Journals) (script : List ℕ) (replies others : List Replied) (last end : Journals)
-    → IsRun house draws found script replies last → IsRun house draws found script others end
-    → AllByRecursion HadMemory replies → AllByRecursion HadMemory others → (replies ≡ others) × (last ≡ end)
-unfolding IsRun
-runs_once house draws found script replies others last end f g had has = turns_once house draws found found (turns_of house script) replies others last end f g had has
+    → IsScriptRun house draws found script replies last → IsScriptRun house draws found script others end → AllByRecursion HadMemory replies → AllByRecursion HadMemory others
+    → (replies ≡ others) × ((o : ℕ) (owner : Owner) → slice_get house.owners o ≡ Some owner → last o ≡ end o)
+runs_once house draws found script replies others last end f g had has =
+    let known : AreKnown house (map (λ (x : Exchange). x.turn) f.exchanges) = subst (λ (ts : List Turn). AreKnown house ts) (sym f.turns) (turns_known house script) in
+    let same = turns_once house draws (λ o. first_new (found o)) last end f.exchanges g.exchanges known (f.turns ∙ sym g.turns) f.plain g.plain
+    (subst (λ (rs : List Replied). AllByRecursion HadMemory rs) (sym f.replied) had) (subst (λ (rs : List Replied). AllByRecursion HadMemory rs) (sym g.replied) has)
+    (λ o owner at. record { seen = found o; first = f.owners o owner at; second = g.owners o owner at }) in
+    (sym f.replied ∙ same.0 ∙ g.replied, same.1)

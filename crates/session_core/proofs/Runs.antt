@@ -1,264 +1,269 @@
--- a whole run, from any history
-use Rattle.std.proofs.Common.{◌≡◌, ℕ, zero, suc, ◌+◌, ◌<◌, ◌≤◌, List, [], ◌∷◌, ◌++◌, length, take, drop, slice_get, Option, Some, refl, sym, ◌∙◌, ap, subst, arith, append-nil, length-append, add-zero}
-use Rattle.budget_core.specs.declared.records.Outcome.{Outcome}
-use Rattle.budget_core.specs.declared.records.Outcome.TheVariants.{Answered, Exhausted, Lost}
-use Rattle.budget_core.specs.declared.records.Record.{Record}
-use Rattle.budget_core.specs.declared.entry.Ask.{Ask}
-use Rattle.budget_core.specs.declared.entry.Grant.{Grant}
-use Rattle.wire_lines.specs.Reply.{Replied}
-use Rattle.session_core.specs.House.{House, Owner}
-use Rattle.session_core.specs.Verdict.{Query, Verdict, declined, granted, IsVerdict}
-use Rattle.session_core.specs.Reply.{Meant, told, wants, outcome_reply, grant_records, IsAnsweredBy, IsAnswered, IsReplyTo}
-use Rattle.session_core.specs.Transcript.{Turn, Journals, meant_at, records_for, start_for, journals_with, AreRepliesFrom}
-use Rattle.session_core.specs.Served.{History, IsGranted, IsKept, HasNumber, ServedThen, AreServed}
-use Rattle.session_core.proofs.Turns.{AreKnown}
-use Rattle.session_core.proofs.Wants.{AsksOnly, asks_only, asked_in_range}
-use Rattle.session_core.proofs.Lists.{Extends, extends_same, extends_by, extends_on, extends_length, slice_get_extends, take_extends}
+-- one owner's part in a run, from any history
+use Rattle.std.proofs.Common.{◌≡◌, ◌≢◌, ℕ, zero, suc, ◌+◌, ◌<◌, ◌≤◌, ◌==◌, Bool, true, false, List, [], ◌∷◌, ◌++◌, length, map, drop, slice_get, Some, None, refl, sym, ◌∙◌, ap, subst, arith, append-nil, append_assoc, length-append, add-zero, eqb-true, eq-eqb}
+use Rattle.std.specs.Prelude.{MatchBool}
 use Rattle.std.proofs.lemmas.Bool.{cases_lt}
 use Rattle.std.proofs.lemmas.Option.{slice_get_within}
 use mathlib.Core.Logic.{inl, inr}
-use Rattle.budget_core.proofs.Histories.{slice_get-append-seam}
-use Rattle.session_core.proofs.Quiet.{IsQuiet, verdict_quiet, quiet_kept}
-use Rattle.session_core.proofs.Steps.{IsFine, IsQuery, with_grant, fine_grant, granted_number, granted_line}
+use mathlib.Core.List.{IsPrefix}
+use Rattle.budget_core.specs.declared.records.Outcome.{Outcome}
+use Rattle.budget_core.specs.declared.records.Record.{Record}
+use Rattle.budget_core.specs.Counts.{reservations_of}
+use Rattle.budget_core.specs.Legal.{IsHistory}
+use Rattle.budget_core.proofs.Histories.{push_cases, slice_get-append-lt, slice_get-append-seam}
+use Rattle.answer_path.specs.Owner.{Owner}
+use Rattle.answer_path.specs.Query.{Query}
+use Rattle.answer_path.specs.Verdict.{Verdict, program_refused, money_refused, granted, IsVerdict}
+use Rattle.answer_path.specs.Answered.{Told, IsAnsweredBy, IsAnswered}
+use Rattle.owner_history.specs.Granted.{settlement_in, IsGranted, IsBorneOut}
+use Rattle.owner_history.proofs.Prefixes.{prefix_self, prefix_by, prefix_trans, slice_get_prefix}
+use Rattle.owner_history.proofs.Steps.{IsQueryOf, IsWell, IsStep, step, granted_on}
+use Rattle.session_core.specs.House.{House}
+use Rattle.session_core.specs.Meant.{Demand, asks, Meant, says, wants}
+use Rattle.session_core.specs.Turns.{Turn, meant_at}
+use Rattle.session_core.specs.Exchanges.{Exchange, TurnLeads}
+use Rattle.session_core.specs.Transcript.{placed_from, first_new, MeetsExactly, LeadExactly}
+use Rattle.session_core.specs.Served.{Sources, IsAskedAt, AreAskedBy, StandIn, IsHeldTo, AreHeldTo}
+use Rattle.session_core.proofs.Turns.{AreKnown}
+use Rattle.session_core.proofs.Wants.{AsksOnly, asks_only, asked_in_range}
+use Rattle.session_core.proofs.Exactly.{placed_stand, stand_on, outcome_said}
 
--- no records were found
-abbrev pub fresh : Journals
-fresh = [] ∷ []
+-- with the program of one turn more
+abbrev pub with_source : Sources → List ℕ → (at : ℕ) → Sources
+with_source s program at = record { programs = s.programs ++ program ∷ []; places = s.places ++ at ∷ [] }
 
--- a number's place is from a place on, and its reply, among those from there on, has the number
-pub record IsPlaced (at n place : ℕ) (replies : List Replied) : Type 0 where
-  pub behind : ℕ
-  pub there : place ≡ at + behind
-  pub reply : Replied
-  pub stands : slice_get replies behind ≡ Some reply
-  pub says : HasNumber n reply
+stands_within : {X : Type 0} → (xs : List X) (k : ℕ) → k < length xs → (x : X) × (slice_get xs k ≡ Some x)
+stands_within [] k h = absurd (omega arith)
+stands_within (x ∷ xs) zero h = (x, refl)
+stands_within (x ∷ xs) (suc k) h = stands_within xs k (omega arith)
 
-later_placed : (at n place : ℕ) (reply : Replied) (replies : List Replied) → IsPlaced (suc at) n place replies → IsPlaced at n place (reply ∷ replies)
-later_placed at n place reply replies p = record { behind = suc p.behind; there = p.there ∙ omega arith; reply = p.reply; stands = p.stands; says = p.says }
-
--- what comes of the turns from a place on, on a history, with these replies and these records in the end
-pub record Ran (house : House) (owner : Owner) (draws : ℕ → ℕ → ℕ → ℕ) (spoken : List Turn) (at : ℕ) (h : History) (turns : List Turn) (replies : List Replied) (journals : Journals) : Type 0 where
-  pub last : History
-  pub ends : journals ≡ last.records ∷ []
-  pub records : Extends h.records last.records
-  pub programs : Extends h.programs last.programs
-  pub places : Extends h.places last.places
-  pub fine : IsFine house owner (draws 0) spoken (at + length turns) last
-  pub served : (known : ℕ) → known ≤ length h.records → AreServed house draws 0 last at known turns replies
-  pub placed : (n place : ℕ) → length h.places ≤ n → slice_get last.places n ≡ Some place → IsPlaced at n place replies
-
--- the same, where the first line comes to this
-record RanAs (house : House) (owner : Owner) (draws : ℕ → ℕ → ℕ → ℕ) (spoken : List Turn) (at : ℕ) (h : History) (turns : List Turn) (m : Meant) (reply : Replied) (replies : List Replied) (journals : Journals) : Type 0 where
-  last : History
-  ends : journals ≡ last.records ∷ []
-  records : Extends h.records last.records
-  programs : Extends h.programs last.programs
-  places : Extends h.places last.places
-  fine : IsFine house owner (draws 0) spoken (suc at + length turns) last
-  served : (known : ℕ) → known ≤ length h.records → ServedThen draws 0 last at known m reply (λ after. AreServed house draws 0 last (suc at) after turns replies)
-  placed : (n place : ℕ) → length h.places ≤ n → slice_get last.places n ≡ Some place → IsPlaced at n place (reply ∷ replies)
-
-kept_outcome : (last : History) (at seen : ℕ) (query : Query) (added : List Record) (grant : Grant) (outcome : Outcome) → IsGranted last at seen query grant.number outcome
-    → IsKept last at seen query added (outcome_reply grant outcome)
-kept_outcome last at seen query added grant (Answered value) g = g
-kept_outcome last at seen query added grant Exhausted g = g
-kept_outcome last at seen query added grant Lost g = g
-
--- what is said on the records seen is what is said on the front of the records in the end
-by_front : (draws : ℕ → ℕ → ℕ → ℕ) (owner : Owner) (query : Query) (h last : History) (reply : Replied) (added : List Record) → last.start ≡ 0 → Extends h.records last.records
-    → IsReplyTo draws 0 h.records (wants 0 owner query) reply added → IsReplyTo draws last.start (take (length h.records) last.records) (wants 0 owner query) reply added
-by_front draws owner query h last reply added starts on is =
-    subst (λ (s : ℕ). IsReplyTo draws s (take (length h.records) last.records) (wants 0 owner query) reply added) (sym starts)
-    (subst (λ (rs : List Record). IsReplyTo draws 0 rs (wants 0 owner query) reply added) (sym (take_extends h.records last.records on)) is)
-
-told_first : (house : House) (owner : Owner) (draws : ℕ → ℕ → ℕ → ℕ) (spoken : List Turn) (at : ℕ) (h : History) (turns : List Turn) (said reply : Replied) (next : Option ℕ) (replies : List Replied) (journals : Journals)
-    → reply ≡ said → Ran house owner draws spoken (suc at) h turns replies journals → RanAs house owner draws spoken at h turns (told said next) reply replies journals
-told_first house owner draws spoken at h turns said reply next replies journals is ran = record {
-  last = ran.last;
-  ends = ran.ends;
-  records = ran.records;
-  programs = ran.programs;
-  places = ran.places;
-  fine = ran.fine;
-  served = λ known upto. (is, ran.served known upto);
-  placed = λ n place past stands. later_placed at n place reply replies (ran.placed n place past stands);
-}
-
-later_fine : (house : House) (owner : Owner) (draws : ℕ → ℕ → ℕ) (spoken : List Turn) (at : ℕ) (h : History) → IsFine house owner draws spoken at h → IsFine house owner draws spoken (suc at) h
-later_fine house owner draws spoken at h fine = record {
-  starts = fine.starts;
-  legal = fine.legal;
-  explained = fine.explained;
-  asked = fine.asked;
-  earlier = λ n place placed. omega (arith, fine.earlier n place placed);
-}
-
-quiet_first : (house : House) (owner : Owner) (draws : ℕ → ℕ → ℕ → ℕ) (spoken : List Turn) (at : ℕ) (h : History) (turns : List Turn) (query : Query) (reply : Replied) (added : List Record) (replies : List Replied) (journals : Journals)
-    → IsReplyTo draws 0 h.records (wants 0 owner query) reply added → added ≡ [] → IsQuiet reply
-    → Ran house owner draws spoken (suc at) h turns replies journals → RanAs house owner draws spoken at h turns (wants 0 owner query) reply replies journals
-quiet_first house owner draws spoken at h turns query reply added replies journals is none quiet ran = record {
-  last = ran.last;
-  ends = ran.ends;
-  records = ran.records;
-  programs = ran.programs;
-  places = ran.places;
-  fine = ran.fine;
-  served = λ known upto. (
-    length h.records,
-    added,
-    record {
-      grows = upto;
-      within = extends_length h.records ran.last.records ran.records;
-      stated = by_front draws owner query h ran.last reply added ran.fine.starts ran.records is;
-      kept = quiet_kept ran.last at (length h.records) query added reply quiet none;
-    },
-    ran.served (length h.records + length added) (omega (arith, ap length none)),
-  );
-  placed = λ n place past stands. later_placed at n place reply replies (ran.placed n place past stands);
-}
-
-outcome_has : (n : ℕ) (grant : Grant) (outcome : Outcome) → grant.number ≡ n → HasNumber n (outcome_reply grant outcome)
-outcome_has n grant (Answered value) is = is
-outcome_has n grant Exhausted is = is
-outcome_has n grant Lost is = is
-
--- the new number's place is that of the line that was granted it
-granted_placed : (at : ℕ) (places : List ℕ) (n place : ℕ) (last : List ℕ) (reply : Replied) (replies : List Replied)
-    → Extends (places ++ at ∷ []) last → length places ≤ n → slice_get last n ≡ Some place → HasNumber (length places) reply
-    → ((m other : ℕ) → length (places ++ at ∷ []) ≤ m → slice_get last m ≡ Some other → IsPlaced (suc at) m other replies)
-    → IsPlaced at n place (reply ∷ replies)
-granted_placed at places n place last reply replies on past stands says rest =
-    elim (cases_lt (length places) n) [
-      | inl after ↦ later_placed at n place reply replies (rest n place (omega (arith, length-append places (at ∷ []))) stands)
-      | inr upto ↦
-          let same : length places ≡ n = omega arith in
-          let first : slice_get last (length places) ≡ Some at = slice_get_extends (places ++ at ∷ []) last (length places) at on (slice_get-append-seam places at []) in
-          let both : Some at ≡ Some place = sym first ∙ ap (λ k. slice_get last k) same ∙ stands in
-          let equal : at ≡ place = cc in
-          record { behind = 0; there = omega (arith, equal); reply = reply; stands = refl; says = subst (λ (k : ℕ). HasNumber k reply) same says }
+-- no place comes twice, with a later one more
+once_more : (places : List ℕ) (at : ℕ) → ((m n : ℕ) → m < n → n < length places → slice_get places m ≢ slice_get places n)
+    → ((n place : ℕ) → slice_get places n ≡ Some place → place < at)
+    → (m n : ℕ) → m < n → n < length (places ++ at ∷ []) → slice_get (places ++ at ∷ []) m ≢ slice_get (places ++ at ∷ []) n
+once_more places at once earlier m n below within same =
+    elim (cases_lt n (length places)) [
+      | inl inside ↦ once m n below inside (sym (slice_get-append-lt places (at ∷ []) m (omega arith)) ∙ same ∙ slice_get-append-lt places (at ∷ []) n inside)
+      | inr past ↦
+          let last : n ≡ length places = omega (arith, length-append places (at ∷ [])) in
+          let found = stands_within places m (omega arith) in
+          let less : found.0 < at = earlier m found.0 found.1 in
+          let seam : slice_get (places ++ at ∷ []) n ≡ Some at = ap (λ k. slice_get (places ++ at ∷ []) k) last ∙ slice_get-append-seam places at [] in
+          let both : Some found.0 ≡ Some at = sym found.1 ∙ sym (slice_get-append-lt places (at ∷ []) m (omega arith)) ∙ same ∙ seam in
+          let equal : found.0 ≡ at = cc in
+          omega arith
     ]
 
-granted_first : (house : House) (owner : Owner) (draws : ℕ → ℕ → ℕ → ℕ) (spoken : List Turn) (at : ℕ) (h : History) (turns : List Turn) (query : Query) (asking : Ask) (grant : Grant) (outcome : Outcome) (reply : Replied) (added : List Record) (replies : List Replied) (journals : Journals)
-    → IsReplyTo draws 0 h.records (wants 0 owner query) reply added → IsVerdict owner.entry owner.tables 0 h.records query (granted asking grant) → reply ≡ outcome_reply grant outcome → added ≡ grant_records asking grant outcome
-    → IsFine house owner (draws 0) spoken at h → Ran house owner draws spoken (suc at) (with_grant h at query asking grant outcome) turns replies journals
-    → RanAs house owner draws spoken at h turns (wants 0 owner query) reply replies journals
-granted_first house owner draws spoken at h turns query asking grant outcome reply added replies journals stated is says adds fine ran =
-    let then : History = with_grant h at query asking grant outcome in
-    let records : Extends h.records ran.last.records = extends_on h.records then.records ran.last.records (extends_by h.records (grant_records asking grant outcome)) ran.records in
-    record {
-      last = ran.last;
-      ends = ran.ends;
-      records = records;
-      programs = extends_on h.programs then.programs ran.last.programs (extends_by h.programs (query.program ∷ [])) ran.programs;
-      places = extends_on h.places then.places ran.last.places (extends_by h.places (at ∷ [])) ran.places;
-      fine = ran.fine;
-      served = λ known upto. (
-        length h.records,
-        added,
-        record {
-          grows = upto;
-          within = extends_length h.records ran.last.records records;
-          stated = by_front draws owner query h ran.last reply added ran.fine.starts records stated;
-          kept = subst (λ (r : Replied). IsKept ran.last at (length h.records) query added r) (sym says)
-              (kept_outcome ran.last at (length h.records) query added grant outcome
-              (granted_line house owner (draws 0) spoken at h ran.last query asking grant fine is outcome ran.records ran.programs ran.places ran.fine.starts));
-        },
-        ran.served (length h.records + length added) (omega (arith, ap length adds, length-append h.records (grant_records asking grant outcome))),
-      );
-      placed = λ n place past stands. granted_placed at h.places n place ran.last.places reply replies ran.places past stands
-          (subst (λ (r : Replied). HasNumber (length h.places) r) (sym says) (outcome_has (length h.places) grant outcome (granted_number house owner (draws 0) spoken at h query asking grant fine is)))
-          ran.placed;
-    }
-
--- what is run from any history that is fine
-abbrev Runs : House → Owner → (ℕ → ℕ → ℕ → ℕ) → List Turn → (at : ℕ) → List Turn → List Replied → Journals → Type 0
-Runs house owner draws spoken at turns replies journals =
-    (g : History) → IsFine house owner (draws 0) spoken at g → AreRepliesFrom house draws fresh (g.records ∷ []) turns replies journals → Ran house owner draws spoken at g turns replies journals
-
-answered_first : (house : House) (owner : Owner) (draws : ℕ → ℕ → ℕ → ℕ) (spoken : List Turn) (at : ℕ) (h : History) (turns : List Turn) (query : Query) (reply : Replied) (added : List Record) (replies : List Replied) (journals : Journals)
-    → IsReplyTo draws 0 h.records (wants 0 owner query) reply added → (v : Verdict) → IsVerdict owner.entry owner.tables 0 h.records query v → IsAnsweredBy owner (draws 0) query v reply added
-    → AreRepliesFrom house draws fresh ((h.records ++ added) ∷ []) turns replies journals → IsFine house owner (draws 0) spoken at h → IsQuery house owner spoken at query
-    → Runs house owner draws spoken (suc at) turns replies journals → RanAs house owner draws spoken at h turns (wants 0 owner query) reply replies journals
-answered_first house owner draws spoken at h turns query reply added replies journals stated (declined due) is by more fine asked rest =
-    let same : h.records ++ added ≡ h.records = ap (λ rs. h.records ++ rs) by.1 ∙ append-nil h.records in
-    quiet_first house owner draws spoken at h turns query reply added replies journals stated by.1
-    (subst (λ (r : Replied). IsQuiet r) (sym by.0) (verdict_quiet owner 0 h.records query due is))
-    (rest h (later_fine house owner (draws 0) spoken at h fine) (subst (λ (rs : List Record). AreRepliesFrom house draws fresh (rs ∷ []) turns replies journals) same more))
-answered_first house owner draws spoken at h turns query reply added replies journals stated (granted asking grant) is by more fine asked rest =
-    let then : History = with_grant h at query asking grant by.0 in
-    let on : AreRepliesFrom house draws fresh (then.records ∷ []) turns replies journals = subst (λ (rs : List Record). AreRepliesFrom house draws fresh ((h.records ++ rs) ∷ []) turns replies journals) by.3 more in
-    granted_first house owner draws spoken at h turns query asking grant by.0 reply added replies journals stated is by.2 by.3 fine
-    (rest then (fine_grant house owner (draws 0) spoken at h query asking grant by.0 fine asked is by.1) on)
-
-wants_first : (house : House) (owner : Owner) (draws : ℕ → ℕ → ℕ → ℕ) (spoken : List Turn) (at : ℕ) (h : History) (turns : List Turn) (query : Query) (reply : Replied) (added : List Record) (replies : List Replied) (journals : Journals)
-    → IsReplyTo draws 0 h.records (wants 0 owner query) reply added → AreRepliesFrom house draws fresh ((h.records ++ added) ∷ []) turns replies journals
-    → IsFine house owner (draws 0) spoken at h → IsQuery house owner spoken at query → Runs house owner draws spoken (suc at) turns replies journals
-    → RanAs house owner draws spoken at h turns (wants 0 owner query) reply replies journals
-unfolding IsAnswered
-wants_first house owner draws spoken at h turns query reply added replies journals (inl by) more fine asked rest =
-    answered_first house owner draws spoken at h turns query reply added replies journals (inl by) by.0 by.1 by.2 more fine asked rest
-wants_first house owner draws spoken at h turns query reply added replies journals (inr lack) more fine asked rest =
-    let same : h.records ++ added ≡ h.records = ap (λ rs. h.records ++ rs) lack.1 ∙ append-nil h.records in
-    quiet_first house owner draws spoken at h turns query reply added replies journals (inr lack) lack.1 (subst (λ (r : Replied). IsQuiet r) (sym lack.0) tt)
-    (rest h (later_fine house owner (draws 0) spoken at h fine) (subst (λ (rs : List Record). AreRepliesFrom house draws fresh (rs ∷ []) turns replies journals) same more))
-
-first_turn : (house : House) (owner : Owner) (draws : ℕ → ℕ → ℕ → ℕ) (spoken : List Turn) (at : ℕ) (h : History) (turn : Turn) (turns : List Turn) (m : Meant) (reply : Replied) (added : List Record) (replies : List Replied) (journals : Journals)
-    → owner.entry.analysts ≡ length house.analysts → slice_get spoken at ≡ Some turn → meant_at house turn ≡ m → AsksOnly house owner turn.line m
-    → IsReplyTo draws (start_for fresh m) (records_for (h.records ∷ []) m) m reply added → AreRepliesFrom house draws fresh (journals_with (h.records ∷ []) m added) turns replies journals
-    → IsFine house owner (draws 0) spoken at h → Runs house owner draws spoken (suc at) turns replies journals
-    → RanAs house owner draws spoken at h turns m reply replies journals
-first_turn house owner draws spoken at h turn turns (told said next) reply added replies journals sized stands is asks by more fine rest =
-    told_first house owner draws spoken at h turns said reply next replies journals by.0 (rest h (later_fine house owner (draws 0) spoken at h fine) more)
-first_turn house owner draws spoken at h turn turns (wants n asked query) reply added replies journals sized stands is asks by more fine rest =
-    let same : wants 0 owner query ≡ wants n asked query = ap (λ k. wants k owner query) (sym asks.first) ∙ ap (λ (o : Owner). wants n o query) (sym asks.same) in
-    let of : IsQuery house owner spoken at query = record {
-      whole = asks.whole;
-      analyst = subst (λ (k : ℕ). query.analyst < k) (sym sized) asks.analyst;
-      epsilon = asked_in_range turn.line asks.name query.program query.e asks.written;
-      asked = record { turn = turn; query = query; stands = stands; written = (asks.name, query.e, asks.written); comes_to = is ∙ sym same; asks = refl };
-    } in
-    let by' : IsReplyTo draws (start_for fresh (wants 0 owner query)) (records_for (h.records ∷ []) (wants 0 owner query)) (wants 0 owner query) reply added
-    = subst (λ (m : Meant). IsReplyTo draws (start_for fresh m) (records_for (h.records ∷ []) m) m reply added) (sym same) by in
-    let more' : AreRepliesFrom house draws fresh (journals_with (h.records ∷ []) (wants 0 owner query) added) turns replies journals
-    = subst (λ (m : Meant). AreRepliesFrom house draws fresh (journals_with (h.records ∷ []) m added) turns replies journals) (sym same) more in
-    subst (λ (m : Meant). RanAs house owner draws spoken at h turns m reply replies journals) same
-    (wants_first house owner draws spoken at h turns query reply added replies journals by' more' fine of rest)
+-- the turns ask the programs, with one more
+asked_more : (house : House) (o : ℕ) (owner : Owner) (spoken : List Turn) (s : Sources) (at : ℕ) (program : List ℕ) → AreAskedBy house o owner spoken s
+    → ((n place : ℕ) → slice_get s.places n ≡ Some place → place < at) → IsAskedAt house o owner spoken at program → AreAskedBy house o owner spoken (with_source s program at)
+asked_more house o owner spoken s at program asked earlier now = record {
+  each_has = length-append s.places (at ∷ []) ∙ ap (λ m. m + 1) asked.each_has ∙ sym (length-append s.programs (program ∷ []));
+  once = once_more s.places at asked.once earlier;
+  asked = λ n place other placed programmed.
+      elim (push_cases s.places at n place placed) [
+        | inl before ↦ elim (push_cases s.programs program n other programmed) [
+          | inl known ↦ asked.asked n place other before.1 known.1
+          | inr seam ↦ absurd (let same = asked.each_has in omega (arith, before.0, seam.0))
+        ]
+        | inr last ↦ elim (push_cases s.programs program n other programmed) [
+          | inl known ↦ absurd (let same = asked.each_has in omega (arith, last.0, known.0))
+          | inr seam ↦
+              let there : IsAskedAt house o owner spoken place program = subst (λ (k : ℕ). IsAskedAt house o owner spoken k program) last.1 now in
+              subst (λ (x : List ℕ). IsAskedAt house o owner spoken place x) seam.1 there
+        ]
+      ];
+}
 
 -- the first of what is left of a list, and the rest
 drop_first : {X : Type 0} → (xs : List X) (k : ℕ) (y : X) (ys : List X) → y ∷ ys ≡ drop k xs → (slice_get xs k ≡ Some y) × (ys ≡ drop (suc k) xs)
-drop_first [] zero y ys is = cc
-drop_first [] (suc k) y ys is = cc
+drop_first [] zero y ys is = absurd (cc (is))
+drop_first [] (suc k) y ys is = absurd (cc (is))
 drop_first (x ∷ xs) zero y ys is =
     let first : y ≡ x = cc in let rest : ys ≡ xs = cc in
     (ap (λ z. Some z) (sym first), rest)
 drop_first (x ∷ xs) (suc k) y ys is = drop_first xs k y ys is
 
-pub ran : (house : House) (owner : Owner) (draws : ℕ → ℕ → ℕ → ℕ) (spoken : List Turn) (turns : List Turn) (replies : List Replied) (journals : Journals) (at : ℕ) (h : History)
-    → house.owners ≡ owner ∷ [] → owner.entry.analysts ≡ length house.analysts → AreKnown house turns → turns ≡ drop at spoken
-    → IsFine house owner (draws 0) spoken at h → AreRepliesFrom house draws fresh (h.records ∷ []) turns replies journals → Ran house owner draws spoken at h turns replies journals
-ran house owner draws spoken [] (reply ∷ replies) journals at h one sized known drops fine runs = absurd runs
-ran house owner draws spoken (turn ∷ turns) [] journals at h one sized known drops fine runs = absurd runs
-ran house owner draws spoken [] [] journals at h one sized known drops fine runs = record {
-  last = h;
-  ends = runs;
-  records = extends_same h.records;
-  programs = extends_same h.programs;
-  places = extends_same h.places;
-  fine = subst (λ (n : ℕ). IsFine house owner (draws 0) spoken n h) (sym (add-zero at)) fine;
-  served = λ known upto. tt;
-  placed = λ n place past stands. absurd (let within = slice_get_within h.places n place stands in omega arith);
-}
-ran house owner draws spoken (turn ∷ turns) (reply ∷ replies) journals at h one sized known drops fine runs =
-    let left = drop_first spoken at turn turns drops in
-    let first = first_turn house owner draws spoken at h turn turns (meant_at house turn) reply runs.0 replies journals sized left.0 refl (asks_only house owner turn.line turn.who one known.0) runs.1 runs.2 fine
-    (λ g fine' more. ran house owner draws spoken turns replies journals (suc at) g one sized known.1 left.1 fine' more) in
-    record {
-      last = first.last;
-      ends = first.ends;
-      records = first.records;
-      programs = first.programs;
-      places = first.places;
-      fine = subst (λ (n : ℕ). IsFine house owner (draws 0) spoken n first.last) (omega arith) first.fine;
-      served = first.served;
-      placed = first.placed;
-    }
+module _ (house : House) (draws : ℕ → ℕ → ℕ → ℕ) (spoken : List Turn) (o : ℕ) (owner : Owner) (found : List Record) (earlier : List (List ℕ)) where
+  -- what holds of an owner's records before each turn, the next turn standing at a place of the script's
+  pub record IsFine (at : ℕ) (records : List Record) (s : Sources) : Type 0 where
+    pub well : IsWell owner (draws o) found (earlier ++ s.programs) records
+    pub counted : length (reservations_of records) ≡ first_new found + length s.places
+    pub asked : AreAskedBy house o owner spoken s
+    pub before : (n place : ℕ) → slice_get s.places n ≡ Some place → place < at
+
+  -- the exchange of the turn at a place, among those from there on, speaks of a new reservation
+  pub record IsPlaced (at n place : ℕ) (xs : List Exchange) : Type 0 where
+    pub behind : ℕ
+    pub there : place ≡ at + behind
+    pub x : Exchange
+    pub outcome : Outcome
+    pub stands : slice_get xs behind ≡ Some x
+    pub said : settlement_in x.reply ≡ Some (first_new found + n, outcome)
+
+  -- what comes of exchanges from a place on, on records, with these in the end
+  pub record Ran (at : ℕ) (records : List Record) (s : Sources) (xs : List Exchange) (last : List Record) : Type 0 where
+    pub sources : Sources
+    pub programs : IsPrefix s.programs sources.programs
+    pub places : IsPrefix s.places sources.places
+    pub on : IsPrefix records last
+    pub fine : IsFine (at + length xs) last sources
+    pub held : AreHeldTo house o (earlier ++ sources.programs) last xs
+    pub placed : (n place : ℕ) → length s.places ≤ n → slice_get sources.places n ≡ Some place → IsPlaced at n place xs
+
+  later_placed : (at n place : ℕ) (x : Exchange) (xs : List Exchange) → IsPlaced (suc at) n place xs → IsPlaced at n place (x ∷ xs)
+  later_placed at n place x xs p = record { behind = suc p.behind; there = p.there ∙ omega arith; x = p.x; outcome = p.outcome; stands = p.stands; said = p.said }
+
+  later_fine : (at : ℕ) (records : List Record) (s : Sources) → IsFine at records s → IsFine (suc at) records s
+  later_fine at records s fine = record { well = fine.well; counted = fine.counted; asked = fine.asked; before = λ n place placed. omega (arith, fine.before n place placed) }
+
+  -- a turn that adds nothing
+  quiet_first : (at : ℕ) (records : List Record) (s : Sources) (x : Exchange) (xs : List Exchange) (last : List Record)
+      → ((programs : List (List ℕ)) → IsHeldTo o programs last (meant_at house x.turn) x) → Ran (suc at) records s xs last → Ran at records s (x ∷ xs) last
+  quiet_first at records s x xs last held ran = record {
+    sources = ran.sources;
+    programs = ran.programs;
+    places = ran.places;
+    on = ran.on;
+    fine = subst (λ (k : ℕ). IsFine k last ran.sources) (omega arith) ran.fine;
+    held = (held (earlier ++ ran.sources.programs), ran.held);
+    placed = λ n place past stands. later_placed at n place x xs (ran.placed n place past stands);
+  }
+
+  -- a turn that was granted a reservation
+  granted_first : (at : ℕ) (records added : List Record) (s : Sources) (query : Query) (x : Exchange) (xs : List Exchange) (last : List Record) (n : ℕ) (outcome : Outcome)
+      → ((w : Owner) (other : Query) → meant_at house x.turn ≡ wants o w (asks other) → other ≡ query)
+      → IsGranted (earlier ++ (s.programs ++ query.program ∷ [])) (records ++ added) query n outcome
+      → n ≡ first_new found + length s.places → x.told ≡ placed_from (length records) added → settlement_in x.reply ≡ Some (n, outcome)
+      → Ran (suc at) (records ++ added) (with_source s query.program at) xs last → Ran at records s (x ∷ xs) last
+  granted_first at records added s query x xs last n outcome only given numbered told said ran = record {
+    sources = ran.sources;
+    programs = prefix_trans s.programs (s.programs ++ query.program ∷ []) ran.sources.programs (prefix_by s.programs (query.program ∷ [])) ran.programs;
+    places = prefix_trans s.places (s.places ++ at ∷ []) ran.sources.places (prefix_by s.places (at ∷ [])) ran.places;
+    on = prefix_trans records (records ++ added) last (prefix_by records added) ran.on;
+    fine = subst (λ (k : ℕ). IsFine k last ran.sources) (omega arith) ran.fine;
+    held = (λ w other meant. (stand, borne other (only w other meant)), ran.held);
+    placed = λ m place past stands. elim (cases_lt (length s.places) m) [
+      | inl after ↦ later_placed at m place x xs (ran.placed m place (omega (arith, length-append s.places (at ∷ []))) stands)
+      | inr upto ↦
+          let same : length s.places ≡ m = omega arith in
+          let first : slice_get ran.sources.places (length s.places) ≡ Some at
+          = slice_get_prefix (s.places ++ at ∷ []) ran.sources.places (length s.places) at ran.places (slice_get-append-seam s.places at []) in
+          let both : Some at ≡ Some place = sym first ∙ ap (λ k. slice_get ran.sources.places k) same ∙ stands in
+          let equal : at ≡ place = cc in
+          let number : n ≡ first_new found + m = omega (arith, numbered, same) in
+          record { behind = 0; there = omega (arith, equal); x = x; outcome = outcome; stands = refl; said = said ∙ ap (λ (k : ℕ). Some (k, outcome)) number }
+    ];
+  }
+    where
+      stand : StandIn last x.told
+      stand = subst (λ (t : List Told). StandIn last t) (sym told) (stand_on (records ++ added) last (placed_from (length records) added) ran.on (placed_stand records added))
+
+      on_programs : IsPrefix (earlier ++ (s.programs ++ query.program ∷ [])) (earlier ++ ran.sources.programs)
+      on_programs = (ran.programs.0, append_assoc earlier (s.programs ++ query.program ∷ []) ran.programs.0 ∙ ap (λ (ps : List (List ℕ)). earlier ++ ps) ran.programs.1)
+
+      borne : (other : Query) → other ≡ query → IsBorneOut (earlier ++ ran.sources.programs) last other x.reply
+      borne other same = λ m u is.
+          let both : Some (n, outcome) ≡ Some (m, u) = sym said ∙ is in
+          let pair : (n, outcome) ≡ (m, u) = cc (both) in
+          let number : n ≡ m = ap (λ (z : ℕ × Outcome). z.0) pair in
+          let settled : outcome ≡ u = ap (λ (z : ℕ × Outcome). z.1) pair in
+          let there : IsGranted (earlier ++ ran.sources.programs) last query n outcome
+          = granted_on (earlier ++ (s.programs ++ query.program ∷ [])) (earlier ++ ran.sources.programs) (records ++ added) last query n outcome on_programs ran.on given in
+          subst (λ (q : Query). IsGranted (earlier ++ ran.sources.programs) last q m u) (sym same)
+          (subst (λ (k : ℕ). IsGranted (earlier ++ ran.sources.programs) last query k u) number
+          (subst (λ (y : Outcome). IsGranted (earlier ++ ran.sources.programs) last query n y) settled there))
+
+  -- what is run from any records that are fine
+  abbrev Runs : (at : ℕ) → List Exchange → (last : List Record) → Type 0
+  Runs at xs last = (g : List Record) (s : Sources) → IsFine at g s → LeadExactly house draws o (first_new found) g xs last → Ran at g s xs last
+
+  -- a query that adds nothing, and whose reply speaks of no reservation
+  nothing_first : (at : ℕ) (records added after : List Record) (s : Sources) (x : Exchange) (xs : List Exchange) (last : List Record) → added ≡ [] → settlement_in x.reply ≡ None
+      → x.told ≡ placed_from (length records) added → after ≡ records ++ added → IsFine at records s → LeadExactly house draws o (first_new found) after xs last → Runs (suc at) xs last → Ran at records s (x ∷ xs) last
+  nothing_first at records added after s x xs last none unsaid told is fine more rest =
+      let quiet : x.told ≡ [] = told ∙ ap (placed_from (length records)) none in
+      let same : after ≡ records = is ∙ ap (λ rs. records ++ rs) none ∙ append-nil records in
+      quiet_first at records s x xs last
+      (λ programs w query meant. (subst (λ (t : List Told). StandIn last t) (sym quiet) tt, λ n outcome said. absurd (let both : None ≡ Some (n, outcome) = sym unsaid ∙ said in cc (both))))
+      (rest records s (later_fine at records s fine) (subst (λ (rs : List Record). LeadExactly house draws o (first_new found) rs xs last) same more))
+
+  answered_first : IsHistory owner.entry found → (at : ℕ) (records added after : List Record) (s : Sources) (query : Query) (x : Exchange) (xs : List Exchange) (last : List Record) (v : Verdict)
+      → IsVerdict owner.entry owner.tables (first_new found) records query v → IsAnsweredBy owner (draws o) query v x.reply added
+      → x.told ≡ placed_from (length records) added → after ≡ records ++ added → IsFine at records s → LeadExactly house draws o (first_new found) after xs last
+      → IsQueryOf owner query → IsAskedAt house o owner spoken at query.program → meant_at house x.turn ≡ wants o owner (asks query) → Runs (suc at) xs last → Ran at records s (x ∷ xs) last
+  answered_first begun at records added after s query x xs last (program_refused refusal) is by told ends fine more of asked meant rest =
+      nothing_first at records added after s x xs last by.1 (ap settlement_in by.0) told ends fine more rest
+  answered_first begun at records added after s query x xs last (money_refused refusal) is by told ends fine more of asked meant rest =
+      nothing_first at records added after s x xs last by.1 (ap settlement_in by.0) told ends fine more rest
+  answered_first begun at records added after s query x xs last (granted asking grant) is by told ends fine more of asked meant rest =
+      let n : ℕ = grant.number in
+      let stepped : IsStep owner (draws o) found (earlier ++ s.programs) records query n by.0 (records ++ added)
+      = subst (λ (rs : List Record). IsStep owner (draws o) found (earlier ++ s.programs) records query n by.0 (records ++ rs)) (sym by.3)
+      (step owner (draws o) found begun (earlier ++ s.programs) records fine.well query of asking grant by.0 is by.1) in
+      let together : (earlier ++ s.programs) ++ query.program ∷ [] ≡ earlier ++ (s.programs ++ query.program ∷ []) = append_assoc earlier s.programs (query.program ∷ []) in
+      let then : IsFine (suc at) (records ++ added) (with_source s query.program at) = record {
+        well = subst (λ (ps : List (List ℕ)). IsWell owner (draws o) found ps (records ++ added)) together stepped.well;
+        counted = omega (arith, stepped.counted, stepped.number, fine.counted, length-append s.places (at ∷ []));
+        asked = asked_more house o owner spoken s at query.program fine.asked fine.before asked;
+        before = λ k place placed. elim (push_cases s.places at k place placed) [ inl before ↦ omega (arith, fine.before k place before.1) | inr last ↦ omega (arith, last.1) ];
+      } in
+      granted_first at records added s query x xs last n by.0
+      (λ w other is_other. let both : wants o owner (asks query) ≡ wants o w (asks other) = sym meant ∙ is_other in cc (both))
+      (subst (λ (ps : List (List ℕ)). IsGranted ps (records ++ added) query n by.0) together stepped.granted)
+      (omega (arith, stepped.number, fine.counted)) told (ap settlement_in by.2 ∙ outcome_said grant by.0)
+      (rest (records ++ added) (with_source s query.program at) then (subst (λ (rs : List Record). LeadExactly house draws o (first_new found) rs xs last) ends more))
+
+  wants_first : IsHistory owner.entry found → (at : ℕ) (records after : List Record) (s : Sources) (demand : Demand) (x : Exchange) (xs : List Exchange) (last : List Record) → MeetsExactly (draws o) (first_new found) owner demand records x after
+      → LeadExactly house draws o (first_new found) after xs last → IsFine at records s
+      → owner.entry.analysts ≡ length house.analysts → slice_get spoken at ≡ Some x.turn → AsksOnly house x.turn.line (wants o owner demand) → meant_at house x.turn ≡ wants o owner demand
+      → Runs (suc at) xs last → Ran at records s (x ∷ xs) last
+  unfolding IsAnswered
+  wants_first begun at records after s (asks query) x xs last (added, inr lack, told, ends) more fine sized stands only meant rest =
+      nothing_first at records added after s x xs last lack.1 (ap settlement_in lack.0) told ends fine more rest
+  wants_first begun at records after s (asks query) x xs last (added, inl by, told, ends) more fine sized stands only meant rest =
+      answered_first begun at records added after s query x xs last by.0 by.1 by.2 told ends fine more
+      (record { whole = only.whole; analyst = subst (λ (k : ℕ). query.analyst < k) (sym sized) only.analyst; epsilon = asked_in_range x.turn.line only.name query.program query.e only.written })
+      (record { turn = x.turn; query = query; stands = stands; written = (only.name, query.e, only.written); comes_to = meant; asks = refl })
+      meant rest
+
+  first_turn : IsHistory owner.entry found → (at : ℕ) (records : List Record) (s : Sources) (m : Meant) (x : Exchange) (xs : List Exchange) (last : List Record) → slice_get house.owners o ≡ Some owner
+      → owner.entry.analysts ≡ length house.analysts → slice_get spoken at ≡ Some x.turn → AsksOnly house x.turn.line m → meant_at house x.turn ≡ m → IsFine at records s
+      → TurnLeads house o (MeetsExactly (draws o) (first_new found)) m records x (λ after. LeadExactly house draws o (first_new found) after xs last)
+      → Runs (suc at) xs last → Ran at records s (x ∷ xs) last
+  first_turn begun at records s (says reply next) x xs last here sized stands only meant fine leads rest =
+      quiet_first at records s x xs last (λ programs w query is. absurd (let both : says reply next ≡ wants o w (asks query) = sym meant ∙ is in cc (both)))
+      (rest records s (later_fine at records s fine) leads)
+  first_turn begun at records s (wants n asked (asks query)) x xs last here sized stands only meant fine leads rest = either (n == o) refl leads
+    where
+      either : (b : Bool) → (n == o) ≡ b
+          → MatchBool b ((after : List Record) × MeetsExactly (draws o) (first_new found) asked (asks query) records x after × LeadExactly house draws o (first_new found) after xs last) (LeadExactly house draws o (first_new found) records xs last)
+          → Ran at records s (x ∷ xs) last
+      either true hit by =
+          let same : n ≡ o = eqb-true n o hit in
+          let both : Some asked ≡ Some owner = sym only.stands ∙ ap (λ k. slice_get house.owners k) same ∙ here in
+          let ours : asked ≡ owner = cc in
+          let whole : wants n asked (asks query) ≡ wants o owner (asks query) = ap (λ k. wants k asked (asks query)) same ∙ ap (λ (w : Owner). wants o w (asks query)) ours in
+          wants_first begun at records by.0 s (asks query) x xs last (subst (λ (w : Owner). MeetsExactly (draws o) (first_new found) w (asks query) records x by.0) ours by.1) by.2 fine sized stands
+          (subst (λ (m : Meant). AsksOnly house x.turn.line m) whole only) (meant ∙ whole) rest
+      either false miss by =
+          quiet_first at records s x xs last
+          (λ programs w other is. absurd (let both : wants n asked (asks query) ≡ wants o w (asks other) = sym meant ∙ is in let same : n ≡ o = cc in let hit = eq-eqb n o same in cc (hit, miss)))
+          (rest records s (later_fine at records s fine) by)
+
+  -- One owner's part in a run.
+  pub ran : IsHistory owner.entry found → slice_get house.owners o ≡ Some owner → owner.entry.analysts ≡ length house.analysts → (xs : List Exchange) (last : List Record) (at : ℕ)
+      → AreKnown house (map (λ (x : Exchange). x.turn) xs) → map (λ (x : Exchange). x.turn) xs ≡ drop at spoken → Runs at xs last
+  ran begun here sized [] last at known drops g s fine leads =
+      let same : g ≡ last = sym leads in record {
+        sources = s;
+        programs = prefix_self s.programs;
+        places = prefix_self s.places;
+        on = ([], append-nil g ∙ same);
+        fine = subst (λ (k : ℕ). IsFine k last s) (sym (add-zero at)) (subst (λ (rs : List Record). IsFine at rs s) same fine);
+        held = tt;
+        placed = λ n place past stands. absurd (let within = slice_get_within s.places n place stands in omega arith);
+      }
+  ran begun here sized (x ∷ xs) last at known drops g s fine leads =
+      let left = drop_first spoken at x.turn (map (λ (y : Exchange). y.turn) xs) drops in
+      first_turn begun at g s (meant_at house x.turn) x xs last here sized left.0 (asks_only house x.turn.line x.turn.who known.0) refl fine leads
+      (λ g' s' fine' more. ran begun here sized xs last (suc at) known.1 left.1 g' s' fine' more)

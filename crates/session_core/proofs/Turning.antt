@@ -4,16 +4,16 @@ use Rattle.std.specs.Prelude.{Result, Ok, Err}
 use Rattle.std.specs.List.{flat_map, onto_first}
 use Rattle.wire_lines.specs.Lines.{lines_of}
 use Rattle.wire_lines.specs.Request.{Asked, hello, ask, bye, request_of}
-use Rattle.wire_lines.specs.declared.request.LineFault.{LineFault}
-use Rattle.wire_lines.specs.declared.request.LineFault.TheVariants.{Malformed, TooLong}
-use Rattle.session_core.specs.House.{House, Owner, analyst_named, owner_named}
-use Rattle.session_core.specs.Reply.{Meant, told, wants, meant_by, meant_by_request, meant_by_hello, meant_by_ask, next_who}
-use Rattle.session_core.specs.Transcript.{Turn, session_turns, blocks_of, turns_of, is_bye, is_bye_request}
+use Rattle.wire_lines.specs.declared.refusal.LineRefusal.{LineRefusal}
+use Rattle.answer_path.specs.Owner.{Owner}
+use Rattle.session_core.specs.House.{House, analyst_named, owner_named}
+use Rattle.session_core.specs.Meant.{Meant, says, wants, meant_by, meant_by_request, meant_by_hello, meant_by_ask, next_who}
+use Rattle.session_core.specs.Turns.{Turn, session_turns, blocks_of, turns_of, is_bye, is_bye_request}
 use Rattle.session_core.specs.Code.{turns_behind, turns_left, who_behind, is_ended}
 
 abbrev says_bye : Meant → Bool
-says_bye (told reply next) = is_ended reply
-says_bye (wants n owner query) = false
+says_bye (says reply next) = is_ended reply
+says_bye (wants n owner demand) = false
 
 hello_says : (house : House) (who : Option ℕ) (name : List ℕ) (found : Option ℕ) → says_bye (meant_by_hello house who name found) ≡ false
 hello_says house who name None = refl
@@ -25,9 +25,8 @@ ask_says who (Some found) None program = refl
 ask_says None (Some found) (Some e) program = refl
 ask_says (Some analyst) (Some found) (Some e) program = refl
 
-request_says : (house : House) (who : Option ℕ) (request : Result Asked LineFault) → says_bye (meant_by_request house who request) ≡ is_bye_request request
-request_says house who (Err (Malformed word)) = refl
-request_says house who (Err TooLong) = refl
+request_says : (house : House) (who : Option ℕ) (request : Result Asked LineRefusal) → says_bye (meant_by_request house who request) ≡ is_bye_request request
+request_says house who (Err refusal) = refl
 request_says house who (Ok (hello name)) = hello_says house who name (analyst_named house name)
 request_says house who (Ok (ask name epsilon program)) = ask_says who (owner_named house name) epsilon program
 request_says house who (Ok bye) = refl

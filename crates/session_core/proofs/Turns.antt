@@ -6,11 +6,12 @@ use Rattle.std.proofs.lemmas.List.{map-append}
 use Rattle.std.proofs.lemmas.List.Quantifiers.{position-Some}
 use Rattle.wire_lines.specs.Lines.{lines_of}
 use Rattle.wire_lines.specs.Request.{Asked, hello, ask, bye, request_of}
-use Rattle.wire_lines.specs.declared.request.LineFault.{LineFault}
-use Rattle.wire_lines.specs.declared.request.LineFault.TheVariants.{Malformed, TooLong}
-use Rattle.session_core.specs.House.{House, Owner, analyst_named, owner_named}
-use Rattle.session_core.specs.Reply.{meant_by, meant_by_request, meant_by_hello, meant_by_ask, next_who}
-use Rattle.session_core.specs.Transcript.{Turn, session_turns, blocks_of, turns_of, is_bye}
+use Rattle.wire_lines.specs.declared.refusal.LineRefusal.{LineRefusal}
+use Rattle.answer_path.specs.Owner.{Owner}
+use Rattle.session_core.specs.House.{House, analyst_named, owner_named}
+use Rattle.session_core.specs.Meant.{meant_by, meant_by_request, meant_by_hello, meant_by_ask, next_who}
+use Rattle.session_core.specs.Turns.{Turn, session_turns, blocks_of, turns_of, is_bye}
+use Rattle.session_core.proofs.Exchanges.{all_append}
 
 -- the lines of a session's turns
 session_lines : (house : House) (who : Option ℕ) (lines : List (List ℕ)) → map (λ (t : Turn). t.line) (session_turns house who lines) ≡ lines
@@ -61,10 +62,9 @@ ask_known house who (Some found) None program known = known
 ask_known house None (Some found) (Some e) program known = known
 ask_known house (Some analyst) (Some found) (Some e) program known = known
 
-request_known : (house : House) (who : Option ℕ) (request : Result Asked LineFault) → IsKnown house who
+request_known : (house : House) (who : Option ℕ) (request : Result Asked LineRefusal) → IsKnown house who
     → IsKnown house (next_who who (meant_by_request house who request))
-request_known house who (Err (Malformed word)) known = known
-request_known house who (Err TooLong) known = known
+request_known house who (Err refusal) known = known
 request_known house who (Ok (hello name)) known = greeted_known house who name (analyst_named house name) refl known
 request_known house who (Ok (ask name epsilon program)) known = ask_known house who (owner_named house name) epsilon program known
 request_known house who (Ok bye) known = known
@@ -76,17 +76,13 @@ next_known house who line known = request_known house who (request_of line) know
 abbrev pub AreKnown : House → List Turn → Type 0
 AreKnown house turns = AllByRecursion (λ (t : Turn). IsKnown house t.who) turns
 
-known_append : (house : House) (xs ys : List Turn) → AreKnown house xs → AreKnown house ys → AreKnown house (xs ++ ys)
-known_append house [] ys f g = g
-known_append house (x ∷ xs) ys f g = (f.0, known_append house xs ys f.1 g)
-
 session_known : (house : House) (who : Option ℕ) (lines : List (List ℕ)) → IsKnown house who → AreKnown house (session_turns house who lines)
 session_known house who [] known = tt
 session_known house who (line ∷ lines) known = (known, session_known house (next_who who (meant_by house who line)) lines (next_known house who line known))
 
 blocks_known : (house : House) (blocks : List (List (List ℕ))) → AreKnown house (flat_map (session_turns house None) blocks)
 blocks_known house [] = tt
-blocks_known house (block ∷ blocks) = known_append house (session_turns house None block) (flat_map (session_turns house None) blocks) (session_known house None block tt) (blocks_known house blocks)
+blocks_known house (block ∷ blocks) = all_append (λ (t : Turn). IsKnown house t.who) (session_turns house None block) (flat_map (session_turns house None) blocks) (session_known house None block tt) (blocks_known house blocks)
 
 -- Who speaks is an analyst of the house, at each turn.
 pub turns_known : (house : House) (script : List ℕ) → AreKnown house (turns_of house script)

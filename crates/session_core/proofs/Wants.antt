@@ -1,61 +1,92 @@
 -- what a line that asks comes to
-use Rattle.std.proofs.Common.{◌≡◌, ℕ, ◌<◌, Bool, true, false, cond, List, [], ◌∷◌, length, Option, Some, None, refl, sym, ◌∙◌, ap, arith, bytes_eq}
+use Rattle.std.proofs.Common.{◌≡◌, ℕ, suc, ◌+◌, ◌<◌, Bool, true, false, cond, List, [], ◌∷◌, length, slice_get, Option, Some, None, refl, sym, ◌∙◌, ap, arith, bytes_eq}
 use Rattle.std.specs.Prelude.{Result, Ok, Err}
 use Rattle.budget_core.specs.Entries.{IsEpsilon}
 use Rattle.budget_core.specs.declared.records.View.TheVariants.{Whole}
 use Rattle.wire_lines.proofs.Requests.{grammar_from}
 use Rattle.wire_lines.specs.Request.{Asked, hello, ask, bye, request_of}
-use Rattle.wire_lines.specs.declared.request.LineFault.{LineFault}
-use Rattle.wire_lines.specs.declared.request.LineFault.TheVariants.{Malformed, TooLong}
-use Rattle.session_core.specs.House.{House, Owner, analyst_named, owner_named, owner_from}
-use Rattle.session_core.specs.Reply.{Meant, told, wants, meant_by, meant_by_request, meant_by_hello, meant_by_ask}
-use Rattle.session_core.specs.Verdict.{Query}
+use Rattle.wire_lines.specs.declared.refusal.LineRefusal.{LineRefusal}
+use Rattle.answer_path.specs.Owner.{Owner}
+use Rattle.answer_path.specs.Query.{Query}
+use Rattle.session_core.specs.House.{House, analyst_named, owner_named, owner_from}
+use Rattle.session_core.specs.Meant.{Demand, asks, Meant, says, wants, meant_by, meant_by_request, meant_by_hello, meant_by_ask}
 use Rattle.session_core.proofs.Turns.{IsKnown}
 
--- A query that a line of a house of one owner asks is of that owner, whole, by a known analyst, and its program is the line's.
-pub record IsAsked (house : House) (owner : Owner) (line : List ℕ) (n : ℕ) (asked : Owner) (query : Query) : Type 0 where
-  pub first : n ≡ 0
-  pub same : asked ≡ owner
+-- A demand that a line makes is of one of the house's owners. It asks the whole view, by an analyst of the house, for the
+-- line's program.
+pub record IsAskOf (house : House) (line : List ℕ) (n : ℕ) (owner : Owner) (query : Query) : Type 0 where
+  pub stands : slice_get house.owners n ≡ Some owner
   pub whole : query.view ≡ Whole
   pub analyst : query.analyst < length house.analysts
   pub name : List ℕ
   pub written : request_of line ≡ Ok (ask name (Some query.e) query.program)
 
--- what a meaning that asks says of it
-abbrev pub AsksOnly : House → Owner → List ℕ → Meant → Type 0
-AsksOnly house owner line (told reply next) = Unit {0}
-AsksOnly house owner line (wants n asked query) = IsAsked house owner line n asked query
+abbrev pub AsksOnly : House → List ℕ → Meant → Type 0
+AsksOnly house line (says reply next) = Unit {0}
+AsksOnly house line (wants n owner (asks query)) = IsAskOf house line n owner query
 
-found_one : (owner : Owner) (name : List ℕ) (b : Bool) (found : ℕ × Owner) → cond b (Some (0, owner)) None ≡ Some found → (found.0 ≡ 0) × (found.1 ≡ owner)
-found_one owner name true found e = (cc, cc)
-found_one owner name false found e = cc
+found_from : (k : ℕ) (owners : List Owner) (name : List ℕ) (found : ℕ × Owner) → owner_from k owners name ≡ Some found → (i : ℕ) × (found.0 ≡ k + i) × (slice_get owners i ≡ Some found.1)
+found_from k [] name found is = absurd (cc (is))
+found_from k (owner ∷ owners) name found is = here (found_from (k + 1) owners name found) (bytes_eq owner.name name) is
+  where
+    here : (owner_from (k + 1) owners name ≡ Some found → (i : ℕ) × (found.0 ≡ (k + 1) + i) × (slice_get owners i ≡ Some found.1))
+        → (b : Bool) → cond b (Some (k, owner)) (owner_from (k + 1) owners name) ≡ Some found → (i : ℕ) × (found.0 ≡ k + i) × (slice_get (owner ∷ owners) i ≡ Some found.1)
+    here more true is = let first : k ≡ found.0 = cc in let same : owner ≡ found.1 = cc in (0, omega (arith, first), ap (λ (w : Owner). Some w) same)
+    here more false is = let rest = more is in (suc rest.0, omega (arith, rest.1), rest.2)
 
-asked_only : (house : House) (owner : Owner) (line : List ℕ) (who : Option ℕ) (name : List ℕ) (found : Option (ℕ × Owner)) (epsilon : Option ℕ) (program : List ℕ)
-    → house.owners ≡ owner ∷ [] → IsKnown house who → request_of line ≡ Ok (ask name epsilon program) → owner_named house name ≡ found
-    → AsksOnly house owner line (meant_by_ask who found epsilon program)
-asked_only house owner line who name None epsilon program one known reads named = tt
-asked_only house owner line who name (Some found) None program one known reads named = tt
-asked_only house owner line None name (Some found) (Some e) program one known reads named = tt
-asked_only house owner line (Some analyst) name (Some found) (Some e) program one known reads named =
-    let at : owner_from 0 (owner ∷ []) name ≡ Some found = ap (λ (owners : List Owner). owner_from 0 owners name) (sym one) ∙ named in
-    let is = found_one owner name (bytes_eq owner.name name) found at in
-    record { first = is.0; same = is.1; whole = refl; analyst = known; name = name; written = reads }
+owner_stands : (house : House) (name : List ℕ) (found : ℕ × Owner) → owner_named house name ≡ Some found → slice_get house.owners found.0 ≡ Some found.1
+owner_stands house name found is =
+    let f = found_from 0 house.owners name found is in
+    let same : f.0 ≡ found.0 = omega (arith, f.1) in
+    ap (λ k. slice_get house.owners k) (sym same) ∙ f.2
 
-hello_only : (house : House) (owner : Owner) (line : List ℕ) (who : Option ℕ) (name : List ℕ) (found : Option ℕ) → AsksOnly house owner line (meant_by_hello house who name found)
-hello_only house owner line who name None = tt
-hello_only house owner line who name (Some analyst) = tt
+asked_only : (house : House) (line : List ℕ) (who : Option ℕ) (name : List ℕ) (found : Option (ℕ × Owner)) (epsilon : Option ℕ) (program : List ℕ)
+    → IsKnown house who → request_of line ≡ Ok (ask name epsilon program) → owner_named house name ≡ found
+    → AsksOnly house line (meant_by_ask who found epsilon program)
+asked_only house line who name None epsilon program known reads named = tt
+asked_only house line who name (Some found) None program known reads named = tt
+asked_only house line None name (Some found) (Some e) program known reads named = tt
+asked_only house line (Some analyst) name (Some found) (Some e) program known reads named =
+    record { stands = owner_stands house name found named; whole = refl; analyst = known; name = name; written = reads }
 
-request_only : (house : House) (owner : Owner) (line : List ℕ) (who : Option ℕ) (request : Result Asked LineFault)
-    → house.owners ≡ owner ∷ [] → IsKnown house who → request_of line ≡ request → AsksOnly house owner line (meant_by_request house who request)
-request_only house owner line who (Err (Malformed word)) one known reads = tt
-request_only house owner line who (Err TooLong) one known reads = tt
-request_only house owner line who (Ok (hello name)) one known reads = hello_only house owner line who name (analyst_named house name)
-request_only house owner line who (Ok (ask name epsilon program)) one known reads = asked_only house owner line who name (owner_named house name) epsilon program one known reads refl
-request_only house owner line who (Ok bye) one known reads = tt
+hello_only : (house : House) (line : List ℕ) (who : Option ℕ) (name : List ℕ) (found : Option ℕ) → AsksOnly house line (meant_by_hello house who name found)
+hello_only house line who name None = tt
+hello_only house line who name (Some analyst) = tt
 
-pub asks_only : (house : House) (owner : Owner) (line : List ℕ) (who : Option ℕ) → house.owners ≡ owner ∷ [] → IsKnown house who → AsksOnly house owner line (meant_by house who line)
+request_only : (house : House) (line : List ℕ) (who : Option ℕ) (request : Result Asked LineRefusal) → IsKnown house who → request_of line ≡ request → AsksOnly house line (meant_by_request house who request)
+request_only house line who (Err refusal) known reads = tt
+request_only house line who (Ok (hello name)) known reads = hello_only house line who name (analyst_named house name)
+request_only house line who (Ok (ask name epsilon program)) known reads = asked_only house line who name (owner_named house name) epsilon program known reads refl
+request_only house line who (Ok bye) known reads = tt
+
+pub asks_only : (house : House) (line : List ℕ) (who : Option ℕ) → IsKnown house who → AsksOnly house line (meant_by house who line)
 unfolding meant_by
-asks_only house owner line who one known = request_only house owner line who (request_of line) one known refl
+asks_only house line who known = request_only house line who (request_of line) known refl
+
+-- the owner that a line asks is one of the house's
+stands_by : (house : House) (who : Option ℕ) (found : Option (ℕ × Owner)) (name : List ℕ) (epsilon : Option ℕ) (program : List ℕ) (n : ℕ) (owner : Owner) (demand : Demand) → owner_named house name ≡ found
+    → meant_by_ask who found epsilon program ≡ wants n owner demand → slice_get house.owners n ≡ Some owner
+stands_by house who None name epsilon program n owner demand named is = absurd (cc (is))
+stands_by house who (Some found) name None program n owner demand named is = absurd (cc (is))
+stands_by house None (Some found) name (Some e) program n owner demand named is = absurd (cc (is))
+stands_by house (Some analyst) (Some found) name (Some e) program n owner demand named is =
+    let first : found.0 ≡ n = cc in
+    let same : found.1 ≡ owner = cc in
+    ap (λ k. slice_get house.owners k) (sym first) ∙ owner_stands house name found named ∙ ap (λ (w : Owner). Some w) same
+
+hello_asks_nobody : (house : House) (who : Option ℕ) (name : List ℕ) (found : Option ℕ) (n : ℕ) (owner : Owner) (demand : Demand) → meant_by_hello house who name found ≡ wants n owner demand → ⊥
+hello_asks_nobody house who name None n owner demand is = cc (is)
+hello_asks_nobody house who name (Some analyst) n owner demand is = cc (is)
+
+request_stands : (house : House) (who : Option ℕ) (request : Result Asked LineRefusal) (n : ℕ) (owner : Owner) (demand : Demand) → meant_by_request house who request ≡ wants n owner demand → slice_get house.owners n ≡ Some owner
+request_stands house who (Err refusal) n owner demand is = absurd (cc (is))
+request_stands house who (Ok (hello name)) n owner demand is = absurd (hello_asks_nobody house who name (analyst_named house name) n owner demand is)
+request_stands house who (Ok (ask name epsilon program)) n owner demand is = stands_by house who (owner_named house name) name epsilon program n owner demand refl is
+request_stands house who (Ok bye) n owner demand is = absurd (cc (is))
+
+pub wanted_stands : (house : House) (who : Option ℕ) (line : List ℕ) (n : ℕ) (owner : Owner) (demand : Demand) → meant_by house who line ≡ wants n owner demand → slice_get house.owners n ≡ Some owner
+unfolding meant_by
+wanted_stands house who line n owner demand is = request_stands house who (request_of line) n owner demand is
 
 -- an epsilon that a line writes is in its range
 pub asked_in_range : (line name program : List ℕ) (e : ℕ) → request_of line ≡ Ok (ask name (Some e) program) → IsEpsilon e

@@ -1,44 +1,40 @@
 -- what the code's values mean
-use Rattle.std.specs.Prelude.{◌≡◌, ℕ, ◌<◌, ◌≤◌, List, [], ◌∷◌, length, ◌++◌, Option, Some, None, ⊤, Bool, true, false, if◌then◌else◌}
+use Rattle.std.specs.Prelude.{◌≡◌, ℕ, ◌<◌, ◌≤◌, nat_lt, List, [], ◌∷◌, length, ◌++◌, Option, Some, None, ⊤, Bool, true, false}
+use Rattle.std.specs.Prelude.{if◌then◌else◌, get_or, map, slice_get, sum_by}
 use Rattle.std.specs.List.{flat_map}
-use Rattle.budget_core.specs.Entries.{IsEpsilon}
-use Rattle.budget_core.specs.declared.records.View.TheVariants.{Whole}
-use Rattle.budget_core.specs.declared.records.Record.{Record}
-use Rattle.budget_core.specs.Ledger.{Ledger}
-use Rattle.wire_lines.specs.Reply.{Replied, greeted, answered, ended, unbounded, refused, replied, reply_text}
-use Rattle.wire_lines.specs.declared.refusal.Refusal.TheVariants.{Lost, NoMemory}
-use Rattle.wire_lines.specs.declared.request.TheConstants.{LINE_LIMIT}
-use Rattle.session_core.specs.House.{Register, House, owner_of}
-use Rattle.session_core.specs.Verdict.{Query as Asked}
-use Rattle.session_core.specs.Reply.{Meant, told, wants, meant_by, next_who, IsReplyTo}
-use Rattle.session_core.specs.Transcript.{Turn, session_turns, blocks_of, is_bye, meant_at, start_for, records_for, journals_with, IsRun}
-use Rattle.session_core.specs.declared.line.Query.{Query}
+use Rattle.wire_lines.specs.Reply.{Replied, greeted, answered, ended, refused, replied, reply_text}
+use Rattle.answer_path.specs.Owner.{Owner}
+use Rattle.answer_path.specs.Answered.{Told}
+use Rattle.answer_path.specs.Pass.{Pass, first_of_run}
+use Rattle.answer_path.specs.Code.{query_of, IsQueryOf}
+use Rattle.session_core.specs.House.{Register, House, owner_of, entry_of}
+use Rattle.session_core.specs.Meant.{Meant, says, wants, asks, meant_by, next_who}
+use Rattle.session_core.specs.Turns.{Turn, session_turns, blocks_of, is_bye, turns_of}
+use Rattle.session_core.specs.Exchanges.{Exchange, ArePlain, told_of}
+use Rattle.session_core.specs.Served.{AnswersOn}
+use Rattle.session_core.specs.Transcript.{Journals, LeadExactly}
 use Rattle.session_core.specs.declared.line.Meaning.{Meaning}
 use Rattle.session_core.specs.declared.line.Meaning.TheVariants.{Says, Asks}
 
--- a query of the whole dataset
-abbrev pub query_of : Query → Asked
-query_of query = record { analyst = query.analyst; view = Whole; e = query.epsilon; program = query.program.now }
-
 -- what a line comes to, in a house of one owner
 abbrev pub meaning_of : Register → Meaning → Meant
-meaning_of register (Says reply who) = told (replied reply) who
-meaning_of register (Asks query) = wants 0 (owner_of register) (query_of query)
+meaning_of register (Says reply who) = says (replied reply) who
+meaning_of register (Asks query) = wants 0 (owner_of register) (asks (query_of query))
 
 -- who speaks is an analyst of the house
 abbrev pub IsAnalyst : Register → Option ℕ → Type 0
 IsAnalyst register None = ⊤
 IsAnalyst register (Some analyst) = analyst < length register.analysts
 
--- a query is of an analyst of the house, at an epsilon in its range
-pub record IsQueryOf (register : Register) (query : Query) : Type 0 where
-  pub analyst : query.analyst < length register.analysts
-  pub epsilon : IsEpsilon query.epsilon
-  pub short : length query.program.now ≤ LINE_LIMIT
-
+-- a query is of the owner's entry, and of the house's one owner
 abbrev pub IsMeaningIn : Register → Meaning → Type 0
 IsMeaningIn register (Says reply who) = IsAnalyst register who
-IsMeaningIn register (Asks query) = IsQueryOf register query
+IsMeaningIn register (Asks query) = (query.owner ≡ 0) × IsQueryOf (entry_of register) (query_of query)
+
+-- as short a reply as any line may have, and no query
+abbrev pub IsShort : Meaning → Type 0
+IsShort (Says reply who) = length (reply_text (replied reply)) ≤ 8
+IsShort (Asks query) = ⊥
 
 -- the turns that are left in a script, where this analyst speaks at the first
 abbrev pub turns_behind : House → Option ℕ → List (List (List ℕ)) → List Turn
@@ -56,34 +52,65 @@ abbrev pub is_ended : Replied → Bool
 is_ended (greeted name) = false
 is_ended (answered n value taken) = false
 is_ended ended = true
-is_ended (unbounded table) = false
 is_ended (refused refusal) = false
 
--- the reply doesn't say that an answer was lost
-abbrev pub IsNoLoss : Replied → Type 0
-IsNoLoss (refused (Lost n)) = ⊥
-IsNoLoss reply = ⊤
+-- the exchange of one line, where this analyst speaks
+abbrev pub one_line : (who : Option ℕ) → (line : List ℕ) → Replied → List Told → List Exchange
+one_line who line reply told = record { turn = record { who = who; line = line }; reply = reply; told = told } ∷ []
 
--- the reply doesn't say that memory ran out
-abbrev pub HadMemory : Replied → Type 0
-HadMemory (refused NoMemory) = ⊥
-HadMemory reply = ⊤
+abbrev pub no_pass : Pass
+no_pass = record { entry = record { budget = 0; capacity = 0; analysts = 0; keys = [] }; found = []; seen = []; own = [] }
 
--- The book went on from one state to the next by the records that the reply to this query adds.
-abbrev pub GoesOn : Register → (ℕ → ℕ → ℕ → ℕ) → Query → (before after : Ledger) → Replied → Type 0
-GoesOn register draws query before after reply =
-    (added : List Record) × IsReplyTo draws 0 before.records (wants 0 (owner_of register) (query_of query)) reply added
-    × (after ≡ record before { records = before.records ++ added })
+-- the pass of the owner of this number, among one pass for each owner
+abbrev pub pass_at : List Pass → ℕ → Pass
+pass_at passes o = get_or passes o no_pass
 
--- The same of a line, where nothing was found.
-abbrev pub IsLineReply : House → (ℕ → ℕ → ℕ → ℕ) → Turn → (before after : Ledger) → Replied → Type 0
-IsLineReply house draws turn before after reply =
-    (added : List Record)
-    × IsReplyTo draws (start_for ([] ∷ []) (meant_at house turn)) (records_for (before.records ∷ []) (meant_at house turn)) (meant_at house turn) reply added
-    × (after.records ∷ [] ≡ journals_with (before.records ∷ []) (meant_at house turn) added)
-    × (after.entry ≡ before.entry) × (after.found ≡ before.found)
+-- each owner's records that the passes have seen, and those that were found
+abbrev pub seen_by : List Pass → Journals
+seen_by passes o = (pass_at passes o).seen
 
--- The text is the replies to a script where nothing was found, and in the end the records are these.
-abbrev pub IsWritten : House → (ℕ → ℕ → ℕ → ℕ) → (script text : List ℕ) → List Record → Type 0
-IsWritten house draws script text records =
-    (replies : List Replied) × IsRun house draws ([] ∷ []) script replies (records ∷ []) × (text ≡ flat_map reply_text replies)
+abbrev pub found_by : List Pass → Journals
+found_by passes o = (pass_at passes o).found
+
+-- There is a pass for each of the house's owners, on its entry.
+pub record ArePasses (house : House) (passes : List Pass) : Type 0 where
+  pub each_has : length passes ≡ length house.owners
+  pub entries : (o : ℕ) (owner : Owner) → slice_get house.owners o ≡ Some owner → (pass_at passes o).entry ≡ owner.entry
+
+-- One owner's pass goes on by some exchanges: each of its turns has the stated reply on some records that begin with what
+-- the pass had seen, and what they added is the pass's own.
+pub record GoesOn (house : House) (draws : ℕ → ℕ → ℕ → ℕ) (o : ℕ) (xs : List Exchange) (before after : Pass) : Type 0 where
+  pub entry : after.entry ≡ before.entry
+  pub found : after.found ≡ before.found
+  pub own : after.own ≡ before.own ++ told_of house o xs
+  pub answers : AnswersOn house draws o (first_of_run before) before.seen xs after.seen
+
+-- Some lines were served, in any order with those of others: who asks no owner has the plain reply, and each pass went on.
+pub record AreServed (house : House) (draws : ℕ → ℕ → ℕ → ℕ) (xs : List Exchange) (before after : List Pass) : Type 0 where
+  pub each_has : length after ≡ length before
+  pub plain : ArePlain house xs
+  pub owners : (o : ℕ) (owner : Owner) → slice_get house.owners o ≡ Some owner → GoesOn house draws o xs (pass_at before o) (pass_at after o)
+
+-- No other line added records meanwhile: each turn was answered on just the records that the pass had seen.
+abbrev pub AreAlone : House → (ℕ → ℕ → ℕ → ℕ) → List Exchange → (before after : List Pass) → Type 0
+AreAlone house draws xs before after = (o : ℕ) (owner : Owner) → slice_get house.owners o ≡ Some owner
+    → LeadExactly house draws o (first_of_run (pass_at before o)) (pass_at before o).seen xs (pass_at after o).seen
+
+-- room for the longest reply to a line of so many bytes: below six it asks nothing, and is refused or `bye`
+abbrev pub room_for_line : ℕ → ℕ
+room_for_line n = if nat_lt n 6 then 8 else 160
+
+-- room for the replies to some lines
+abbrev pub room_for_lines : List (List ℕ) → ℕ
+room_for_lines lines = sum_by (λ line. room_for_line (length line)) lines
+
+-- the passes have seen just what was found
+abbrev pub AreFresh : House → List Pass → Type 0
+AreFresh house passes = (o : ℕ) (owner : Owner) → slice_get house.owners o ≡ Some owner → (pass_at passes o).seen ≡ (pass_at passes o).found
+
+-- The text is the replies to the script's turns, which were served.
+pub record HasServed (house : House) (draws : ℕ → ℕ → ℕ → ℕ) (script text : List ℕ) (before after : List Pass) : Type 0 where
+  pub exchanges : List Exchange
+  pub turns : map (λ x. x.turn) exchanges ≡ turns_of house script
+  pub written : text ≡ flat_map reply_text (map (λ x. x.reply) exchanges)
+  pub served : AreServed house draws exchanges before after

@@ -1,60 +1,65 @@
--- What is promised of a script's replies and records.
-use Rattle.std.specs.Prelude.{◌≡◌, ℕ, zero, suc, ◌*◌, ◌≤◌, List, [], ◌∷◌, ◌++◌, length, map, slice_get, Some}
-use Rattle.std.specs.List.{flat_map}
+-- what is promised of a script's replies and records
+use Rattle.std.specs.Prelude.{◌≡◌, ℕ, List, ◌++◌, map, slice_get, Some}
+use mathlib.Core.List.{IsPrefix}
 use Rattle.budget_core.specs.declared.records.Record.{Record}
-use Rattle.budget_core.specs.Cost.{cost_of}
-use Rattle.budget_core.specs.Counts.{reservations_of}
-use Rattle.budget_core.specs.Legal.{IsLegal}
 use Rattle.wire_lines.specs.Lines.{lines_of}
-use Rattle.wire_lines.specs.Reply.{Replied, reply_text}
-use Rattle.metric_values.specs.Tables.{Dataset, apart}
-use Rattle.metric_law.specs.Law.{IsDataset}
-use Rattle.session_core.specs.House.{House, Owner}
-use Rattle.session_core.specs.Explains.{Explains}
-use Rattle.session_core.specs.Shown.{IsShown}
-use Rattle.session_core.specs.Served.{History, AreServed, AreAskedBy, ArePlaced}
-use Rattle.session_core.specs.Transcript.{Journals, records_at, turns_of, IsRun}
+use Rattle.wire_lines.specs.Reply.{Replied}
+use Rattle.answer_path.specs.Owner.{Owner}
+use Rattle.owner_history.specs.Sound.{IsSound, IsFound}
+use Rattle.session_core.specs.House.{House}
+use Rattle.session_core.specs.Turns.{turns_of}
+use Rattle.session_core.specs.Exchanges.{Exchange, ArePlain}
+use Rattle.session_core.specs.Served.{Sources, AreAskedBy, AnswersOn, AreHeldTo, ArePlaced}
+use Rattle.session_core.specs.Transcript.{Journals, first_new}
 
--- the programs of the owner of this number
-abbrev pub programs_at : List (List (List ℕ)) → ℕ → List (List ℕ)
-programs_at [] n = []
-programs_at (programs ∷ more) zero = programs
-programs_at (programs ∷ more) (suc n) = programs_at more n
+-- the programs that explain each owner's found records, by its number
+abbrev pub Programs : Type 0
+Programs = ℕ → List (List ℕ)
 
--- What holds of an owner's records, the owner being number o of the house; the programs of the reservations that were found
--- are these.
+-- Owed to an owner at every status, the owner being number o of the house: its records are legal, within the budget, explained
+-- by programs and boundedly displaced, and the programs behind the earlier ones are those that turns of the script ask of this
+-- owner, each turn at most once.
+pub record IsOwed (house : House) (draws : ℕ → ℕ → ℕ → ℕ) (script : List ℕ) (o : ℕ) (owner : Owner) (found : List Record)
+    (earlier : List (List ℕ)) (sources : Sources) (records : List Record) : Type 0 where
+  pub sound : IsSound owner (draws o) found (earlier ++ sources.programs) records
+  pub asked : AreAskedBy house o owner (turns_of house script) sources
+
+-- What replies say of an owner's records: each is the stated one on some of them, what it added stands in them, they bear out
+-- what it says, and each new reservation's number is said in the reply to its turn.
+pub record IsReplied (house : House) (draws : ℕ → ℕ → ℕ → ℕ) (o : ℕ) (owner : Owner) (found : List Record)
+    (earlier : List (List ℕ)) (sources : Sources) (xs : List Exchange) (records : List Record) : Type 0 where
+  -- what is known of the owner's records at the end
+  pub last : List Record
+  pub answers : AnswersOn house draws o (first_new found) found xs last
+  pub begins : IsPrefix last records
+  pub held : AreHeldTo house o (earlier ++ sources.programs) records xs
+  pub placed : ArePlaced (first_new found) sources.places xs
+
+-- both, of the same programs
 pub record IsHonoured (house : House) (draws : ℕ → ℕ → ℕ → ℕ) (script : List ℕ) (o : ℕ) (owner : Owner) (found : List Record)
-    (earlier : List (List ℕ)) (replies : List Replied) (history : History) : Type 0 where
-  -- reservations from here on are of this run
-  pub start : history.start ≡ length (reservations_of found)
-  -- the records are legal, and their cost is within the budget
-  pub legal : IsLegal owner.entry found history.records
-  pub within : cost_of history.records ≤ owner.entry.budget
-  -- each answer is its program's value plus the noise of its number, and a number is exhausted only where there is none
-  pub explained : Explains owner (draws o) history.programs history.records
-  -- the programs behind the earlier ones are those that turns of the script ask of this owner, each turn at most once
-  pub added : List (List ℕ)
-  pub begins : history.programs ≡ earlier ++ added
-  pub asked : AreAskedBy house o owner (turns_of house script) added history.places
-  -- each line has the stated reply on some of these records
-  pub served : AreServed house draws o history 0 0 (turns_of house script) replies
-  -- each reservation's number is said in the reply to its line
-  pub placed : ArePlaced history.start history.places replies
-  -- against any second dataset the displacement shown is at most the cost times the distance
-  pub bounded : (other : Dataset) → IsDataset owner.tables other
-      → (displaced : ℕ) × IsShown owner.tables history.programs history.records owner.rows other displaced
-      × (displaced ≤ cost_of history.records * apart owner.rows other)
+    (earlier : List (List ℕ)) (xs : List Exchange) (records : List Record) : Type 0 where
+  pub sources : Sources
+  pub owed : IsOwed house draws script o owner found earlier sources records
+  pub replied : IsReplied house draws o owner found earlier sources xs records
 
--- What was written for a script are replies that keep these promises to each owner, whose records were found, with these
--- programs.
-pub record Headline (house : House) (draws : ℕ → ℕ → ℕ → ℕ) (found : Journals) (earlier : List (List (List ℕ))) (script written : List ℕ) : Type 0 where
-  pub replies : List Replied
-  -- each owner's records after the script
-  pub journals : Journals
-  pub run : IsRun house draws found script replies journals
-  pub lines : written ≡ flat_map reply_text replies
-  -- the turns are the script's lines, in order
-  pub turns : map (λ turn. turn.line) (turns_of house script) ≡ lines_of script
+-- The records of every owner are sound, whatever was replied.
+abbrev pub AreOwed : House → (ℕ → ℕ → ℕ → ℕ) → (found : Journals) → (earlier : Programs) → (script : List ℕ) → (records : Journals) → Type 0
+AreOwed house draws found earlier script records = (o : ℕ) (owner : Owner) → slice_get house.owners o ≡ Some owner
+    → (sources : Sources) × IsOwed house draws script o owner (found o) (earlier o) sources (records o)
+
+-- These replies to a script and these records keep the promises to each owner, whose records were found, with these programs.
+pub record Headline (house : House) (draws : ℕ → ℕ → ℕ → ℕ) (found : Journals) (earlier : Programs) (script : List ℕ)
+    (replies : List Replied) (records : Journals) : Type 0 where
+  pub exchanges : List Exchange
+  -- the turns are the script's lines, in order, and these are their replies
+  pub turns : map (λ x. x.turn) exchanges ≡ turns_of house script
+  pub lines : map (λ turn. turn.line) (turns_of house script) ≡ lines_of script
+  pub replied : map (λ x. x.reply) exchanges ≡ replies
+  pub plain : ArePlain house exchanges
   pub owners : (o : ℕ) (owner : Owner) → slice_get house.owners o ≡ Some owner
-      → (history : History) × (history.records ≡ records_at journals o)
-      × IsHonoured house draws script o owner (records_at found o) (programs_at earlier o) replies history
+      → IsHonoured house draws script o owner (found o) (earlier o) exchanges (records o)
+
+-- what each owner's run may begin with
+abbrev pub AreFound : House → (ℕ → ℕ → ℕ → ℕ) → (earlier : Programs) → (found : Journals) → Type 0
+AreFound house draws earlier found = (o : ℕ) (owner : Owner) → slice_get house.owners o ≡ Some owner
+    → IsFound owner (draws o) (earlier o) (found o)

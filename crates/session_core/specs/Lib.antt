@@ -1,11 +1,9 @@
 pub mod House
-pub mod Program
-pub mod Noise
-pub mod Verdict
-pub mod Reply
+pub mod Meant
+pub mod Turns
+pub mod Exchanges
 pub mod Transcript
-pub mod Explains
-pub mod Shown
 pub mod Served
 pub mod Headline
+pub mod Said
 pub mod Code

@@ -1,94 +1,43 @@
--- The replies to lines, as one worker gives them one after another: each line's reply is the stated one on a front of
--- the owner's records in the end, and the front has all that the worker saw and added before.
-use Rattle.std.specs.Prelude.{◌≡◌, ◌≢◌, ℕ, ◌+◌, ◌≤◌, ◌<◌, List, [], ◌∷◌, length, take, slice_get, Some, suc, ◌==◌, MatchBool, Ok}
+-- What is promised of lines and replies in whatever order the owner's records came: each reply is the stated one on some of
+-- them, which begin with all that this worker saw and added before.
+use Rattle.std.specs.Prelude.{◌≡◌, ◌≢◌, ℕ, ◌+◌, ◌<◌, List, length, slice_get, Some, Ok}
+use Rattle.std.specs.List.{AllByRecursion}
 use Rattle.budget_core.specs.declared.records.Outcome.{Outcome}
-use Rattle.budget_core.specs.declared.records.Outcome.TheVariants.{Answered, Exhausted, Lost}
 use Rattle.budget_core.specs.declared.records.Record.{Record}
-use Rattle.budget_core.specs.declared.records.Record.TheVariants.{Reserve, Settle}
-use Rattle.budget_core.specs.Counts.{reservation_of, outcome_of}
-use Rattle.wire_lines.specs.Reply.{Replied, greeted, answered, ended, unbounded, refused}
-use Rattle.wire_lines.specs.declared.refusal.Refusal.TheVariants.{Exhausted as NoNoise, Lost as NoAnswer}
 use Rattle.wire_lines.specs.Request.{ask, request_of}
-use Rattle.session_core.specs.House.{House, Owner}
-use Rattle.session_core.specs.Reply.{Meant, told, wants, IsReplyTo}
-use Rattle.session_core.specs.Verdict.{Query}
-use Rattle.session_core.specs.Transcript.{Turn, meant_at}
+use Rattle.answer_path.specs.Owner.{Owner}
+use Rattle.answer_path.specs.Query.{Query}
+use Rattle.answer_path.specs.Answered.{Told, IsAsked}
+use Rattle.owner_history.specs.Granted.{settlement_in, IsBorneOut}
+use Rattle.session_core.specs.House.{House}
+use Rattle.session_core.specs.Meant.{Meant, Demand, asks, wants}
+use Rattle.session_core.specs.Turns.{Turn, meant_at}
+use Rattle.session_core.specs.Exchanges.{Exchange, Lead}
 
--- An owner's records in the end, the program of each reservation, and for each reservation from start on the place in the
--- script of the line that asked it.
-pub record History : Type 0 where
-  pub start : ℕ
-  pub records : List Record
+-- A demand is met on some of the owner's records, which begin with what was seen.
+abbrev pub MeetsOnSome : (ℕ → ℕ → ℕ) → (start : ℕ) → Owner → Demand → (seen : List Record) → Exchange → (after : List Record) → Type 0
+MeetsOnSome draws start owner (asks query) seen x after = IsAsked owner draws start query seen x.reply x.told after
+
+-- One owner's part in some exchanges of one worker, in any order with those of others.
+abbrev pub AnswersOn : House → (ℕ → ℕ → ℕ → ℕ) → (o start : ℕ) → (seen : List Record) → List Exchange → (last : List Record) → Type 0
+AnswersOn house draws o start seen xs last = Lead house o (MeetsOnSome (draws o) start) seen xs last
+
+-- the records stand at their places
+abbrev pub StandIn : List Record → List Told → Type 0
+StandIn records told = AllByRecursion (λ z. slice_get records z.0 ≡ Some z.1) told
+
+-- where the turn asks this owner: what it added stands in the owner's records, which bear out what its reply says
+abbrev pub IsHeldTo : (o : ℕ) → (programs : List (List ℕ)) → List Record → Meant → Exchange → Type 0
+IsHeldTo o programs records meant x = (owner : Owner) (query : Query) → meant ≡ wants o owner (asks query)
+    → StandIn records x.told × IsBorneOut programs records query x.reply
+
+abbrev pub AreHeldTo : House → (o : ℕ) → (programs : List (List ℕ)) → List Record → List Exchange → Type 0
+AreHeldTo house o programs records xs = AllByRecursion (λ x. IsHeldTo o programs records (meant_at house x.turn) x) xs
+
+-- The programs that turns of a script asked of an owner, one for each new reservation in order, and the places of the turns.
+pub record Sources : Type 0 where
   pub programs : List (List ℕ)
   pub places : List ℕ
-
--- The line at a place was granted the number n, and the records settle n so: its reservation stands right behind the
--- records that the line saw, with the line's analyst, view and epsilon, and its settlement right behind it.
-pub record IsGranted (history : History) (place seen : ℕ) (query : Query) (n : ℕ) (outcome : Outcome) : Type 0 where
-  pub p : ℕ
-  pub q : ℕ
-  pub taken : ℕ
-  pub reserved : slice_get history.records seen ≡ Some (Reserve n query.view query.e p q taken query.analyst)
-  pub numbered : reservation_of history.records n ≡ Some (Reserve n query.view query.e p q taken query.analyst)
-  pub settled : outcome_of history.records n ≡ Some outcome
-  pub settled_next : slice_get history.records (suc seen) ≡ Some (Settle n outcome)
-  pub program : slice_get history.programs n ≡ Some query.program
-  pub after : ℕ
-  pub later : n ≡ history.start + after
-  pub asked_at : slice_get history.places after ≡ Some place
-
--- what a reply to a query says of the records, beside being the stated one; a refusal that has no number adds none
-abbrev pub IsKept : History → (place seen : ℕ) → Query → (added : List Record) → Replied → Type 0
-IsKept history place seen query added (answered n value taken) = IsGranted history place seen query n (Answered value)
-IsKept history place seen query added (refused (NoNoise n)) = IsGranted history place seen query n Exhausted
-IsKept history place seen query added (refused (NoAnswer n)) = IsGranted history place seen query n Lost
-IsKept history place seen query added (refused refusal) = added ≡ []
-IsKept history place seen query added (greeted name) = added ≡ []
-IsKept history place seen query added (unbounded table) = added ≡ []
-IsKept history place seen query added ended = added ≡ []
-
--- the reply is to a line that was granted this number
-abbrev pub HasNumber : ℕ → Replied → Type 0
-HasNumber n (answered m value taken) = m ≡ n
-HasNumber n (refused (NoNoise m)) = m ≡ n
-HasNumber n (refused (NoAnswer m)) = m ≡ n
-HasNumber n (refused refusal) = ⊥
-HasNumber n (greeted name) = ⊥
-HasNumber n (unbounded table) = ⊥
-HasNumber n ended = ⊥
-
--- The line at each number's place has a reply with that number.
-abbrev pub ArePlaced : (start : ℕ) (places : List ℕ) → List Replied → Type 0
-ArePlaced start places replies =
-    (n place : ℕ) → slice_get places n ≡ Some place → (reply : Replied) × (slice_get replies place ≡ Some reply) × HasNumber (start + n) reply
-
--- The line at a place saw so many of the owner's records, at least as many as this worker knew of, and its reply is one
--- that is stated on those, with the records that it adds.
-pub record IsServed (draws : ℕ → ℕ → ℕ → ℕ) (n : ℕ) (owner : Owner) (history : History) (place known seen : ℕ) (query : Query) (reply : Replied)
-    (added : List Record) : Type 0 where
-  pub grows : known ≤ seen
-  pub within : seen ≤ length history.records
-  pub stated : IsReplyTo draws history.start (take seen history.records) (wants n owner query) reply added
-  pub kept : IsKept history place seen query added reply
-
--- What a line at a place comes to and its reply are as stated, as far as they concern the owner of this number, of whose
--- records the worker knows so many; and then the rest holds of as many as it knows after that.
-abbrev pub ServedThen : (ℕ → ℕ → ℕ → ℕ) → ℕ → History → (place known : ℕ) → Meant → Replied → (ℕ → Type 0) → Type 0
-ServedThen draws o history place known (told said next) reply Rest = (reply ≡ said) × Rest known
-ServedThen draws o history place known (wants n owner query) reply Rest =
-    MatchBool (n == o)
-    ((seen : ℕ) × (added : List Record) × IsServed draws n owner history place known seen query reply added
-    × Rest (seen + length added))
-    (Rest known)
-
--- the turns from a place on have these replies
-abbrev pub AreServed : House → (ℕ → ℕ → ℕ → ℕ) → ℕ → History → (place known : ℕ) → List Turn → List Replied → Type 0
-AreServed house draws o history place known [] [] = Unit {0}
-AreServed house draws o history place known (turn ∷ turns) (reply ∷ replies) =
-    ServedThen draws o history place known (meant_at house turn) reply
-    (λ after. AreServed house draws o history (suc place) after turns replies)
-AreServed house draws o history place known [] (reply ∷ replies) = ⊥
-AreServed house draws o history place known (turn ∷ turns) [] = ⊥
 
 -- the line asks for this program
 abbrev pub IsAskFor : List ℕ → List ℕ → Type 0
@@ -101,12 +50,17 @@ pub record IsAskedAt (house : House) (o : ℕ) (owner : Owner) (turns : List Tur
   pub query : Query
   pub stands : slice_get turns place ≡ Some turn
   pub written : IsAskFor turn.line program
-  pub comes_to : meant_at house turn ≡ wants o owner query
+  pub comes_to : meant_at house turn ≡ wants o owner (asks query)
   pub asks : query.program ≡ program
 
 -- Each program is that of a turn that asks it of the owner, each turn at most once.
-pub record AreAskedBy (house : House) (o : ℕ) (owner : Owner) (turns : List Turn) (programs : List (List ℕ)) (places : List ℕ) : Type 0 where
-  pub each_has : length places ≡ length programs
-  pub once : (m n : ℕ) → m < n → n < length places → slice_get places m ≢ slice_get places n
-  pub asked : (n place : ℕ) (program : List ℕ) → slice_get places n ≡ Some place → slice_get programs n ≡ Some program
+pub record AreAskedBy (house : House) (o : ℕ) (owner : Owner) (turns : List Turn) (sources : Sources) : Type 0 where
+  pub each_has : length sources.places ≡ length sources.programs
+  pub once : (m n : ℕ) → m < n → n < length sources.places → slice_get sources.places m ≢ slice_get sources.places n
+  pub asked : (n place : ℕ) (program : List ℕ) → slice_get sources.places n ≡ Some place → slice_get sources.programs n ≡ Some program
       → IsAskedAt house o owner turns place program
+
+-- The reply at each new reservation's place speaks of that reservation.
+abbrev pub ArePlaced : (start : ℕ) (places : List ℕ) → List Exchange → Type 0
+ArePlaced start places xs = (n place : ℕ) → slice_get places n ≡ Some place
+    → (x : Exchange) × (outcome : Outcome) × (slice_get xs place ≡ Some x) × (settlement_in x.reply ≡ Some (start + n, outcome))

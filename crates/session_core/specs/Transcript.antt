@@ -1,96 +1,54 @@
--- the transcript of a script
-use Rattle.std.specs.Prelude.{◌≡◌, ℕ, zero, suc, List, [], ◌∷◌, ◌++◌, length, Result, Ok, Err, Option, None, Bool, true, false, if◌then◌else◌}
-use Rattle.std.specs.List.{flat_map, onto_first}
+-- the transcript of a script: each line on the records so far
+use Rattle.std.specs.Prelude.{◌≡◌, ℕ, ◌+◌, List, [], ◌∷◌, ◌++◌, length, map, slice_get, Some, ◌⊎◌}
+use Rattle.std.specs.List.{flat_map}
 use Rattle.budget_core.specs.declared.records.Record.{Record}
 use Rattle.budget_core.specs.Counts.{reservations_of}
-use Rattle.wire_lines.specs.Lines.{lines_of}
 use Rattle.wire_lines.specs.Reply.{Replied, reply_text}
-use Rattle.wire_lines.specs.Request.{Asked, hello, ask, bye, request_of}
-use Rattle.wire_lines.specs.declared.request.LineFault.{LineFault}
+use Rattle.answer_path.specs.Owner.{Owner}
+use Rattle.answer_path.specs.Answered.{Told, IsAnswered, IsUnanswered}
 use Rattle.session_core.specs.House.{House}
-use Rattle.session_core.specs.Reply.{Meant, told, wants, meant_by, next_who, IsReplyTo}
+use Rattle.session_core.specs.Meant.{Demand, asks}
+use Rattle.session_core.specs.Turns.{turns_of}
+use Rattle.session_core.specs.Exchanges.{Exchange, ArePlain, Lead}
 
-abbrev pub is_bye_request : Result Asked LineFault → Bool
-is_bye_request (Ok bye) = true
-is_bye_request (Ok (hello name)) = false
-is_bye_request (Ok (ask name epsilon program)) = false
-is_bye_request (Err fault) = false
+-- records with their places, from this place on
+abbrev pub placed_from : ℕ → List Record → List Told
+placed_from k [] = []
+placed_from k (x ∷ xs) = (k, x) ∷ placed_from (k + 1) xs
 
-abbrev pub is_bye : List ℕ → Bool
-is_bye line = is_bye_request (request_of line)
+-- A demand is met on just the records that were known: what it adds stands right behind them.
+abbrev pub MeetsExactly : (ℕ → ℕ → ℕ) → (start : ℕ) → Owner → Demand → (seen : List Record) → Exchange → (after : List Record) → Type 0
+MeetsExactly draws start owner (asks query) seen x after =
+    (added : List Record) × (IsAnswered owner draws start seen query x.reply added ⊎ IsUnanswered x.reply added)
+    × (x.told ≡ placed_from (length seen) added) × (after ≡ seen ++ added)
 
--- Lines are cut into blocks: a block ends after a line that is `bye`, or at the end.
-abbrev pub blocks_of : List (List ℕ) → List (List (List ℕ))
-blocks_of [] = []
-blocks_of (line ∷ lines) = if is_bye line then (line ∷ []) ∷ blocks_of lines else onto_first line (blocks_of lines)
+-- One owner's part in some exchanges, each turn on the records so far.
+abbrev pub LeadExactly : House → (ℕ → ℕ → ℕ → ℕ) → (o start : ℕ) → (seen : List Record) → List Exchange → (last : List Record) → Type 0
+LeadExactly house draws o start seen xs last = Lead house o (MeetsExactly (draws o) start) seen xs last
 
--- who speaks, by the analyst's number, and what the line comes to
-pub record Turn : Type 0 where
-  pub who : Option ℕ
-  pub line : List ℕ
-
--- the turns of a session, from this analyst on
-abbrev pub session_turns : House → Option ℕ → List (List ℕ) → List Turn
-session_turns house who [] = []
-session_turns house who (line ∷ lines) =
-    record { who = who; line = line } ∷ session_turns house (next_who who (meant_by house who line)) lines
-
--- Each block is a session of its own, from no analyst.
-abbrev pub turns_of : House → List ℕ → List Turn
-turns_of house script = flat_map (session_turns house None) (blocks_of (lines_of script))
-
--- each owner's records, in the owners' order
+-- each owner's records, by its number
 abbrev pub Journals : Type 0
-Journals = List (List Record)
+Journals = ℕ → List Record
 
--- the records of the owner of this number
-abbrev pub records_at : Journals → ℕ → List Record
-records_at [] n = []
-records_at (records ∷ journals) zero = records
-records_at (records ∷ journals) (suc n) = records_at journals n
+-- numbers of reservations from here on are of this run
+abbrev pub first_new : List Record → ℕ
+first_new found = length (reservations_of found)
 
--- with more records at the end of that owner's
-abbrev pub add_at : Journals → ℕ → List Record → Journals
-add_at [] n more = []
-add_at (records ∷ journals) zero more = (records ++ more) ∷ journals
-add_at (records ∷ journals) (suc n) more = records ∷ add_at journals n more
+-- The replies to a script, where these records were found, and the records after it: each of the script's turns has its
+-- reply, and each owner's turns are answered one after another, on its records so far.
+pub record IsScriptRun (house : House) (draws : ℕ → ℕ → ℕ → ℕ) (found : Journals) (script : List ℕ) (replies : List Replied) (last : Journals) : Type 0 where
+  pub exchanges : List Exchange
+  pub turns : map (λ x. x.turn) exchanges ≡ turns_of house script
+  pub replied : map (λ x. x.reply) exchanges ≡ replies
+  pub plain : ArePlain house exchanges
+  pub owners : (o : ℕ) (owner : Owner) → slice_get house.owners o ≡ Some owner
+      → LeadExactly house draws o (first_new (found o)) (found o) exchanges (last o)
 
--- the records of the owner that is asked
-abbrev pub records_for : Journals → Meant → List Record
-records_for journals (told reply next) = []
-records_for journals (wants n owner query) = records_at journals n
-
--- the numbers of reservations from here on are of this run, where these records were found
-abbrev pub start_for : Journals → Meant → ℕ
-start_for found meant = length (reservations_of (records_for found meant))
-
-abbrev pub journals_with : Journals → Meant → List Record → Journals
-journals_with journals (told reply next) more = journals
-journals_with journals (wants n owner query) more = add_at journals n more
-
-abbrev pub meant_at : House → Turn → Meant
-meant_at house turn = meant_by house turn.who turn.line
-
--- The replies to turns, one after another, each on the records so far; and the records in the end.
-abbrev pub AreRepliesFrom : House → (ℕ → ℕ → ℕ → ℕ) → (found : Journals) → Journals → List Turn → List Replied → (last : Journals) → Type 0
-AreRepliesFrom house draws found journals [] [] last = last ≡ journals
-AreRepliesFrom house draws found journals (turn ∷ turns) (reply ∷ replies) last =
-    (added : List Record)
-    × IsReplyTo draws (start_for found (meant_at house turn)) (records_for journals (meant_at house turn)) (meant_at house turn) reply added
-    × AreRepliesFrom house draws found (journals_with journals (meant_at house turn) added) turns replies last
-AreRepliesFrom house draws found journals [] (reply ∷ replies) last = ⊥
-AreRepliesFrom house draws found journals (turn ∷ turns) [] last = ⊥
-
--- The replies to a script, where these records were found, and the records after it: the blocks in order, each line on
--- the records so far.
-unfoldable pub IsRun : House → (ℕ → ℕ → ℕ → ℕ) → (found : Journals) → List ℕ → List Replied → (last : Journals) → Type 0
-IsRun house draws found script replies last = AreRepliesFrom house draws found found (turns_of house script) replies last
-
--- the replies to a script
-unfoldable pub AreReplies : House → (ℕ → ℕ → ℕ → ℕ) → (found : Journals) → List ℕ → List Replied → Type 0
-AreReplies house draws found script replies = (last : Journals) × IsRun house draws found script replies last
+-- The text is the replies to a script, and these are the records after it.
+unfoldable pub IsScriptWritten : House → (ℕ → ℕ → ℕ → ℕ) → (found : Journals) → (script text : List ℕ) → (last : Journals) → Type 0
+IsScriptWritten house draws found script text last =
+    (replies : List Replied) × IsScriptRun house draws found script replies last × (text ≡ flat_map reply_text replies)
 
 -- what is written for a script
 unfoldable pub IsTranscript : House → (ℕ → ℕ → ℕ → ℕ) → (found : Journals) → (script text : List ℕ) → Type 0
-IsTranscript house draws found script text =
-    (replies : List Replied) × AreReplies house draws found script replies × (text ≡ flat_map reply_text replies)
+IsTranscript house draws found script text = (last : Journals) × IsScriptWritten house draws found script text last

@@ -1,18 +1,18 @@
-//! A house of one owner, whose one table `people` has one column of numbers.
+//! A house of one owner.
 
-ghost use Rattle.std.specs.Prelude.{◌≡◌, ◌≤◌, ◌^◌, length, bytes_eq, map, string_bytes, [], ◌∷◌, position, IfOk, IfSome, IsTrue, ◌<◌};
+ghost use Rattle.std.specs.Prelude.{◌≡◌, length, bytes_eq, map, string_bytes, [], ◌∷◌, position, IfOk, IfSome, IsTrue, ◌<◌};
 ghost use Rattle.wire_lines.specs.Name.{is_name};
-ghost use Rattle.session_core.specs.House.{Register, IsRegister, house_of, owner_of, analyst_named, entry_of, people};
+ghost use Rattle.session_core.specs.House.{Register, IsRegister, register_with, house_of, analyst_named, entry_of, people_table};
 
+use answer_path::Dataset;
 use budget_core::entry::Entry;
 use fz_ast::{Column, Name, NoMemory, Sig, row_type};
 use std::alloc::Global;
 use std::marker::Model;
-use table_store::Table;
 
 /// The signature of the table `people` with one column of numbers.
 pub fn people_signature(alloc: Global) -> Result<Sig, NoMemory>
-    ensures { IfOk result (λ sig. sig ≡ people ∷ []) }
+    ensures { IfOk result (λ sig. sig ≡ people_table ∷ []) }
 {
     let row = row_type(alloc, &[Column::Num])?;
     let mut sig = Sig::new(alloc);
@@ -20,26 +20,27 @@ pub fn people_signature(alloc: Global) -> Result<Sig, NoMemory>
     Ok(sig)
 }
 
-/// The analysts who may ask, and the owner with budget, room for records, the signature of the tables, and rows.
+/// The analysts who may ask, and the owner with its budget, room for records, tables and rows.
 #[derive(Drop)]
 pub struct House {
     analysts: Vec<String>,
     owner: String,
     budget: u64,
     capacity: u32,
-    sig: Sig,
-    table: Table,
+    dataset: Dataset,
 }
 
 impl Model for House {
     ghost use Rattle.std.specs.Prelude.{map, string_bytes};
-    ghost use Rattle.session_core.specs.House.{Register, IsHouse};
+    ghost use Rattle.session_core.specs.House.{Register, IsRegister, register_code, register_with};
 
     ghost Value = { Register };
 
-    ghost view = { λ h. record { analysts = map string_bytes h.analysts.items; owner = string_bytes h.owner; budget = h.budget; capacity = h.capacity; numbers = h.table } };
+    ghost coded = { register_code };
 
-    ghost invariant = { λ h. IsHouse (record { analysts = map string_bytes h.analysts.items; owner = string_bytes h.owner; budget = h.budget; capacity = h.capacity; numbers = h.table }) h.sig };
+    ghost view = { λ h. register_with (map string_bytes h.analysts.items) (string_bytes h.owner) h.budget h.capacity h.dataset };
+
+    ghost invariant = { λ h. IsRegister (register_with (map string_bytes h.analysts.items) (string_bytes h.owner) h.budget h.capacity h.dataset) };
 }
 
 // The place of the first name with these bytes.
@@ -51,27 +52,23 @@ fn place_of(names: &[String], name: &[u8]) -> Option<usize>
 }
 
 impl House {
-    /// A house of these analysts, and an owner with a budget in millionths of epsilon, room for so many records, and the one
-    /// table `people` of numbers.
+    /// A house of these analysts, and an owner with a budget in millionths of epsilon, room for so many records, and its data.
     pub fn new(
         analysts: Vec<String>,
         owner: String,
         budget: u64,
         capacity: u32,
-        sig: Sig,
-        table: Table,
+        dataset: Dataset,
     ) -> House
-        requires signature { sig ≡ people ∷ [] }
-        requires register { IsRegister (record { analysts = map string_bytes analysts.items; owner = string_bytes owner; budget = budget; capacity = capacity; numbers = table }) }
-        ensures { result ≡ record { analysts = map string_bytes analysts.items; owner = string_bytes owner; budget = budget; capacity = capacity; numbers = table } }
+        requires { IsRegister (register_with (map string_bytes analysts.items) (string_bytes owner) budget capacity dataset) }
+        ensures { result ≡ register_with (map string_bytes analysts.items) (string_bytes owner) budget capacity dataset }
     {
         House {
             analysts,
             owner,
             budget,
             capacity,
-            sig,
-            table,
+            dataset,
         }
     }
 
@@ -83,20 +80,11 @@ impl House {
         Entry::new(self.budget, self.capacity, self.analysts.len() as u16)
     }
 
-    /// The tables that a program may name.
-    pub fn sig(&self) -> &Sig
-        ensures tables { result.now ≡ (owner_of self.now).tables }
-        ensures register { IsRegister self.now }
+    /// The owner's tables and rows.
+    pub fn dataset(&self) -> &Dataset
+        ensures { result.now ≡ self.now.holding }
     {
-        &self.sig
-    }
-
-    /// How many rows the table has.
-    pub fn rows(&self) -> usize
-        ensures count { result ≡ length self.now.numbers }
-        ensures few { result ≤ 2 ^ 20 }
-    {
-        self.table.len()
+        &self.dataset
     }
 
     /// The number of the analyst of this name.

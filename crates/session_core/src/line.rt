@@ -1,24 +1,15 @@
 //! What a line comes to by itself.
 
-ghost use Rattle.std.specs.Prelude.{◌≡◌, IfSome, Some, ◌≤◌, ◌<◌, length};
+ghost use Rattle.std.specs.Prelude.{◌≡◌, IfSome, Some, ◌<◌, length};
 ghost use Rattle.budget_core.specs.Entries.{IsEpsilon};
-ghost use Rattle.wire_lines.specs.declared.request.TheConstants.{LINE_LIMIT};
 ghost use Rattle.session_core.specs.House.{house_of, analyst_named, owner_named};
-ghost use Rattle.session_core.specs.Reply.{meant_by, meant_by_ask, meant_by_hello};
-ghost use Rattle.session_core.specs.Code.{meaning_of, IsAnalyst, IsMeaningIn};
+ghost use Rattle.session_core.specs.Meant.{meant_by, meant_by_ask, meant_by_hello};
+ghost use Rattle.session_core.specs.Code.{meaning_of, IsAnalyst, IsMeaningIn, IsShort};
 
 use crate::house::House;
-use wire_lines::{LineFault, Name, Refusal, Reply, Request, read_request};
-
-/// What an analyst asks of the owner. It borrows the line.
-#[derive(Clone, Copy, Debug)]
-pub struct Query<'a> {
-    /// The number of the analyst.
-    pub analyst: u16,
-    /// In millionths, 1 to 10^9.
-    pub epsilon: u32,
-    pub program: &'a [u8],
-}
+use answer_path::Query;
+use budget_core::records::View;
+use wire_lines::{LineRefusal, Name, Refusal, Reply, Request, read_request};
 
 /// What a line comes to, by the names of the house and by who speaks.
 #[derive(Clone, Copy, Debug)]
@@ -34,6 +25,7 @@ pub fn read_line<'a>(house: &House, who: Option<u16>, line: &'a [u8]) -> Meaning
     requires { IsAnalyst house.now who }
     ensures meaning { meaning_of house.now result ≡ meant_by (house_of house.now) who line.now }
     ensures proper { IsMeaningIn house.now result }
+    ensures short { length line.now < 6 → IsShort result }
 {
     match read_request(line) {
         Ok(Request::Hello { analyst }) => greet(house, who, analyst),
@@ -48,17 +40,16 @@ pub fn read_line<'a>(house: &House, who: Option<u16>, line: &'a [u8]) -> Meaning
             reply: Reply::Bye,
             who,
         },
-        Err(LineFault::Malformed { word }) => refuse(Refusal::Malformed { word }, who),
-        Err(LineFault::TooLong) => refuse(Refusal::LineTooLong, who),
+        Err(refusal) => refuse(refusal, who),
     }
 }
 
 // A refusal leaves who speaks.
-fn refuse<'a>(refusal: Refusal, who: Option<u16>) -> Meaning<'a>
-    ensures { result ≡ Meaning.Says (Reply.Refused refusal) who }
+fn refuse<'a>(refusal: LineRefusal, who: Option<u16>) -> Meaning<'a>
+    ensures { result ≡ Meaning.Says (Reply.Refused (Refusal.Line refusal)) who }
 {
     Meaning::Says {
-        reply: Reply::Refused(refusal),
+        reply: Reply::Refused(Refusal::Line(refusal)),
         who,
     }
 }
@@ -71,7 +62,7 @@ fn greet<'a>(house: &House, who: Option<u16>, name: &'a [u8]) -> Meaning<'a>
     ensures proper { IsMeaningIn house.now result }
 {
     match house.analyst(name) {
-        None => refuse(Refusal::Unknown { word: 1 }, who),
+        None => refuse(LineRefusal::Unknown { word: 1 }, who),
         Some(analyst) => Meaning::Says {
             reply: Reply::Hello {
                 analyst: Name { bytes: name },
@@ -91,19 +82,20 @@ fn read_ask<'a>(
 ) -> Meaning<'a>
     requires known { IsAnalyst house.now who }
     requires range { IfSome epsilon (λ e. IsEpsilon e) }
-    requires short { length program.now ≤ LINE_LIMIT }
     ensures meaning { meaning_of house.now result
         ≡ meant_by_ask who (owner_named (house_of house.now) owner.now) epsilon program.now }
     ensures proper { IsMeaningIn house.now result }
 {
     if !house.is_owner(owner) {
-        return refuse(Refusal::Unknown { word: 1 }, who);
+        return refuse(LineRefusal::Unknown { word: 1 }, who);
     }
     match (epsilon, who) {
-        (None, _) => refuse(Refusal::NoEpsilon, who),
-        (Some(_), None) => refuse(Refusal::NoHello, who),
+        (None, _) => refuse(LineRefusal::NoEpsilon, who),
+        (Some(_), None) => refuse(LineRefusal::NoHello, who),
         (Some(epsilon), Some(analyst)) => Meaning::Asks(Query {
+            owner: 0,
             analyst,
+            view: View::Whole,
             epsilon,
             program,
         }),

@@ -1,57 +1,64 @@
 //! A script, from its bytes to its replies.
 
-ghost use Rattle.std.specs.Prelude.{◌≡◌, ◌++◌, [], ◌∷◌, length, OnOk, IfOk, None, if◌then◌else◌};
-ghost use Rattle.std.specs.List.{flat_map};
+ghost use Rattle.std.specs.Prelude.{◌≡◌, ◌+◌, ◌-◌, ◌++◌, ◌<◌, ◌≤◌, ◌^◌, length, min, IfOk, IfErr, None, if◌then◌else◌, vec_capacity, List};
+ghost use Rattle.wire_lines.specs.Lines.{lines_of};
 ghost use Rattle.wire_lines.specs.Reply.{replied, reply_text};
-ghost use Rattle.session_core.specs.House.{house_of, entry_of};
-ghost use Rattle.session_core.specs.Transcript.{IsTranscript};
-ghost use Rattle.session_core.specs.Code.{IsAnalyst, who_behind, is_ended, IsLineReply, IsWritten};
+ghost use Rattle.answer_path.specs.Answered.{Told};
+ghost use Rattle.session_core.specs.House.{house_of};
+ghost use Rattle.session_core.specs.Transcript.{IsScriptWritten};
+ghost use Rattle.session_core.specs.Code.{IsAnalyst, who_behind, is_ended, one_line, room_for_line, room_for_lines};
+ghost use Rattle.session_core.specs.Code.{ArePasses, AreServed, AreAlone, AreFresh, HasServed, seen_by, found_by};
 
-use crate::answer::ask;
 use crate::house::House;
 use crate::line::{Meaning, read_line};
-use budget_core::book::Book;
+use crate::passes::Passes;
+use answer_path::{Desk, ask};
 use fz_outside::words::Streams;
 use std::alloc::{AllocError, Global};
-use wire_lines::{REPLY_LIMIT, Reply, Request, next_line, read_request, write_reply};
+use wire_lines::{REPLY_LIMIT, Reply, next_line, write_reply};
 
-/// The most bytes of the reply to an ask, `no 40` with four numbers of at most 20 digits being the longest.
-const LONGEST_ANSWER: usize = 96;
-
-/// The most bytes of a refusal by the line alone.
-const LONGEST_REFUSAL: usize = 20;
-
-/// `no 10 W` and its end: W is below 4.
-const LONGEST_LINE_FAULT: usize = 8;
-
-// Room for the longest reply to a line of this kind.
-fn room_for_line(line: &[u8]) -> usize {
-    match read_request(line) {
-        Ok(Request::Hello { .. }) => line.len().saturating_add(LONGEST_REFUSAL),
-        Ok(Request::Ask { .. }) => LONGEST_ANSWER,
-        Ok(Request::Bye) => LONGEST_REFUSAL,
-        Err(_) => LONGEST_LINE_FAULT,
-    }
+// Room for the longest reply to a line of so many bytes. A shorter line than six asks nothing, and its reply is short.
+fn room_of(len: usize) -> usize
+    ensures { result ≡ room_for_line len }
+{
+    if len < 6 { 8 } else { REPLY_LIMIT }
 }
 
 // Room for the replies to all lines. It is taken before the first line, so that no reply waits for memory.
-fn room_for(script: &[u8]) -> usize {
+fn room_for(script: &[u8]) -> usize
+    ensures { result ≡ min (2 ^ 64 - 1) (room_for_lines (lines_of script.now)) }
+{
     let mut room = 0usize;
     let mut rest = script;
     while let Some((line, after)) = next_line(rest) {
-        room = room.saturating_add(room_for_line(line));
+        room = room.saturating_add(room_of(line.len()));
         rest = after;
     }
     room
 }
 
-// Puts a reply's line at the end.
-fn push_reply(out: &mut Vec<u8>, reply: &Reply<'_>) -> Result<(), AllocError>
-    ensures { OnOk result (out.new.items ≡ out.old.items ++ reply_text (replied reply.now)) }
+// Puts bytes at the end, for which there is room.
+fn push_all(out: &mut Vec<u8>, bytes: &[u8])
+    requires { length out.old.items + length bytes.now ≤ vec_capacity out.old }
+    ensures items { out.new.items ≡ out.old.items ++ bytes.now }
+    ensures capacity { vec_capacity out.new ≡ vec_capacity out.old }
+{
+    for &byte in bytes {
+        out.push_reserved(byte);
+    }
+}
+
+// Puts a reply's line at the end, where there is room for the reply to a line of so many bytes.
+fn push_reply(out: &mut Vec<u8>, reply: &Reply<'_>, len: usize)
+    requires room { length out.old.items + room_for_line len ≤ vec_capacity out.old }
+    requires short { len < 6 → length (reply_text (replied reply.now)) ≤ 8 }
+    ensures items { out.new.items ≡ out.old.items ++ reply_text (replied reply.now) }
+    ensures capacity { vec_capacity out.new ≡ vec_capacity out.old }
+    ensures fits { length (reply_text (replied reply.now)) ≤ room_for_line len }
 {
     let mut text = [0u8; REPLY_LIMIT];
     let n = write_reply(reply, &mut text);
-    out.extend_from_slice(&text[..n])
+    push_all(out, &text[..n]);
 }
 
 // A reply, and who speaks after its line.
@@ -75,21 +82,34 @@ fn who_after(reply: &Reply<'_>, who: Option<u16>) -> Option<u16>
 fn answer_line<'a, S: Streams>(
     alloc: Global,
     house: &'a House,
+    desk: &Desk,
+    passes: &mut Passes,
     streams: &S,
-    book: &mut Book,
     who: Option<u16>,
     line: &'a [u8],
 ) -> Answer<'a>
-    requires entry { book.old.entry ≡ entry_of house.now }
-    requires fresh { book.old.found ≡ [] }
+    requires passes { ArePasses (house_of house.now) passes.old }
     requires known { IsAnalyst house.now who }
-    ensures reply { IsLineReply (house_of house.now) (S.given streams.now) (record { who = who; line = line.now }) book.old book.new (replied result.reply) }
+    ensures served { (told : List Told) ×
+        AreServed (house_of house.now) (S.given streams.now) (one_line who line.now (replied result.reply) told) passes.old passes.new }
+    // No other line added records meanwhile.
+    ensures alone { (told : List Told) →
+        AreServed (house_of house.now) (S.given streams.now) (one_line who line.now (replied result.reply) told) passes.old passes.new →
+        AreAlone (house_of house.now) (S.given streams.now) (one_line who line.now (replied result.reply) told) passes.old passes.new }
     ensures who { result.who ≡ who_behind (house_of house.now) who line.now }
     ensures known { IsAnalyst house.now result.who }
+    ensures short { length line.now < 6 → length (reply_text (replied result.reply)) ≤ 8 }
 {
     match read_line(house, who, line) {
         Meaning::Asks(query) => Answer {
-            reply: ask(alloc, house, streams, book, &query),
+            reply: ask(
+                alloc,
+                desk,
+                &mut passes.pass,
+                house.dataset(),
+                streams,
+                &query,
+            ),
             who,
         },
         Meaning::Says { reply, who } => Answer {
@@ -99,24 +119,32 @@ fn answer_line<'a, S: Streams>(
     }
 }
 
-/// The replies to a script, the records of which are put into a book that is empty.
+/// The replies to a script, by passes that have seen what was found. All memory is taken first, so an error leaves the passes
+/// as they were.
 pub fn answer_script<S: Streams>(
     alloc: Global,
     house: &House,
+    desk: &Desk,
+    passes: &mut Passes,
     streams: &S,
-    book: &mut Book,
     script: &[u8],
 ) -> Result<Vec<u8>, AllocError>
-    requires { book.old ≡ record { entry = entry_of house.now; found = []; records = [] } }
-    ensures transcript { IfOk result (λ out. IsTranscript (house_of house.now) (S.given streams.now) ([] ∷ []) script.now out.items) }
-    ensures records { IfOk result (λ out. IsWritten (house_of house.now) (S.given streams.now) script.now out.items book.new.records) }
+    requires passes { ArePasses (house_of house.now) passes.old }
+    // In any order with other lines: the stated replies, and what they added is the passes' own.
+    ensures served { IfOk result (λ out.
+        HasServed (house_of house.now) (S.given streams.now) script.now out.items passes.old passes.new) }
+    // Alone: the transcript, and the records after it.
+    ensures written { AreFresh (house_of house.now) passes.old →
+        IfOk result (λ out.
+        IsScriptWritten (house_of house.now) (S.given streams.now) (found_by passes.old) script.now out.items (seen_by passes.new)) }
+    ensures refused { IfErr result (λ _. passes.new ≡ passes.old) }
 {
     let mut out = Vec::with_capacity(alloc, room_for(script))?;
     let mut rest = script;
     let mut who = None;
     while let Some((line, after)) = next_line(rest) {
-        let answer = answer_line(alloc, house, streams, book, who, line);
-        push_reply(&mut out, &answer.reply)?;
+        let answer = answer_line(alloc, house, desk, passes, streams, who, line);
+        push_reply(&mut out, &answer.reply, line.len());
         who = answer.who;
         rest = after;
     }

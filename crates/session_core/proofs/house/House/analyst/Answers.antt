@@ -24,4 +24,4 @@ returns-clause-within c = found_within c.args.self.now.analysts c.args.name.now 
 pub returns-clause-name : goal.returns-clause-name
 returns-clause-name c =
     found_passes c.args.self.now.analysts c.args.name.now c.in_ok-place.place
-    (subst (λ (r : Register). AllNames r.analysts) c.self.view_is c.self.invariant.lawful.names) (sym (returns-clause-named c))
+    (subst (λ (r : Register). AllNames r.analysts) c.self.view_is c.self.invariant.names) (sym (returns-clause-named c))

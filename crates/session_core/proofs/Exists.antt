@@ -1,0 +1,159 @@
+-- every script has replies, where every program has a reading
+use Rattle.std.proofs.Common.{◌≡◌, ℕ, ◌==◌, Bool, true, false, cond, List, [], ◌∷◌, ◌++◌, length, map, slice_get, Option, Some, None, refl, sym, ◌∙◌, ap, subst, eqb-true}
+use Rattle.std.specs.Prelude.{ℤ, Result, Ok, Err, MatchBool}
+use Rattle.std.specs.List.{AllByRecursion}
+use mathlib.Core.Logic.{inl}
+use Rattle.budget_core.specs.declared.records.View.{View}
+use Rattle.budget_core.specs.declared.records.View.TheVariants.{Whole}
+use Rattle.budget_core.specs.declared.records.Record.{Record}
+use Rattle.budget_core.specs.declared.entry.Grant.{Grant}
+use Rattle.budget_core.specs.declared.entry.ReserveFault.{ReserveFault}
+use Rattle.budget_core.specs.Ledger.{money_verdict}
+use Rattle.fz_frac.specs.Distance.{Fin, Inf}
+use Rattle.wire_lines.specs.Reply.{Replied, refused}
+use Rattle.wire_lines.specs.Refusal.{by_program, by_money}
+use Rattle.answer_path.specs.Owner.{Owner}
+use Rattle.answer_path.specs.Query.{Query}
+use Rattle.answer_path.specs.Reading.{Reading, IsReading}
+use Rattle.answer_path.specs.Judgement.{Judgement, refused_for, accepted, judgement_of}
+use Rattle.answer_path.specs.Program.{IsCharged}
+use Rattle.answer_path.specs.Noise.{noise_at}
+use Rattle.answer_path.specs.Verdict.{program_refused, money_refused, granted, money_refusal, ask_for, verdict_by_money, IsVerdictBy, IsVerdict}
+use Rattle.answer_path.specs.Answered.{settled_by, outcome_reply, grant_records, IsAnswered}
+use Rattle.answer_path.proofs.Charged.{charged_have_values, accepted_finite}
+use Rattle.owner_history.specs.Sound.{HasData}
+use Rattle.owner_history.proofs.Grants.{accepted_as}
+use Rattle.session_core.specs.House.{House, AreOwners}
+use Rattle.session_core.specs.Meant.{asks, Meant, says, wants}
+use Rattle.session_core.specs.Turns.{Turn, meant_at, turns_of}
+use Rattle.session_core.specs.Exchanges.{Exchange, IsPlain, ArePlain, TurnLeads}
+use Rattle.session_core.specs.Transcript.{Journals, first_new, placed_from, MeetsExactly, LeadExactly, IsScriptRun}
+use Rattle.answer_path.proofs.Existing.{every_reading}
+use Rattle.session_core.specs.Said.{HadMemory}
+use Rattle.session_core.proofs.Turns.{AreKnown, turns_known}
+use Rattle.session_core.proofs.Wants.{AsksOnly, asks_only}
+use Rattle.session_core.proofs.Plain.{Says, line_says}
+
+-- a query's answer, in which memory doesn't run out
+record IsAnswer (owner : Owner) (draws : ℕ → ℕ → ℕ) (start : ℕ) (records : List Record) (query : Query) : Type 0 where
+  reply : Replied
+  added : List Record
+  answered : IsAnswered owner draws start records query reply added
+  had : HadMemory reply
+
+module _ (owner : Owner) (draws : ℕ → ℕ → ℕ) (start : ℕ) (records : List Record) (query : Query) (has : HasData owner) (whole : query.view ≡ Whole) where
+  settled_had : (grant : Grant) (v : ℤ) (k : Option ℤ) → HadMemory (outcome_reply grant (settled_by v k))
+  settled_had grant v (Some k) = tt
+  settled_had grant v None = tt
+
+  by_money_verdict : (p q : ℕ) (money : Result Grant ReserveFault) → money_verdict owner.entry start records (ask_for query p q) ≡ money → IsCharged owner.tables query.view query.program p q
+      → ((v : _) → v ≡ verdict_by_money (ask_for query p q) money → IsVerdict owner.entry owner.tables start records query v) → IsAnswer owner draws start records query
+  unfolding IsAnswered
+  by_money_verdict p q (Err fault) is charged verdict =
+      record { reply = refused (by_money (money_refusal fault)); added = []; answered = (money_refused (money_refusal fault), verdict _ refl, (refl, refl)); had = tt }
+  by_money_verdict p q (Ok grant) is charged verdict =
+      let v = charged_have_values owner.tables owner.rows query.view query.program p q has.tables has.rows charged in
+      let outcome = settled_by v.0 (noise_at query.e (draws grant.number)) in
+      record {
+        reply = outcome_reply grant outcome;
+        added = grant_records (ask_for query p q) grant outcome;
+        answered = (granted (ask_for query p q) grant, verdict _ refl, (outcome, (v.0, v.1, refl), refl, refl));
+        had = settled_had grant v.0 (noise_at query.e (draws grant.number));
+      }
+
+  by_judgement : (reading : Reading) → IsReading query.program reading → (j : Judgement) → judgement_of owner.tables reading ≡ j → IsAnswer owner draws start records query
+  unfolding IsAnswered IsVerdict
+  by_judgement reading reads (refused_for refusal) is = record {
+    reply = refused (by_program refusal);
+    added = [];
+    answered = (program_refused refusal, (reading, reads, subst (λ (j : Judgement). IsVerdictBy owner.entry start records query j (program_refused refusal)) (sym is) refl), (refl, refl));
+    had = tt;
+  }
+  by_judgement reading reads (accepted e Inf) is =
+      let a = accepted_as owner.tables reading e Inf is in
+      let bounded = accepted_finite owner.tables query.program e Inf (subst (λ (r : Reading). IsReading query.program r) a.0 reads) (ap (judgement_of owner.tables) (sym a.0) ∙ is) in
+      absurd (cc (bounded))
+  by_judgement reading reads (accepted e (Fin p q)) is =
+      let a = accepted_as owner.tables reading e (Fin p q) is in
+      let charged : IsCharged owner.tables query.view query.program p q
+      = subst (λ (v : View). IsCharged owner.tables v query.program p q) (sym whole) (e, subst (λ (r : Reading). IsReading query.program r) a.0 reads, a.1) in
+      by_money_verdict p q (money_verdict owner.entry start records (ask_for query p q)) refl charged
+      (λ v same. (reading, reads, subst (λ (j : Judgement). IsVerdictBy owner.entry start records query j v) (sym is) same))
+
+module _ (house : House) (draws : ℕ → ℕ → ℕ → ℕ) (found : Journals) (owners : AreOwners house) where
+  -- replies to some turns, from these records on
+  record HaveReplies (turns : List Turn) (now : Journals) : Type 0 where
+    exchanges : List Exchange
+    last : Journals
+    are : map (λ (x : Exchange). x.turn) exchanges ≡ turns
+    plain : ArePlain house exchanges
+    leads : (o : ℕ) (owner : Owner) → slice_get house.owners o ≡ Some owner → LeadExactly house draws o (first_new (found o)) (now o) exchanges (last o)
+    had : AllByRecursion HadMemory (map (λ (x : Exchange). x.reply) exchanges)
+
+  -- with records more of one owner
+  abbrev more_of : Journals → ℕ → List Record → Journals
+  more_of now n added o = cond (n == o) (now o ++ added) (now o)
+
+  first_says : (turn : Turn) (turns : List Turn) (now : Journals) (reply : Replied) (next : Option ℕ) → meant_at house turn ≡ says reply next → HadMemory reply → HaveReplies turns now → HaveReplies (turn ∷ turns) now
+  first_says turn turns now reply next is had rest =
+      let x : Exchange = record { turn = turn; reply = reply; told = [] } in record {
+        exchanges = x ∷ rest.exchanges;
+        last = rest.last;
+        are = ap (λ ts. turn ∷ ts) rest.are;
+        plain = (subst (λ (m : Meant). IsPlain m x) (sym is) (refl, refl), rest.plain);
+        leads = λ o owner at.
+            subst (λ (m : Meant). TurnLeads house o (MeetsExactly (draws o) (first_new (found o))) m (now o) x (λ after. LeadExactly house draws o (first_new (found o)) after rest.exchanges (rest.last o))) (sym is)
+            (rest.leads o owner at);
+        had = (had, rest.had);
+      }
+
+  first_wants : (turn : Turn) (turns : List Turn) (now : Journals) (n : ℕ) (owner : Owner) (query : Query) → meant_at house turn ≡ wants n owner (asks query) → (a : IsAnswer owner (draws n) (first_new (found n)) (now n) query)
+      → HaveReplies turns (more_of now n a.added) → HaveReplies (turn ∷ turns) now
+  first_wants turn turns now n owner query is a rest =
+      let x : Exchange = record { turn = turn; reply = a.reply; told = placed_from (length (now n)) a.added } in record {
+        exchanges = x ∷ rest.exchanges;
+        last = rest.last;
+        are = ap (λ ts. turn ∷ ts) rest.are;
+        plain = (subst (λ (m : Meant). IsPlain m x) (sym is) tt, rest.plain);
+        leads = λ o other at.
+            subst (λ (m : Meant). TurnLeads house o (MeetsExactly (draws o) (first_new (found o))) m (now o) x (λ after. LeadExactly house draws o (first_new (found o)) after rest.exchanges (rest.last o))) (sym is)
+            (here o (n == o) refl (rest.leads o other at));
+        had = (a.had, rest.had);
+      }
+    where
+      here : (o : ℕ) (b : Bool) → (n == o) ≡ b → LeadExactly house draws o (first_new (found o)) (cond b (now o ++ a.added) (now o)) rest.exchanges (rest.last o)
+          → MatchBool b
+          ((after : List Record) × MeetsExactly (draws o) (first_new (found o)) owner (asks query) (now o) (record { turn = turn; reply = a.reply; told = placed_from (length (now n)) a.added }) after
+          × LeadExactly house draws o (first_new (found o)) after rest.exchanges (rest.last o))
+          (LeadExactly house draws o (first_new (found o)) (now o) rest.exchanges (rest.last o))
+      here o false miss leads = leads
+      here o true hit leads =
+          let same : n ≡ o = eqb-true n o hit in (
+            now o ++ a.added,
+            subst (λ (k : ℕ). MeetsExactly (draws k) (first_new (found k)) owner (asks query) (now k) (record { turn = turn; reply = a.reply; told = placed_from (length (now n)) a.added }) (now k ++ a.added)) same
+                (a.added, inl a.answered, refl, refl),
+            leads,
+          )
+
+  exists_from : (turns : List Turn) (now : Journals) → AreKnown house turns → HaveReplies turns now
+  exists_from [] now known = record { exchanges = []; last = now; are = refl; plain = tt; leads = λ o owner at. refl; had = tt }
+  exists_from (turn ∷ turns) now known =
+      here (λ later. exists_from turns later known.1) (meant_at house turn) refl (asks_only house turn.line turn.who known.0) (line_says HadMemory (λ name. tt) tt (λ refusal. tt) house turn.who turn.line)
+    where
+      here : ((later : Journals) → HaveReplies turns later) → (m : Meant) → meant_at house turn ≡ m → AsksOnly house turn.line m → Says HadMemory (λ name. tt) tt (λ refusal. tt) m → HaveReplies (turn ∷ turns) now
+      here rest (says reply next) is only had = first_says turn turns now reply next is had (rest now)
+      here rest (wants n owner (asks query)) is only had =
+          let r = every_reading query.program in
+          let a = by_judgement owner (draws n) (first_new (found n)) (now n) query (owners n owner only.stands).data_of only.whole r.0 r.1 (judgement_of owner.tables r.0) refl in
+          first_wants turn turns now n owner query is a (rest (more_of now n a.added))
+
+-- Each script has replies in which memory didn't run out.
+pub replies_exist : (house : House) (draws : ℕ → ℕ → ℕ → ℕ) (found : Journals) (script : List ℕ) → AreOwners house
+    → (replies : List Replied) × (last : Journals) × IsScriptRun house draws found script replies last × AllByRecursion HadMemory replies
+replies_exist house draws found script owners =
+    let h = exists_from house draws found owners (turns_of house script) found (turns_known house script) in (
+      map (λ (x : Exchange). x.reply) h.exchanges,
+      h.last,
+      record { exchanges = h.exchanges; turns = h.are; replied = refl; plain = h.plain; owners = h.leads },
+      h.had,
+    )

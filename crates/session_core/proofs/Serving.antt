@@ -1,0 +1,209 @@
+-- lines that are served one after another
+use Rattle.std.proofs.Common.{◌≡◌, ℕ, zero, suc, ◌+◌, ◌-◌, ◌^◌, ◌<◌, ◌≤◌, Bool, true, false, List, [], ◌∷◌, ◌++◌, length, map, slice_get, Option, Some, None, refl, sym, ◌∙◌, ap, subst, arith, append-nil, append_assoc, length-append}
+use Rattle.std.specs.Prelude.{if◌then◌else◌, min}
+use Rattle.std.proofs.lemmas.List.Sums.{sum_by-cons}
+use Rattle.std.specs.List.{flat_map}
+use Rattle.std.proofs.lemmas.List.{map-append}
+use Rattle.std.proofs.lemmas.List.Concat.{flat_map-append}
+use mathlib.Core.Logic.{inl, inr}
+use Rattle.budget_core.specs.declared.records.Record.{Record}
+use Rattle.budget_core.specs.declared.records.Record.TheVariants.{Settle}
+use Rattle.budget_core.specs.Counts.{reservations_of}
+use Rattle.wire_lines.specs.Lines.{lines_of}
+use Rattle.wire_lines.specs.Reply.{Replied, reply_text}
+use Rattle.answer_path.specs.Owner.{Owner}
+use Rattle.answer_path.specs.Query.{Query}
+use Rattle.answer_path.specs.Verdict.{program_refused, money_refused, granted}
+use Rattle.answer_path.specs.Answered.{granted_record, Told, IsAsked}
+use Rattle.answer_path.specs.Pass.{Pass, first_of_run, records_told}
+use Rattle.answer_path.proofs.Alone.{alone_is_answered}
+use Rattle.session_core.specs.House.{Register, House, house_of, owner_of}
+use Rattle.session_core.specs.Meant.{asks, Meant, says, wants}
+use Rattle.session_core.specs.Turns.{Turn, meant_at, turns_of}
+use Rattle.session_core.specs.Exchanges.{Exchange, IsPlain, TurnLeads, is_of, told_of}
+use Rattle.session_core.specs.Transcript.{placed_from, MeetsExactly, LeadExactly, IsScriptWritten}
+use Rattle.session_core.specs.Served.{MeetsOnSome, AnswersOn}
+use Rattle.session_core.specs.Code.{turns_left, who_behind, pass_at, seen_by, found_by, ArePasses, GoesOn, AreServed, AreAlone, AreFresh, HasServed, room_for_line, room_for_lines}
+use Rattle.session_core.proofs.Exchanges.{all_append, lead_append}
+use Rattle.session_core.proofs.Turning.{turns_first, turns_next}
+
+-- room for a line's reply, and for those of the lines behind it
+pub room_next : (line : List ℕ) (lines : List (List ℕ)) → room_for_lines (line ∷ lines) ≡ room_for_line (length line) + room_for_lines lines
+room_next line lines = sum_by-cons (λ (l : List ℕ). room_for_line (length l)) line lines
+
+-- what is taken is the room that was asked for, where it is a size at all
+pub room_taken : (room taken : ℕ) → taken ≡ min (2 ^ 64 - 1) room → taken < 2 ^ 63 → room ≤ taken
+room_taken room taken is small = omega (arith, is, small)
+
+-- passes that served lines are still those of the house
+pub passes_kept : (house : House) (draws : ℕ → ℕ → ℕ → ℕ) (xs : List Exchange) (before after : List Pass) → AreServed house draws xs before after → ArePasses house before → ArePasses house after
+passes_kept house draws xs before after served of = record { each_has = served.each_has ∙ of.each_has; entries = λ o owner at. (served.owners o owner at).entry ∙ of.entries o owner at }
+
+-- where nothing came in between, what a line was told stands right behind what it saw
+told_placed : (owner : Owner) (draws : ℕ → ℕ → ℕ) (start : ℕ) (query : Query) (seen : List Record) (reply : Replied) (told : List Told) (after : List Record) → IsAsked owner draws start query seen reply told after
+    → after ≡ seen ++ records_told told → told ≡ placed_from (length seen) (records_told told)
+unfolding IsAsked
+told_placed owner draws start query seen reply told after (g, begins, inl (program_refused refusal, is, (said, none, rest))) whole = none ∙ sym (ap (λ ts. placed_from (length seen) (records_told ts)) none)
+told_placed owner draws start query seen reply told after (g, begins, inl (money_refused refusal, is, (said, none, rest))) whole = none ∙ sym (ap (λ ts. placed_from (length seen) (records_told ts)) none)
+told_placed owner draws start query seen reply told after (g, begins, inr (said, none, rest)) whole = none ∙ sym (ap (λ ts. placed_from (length seen) (records_told ts)) none)
+told_placed owner draws start query seen reply told after (g, begins, inl (granted asking grant, is, two)) whole =
+    let r : Record = granted_record asking grant in
+    let s : Record = Settle grant.number two.outcome in
+    let above = sym (ap length begins.1) ∙ length-append seen begins.0 in
+    let further = sym (ap length two.reserved.1) ∙ length-append (g ++ r ∷ []) two.reserved.0 in
+    let one = length-append g (r ∷ []) in
+    let ends = ap length two.after_is ∙ length-append two.u (s ∷ []) in
+    let all = ap length (whole ∙ ap (λ ts. seen ++ records_told ts) two.told_is) ∙ length-append seen (r ∷ s ∷ []) in
+    let low : length g ≡ length seen = omega (arith, above, further, one, ends, all) in
+    let high : length two.u ≡ length seen + 1 = omega (arith, above, further, one, ends, all) in
+    two.told_is ∙ ap (λ (k : ℕ). (k, r) ∷ (length two.u, s) ∷ []) low ∙ ap (λ (k : ℕ). (length seen, r) ∷ (k, s) ∷ []) high
+    ∙ sym (ap (λ ts. placed_from (length seen) (records_told ts)) two.told_is)
+
+-- where nothing came in between, a demand is met on just what was seen
+met_alone : (draws : ℕ → ℕ → ℕ) (start : ℕ) (owner : Owner) (query : Query) (seen : List Record) (x : Exchange) (after : List Record) → MeetsOnSome draws start owner (asks query) seen x after
+    → after ≡ seen ++ records_told x.told → MeetsExactly draws start owner (asks query) seen x after
+met_alone draws start owner query seen x after asked whole =
+    (records_told x.told, alone_is_answered owner draws start query seen x.reply x.told after asked whole, told_placed owner draws start query seen x.reply x.told after asked whole, whole)
+
+module _ (house : House) (draws : ℕ → ℕ → ℕ → ℕ) where
+  told_append : (o : ℕ) (xs ys : List Exchange) → told_of house o (xs ++ ys) ≡ told_of house o xs ++ told_of house o ys
+  told_append o xs ys = flat_map-append (λ (x : Exchange). if is_of o (meant_at house x.turn) then x.told else []) xs ys
+
+  same_start : (a b : Pass) → b.found ≡ a.found → first_of_run b ≡ first_of_run a
+  same_start a b is = ap (λ rs. length (reservations_of rs)) is
+
+  goes_append : (o : ℕ) (xs ys : List Exchange) (a b c : Pass) → GoesOn house draws o xs a b → GoesOn house draws o ys b c → GoesOn house draws o (xs ++ ys) a c
+  goes_append o xs ys a b c f g = record {
+    entry = g.entry ∙ f.entry;
+    found = g.found ∙ f.found;
+    own = g.own ∙ ap (λ ts. ts ++ told_of house o ys) f.own ∙ append_assoc a.own (told_of house o xs) (told_of house o ys) ∙ ap (λ ts. a.own ++ ts) (sym (told_append o xs ys));
+    answers = lead_append house o (MeetsOnSome (draws o) (first_of_run a)) a.seen xs b.seen ys c.seen f.answers
+        (subst (λ (k : ℕ). AnswersOn house draws o k b.seen ys c.seen) (same_start a b f.found) g.answers);
+  }
+
+  -- One run of lines after another.
+  pub served_append : (xs ys : List Exchange) (a b c : List Pass) → AreServed house draws xs a b → AreServed house draws ys b c → AreServed house draws (xs ++ ys) a c
+  served_append xs ys a b c f g = record {
+    each_has = g.each_has ∙ f.each_has;
+    plain = all_append (λ (x : Exchange). IsPlain (meant_at house x.turn) x) xs ys f.plain g.plain;
+    owners = λ o owner at. goes_append o xs ys (pass_at a o) (pass_at b o) (pass_at c o) (f.owners o owner at) (g.owners o owner at);
+  }
+
+  pub alone_append : (xs ys : List Exchange) (a b c : List Pass) → AreServed house draws xs a b → AreAlone house draws xs a b → AreAlone house draws ys b c → AreAlone house draws (xs ++ ys) a c
+  alone_append xs ys a b c f g h = λ o owner at.
+      lead_append house o (MeetsExactly (draws o) (first_of_run (pass_at a o))) (pass_at a o).seen xs (pass_at b o).seen ys (pass_at c o).seen (g o owner at)
+      (subst (λ (k : ℕ). LeadExactly house draws o k (pass_at b o).seen ys (pass_at c o).seen) (same_start (pass_at a o) (pass_at b o) (f.owners o owner at).found) (h o owner at))
+
+  none_served : (a : List Pass) → AreServed house draws [] a a
+  none_served a = record { each_has = refl; plain = tt; owners = λ o owner at. record { entry = refl; found = refl; own = sym (append-nil (pass_at a o).own); answers = refl } }
+
+  -- a line that asks nobody
+  quiet_told : (b : Bool) (told : List Told) → told ≡ [] → (if b then told else []) ++ [] ≡ []
+  quiet_told true told is = ap (λ ts. ts ++ []) is
+  quiet_told false told is = refl
+
+  pub served_plain : (x : Exchange) (reply : Replied) (next : Option ℕ) (a : List Pass) → meant_at house x.turn ≡ says reply next → x.reply ≡ reply → x.told ≡ [] → AreServed house draws (x ∷ []) a a
+  served_plain x reply next a is said none = record {
+    each_has = refl;
+    plain = (subst (λ (m : Meant). IsPlain m x) (sym is) (said, none), tt);
+    owners = λ o owner at. record {
+      entry = refl;
+      found = refl;
+      own = sym (ap (λ ts. (pass_at a o).own ++ ts) (quiet_told (is_of o (meant_at house x.turn)) x.told none) ∙ append-nil (pass_at a o).own);
+      answers = subst (λ (m : Meant). TurnLeads house o (MeetsOnSome (draws o) (first_of_run (pass_at a o))) m (pass_at a o).seen x (λ after. (pass_at a o).seen ≡ after)) (sym is) refl;
+    };
+  }
+
+  pub alone_plain : (x : Exchange) (reply : Replied) (next : Option ℕ) (a : List Pass) → meant_at house x.turn ≡ says reply next → AreAlone house draws (x ∷ []) a a
+  alone_plain x reply next a is = λ o owner at.
+      subst (λ (m : Meant). TurnLeads house o (MeetsExactly (draws o) (first_of_run (pass_at a o))) m (pass_at a o).seen x (λ after. (pass_at a o).seen ≡ after)) (sym is) refl
+
+-- a line that asks the one owner
+module _ (register : Register) (draws : ℕ → ℕ → ℕ → ℕ) (x : Exchange) (query : Query) (p q : Pass) (is : meant_at (house_of register) x.turn ≡ wants 0 (owner_of register) (asks query)) where
+  told_asks : told_of (house_of register) 0 (x ∷ []) ≡ x.told
+  told_asks = ap (λ (m : Meant). (if is_of 0 m then x.told else []) ++ []) is ∙ append-nil x.told
+
+  pub served_asks : IsAsked (owner_of register) (draws 0) (first_of_run p) query p.seen x.reply x.told q.seen → q.own ≡ p.own ++ x.told → q.entry ≡ p.entry → q.found ≡ p.found
+      → AreServed (house_of register) draws (x ∷ []) (p ∷ []) (q ∷ [])
+  served_asks asked own entry found = record {
+    each_has = refl;
+    plain = (subst (λ (m : Meant). IsPlain m x) (sym is) tt, tt);
+    owners = one;
+  }
+    where
+      one : (o : ℕ) (owner : Owner) → slice_get (owner_of register ∷ []) o ≡ Some owner → GoesOn (house_of register) draws o (x ∷ []) (pass_at (p ∷ []) o) (pass_at (q ∷ []) o)
+      one (suc o) owner at = absurd (cc (at))
+      one zero owner at = record {
+        entry = entry;
+        found = found;
+        own = own ∙ ap (λ ts. p.own ++ ts) (sym told_asks);
+        answers = subst (λ (m : Meant). TurnLeads (house_of register) 0 (MeetsOnSome (draws 0) (first_of_run p)) m p.seen x (λ after. q.seen ≡ after)) (sym is) (q.seen, asked, refl);
+      }
+
+  pub alone_asks : AreServed (house_of register) draws (x ∷ []) (p ∷ []) (q ∷ []) → ((told : List Told) → q.own ≡ p.own ++ told → q.seen ≡ p.seen ++ records_told told)
+      → AreAlone (house_of register) draws (x ∷ []) (p ∷ []) (q ∷ [])
+  alone_asks served whole = one
+    where
+      goes : GoesOn (house_of register) draws 0 (x ∷ []) p q
+      goes = served.owners 0 (owner_of register) refl
+
+      one : (o : ℕ) (owner : Owner) → slice_get (owner_of register ∷ []) o ≡ Some owner
+          → LeadExactly (house_of register) draws o (first_of_run (pass_at (p ∷ []) o)) (pass_at (p ∷ []) o).seen (x ∷ []) (pass_at (q ∷ []) o).seen
+      one (suc o) owner at = absurd (cc (at))
+      one zero owner at =
+          let hit : (after : List Record) × MeetsOnSome (draws 0) (first_of_run p) (owner_of register) (asks query) p.seen x after × (q.seen ≡ after)
+          = subst (λ (m : Meant). TurnLeads (house_of register) 0 (MeetsOnSome (draws 0) (first_of_run p)) m p.seen x (λ after. q.seen ≡ after)) is goes.answers in
+          let ends : hit.0 ≡ p.seen ++ records_told x.told = sym hit.2 ∙ whole x.told (goes.own ∙ ap (λ ts. p.own ++ ts) told_asks) in
+          subst (λ (m : Meant). TurnLeads (house_of register) 0 (MeetsExactly (draws 0) (first_of_run p)) m p.seen x (λ after. q.seen ≡ after)) (sym is)
+          (hit.0, met_alone (draws 0) (first_of_run p) (owner_of register) query p.seen x hit.0 hit.1 ends, hit.2)
+
+-- a script that is answered up to a line
+pub record IsUpTo (house : House) (draws : ℕ → ℕ → ℕ → ℕ) (script : List ℕ) (who : Option ℕ) (lines : List (List ℕ)) (out : List ℕ) (before now : List Pass) : Type 0 where
+  pub exchanges : List Exchange
+  pub turns : map (λ (x : Exchange). x.turn) exchanges ++ turns_left house who lines ≡ turns_of house script
+  pub written : out ≡ flat_map reply_text (map (λ (x : Exchange). x.reply) exchanges)
+  pub served : AreServed house draws exchanges before now
+  pub alone : AreAlone house draws exchanges before now
+
+module _ (house : House) (draws : ℕ → ℕ → ℕ → ℕ) (script : List ℕ) (before : List Pass) where
+  pub up_to_first : (out : List ℕ) → out ≡ [] → IsUpTo house draws script None (lines_of script) out before before
+  up_to_first out none = record { exchanges = []; turns = turns_first house script; written = none; served = none_served house draws before; alone = λ o owner at. refl }
+
+  pub up_to_next : (who next : Option ℕ) (line : List ℕ) (lines rest : List (List ℕ)) (out text : List ℕ) (now after : List Pass) (x : Exchange) → x.turn ≡ record { who = who; line = line }
+      → IsUpTo house draws script who lines out before now → lines ≡ line ∷ rest → AreServed house draws (x ∷ []) now after → AreAlone house draws (x ∷ []) now after
+      → text ≡ out ++ reply_text x.reply → next ≡ who_behind house who line → IsUpTo house draws script next rest text before after
+  up_to_next who next line lines rest out text now after x turn up cut served alone put behind = record {
+    exchanges = up.exchanges ++ x ∷ [];
+    turns = ap (λ ts. ts ++ turns_left house next rest) (map-append (λ (y : Exchange). y.turn) up.exchanges (x ∷ []))
+        ∙ append_assoc (map (λ (y : Exchange). y.turn) up.exchanges) (x.turn ∷ []) (turns_left house next rest)
+        ∙ ap (λ ts. map (λ (y : Exchange). y.turn) up.exchanges ++ ts)
+        (ap (λ (t : Turn). t ∷ turns_left house next rest) turn ∙ ap (λ (w : Option ℕ). record { who = who; line = line } ∷ turns_left house w rest) behind ∙ sym (turns_next house who line rest) ∙ ap (λ ls. turns_left house who ls) (sym cut))
+        ∙ up.turns;
+    written = put ∙ ap (λ ts. ts ++ reply_text x.reply) up.written ∙ ap (λ ts. flat_map reply_text (map (λ (y : Exchange). y.reply) up.exchanges) ++ ts) (sym (append-nil (reply_text x.reply)))
+        ∙ sym (flat_map-append reply_text (map (λ (y : Exchange). y.reply) up.exchanges) (x.reply ∷ []))
+        ∙ ap (λ rs. flat_map reply_text rs) (sym (map-append (λ (y : Exchange). y.reply) up.exchanges (x ∷ [])));
+    served = served_append house draws up.exchanges (x ∷ []) before now after up.served served;
+    alone = alone_append house draws up.exchanges (x ∷ []) before now after up.served up.alone alone;
+  }
+
+  ended : (who : Option ℕ) (lines : List (List ℕ)) (out : List ℕ) (now : List Pass) (up : IsUpTo house draws script who lines out before now) → lines ≡ [] → map (λ (x : Exchange). x.turn) up.exchanges ≡ turns_of house script
+  ended who lines out now up none =
+      sym (append-nil (map (λ (x : Exchange). x.turn) up.exchanges)) ∙ ap (λ ls. map (λ (x : Exchange). x.turn) up.exchanges ++ turns_left house who ls) (sym none) ∙ up.turns
+
+  pub up_to_served : (who : Option ℕ) (lines : List (List ℕ)) (out : List ℕ) (now : List Pass) → IsUpTo house draws script who lines out before now → lines ≡ [] → HasServed house draws script out before now
+  up_to_served who lines out now up none = record { exchanges = up.exchanges; turns = ended who lines out now up none; written = up.written; served = up.served }
+
+  pub up_to_written : (who : Option ℕ) (lines : List (List ℕ)) (out : List ℕ) (now : List Pass) → IsUpTo house draws script who lines out before now → lines ≡ [] → AreFresh house before
+      → IsScriptWritten house draws (found_by before) script out (seen_by now)
+  unfolding IsScriptWritten
+  up_to_written who lines out now up none fresh = (
+    map (λ (x : Exchange). x.reply) up.exchanges,
+    record {
+      exchanges = up.exchanges;
+      turns = ended who lines out now up none;
+      replied = refl;
+      plain = up.served.plain;
+      owners = λ o owner at. subst (λ (rs : List Record). LeadExactly house draws o (first_of_run (pass_at before o)) rs up.exchanges (pass_at now o).seen) (fresh o owner at) (up.alone o owner at);
+    },
+    up.written,
+  )

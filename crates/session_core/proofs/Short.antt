@@ -1,0 +1,59 @@
+-- lines of fewer than six bytes ask nothing, and their replies are short
+use Rattle.std.proofs.Common.{◌≡◌, ℕ, zero, suc, ◌<◌, ◌≤◌, List, [], ◌∷◌, ◌++◌, codes, length, sym, ◌∙◌, ap, arith, length-append}
+use Rattle.std.specs.Prelude.{Result, Ok, Option}
+use Rattle.std.specs.Fmt.{digits}
+use Rattle.wire_lines.specs.Lines.{space}
+use Rattle.wire_lines.specs.Reply.{ended, refused, reply_text}
+use Rattle.wire_lines.specs.Refusal.{by_line, IsFormRefusal}
+use Rattle.wire_lines.specs.Request.{Asked, hello, ask, request_of}
+use Rattle.wire_lines.specs.declared.refusal.LineRefusal.{LineRefusal}
+use Rattle.wire_lines.specs.declared.refusal.LineRefusal.TheVariants.{Malformed, TooLong, Unknown, NoEpsilon, NoHello}
+use Rattle.wire_lines.proofs.Requests.{grammar_from}
+use Rattle.session_core.specs.House.{House}
+use Rattle.session_core.specs.Meant.{meant_by, meant_by_request}
+
+pub ended_short : length (reply_text ended) ≤ 8
+unfolding reply_text
+ended_short = omega arith
+
+short_word : (word : ℕ) → word ≤ 3 → length (reply_text (refused (by_line (Malformed word)))) ≤ 8
+unfolding reply_text digits
+short_word zero h = omega arith
+short_word (suc zero) h = omega arith
+short_word (suc (suc zero)) h = omega arith
+short_word (suc (suc (suc zero))) h = omega arith
+short_word (suc (suc (suc (suc word)))) h = absurd (omega arith)
+
+pub refusal_short : (refusal : LineRefusal) → IsFormRefusal refusal → length (reply_text (refused (by_line refusal))) ≤ 8
+unfolding reply_text
+refusal_short (Malformed word) h = short_word word h
+refusal_short TooLong h = omega arith
+refusal_short (Unknown word) h = absurd h
+refusal_short NoEpsilon h = absurd h
+refusal_short NoHello h = absurd h
+
+pub hello_long : (line name : List ℕ) → request_of line ≡ Ok (hello name) → length line < 6 → ⊥
+hello_long line name reads few =
+    let is : line ≡ codes "hello " ++ name = (grammar_from line (hello name) reads).1.1 in
+    omega (arith, ap length is ∙ length-append (codes "hello ") name)
+
+one_long : (xs : List ℕ) (y : ℕ) (ys : List ℕ) → 1 ≤ length (xs ++ y ∷ ys)
+one_long [] y ys = omega arith
+one_long (x ∷ xs) y ys = omega arith
+
+two_long : (owner amount program : List ℕ) → 2 ≤ length (owner ++ (space ∷ amount) ++ (space ∷ program))
+two_long [] amount program = let more = one_long amount space program in omega (arith, more)
+two_long (x ∷ owner) amount program = let more = two_long owner amount program in omega (arith, more)
+
+long_ask : (line rest : List ℕ) → line ≡ codes "ask " ++ rest → 2 ≤ length rest → 6 ≤ length line
+long_ask line rest is more = omega (arith, ap length is, more)
+
+pub ask_long : (line owner program : List ℕ) (epsilon : Option ℕ) → request_of line ≡ Ok (ask owner epsilon program) → length line < 6 → ⊥
+ask_long line owner program epsilon reads few =
+    let written = (grammar_from line (ask owner epsilon program) reads).1 in
+    omega (arith, long_ask line (owner ++ (space ∷ written.0) ++ (space ∷ program)) written.4 (two_long owner written.0 program))
+
+-- what a line comes to, by how it is read
+pub meant_of : (house : House) (who : Option ℕ) (line : List ℕ) (request : Result Asked LineRefusal) → request_of line ≡ request → meant_by_request house who request ≡ meant_by house who line
+unfolding meant_by
+meant_of house who line request is = ap (meant_by_request house who) (sym is)

@@ -1,0 +1,5 @@
+use Rattle.session_core.proofs.Rows.{register_owners}
+use Rattle.session_core.proofs.laws.registers_are_houses.Goals as goal
+
+pub returns : goal.returns
+returns c = register_owners

@@ -1,0 +1,46 @@
+-- what a line comes to by itself
+use Rattle.std.specs.Prelude.{ℕ, List, Result, Ok, Err, Option, Some, None}
+use Rattle.budget_core.specs.declared.records.View.TheVariants.{Whole}
+use Rattle.wire_lines.specs.Reply.{Replied, greeted, ended, refused}
+use Rattle.wire_lines.specs.Request.{Asked, hello, ask, bye, request_of}
+use Rattle.wire_lines.specs.Refusal.{by_line}
+use Rattle.wire_lines.specs.declared.refusal.LineRefusal.{LineRefusal}
+use Rattle.wire_lines.specs.declared.refusal.LineRefusal.TheVariants.{Unknown, NoEpsilon, NoHello}
+use Rattle.answer_path.specs.Owner.{Owner}
+use Rattle.answer_path.specs.Query.{Query}
+use Rattle.session_core.specs.House.{House, analyst_named, owner_named}
+
+-- what is demanded of an owner
+pub data Demand : Type 0 where
+  asks : Query → Demand
+
+-- What a line comes to by itself, by the house's names and by who speaks: a reply and who speaks then, or a demand of an
+-- owner. Refusals are looked for in the order of their codes.
+pub data Meant : Type 0 where
+  says : Replied → Option ℕ → Meant
+  wants : ℕ → Owner → Demand → Meant
+
+abbrev pub meant_by_hello : House → Option ℕ → List ℕ → Option ℕ → Meant
+meant_by_hello house who name None = says (refused (by_line (Unknown 1))) who
+meant_by_hello house who name (Some analyst) = says (greeted name) (Some analyst)
+
+abbrev pub meant_by_ask : Option ℕ → Option (ℕ × Owner) → Option ℕ → List ℕ → Meant
+meant_by_ask who None epsilon program = says (refused (by_line (Unknown 1))) who
+meant_by_ask who (Some found) None program = says (refused (by_line NoEpsilon)) who
+meant_by_ask None (Some found) (Some e) program = says (refused (by_line NoHello)) None
+meant_by_ask (Some analyst) (Some found) (Some e) program =
+    wants found.0 found.1 (asks (record { owner = found.0; analyst = analyst; view = Whole; e = e; program = program }))
+
+abbrev pub meant_by_request : House → Option ℕ → Result Asked LineRefusal → Meant
+meant_by_request house who (Err refusal) = says (refused (by_line refusal)) who
+meant_by_request house who (Ok (hello name)) = meant_by_hello house who name (analyst_named house name)
+meant_by_request house who (Ok (ask name epsilon program)) = meant_by_ask who (owner_named house name) epsilon program
+meant_by_request house who (Ok bye) = says ended who
+
+unfoldable pub meant_by : House → Option ℕ → List ℕ → Meant
+meant_by house who line = meant_by_request house who (request_of line)
+
+-- who speaks after a line
+abbrev pub next_who : Option ℕ → Meant → Option ℕ
+next_who who (says reply next) = next
+next_who who (wants n owner demand) = who
