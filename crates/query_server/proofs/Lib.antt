@@ -1,4 +1,8 @@
-pub mod Fronts
+pub mod Prefixes
 pub mod Judged
-pub mod Runs
-pub mod Stops
+pub mod Endings
+pub mod Contents
+pub mod Ends
+pub mod Passes
+pub mod Outcomes
+mod Examples

@@ -1,109 +1,110 @@
 -- what the code's ends mean
-use Rattle.std.specs.Prelude.{◌≡◌, ℕ, Bool, true, false, List, Option, None, IsSome, [], ⊤}
-use Rattle.wire_lines.specs.Reply.{Replied, refused as refused_reply}
-use Rattle.wire_lines.specs.declared.refusal.Refusal.TheVariants.{NoMemory as NoRoom}
+use Rattle.std.specs.Prelude.{◌≡◌, ◌⊎◌, ℕ, List, [], Result, Ok, Err, ⊤, string_bytes}
+use Rattle.query_server.specs.Check.{IsProgramDue}
 use Rattle.query_server.specs.Command.{Command, run, check}
 use Rattle.query_server.specs.Ending.{Ending, usage, refused}
-use Rattle.query_server.specs.Status.{IfFinished, IsDue, IsDecided, IsNamed, IsOfRun, IsOfCheck, usage_text, refused_text, memory_text, too_long_text}
-use Rattle.query_server.specs.declared.end.End.{End}
-use Rattle.query_server.specs.declared.end.End.TheVariants.{Usage, Refused, Fault, NoMemory, TooLong, Declined, Done}
+use Rattle.query_server.specs.Status.{usage_text, refused_text, memory_text, too_long_text}
+use Rattle.query_server.specs.Due.{IsDue, IsPrefix}
 use Rattle.query_server.specs.declared.end.Status.{Status}
-use Rattle.query_server.specs.declared.end.Status.TheVariants as status
+use Rattle.query_server.specs.declared.end.Status.TheVariants as code
+use Rattle.query_server.specs.declared.end.Stop.{Stop}
+use Rattle.query_server.specs.declared.end.Stop.TheVariants.{Usage, Refused, Fault, NoMemory}
+use Rattle.query_server.specs.declared.end.End.{End}
+use Rattle.query_server.specs.declared.end.End.TheVariants.{Stopped, Run, Check}
+use Rattle.query_server.specs.declared.running.RunEnd.{RunEnd}
+use Rattle.query_server.specs.declared.running.RunEnd.TheVariants.{Answered, TooLong}
+use Rattle.query_server.specs.declared.checking.CheckEnd.{CheckEnd}
+use Rattle.query_server.specs.declared.checking.CheckEnd.TheVariants as checked
 use Rattle.query_server.specs.declared.server.Command.{Command as Words}
-use Rattle.query_server.specs.declared.server.Command.TheVariants.{Run, Check}
+use Rattle.query_server.specs.declared.server.Command.TheVariants as words
 
 -- the command that the code has read
 abbrev pub command_meant : Words → Command
-command_meant (Run catalog key) = run catalog.now key.now
-command_meant (Check catalog owner file) = check catalog.now owner.now file.now
+command_meant (words.Run catalog key) = run catalog.now key.now
+command_meant (words.Check catalog owner file) = check catalog.now owner.now file.now
 
--- the status and the text of an end
+-- The status and the text of what stops a command, and of each command's end.
+abbrev pub stop_status : Stop → Status
+stop_status Usage = code.Usage
+stop_status (Refused name) = code.Refused
+stop_status Fault = code.Fault
+stop_status NoMemory = code.NoMemory
+
+abbrev pub stop_text : Stop → List ℕ
+stop_text Usage = usage_text
+stop_text (Refused name) = refused_text (string_bytes name)
+stop_text Fault = []
+stop_text NoMemory = memory_text
+
+abbrev pub run_status : RunEnd → Status
+run_status (Answered replies) = code.Done
+run_status TooLong = code.ScriptTooLong
+
+abbrev pub run_text : RunEnd → List ℕ
+run_text (Answered replies) = replies.items
+run_text TooLong = too_long_text
+
+abbrev pub check_status : CheckEnd → Status
+check_status (checked.Accepted line) = code.Done
+check_status (checked.Refused line) = code.ProgramRefused
+
+abbrev pub check_text : CheckEnd → List ℕ
+check_text (checked.Accepted line) = line.items
+check_text (checked.Refused line) = line.items
+
 abbrev pub status_at : End → Status
-status_at Usage = status.Usage
-status_at (Refused name) = status.Refused
-status_at Fault = status.Fault
-status_at NoMemory = status.NoMemory
-status_at TooLong = status.ScriptTooLong
-status_at (Declined line) = status.Declined
-status_at (Done out) = status.Done
+status_at (Stopped stop) = stop_status stop
+status_at (Run end) = run_status end
+status_at (Check end) = check_status end
 
 abbrev pub text_at : End → List ℕ
-text_at Usage = usage_text
-text_at (Refused name) = refused_text name.now
-text_at Fault = []
-text_at NoMemory = memory_text
-text_at TooLong = too_long_text
-text_at (Declined line) = line.items
-text_at (Done out) = out.items
+text_at (Stopped stop) = stop_text stop
+text_at (Run end) = run_text end
+text_at (Check end) = check_text end
 
--- the end is due at this ending, unless memory ran out or something failed
-abbrev pub IsEndOf : Ending → (script : List ℕ) → End → Type 0
-IsEndOf ending script end = IfFinished (status_at end) (IsDue ending script (status_at end) (text_at end))
+-- a command's end, where nothing stopped it before
+abbrev pub end_by : {T : Type 0} → (T → End) → Result T Stop → End
+end_by end_of (Ok end) = end_of end
+end_by end_of (Err stop) = Stopped stop
 
--- it is, as far as the words and the files give it
-abbrev pub IsOpeningOf : Ending → End → Type 0
-IsOpeningOf ending end = IfFinished (status_at end) (IsDecided ending (status_at end) (text_at end))
-
--- the command ends before its work is begun
-abbrev pub IsStop : Ending → End → Type 0
+-- what stops a command at this ending before its work is begun
+abbrev pub IsStop : Ending → Stop → Type 0
 IsStop ending Usage = ending ≡ usage
-IsStop ending (Refused name) = ending ≡ refused name.now
+IsStop ending (Refused name) = ending ≡ refused (string_bytes name)
 IsStop ending Fault = ⊤
 IsStop ending NoMemory = ⊤
-IsStop ending TooLong = ⊥
-IsStop ending (Declined line) = ⊥
-IsStop ending (Done out) = ⊥
 
--- the end of a command that refuses one of these names
-abbrev pub IsRefusalIn : (List ℕ → Type 0) → End → Type 0
-IsRefusalIn Names (Refused name) = Names name.now
-IsRefusalIn Names Fault = ⊤
-IsRefusalIn Names NoMemory = ⊤
-IsRefusalIn Names Usage = ⊥
-IsRefusalIn Names TooLong = ⊥
-IsRefusalIn Names (Declined line) = ⊥
-IsRefusalIn Names (Done out) = ⊥
+-- something failed, or memory ran out
+abbrev pub IsCut : End → Type 0
+IsCut end = (end ≡ Stopped Fault) ⊎ (end ≡ Stopped NoMemory)
 
--- the end of a command whose script is read
-abbrev pub IsScriptEnd : End → Type 0
-IsScriptEnd (Refused other) = ⊥
-IsScriptEnd Usage = ⊥
-IsScriptEnd Fault = ⊤
-IsScriptEnd NoMemory = ⊤
-IsScriptEnd TooLong = ⊤
-IsScriptEnd (Declined line) = ⊥
-IsScriptEnd (Done out) = ⊤
+-- This name is refused, for this cause; or something failed, or memory ran out.
+abbrev pub IsStopAt : (name : List ℕ) → (Cause : Type 0) → Stop → Type 0
+IsStopAt name Cause Usage = ⊥
+IsStopAt name Cause (Refused other) = (string_bytes other ≡ name) × Cause
+IsStopAt name Cause Fault = ⊤
+IsStopAt name Cause NoMemory = ⊤
 
--- the end of a command whose program is checked
-abbrev pub IsCheckEnd : End → Type 0
-IsCheckEnd (Refused other) = ⊥
-IsCheckEnd Usage = ⊥
-IsCheckEnd Fault = ⊥
-IsCheckEnd NoMemory = ⊤
-IsCheckEnd TooLong = ⊥
-IsCheckEnd (Declined line) = ⊤
-IsCheckEnd (Done out) = ⊤
+-- this name is refused, or memory ran out
+abbrev pub IsRefusalOf : (name : List ℕ) → Stop → Type 0
+IsRefusalOf name Usage = ⊥
+IsRefusalOf name (Refused other) = string_bytes other ≡ name
+IsRefusalOf name Fault = ⊥
+IsRefusalOf name NoMemory = ⊤
 
-abbrev pub IsRefused : End → Type 0
-IsRefused (Refused name) = ⊤
-IsRefused Usage = ⊥
-IsRefused Fault = ⊥
-IsRefused NoMemory = ⊥
-IsRefused TooLong = ⊥
-IsRefused (Declined line) = ⊥
-IsRefused (Done out) = ⊥
+abbrev pub IsFailing : Stop → Type 0
+IsFailing stop = (stop ≡ Fault) ⊎ (stop ≡ NoMemory)
 
--- an end that the words alone and the names in them allow
-abbrev pub IsEndFor : Option Command → End → Type 0
-IsEndFor command Usage = command ≡ None
-IsEndFor command (Refused name) = IsNamed command name.now
-IsEndFor command Fault = IsSome command
-IsEndFor command NoMemory = IsSome command
-IsEndFor command TooLong = IsOfRun command
-IsEndFor command (Declined line) = IsOfCheck command
-IsEndFor command (Done out) = IsSome command
+-- the end is due, unless something failed or memory ran out
+abbrev pub IsEndOf : Ending → (script : List ℕ) → End → Type 0
+IsEndOf ending script end =
+    IsDue ending script (status_at end) (text_at end) ⊎ IsCut end
 
--- the reply says that memory ran out
-abbrev pub is_want_of_memory : Replied → Bool
-is_want_of_memory (refused_reply NoRoom) = true
-is_want_of_memory reply = false
+-- a program comes to this end
+abbrev pub IsVerdictOn : (program : List ℕ) → CheckEnd → Type 0
+IsVerdictOn program end = IsProgramDue program (check_status end) (check_text end)
+
+-- The end's text is written with its status; or a prefix of it, and something failed.
+pub record IsEndingWith (end : End) (status : Status) (text : List ℕ) : Type 0 where
+  pub prefix : IsPrefix text (text_at end)
+  pub whole : ((status ≡ status_at end) × (text ≡ text_at end)) ⊎ (status ≡ code.Fault)

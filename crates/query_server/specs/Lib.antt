@@ -1,7 +1,12 @@
 pub mod Command
-pub mod Ending
 pub mod Status
-pub mod Taken
+pub mod Ending
+pub mod Files
+pub mod House
+pub mod Run
+pub mod Check
+pub mod Due
+pub mod Promise
 pub mod Ends
 pub mod Opened
-pub mod Run
+pub mod Taken

@@ -1,37 +1,41 @@
--- a script that was answered
-use Rattle.std.specs.Prelude.{◌≡◌, ◌⊎◌, ℕ, ℤ, ◌≤◌, List, [], ◌∷◌, length, Option, Some, Ok, codes}
-use Rattle.table_store.specs.Table.{table_of}
+-- `run`: a script is answered
+use Rattle.std.specs.Prelude.{◌≡◌, ◌⊎◌, ℕ, ◌^◌, ◌<◌, ◌≤◌, nat_eq, ℤ, List, [], length, Option, Some, None, Result, Ok, Err, if◌then◌else◌}
+use Rattle.table_store.specs.Table.{table_in_file}
+use Rattle.table_store.specs.declared.TableFault.{TableFault}
 use Rattle.word_streams.specs.Draws.{draws_of}
 use Rattle.session_core.specs.House.{house_of}
-use Rattle.session_core.specs.Headline.{Headline}
-use Rattle.session_core.specs.Transcript.{IsTranscript}
-use Rattle.query_server.specs.Command.{run, command_of}
-use Rattle.query_server.specs.Ending.{readable, census, ending_of, to_answer}
-use Rattle.query_server.specs.Status.{IsFront, script_limit, memory_text}
+use Rattle.session_core.specs.Transcript.{Journals, IsTranscript}
+use Rattle.query_server.specs.House.{census, column_name}
+use Rattle.query_server.specs.Ending.{Ending, refused, to_answer}
+use Rattle.query_server.specs.Status.{too_long_text}
+use Rattle.query_server.specs.declared.end.Status.{Status}
+use Rattle.query_server.specs.declared.end.Status.TheVariants.{Done, ScriptTooLong}
 
--- The words are `run CATALOG KEY`, and the files hold a table of these ages and this key.
-pub record IsHouseOf (words : List (List ℕ)) (held : List ℕ → Option (List ℕ)) (ages : List ℤ) (key : List ℕ) : Type 0 where
-  pub catalog : List ℕ
-  pub key_name : List ℕ
-  pub table : List ℕ
-  pub commanded : command_of words ≡ Some (run catalog key_name)
-  pub has_table : readable (held catalog) ≡ Some table
-  pub has_rows : table_of (codes "age") table ≡ Ok ages
-  pub has_key : readable (held key_name) ≡ Some key
-  pub key_length : length key ≡ 32
+-- the most bytes of a script
+abbrev pub script_limit : ℕ
+script_limit = 2 ^ 24
 
--- The script is no longer than it may be, and what is written is a transcript of it in the house of the files, which keeps
--- the promises to the owner.
-pub record IsRun (words : List (List ℕ)) (held : List ℕ → Option (List ℕ)) (script written : List ℕ) : Type 0 where
-  pub ages : List ℤ
-  pub key : List ℕ
-  pub house : IsHouseOf words held ages key
-  pub short : length script ≤ script_limit
-  pub transcript : IsTranscript (house_of (census ages)) (draws_of key) ([] ∷ []) script written
-  pub headline : Headline (house_of (census ages)) (draws_of key) ([] ∷ []) ([] ∷ []) script written
+-- CATALOG has rows
+abbrev pub rows_ending : (catalog : List ℕ) → (rows : Result (List ℤ) TableFault) → (key : List ℕ) → Ending
+rows_ending catalog (Err fault) key = refused catalog
+rows_ending catalog (Ok ages) key = to_answer ages key
 
--- What was written when something failed, where a script was to be answered that isn't too long: a front of a transcript
--- that keeps the promises, or of the line for want of memory. (An empty text is a front of either.)
-abbrev pub IsRunCutShort : (words : List (List ℕ)) → (held : List ℕ → Option (List ℕ)) → (script written : List ℕ) → Type 0
-IsRunCutShort words held script written = (ages : List ℤ) (key : List ℕ) → ending_of words held ≡ to_answer ages key → length script ≤ script_limit
-    → IsFront written memory_text ⊎ ((due : List ℕ) × IsRun words held script due × IsFront written due)
+-- KEY is there and has 32 bytes
+abbrev pub key_ending : (catalog name table : List ℕ) → (key : Option (List ℕ)) → Ending
+key_ending catalog name table None = refused name
+key_ending catalog name table (Some key) = if nat_eq (length key) 32 then rows_ending catalog (table_in_file column_name table) key else refused name
+
+-- The first of these decides: CATALOG is there and not too long, KEY, the rows.
+abbrev pub run_ending : (catalog name : List ℕ) → (table key : Option (List ℕ)) → Ending
+run_ending catalog name None key = refused catalog
+run_ending catalog name (Some table) key = key_ending catalog name table key
+
+-- no records are there at the start
+abbrev pub none_found : Journals
+none_found o = []
+
+-- What is due to a script, where no records are there at the start: a transcript of it, or that it has too many bytes.
+abbrev pub IsScriptDue : (ages : List ℤ) → (key script : List ℕ) → (status : Status) → (text : List ℕ) → Type 0
+IsScriptDue ages key script status text =
+    ((status ≡ Done) × (length script ≤ script_limit) × IsTranscript (house_of (census ages)) (draws_of key) none_found script text)
+    ⊎ ((status ≡ ScriptTooLong) × (script_limit < length script) × (text ≡ too_long_text))

@@ -1,35 +1,50 @@
 //! A program is checked.
 
-ghost use Rattle.std.specs.Prelude.{◌≡◌, ◌++◌, ℕ, List, [], IfOk, OnOk};
+ghost use Rattle.std.specs.Prelude.{◌≡◌, ℕ, List, Option, Some, IfOk, IsErrOf};
 ghost use Rattle.fz_frac.specs.Sens.{distance_of};
-ghost use Rattle.wire_lines.specs.Reply.{replied, reply_text, sensitivity_text};
-ghost use Rattle.answer_path.specs.Judgement.{written_as};
-ghost use Rattle.answer_path.specs.Code.{IsDeclined};
-ghost use Rattle.query_server.specs.Ending.{to_check, census_tables};
-ghost use Rattle.query_server.specs.Status.{accepted_text};
-ghost use Rattle.query_server.specs.Ends.{IsEndOf, IsCheckEnd, is_want_of_memory};
+ghost use Rattle.wire_lines.specs.Refusal.{refusal_at};
+ghost use Rattle.wire_lines.specs.Reply.{refused, reply_text};
+ghost use Rattle.answer_path.specs.Code.{IsProgramRefusal};
+ghost use Rattle.fz_outside.specs.Faults.{HasCause};
+ghost use Rattle.query_server.specs.Command.{check};
+ghost use Rattle.query_server.specs.House.{census_tables};
+ghost use Rattle.query_server.specs.Check.{accepted_text};
+ghost use Rattle.query_server.specs.Due.{ForContents};
+ghost use Rattle.query_server.specs.Ends.{IsEndOf, IsVerdictOn, end_by};
 
-use crate::end::End;
-use crate::opening::signature;
+use crate::end::{End, Status, Stop};
+use crate::opening::{read_program, signature};
 use answer_path::check_program;
 use fz_ast::Sig;
 use fz_frac::Sens;
-use itoa::Buffer;
+use fz_outside::files::Files;
 use std::alloc::{AllocError, Global};
-use wire_lines::{REPLY_LIMIT, Refusal, Reply, write_reply};
+use wire_lines::{REPLY_LIMIT, Refusal, Reply, write_reply, write_sensitivity};
 
-/// Puts a sensitivity at the end: a whole number without a denominator.
-fn push_sensitivity(line: &mut Vec<u8>, sens: Sens) -> Result<(), AllocError>
-    ensures { OnOk result (line.new.items ≡ line.old.items ++ sensitivity_text (written_as (distance_of sens))) }
-{
-    let mut buffer = Buffer::new();
-    match sens {
-        Sens::Inf => line.extend_from_slice(b"inf"),
-        Sens::Finite(f) if f.q == 1 => line.extend_from_slice(buffer.format(f.p).as_bytes()),
-        Sens::Finite(f) => {
-            line.extend_from_slice(buffer.format(f.p).as_bytes())?;
-            line.extend_from_slice(b"/")?;
-            line.extend_from_slice(buffer.format(f.q).as_bytes())
+/// The end of a `check`, with its line.
+#[derive(Drop)]
+pub(crate) enum CheckEnd {
+    Accepted(Vec<u8>),
+    Refused(Vec<u8>),
+}
+
+impl CheckEnd {
+    ghost use Rattle.query_server.specs.Ends.{check_status, check_text};
+
+    pub(crate) fn status(&self) -> Status
+        ensures { result ≡ check_status self.now }
+    {
+        match self {
+            CheckEnd::Accepted(_) => Status::Done,
+            CheckEnd::Refused(_) => Status::ProgramRefused,
+        }
+    }
+
+    pub(crate) fn text(&self) -> &[u8]
+        ensures { result.now ≡ check_text self.now }
+    {
+        match self {
+            CheckEnd::Accepted(line) | CheckEnd::Refused(line) => line,
         }
     }
 }
@@ -38,65 +53,70 @@ fn push_sensitivity(line: &mut Vec<u8>, sens: Sens) -> Result<(), AllocError>
 fn accepted_line(alloc: Global, sens: Sens) -> Result<Vec<u8>, AllocError>
     ensures { IfOk result (λ line. line.items ≡ accepted_text (distance_of sens)) }
 {
+    let mut text = [0u8; REPLY_LIMIT];
+    let n = write_sensitivity(sens, &mut text);
     let mut line = Vec::new(alloc);
     line.extend_from_slice(b"ok ")?;
-    push_sensitivity(&mut line, sens)?;
+    line.extend_from_slice(&text[..n])?;
     line.extend_from_slice(b"\n")?;
     Ok(line)
 }
 
-/// The line of a reply.
-fn reply_line(alloc: Global, reply: &Reply<'_>) -> Result<Vec<u8>, AllocError>
-    ensures { IfOk result (λ line. line.items ≡ reply_text (replied reply.now)) }
+/// The line of a refusal.
+fn refusal_line(alloc: Global, refusal: &Refusal<'_>) -> Result<Vec<u8>, AllocError>
+    ensures { IfOk result (λ line. line.items ≡ reply_text (refused (refusal_at refusal.now))) }
 {
     let mut text = [0u8; REPLY_LIMIT];
-    let n = write_reply(reply, &mut text);
+    let n = write_reply(&Reply::Refused(*refusal), &mut text);
     text[..n].to_vec(alloc)
 }
 
-/// Whether a reply says that memory ran out.
-fn is_want_of_memory(reply: &Reply<'_>) -> bool
-    ensures { result ≡ is_want_of_memory (replied reply.now) }
+/// How a program that is refused ends. Want of memory is no refusal of it.
+#[tactic(auto, using(crate::proofs::Judged::program_refused))]
+fn refuse(alloc: Global, refusal: &Refusal<'_>) -> Result<CheckEnd, AllocError>
+    ensures { (program : List ℕ) → IsProgramRefusal census_tables program (refusal_at refusal.now) → IfOk result (IsVerdictOn program) }
 {
-    match reply {
-        Reply::Refused(Refusal::NoMemory) => true,
-        _ => false,
+    if let Refusal::NoMemory = refusal {
+        return Err(AllocError);
     }
+    Ok(CheckEnd::Refused(refusal_line(alloc, refusal)?))
 }
 
-/// How a program that is declined ends.
-fn decline<'a>(alloc: Global, reply: &Reply<'_>) -> Result<End<'a>, AllocError>
-    ensures end { (program : List ℕ) → IsDeclined census_tables program (replied reply.now) → IfOk result (IsEndOf (to_check program) []) }
-    ensures kind { IfOk result IsCheckEnd }
-{
-    if is_want_of_memory(reply) {
-        return Ok(End::NoMemory);
-    }
-    Ok(End::Declined(reply_line(alloc, reply)?))
-}
-
-/// How a program ends over the tables of a house.
-fn judge<'a>(alloc: Global, sig: &Sig, program: &[u8]) -> Result<End<'a>, AllocError>
+/// What a program comes to over the tables of a house.
+fn judge(alloc: Global, sig: &Sig, program: &[u8]) -> Result<CheckEnd, AllocError>
     requires { sig.now ≡ census_tables }
-    ensures end { IfOk result (IsEndOf (to_check program.now) []) }
-    ensures kind { IfOk result IsCheckEnd }
+    ensures { IfOk result (IsVerdictOn program.now) }
 {
     match check_program(alloc, sig, program) {
-        Ok(accepted) => Ok(End::Done(accepted_line(alloc, accepted.sens)?)),
-        Err(reply) => decline(alloc, &reply),
+        Ok(accepted) => Ok(CheckEnd::Accepted(accepted_line(alloc, accepted.sens)?)),
+        Err(refusal) => refuse(alloc, &refusal),
     }
 }
 
 /// Checks a program over the tables of the house.
-pub(crate) fn check_bytes<'a>(alloc: Global, program: &[u8]) -> End<'a>
-    ensures end { IsEndOf (to_check program.now) [] result }
-    ensures kind { IsCheckEnd result }
+fn check_bytes(alloc: Global, program: &[u8]) -> Result<CheckEnd, AllocError>
+    ensures { IfOk result (IsVerdictOn program.now) }
 {
-    let Ok(sig) = signature(alloc) else {
-        return End::NoMemory;
-    };
-    match judge(alloc, &sig, program) {
-        Ok(end) => end,
-        Err(_) => End::NoMemory,
+    let sig = signature(alloc)?;
+    judge(alloc, &sig, program)
+}
+
+/// Reads the files of a `check`, and checks its program.
+pub(crate) fn check_file<F: Files>(
+    alloc: Global,
+    files: &mut F,
+    catalog: &str,
+    owner: &str,
+    file: &str,
+) -> Result<CheckEnd, Stop>
+    ensures end { (left : Option (List ℕ)) → ForContents (Some (check catalog.now owner.now file.now)) (F.held files.old) left
+        (λ ending script. IsEndOf ending script (end_by End.Check result)) }
+    ensures same { F.held files.new ≡ F.held files.old }
+    ensures cause { HasCause (F.faults files.old) (F.faults files.new) (IsErrOf result Stop.Fault) }
+{
+    let program = read_program(alloc, files, catalog, owner, file)?;
+    match check_bytes(alloc, &program) {
+        Ok(end) => Ok(end),
+        Err(_) => Err(Stop::NoMemory),
     }
 }

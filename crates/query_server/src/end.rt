@@ -3,13 +3,17 @@
 ghost use Rattle.std.specs.Prelude.{◌≡◌};
 ghost use Rattle.query_server.specs.Status.{code_of};
 
+use crate::checking::CheckEnd;
+use crate::running::RunEnd;
+use std::alloc::Global;
+
 /// The status of a command.
 #[derive(Clone, Copy, Debug, PartialEq, Eq)]
 pub enum Status {
     /// 0: all was done.
     Done,
     /// 1: the program that was to be checked is refused.
-    Declined,
+    ProgramRefused,
     /// 2: the words are no command.
     Usage,
     /// 3: a file that the command names is absent, too long or outside its definition, or its owner is unknown.
@@ -29,7 +33,7 @@ impl Status {
     {
         match self {
             Status::Done => 0,
-            Status::Declined => 1,
+            Status::ProgramRefused => 1,
             Status::Usage => 2,
             Status::Refused => 3,
             Status::Fault => 5,
@@ -39,36 +43,61 @@ impl Status {
     }
 }
 
-/// The end of a command, with what is written at it.
+/// What stops a command before its work is done.
 #[derive(Drop)]
-pub(crate) enum End<'a> {
+pub(crate) enum Stop {
+    /// The words are no command.
     Usage,
     /// The file or the owner of this name is refused.
-    Refused(&'a str),
+    Refused(String),
+    /// Files or the source have failed.
     Fault,
     NoMemory,
-    TooLong,
-    /// The line that refuses the program.
-    Declined(Vec<u8>),
-    /// The replies to the script, or the line that accepts the program.
-    Done(Vec<u8>),
 }
 
-impl End<'_> {
+impl Stop {
+    ghost use Rattle.query_server.specs.Ends.{IsRefusalOf, stop_status};
+
+    /// A name is refused.
+    pub(crate) fn refuse(alloc: Global, name: &str) -> Stop
+        ensures { IsRefusalOf name.now result }
+    {
+        match String::from_str(alloc, name) {
+            Ok(name) => Stop::Refused(name),
+            Err(_) => Stop::NoMemory,
+        }
+    }
+
+    pub(crate) fn status(&self) -> Status
+        ensures { result ≡ stop_status self.now }
+    {
+        match self {
+            Stop::Usage => Status::Usage,
+            Stop::Refused(_) => Status::Refused,
+            Stop::Fault => Status::Fault,
+            Stop::NoMemory => Status::NoMemory,
+        }
+    }
+}
+
+/// The end of a command: what stopped it, or the end of its work.
+#[derive(Drop)]
+pub(crate) enum End {
+    Stopped(Stop),
+    Run(RunEnd),
+    Check(CheckEnd),
+}
+
+impl End {
     ghost use Rattle.query_server.specs.Ends.{status_at};
 
-    /// The status of an end.
     pub(crate) fn status(&self) -> Status
         ensures { result ≡ status_at self.now }
     {
         match self {
-            End::Usage => Status::Usage,
-            End::Refused(_) => Status::Refused,
-            End::Fault => Status::Fault,
-            End::NoMemory => Status::NoMemory,
-            End::TooLong => Status::ScriptTooLong,
-            End::Declined(_) => Status::Declined,
-            End::Done(_) => Status::Done,
+            End::Stopped(stop) => stop.status(),
+            End::Run(end) => end.status(),
+            End::Check(end) => end.status(),
         }
     }
 }

@@ -6,6 +6,7 @@ mod end;
 mod opening;
 mod running;
 mod server;
+mod writing;
 
 pub use crate::end::Status;
 pub use crate::server::run_server;

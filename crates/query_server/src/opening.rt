@@ -1,13 +1,20 @@
 //! The files of a command are read: a table's, and a key's or a program's.
 
-ghost use Rattle.std.specs.Prelude.{◌≡◌, ◌⊎◌, ℕ, ℤ, List, Option, Some, None, length, MatchResult, IfErr, IfOk, IsErrOf, Ok, codes, MatchOption, ◌≢◌, ◌≤◌, ◌^◌, ⊤, ◌∷◌, []};
+ghost use Rattle.std.specs.Prelude.{◌≡◌, ◌≢◌, ℕ, List, [], ◌∷◌, length, Option, Some, None, Ok, Err, MatchResult, MatchOption, IfOk, IsErrOf};
 ghost use Rattle.fz_outside.specs.Faults.{HasCause};
-ghost use Rattle.table_store.specs.Table.{table_of};
-ghost use Rattle.query_server.specs.Ending.{readable, run_ending, check_ending, to_check, census, census_tables};
-ghost use Rattle.query_server.specs.Ends.{IsStop, IsRefusalIn, IsRefused};
+ghost use Rattle.table_store.specs.Table.{table_in_file};
+ghost use Rattle.answer_path.specs.Owner.{IsHolding};
+ghost use Rattle.session_core.specs.House.{people_holding};
+ghost use Rattle.query_server.specs.Ending.{to_check};
+ghost use Rattle.query_server.specs.Files.{readable, IsHeldFile};
+ghost use Rattle.query_server.specs.House.{census, census_tables, column_name};
+ghost use Rattle.query_server.specs.Run.{run_ending};
+ghost use Rattle.query_server.specs.Check.{check_ending};
+ghost use Rattle.query_server.specs.Ends.{IsStop, IsStopAt};
 ghost use Rattle.query_server.specs.Opened.{IsOpened};
 
-use crate::end::End;
+use crate::end::Stop;
+use answer_path::Dataset;
 use fz_ast::{NoMemory, Sig};
 use fz_outside::FileFault;
 use fz_outside::files::{FileRead, Files};
@@ -37,18 +44,18 @@ pub(crate) struct Opened {
 }
 
 /// The bytes of a file that is there and not too long.
-fn read_file<'a, F: Files>(alloc: Global, files: &mut F, name: &'a str) -> Result<Vec<u8>, End<'a>>
-    ensures read { (held : List ℕ → Option (List ℕ)) → F.held files.old ≡ Some held →
-        MatchResult result (λ bytes. readable (held name.now) ≡ Some bytes.items) (λ end. IsRefused end → readable (held name.now) ≡ None) }
-    ensures end { IfErr result (IsRefusalIn (λ other. other ≡ name.now)) }
+fn read_file<F: Files>(alloc: Global, files: &mut F, name: &str) -> Result<Vec<u8>, Stop>
+    ensures read { (contents : Option (List ℕ)) × IsHeldFile (F.held files.old) name.now contents
+        × MatchResult result (λ bytes. readable contents ≡ Some bytes.items) (IsStopAt name.now (readable contents ≡ None)) }
     ensures same { F.held files.new ≡ F.held files.old }
-    ensures cause { HasCause (F.faults files.old) (F.faults files.new) (IsErrOf result End.Fault) }
+    ensures cause { HasCause (F.faults files.old) (F.faults files.new) (IsErrOf result Stop.Fault) }
 {
     match files.read(alloc, name) {
         Ok(FileRead::Bytes(bytes)) => Ok(bytes),
-        Ok(FileRead::Absent) | Ok(FileRead::TooLong) => Err(End::Refused(name)),
-        Err(FileFault::Failed) => Err(End::Fault),
-        Err(FileFault::NoMemory) => Err(End::NoMemory),
+        Ok(FileRead::Absent) => Err(Stop::refuse(alloc, name)),
+        Ok(FileRead::TooLong) => Err(Stop::refuse(alloc, name)),
+        Err(FileFault::Failed) => Err(Stop::Fault),
+        Err(FileFault::NoMemory) => Err(Stop::NoMemory),
     }
 }
 
@@ -65,17 +72,16 @@ fn key_of(bytes: &[u8]) -> Option<[u8; 32]>
 }
 
 /// The rows of a table's file.
-fn read_table<'a>(alloc: Global, catalog: &'a str, bytes: &[u8]) -> Result<Table, End<'a>>
-    ensures rows { MatchResult result (λ table. table_of (codes "age") bytes.now ≡ Ok table)
-        (λ end. IsRefused end → (fault : TableFault) × (table_of (codes "age") bytes.now ≡ Err fault)) }
-    ensures end { IfErr result (IsRefusalIn (λ other. other ≡ catalog.now)) }
-    ensures few { IfOk result (λ table. length table ≤ 2 ^ 20) }
-    ensures sound { IsErrOf result End.Fault → ⊥ }
+fn read_table(alloc: Global, catalog: &str, bytes: &[u8]) -> Result<Table, Stop>
+    ensures rows { MatchResult result (λ table. table_in_file column_name bytes.now ≡ Ok table)
+        (IsStopAt catalog.now ((fault : TableFault) × (table_in_file column_name bytes.now ≡ Err fault))) }
+    ensures held { IfOk result (λ table. IsHolding (people_holding table)) }
+    ensures sound { IsErrOf result Stop.Fault → ⊥ }
 {
     match load(alloc, bytes, COLUMN) {
         Ok(table) => Ok(table),
-        Err(TableFault::NoMemory) => Err(End::NoMemory),
-        Err(_) => Err(End::Refused(catalog)),
+        Err(TableFault::NoMemory) => Err(Stop::NoMemory),
+        Err(_) => Err(Stop::refuse(alloc, catalog)),
     }
 }
 
@@ -90,8 +96,9 @@ pub(crate) fn signature(alloc: Global) -> Result<Sig, AllocError>
 }
 
 /// The house of these rows.
+#[tactic(auto, using(crate::proofs::Endings::register_of_holding))]
 fn house_of_rows(alloc: Global, table: Table) -> Result<House, AllocError>
-    requires { length table ≤ 2 ^ 20 }
+    requires { IsHolding (people_holding table) }
     ensures { IfOk result (λ house. house ≡ census table) }
 {
     let first = String::from_str(alloc, FIRST_ANALYST)?;
@@ -100,55 +107,54 @@ fn house_of_rows(alloc: Global, table: Table) -> Result<House, AllocError>
     let mut analysts = Vec::with_capacity(alloc, 2)?;
     analysts.push(first)?;
     analysts.push(second)?;
-    let sig = signature(alloc)?;
-    Ok(House::new(analysts, owner, BUDGET, CAPACITY, sig, table))
+    let mut tables = Vec::with_capacity(alloc, 1)?;
+    tables.push(table)?;
+    let dataset = Dataset::new(signature(alloc)?, tables);
+    Ok(House::new(analysts, owner, BUDGET, CAPACITY, dataset))
 }
 
 /// Opens the house of a table's file and a key's: the table's file is looked at first, then the key, then the rows.
-pub(crate) fn open_house<'a, F: Files>(
+pub(crate) fn open_house<F: Files>(
     alloc: Global,
     files: &mut F,
-    catalog: &'a str,
-    key: &'a str,
-) -> Result<Opened, End<'a>>
-    ensures opened { (held : List ℕ → Option (List ℕ)) → F.held files.old ≡ Some held →
-        MatchResult result (λ opened. IsOpened held catalog.now key.now opened)
-        (IsStop (run_ending catalog.now key.now (readable (held catalog.now)) (readable (held key.now)))) }
-    ensures end { IfErr result (IsRefusalIn (λ name. (name ≡ catalog.now) ⊎ (name ≡ key.now))) }
+    catalog: &str,
+    key: &str,
+) -> Result<Opened, Stop>
+    ensures opened { (table : Option (List ℕ)) × (given : Option (List ℕ)) × IsHeldFile (F.held files.old) catalog.now table × IsHeldFile (F.held files.old) key.now given
+        × MatchResult result (IsOpened table given) (IsStop (run_ending catalog.now key.now (readable table) (readable given))) }
     ensures same { F.held files.new ≡ F.held files.old }
-    ensures cause { HasCause (F.faults files.old) (F.faults files.new) (IsErrOf result End.Fault) }
+    ensures cause { HasCause (F.faults files.old) (F.faults files.new) (IsErrOf result Stop.Fault) }
 {
     let table_bytes = read_file(alloc, files, catalog)?;
     let key_bytes = read_file(alloc, files, key)?;
     let Some(key) = key_of(&key_bytes) else {
-        return Err(End::Refused(key));
+        return Err(Stop::refuse(alloc, key));
     };
     let table = read_table(alloc, catalog, &table_bytes)?;
     match house_of_rows(alloc, table) {
         Ok(house) => Ok(Opened { house, key }),
-        Err(_) => Err(End::NoMemory),
+        Err(_) => Err(Stop::NoMemory),
     }
 }
 
 /// The bytes of a program's file: the table's file is looked at first, then the owner, then the rows, then the program's file.
-pub(crate) fn read_program<'a, F: Files>(
+pub(crate) fn read_program<F: Files>(
     alloc: Global,
     files: &mut F,
-    catalog: &'a str,
-    owner: &'a str,
-    file: &'a str,
-) -> Result<Vec<u8>, End<'a>>
-    ensures program { (held : List ℕ → Option (List ℕ)) → F.held files.old ≡ Some held →
-        MatchResult result
-        (λ program. check_ending catalog.now owner.now file.now (readable (held catalog.now)) (readable (held file.now)) ≡ to_check program.items)
-        (IsStop (check_ending catalog.now owner.now file.now (readable (held catalog.now)) (readable (held file.now)))) }
-    ensures end { IfErr result (IsRefusalIn (λ name. (name ≡ catalog.now) ⊎ (name ≡ owner.now) ⊎ (name ≡ file.now))) }
+    catalog: &str,
+    owner: &str,
+    file: &str,
+) -> Result<Vec<u8>, Stop>
+    ensures program { (table : Option (List ℕ)) × (given : Option (List ℕ)) × IsHeldFile (F.held files.old) catalog.now table × IsHeldFile (F.held files.old) file.now given
+        × MatchResult result
+        (λ program. check_ending catalog.now owner.now file.now (readable table) (readable given) ≡ to_check program.items)
+        (IsStop (check_ending catalog.now owner.now file.now (readable table) (readable given))) }
     ensures same { F.held files.new ≡ F.held files.old }
-    ensures cause { HasCause (F.faults files.old) (F.faults files.new) (IsErrOf result End.Fault) }
+    ensures cause { HasCause (F.faults files.old) (F.faults files.new) (IsErrOf result Stop.Fault) }
 {
     let table_bytes = read_file(alloc, files, catalog)?;
     if owner != OWNER {
-        return Err(End::Refused(owner));
+        return Err(Stop::refuse(alloc, owner));
     }
     read_table(alloc, catalog, &table_bytes)?;
     read_file(alloc, files, file)

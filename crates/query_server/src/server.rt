@@ -1,24 +1,26 @@
 //! The top call.
 
-ghost use Rattle.std.specs.Prelude.{◌≡◌, ◌≢◌, ◌⊎◌, ◌≤◌, ◌<◌, ◌+◌, ◌++◌, [], ◌∷◌, ℕ, ℤ, List, Option, Some, None, length, map, string_bytes, Ok, codes, IsSome, MatchOption, OnOk, OnErr, IsErr};
-ghost use Rattle.std.specs.Io.KnownBytes.{append_known, prepend_known, IsAtEnd};
-ghost use Rattle.fz_outside.specs.Faults.{HasCause, HasRisen, last_count};
+ghost use Rattle.std.specs.Prelude.{◌≡◌, ◌⊎◌, ◌≤◌, ◌++◌, [], ℕ, List, Option, Some, None, map, string_bytes, MatchOption};
+ghost use Rattle.std.specs.Io.KnownBytes.{append_known};
+ghost use Rattle.fz_outside.specs.Faults.{HasRisen};
 ghost use Rattle.answer_path.specs.Reading.{Reading, IsReading};
 ghost use Rattle.answer_path.specs.Judgement.{checked_of};
 ghost use Rattle.query_server.specs.Command.{run, command_of};
-ghost use Rattle.query_server.specs.Ending.{refused, to_check, ending_of, census_tables};
-ghost use Rattle.query_server.specs.Status.{IfFinished, IsDue, IsDecided, IsWrittenAt, IsLineOf, IsFront, IsOfRun, IsOfCheck, refused_text, status_by};
-ghost use Rattle.query_server.specs.Run.{IsRun, IsRunCutShort};
-ghost use Rattle.query_server.specs.Ends.{IsEndOf, IsOpeningOf, IsEndFor, command_meant, status_at, text_at};
+ghost use Rattle.query_server.specs.Ending.{refused, to_check};
+ghost use Rattle.query_server.specs.House.{census_tables};
+ghost use Rattle.query_server.specs.Check.{status_by};
+ghost use Rattle.query_server.specs.Status.{refused_text, usage_text};
+ghost use Rattle.query_server.specs.Due.{ForContents, IfFinished, IsDue, IsOfCheck, IsOfRun, IsPrefix, IsWrittenAt, ending_of};
+ghost use Rattle.query_server.specs.Promise.{IsAnsweredScript, IsScriptCutShort};
+ghost use Rattle.query_server.specs.Ends.{IsEndOf, command_meant, status_at};
 ghost use Rattle.query_server.specs.Taken.{IsTakenAt};
 
-use crate::checking::check_bytes;
-use crate::end::{End, Status};
-use crate::opening::{open_house, read_program};
+use crate::checking::check_file;
+use crate::end::{End, Status, Stop};
 use crate::running::run_script;
-use fz_outside::Failed;
+use crate::writing::finish;
 use fz_outside::files::Files;
-use fz_outside::sink::{Sink, put};
+use fz_outside::sink::Sink;
 use fz_outside::source::Source;
 use std::alloc::Global;
 
@@ -56,32 +58,30 @@ fn read_words(words: &[String]) -> Option<Command<'_>>
 }
 
 /// Does a command, up to what is written at its end.
-fn run_command<'a, F: Files, S: Source>(
+fn run_command<F: Files, S: Source>(
     alloc: Global,
-    words: &'a [String],
+    words: &[String],
     files: &mut F,
     source: &mut S,
-) -> End<'a>
-    ensures end { (held : List ℕ → Option (List ℕ)) (script : List ℕ) → F.held files.old ≡ Some held → S.left source.old ≡ Some script →
-        IsEndOf (ending_of (map string_bytes words.now) held) script result }
-    ensures opening { (held : List ℕ → Option (List ℕ)) → F.held files.old ≡ Some held →
-        IsOpeningOf (ending_of (map string_bytes words.now) held) result }
-    ensures words { IsEndFor (command_of (map string_bytes words.now)) result }
+) -> End
+    ensures end { ForContents (command_of (map string_bytes words.now)) (F.held files.old) (S.left source.old) (λ ending script. IsEndOf ending script result) }
     ensures taken { IsTakenAt (command_of (map string_bytes words.now)) (S.left source.old) (S.left source.new) (status_at result) }
     ensures unread { IsOfRun (command_of (map string_bytes words.now)) ⊎ (source.new ≡ source.old) }
     ensures same { F.held files.new ≡ F.held files.old }
     ensures files { F.faults files.old ≤ F.faults files.new }
     ensures source { S.faults source.old ≤ S.faults source.new }
-    ensures idle { command_of (map string_bytes words.now) ≡ None → files.new ≡ files.old }
-    ensures cause { result ≡ End.Fault →
+    ensures idle { command_of (map string_bytes words.now) ≡ None → (files.new ≡ files.old) × (result ≡ End.Stopped Stop.Usage) }
+    ensures cause { result ≡ End.Stopped Stop.Fault →
         HasRisen (F.faults files.old) (F.faults files.new)
         ⊎ (IsOfRun (command_of (map string_bytes words.now)) × HasRisen (S.faults source.old) (S.faults source.new)) }
 {
     match read_words(words) {
-        None => End::Usage,
-        Some(Command::Run { catalog, key }) => match open_house(alloc, files, catalog, key) {
-            Ok(opened) => run_script(alloc, &opened, source),
-            Err(end) => end,
+        None => End::Stopped(Stop::Usage),
+        Some(Command::Run { catalog, key }) => match run_script(
+            alloc, files, source, catalog, key,
+        ) {
+            Ok(end) => End::Run(end),
+            Err(stop) => End::Stopped(stop),
         },
         Some(
             Command::Check {
@@ -89,48 +89,11 @@ fn run_command<'a, F: Files, S: Source>(
                 owner,
                 file,
             },
-        ) => match read_program(alloc, files, catalog, owner, file) {
-            Ok(program) => check_bytes(alloc, &program),
-            Err(end) => end,
+        ) => match check_file(alloc, files, catalog, owner, file) {
+            Ok(end) => End::Check(end),
+            Err(stop) => End::Stopped(stop),
         },
     }
-}
-
-/// Writes a line, or a front of it.
-fn put_line<K: Sink>(sink: &mut K, line: &[u8]) -> Result<(), Failed>
-    ensures ok { OnOk result (K.contents sink.new ≡ append_known (K.contents sink.old) line.now) }
-    ensures err { OnErr result ((text : List ℕ) × IsFront text line.now × (K.contents sink.new ≡ append_known (K.contents sink.old) text)) }
-    ensures cause { HasCause (K.faults sink.old) (K.faults sink.new) (IsErr result) }
-{
-    put(sink, line)
-}
-
-/// Writes what an end has to say.
-fn write_end<K: Sink>(sink: &mut K, end: &End<'_>) -> Result<(), Failed>
-    ensures ok { OnOk result (K.contents sink.new ≡ append_known (K.contents sink.old) (text_at end.now)) }
-    ensures err { OnErr result ((text : List ℕ) × IsFront text (text_at end.now) × (K.contents sink.new ≡ append_known (K.contents sink.old) text)) }
-    ensures cause { HasCause (K.faults sink.old) (K.faults sink.new) (IsErr result) }
-{
-    match end {
-        End::Usage => put_line(sink, b"usage\n"),
-        End::Refused(name) => write_refused(sink, name),
-        End::Fault => Ok(()),
-        End::NoMemory => put_line(sink, b"memory\n"),
-        End::TooLong => put_line(sink, b"script too long\n"),
-        End::Declined(line) => put_line(sink, line),
-        End::Done(out) => put_line(sink, out),
-    }
-}
-
-/// Writes that the file or the owner of this name is refused.
-fn write_refused<K: Sink>(sink: &mut K, name: &str) -> Result<(), Failed>
-    ensures ok { OnOk result (K.contents sink.new ≡ append_known (K.contents sink.old) (refused_text name.now)) }
-    ensures err { OnErr result ((text : List ℕ) × IsFront text (refused_text name.now) × (K.contents sink.new ≡ append_known (K.contents sink.old) text)) }
-    ensures cause { HasCause (K.faults sink.old) (K.faults sink.new) (IsErr result) }
-{
-    put_line(sink, b"refused ")?;
-    put_line(sink, name.as_bytes())?;
-    put_line(sink, b"\n")
 }
 
 /// Does one of two commands; no records are there at the start.
@@ -149,8 +112,13 @@ pub fn run_server<F: Files, S: Source, K: Sink>(
     source: &mut S,
     sink: &mut K,
 ) -> Status
-    // What is written: at status Done a transcript of the script, for the house that the files give, or the program's line; at
-    // another status its line alone; at Fault a front of what is due or of the line for want of memory.
+    // What is written, whatever files and source hold or tell: it is due for some contents of the files that the command
+    // names and of the source, and for the ones that are told. Where something failed it is a prefix of that.
+    ensures line { (text : List ℕ) × (K.contents sink.new ≡ append_known (K.contents sink.old) text)
+        × ForContents (command_of (map string_bytes words.now)) (F.held files.old) (S.left source.old)
+        (λ ending script. IsWrittenAt ending script result text) }
+    // At status Done a transcript of the script, for the house that the files give, or the program's line; at another status
+    // its line alone; at Fault a prefix of what is due or of the line for want of memory.
     ensures exact { (held : List ℕ → Option (List ℕ)) (script before : List ℕ) →
         F.held files.old ≡ Some held → S.left source.old ≡ Some script → K.contents sink.old ≡ Some before →
         (text : List ℕ) × (K.contents sink.new ≡ Some (before ++ text))
@@ -159,38 +127,38 @@ pub fn run_server<F: Files, S: Source, K: Sink>(
     ensures headline { (held : List ℕ → Option (List ℕ)) (catalog key script before : List ℕ) →
         F.held files.old ≡ Some held → S.left source.old ≡ Some script → K.contents sink.old ≡ Some before →
         command_of (map string_bytes words.now) ≡ Some (run catalog key) → result ≡ Status.Done →
-        (text : List ℕ) × (K.contents sink.new ≡ Some (before ++ text)) × IsRun (map string_bytes words.now) held script text }
+        (text : List ℕ) × (K.contents sink.new ≡ Some (before ++ text)) × IsAnsweredScript (map string_bytes words.now) held script text }
     // The same at Fault, of a transcript that was due.
     ensures cut_short { (held : List ℕ → Option (List ℕ)) (script before : List ℕ) →
         F.held files.old ≡ Some held → S.left source.old ≡ Some script → K.contents sink.old ≡ Some before → result ≡ Status.Fault →
-        (text : List ℕ) × (K.contents sink.new ≡ Some (before ++ text)) × IsRunCutShort (map string_bytes words.now) held script text }
+        (text : List ℕ) × (K.contents sink.new ≡ Some (before ++ text)) × IsScriptCutShort (map string_bytes words.now) held script text }
     // Each status but Fault and NoMemory comes exactly where the words, the files and the script give it, in this order.
     ensures status { (held : List ℕ → Option (List ℕ)) (script : List ℕ) → F.held files.old ≡ Some held → S.left source.old ≡ Some script →
         IfFinished result ((text : List ℕ) × IsDue (ending_of (map string_bytes words.now) held) script result text) }
     // Usage and Refused, and the name that is refused, and what is said of a program, are as the words and the files give
     // them, whatever the source is.
     ensures refusal { (held : List ℕ → Option (List ℕ)) → F.held files.old ≡ Some held →
-        IfFinished result ((text : List ℕ) × IsDecided (ending_of (map string_bytes words.now) held) result text) }
+        IfFinished result ((script : List ℕ) × (text : List ℕ) × IsDue (ending_of (map string_bytes words.now) held) script result text) }
     ensures name { (held : List ℕ → Option (List ℕ)) (before : List ℕ) → F.held files.old ≡ Some held → K.contents sink.old ≡ Some before →
         result ≡ Status.Refused → (name : List ℕ) × (ending_of (map string_bytes words.now) held ≡ refused name)
         × (K.contents sink.new ≡ Some (before ++ refused_text name)) }
     ensures program { (held : List ℕ → Option (List ℕ)) (program before : List ℕ) → F.held files.old ≡ Some held → K.contents sink.old ≡ Some before →
         ending_of (map string_bytes words.now) held ≡ to_check program →
         (text : List ℕ) × (K.contents sink.new ≡ Some (before ++ text)) × IsWrittenAt (to_check program) [] result text }
-    // Status 1 comes exactly where the program is declined, and 0 where it is accepted.
-    ensures declined { (held : List ℕ → Option (List ℕ)) (program : List ℕ) (reading : Reading) → F.held files.old ≡ Some held →
+    // Status 1 comes exactly where the program is refused, and 0 where it is accepted.
+    ensures verdict { (held : List ℕ → Option (List ℕ)) (program : List ℕ) (reading : Reading) → F.held files.old ≡ Some held →
         ending_of (map string_bytes words.now) held ≡ to_check program → IsReading program reading →
         IfFinished result (result ≡ status_by (checked_of census_tables reading)) }
     ensures usage { result ≡ Status.Usage → command_of (map string_bytes words.now) ≡ None }
-    // At faulty words no file is read, and another status than Usage comes only where its line can't be written.
+    // At faulty words no file is read, the line of Usage is written or a prefix of it, and another status comes only where
+    // that line can't be written.
     ensures no_command { command_of (map string_bytes words.now) ≡ None →
-        (result ≡ Status.Usage) ⊎ ((result ≡ Status.Fault) × HasRisen (K.faults sink.old) (K.faults sink.new)) }
+        (text : List ℕ) × (K.contents sink.new ≡ append_known (K.contents sink.old) text) × IsPrefix text usage_text
+        × (((result ≡ Status.Usage) × (text ≡ usage_text)) ⊎ ((result ≡ Status.Fault) × HasRisen (K.faults sink.old) (K.faults sink.new))) }
     ensures idle { command_of (map string_bytes words.now) ≡ None → files.new ≡ files.old }
     // Status 1 is of a check alone, and 8 of a run.
-    ensures of_check { result ≡ Status.Declined → IsOfCheck (command_of (map string_bytes words.now)) }
+    ensures of_check { result ≡ Status.ProgramRefused → IsOfCheck (command_of (map string_bytes words.now)) }
     ensures of_run { result ≡ Status.ScriptTooLong → IsOfRun (command_of (map string_bytes words.now)) }
-    ensures line { (before : List ℕ) → K.contents sink.old ≡ Some before →
-        (text : List ℕ) × (K.contents sink.new ≡ Some (before ++ text)) × IsLineOf (command_of (map string_bytes words.now)) result text }
     // Of the source a run alone takes anything.
     ensures taken { IsTakenAt (command_of (map string_bytes words.now)) (S.left source.old) (S.left source.new) result }
     ensures unread { IsOfRun (command_of (map string_bytes words.now)) ⊎ (source.new ≡ source.old) }
@@ -205,8 +173,5 @@ pub fn run_server<F: Files, S: Source, K: Sink>(
         ⊎ HasRisen (K.faults sink.old) (K.faults sink.new) }
 {
     let end = run_command(alloc, words, files, source);
-    match write_end(sink, &end) {
-        Ok(()) => end.status(),
-        Err(Failed) => Status::Fault,
-    }
+    finish(sink, &end)
 }

@@ -1,109 +1,178 @@
-use Rattle.std.proofs.Common.{◌≡◌, ◌∙◌, ℕ, List, [], Some, sym, ap, subst, map, string_bytes, append-nil}
-use Rattle.query_server.specs.declared.end.Status.{Status}
+use Rattle.std.proofs.Common.{◌≡◌, ◌∙◌, ℕ, List, Some, ap, map, string_bytes}
 use Rattle.std.specs.Io.KnownBytes.{append_known}
 use Rattle.query_server.specs.Command.{command_of}
-use Rattle.query_server.specs.Ending.{ending_of, to_check, census_tables}
-use Rattle.query_server.specs.Ends.{text_at}
-use Rattle.query_server.specs.Status.{IfFinished, IsDue, IsDecided, IsWrittenAt, status_by}
-use Rattle.answer_path.specs.Judgement.{checked_of}
-use Rattle.query_server.proofs.Stops.{written_at, front_at, run_of, cut_short_by, due_by, decided_by, name_by, checked_end, declined_by, taken_at_fault}
+use Rattle.query_server.specs.Ending.{Ending}
+use Rattle.query_server.specs.Due.{ForContents, IsWrittenAt, ending_of}
+use Rattle.query_server.proofs.Contents.{for_contents, words_held, words_told}
+use Rattle.query_server.proofs.Outcomes.{cut_short_by, finished_due, finished_map, headline_by, name_by, of_check_by, of_run_by, program_by, taken_with, usage_by, usage_written, verdict_by, written_by}
 use Rattle.query_server.proofs.server.run_server.Goals as goal
 
-pub returns-in-Ok-clause-exact : goal.returns-in-Ok-clause-exact
-returns-in-Ok-clause-exact g c = λ held script before files source sink.
+pub returns-clause-line : goal.returns-clause-line
+returns-clause-line g c =
     let words = map string_bytes c.args.words.now in
-    let end = c.run_command-end.result in (
-      text_at end,
-      c.in-Ok.ensures.ok ∙ ap (λ known. append_known known (text_at end)) sink,
-      subst (λ (s : Status). IsWrittenAt (ending_of words held) script s (text_at end)) (sym c.status.ensures)
-          (written_at (ending_of words held) script end (c.run_command-end.ensures.end held script files source)),
-    )
+    let held = g.F.Files.held c.args.files.now in
+    let left = g.S.Source.left c.args.source.now in
+    let end = c.run_command-end.result in
+    let status = c.finish.result in
+    let done = c.finish.ensures.written in
+    let Comes : Ending → List ℕ → Type 0 = λ ending script. IsWrittenAt ending script status done.0 in
+    let written : ForContents (command_of words) held left Comes = for_contents (command_of words) held left _ _ (written_by end status done.0 done.2) c.run_command-end.ensures.end in
+    (done.0, done.1, written)
 
 pub returns-clause-exact : goal.returns-clause-exact
-returns-clause-exact g c = λ held script before files source sink.
+returns-clause-exact g c = λ told script before files source sink.
     let words = map string_bytes c.args.words.now in
-    let e = c.in-Err.ensures.err in (
-      e.0,
-      e.2 ∙ ap (λ known. append_known known e.0) sink,
-      front_at (ending_of words held) script c.run_command-end.result e.0 (c.run_command-end.ensures.end held script files source) e.1,
-    )
+    let held = g.F.Files.held c.args.files.now in
+    let left = g.S.Source.left c.args.source.now in
+    let end = c.run_command-end.result in
+    let status = c.finish.result in
+    let done = c.finish.ensures.written in
+    let Comes : Ending → List ℕ → Type 0 = λ ending script. IsWrittenAt ending script status done.0 in
+    let written : ForContents (command_of words) held left Comes = for_contents (command_of words) held left _ _ (written_by end status done.0 done.2) c.run_command-end.ensures.end in
+    (done.0, done.1 ∙ ap (λ known. append_known known done.0) sink, words_told words told script held left Comes files source written)
 
-pub returns-in-Ok-clause-headline : goal.returns-in-Ok-clause-headline
-returns-in-Ok-clause-headline g c = λ held catalog key script before files source sink commanded same.
+pub returns-clause-headline : goal.returns-clause-headline
+returns-clause-headline g c = λ told catalog key script before files source sink commanded same.
     let words = map string_bytes c.args.words.now in
-    let end = c.run_command-end.result in (
-      text_at end,
-      c.in-Ok.ensures.ok ∙ ap (λ known. append_known known (text_at end)) sink,
-      run_of words held catalog key script end commanded (c.run_command-end.ensures.end held script files source) (sym c.status.ensures ∙ same),
-    )
-
-pub returns-in-Ok-clause-cut_short : goal.returns-in-Ok-clause-cut_short
-returns-in-Ok-clause-cut_short g c = λ held script before files source sink same.
-    let words = map string_bytes c.args.words.now in
-    let end = c.run_command-end.result in (
-      text_at end,
-      c.in-Ok.ensures.ok ∙ ap (λ known. append_known known (text_at end)) sink,
-      cut_short_by words held script (text_at end)
-          (front_at (ending_of words held) script end (text_at end) (c.run_command-end.ensures.end held script files source) ([], sym (append-nil (text_at end)))),
-    )
+    let held = g.F.Files.held c.args.files.now in
+    let left = g.S.Source.left c.args.source.now in
+    let end = c.run_command-end.result in
+    let status = c.finish.result in
+    let done = c.finish.ensures.written in
+    let Comes : Ending → List ℕ → Type 0 = λ ending script. IsWrittenAt ending script status done.0 in
+    let written : ForContents (command_of words) held left Comes = for_contents (command_of words) held left _ _ (written_by end status done.0 done.2) c.run_command-end.ensures.end in
+    (done.0, done.1 ∙ ap (λ known. append_known known done.0) sink, headline_by words told catalog key script done.0 status commanded same (words_told words told script held left Comes files source written))
 
 pub returns-clause-cut_short : goal.returns-clause-cut_short
-returns-clause-cut_short g c = λ held script before files source sink same.
+returns-clause-cut_short g c = λ told script before files source sink same.
     let words = map string_bytes c.args.words.now in
-    let e = c.in-Err.ensures.err in (
-      e.0,
-      e.2 ∙ ap (λ known. append_known known e.0) sink,
-      cut_short_by words held script e.0 (front_at (ending_of words held) script c.run_command-end.result e.0 (c.run_command-end.ensures.end held script files source) e.1),
-    )
-
-pub returns-in-Ok-clause-status : goal.returns-in-Ok-clause-status
-returns-in-Ok-clause-status g c = λ held script files source.
-    let ending = ending_of (map string_bytes c.args.words.now) held in
-    subst (λ (s : Status). IfFinished s ((text : List ℕ) × IsDue ending script s text)) (sym c.status.ensures)
-    (due_by ending script c.run_command-end.result (c.run_command-end.ensures.end held script files source))
-
-pub returns-in-Ok-clause-refusal : goal.returns-in-Ok-clause-refusal
-returns-in-Ok-clause-refusal g c = λ held files.
-    let ending = ending_of (map string_bytes c.args.words.now) held in
-    subst (λ (s : Status). IfFinished s ((text : List ℕ) × IsDecided ending s text)) (sym c.status.ensures)
-    (decided_by ending c.run_command-end.result (c.run_command-end.ensures.opening held files))
-
-pub returns-in-Ok-clause-name : goal.returns-in-Ok-clause-name
-returns-in-Ok-clause-name g c = λ held before files sink same.
-    let ending = ending_of (map string_bytes c.args.words.now) held in
+    let held = g.F.Files.held c.args.files.now in
+    let left = g.S.Source.left c.args.source.now in
     let end = c.run_command-end.result in
-    let named = name_by ending end (c.run_command-end.ensures.opening held files) (sym c.status.ensures ∙ same) in (
-      named.0,
-      named.1,
-      c.in-Ok.ensures.ok ∙ ap (λ known. append_known known (text_at end)) sink ∙ ap (λ text. append_known (Some before) text) named.2,
-    )
+    let status = c.finish.result in
+    let done = c.finish.ensures.written in
+    let Comes : Ending → List ℕ → Type 0 = λ ending script. IsWrittenAt ending script status done.0 in
+    let written : ForContents (command_of words) held left Comes = for_contents (command_of words) held left _ _ (written_by end status done.0 done.2) c.run_command-end.ensures.end in
+    (done.0, done.1 ∙ ap (λ known. append_known known done.0) sink, cut_short_by words told script done.0 status (words_told words told script held left Comes files source written))
 
-pub returns-in-Ok-clause-program : goal.returns-in-Ok-clause-program
-returns-in-Ok-clause-program g c = λ held program before files sink due.
+pub returns-clause-status : goal.returns-clause-status
+returns-clause-status g c = λ told script files source.
+    let words = map string_bytes c.args.words.now in
+    let held = g.F.Files.held c.args.files.now in
+    let left = g.S.Source.left c.args.source.now in
     let end = c.run_command-end.result in
-    let ending = ending_of (map string_bytes c.args.words.now) held in (
-      text_at end,
-      c.in-Ok.ensures.ok ∙ ap (λ known. append_known known (text_at end)) sink,
-      subst (λ (s : Status). IsWrittenAt (to_check program) [] s (text_at end)) (sym c.status.ensures)
-          (written_at (to_check program) [] end (checked_end ending program end (c.run_command-end.ensures.opening held files) due)),
-    )
+    let status = c.finish.result in
+    let done = c.finish.ensures.written in
+    let Comes : Ending → List ℕ → Type 0 = λ ending script. IsWrittenAt ending script status done.0 in
+    let written : ForContents (command_of words) held left Comes = for_contents (command_of words) held left _ _ (written_by end status done.0 done.2) c.run_command-end.ensures.end in
+    finished_map status _ _ (λ due. (done.0, due)) (finished_due (ending_of words told) script status done.0 (words_told words told script held left Comes files source written))
+
+pub returns-clause-refusal : goal.returns-clause-refusal
+returns-clause-refusal g c = λ told files.
+    let words = map string_bytes c.args.words.now in
+    let held = g.F.Files.held c.args.files.now in
+    let left = g.S.Source.left c.args.source.now in
+    let end = c.run_command-end.result in
+    let status = c.finish.result in
+    let done = c.finish.ensures.written in
+    let Comes : Ending → List ℕ → Type 0 = λ ending script. IsWrittenAt ending script status done.0 in
+    let written : ForContents (command_of words) held left Comes = for_contents (command_of words) held left _ _ (written_by end status done.0 done.2) c.run_command-end.ensures.end in
+    let w = words_held words told held left Comes files written in
+    finished_map status _ _ (λ due. (w.0, done.0, due)) (finished_due (ending_of words told) w.0 status done.0 w.1)
+
+pub returns-clause-name : goal.returns-clause-name
+returns-clause-name g c = λ told before files sink same.
+    let words = map string_bytes c.args.words.now in
+    let held = g.F.Files.held c.args.files.now in
+    let left = g.S.Source.left c.args.source.now in
+    let end = c.run_command-end.result in
+    let status = c.finish.result in
+    let done = c.finish.ensures.written in
+    let Comes : Ending → List ℕ → Type 0 = λ ending script. IsWrittenAt ending script status done.0 in
+    let written : ForContents (command_of words) held left Comes = for_contents (command_of words) held left _ _ (written_by end status done.0 done.2) c.run_command-end.ensures.end in
+    let w = words_held words told held left Comes files written in
+    let named = name_by (ending_of words told) w.0 status done.0 same w.1 in
+    (named.0, named.1, done.1 ∙ ap (λ known. append_known known done.0) sink ∙ ap (λ text. append_known (Some before) text) named.2)
 
 pub returns-clause-program : goal.returns-clause-program
-returns-clause-program g c = λ held program before files sink due.
+returns-clause-program g c = λ told program before files sink due.
+    let words = map string_bytes c.args.words.now in
+    let held = g.F.Files.held c.args.files.now in
+    let left = g.S.Source.left c.args.source.now in
     let end = c.run_command-end.result in
-    let ending = ending_of (map string_bytes c.args.words.now) held in
-    let e = c.in-Err.ensures.err in (
-      e.0,
-      e.2 ∙ ap (λ known. append_known known e.0) sink,
-      front_at (to_check program) [] end e.0 (checked_end ending program end (c.run_command-end.ensures.opening held files) due) e.1,
-    )
+    let status = c.finish.result in
+    let done = c.finish.ensures.written in
+    let Comes : Ending → List ℕ → Type 0 = λ ending script. IsWrittenAt ending script status done.0 in
+    let written : ForContents (command_of words) held left Comes = for_contents (command_of words) held left _ _ (written_by end status done.0 done.2) c.run_command-end.ensures.end in
+    let w = words_held words told held left Comes files written in
+    (done.0, done.1 ∙ ap (λ known. append_known known done.0) sink, program_by (ending_of words told) program w.0 status done.0 due w.1)
 
-pub returns-in-Ok-clause-declined : goal.returns-in-Ok-clause-declined
-returns-in-Ok-clause-declined g c = λ held program reading files due reads.
-    let ending = ending_of (map string_bytes c.args.words.now) held in
-    subst (λ (s : Status). IfFinished s (s ≡ status_by (checked_of census_tables reading))) (sym c.status.ensures)
-    (declined_by ending program reading c.run_command-end.result (c.run_command-end.ensures.opening held files) due reads)
+pub returns-clause-verdict : goal.returns-clause-verdict
+returns-clause-verdict g c = λ told program reading files due reads.
+    let words = map string_bytes c.args.words.now in
+    let held = g.F.Files.held c.args.files.now in
+    let left = g.S.Source.left c.args.source.now in
+    let end = c.run_command-end.result in
+    let status = c.finish.result in
+    let done = c.finish.ensures.written in
+    let Comes : Ending → List ℕ → Type 0 = λ ending script. IsWrittenAt ending script status done.0 in
+    let written : ForContents (command_of words) held left Comes = for_contents (command_of words) held left _ _ (written_by end status done.0 done.2) c.run_command-end.ensures.end in
+    let w = words_held words told held left Comes files written in
+    verdict_by (ending_of words told) program w.0 reading status done.0 due reads w.1
+
+pub returns-clause-usage : goal.returns-clause-usage
+returns-clause-usage g c = λ same.
+    let words = map string_bytes c.args.words.now in
+    let held = g.F.Files.held c.args.files.now in
+    let left = g.S.Source.left c.args.source.now in
+    let end = c.run_command-end.result in
+    let status = c.finish.result in
+    let done = c.finish.ensures.written in
+    let Comes : Ending → List ℕ → Type 0 = λ ending script. IsWrittenAt ending script status done.0 in
+    let written : ForContents (command_of words) held left Comes = for_contents (command_of words) held left _ _ (written_by end status done.0 done.2) c.run_command-end.ensures.end in
+    usage_by (command_of words) held left status done.0 same written
+
+pub returns-clause-no_command : goal.returns-clause-no_command
+returns-clause-no_command g c = λ none.
+    let words = map string_bytes c.args.words.now in
+    let held = g.F.Files.held c.args.files.now in
+    let left = g.S.Source.left c.args.source.now in
+    let end = c.run_command-end.result in
+    let status = c.finish.result in
+    let done = c.finish.ensures.written in
+    let Comes : Ending → List ℕ → Type 0 = λ ending script. IsWrittenAt ending script status done.0 in
+    let written : ForContents (command_of words) held left Comes = for_contents (command_of words) held left _ _ (written_by end status done.0 done.2) c.run_command-end.ensures.end in
+    let used = usage_written end status done.0 _ (c.run_command-end.ensures.idle none).1 done.2 c.finish.ensures.fault in
+    (done.0, done.1, used.0, used.1)
+
+pub returns-clause-of_check : goal.returns-clause-of_check
+returns-clause-of_check g c = λ same.
+    let words = map string_bytes c.args.words.now in
+    let held = g.F.Files.held c.args.files.now in
+    let left = g.S.Source.left c.args.source.now in
+    let end = c.run_command-end.result in
+    let status = c.finish.result in
+    let done = c.finish.ensures.written in
+    let Comes : Ending → List ℕ → Type 0 = λ ending script. IsWrittenAt ending script status done.0 in
+    let written : ForContents (command_of words) held left Comes = for_contents (command_of words) held left _ _ (written_by end status done.0 done.2) c.run_command-end.ensures.end in
+    of_check_by (command_of words) held left status done.0 same written
+
+pub returns-clause-of_run : goal.returns-clause-of_run
+returns-clause-of_run g c = λ same.
+    let words = map string_bytes c.args.words.now in
+    let held = g.F.Files.held c.args.files.now in
+    let left = g.S.Source.left c.args.source.now in
+    let end = c.run_command-end.result in
+    let status = c.finish.result in
+    let done = c.finish.ensures.written in
+    let Comes : Ending → List ℕ → Type 0 = λ ending script. IsWrittenAt ending script status done.0 in
+    let written : ForContents (command_of words) held left Comes = for_contents (command_of words) held left _ _ (written_by end status done.0 done.2) c.run_command-end.ensures.end in
+    of_run_by (command_of words) held left status done.0 same written
 
 pub returns-clause-taken : goal.returns-clause-taken
 returns-clause-taken g c =
-    taken_at_fault (command_of (map string_bytes c.args.words.now)) _ _ _ c.run_command-end.ensures.taken
+    let words = map string_bytes c.args.words.now in
+    let end = c.run_command-end.result in
+    let status = c.finish.result in
+    let done = c.finish.ensures.written in
+    taken_with (command_of words) _ _ end status done.0 done.2 c.run_command-end.ensures.taken

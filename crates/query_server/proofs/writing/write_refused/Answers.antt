@@ -2,23 +2,23 @@ use Rattle.std.proofs.Common.{◌∙◌, ◌++◌, List, ℕ, ap, subst}
 use Rattle.std.specs.Prelude.{codes}
 use Rattle.std.specs.Io.KnownBytes.{append_known}
 use Rattle.fz_outside.proofs.Known.{append_known-++}
-use Rattle.query_server.specs.Status.{IsFront}
-use Rattle.query_server.proofs.Fronts.{front_first, front_second, front_third, on_err, on_err_any}
-use Rattle.query_server.proofs.server.write_refused.Goals as goal
+use Rattle.query_server.specs.Due.{IsPrefix}
+use Rattle.query_server.proofs.Prefixes.{prefix_first, prefix_second, prefix_third, on_err, on_err_any}
+use Rattle.query_server.proofs.writing.write_refused.Goals as goal
 
 pub returns-in_err-put_line-clause-err : goal.returns-in_err-put_line-clause-err
 returns-in_err-put_line-clause-err g c =
     let e = c.in_err-put_line.ensures.err in
-    on_err_any c.from_residual.result _ (e.0, front_first e.0 (codes "refused ") c.args.name.now (codes "\n") e.1, e.2)
+    on_err_any c.from_residual.result _ (e.0, prefix_first e.0 (codes "refused ") c.args.name.now (codes "\n") e.1, e.2)
 
 pub returns-in_err-put_line-2-clause-err : goal.returns-in_err-put_line-2-clause-err
 returns-in_err-put_line-2-clause-err g c =
     let e = c.in_err-put_line-2.ensures.err in
     let old = g.K.Sink.contents c.args.sink.now in
-    let front : IsFront e.0 c.args.name.now = subst (λ (line : List ℕ). IsFront e.0 line) c.as_bytes.ensures.value e.1 in
+    let prefix : IsPrefix e.0 c.args.name.now = subst (λ (line : List ℕ). IsPrefix e.0 line) c.as_bytes.ensures.value e.1 in
     on_err_any c.from_residual-in_err-put_line-2.result _ (
       codes "refused " ++ e.0,
-      front_second e.0 (codes "refused ") c.args.name.now (codes "\n") front,
+      prefix_second e.0 (codes "refused ") c.args.name.now (codes "\n") prefix,
       e.2 ∙ ap (λ known. append_known known e.0) c.in_ok-put_line.ensures.ok ∙ append_known-++ old (codes "refused ") e.0,
     )
 
@@ -29,9 +29,9 @@ returns-clause-err g c =
     let written = c.in_ok-put_line-2.ensures.ok ∙ ap (λ known. append_known known c.as_bytes.result.now) c.in_ok-put_line.ensures.ok
     ∙ ap (λ line. append_known (append_known old (codes "refused ")) line) c.as_bytes.ensures.value ∙ append_known-++ old (codes "refused ") name in
     on_err c.put_line-3.result _ _
-    (λ (text, front, is). (
+    (λ (text, prefix, is). (
       codes "refused " ++ name ++ text,
-      front_third text (codes "refused ") name (codes "\n") front,
+      prefix_third text (codes "refused ") name (codes "\n") prefix,
       is ∙ ap (λ known. append_known known text) written ∙ append_known-++ old (codes "refused " ++ name) text,
     ))
     c.put_line-3.ensures.err

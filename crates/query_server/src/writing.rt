@@ -1,0 +1,74 @@
+//! What is written at the end of a command.
+
+ghost use Rattle.std.specs.Prelude.{◌≡◌, ◌⊎◌, ℕ, ◌≤◌, List, OnOk, OnErr, IsErr};
+ghost use Rattle.std.specs.Io.KnownBytes.{append_known};
+ghost use Rattle.fz_outside.specs.Faults.{HasCause, HasRisen};
+ghost use Rattle.query_server.specs.Status.{refused_text};
+ghost use Rattle.query_server.specs.Due.{IsPrefix};
+ghost use Rattle.query_server.specs.Ends.{IsEndingWith, stop_text, text_at};
+
+use crate::end::{End, Status, Stop};
+use fz_outside::Failed;
+use fz_outside::sink::{Sink, put};
+
+/// Writes a line, or a prefix of it.
+fn put_line<K: Sink>(sink: &mut K, line: &[u8]) -> Result<(), Failed>
+    ensures ok { OnOk result (K.contents sink.new ≡ append_known (K.contents sink.old) line.now) }
+    ensures err { OnErr result ((text : List ℕ) × IsPrefix text line.now × (K.contents sink.new ≡ append_known (K.contents sink.old) text)) }
+    ensures cause { HasCause (K.faults sink.old) (K.faults sink.new) (IsErr result) }
+{
+    put(sink, line)
+}
+
+/// Writes that the file or the owner of this name is refused.
+fn write_refused<K: Sink>(sink: &mut K, name: &str) -> Result<(), Failed>
+    ensures ok { OnOk result (K.contents sink.new ≡ append_known (K.contents sink.old) (refused_text name.now)) }
+    ensures err { OnErr result ((text : List ℕ) × IsPrefix text (refused_text name.now)
+        × (K.contents sink.new ≡ append_known (K.contents sink.old) text)) }
+    ensures cause { HasCause (K.faults sink.old) (K.faults sink.new) (IsErr result) }
+{
+    put_line(sink, b"refused ")?;
+    put_line(sink, name.as_bytes())?;
+    put_line(sink, b"\n")
+}
+
+/// Writes the line of what stopped a command.
+fn write_stop<K: Sink>(sink: &mut K, stop: &Stop) -> Result<(), Failed>
+    ensures ok { OnOk result (K.contents sink.new ≡ append_known (K.contents sink.old) (stop_text stop.now)) }
+    ensures err { OnErr result ((text : List ℕ) × IsPrefix text (stop_text stop.now)
+        × (K.contents sink.new ≡ append_known (K.contents sink.old) text)) }
+    ensures cause { HasCause (K.faults sink.old) (K.faults sink.new) (IsErr result) }
+{
+    match stop {
+        Stop::Usage => put_line(sink, b"usage\n"),
+        Stop::Refused(name) => write_refused(sink, name),
+        Stop::Fault => put_line(sink, b""),
+        Stop::NoMemory => put_line(sink, b"memory\n"),
+    }
+}
+
+/// Writes what an end has to say.
+fn write_end<K: Sink>(sink: &mut K, end: &End) -> Result<(), Failed>
+    ensures ok { OnOk result (K.contents sink.new ≡ append_known (K.contents sink.old) (text_at end.now)) }
+    ensures err { OnErr result ((text : List ℕ) × IsPrefix text (text_at end.now)
+        × (K.contents sink.new ≡ append_known (K.contents sink.old) text)) }
+    ensures cause { HasCause (K.faults sink.old) (K.faults sink.new) (IsErr result) }
+{
+    match end {
+        End::Stopped(stop) => write_stop(sink, stop),
+        End::Run(end) => put_line(sink, end.text()),
+        End::Check(end) => put_line(sink, end.text()),
+    }
+}
+
+/// Writes what an end has to say, and gives the status.
+pub(crate) fn finish<K: Sink>(sink: &mut K, end: &End) -> Status
+    ensures written { (text : List ℕ) × (K.contents sink.new ≡ append_known (K.contents sink.old) text) × IsEndingWith end.now result text }
+    ensures sink { K.faults sink.old ≤ K.faults sink.new }
+    ensures fault { result ≡ Status.Fault → (end.now ≡ End.Stopped Stop.Fault) ⊎ HasRisen (K.faults sink.old) (K.faults sink.new) }
+{
+    match write_end(sink, end) {
+        Ok(()) => end.status(),
+        Err(Failed) => Status::Fault,
+    }
+}
