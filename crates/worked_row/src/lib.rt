@@ -1,4 +1,5 @@
 //! A run over memory whose replies are known. They are derived from the top call's contract alone.
+#![tactic(auto)]
 
 ghost use Rattle.std.specs.Prelude.{◌≡◌, ◌⊎◌, Some, [], ◌∷◌, codes, map, string_bytes, replicate, IfOk};
 ghost use Rattle.fz_outside.specs.Files.{bytes_of};
@@ -14,9 +15,9 @@ const ROOM: usize = 64;
 
 /// What a run came to.
 #[derive(Drop)]
-pub(crate) struct Ran {
-    pub(crate) status: Status,
-    pub(crate) sink: MemSink<ROOM>,
+pub struct Ran {
+    pub status: Status,
+    pub sink: MemSink<ROOM>,
 }
 
 /// The words of the command.
@@ -48,7 +49,7 @@ fn files_of_row() -> [MemFile<'static>; 2]
 
 /// An analyst asks for the size of a table of three rows. Under a key of zeros the noise is 2, so the answer is 5. These
 /// replies are written, or memory is wanting, for the whole or for the one program; nothing else can come.
-pub(crate) fn row_one(alloc: Global) -> Result<Ran, AllocError>
+pub fn row_one(alloc: Global) -> Result<Ran, AllocError>
     ensures { IfOk result (λ ran. (ran.status ≡ Status.NoMemory)
         ⊎ ((ran.status ≡ Status.Done)
         × ((⟦<MemSink<ROOM> as Sink>⟧.contents ran.sink ≡ Some (codes "hello ann\nanswer 0 5 1000000\nbye\n"))

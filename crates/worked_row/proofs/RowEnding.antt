@@ -1,9 +1,12 @@
 -- What the command comes to over files that hold the table and the key of zeros.
 use Rattle.std.proofs.Common.{◌≡◌, ℕ, List, [], ◌∷◌, Option, Some, refl, ◌∙◌, ap, codes}
-use Rattle.table_store.specs.Table.{table_of}
-use Rattle.query_server.specs.Ending.{to_answer, ending_of, run_ending, table_ending, readable}
-use Rattle.hitchseason.proofs.RowDraws.{zeros}
-use Rattle.hitchseason.proofs.RowTable.{ages, table, has_ages}
+use Rattle.table_store.specs.Table.{table_in_file}
+use Rattle.query_server.specs.Ending.{to_answer}
+use Rattle.query_server.specs.Files.{readable}
+use Rattle.query_server.specs.Run.{run_ending, rows_ending}
+use Rattle.query_server.specs.Due.{ending_of}
+use Rattle.worked_row.proofs.RowDraws.{zeros}
+use Rattle.worked_row.proofs.RowTable.{ages, table, has_ages}
 
 abbrev pub words : List (List ℕ)
 words = codes "run" ∷ codes "people.csv" ∷ codes "key" ∷ []
@@ -12,7 +15,7 @@ by_files : (held : List ℕ → Option (List ℕ)) → ending_of words held ≡ 
 unfolding ending_of
 by_files held = refl
 
-by_rows : run_ending (codes "people.csv") (codes "key") (readable (Some table)) (readable (Some zeros)) ≡ table_ending (codes "people.csv") (table_of (codes "age") table) zeros
+by_rows : run_ending (codes "people.csv") (codes "key") (readable (Some table)) (readable (Some zeros)) ≡ rows_ending (codes "people.csv") (table_in_file (codes "age") table) zeros
 by_rows = refl
 
 -- A script is to be answered over the three rows, whatever else the files hold.
@@ -24,4 +27,4 @@ row_ending given held are_words has_table has_key =
     ∙ ap (λ (file : Option (List ℕ)). run_ending (codes "people.csv") (codes "key") (readable file) (readable (held (codes "key")))) has_table
     ∙ ap (λ (file : Option (List ℕ)). run_ending (codes "people.csv") (codes "key") (readable (Some table)) (readable file)) has_key
     ∙ by_rows
-    ∙ ap (λ rows. table_ending (codes "people.csv") rows zeros) has_ages
+    ∙ ap (λ rows. rows_ending (codes "people.csv") rows zeros) has_ages

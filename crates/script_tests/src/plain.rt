@@ -1,6 +1,6 @@
 //! The server once more, plainly and slowly: a script is cut at each LF and a line at each space, the cost is a running sum,
 //! and the noise comes out of the whole list of a number's draws. It reads no program but `size people`, and has `?` for the
-//! refusal of another. Tests compare it with the real one; it is no part of the program.
+//! refusal of another. Tests compare it with the real one.
 
 ghost use Rattle.std.specs.Prelude.{◌<◌};
 

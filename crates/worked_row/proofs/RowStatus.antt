@@ -4,12 +4,14 @@ use mathlib.Core.Logic.{◌⊎◌, inl, inr}
 use Rattle.fz_outside.specs.Faults.{HasRisen}
 use Rattle.word_streams.specs.Draws.{draws_of}
 use Rattle.query_server.specs.Ending.{Ending, to_answer}
-use Rattle.query_server.specs.Status.{IsWrittenAt, IsAnswered, IsFront, memory_text, too_long_text}
+use Rattle.query_server.specs.Run.{IsScriptDue}
+use Rattle.query_server.specs.Due.{IsPrefix, IsWrittenAt}
+use Rattle.query_server.specs.Status.{memory_text, too_long_text}
 use Rattle.query_server.specs.declared.end.Status.{Status}
-use Rattle.query_server.specs.declared.end.Status.TheVariants.{Done, Declined, Usage, Refused, Fault, NoMemory, ScriptTooLong}
-use Rattle.hitchseason.proofs.RowDraws.{zeros, noise_is_two}
-use Rattle.hitchseason.proofs.RowTable.{ages}
-use Rattle.hitchseason.proofs.RowReplies.{script, row, row_without, transcript_is}
+use Rattle.query_server.specs.declared.end.Status.TheVariants.{Done, Fault, NoMemory}
+use Rattle.worked_row.proofs.RowDraws.{zeros, noise_is_two}
+use Rattle.worked_row.proofs.RowTable.{ages}
+use Rattle.worked_row.proofs.RowReplies.{script, row, row_without, transcript_is}
 
 row_length : length row ≡ 33
 row_length = refl
@@ -30,30 +32,21 @@ row_short : (text : List ℕ) → IsRow text → length text < 64
 row_short text (inl is) = let e : length text ≡ length row = ap length is in omega (arith, row_length)
 row_short text (inr is) = let e : length text ≡ length row_without = ap length is in omega (arith, without_length)
 
-front_short : (text whole : List ℕ) → IsFront text whole → length whole < 64 → length text < 64
-front_short text whole (rest, is) short =
+prefix_short : (text whole : List ℕ) → IsPrefix text whole → length whole < 64 → length text < 64
+prefix_short text whole (rest, is) short =
     let e : length whole ≡ length (text ++ rest) = ap length is in
     omega (arith, length-append text rest)
 
-due_short : (status : Status) (text : List ℕ) → IsAnswered ages zeros script status text → length text < 64
-due_short Done text (few, is) = row_short text (transcript_is (draws_of zeros) noise_is_two text is)
-due_short ScriptTooLong text (many, is) = let e : length text ≡ length too_long_text = ap length is in omega (arith, long_length)
-due_short Declined text is = absurd is
-due_short Usage text is = absurd is
-due_short Refused text is = absurd is
-due_short Fault text is = absurd is
-due_short NoMemory text is = absurd is
+due_short : (status : Status) (text : List ℕ) → IsScriptDue ages zeros script status text → length text < 64
+due_short status text (inl (done, few, is)) = row_short text (transcript_is (draws_of zeros) noise_is_two text is)
+due_short status text (inr (over, many, is)) = let e : length text ≡ length too_long_text = ap length is in omega (arith, long_length)
 
 -- At any status fewer bytes are written than there is room for.
 pub short : (status : Status) (text : List ℕ) → IsWrittenAt (to_answer ages zeros) script status text → length text < 64
-short Done text is = due_short Done text is
-short Declined text is = due_short Declined text is
-short Usage text is = due_short Usage text is
-short Refused text is = due_short Refused text is
-short ScriptTooLong text is = due_short ScriptTooLong text is
-short NoMemory text is = let e : length text ≡ length memory_text = ap length is in omega (arith, memory_length)
-short Fault text (inl (status, due, is, front)) = front_short text due front (due_short status due is)
-short Fault text (inr front) = front_short text memory_text front (omega (arith, memory_length))
+short status text (inl due) = due_short status text due
+short status text (inr (inl (memory, is))) = let e : length text ≡ length memory_text = ap length is in omega (arith, memory_length)
+short status text (inr (inr (fault, inl (other, due, is, prefix)))) = prefix_short text due prefix (due_short other due is)
+short status text (inr (inr (fault, inr prefix))) = prefix_short text memory_text prefix (omega (arith, memory_length))
 
 -- So a sink that fails only where it is full hasn't failed.
 pub none_failed : (ending : Ending) (status : Status) (text written : List ℕ) (faults : ℕ) → ending ≡ to_answer ages zeros → IsWrittenAt ending script status text
@@ -70,13 +63,10 @@ script_length = refl
 -- where nothing fails
 finished_row : (status : Status) (text : List ℕ) → IsWrittenAt (to_answer ages zeros) script status text → (status ≡ Fault → ⊥)
     → (status ≡ NoMemory) ⊎ ((status ≡ Done) × IsRow text)
-finished_row Done text (few, is) sound = inr (refl, transcript_is (draws_of zeros) noise_is_two text is)
-finished_row NoMemory text is sound = inl refl
-finished_row Fault text is sound = absurd (sound refl)
-finished_row Declined text is sound = absurd is
-finished_row Usage text is sound = absurd is
-finished_row Refused text is sound = absurd is
-finished_row ScriptTooLong text (many, is) sound = absurd (omega (arith, many, script_length))
+finished_row status text (inl (inl (done, few, is))) sound = inr (done, transcript_is (draws_of zeros) noise_is_two text is)
+finished_row status text (inl (inr (over, many, is))) sound = absurd (omega (arith, many, script_length))
+finished_row status text (inr (inl (memory, is))) sound = inl memory
+finished_row status text (inr (inr (fault, is))) sound = absurd (sound fault)
 
 written_row : (text written : List ℕ) → Some written ≡ Some ([] ++ text) → IsRow text → (Some written ≡ Some row) ⊎ (Some written ≡ Some row_without)
 written_row text written whole (inl is) = inl (whole ∙ ap Some is)

@@ -1,31 +1,14 @@
-//! The top call over files, source and sink in memory. What is wanted of each script was written by tools/reference.py,
-//! which shares nothing with the server but the rules.
-
-ghost use Rattle.std.specs.Prelude.{◌≤◌, ◌<◌, ◌^◌, length};
+//! Scripts. What is wanted of each was written by tools/reference.py, which shares nothing with the server but the rules.
 
 use crate::plain;
-use crate::row_one::row_one;
-use budget_core::book::Book;
-use fz_outside::files::{MemFile, MemFiles};
+use fz_outside::files::MemFiles;
 use fz_outside::flaky::{Flaky, Schedule};
 use fz_outside::sink::MemSink;
 use fz_outside::source::MemSource;
-use fz_outside::words::ListStreams;
+use memory_runs::{KEY, Piece, TABLE, ended, joined, two_files, words_of};
 use query_server::{Status, run_server};
-use session_core::house::{House, people_signature};
-use session_core::script::answer_script;
 use std::alloc::{AllocError, Global};
 use std::test::Fail;
-use table_store::{Table, load};
-
-const ROOM: usize = 65_536;
-
-pub(crate) const TABLE: &[u8] = b"age\n20\n30\n40\n";
-
-pub(crate) const KEY: [u8; 32] = [0; 32];
-
-// A text, and how often it stands there.
-pub(crate) type Piece<'a> = (&'a [u8], usize);
 
 #[derive(Drop)]
 struct Case<'a> {
@@ -34,48 +17,15 @@ struct Case<'a> {
     want: &'a [u8],
 }
 
-pub(crate) fn joined(alloc: Global, pieces: &[Piece<'_>]) -> Result<Vec<u8>, AllocError> {
-    let mut script = Vec::new(alloc);
-    for (text, times) in pieces {
-        for _ in 0..*times {
-            script.extend_from_slice(text)?;
-        }
-    }
-    Ok(script)
-}
-
-pub(crate) fn words_of(alloc: Global, texts: &[&str]) -> Result<Vec<String>, AllocError> {
-    let mut words = Vec::new(alloc);
-    for text in texts {
-        words.push(String::from_str(alloc, text)?)?;
-    }
-    Ok(words)
-}
-
-// How the command of these words ends, and what it writes, where these are the files `people.csv` and `key`.
-pub(crate) fn written(
+// How the command of these words ends over a table and a key, and what it writes.
+fn written(
     alloc: Global,
     texts: &[&str],
     table: &[u8],
     key: &[u8],
     script: &[u8],
 ) -> Result<(Status, Vec<u8>), AllocError> {
-    let words = words_of(alloc, texts)?;
-    let held = [
-        MemFile {
-            name: "people.csv",
-            bytes: table,
-        },
-        MemFile {
-            name: "key",
-            bytes: key,
-        },
-    ];
-    let mut files = MemFiles::new(&held);
-    let mut source = MemSource::new(script);
-    let mut sink = MemSink::<ROOM>::new(alloc)?;
-    let status = run_server(alloc, &words, &mut files, &mut source, &mut sink);
-    Ok((status, sink.bytes().to_vec(alloc)?))
+    ended(alloc, texts, &two_files(table, "key", key), script)
 }
 
 // Whether a transcript is the plain one, which has `?` for the refusal of a program that it doesn't read.
@@ -384,16 +334,7 @@ fn longest_script(rt: HostRuntime) -> Result<(), Fail> {
     let alloc = rt.alloc();
     let script = joined(alloc, &[(b"\n", 16_777_216)])?;
     let words = words_of(alloc, &["run", "people.csv", "key"])?;
-    let held = [
-        MemFile {
-            name: "people.csv",
-            bytes: TABLE,
-        },
-        MemFile {
-            name: "key",
-            bytes: &KEY,
-        },
-    ];
+    let held = two_files(TABLE, "key", &KEY);
     let mut files = MemFiles::new(&held);
     let mut source = MemSource::new(&script);
     let mut sink = MemSink::<134_217_728>::new(alloc)?;
@@ -416,22 +357,13 @@ fn on_schedule<T>(inner: T, failing: &[u64]) -> Flaky<'_, T> {
     }
 }
 
-// One call of the files, of the source or of the sink fails: what is written is a front of the transcript. Where no call
+// One call of the files, of the source or of the sink fails: what is written is a prefix of the transcript. Where no call
 // fails, pieces of 16 bytes give the whole of it.
 #[test]
 fn faults(rt: HostRuntime) -> Result<(), Fail> {
     let alloc = rt.alloc();
     let words = words_of(alloc, &["run", "people.csv", "key"])?;
-    let held = [
-        MemFile {
-            name: "people.csv",
-            bytes: TABLE,
-        },
-        MemFile {
-            name: "key",
-            bytes: &KEY,
-        },
-    ];
+    let held = two_files(TABLE, "key", &KEY);
     let script = b"hello ann\nask census 1 size people\nbye\n";
     let want = b"hello ann\nanswer 0 5 1000000\nbye\n";
     for place in 0..3_usize {
@@ -500,74 +432,5 @@ fn plain_transcripts_agree(rt: HostRuntime) -> Result<(), Fail> {
             }
         }
     }
-    Ok(())
-}
-
-// A house of one analyst over this table.
-fn house_of(alloc: Global, table: Table, budget: u64, capacity: u32) -> Result<House, AllocError>
-    requires rows { length table ≤ 2 ^ 20 }
-    requires some { 0 < budget }
-    requires most { budget ≤ 10 ^ 18 }
-    requires room { 2 ≤ capacity }
-    requires most_room { capacity ≤ 262144 }
-{
-    let name = String::from_str(alloc, "ann")?;
-    let owner = String::from_str(alloc, "census")?;
-    let mut analysts = Vec::with_capacity(alloc, 1)?;
-    analysts.push(name)?;
-    let Ok(sig) = people_signature(alloc) else {
-        return Err(AllocError);
-    };
-    Ok(House::new(analysts, owner, budget, capacity, sig, table))
-}
-
-// Other budgets, other capacities, and draws that are listed: -1 comes of the first list, and no number of zeros for ever. A
-// number that is exhausted is charged.
-#[test]
-fn listed_draws(rt: HostRuntime) -> Result<(), Fail> {
-    let alloc = rt.alloc();
-    let below: &[u64] = &[0, 0, 0, 0, 1, 0, 1, 0];
-    let script = b"hello ann\nask census 1 size people\nask census 1 size people\n";
-    let cases: [(u64, u32, &[u64], &[u8]); 3] = [
-        (
-            1_000_000,
-            100,
-            below,
-            b"hello ann\nanswer 0 -1 1000000\nno 40 1000000 2000000 1000000 2\n",
-        ),
-        (
-            10_000_000,
-            3,
-            below,
-            b"hello ann\nanswer 0 -1 1000000\nno 41 2 0 3\n",
-        ),
-        (
-            1_000_000,
-            100,
-            &[],
-            b"hello ann\nno 50 0\nno 40 1000000 2000000 1000000 2\n",
-        ),
-    ];
-    for (budget, capacity, draws, want) in cases {
-        let table = load(alloc, b"age\n", "age")
-            .ok()
-            .expect(&rt, "a header alone");
-        assert!(rt; table.len() <= 1_048_576);
-        assert!(rt; budget > 0 && budget <= 1_000_000_000_000_000_000);
-        assert!(rt; capacity >= 2 && capacity <= 262_144);
-        let house = house_of(alloc, table, budget, capacity)?;
-        let mut book = Book::new(alloc, house.entry())?;
-        let streams = ListStreams::new(draws);
-        let out = answer_script(alloc, &house, &streams, &mut book, script)?;
-        assert!(rt; out.as_slice() == want, "{budget} {capacity}");
-    }
-    Ok(())
-}
-
-#[test]
-fn row_one_has_its_replies(rt: HostRuntime) -> Result<(), Fail> {
-    let ran = row_one(rt.alloc())?;
-    assert!(rt; ran.status == Status::Done);
-    assert!(rt; ran.sink.bytes() == b"hello ann\nanswer 0 5 1000000\nbye\n".as_slice());
     Ok(())
 }

@@ -1,0 +1,9 @@
+//! Tests of scripts, by the top call over files, source and sink in memory.
+#![tactic(auto)]
+
+#[cfg(test)]
+mod listed;
+#[cfg(test)]
+mod plain;
+#[cfg(test)]
+mod scripts;

@@ -1,0 +1,47 @@
+//! The top call over the system: the words of the process, the files of the system, standard input and standard output.
+#![tactic(auto)]
+
+ghost use Rattle.std.specs.Prelude.{◌≡◌};
+ghost use Rattle.std.specs.Process.{exit_status};
+ghost use Rattle.query_server.specs.Status.{code_of};
+ghost use Rattle.query_server.specs.declared.end.Status.{Status as Ended};
+
+use fz_outside::real::{RealFiles, RealSink, RealSource};
+use fz_outside::sink::{Sink, put};
+use query_server::{Status, run_server};
+use std::alloc::{AllocError, Global};
+use std::io::ErrorKind;
+use std::process::ExitCode;
+use std::{env, io};
+
+// The words behind the program's own name. A word that isn't UTF-8 is no command, so then no words are.
+fn words_of(rt: &HostRuntime, alloc: Global) -> Result<Vec<String>, AllocError> {
+    match env::args(rt) {
+        Ok(args) => args.skip(1).collect(alloc),
+        Err(error) if error.kind() == ErrorKind::OutOfMemory => Err(AllocError),
+        Err(_) => Ok(Vec::new(alloc)),
+    }
+}
+
+// What is left to say where there is no memory for the words.
+fn without_words<K: Sink>(sink: &mut K) -> Status {
+    match put(sink, b"memory\n") {
+        Ok(()) => Status::NoMemory,
+        Err(_) => Status::Fault,
+    }
+}
+
+/// Does the command of the process's words. The process is to end with the number of the command's status.
+pub fn run_process(rt: &HostRuntime) -> ExitCode
+    ensures { (status : Ended) × (exit_status result ≡ code_of status) }
+{
+    let alloc = rt.alloc();
+    let mut files = RealFiles::new(rt);
+    let mut source = RealSource::new(rt.reader());
+    let mut sink = RealSink::new(io::writer(rt));
+    let status = match words_of(rt, alloc) {
+        Ok(words) => run_server(alloc, &words, &mut files, &mut source, &mut sink),
+        Err(_) => without_words(&mut sink),
+    };
+    ExitCode::from(status.code())
+}
