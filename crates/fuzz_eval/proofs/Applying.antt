@@ -1,0 +1,113 @@
+-- Functions applied, and what an answer says of its value.
+use Rattle.std.proofs.Common.{◌≡◌, ℕ, refl, ap, sym, subst, ◌∙◌, List}
+use Rattle.std.specs.Prelude.{Result, Ok, Err, IfOk}
+use Rattle.fz_ast.specs.Terms.{Name, Term}
+use Rattle.fz_ast.specs.declared.term.Arrow.{Arrow}
+use Rattle.fz_ast.specs.declared.term.Arrow.TheVariants.{Fun, Fn}
+use Rattle.fz_ast.specs.declared.term.Binary.{Binary}
+use Rattle.fz_ast.specs.declared.term.Binary.TheVariants.{Pair, With, App, Plus, Minus, AtMost, Equal, Union, Map, Filter, Split}
+use Rattle.metric_law.specs.Means.{Applies, Maps, MeansIn, Splits, apply, apply_fn}
+use Rattle.metric_values.specs.Values.{BagV, BangV, Bind, Env, Flat, FnV, FunV, PairV, Value}
+use Rattle.run_values.specs.Parts.{IsBag, IsBang, IsClosure, banged_in, elements, is_fn, is_fun}
+use Rattle.fuzz_eval.specs.Steps.{Can2, CanApply, CanFilter, CanMap, Gives2, HasValue, IsPlain, closure_of}
+
+-- an answer's value has what follows from what it has
+pub if_ok : {E : Type 0} (r : Result Value E) (P Q : Value → Type 0) → IfOk r P → ((v : Value) → P v → Q v) → IfOk r Q
+if_ok (Ok v) P Q h f = f v h
+if_ok (Err e) P Q h f = tt
+
+pub can_closure : {n : ℕ} {c u : Value} → CanApply n c u → IsClosure c
+can_closure {n} {c} {u} h = go h.gives
+  where
+    go : {c u v : Value} → Applies (MeansIn n) c u v → IsClosure c
+    go (apply k) = is_fun
+    go (apply_fn k) = is_fn
+
+fun_parts : (n : ℕ) {x : Name} {e : Term} {γ : Env} {u v : Value} → Applies (MeansIn n) (FunV x e γ) u v → MeansIn n (Bind x u γ) e v
+fun_parts n (apply k) = k
+
+fn_bang : (n : ℕ) {x : Name} {e : Term} {γ : Env} {u v : Value} → Applies (MeansIn n) (FnV x e γ) u v → IsBang u
+fn_bang n (apply_fn k) = refl
+
+fn_parts : (n : ℕ) {x : Name} {e : Term} {γ : Env} {u v : Value} → Applies (MeansIn n) (FnV x e γ) u v → MeansIn n (Bind x (banged_in u) γ) e v
+fn_parts n (apply_fn k) = k
+
+module _ (n : ℕ) (c u : Value) (o : Arrow) (x : Name) (t : Term) (γ : Env) (e : c ≡ closure_of o x t γ) where
+  fun_is : o ≡ Fun → c ≡ FunV x t γ
+  fun_is h = e ∙ ap (λ o. closure_of o x t γ) h
+
+  fn_is : o ≡ Fn → c ≡ FnV x t γ
+  fn_is h = e ∙ ap (λ o. closure_of o x t γ) h
+
+  pub fun_has : o ≡ Fun → CanApply n c u → HasValue n (Bind x u γ) t
+  fun_has h k = record { value = k.value; does = fun_parts n (subst (λ (c : Value). Applies (MeansIn n) c u k.value) (fun_is h) k.gives) }
+
+  pub fun_gives : o ≡ Fun → (v : Value) → MeansIn n (Bind x u γ) t v → Applies (MeansIn n) c u v
+  fun_gives h v d = subst (λ (c : Value). Applies (MeansIn n) c u v) (sym (fun_is h)) (apply d)
+
+  pub fn_can : o ≡ Fn → CanApply n c u → IsBang u
+  fn_can h k = fn_bang n (subst (λ (c : Value). Applies (MeansIn n) c u k.value) (fn_is h) k.gives)
+
+  pub fn_has : o ≡ Fn → CanApply n c u → (w : Value) → w ≡ banged_in u → HasValue n (Bind x w γ) t
+  fn_has h k w q = record { value = k.value; does = subst (λ (w : Value). MeansIn n (Bind x w γ) t k.value) (sym q) (fn_parts n (subst (λ (c : Value). Applies (MeansIn n) c u k.value) (fn_is h) k.gives)) }
+
+  pub fn_gives : o ≡ Fn → IsBang u → (w : Value) → w ≡ banged_in u → (v : Value) → MeansIn n (Bind x w γ) t v → Applies (MeansIn n) c u v
+  fn_gives h b w q v d =
+      subst (λ (c : Value). Applies (MeansIn n) c u v) (sym (fn_is h)) (subst (λ (u : Value). Applies (MeansIn n) (FnV x t γ) u v) (sym (b ∙ ap BangV (sym q))) (apply_fn d))
+
+-- signs that apply a function
+module _ (n : ℕ) (o : Binary) (u w : Value) (k : Can2 n o u w) where
+  pub app_can : o ≡ App → CanApply n u w
+  app_can h = record { value = k.value; gives = subst (λ (o : Binary). Gives2 (MeansIn n) o u w k.value) h k.gives }
+
+  map_said : o ≡ Map → Gives2 (MeansIn n) Map u w k.value
+  map_said h = subst (λ (o : Binary). Gives2 (MeansIn n) o u w k.value) h k.gives
+
+  filter_said : o ≡ Filter → Gives2 (MeansIn n) Filter u w k.value
+  filter_said h = subst (λ (o : Binary). Gives2 (MeansIn n) o u w k.value) h k.gives
+
+  pub map_bag : o ≡ Map → IsBag w
+  map_bag h = let r = map_said h in subst IsBag (sym r.2) refl
+
+  pub map_can : o ≡ Map → CanMap n u (elements w)
+  map_can h = let r = map_said h in record { values = r.1; gives = subst (λ (xs : List Flat). Maps (MeansIn n) u xs r.1) (sym (ap elements r.2)) r.3 }
+
+  pub filter_bag : o ≡ Filter → IsBag w
+  filter_bag h = let r = filter_said h in subst IsBag (sym r.3) refl
+
+  pub filter_can : o ≡ Filter → CanFilter n u (elements w)
+  filter_can h = let r = filter_said h in record { kept = r.1; rest = r.2; gives = subst (λ (xs : List Flat). Splits (MeansIn n) u xs r.1 r.2) (sym (ap elements r.3)) r.4 }
+
+  pub map_gives : o ≡ Map → (v : Value) → ((ys : List Flat) × Maps (MeansIn n) u (elements w) ys × (v ≡ BagV ys)) → Gives2 (MeansIn n) o u w v
+  map_gives h v r = subst (λ (o : Binary). Gives2 (MeansIn n) o u w v) (sym h) (elements w, r.0, map_bag h, r.1, r.2)
+
+  pub filter_gives : o ≡ Filter → (v : Value) → ((ys zs : List Flat) × Splits (MeansIn n) u (elements w) ys zs × (v ≡ BagV ys)) → Gives2 (MeansIn n) o u w v
+  filter_gives h v r = subst (λ (o : Binary). Gives2 (MeansIn n) o u w v) (sym h) (elements w, r.0, r.1, filter_bag h, r.2, r.3)
+
+  split_said : o ≡ Split → Gives2 (MeansIn n) Split u w k.value
+  split_said h = subst (λ (o : Binary). Gives2 (MeansIn n) o u w k.value) h k.gives
+
+  pub split_bag : o ≡ Split → IsBag w
+  split_bag h = let r = split_said h in subst IsBag (sym r.3) refl
+
+  pub split_can : o ≡ Split → CanFilter n u (elements w)
+  split_can h = let r = split_said h in record { kept = r.1; rest = r.2; gives = subst (λ (xs : List Flat). Splits (MeansIn n) u xs r.1 r.2) (sym (ap elements r.3)) r.4 }
+
+  pub split_gives : o ≡ Split → (v : Value) → ((ys zs : List Flat) × Splits (MeansIn n) u (elements w) ys zs × (v ≡ PairV (BagV ys) (BagV zs))) → Gives2 (MeansIn n) o u w v
+  split_gives h v r = subst (λ (o : Binary). Gives2 (MeansIn n) o u w v) (sym h) (elements w, r.0, r.1, split_bag h, r.2, r.3)
+
+  pub app_gives : o ≡ App → (v : Value) → Applies (MeansIn n) u w v → Gives2 (MeansIn n) o u w v
+  app_gives h v r = subst (λ (o : Binary). Gives2 (MeansIn n) o u w v) (sym h) r
+
+pub plain_here : (o : Binary) → (o ≡ App → ⊥) → (o ≡ Map → ⊥) → (o ≡ Filter → ⊥) → (o ≡ Split → ⊥) → IsPlain o
+plain_here App a m f s = a refl
+plain_here Map a m f s = m refl
+plain_here Filter a m f s = f refl
+plain_here Split a m f s = s refl
+plain_here Pair a m f s = tt
+plain_here With a m f s = tt
+plain_here Plus a m f s = tt
+plain_here Minus a m f s = tt
+plain_here AtMost a m f s = tt
+plain_here Equal a m f s = tt
+plain_here Union a m f s = tt

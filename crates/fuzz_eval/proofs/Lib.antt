@@ -1,0 +1,6 @@
+pub mod Steps
+pub mod Loops
+pub mod Forms
+pub mod Applying
+pub mod Held
+pub mod Examples

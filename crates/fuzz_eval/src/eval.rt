@@ -1,0 +1,310 @@
+//! A term's value, by recursion on the height of its derivation.
+#![tactic(none)]
+
+ghost use Rattle.std.specs.Prelude.{◌≡◌, ◌<◌, IfOk, List, length};
+ghost use Rattle.fz_ast.specs.Names.{name_of};
+ghost use Rattle.fz_ast.specs.Terms.{at};
+ghost use Rattle.fz_ast.specs.TermNodes.{term_at};
+ghost use Rattle.metric_law.specs.Means.{Applies, Maps, MeansIn, Splits};
+ghost use Rattle.metric_values.specs.Values.{BagV, BangV, Bind, Flat, PairV};
+ghost use Rattle.run_values.specs.Parts.{IsBag, elements};
+ghost use Rattle.fuzz_eval.specs.Steps.{Can2, CanApply, CanFilter, CanMap, Gives2, HasValue};
+
+use crate::bags::put;
+use crate::nodes::{body_of, look};
+use crate::words::{inject, plain, ranged, scale, unary};
+use fz_ast::{Arrow, Binary, Form, Name, NoMemory, Nodes};
+use run_values::{Scope, Value};
+use std::alloc::Global;
+use std::rc::Rc;
+
+// The value of a term inside one more name.
+#[cycle(evaluating)]
+fn eval_under(
+    alloc: Global,
+    nodes: &Rc<Nodes>,
+    scope: &Scope,
+    name: Name,
+    value: Value,
+    i: u32,
+    left: u32,
+) -> Result<Value, NoMemory>
+    requires known { i < length nodes.now.value.terms }
+    requires has { HasValue left (Bind (name_of name) value scope.now) (term_at nodes.now.value.terms i) }
+    ensures { IfOk result (λ v. MeansIn left (Bind (name_of name) value scope.now) (term_at nodes.now.value.terms i) v) }
+{
+    let inner = scope.with(alloc, name, value)?;
+    eval(alloc, nodes, &inner, i, left)
+}
+
+// What a function gives for this argument.
+#[cycle(evaluating)]
+fn apply(alloc: Global, c: &Value, u: Value, left: u32) -> Result<Value, NoMemory>
+    requires { CanApply left c.now u }
+    ensures { IfOk result (λ v. Applies (MeansIn left) c.now u v) }
+{
+    let function = c.function();
+    let body = body_of(&function.nodes, function.lambda);
+    match body.arrow {
+        Arrow::Fun => eval_under(
+            alloc,
+            &function.nodes,
+            &function.scope,
+            body.name,
+            u,
+            body.term,
+            left,
+        ),
+        Arrow::Fn => {
+            let inner = u.banged()?;
+            eval_under(
+                alloc,
+                &function.nodes,
+                &function.scope,
+                body.name,
+                inner,
+                body.term,
+                left,
+            )
+        }
+    }
+}
+
+// What a function gives for an element of a bag, which it is given as a bang.
+#[cycle(evaluating)]
+fn apply_to_element(alloc: Global, c: &Value, x: Value, left: u32) -> Result<Value, NoMemory>
+    requires { CanApply left c.now (BangV x) }
+    ensures { IfOk result (λ v. Applies (MeansIn left) c.now (BangV x) v) }
+{
+    let function = c.function();
+    let body = body_of(&function.nodes, function.lambda);
+    match body.arrow {
+        Arrow::Fun => {
+            let bang = Value::bang(alloc, x)?;
+            eval_under(
+                alloc,
+                &function.nodes,
+                &function.scope,
+                body.name,
+                bang,
+                body.term,
+                left,
+            )
+        }
+        Arrow::Fn => eval_under(
+            alloc,
+            &function.nodes,
+            &function.scope,
+            body.name,
+            x,
+            body.term,
+            left,
+        ),
+    }
+}
+
+// What a function gives for each element.
+#[cycle(evaluating)]
+fn map(alloc: Global, c: &Value, b: &Value, left: u32) -> Result<Value, NoMemory>
+    requires bag { IsBag b.now }
+    requires can { CanMap left c.now (elements b.now) }
+    ensures { IfOk result (λ v. (ys : List Flat) × Maps (MeansIn left) c.now (elements b.now) ys × (v ≡ BagV ys)) }
+{
+    let mut out = Vec::new(alloc);
+    for i in 0..b.size() {
+        let x = b.element(i)?;
+        let y = apply_to_element(alloc, c, x, left)?;
+        put(&mut out, y)?;
+    }
+    Value::list(alloc, out)
+}
+
+// The elements for which a function gives true.
+#[cycle(evaluating)]
+fn filter(alloc: Global, c: &Value, b: &Value, left: u32) -> Result<Value, NoMemory>
+    requires bag { IsBag b.now }
+    requires can { CanFilter left c.now (elements b.now) }
+    ensures { IfOk result (λ v. (ys zs : List Flat) × Splits (MeansIn left) c.now (elements b.now) ys zs × (v ≡ BagV ys)) }
+{
+    let mut out = Vec::new(alloc);
+    for i in 0..b.size() {
+        let x = b.element(i)?;
+        let verdict = apply_to_element(alloc, c, x, left)?;
+        if verdict.is_left() {
+            let kept = b.element(i)?;
+            put(&mut out, kept)?;
+        }
+    }
+    Value::list(alloc, out)
+}
+
+// The elements for which a function gives true, and the others.
+#[cycle(evaluating)]
+fn split(alloc: Global, c: &Value, b: &Value, left: u32) -> Result<Value, NoMemory>
+    requires bag { IsBag b.now }
+    requires can { CanFilter left c.now (elements b.now) }
+    ensures { IfOk result (λ v. (ys zs : List Flat) × Splits (MeansIn left) c.now (elements b.now) ys zs × (v ≡ PairV (BagV ys) (BagV zs))) }
+{
+    let mut kept = Vec::new(alloc);
+    let mut others = Vec::new(alloc);
+    for i in 0..b.size() {
+        let x = b.element(i)?;
+        let answer = apply_to_element(alloc, c, x, left)?;
+        let y = b.element(i)?;
+        if answer.is_left() {
+            put(&mut kept, y)?;
+        } else {
+            put(&mut others, y)?;
+        }
+    }
+    let first = Value::list(alloc, kept)?;
+    let second = Value::list(alloc, others)?;
+    Value::pair(alloc, first, second)
+}
+
+// What a word or sign of two parts gives for their values.
+#[cycle(evaluating)]
+fn combine(alloc: Global, form: Binary, u: Value, w: Value, left: u32) -> Result<Value, NoMemory>
+    requires { Can2 left form u w }
+    ensures { IfOk result (λ v. Gives2 (MeansIn left) form u w v) }
+{
+    match form {
+        Binary::App => apply(alloc, &u, w, left),
+        Binary::Map => map(alloc, &u, &w, left),
+        Binary::Filter => filter(alloc, &u, &w, left),
+        Binary::Split => split(alloc, &u, &w, left),
+        _ => plain(alloc, form, u, w, left),
+    }
+}
+
+/// The value of the term of number `i`, by a derivation at most `left` high.
+///
+/// A function sets all its locals to 0 as it begins, so the forms that are met at each row stand in small functions.
+#[cycle(evaluating)]
+pub fn eval(
+    alloc: Global,
+    nodes: &Rc<Nodes>,
+    scope: &Scope,
+    i: u32,
+    left: u32,
+) -> Result<Value, NoMemory>
+    requires known { i < length nodes.now.value.terms }
+    requires has { HasValue left scope.now (term_at nodes.now.value.terms i) }
+    ensures { IfOk result (λ v. MeansIn left scope.now (term_at nodes.now.value.terms i) v) }
+{
+    match look(nodes, i).form {
+        Form::Var(name) => scope.find(&name),
+        Form::Num(z) => Ok(Value::num(z)),
+        _ => eval_two(alloc, nodes, scope, i, left),
+    }
+}
+
+// The value of a term of two parts, or of any other.
+#[cycle(evaluating)]
+#[inline(never)]
+fn eval_two(
+    alloc: Global,
+    nodes: &Rc<Nodes>,
+    scope: &Scope,
+    i: u32,
+    left: u32,
+) -> Result<Value, NoMemory>
+    requires known { i < length nodes.now.value.terms }
+    requires has { HasValue left scope.now (term_at nodes.now.value.terms i) }
+    ensures { IfOk result (λ v. MeansIn left scope.now (term_at nodes.now.value.terms i) v) }
+{
+    let Form::Binary(form, a, b) = look(nodes, i).form else {
+        return eval_other(alloc, nodes, scope, i, left);
+    };
+    let below = left - 1;
+    let u = eval(alloc, nodes, scope, a, below)?;
+    let w = eval(alloc, nodes, scope, b, below)?;
+    combine(alloc, form, u, w, below)
+}
+
+// The value of any term.
+#[cycle(evaluating)]
+#[inline(never)]
+fn eval_other(
+    alloc: Global,
+    nodes: &Rc<Nodes>,
+    scope: &Scope,
+    i: u32,
+    left: u32,
+) -> Result<Value, NoMemory>
+    requires known { i < length nodes.now.value.terms }
+    requires has { HasValue left scope.now (term_at nodes.now.value.terms i) }
+    ensures { IfOk result (λ v. MeansIn left scope.now (term_at nodes.now.value.terms i) v) }
+{
+    let below = left - 1;
+    let node = look(nodes, i);
+    match node.form {
+        Form::Var(name) => scope.find(&name),
+        Form::Num(z) => Ok(Value::num(z)),
+        Form::Text(text) => Value::text(alloc, text),
+        Form::Unit => Ok(Value::unit()),
+        Form::Unary(form, e) => {
+            let u = eval(alloc, nodes, scope, e, below)?;
+            unary(form, &u)
+        }
+        Form::Binary(form, a, b) => {
+            let u = eval(alloc, nodes, scope, a, below)?;
+            let w = eval(alloc, nodes, scope, b, below)?;
+            combine(alloc, form, u, w, below)
+        }
+        Form::Times(k, e) => {
+            let u = eval(alloc, nodes, scope, e, below)?;
+            Ok(scale(k, &u))
+        }
+        Form::Ranged(form, lo, hi, e) => {
+            let u = eval(alloc, nodes, scope, e, below)?;
+            ranged(form, lo, hi, &u)
+        }
+        Form::Inject(side, _, _, e) => {
+            let u = eval(alloc, nodes, scope, e, below)?;
+            inject(alloc, side, u)
+        }
+        Form::Bang(_, e) => {
+            let u = eval(alloc, nodes, scope, e, below)?;
+            Value::bang(alloc, u)
+        }
+        Form::Let(x, e, b) => {
+            let u = eval(alloc, nodes, scope, e, below)?;
+            eval_under(alloc, nodes, scope, x, u, b, below)
+        }
+        Form::LetBang(x, e, b) => {
+            let u = eval(alloc, nodes, scope, e, below)?;
+            let inner = u.banged()?;
+            eval_under(alloc, nodes, scope, x, inner, b, below)
+        }
+        Form::LetPair(x, y, e, b) => {
+            let u = eval(alloc, nodes, scope, e, below)?;
+            let first = u.first()?;
+            let second = u.second()?;
+            let outer = scope.with(alloc, x, first)?;
+            eval_under(alloc, nodes, &outer, y, second, b, below)
+        }
+        Form::If(e, a, b) => {
+            let u = eval(alloc, nodes, scope, e, below)?;
+            if u.is_left() {
+                eval(alloc, nodes, scope, a, below)
+            } else {
+                eval(alloc, nodes, scope, b, below)
+            }
+        }
+        Form::Case(e, x, a, y, b) => {
+            let u = eval(alloc, nodes, scope, e, below)?;
+            let side = u.side()?;
+            if u.is_left() {
+                eval_under(alloc, nodes, scope, x, side, a, below)
+            } else {
+                eval_under(alloc, nodes, scope, y, side, b, below)
+            }
+        }
+        Form::Lambda(_, _, _, _, _) => {
+            let held = nodes.clone()?;
+            let names = scope.copy()?;
+            Value::closure(alloc, held, i, names)
+        }
+    }
+}

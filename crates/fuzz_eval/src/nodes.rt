@@ -1,0 +1,43 @@
+//! Nodes by their numbers.
+ghost use Rattle.std.specs.Prelude.{◌≡◌, ◌<◌, length};
+ghost use Rattle.fz_ast.specs.Limits.{TermLimits};
+ghost use Rattle.fz_ast.specs.Names.{name_of};
+ghost use Rattle.fz_ast.specs.Terms.{at};
+ghost use Rattle.fz_ast.specs.TermNodes.{IsKnown, term_of, term_at};
+ghost use Rattle.fz_ast.specs.TypeNodes.{type_at};
+ghost use Rattle.run_values.specs.Views.{IsFunction};
+ghost use Rattle.fuzz_eval.specs.Steps.{IsClosureOf};
+
+use fz_ast::{Arrow, Form, Name, Node, Nodes};
+use std::rc::Rc;
+
+/// The node of this number.
+pub fn look(nodes: &Rc<Nodes>, i: u32) -> &Node
+    requires { i < length nodes.now.value.terms }
+    ensures form { term_at nodes.now.value.terms i ≡ term_of (type_at nodes.now.value.types) (term_at nodes.now.value.terms) result.now.span result.now.form }
+    ensures known { IsKnown (length nodes.now.value.types) i result.now.form }
+    ensures limits { TermLimits (term_at nodes.now.value.terms i) }
+{
+    nodes.node(i)
+}
+
+/// A function's arrow, its name, and the number of its body.
+#[derive(Clone, Copy)]
+pub struct Body {
+    pub arrow: Arrow,
+    pub name: Name,
+    pub term: u32,
+}
+
+/// The function at a node.
+pub fn body_of(nodes: &Rc<Nodes>, lambda: u32) -> Body
+    requires known { lambda < length nodes.now.value.terms }
+    requires function { IsFunction (term_at nodes.now.value.terms lambda) }
+    ensures within { result.term < length nodes.now.value.terms }
+    ensures is { IsClosureOf (term_at nodes.now.value.terms lambda) result.arrow (name_of result.name) (term_at nodes.now.value.terms result.term) }
+{
+    match look(nodes, lambda).form {
+        Form::Lambda(arrow, name, _, _, term) => Body { arrow, name, term },
+        _ => unreachable!(),
+    }
+}

@@ -1,0 +1,460 @@
+//! Values are shared by counted references, and never lead back to themselves.
+ghost use Rattle.std.specs.Prelude.{◌≡◌, ◌<◌, ◌⊎◌, bytes_eq, length, IfOk, IsSome, IsTrue, Some};
+ghost use Rattle.metric_law.specs.Means.{find};
+ghost use Rattle.std.specs.Arc.{arc_value};
+ghost use Rattle.std.proofs.Common.{get_or};
+ghost use Rattle.fz_ast.specs.Names.{name_of, text_of};
+ghost use Rattle.fz_ast.specs.TermNodes.{term_at};
+ghost use Rattle.metric_values.specs.Values.{NumV, TextV, UnitV, PairV, InlV, InrV, BangV, BagV, Empty, Bind, UnitF, truth, value_of};
+ghost use Rattle.run_values.specs.Flats.{AllFlat, flats_of};
+ghost use Rattle.run_values.specs.Parts.{IsBag, IsBang, IsClosure, IsNum, IsPair, IsSum, IsText, banged_in, elements, first_in, number_in, number_of};
+ghost use Rattle.run_values.specs.Parts.{second_in, side_in, text_in};
+ghost use Rattle.run_values.specs.Views.{IsFunction, function_of, number_rows};
+
+use fz_ast::{Name, NoMemory, Nodes, Text};
+use std::alloc::Global;
+use std::marker::Model;
+use std::rc::Rc;
+use std::sync::Arc;
+
+/// A value. A contract sees the definition's.
+#[cycle(value)]
+#[derive(Drop)]
+pub struct Value {
+    form: Form,
+}
+
+#[cycle(value)]
+#[derive(Drop)]
+pub enum Form {
+    Num(i64),
+    Text(Rc<Text>),
+    Unit,
+    /// `inl ()` or `inr ()`
+    Truth(bool),
+    Pair(Rc<Both>),
+    Inl(Rc<Value>),
+    Inr(Rc<Value>),
+    Bang(Rc<Value>),
+    /// The rows of a table.
+    Table(Arc<Vec<i64>>),
+    /// A bag that was made.
+    List(Rc<Vec<Value>>),
+    Fun(Rc<Closure>),
+}
+
+/// Two values.
+#[cycle(value)]
+#[derive(Drop)]
+pub struct Both {
+    pub first: Value,
+    pub second: Value,
+}
+
+/// The node of a function, and what its names stand for.
+#[cycle(value)]
+#[derive(Drop)]
+pub struct Closure {
+    pub nodes: Rc<Nodes>,
+    pub lambda: u32,
+    pub scope: Scope,
+}
+
+/// Names and what they stand for, the innermost first. A contract sees the definition's environment.
+#[cycle(value)]
+#[derive(Drop)]
+pub struct Scope {
+    link: Link,
+}
+
+#[cycle(value)]
+#[derive(Drop)]
+pub enum Link {
+    End,
+    More(Rc<Frame>),
+}
+
+#[cycle(value)]
+#[derive(Drop)]
+pub struct Frame {
+    pub name: Name,
+    pub value: Value,
+    pub outer: Scope,
+}
+
+impl Model for Value {
+    ghost use Rattle.metric_values.specs.Values.{Value as Meant};
+    ghost use Rattle.run_values.specs.Codes.{value_code};
+    ghost use Rattle.run_values.specs.Sizes.{value_size};
+
+    ghost Value = { Meant };
+
+    ghost coded = { value_code };
+
+    ghost use Rattle.run_values.specs.Views.{form_view, IsSound};
+
+    ghost view = { λ a. form_view a.form };
+
+    ghost invariant = { λ a. IsSound a.form };
+
+    ghost size = { value_size };
+
+    ghost use Rattle.run_values.specs.Falls.{form_falls};
+
+    ghost size_decreases = { λ a h. form_falls a.form h };
+}
+
+impl Model for Scope {
+    ghost use Rattle.metric_values.specs.Values.{Env};
+    ghost use Rattle.run_values.specs.Codes.{env_code};
+    ghost use Rattle.run_values.specs.Sizes.{env_size};
+
+    ghost Value = { Env };
+
+    ghost coded = { env_code };
+
+    ghost use Rattle.run_values.specs.Views.{link_view};
+
+    ghost view = { λ a. link_view a.link };
+
+    ghost size = { env_size };
+
+    ghost use Rattle.std.proofs.Common.{arith};
+
+    ghost size_decreases = { λ a h. Prim.grind (arith) };
+}
+
+// A value in a place of its own.
+fn shared(alloc: Global, value: Value) -> Result<Rc<Value>, NoMemory>
+    ensures { IfOk result (λ rc. rc.value ≡ value) }
+{
+    match Rc::new(alloc, value) {
+        Ok(rc) => Ok(rc),
+        Err(_) => Err(NoMemory),
+    }
+}
+
+impl Value {
+    pub fn num(z: i64) -> Value
+        ensures { result ≡ NumV z }
+    {
+        Value { form: Form::Num(z) }
+    }
+
+    pub fn unit() -> Value
+        ensures { result ≡ UnitV }
+    {
+        Value { form: Form::Unit }
+    }
+
+    pub fn truth(b: bool) -> Value
+        ensures { result ≡ truth b }
+    {
+        Value {
+            form: Form::Truth(b),
+        }
+    }
+
+    pub fn text(alloc: Global, text: Text) -> Result<Value, NoMemory>
+        ensures { IfOk result (λ v. v ≡ TextV (text_of text)) }
+    {
+        match Rc::new(alloc, text) {
+            Ok(rc) => Ok(Value {
+                form: Form::Text(rc),
+            }),
+            Err(_) => Err(NoMemory),
+        }
+    }
+
+    pub fn pair(alloc: Global, first: Value, second: Value) -> Result<Value, NoMemory>
+        ensures { IfOk result (λ v. v ≡ PairV first second) }
+    {
+        match Rc::new(alloc, Both { first, second }) {
+            Ok(rc) => Ok(Value {
+                form: Form::Pair(rc),
+            }),
+            Err(_) => Err(NoMemory),
+        }
+    }
+
+    pub fn inl(alloc: Global, value: Value) -> Result<Value, NoMemory>
+        ensures { IfOk result (λ v. v ≡ InlV value) }
+    {
+        let rc = shared(alloc, value)?;
+        Ok(Value {
+            form: Form::Inl(rc),
+        })
+    }
+
+    pub fn inr(alloc: Global, value: Value) -> Result<Value, NoMemory>
+        ensures { IfOk result (λ v. v ≡ InrV value) }
+    {
+        let rc = shared(alloc, value)?;
+        Ok(Value {
+            form: Form::Inr(rc),
+        })
+    }
+
+    pub fn bang(alloc: Global, value: Value) -> Result<Value, NoMemory>
+        ensures { IfOk result (λ v. v ≡ BangV value) }
+    {
+        let rc = shared(alloc, value)?;
+        Ok(Value {
+            form: Form::Bang(rc),
+        })
+    }
+
+    /// The bag of a table's rows.
+    pub fn table(numbers: Arc<Vec<i64>>) -> Value
+        ensures { result ≡ BagV (number_rows (arc_value numbers).items) }
+    {
+        Value {
+            form: Form::Table(numbers),
+        }
+    }
+
+    /// The bag of these values.
+    pub fn list(alloc: Global, items: Vec<Value>) -> Result<Value, NoMemory>
+        requires { AllFlat items.items }
+        ensures { IfOk result (λ v. v ≡ BagV (flats_of items.items)) }
+    {
+        match Rc::new(alloc, items) {
+            Ok(rc) => Ok(Value {
+                form: Form::List(rc),
+            }),
+            Err(_) => Err(NoMemory),
+        }
+    }
+
+    /// The function at a node, with what its names stand for.
+    pub fn closure(
+        alloc: Global,
+        nodes: Rc<Nodes>,
+        lambda: u32,
+        scope: Scope,
+    ) -> Result<Value, NoMemory>
+        requires known { lambda < length nodes.value.terms }
+        requires function { IsFunction (term_at nodes.value.terms lambda) }
+        ensures { IfOk result (λ v. v ≡ function_of (term_at nodes.value.terms lambda) scope) }
+    {
+        match Rc::new(
+            alloc,
+            Closure {
+                nodes,
+                lambda,
+                scope,
+            },
+        ) {
+            Ok(rc) => Ok(Value {
+                form: Form::Fun(rc),
+            }),
+            Err(_) => Err(NoMemory),
+        }
+    }
+
+    /// An equal value, which shares what this one has inside.
+    pub fn copy(&self) -> Result<Value, NoMemory>
+        ensures { IfOk result (λ v. v ≡ self.now) }
+    {
+        let form = match &self.form {
+            Form::Num(z) => Form::Num(*z),
+            Form::Text(rc) => Form::Text(rc.clone()?),
+            Form::Unit => Form::Unit,
+            Form::Truth(b) => Form::Truth(*b),
+            Form::Pair(rc) => Form::Pair(rc.clone()?),
+            Form::Inl(rc) => Form::Inl(rc.clone()?),
+            Form::Inr(rc) => Form::Inr(rc.clone()?),
+            Form::Bang(rc) => Form::Bang(rc.clone()?),
+            Form::Table(rc) => Form::Table(rc.clone()?),
+            Form::List(rc) => Form::List(rc.clone()?),
+            Form::Fun(rc) => Form::Fun(rc.clone()?),
+        };
+        Ok(Value { form })
+    }
+
+    /// The number.
+    pub fn number(&self) -> i64
+        requires { IsNum self.now }
+        ensures { result ≡ number_in self.now }
+    {
+        match &self.form {
+            Form::Num(z) => *z,
+            _ => unreachable!(),
+        }
+    }
+
+    /// Whether two texts have the same bytes.
+    pub fn same_text(&self, other: &Value) -> bool
+        requires text { IsText self.now }
+        requires other_text { IsText other.now }
+        ensures { result ≡ bytes_eq (text_in self.now) (text_in other.now) }
+    {
+        match (&self.form, &other.form) {
+            (Form::Text(s), Form::Text(t)) => s.as_bytes() == t.as_bytes(),
+            _ => unreachable!(),
+        }
+    }
+
+    /// The first half of a pair.
+    pub fn first(&self) -> Result<Value, NoMemory>
+        requires { IsPair self.now }
+        ensures { IfOk result (λ v. v ≡ first_in self.now) }
+    {
+        match &self.form {
+            Form::Pair(rc) => rc.first.copy(),
+            _ => unreachable!(),
+        }
+    }
+
+    /// The second half of a pair.
+    pub fn second(&self) -> Result<Value, NoMemory>
+        requires { IsPair self.now }
+        ensures { IfOk result (λ v. v ≡ second_in self.now) }
+    {
+        match &self.form {
+            Form::Pair(rc) => rc.second.copy(),
+            _ => unreachable!(),
+        }
+    }
+
+    /// What a bang holds.
+    pub fn banged(&self) -> Result<Value, NoMemory>
+        requires { IsBang self.now }
+        ensures { IfOk result (λ v. v ≡ banged_in self.now) }
+    {
+        match &self.form {
+            Form::Bang(rc) => rc.copy(),
+            _ => unreachable!(),
+        }
+    }
+
+    /// Whether an injection is the left one.
+    pub fn is_left(&self) -> bool
+        requires { IsSum self.now }
+        ensures left { IsTrue result → self.now ≡ InlV (side_in self.now) }
+        ensures right { (IsTrue result → ⊥) → self.now ≡ InrV (side_in self.now) }
+    {
+        match &self.form {
+            Form::Truth(b) => *b,
+            Form::Inl(_) => true,
+            Form::Inr(_) => false,
+            _ => unreachable!(),
+        }
+    }
+
+    /// What an injection holds.
+    pub fn side(&self) -> Result<Value, NoMemory>
+        requires { IsSum self.now }
+        ensures { IfOk result (λ v. v ≡ side_in self.now) }
+    {
+        match &self.form {
+            Form::Truth(_) => Ok(Value::unit()),
+            Form::Inl(rc) | Form::Inr(rc) => rc.copy(),
+            _ => unreachable!(),
+        }
+    }
+
+    /// How many elements a bag has.
+    pub fn size(&self) -> usize
+        requires { IsBag self.now }
+        ensures { result ≡ length (elements self.now) }
+    {
+        match &self.form {
+            Form::Table(rc) => rc.len(),
+            Form::List(rc) => rc.len(),
+            _ => unreachable!(),
+        }
+    }
+
+    /// An element of a bag.
+    pub fn element(&self, i: usize) -> Result<Value, NoMemory>
+        requires bag { IsBag self.now }
+        requires within { i < length (elements self.now) }
+        ensures { IfOk result (λ v. v ≡ value_of (get_or (elements self.now) i UnitF)) }
+    {
+        match &self.form {
+            Form::Table(rc) => Ok(Value::num(rc[i])),
+            Form::List(rc) => rc[i].copy(),
+            _ => unreachable!(),
+        }
+    }
+}
+
+impl Scope {
+    /// No names.
+    pub fn new() -> Scope
+        ensures { result ≡ Empty }
+    {
+        Scope { link: Link::End }
+    }
+
+    /// The scope inside one more name.
+    pub fn with(&self, alloc: Global, name: Name, value: Value) -> Result<Scope, NoMemory>
+        ensures { IfOk result (λ s. s ≡ Bind (name_of name) value self.now) }
+    {
+        let outer = self.copy()?;
+        match Rc::new(alloc, Frame { name, value, outer }) {
+            Ok(rc) => Ok(Scope {
+                link: Link::More(rc),
+            }),
+            Err(_) => Err(NoMemory),
+        }
+    }
+
+    /// An equal scope.
+    pub fn copy(&self) -> Result<Scope, NoMemory>
+        ensures { IfOk result (λ s. s ≡ self.now) }
+    {
+        let link = match &self.link {
+            Link::End => Link::End,
+            Link::More(rc) => Link::More(rc.clone()?),
+        };
+        Ok(Scope { link })
+    }
+}
+
+impl Value {
+    /// The node of a function, and what its names stand for.
+    pub fn function(&self) -> &Closure
+        requires { IsClosure self.now }
+        ensures is { self.now ≡ function_of (term_at result.now.nodes.value.terms result.now.lambda) result.now.scope }
+        ensures known { result.now.lambda < length result.now.nodes.value.terms }
+        ensures function { IsFunction (term_at result.now.nodes.value.terms result.now.lambda) }
+    {
+        match &self.form {
+            Form::Fun(rc) => rc,
+            _ => unreachable!(),
+        }
+    }
+}
+
+impl Scope {
+    /// What the innermost of these names stands for.
+    pub fn find(&self, name: &Name) -> Result<Value, NoMemory>
+        requires { IsSome (find self.now (name_of name.now)) }
+        ensures { IfOk result (λ v. find self.now (name_of name.now) ≡ Some v) }
+    {
+        match &self.link {
+            Link::More(rc) => {
+                if rc.name.as_bytes() == name.as_bytes() {
+                    rc.value.copy()
+                } else {
+                    rc.outer.find(name)
+                }
+            }
+            Link::End => unreachable!(),
+        }
+    }
+}
+
+impl Value {
+    /// The number, if this is one.
+    pub fn as_number(&self) -> Option<i64>
+        ensures { result ≡ number_of self.now }
+    {
+        match &self.form {
+            Form::Num(z) => Some(*z),
+            _ => None,
+        }
+    }
+}

@@ -1,0 +1,369 @@
+-- The run without data at worked terms: each form's shape, turns, depth and width, what is visited in which order, and each limit on both sides.
+use Rattle.std.proofs.Common.{refl}
+use Rattle.std.specs.Prelude.{ℕ, codes, pos, suc, zero, ◌≡◌}
+use Rattle.fz_frac.specs.Distance.{Fin}
+use Rattle.fz_ast.specs.Bare.{nowhere}
+use Rattle.fz_ast.specs.Terms.{AppE, BangE, CaseE, ClipE, EqE, FilterE, FnE, FstE, FunE, GreatestE, IfE, InlE, InrE, LeE, LeastE, LetBangE, LetE, LetPairE, MapE, MinusE, NumE, PairE, PlusE, SizeE, SndE, SplitE, SumE, Term, TextE, TimesE, UnionE, UnitE, VarE, WithE, at}
+use Rattle.fz_ast.specs.Types.{NumT, UnitT}
+use Rattle.metric_law.specs.Worked.{name_at, number_at, span, split_in_halves, bang_undone, unused_names, worked_tables}
+use Rattle.shape_law.specs.Shapes.{Also, BangS, FnS, FunS, Nothing, PairS, Shape, Shapes, Wide, bang_shape, first_half, in_bang, pair_shape, second_half, shape_of, table_shapes, width_of, wider}
+use Rattle.shape_law.specs.Walk.{Shaped, Stops, Tally, TooDeep, TooLong, TooWide, depth_limit, shape, start, walk}
+use Rattle.shape_law.specs.Worked.{PassesLimit, Plans}
+
+-- words of shapes
+
+abbrev id : Shape
+id = FunS (codes "x") (at nowhere (VarE (codes "x"))) Nothing
+
+wider_of_two : wider (Wide 2) (Wide 3) ≡ Wide 3
+wider_of_two = refl
+
+function_has_no_width : width_of id ≡ 0
+function_has_no_width = refl
+
+ground_pair : pair_shape (Wide 3) (Wide 2) ≡ Wide 3
+ground_pair = refl
+
+pair_with_a_function : pair_shape (Wide 3) id ≡ PairS (Wide 3) id
+pair_with_a_function = refl
+
+halves_of_ground : pair_shape (first_half (Wide 3)) (second_half (Wide 3)) ≡ Wide 3
+halves_of_ground = refl
+
+first_of_a_pair : first_half (PairS (Wide 3) id) ≡ Wide 3
+first_of_a_pair = refl
+
+second_of_a_pair : second_half (PairS (Wide 3) id) ≡ id
+second_of_a_pair = refl
+
+ground_bang : bang_shape (Wide 2) ≡ Wide 2
+ground_bang = refl
+
+bang_of_a_function : bang_shape id ≡ BangS id
+bang_of_a_function = refl
+
+held_by_ground : in_bang (Wide 2) ≡ Wide 2
+held_by_ground = refl
+
+held_by_a_bang : in_bang (BangS id) ≡ id
+held_by_a_bang = refl
+
+innermost_name : shape_of (Also (codes "x") (Wide 1) (Also (codes "x") (Wide 2) Nothing)) (codes "x") ≡ Wide 1
+innermost_name = refl
+
+outer_name : shape_of (Also (codes "x") (Wide 1) (Also (codes "y") (Wide 2) Nothing)) (codes "y") ≡ Wide 2
+outer_name = refl
+
+a_table_is_one_wide : table_shapes worked_tables ≡ Also (codes "people") (Wide 1) Nothing
+a_table_is_one_wide = refl
+
+-- a term under names, visited at depth 1 with five depths left: its shape, and the turns, depth and width
+
+abbrev under : Shapes
+under = Also (codes "b") (Wide 2) (Also (codes "a") (Wide 1) Nothing)
+
+abbrev a : Term
+a = at nowhere (VarE (codes "a"))
+
+abbrev b : Term
+b = at nowhere (VarE (codes "b"))
+
+abbrev Visits : Term → Shape → ℕ → ℕ → ℕ → Type 0
+Visits t r turns depth width = walk 5 1 under t start ≡ Shaped r (record { turns = turns; depth = depth; width = width })
+
+-- leaves
+
+a_name : Visits b (Wide 2) 1 1 2
+a_name = refl
+
+a_number : Visits (at nowhere (NumE (pos 7))) (Wide 0) 1 1 0
+a_number = refl
+
+a_text : Visits (at nowhere (TextE (codes "t"))) (Wide 0) 1 1 0
+a_text = refl
+
+a_unit : Visits (at nowhere UnitE) (Wide 0) 1 1 0
+a_unit = refl
+
+-- the body of a function isn't visited where the function stands
+
+a_fun : Visits (at nowhere (FunE (codes "x") nowhere NumT b)) (FunS (codes "x") b under) 1 1 0
+a_fun = refl
+
+a_fn : Visits (at nowhere (FnE (codes "x") nowhere NumT b)) (FnS (codes "x") b under) 1 1 0
+a_fn = refl
+
+-- one part, one deeper
+
+a_first : Visits (at nowhere (FstE b)) (Wide 2) 2 2 2
+a_first = refl
+
+a_second : Visits (at nowhere (SndE b)) (Wide 2) 2 2 2
+a_second = refl
+
+an_inl : Visits (at nowhere (InlE nowhere UnitT b)) (Wide 2) 2 2 2
+an_inl = refl
+
+an_inr : Visits (at nowhere (InrE nowhere UnitT b)) (Wide 2) 2 2 2
+an_inr = refl
+
+a_bang : Visits (at nowhere (BangE (Fin 2 1) b)) (Wide 2) 2 2 2
+a_bang = refl
+
+a_multiple : Visits (at nowhere (TimesE (pos 3) b)) (Wide 0) 2 2 2
+a_multiple = refl
+
+a_clip : Visits (at nowhere (ClipE (pos 0) (pos 9) b)) (Wide 0) 2 2 2
+a_clip = refl
+
+a_least : Visits (at nowhere (LeastE b)) (Wide 0) 2 2 2
+a_least = refl
+
+a_greatest : Visits (at nowhere (GreatestE b)) (Wide 0) 2 2 2
+a_greatest = refl
+
+a_size : Visits (at nowhere (SizeE b)) (Wide 0) 2 2 2
+a_size = refl
+
+a_sum : Visits (at nowhere (SumE (pos 0) (pos 9) b)) (Wide 0) 2 2 2
+a_sum = refl
+
+-- two parts, both one deeper
+
+a_pair : Visits (at nowhere (PairE a b)) (Wide 2) 3 2 2
+a_pair = refl
+
+a_with : Visits (at nowhere (WithE b a)) (Wide 2) 3 2 2
+a_with = refl
+
+an_addition : Visits (at nowhere (PlusE a b)) (Wide 0) 3 2 2
+an_addition = refl
+
+a_subtraction : Visits (at nowhere (MinusE a b)) (Wide 0) 3 2 2
+a_subtraction = refl
+
+an_at_most : Visits (at nowhere (LeE a b)) (Wide 0) 3 2 2
+an_at_most = refl
+
+an_equal : Visits (at nowhere (EqE a b)) (Wide 0) 3 2 2
+an_equal = refl
+
+-- widths of a union add up, and where it is the widest it is kept
+a_union : Visits (at nowhere (UnionE a b)) (Wide 3) 3 2 3
+a_union = refl
+
+-- names bound
+
+a_let : Visits (at nowhere (LetE (codes "x") b (at nowhere (VarE (codes "x"))))) (Wide 2) 3 2 2
+a_let = refl
+
+a_let_bang : Visits (at nowhere (LetBangE (codes "x") b (at nowhere (VarE (codes "x"))))) (Wide 2) 3 2 2
+a_let_bang = refl
+
+-- `let (x, y) = (a, fun (z : num) => z) in x`: the first name has the first half's shape
+abbrev z : Term
+z = at nowhere (VarE (codes "z"))
+
+abbrev unequal_pair : Term
+unequal_pair = at nowhere (PairE a (at nowhere (FunE (codes "z") nowhere NumT z)))
+
+a_let_pair_first : Visits (at nowhere (LetPairE (codes "x") (codes "y") unequal_pair (at nowhere (VarE (codes "x"))))) (Wide 1) 5 3 1
+a_let_pair_first = refl
+
+a_let_pair_second : Visits (at nowhere (LetPairE (codes "x") (codes "y") unequal_pair (at nowhere (VarE (codes "y"))))) (FunS (codes "z") z under) 5 3 1
+a_let_pair_second = refl
+
+-- where both names are the same, the second is the inner one
+a_let_pair_same : Visits (at nowhere (LetPairE (codes "x") (codes "x") unequal_pair (at nowhere (VarE (codes "x"))))) (FunS (codes "z") z under) 5 3 1
+a_let_pair_same = refl
+
+-- the condition, and then both branches; the result has the greater width
+
+an_if : Visits (at nowhere (IfE a (at nowhere (UnionE a b)) a)) (Wide 3) 6 3 3
+an_if = refl
+
+an_if_wide_at_last : Visits (at nowhere (IfE a a (at nowhere (UnionE a b)))) (Wide 3) 6 3 3
+an_if_wide_at_last = refl
+
+-- a condition's width isn't the result's
+an_if_over_a_wide_condition : Visits (at nowhere (IfE b a a)) (Wide 1) 4 2 2
+an_if_over_a_wide_condition = refl
+
+-- a case's names are as wide as its condition, in both branches
+a_case_left : Visits (at nowhere (CaseE b (codes "x") (at nowhere (VarE (codes "x"))) (codes "y") a)) (Wide 2) 4 2 2
+a_case_left = refl
+
+a_case_right : Visits (at nowhere (CaseE b (codes "x") a (codes "y") (at nowhere (VarE (codes "y"))))) (Wide 2) 4 2 2
+a_case_right = refl
+
+-- applications: the function, the argument, and the body, one deeper than the application
+
+abbrev x_twice : Term
+x_twice = at nowhere (UnionE (at nowhere (VarE (codes "x"))) (at nowhere (VarE (codes "x"))))
+
+an_application : Visits (at nowhere (AppE (at nowhere (FunE (codes "x") nowhere NumT x_twice)) b)) (Wide 4) 6 3 4
+an_application = refl
+
+an_unlimited_application : Visits (at nowhere (AppE (at nowhere (FnE (codes "x") nowhere NumT x_twice)) (at nowhere (BangE (Fin 2 1) b)))) (Wide 4) 7 3 4
+an_unlimited_application = refl
+
+-- a body keeps the names where the function stood: `let f = fun (x : num) => a in let a = b in f b`
+old_names : Visits (at nowhere (LetE (codes "f") (at nowhere (FunE (codes "x") nowhere NumT a)) (at nowhere (LetE (codes "a") b (at nowhere (AppE (at nowhere (VarE (codes "f"))) b)))))) (Wide 1) 8 4 2
+old_names = refl
+
+-- applied twice, a body is visited twice: `(f b, f b)` under `f`
+twice_applied : Visits (at nowhere (LetE (codes "f") (at nowhere (FunE (codes "x") nowhere NumT x_twice)) (at nowhere (PairE (at nowhere (AppE (at nowhere (VarE (codes "f"))) b)) (at nowhere (AppE (at nowhere (VarE (codes "f"))) b))))))
+    (Wide 4) 15 5 4
+twice_applied = refl
+
+-- a bag primitive: function, bag and then the function's body once with `G(0)`; the result is as wide as the bag
+
+abbrev x_more : Term
+x_more = at nowhere (PlusE (at nowhere (VarE (codes "x"))) (at nowhere (NumE (pos 1))))
+
+a_map : Visits (at nowhere (MapE (at nowhere (FnE (codes "x") nowhere NumT x_more)) b)) (Wide 2) 6 3 2
+a_map = refl
+
+a_filter : Visits (at nowhere (FilterE (at nowhere (FnE (codes "x") nowhere NumT x_more)) b)) (Wide 2) 6 3 2
+a_filter = refl
+
+a_split : Visits (at nowhere (SplitE (at nowhere (FnE (codes "x") nowhere NumT x_more)) b)) (Wide 2) 6 3 2
+a_split = refl
+
+-- the body's width isn't the result's, but it is met
+a_wide_body : Visits (at nowhere (MapE (at nowhere (FnE (codes "x") nowhere NumT b)) a)) (Wide 1) 4 2 2
+a_wide_body = refl
+
+-- whole programs
+
+counts_of_halves : Plans split_in_halves 12 4 1
+unfolding depth_limit
+counts_of_halves = (Wide 0, refl)
+
+a_bang_undone : Plans bang_undone 5 4 1
+unfolding depth_limit
+a_bang_undone = (Wide 0, refl)
+
+unused_branches : Plans unused_names 6 4 1
+unfolding depth_limit
+unused_branches = (Wide 0, refl)
+
+-- limits
+
+-- n times `least` over a number, at (n, n + 1); the number is at (0, 0)
+abbrev nested : ℕ → Term
+nested zero = at (span 0 0) (NumE (pos 1))
+nested (suc n) = at (span n (suc n)) (LeastE (nested n))
+
+-- 128 visits below each other are within the depth, and the 129th is not
+just_deep : shape worked_tables (nested 127) ≡ Shaped (Wide 0) (record { turns = 128; depth = 128; width = 0 })
+unfolding depth_limit
+just_deep = refl
+
+too_deep : PassesLimit (nested 128) (TooDeep (span 0 0))
+unfolding depth_limit
+too_deep = refl
+
+too_deep_within : PassesLimit (nested 129) (TooDeep (span 0 1))
+unfolding depth_limit
+too_deep_within = refl
+
+-- after so many turns a term is visited, or not
+abbrev after : ℕ → Tally
+after n = record { turns = n; depth = 0; width = 0 }
+
+last_turn : walk 5 1 under (number_at 3 4 7) (after 19999) ≡ Shaped (Wide 0) (record { turns = 20000; depth = 1; width = 0 })
+last_turn = refl
+
+too_long : walk 5 1 under (number_at 3 4 7) (after 20000) ≡ Stops (TooLong (span 3 4))
+too_long = refl
+
+-- the second part is the first that is visited too late
+too_long_at_the_second : walk 5 1 under (at (span 0 5) (PlusE (number_at 0 1 7) (number_at 4 5 7))) (after 19998) ≡ Stops (TooLong (span 4 5))
+too_long_at_the_second = refl
+
+-- where both are passed at once, depth comes first
+too_deep_first : walk 0 1 under (number_at 3 4 7) (after 20000) ≡ Stops (TooDeep (span 3 4))
+too_deep_first = refl
+
+abbrev wide_names : ℕ → Shapes
+wide_names w = Also (codes "x") (Wide w) (Also (codes "y") (Wide 32) Nothing)
+
+abbrev wide_union : Term
+wide_union = at (span 0 9) (UnionE (name_at 6 7 (codes "x")) (name_at 8 9 (codes "y")))
+
+just_wide : walk 5 1 (wide_names 32) wide_union start ≡ Shaped (Wide 64) (record { turns = 3; depth = 2; width = 64 })
+just_wide = refl
+
+too_wide : walk 5 1 (wide_names 33) wide_union start ≡ Stops (TooWide (span 0 9) 65)
+too_wide = refl
+
+-- a union's parts are visited before it: the inner union stops, and then a part that is too deep
+inner_union_first : walk 5 1 (wide_names 33) (at (span 0 20) (UnionE (name_at 0 1 (codes "x")) wide_union)) start ≡ Stops (TooWide (span 0 9) 65)
+inner_union_first = refl
+
+depth_before_union : walk 1 1 (wide_names 33) wide_union start ≡ Stops (TooDeep (span 6 7))
+depth_before_union = refl
+
+-- the order of visits, by the first that comes a turn too late
+
+abbrev ordered_if : Term
+ordered_if = at (span 0 9) (IfE (name_at 1 2 (codes "a")) (number_at 3 4 7) (number_at 5 6 7))
+
+if_first_branch : walk 5 1 under ordered_if (after 19998) ≡ Stops (TooLong (span 3 4))
+if_first_branch = refl
+
+if_second_branch : walk 5 1 under ordered_if (after 19997) ≡ Stops (TooLong (span 5 6))
+if_second_branch = refl
+
+abbrev ordered_case : Term
+ordered_case = at (span 0 9) (CaseE (name_at 1 2 (codes "a")) (codes "x") (number_at 3 4 7) (codes "y") (number_at 5 6 7))
+
+case_first_branch : walk 5 1 under ordered_case (after 19998) ≡ Stops (TooLong (span 3 4))
+case_first_branch = refl
+
+case_second_branch : walk 5 1 under ordered_case (after 19997) ≡ Stops (TooLong (span 5 6))
+case_second_branch = refl
+
+abbrev ordered_application : Term
+ordered_application = at (span 0 9) (AppE (at (span 1 2) (FunE (codes "x") nowhere NumT (number_at 5 6 7))) (name_at 3 4 (codes "b")))
+
+argument_after_function : walk 5 1 under ordered_application (after 19998) ≡ Stops (TooLong (span 3 4))
+argument_after_function = refl
+
+body_after_argument : walk 5 1 under ordered_application (after 19997) ≡ Stops (TooLong (span 5 6))
+body_after_argument = refl
+
+abbrev ordered_map : Term
+ordered_map = at (span 0 9) (MapE (at (span 1 2) (FnE (codes "x") nowhere NumT (number_at 5 6 7))) (name_at 3 4 (codes "b")))
+
+bag_after_function : walk 5 1 under ordered_map (after 19998) ≡ Stops (TooLong (span 3 4))
+bag_after_function = refl
+
+body_after_bag : walk 5 1 under ordered_map (after 19997) ≡ Stops (TooLong (span 5 6))
+body_after_bag = refl
+
+-- an element has no width: a union over it in the body is as wide as the other side
+element_without_width : walk 5 1 under (at nowhere (MapE (at nowhere (FnE (codes "x") nowhere NumT (at nowhere (UnionE (at nowhere (VarE (codes "x"))) b)))) a)) start
+    ≡ Shaped (Wide 1) (record { turns = 6; depth = 3; width = 2 })
+element_without_width = refl
+
+-- a `fun` takes a bang whole, and an `fn` what it holds; so do `let` and `let !x`
+
+abbrev x : Term
+x = at nowhere (VarE (codes "x"))
+
+abbrev banged : Term
+banged = at nowhere (BangE (Fin 2 1) (at nowhere (FunE (codes "z") nowhere NumT z)))
+
+fun_of_a_bang : Visits (at nowhere (AppE (at nowhere (FunE (codes "x") nowhere NumT x)) banged)) (BangS (FunS (codes "z") z under)) 5 3 0
+fun_of_a_bang = refl
+
+fn_of_a_bang : Visits (at nowhere (AppE (at nowhere (FnE (codes "x") nowhere NumT x)) banged)) (FunS (codes "z") z under) 5 3 0
+fn_of_a_bang = refl
+
+let_of_a_bang : Visits (at nowhere (LetE (codes "x") banged x)) (BangS (FunS (codes "z") z under)) 4 3 0
+let_of_a_bang = refl
+
+let_bang_of_a_bang : Visits (at nowhere (LetBangE (codes "x") banged x)) (FunS (codes "z") z under) 4 3 0
+let_bang_of_a_bang = refl

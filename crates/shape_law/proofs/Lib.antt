@@ -1,0 +1,6 @@
+pub mod Fits
+pub mod Runs
+pub mod Kept
+pub mod Programs
+pub mod Worked
+mod Examples

@@ -1,0 +1,50 @@
+-- What the heights say of whole programs over tables.
+use Rattle.std.proofs.Common.{arith, refl, subst}
+use Rattle.std.specs.Prelude.{[], suc, zero, ℕ, ◌-◌, ◌∷◌, ◌≡◌, ◌≤◌}
+use Rattle.fz_ast.specs.Signature.{Signature, table_type}
+use Rattle.fz_ast.specs.Types.{NumT}
+use Rattle.linear_types.specs.Program.{context_of}
+use Rattle.metric_law.proofs.FlatTyping.{typed_ground}
+use Rattle.metric_law.proofs.Programs.{context_ok, typed_program}
+use Rattle.metric_values.specs.Tables.{Dataset, IsDataset, rows_of}
+use Rattle.metric_values.specs.Values.{BagV}
+use Rattle.shape_law.proofs.Fits.{FitsEnv, fits_also, fits_ground, fits_nothing}
+use Rattle.shape_law.proofs.Runs.{num_run, run}
+use Rattle.shape_law.proofs.Kept.{walk_keeps}
+use Rattle.shape_law.specs.Law.{Planned, ShapedProgramsRun, WalksHaveHeights}
+use Rattle.shape_law.specs.Walk.{Shaped, depth_limit, start, turn_limit, walk}
+use Rattle.shape_law.specs.ShapeIn.{ShapeIn}
+use Rattle.shape_law.specs.Shapes.{table_shapes}
+
+-- a table's rows fit its shape
+tables_fit : (ts : Signature) (X : Dataset) → IsDataset ts X → FitsEnv (table_shapes ts) (context_of ts) (rows_of ts X)
+tables_fit [] [] h = fits_nothing
+tables_fit [] (xs ∷ X) h = absurd h
+tables_fit (t ∷ ts) [] h = absurd h
+tables_fit (t ∷ ts) (xs ∷ X) h = fits_also (fits_ground tt (typed_ground (table_type t) (BagV xs) h.0)) (tables_fit ts X h.1)
+
+pub planned : Planned
+planned ts t D r s l a n p h X k =
+    let z = num_run (run n (context_of ts) (context_ok ts s) t NumT D (typed_program ts t D r l a) (table_shapes ts) (rows_of ts X) p (tables_fit ts X k) h) in
+    (z.0, z.1)
+
+from_first : (m : ℕ) → suc m - 1 ≡ m
+from_first m = omega arith
+
+pub heights : WalksHaveHeights
+heights left σ t s k h = go left h
+  where
+    go : (left : ℕ) → walk left 1 σ t start ≡ Shaped s k → ShapeIn k.depth σ t s × (k.depth ≤ left) × (k.turns ≤ turn_limit)
+    go zero h = cc
+    go (suc n) h =
+        let r = walk_keeps (suc n) (suc n) 1 (omega arith) σ t s start k h in
+        (subst (λ c. ShapeIn c σ t s) (from_first k.depth) (r.holds k.depth (omega arith)), omega (arith, r.later.shallow), omega (arith, r.later.short))
+
+pub shaped : ShapedProgramsRun
+shaped ts t D r l a p s k h =
+    let w = heights depth_limit (table_shapes ts) t s k h in
+    (w.1, w.2, λ X x. planned ts t D r l a p k.depth s w.0 X x)
+
+pub depth_limit_is : depth_limit ≡ 128
+unfolding depth_limit
+depth_limit_is = refl

@@ -1,0 +1,66 @@
+-- What the run without data computes with: shapes in the place of values.
+use Rattle.std.specs.Prelude.{ℕ, [], ◌∷◌, max, bytes_eq, cond}
+use Rattle.fz_ast.specs.Signature.{Signature}
+use Rattle.fz_ast.specs.Terms.{Name, Term}
+
+mutual
+  pub data Shape : Type 0 where
+    -- of a ground value: each bag in it is at most w tables wide
+    Wide : (w : ℕ) → Shape
+    PairS : (a b : Shape) → Shape
+    BangS : (a : Shape) → Shape
+    -- `fun (x : T) => e` with the shapes of its names
+    FunS : (x : Name) (e : Term) (σ : Shapes) → Shape
+    -- `fn (x : T) => e` alike
+    FnS : (x : Name) (e : Term) (σ : Shapes) → Shape
+
+  -- names with their shapes, the innermost first
+  pub data Shapes : Type 0 where
+    Nothing : Shapes
+    Also : (x : Name) (s : Shape) (σ : Shapes) → Shapes
+
+-- Where a shape isn't of the form that an accepted term's has, these give `Wide 0`. It never comes to that.
+
+-- the shape of the innermost x
+abbrev pub shape_of : Shapes → Name → Shape
+shape_of Nothing x = Wide 0
+shape_of (Also y s σ) x = cond (bytes_eq y x) s (shape_of σ x)
+
+abbrev pub width_of : Shape → ℕ
+width_of (Wide w) = w
+width_of s = 0
+
+-- the greater width
+abbrev pub wider : Shape → Shape → Shape
+wider a b = Wide (max (width_of a) (width_of b))
+
+-- a pair of ground values is ground
+abbrev pub pair_shape : Shape → Shape → Shape
+pair_shape (Wide a) (Wide b) = Wide (max a b)
+pair_shape a b = PairS a b
+
+abbrev pub first_half : Shape → Shape
+first_half (Wide w) = Wide w
+first_half (PairS a b) = a
+first_half s = Wide 0
+
+abbrev pub second_half : Shape → Shape
+second_half (Wide w) = Wide w
+second_half (PairS a b) = b
+second_half s = Wide 0
+
+-- a bang of a ground value is ground
+abbrev pub bang_shape : Shape → Shape
+bang_shape (Wide w) = Wide w
+bang_shape s = BangS s
+
+-- what a bang holds
+abbrev pub in_bang : Shape → Shape
+in_bang (Wide w) = Wide w
+in_bang (BangS s) = s
+in_bang s = Wide 0
+
+-- each table is as wide as itself
+abbrev pub table_shapes : Signature → Shapes
+table_shapes [] = Nothing
+table_shapes (t ∷ ts) = Also t.name (Wide 1) (table_shapes ts)

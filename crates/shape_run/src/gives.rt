@@ -1,0 +1,165 @@
+//! What a term gives, with the widest shape so far.
+ghost use Rattle.std.specs.Prelude.{◌≡◌, ◌+◌, ◌<◌, ◌≤◌, List, max};
+ghost use Rattle.fz_ast.specs.Terms.{Term, at};
+ghost use Rattle.shape_law.specs.Shapes.{Shape, bang_shape, first_half, pair_shape, second_half, width_of, wider};
+ghost use Rattle.shape_law.specs.Walk.{gives, turn, turn_limit, union};
+ghost use Rattle.shape_run.specs.Cells.{Grown, HasShape, HaveShapes, IsShape};
+ghost use Rattle.shape_run.specs.Rules.{Stands, part_in, part_shape};
+ghost use Rattle.shape_run.specs.Tells.{Tells, tally_of};
+
+use crate::store::{Count, Stop, Store};
+use fz_ast::{Form, Span, Unary};
+
+/// The shape in this cell.
+pub fn give(store: &Store, count: &mut Count, k: u32) -> Result<u32, Stop>
+    requires { HasShape store.now.cells.items k }
+    ensures { (N : List Term) (p : Shape) → IsShape N store.now.cells.items k p
+        → Tells N store.now.cells.items count.new result (gives p (tally_of count.old)) }
+{
+    count.width = count.width.max(store.width(k) as u32);
+    Ok(k)
+}
+
+/// The shape of a ground value.
+pub fn give_ground(store: &mut Store, count: &mut Count, width: u8) -> Result<u32, Stop>
+    ensures is { (N : List Term) → Tells N store.new.cells.items count.new result (gives (Rattle.shape_law.specs.Shapes.Wide width) (tally_of count.old)) }
+    ensures grown { Grown store.old.cells.items store.new.cells.items }
+{
+    let Ok(k) = store.ground(width) else {
+        return Err(Stop::NoMemory);
+    };
+    give(store, count, k)
+}
+
+/// The shape of a pair.
+pub fn give_pair(store: &mut Store, count: &mut Count, a: u32, b: u32) -> Result<u32, Stop>
+    requires { HaveShapes store.old.cells.items a b }
+    ensures is { (N : List Term) (p q : Shape) → IsShape N store.old.cells.items a p → IsShape N store.old.cells.items b q
+        → Tells N store.new.cells.items count.new result (gives (pair_shape p q) (tally_of count.old)) }
+    ensures grown { Grown store.old.cells.items store.new.cells.items }
+{
+    let Ok(k) = store.pair(a, b) else {
+        return Err(Stop::NoMemory);
+    };
+    give(store, count, k)
+}
+
+/// The shape of a pair's first half.
+pub fn give_first(store: &mut Store, count: &mut Count, a: u32) -> Result<u32, Stop>
+    requires { HasShape store.old.cells.items a }
+    ensures is { (N : List Term) (p : Shape) → IsShape N store.old.cells.items a p
+        → Tells N store.new.cells.items count.new result (gives (first_half p) (tally_of count.old)) }
+    ensures grown { Grown store.old.cells.items store.new.cells.items }
+{
+    let Ok(k) = store.first(a) else {
+        return Err(Stop::NoMemory);
+    };
+    give(store, count, k)
+}
+
+/// The shape of a pair's second half.
+pub fn give_second(store: &mut Store, count: &mut Count, a: u32) -> Result<u32, Stop>
+    requires { HasShape store.old.cells.items a }
+    ensures is { (N : List Term) (p : Shape) → IsShape N store.old.cells.items a p
+        → Tells N store.new.cells.items count.new result (gives (second_half p) (tally_of count.old)) }
+    ensures grown { Grown store.old.cells.items store.new.cells.items }
+{
+    let Ok(k) = store.second(a) else {
+        return Err(Stop::NoMemory);
+    };
+    give(store, count, k)
+}
+
+/// The shape of a bang.
+pub fn give_bang(store: &mut Store, count: &mut Count, a: u32) -> Result<u32, Stop>
+    requires { HasShape store.old.cells.items a }
+    ensures is { (N : List Term) (p : Shape) → IsShape N store.old.cells.items a p
+        → Tells N store.new.cells.items count.new result (gives (bang_shape p) (tally_of count.old)) }
+    ensures grown { Grown store.old.cells.items store.new.cells.items }
+{
+    let Ok(k) = store.bang(a) else {
+        return Err(Stop::NoMemory);
+    };
+    give(store, count, k)
+}
+
+/// The shape of a sum, of the width of its side.
+pub fn give_side(store: &mut Store, count: &mut Count, a: u32) -> Result<u32, Stop>
+    requires { HasShape store.old.cells.items a }
+    ensures is { (N : List Term) (p : Shape) → IsShape N store.old.cells.items a p
+        → Tells N store.new.cells.items count.new result (gives (Rattle.shape_law.specs.Shapes.Wide (width_of p)) (tally_of count.old)) }
+    ensures grown { Grown store.old.cells.items store.new.cells.items }
+{
+    let width = store.width(a);
+    give_ground(store, count, width)
+}
+
+/// The wider of two ground shapes.
+pub fn give_wider(store: &mut Store, count: &mut Count, a: u32, b: u32) -> Result<u32, Stop>
+    requires { HaveShapes store.old.cells.items a b }
+    ensures is { (N : List Term) (p q : Shape) → IsShape N store.old.cells.items a p → IsShape N store.old.cells.items b q
+        → Tells N store.new.cells.items count.new result (gives (wider p q) (tally_of count.old)) }
+    ensures grown { Grown store.old.cells.items store.new.cells.items }
+{
+    let width = store.width(a).max(store.width(b));
+    give_ground(store, count, width)
+}
+
+/// The part of a form of one part, in which no name is bound.
+pub fn part_of(form: &Form) -> Option<u32>
+    ensures { result ≡ part_in form.now }
+{
+    match form {
+        Form::Unary(_, e) => Some(*e),
+        Form::Times(_, e) => Some(*e),
+        Form::Ranged(_, _, _, e) => Some(*e),
+        Form::Inject(_, _, _, e) => Some(*e),
+        Form::Bang(_, e) => Some(*e),
+        _ => None,
+    }
+}
+
+/// What such a form makes of its part's shape.
+pub fn give_part(store: &mut Store, count: &mut Count, form: &Form, a: u32) -> Result<u32, Stop>
+    requires { HasShape store.old.cells.items a }
+    ensures is { (N : List Term) (p : Shape) → IsShape N store.old.cells.items a p
+        → Tells N store.new.cells.items count.new result (gives (part_shape form.now p) (tally_of count.old)) }
+    ensures grown { Grown store.old.cells.items store.new.cells.items }
+{
+    match form {
+        Form::Unary(Unary::Fst, _) => give_first(store, count, a),
+        Form::Unary(Unary::Snd, _) => give_second(store, count, a),
+        Form::Inject(_, _, _, _) => give_side(store, count, a),
+        Form::Bang(_, _) => give_bang(store, count, a),
+        _ => give_ground(store, count, 0),
+    }
+}
+
+/// The shape of the union at this span.
+pub fn give_union(
+    store: &mut Store,
+    count: &mut Count,
+    span: Span,
+    a: u32,
+    b: u32,
+) -> Result<u32, Stop>
+    requires { HaveShapes store.old.cells.items a b }
+    ensures is { (N : List Term) (p q : Shape) → IsShape N store.old.cells.items a p → IsShape N store.old.cells.items b q
+        → Tells N store.new.cells.items count.new result (union span p q (tally_of count.old)) }
+    ensures grown { Grown store.old.cells.items store.new.cells.items }
+{
+    let width = store.width(a) as u32 + store.width(b) as u32;
+    if width > 64 {
+        return Err(Stop::Wide(span, width));
+    }
+    give_ground(store, count, width as u8)
+}
+
+/// One turn more.
+pub fn take_turn(count: &mut Count, here: u32)
+    requires { count.old.turns < turn_limit }
+    ensures { tally_of count.new ≡ turn here (tally_of count.old) }
+{
+    count.turns += 1;
+    count.depth = count.depth.max(here);
+}
