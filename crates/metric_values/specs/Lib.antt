@@ -5,3 +5,8 @@ pub mod Pairing
 pub mod Distances
 pub mod Tables
 pub mod Laws
+pub mod Codes
+pub mod Limits
+pub mod Cells
+pub mod Columns
+pub mod Rows

@@ -1,7 +1,15 @@
-//! Values, and the distance of two.
+//! Tables in memory, values, and the distance of two.
 #![tactic(auto)]
 
 ghost use Rattle.metric_values.specs.Laws.{ApartSymmetric, ApartTriangle, ApartZeroIsSameRows, BagSymmetric, BagTriangle, BagZeroIsPermutation, RemovalLeavesLeast, Symmetric, Triangle, ZeroIsSame};
+
+pub mod column;
+pub mod table;
+pub mod texts;
+
+pub use column::{Cell, Column};
+pub use table::{Table, Tables};
+pub use texts::Texts;
 
 /// The distance of values is a metric up to the order of bags.
 pub fn distance_is_a_metric()

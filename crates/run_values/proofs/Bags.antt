@@ -1,36 +1,20 @@
 -- The elements of bags, by their places.
-use Rattle.std.proofs.Common.{◌≡◌, ℕ, zero, suc, ◌<◌, List, [], ◌∷◌, length, get_or, refl, ap, arith, ℤ, ◌∙◌, sym}
-use Rattle.metric_values.specs.Values.{UnitF, Value, NumV, value_of}
+use Rattle.std.proofs.Common.{◌≡◌, ℕ, zero, suc, ◌<◌, List, [], ◌∷◌, length, get_or, refl, ap, arith, ◌∙◌, sym}
+use Rattle.metric_values.specs.Values.{UnitF, Value, value_of}
 use Rattle.run_values.specs.Flats.{AllFlat, flats_of}
 use Rattle.run_values.specs.Parts.{elements}
-use Rattle.run_values.specs.Views.{number_rows}
-
-pub length_rows : (zs : List ℤ) → length (number_rows zs) ≡ length zs
-length_rows [] = refl
-length_rows (z ∷ zs) = ap suc (length_rows zs)
 
 pub length_flats : (vs : List Value) → length (flats_of vs) ≡ length vs
 length_flats [] = refl
 length_flats (v ∷ vs) = ap suc (length_flats vs)
-
-pub row_at : (d : ℤ) (zs : List ℤ) (i : ℕ) → i < length zs → value_of (get_or (number_rows zs) i UnitF) ≡ NumV (get_or zs i d)
-row_at d [] i h = absurd (omega arith)
-row_at d (z ∷ zs) zero h = refl
-row_at d (z ∷ zs) (suc i) h = row_at d zs i (omega arith)
 
 pub flat_at : (d : Value) (vs : List Value) (i : ℕ) → AllFlat vs → i < length vs → value_of (get_or (flats_of vs) i UnitF) ≡ get_or vs i d
 flat_at d [] i f h = absurd (omega arith)
 flat_at d (v ∷ vs) zero f h = f.0
 flat_at d (v ∷ vs) (suc i) f h = flat_at d vs i f.1 (omega arith)
 
-pub table_size : (v : Value) (zs : List ℤ) → elements v ≡ number_rows zs → length (elements v) ≡ length zs
-table_size v zs h = ap length h ∙ length_rows zs
-
 pub list_size : (v : Value) (vs : List Value) → elements v ≡ flats_of vs → length (elements v) ≡ length vs
 list_size v vs h = ap length h ∙ length_flats vs
-
-pub table_item : (v : Value) (zs : List ℤ) → elements v ≡ number_rows zs → (d : ℤ) (i : ℕ) → i < length zs → NumV (get_or zs i d) ≡ value_of (get_or (elements v) i UnitF)
-table_item v zs h d i l = sym (ap (λ xs. value_of (get_or xs i UnitF)) h ∙ row_at d zs i l)
 
 pub list_item : (v : Value) (vs : List Value) → elements v ≡ flats_of vs → AllFlat vs → (d : Value) (i : ℕ) → i < length vs → get_or vs i d ≡ value_of (get_or (elements v) i UnitF)
 list_item v vs h f d i l = sym (ap (λ xs. value_of (get_or xs i UnitF)) h ∙ flat_at d vs i f l)

@@ -7,9 +7,9 @@ use Rattle.metric_values.specs.Values.{Env}
 use Rattle.fz_ast.specs.Terms.{AppE, BangE, CaseE, ClipE, EqE, FilterE, FnE, FstE, FunE, GreatestE, IfE, InlE, InrE, LeE, LeastE, LetBangE, LetE}
 use Rattle.fz_ast.specs.Terms.{LetPairE, MapE, MinusE, NumE, PairE, PlusE, SizeE, SndE, SplitE, SumE, Term, TextE, TimesE, UnionE, UnitE, VarE, WithE, at}
 use Rattle.fz_ast.specs.TermNodes.{term_at}
-use Rattle.run_values.specs.Views.{form_view, function_of, IsSound}
+use Rattle.run_values.specs.Views.{form_view, function_of, IsValueForm}
 use Rattle.run_values.specs.declared.value.Form.{Form}
-use Rattle.run_values.specs.declared.value.Form.TheVariants.{Num, Text, Unit as One, Truth, Pair, Inl, Inr, Bang, Table, List as Items, Fun}
+use Rattle.run_values.specs.declared.value.Form.TheVariants.{Num, Text, Unit as One, Truth, Pair, Inl, Inr, Bang, Table, Row, Cell, List as Items, Fun}
 use Rattle.run_values.specs.declared.value.Scope.TheDeep.{deep-Form}
 use Rattle.run_values.specs.Flats.{flat_of, flats_of, AllFlat}
 use Rattle.run_values.specs.Sizes.{env_size, flat_size, flats_size, value_size}
@@ -68,7 +68,7 @@ function_falls : (t : Term) (γ : Env) → env_size γ + 1 ≤ value_size (funct
 function_falls t γ = omega (arith, function_sized t γ)
 
 -- no child of a form is as deep as what it stands for
-pub form_falls : (f : Form) → IsSound f → max (deep-Form f) 0 ≤ value_size (form_view f)
+pub form_falls : (f : Form) → IsValueForm f → max (deep-Form f) 0 ≤ value_size (form_view f)
 form_falls (Num z) h = omega arith
 form_falls (Text s) h = omega arith
 form_falls One h = omega arith
@@ -78,5 +78,7 @@ form_falls (Inl p) h = omega arith
 form_falls (Inr p) h = omega arith
 form_falls (Bang p) h = omega arith
 form_falls (Table t) h = omega arith
+form_falls (Row k i t) h = omega arith
+form_falls (Cell k i t) h = omega arith
 form_falls (Items p) h = omega (arith, items_fall p.value.items h)
 form_falls (Fun p) h = omega (arith, function_falls (term_at p.value.nodes.value.terms p.value.lambda) p.value.scope)

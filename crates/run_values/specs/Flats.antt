@@ -1,5 +1,5 @@
 -- The elements of bags as values.
-use Rattle.std.specs.Prelude.{◌≡◌, List, [], ◌∷◌}
+use Rattle.std.specs.Prelude.{◌≡◌, List, [], ◌∷◌, ⊤}
 use Rattle.metric_values.specs.Values.{Flat, NumF, TextF, UnitF, PairF, InlF, InrF, BangF, Value, NumV, TextV, UnitV, PairV, InlV, InrV, BangV}
 use Rattle.metric_values.specs.Values.{value_of}
 
@@ -23,5 +23,5 @@ abbrev pub IsFlat : Value → Type 0
 IsFlat v = value_of (flat_of v) ≡ v
 
 abbrev pub AllFlat : List Value → Type 0
-AllFlat [] = Unit {0}
+AllFlat [] = ⊤
 AllFlat (v ∷ vs) = IsFlat v × AllFlat vs

@@ -1,6 +1,6 @@
 -- What stands inside a value, where there is one.
 use Rattle.std.specs.Prelude.{◌≡◌, ◌⊎◌, List, [], Option, Some, None, ℕ, ℤ, pos}
-use Rattle.metric_values.specs.Values.{Flat, Value, NumV, TextV, PairV, InlV, InrV, BangV, BagV, FunV, FnV, Env}
+use Rattle.metric_values.specs.Values.{Flat, Value, NumV, TextV, PairV, InlV, InrV, BangV, BagV, FunV, FnV, Env, Empty, Bind}
 use Rattle.fz_ast.specs.Terms.{Name, Term}
 
 abbrev pub number_in : Value → ℤ
@@ -36,14 +36,14 @@ elements v = []
 abbrev pub IsNum : Value → Type 0
 IsNum v = v ≡ NumV (number_in v)
 
-abbrev pub IsText : Value → Type 0
-IsText v = v ≡ TextV (text_in v)
+abbrev pub IsTextValue : Value → Type 0
+IsTextValue v = v ≡ TextV (text_in v)
 
 abbrev pub IsPair : Value → Type 0
 IsPair v = v ≡ PairV (first_in v) (second_in v)
 
-abbrev pub IsBang : Value → Type 0
-IsBang v = v ≡ BangV (banged_in v)
+abbrev pub IsBangValue : Value → Type 0
+IsBangValue v = v ≡ BangV (banged_in v)
 
 abbrev pub IsSum : Value → Type 0
 IsSum v = (v ≡ InlV (side_in v)) ⊎ (v ≡ InrV (side_in v))
@@ -55,6 +55,11 @@ pub data IsClosure : Value → Type 0 where
   is_fun : {x : Name} {e : Term} {γ : Env} → IsClosure (FunV x e γ)
   is_fn : {x : Name} {e : Term} {γ : Env} → IsClosure (FnV x e γ)
 
-abbrev pub number_of : Value → Option ℤ
-number_of (NumV z) = Some z
-number_of v = None
+abbrev pub number_or_none : Value → Option ℤ
+number_or_none (NumV z) = Some z
+number_or_none v = None
+
+-- the innermost name, if there is one, stands for w
+abbrev pub rebound : Env → Value → Env
+rebound Empty w = Empty
+rebound (Bind x v γ) w = Bind x w γ

@@ -1,22 +1,33 @@
 -- What the code's values and scopes stand for.
-use Rattle.std.specs.Prelude.{◌<◌, ℤ, List, [], ◌∷◌, length}
+use Rattle.std.specs.Prelude.{◌≡◌, ◌<◌, ℕ, suc, List, [], length, ⊤}
 use Rattle.fz_ast.specs.Names.{name_of, text_of}
 use Rattle.fz_ast.specs.Terms.{FnE, FunE, Name, Term, at}
 use Rattle.fz_ast.specs.TermNodes.{term_at}
 use Rattle.fz_ast.specs.declared.span.Span.{Span}
 use Rattle.fz_ast.specs.Types.{Ty}
-use Rattle.metric_values.specs.Values.{Flat, NumF, Value, NumV, TextV, UnitV, PairV, InlV, InrV, BangV, BagV, FunV, FnV, Env, Empty, Bind, truth}
-use Rattle.std.specs.Arc.{arc_value}
+use Rattle.metric_values.specs.Values.{Flat, TextF, Value, NumV, TextV, UnitV, PairV, InlV, InrV, BangV, BagV, FunV, FnV, Env, Empty, Bind, truth, value_of}
+use Rattle.metric_values.specs.Cells.{cell_at, columns_in, from_column, row_at}
 use Rattle.run_values.specs.Flats.{flats_of, AllFlat}
 use Rattle.run_values.specs.declared.value.Form.{Form}
-use Rattle.run_values.specs.declared.value.Form.TheVariants.{Num, Text, Unit as One, Truth, Pair, Inl, Inr, Bang, Table, List as Items, Fun}
+use Rattle.run_values.specs.declared.value.Form.TheVariants.{Num, Text, Unit as One, Truth, Pair, Inl, Inr, Bang, Table, Row, Cell, List as Items, Fun}
 use Rattle.run_values.specs.declared.value.Link.{Link}
 use Rattle.run_values.specs.declared.value.Link.TheVariants.{End, More}
 
--- the rows of a table of numbers
-abbrev pub number_rows : List ℤ → List Flat
-number_rows [] = []
-number_rows (z ∷ zs) = NumF z ∷ number_rows zs
+-- the bytes of a text
+abbrev pub bytes_in : Flat → List ℕ
+bytes_in (TextF s) = s
+bytes_in x = []
+
+-- the table has a text at this row and column
+pub record IsTextCell (rows : List Flat) (i k : ℕ) : Type 0 where
+  pub row : i < length rows
+  pub column : k < columns_in (row_at rows i)
+  pub text : cell_at k (row_at rows i) ≡ TextF (bytes_in (cell_at k (row_at rows i)))
+
+-- the row has a column behind this one
+pub record IsRowPart (rows : List Flat) (i k : ℕ) : Type 0 where
+  pub row : i < length rows
+  pub column : suc k < columns_in (row_at rows i)
 
 -- a function with what its names stand for
 abbrev pub function_of : Term → Env → Value
@@ -37,15 +48,19 @@ form_view (Pair p) = PairV p.value.first p.value.second
 form_view (Inl p) = InlV p.value
 form_view (Inr p) = InrV p.value
 form_view (Bang p) = BangV p.value
-form_view (Table t) = BagV (number_rows (arc_value t).items)
+form_view (Table t) = BagV t.value
+form_view (Row k i t) = PairV (value_of (cell_at k (row_at t.value i))) (value_of (from_column (suc k) (row_at t.value i)))
+form_view (Cell k i t) = TextV (bytes_in (cell_at k (row_at t.value i)))
 form_view (Items p) = BagV (flats_of p.value.items)
 form_view (Fun p) = function_of (term_at p.value.nodes.value.terms p.value.lambda) p.value.scope
 
--- a bag holds neither functions nor bags, and a closure's node is a function's
-abbrev pub IsSound : Form → Type 0
-IsSound (Items p) = AllFlat p.value.items
-IsSound (Fun p) = (p.value.lambda < length p.value.nodes.value.terms) × IsFunction (term_at p.value.nodes.value.terms p.value.lambda)
-IsSound form = Unit {0}
+-- parts of tables are there, a bag holds neither functions nor bags, and a closure's node is a function's
+abbrev pub IsValueForm : Form → Type 0
+IsValueForm (Row k i t) = IsRowPart t.value i k
+IsValueForm (Cell k i t) = IsTextCell t.value i k
+IsValueForm (Items p) = AllFlat p.value.items
+IsValueForm (Fun p) = (p.value.lambda < length p.value.nodes.value.terms) × IsFunction (term_at p.value.nodes.value.terms p.value.lambda)
+IsValueForm form = ⊤
 
 abbrev pub link_view : Link → Env
 link_view End = Empty

@@ -1,21 +1,23 @@
 //! Values are shared by counted references, and never lead back to themselves.
-ghost use Rattle.std.specs.Prelude.{◌≡◌, ◌<◌, ◌⊎◌, bytes_eq, length, IfOk, IsSome, IsTrue, Some};
+ghost use Rattle.std.specs.Prelude.{◌≡◌, ◌<◌, ◌⊎◌, bytes_eq, length, IfOk, IsSome, IsTrue, OnErr, OnOk, Some};
 ghost use Rattle.metric_law.specs.Means.{find};
-ghost use Rattle.std.specs.Arc.{arc_value};
 ghost use Rattle.std.proofs.Common.{get_or};
 ghost use Rattle.fz_ast.specs.Names.{name_of, text_of};
 ghost use Rattle.fz_ast.specs.TermNodes.{term_at};
 ghost use Rattle.metric_values.specs.Values.{NumV, TextV, UnitV, PairV, InlV, InrV, BangV, BagV, Empty, Bind, UnitF, truth, value_of};
-ghost use Rattle.run_values.specs.Flats.{AllFlat, flats_of};
-ghost use Rattle.run_values.specs.Parts.{IsBag, IsBang, IsClosure, IsNum, IsPair, IsSum, IsText, banged_in, elements, first_in, number_in, number_of};
-ghost use Rattle.run_values.specs.Parts.{second_in, side_in, text_in};
-ghost use Rattle.run_values.specs.Views.{IsFunction, function_of, number_rows};
+ghost use Rattle.run_values.specs.Flats.{AllFlat, flat_of, flats_of};
+ghost use Rattle.run_values.specs.Looks.{look_of};
+ghost use Rattle.run_values.specs.Parts.{IsBag, IsBangValue, IsClosure, IsNum, IsPair, IsSum, IsTextValue, banged_in, elements, first_in, number_in};
+ghost use Rattle.run_values.specs.Parts.{number_or_none, rebound, second_in, side_in, text_in};
+ghost use Rattle.metric_values.specs.Cells.{cell_at, columns_in, from_column, row_at};
+ghost use Rattle.run_values.specs.Views.{IsFunction, IsTextCell, bytes_in, function_of};
 
+use crate::look::{Look, Part, look_at_row};
 use fz_ast::{Name, NoMemory, Nodes, Text};
+use metric_values::{Cell, Table};
 use std::alloc::Global;
 use std::marker::Model;
 use std::rc::Rc;
-use std::sync::Arc;
 
 /// A value. A contract sees the definition's.
 #[cycle(value)]
@@ -37,7 +39,11 @@ pub enum Form {
     Inr(Rc<Value>),
     Bang(Rc<Value>),
     /// The rows of a table.
-    Table(Arc<Vec<i64>>),
+    Table(Rc<Table>),
+    /// A row of a table from a column on, which isn't the last: column, row.
+    Row(u16, u32, Rc<Table>),
+    /// A text of a table: column, row.
+    Cell(u16, u32, Rc<Table>),
     /// A bag that was made.
     List(Rc<Vec<Value>>),
     Fun(Rc<Closure>),
@@ -62,7 +68,6 @@ pub struct Closure {
 
 /// Names and what they stand for, the innermost first. A contract sees the definition's environment.
 #[cycle(value)]
-#[derive(Drop)]
 pub struct Scope {
     link: Link,
 }
@@ -91,11 +96,11 @@ impl Model for Value {
 
     ghost coded = { value_code };
 
-    ghost use Rattle.run_values.specs.Views.{form_view, IsSound};
+    ghost use Rattle.run_values.specs.Views.{form_view, IsValueForm};
 
     ghost view = { λ a. form_view a.form };
 
-    ghost invariant = { λ a. IsSound a.form };
+    ghost invariant = { λ a. IsValueForm a.form };
 
     ghost size = { value_size };
 
@@ -124,6 +129,31 @@ impl Model for Scope {
     ghost size_decreases = { λ a h. Prim.grind (arith) };
 }
 
+impl Drop for Scope {
+    // By a loop, so that long scopes take no stack.
+    #[cycle(value)]
+    fn drop(mut self) {
+        loop {
+            let Scope { link } = self;
+            match link {
+                Link::End => return,
+                Link::More(rc) => match Rc::into_inner(rc) {
+                    None => return,
+                    Some(frame) => {
+                        let Frame {
+                            name: _,
+                            value,
+                            outer,
+                        } = frame;
+                        drop(value);
+                        self = outer;
+                    }
+                },
+            }
+        }
+    }
+}
+
 // A value in a place of its own.
 fn shared(alloc: Global, value: Value) -> Result<Rc<Value>, NoMemory>
     ensures { IfOk result (λ rc. rc.value ≡ value) }
@@ -132,6 +162,46 @@ fn shared(alloc: Global, value: Value) -> Result<Rc<Value>, NoMemory>
         Ok(rc) => Ok(rc),
         Err(_) => Err(NoMemory),
     }
+}
+
+// The cell of a row and a column.
+fn cell(table: &Rc<Table>, i: u32, k: u16) -> Result<Value, NoMemory>
+    requires row { i < length table.now.value }
+    requires column { k < columns_in (row_at table.now.value i) }
+    ensures { IfOk result (λ v. v ≡ value_of (cell_at k (row_at table.now.value i))) }
+{
+    match table.cell(i, k as usize) {
+        Cell::Number(z) => Ok(Value::num(z)),
+        Cell::Text(_) => Ok(Value {
+            form: Form::Cell(k, i, table.clone()?),
+        }),
+    }
+}
+
+// The bytes of a text of a table.
+fn bytes_at(table: &Rc<Table>, i: u32, k: u16) -> &[u8]
+    requires { IsTextCell table.now.value i k }
+    ensures { result.now ≡ bytes_in (cell_at k (row_at table.now.value i)) }
+{
+    match table.cell(i, k as usize) {
+        Cell::Text(bytes) => bytes,
+        Cell::Number(_) => unreachable!(),
+    }
+}
+
+// What stands in a row from a column on.
+fn part(table: &Rc<Table>, i: usize, k: usize) -> Result<Value, NoMemory>
+    requires row { i < length table.now.value }
+    requires column { k < columns_in (row_at table.now.value i) }
+    ensures { IfOk result (λ v. v ≡ value_of (from_column k (row_at table.now.value i))) }
+{
+    let width = table.width();
+    if k + 1 == width {
+        return cell(table, i as u32, k as u16);
+    }
+    Ok(Value {
+        form: Form::Row(k as u16, i as u32, table.clone()?),
+    })
 }
 
 impl Value {
@@ -205,11 +275,14 @@ impl Value {
     }
 
     /// The bag of a table's rows.
-    pub fn table(numbers: Arc<Vec<i64>>) -> Value
-        ensures { result ≡ BagV (number_rows (arc_value numbers).items) }
+    pub fn table(alloc: Global, table: &Table) -> Result<Value, NoMemory>
+        ensures { IfOk result (λ v. v ≡ BagV table.now) }
     {
-        Value {
-            form: Form::Table(numbers),
+        match Rc::new(alloc, table.copy()?) {
+            Ok(rc) => Ok(Value {
+                form: Form::Table(rc),
+            }),
+            Err(_) => Err(NoMemory),
         }
     }
 
@@ -266,6 +339,8 @@ impl Value {
             Form::Inr(rc) => Form::Inr(rc.clone()?),
             Form::Bang(rc) => Form::Bang(rc.clone()?),
             Form::Table(rc) => Form::Table(rc.clone()?),
+            Form::Row(k, i, rc) => Form::Row(*k, *i, rc.clone()?),
+            Form::Cell(k, i, rc) => Form::Cell(*k, *i, rc.clone()?),
             Form::List(rc) => Form::List(rc.clone()?),
             Form::Fun(rc) => Form::Fun(rc.clone()?),
         };
@@ -283,16 +358,25 @@ impl Value {
         }
     }
 
-    /// Whether two texts have the same bytes.
-    pub fn same_text(&self, other: &Value) -> bool
-        requires text { IsText self.now }
-        requires other_text { IsText other.now }
-        ensures { result ≡ bytes_eq (text_in self.now) (text_in other.now) }
+    // The bytes of a text.
+    fn bytes(&self) -> &[u8]
+        requires { IsTextValue self.now }
+        ensures { result.now ≡ text_in self.now }
     {
-        match (&self.form, &other.form) {
-            (Form::Text(s), Form::Text(t)) => s.as_bytes() == t.as_bytes(),
+        match &self.form {
+            Form::Text(text) => text.as_bytes(),
+            Form::Cell(k, i, rc) => bytes_at(rc, *i, *k),
             _ => unreachable!(),
         }
+    }
+
+    /// Whether two texts have the same bytes.
+    pub fn same_text(&self, other: &Value) -> bool
+        requires text { IsTextValue self.now }
+        requires other_text { IsTextValue other.now }
+        ensures { result ≡ bytes_eq (text_in self.now) (text_in other.now) }
+    {
+        self.bytes() == other.bytes()
     }
 
     /// The first half of a pair.
@@ -302,6 +386,7 @@ impl Value {
     {
         match &self.form {
             Form::Pair(rc) => rc.first.copy(),
+            Form::Row(k, i, rc) => cell(rc, *i, *k),
             _ => unreachable!(),
         }
     }
@@ -313,13 +398,14 @@ impl Value {
     {
         match &self.form {
             Form::Pair(rc) => rc.second.copy(),
+            Form::Row(k, i, rc) => part(rc, *i as usize, *k as usize + 1),
             _ => unreachable!(),
         }
     }
 
     /// What a bang holds.
     pub fn banged(&self) -> Result<Value, NoMemory>
-        requires { IsBang self.now }
+        requires { IsBangValue self.now }
         ensures { IfOk result (λ v. v ≡ banged_in self.now) }
     {
         match &self.form {
@@ -373,7 +459,7 @@ impl Value {
         ensures { IfOk result (λ v. v ≡ value_of (get_or (elements self.now) i UnitF)) }
     {
         match &self.form {
-            Form::Table(rc) => Ok(Value::num(rc[i])),
+            Form::Table(rc) => part(rc, i, 0),
             Form::List(rc) => rc[i].copy(),
             _ => unreachable!(),
         }
@@ -397,6 +483,29 @@ impl Scope {
             Ok(rc) => Ok(Scope {
                 link: Link::More(rc),
             }),
+            Err(_) => Err(NoMemory),
+        }
+    }
+
+    /// The innermost name, if there is one, stands for another value from now on: in the same frame, where no closure holds it.
+    pub fn rebind(&mut self, alloc: Global, value: Value) -> Result<(), NoMemory>
+        ensures rebound { OnOk result (self.new ≡ rebound self.old value) }
+        ensures unchanged { OnErr result (self.new ≡ self.old) }
+    {
+        let Link::More(rc) = &mut self.link else {
+            return Ok(());
+        };
+        if let Some(frame) = Rc::get_mut(rc) {
+            frame.value = value;
+            return Ok(());
+        }
+        let outer = rc.outer.copy()?;
+        let name = rc.name;
+        match Rc::new(alloc, Frame { name, value, outer }) {
+            Ok(fresh) => {
+                *rc = fresh;
+                Ok(())
+            }
             Err(_) => Err(NoMemory),
         }
     }
@@ -450,11 +559,32 @@ impl Scope {
 impl Value {
     /// The number, if this is one.
     pub fn as_number(&self) -> Option<i64>
-        ensures { result ≡ number_of self.now }
+        ensures { result ≡ number_or_none self.now }
     {
         match &self.form {
             Form::Num(z) => Some(*z),
             _ => None,
+        }
+    }
+}
+
+impl Value {
+    /// The outermost form of an element.
+    pub fn look(&self) -> Look<'_>
+        ensures { look_of result ≡ flat_of self.now }
+    {
+        match &self.form {
+            Form::Num(z) => Look::Num(*z),
+            Form::Text(text) => Look::Text(text.as_bytes()),
+            Form::Cell(k, i, rc) => Look::Text(bytes_at(rc, *i, *k)),
+            Form::Truth(true) => Look::Inl(Part::Unit),
+            Form::Truth(false) => Look::Inr(Part::Unit),
+            Form::Pair(rc) => Look::Pair(Part::Whole(&rc.first), Part::Whole(&rc.second)),
+            Form::Row(k, i, rc) => look_at_row(rc, *i, *k as usize),
+            Form::Inl(rc) => Look::Inl(Part::Whole(rc)),
+            Form::Inr(rc) => Look::Inr(Part::Whole(rc)),
+            Form::Bang(rc) => Look::Bang(Part::Whole(rc)),
+            Form::Unit | Form::Table(_) | Form::List(_) | Form::Fun(_) => Look::Unit,
         }
     }
 }

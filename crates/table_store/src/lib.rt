@@ -76,6 +76,15 @@ impl Table {
     {
         self.numbers.as_slice()
     }
+
+    /// The number of each row, in the file's order, and nothing else of the table.
+    pub fn into_numbers(self) -> Vec<i64>
+        ensures numbers { result.items ≡ self }
+        ensures in_range { All IsCellNumber result.items }
+    {
+        let Table { numbers } = self;
+        numbers
+    }
 }
 
 /// Reads a file of CSV whose only column has this name.
@@ -133,6 +142,7 @@ mod tests {
                     assert_eq!(rt; Ok(table.numbers()), want);
                     assert_eq!(rt; table.len(), table.numbers().len());
                     assert_eq!(rt; table.is_empty(), table.len() == 0);
+                    assert_eq!(rt; Ok(table.into_numbers().as_slice()), want);
                 }
                 Err(fault) => assert_eq!(rt; Err(fault), want),
             }
