@@ -76,5 +76,10 @@ abbrev pub MeansIn : ℕ → Meaning
 MeansIn zero γ e v = ⊥
 MeansIn (suc n) γ (at s f) v = Rules (MeansIn n) γ f v
 
+-- the term has a number, by a derivation of at most this height
+pub record HasNumber (n : ℕ) (γ : Env) (t : Term) : Type 0 where
+  pub number : ℤ
+  pub does : MeansIn n γ t (NumV number)
+
 abbrev pub Means : Meaning
 Means γ e v = (n : ℕ) × MeansIn n γ e v

@@ -1,13 +1,13 @@
 -- The run without data at worked terms: each form's shape, turns, depth and width, what is visited in which order, and each limit on both sides.
-use Rattle.std.proofs.Common.{refl}
+use Rattle.std.proofs.Common.{ap, arith, refl}
 use Rattle.std.specs.Prelude.{ℕ, codes, pos, suc, zero, ◌≡◌}
-use Rattle.fz_frac.specs.Distance.{Fin}
+use Rattle.fz_frac.specs.Distance.{Fin, Inf}
 use Rattle.fz_ast.specs.Bare.{nowhere}
-use Rattle.fz_ast.specs.Terms.{AppE, BangE, CaseE, ClipE, EqE, FilterE, FnE, FstE, FunE, GreatestE, IfE, InlE, InrE, LeE, LeastE, LetBangE, LetE, LetPairE, MapE, MinusE, NumE, PairE, PlusE, SizeE, SndE, SplitE, SumE, Term, TextE, TimesE, UnionE, UnitE, VarE, WithE, at}
-use Rattle.fz_ast.specs.Types.{NumT, UnitT}
+use Rattle.fz_ast.specs.Terms.{AppE, BangE, CaseE, ClipE, EqE, FilterE, FnE, FstE, FunE, GreatestE, IfE, InlE, InrE, LeE, LeastE, LetBangE, LetE, LetPairE, MapE, MinusE, NumE, PairE, PlusE, SizeE, SndE, SplitE, SumE, Term, TextE, TimesE, UnionE, UnitE, VarE, WithE, TermForm, TrueE, FalseE, at}
+use Rattle.fz_ast.specs.Types.{BangT, NumT, UnitT}
 use Rattle.metric_law.specs.Worked.{name_at, number_at, span, split_in_halves, bang_undone, unused_names, worked_tables}
 use Rattle.shape_law.specs.Shapes.{Also, BangS, FnS, FunS, Nothing, PairS, Shape, Shapes, Wide, bang_shape, first_half, in_bang, pair_shape, second_half, shape_of, table_shapes, width_of, wider}
-use Rattle.shape_law.specs.Walk.{Shaped, Stops, Tally, TooDeep, TooLong, TooWide, depth_limit, shape, start, walk}
+use Rattle.shape_law.specs.Walk.{Shaped, Stops, Tally, WalkOutcome, TooDeep, TooLong, TooWide, depth_limit, shape, start, walk}
 use Rattle.shape_law.specs.Worked.{PassesLimit, Plans}
 
 -- words of shapes
@@ -305,6 +305,14 @@ inner_union_first = refl
 depth_before_union : walk 1 1 (wide_names 33) wide_union start ≡ Stops (TooDeep (span 6 7))
 depth_before_union = refl
 
+-- and a part that comes a turn too late
+turn_before_union : walk 5 1 (wide_names 33) wide_union (after 19998) ≡ Stops (TooLong (span 8 9))
+turn_before_union = refl
+
+-- the union comes as soon as its parts are done, before what stands behind it
+union_before_its_neighbour : walk 5 1 (wide_names 33) (at (span 0 30) (PairE wide_union (name_at 20 21 (codes "x")))) (after 19996) ≡ Stops (TooWide (span 0 9) 65)
+union_before_its_neighbour = refl
+
 -- the order of visits, by the first that comes a turn too late
 
 abbrev ordered_if : Term
@@ -367,3 +375,148 @@ let_of_a_bang = refl
 
 let_bang_of_a_bang : Visits (at nowhere (LetBangE (codes "x") banged x)) (FunS (codes "z") z under) 4 3 0
 let_bang_of_a_bang = refl
+
+-- n times `1 * ..` over a term
+abbrev multiples : ℕ → Term → Term
+multiples zero t = t
+multiples (suc n) t = at (span 0 0) (TimesE (pos 1) (multiples n t))
+
+-- n times let f = fun (x : num) => f (f x) in .., and then t
+abbrev twice_applied_in : ℕ → Term → Term
+twice_applied_in zero t = t
+twice_applied_in (suc n) t =
+    at (span 0 0) (LetE (codes "f") (at (span 0 0) (FunE (codes "x") nowhere NumT (at (span 0 0) (AppE (name_at 0 0 (codes "f")) (at (span 0 0) (AppE (name_at 0 0 (codes "f")) (name_at 0 0 (codes "x")))))))) (twice_applied_in n t))
+
+-- ten functions, the first of 34 nodes, each of the others twice the one before; the last is applied under so many multiples
+abbrev ten_functions : ℕ → Term
+ten_functions n =
+    at (span 0 0) (LetE (codes "f") (at (span 0 0) (FunE (codes "x") nowhere NumT (multiples 33 (name_at 7 8 (codes "x"))))) (twice_applied_in 9 (multiples n (at (span 0 0) (AppE (name_at 0 0 (codes "f")) (number_at 0 0 1))))))
+
+whole_just_long : Plans (ten_functions 14) 20000 77 0
+unfolding depth_limit
+whole_just_long = (Wide 0, refl)
+
+whole_too_long : PassesLimit (ten_functions 15) (TooLong (span 7 8))
+unfolding depth_limit
+whole_too_long = refl
+
+-- what an outcome tells, by which wrong claims are told apart
+
+abbrev turns_told : WalkOutcome → ℕ
+turns_told (Shaped r k) = k.turns
+turns_told (Stops f) = 0
+
+abbrev width_told : WalkOutcome → ℕ
+width_told (Shaped r k) = k.width
+width_told (Stops f) = 0
+
+-- `true` and `false` are two nodes each, at the one span
+
+a_true : Visits (TrueE nowhere) (Wide 0) 2 2 0
+a_true = refl
+
+a_false : Visits (FalseE nowhere) (Wide 0) 2 2 0
+a_false = refl
+
+true_is_not_one_turn : Visits (TrueE nowhere) (Wide 0) 1 1 0 → ⊥
+true_is_not_one_turn h = let told : 2 ≡ 1 = ap turns_told h in absurd (omega (arith, told))
+
+inside_of_true_is_too_deep : walk 1 1 under (TrueE (span 3 7)) start ≡ Stops (TooDeep (span 3 7))
+inside_of_true_is_too_deep = refl
+
+inside_of_false_is_too_long : walk 5 1 under (FalseE (span 3 8)) (after 19999) ≡ Stops (TooLong (span 3 8))
+inside_of_false_is_too_long = refl
+
+-- a case's condition is no part of its width
+a_case_over_a_wide_condition : Visits (at nowhere (CaseE b (codes "x") a (codes "y") a)) (Wide 1) 4 2 2
+a_case_over_a_wide_condition = refl
+
+not_as_wide_as_the_condition : Visits (at nowhere (CaseE b (codes "x") a (codes "y") a)) (Wide 2) 4 2 2 → ⊥
+not_as_wide_as_the_condition h = absurd (cc h)
+
+-- a bag primitive's function may be a `fun (x : ![inf] num)`, whose element is in a bang: no width, and held by none
+abbrev fun_of_elements : Term
+fun_of_elements = at nowhere (FunE (codes "x") nowhere (BangT Inf NumT) (at nowhere (LetBangE (codes "y") x (at nowhere (UnionE (at nowhere (VarE (codes "y"))) b)))))
+
+a_map_by_a_fun : Visits (at nowhere (MapE fun_of_elements a)) (Wide 1) 8 4 2
+a_map_by_a_fun = refl
+
+a_filter_by_a_fun : Visits (at nowhere (FilterE fun_of_elements a)) (Wide 1) 8 4 2
+a_filter_by_a_fun = refl
+
+a_split_by_a_fun : Visits (at nowhere (SplitE fun_of_elements a)) (Wide 1) 8 4 2
+a_split_by_a_fun = refl
+
+not_a_bang_of_a_bag : Visits (at nowhere (MapE fun_of_elements a)) (Wide 1) 8 4 3 → ⊥
+not_a_bang_of_a_bag h = let told : 2 ≡ 3 = ap width_told h in absurd (omega (arith, told))
+
+-- a union that is itself too deep or too late is told so, though it would be too wide, too
+
+union_too_deep : walk 0 1 (wide_names 33) wide_union start ≡ Stops (TooDeep (span 0 9))
+union_too_deep = refl
+
+union_too_long : walk 5 1 (wide_names 33) wide_union (after 20000) ≡ Stops (TooLong (span 0 9))
+union_too_long = refl
+
+union_too_deep_and_too_long : walk 0 1 (wide_names 33) wide_union (after 20000) ≡ Stops (TooDeep (span 0 9))
+union_too_deep_and_too_long = refl
+
+deep_union_is_not_told_wide : walk 0 1 (wide_names 33) wide_union start ≡ Stops (TooWide (span 0 9) 65) → ⊥
+deep_union_is_not_told_wide h = absurd (cc h)
+
+late_union_is_not_told_wide : walk 5 1 (wide_names 33) wide_union (after 20000) ≡ Stops (TooWide (span 0 9) 65) → ⊥
+late_union_is_not_told_wide h = absurd (cc h)
+
+-- a function that is never applied isn't refused for what is in its body: `let f = fun (z : num) => union x y in y`, and `.. in f y`
+
+abbrev wide_function : Term → Term
+wide_function body = at (span 0 40) (LetE (codes "f") (at (span 1 2) (FunE (codes "z") nowhere NumT wide_union)) body)
+
+never_applied : walk 5 1 (wide_names 33) (wide_function (name_at 30 31 (codes "y"))) start ≡ Shaped (Wide 32) (record { turns = 3; depth = 2; width = 32 })
+never_applied = refl
+
+once_applied : walk 5 1 (wide_names 33) (wide_function (at (span 30 33) (AppE (name_at 30 31 (codes "f")) (name_at 32 33 (codes "y"))))) start ≡ Stops (TooWide (span 0 9) 65)
+once_applied = refl
+
+never_applied_is_not_refused : walk 5 1 (wide_names 33) (wide_function (name_at 30 31 (codes "y"))) start ≡ Stops (TooWide (span 0 9) 65) → ⊥
+never_applied_is_not_refused h = absurd (cc h)
+
+-- forms of two parts: a limit at the second, and what the first is refused for before the second comes too late
+
+abbrev SecondIsLate : (Term → Term → TermForm) → Type 0
+SecondIsLate form = walk 5 1 under (at (span 0 5) (form (number_at 0 1 7) (number_at 4 5 7))) (after 19998) ≡ Stops (TooLong (span 4 5))
+
+abbrev FirstIsWide : (Term → Term → TermForm) → Type 0
+FirstIsWide form = walk 5 1 (wide_names 33) (at (span 0 30) (form wide_union (name_at 20 21 (codes "x")))) (after 19996) ≡ Stops (TooWide (span 0 9) 65)
+
+order_of_with : SecondIsLate (λ p q. WithE p q) × FirstIsWide (λ p q. WithE p q)
+order_of_with = (refl, refl)
+
+order_of_at_most : SecondIsLate (λ p q. LeE p q) × FirstIsWide (λ p q. LeE p q)
+order_of_at_most = (refl, refl)
+
+order_of_equal : SecondIsLate (λ p q. EqE p q) × FirstIsWide (λ p q. EqE p q)
+order_of_equal = (refl, refl)
+
+order_of_filter : SecondIsLate (λ p q. FilterE p q) × FirstIsWide (λ p q. FilterE p q)
+order_of_filter = (refl, refl)
+
+order_of_split : SecondIsLate (λ p q. SplitE p q) × FirstIsWide (λ p q. SplitE p q)
+order_of_split = (refl, refl)
+
+not_the_second_first : FirstIsWide (λ p q. LeE q p) → ⊥
+not_the_second_first h = absurd (cc h)
+
+-- and the body of the function after its bag
+
+abbrev BodyIsLate : (Term → Term → TermForm) → Type 0
+BodyIsLate form = walk 5 1 under (at (span 0 9) (form (at (span 1 2) (FnE (codes "x") nowhere NumT (number_at 5 6 7))) (name_at 3 4 (codes "b")))) (after 19997) ≡ Stops (TooLong (span 5 6))
+
+abbrev BagIsWide : (Term → Term → TermForm) → Type 0
+BagIsWide form = walk 5 1 (wide_names 33) (at (span 0 30) (form (at (span 10 12) (FnE (codes "x") nowhere NumT (number_at 11 12 7))) wide_union)) (after 19995) ≡ Stops (TooWide (span 0 9) 65)
+
+body_of_filter : BodyIsLate (λ p q. FilterE p q) × BagIsWide (λ p q. FilterE p q)
+body_of_filter = (refl, refl)
+
+body_of_split : BodyIsLate (λ p q. SplitE p q) × BagIsWide (λ p q. SplitE p q)
+body_of_split = (refl, refl)

@@ -6,7 +6,7 @@ use Rattle.fz_ast.specs.Terms.{AppE, BangE, CaseE, ClipE, EqE, FilterE, FnE, Fst
 use Rattle.fz_ast.specs.declared.span.Span.{Span}
 use Rattle.shape_law.specs.ShapeIn.{Enters, One, OverBag, ShapeIn, ShapeRules, Shaping, Two}
 use Rattle.shape_law.specs.Shapes.{Also, BangS, FnS, FunS, PairS, Shape, Shapes, Wide, bang_shape, first_half, in_bang, pair_shape, second_half, shape_of, width_of, wider}
-use Rattle.shape_law.specs.Walk.{Outcome, ShapeFault, Shaped, Stops, Tally, TooWide, Walk, enters, gives, next, one, over_bag, turn, turn_limit, two, union, walk, walk_rules, width_limit}
+use Rattle.shape_law.specs.Walk.{WalkOutcome, ShapeFault, Shaped, Stops, Tally, TooWide, Walk, enters, yields, next, after_part, over_bag, turn, turn_limit, after_parts, union, walk, walk_rules, width_limit}
 
 -- one tally after another, where no visit is deeper than D
 pub record Later (D : ℕ) (k k' : Tally) : Type 0 where
@@ -27,22 +27,22 @@ up_to h k = omega arith
 
 -- what an outcome that is a shape tells of its parts
 
-gives_is : (D : ℕ) (r s : Shape) (k k' : Tally) → gives r k ≡ Shaped s k' → (s ≡ r) × Later D k k'
-gives_is D r s k k' h =
+yields_is : (D : ℕ) (r s : Shape) (k k' : Tally) → yields r k ≡ Shaped s k' → (s ≡ r) × Later D k k'
+yields_is D r s k k' h =
     let e : s ≡ r = cc h in
     let t : k'.turns ≡ k.turns = cc h in
     let d : k'.depth ≡ k.depth = cc h in
     (e, record { deeper = omega (arith, d); shallow = omega (arith, d); short = omega (arith, t) })
 
-next_is : (o : Outcome) (f : Shape → Tally → Outcome) (s : Shape) (k' : Tally) → next o f ≡ Shaped s k' → (p : Shape) × (j : Tally) × (o ≡ Shaped p j) × (f p j ≡ Shaped s k')
+pub next_is : (o : WalkOutcome) (f : Shape → Tally → WalkOutcome) (s : Shape) (k' : Tally) → next o f ≡ Shaped s k' → (p : Shape) × (j : Tally) × (o ≡ Shaped p j) × (f p j ≡ Shaped s k')
 next_is (Shaped p j) f s k' h = (p, j, refl, h)
 next_is (Stops x) f s k' h = cc
 
 union_is : (D : ℕ) (u : Span) (p q s : Shape) (k k' : Tally) → union u p q k ≡ Shaped s k' → (s ≡ Wide (width_of p + width_of q)) × Later D k k'
 union_is D u p q s k k' h = go (nat_le (width_of p + width_of q) width_limit) h
   where
-    go : (b : Bool) → cond b (gives (Wide (width_of p + width_of q)) k) (Stops (TooWide u (width_of p + width_of q))) ≡ Shaped s k' → (s ≡ Wide (width_of p + width_of q)) × Later D k k'
-    go true h = gives_is D (Wide (width_of p + width_of q)) s k k' h
+    go : (b : Bool) → cond b (yields (Wide (width_of p + width_of q)) k) (Stops (TooWide u (width_of p + width_of q))) ≡ Shaped s k' → (s ≡ Wide (width_of p + width_of q)) × Later D k k'
+    go true h = yields_is D (Wide (width_of p + width_of q)) s k k' h
     go false h = cc
 
 -- W gives shapes by R
@@ -50,19 +50,19 @@ abbrev Keeps : ℕ → Walk → (ℕ → Shaping) → Type 0
 Keeps D W R = (σ : Shapes) (t : Term) (s : Shape) (k k' : Tally) → W σ t k ≡ Shaped s k' → Kept D (λ m. R m σ t s) k k'
 
 module _ (D : ℕ) (W : Walk) (R : ℕ → Shaping) (keeps : Keeps D W R) where
-  leaf : (r s : Shape) (k k' : Tally) → gives r k ≡ Shaped s k' → Kept D (λ m. s ≡ r) k k'
-  leaf r s k k' h = let g = gives_is D r s k k' h in record { later = g.1; holds = λ m l. g.0 }
+  leaf : (r s : Shape) (k k' : Tally) → yields r k ≡ Shaped s k' → Kept D (λ m. s ≡ r) k k'
+  leaf r s k k' h = let g = yields_is D r s k k' h in record { later = g.1; holds = λ m l. g.0 }
 
-  alone : (σ : Shapes) (e : Term) (f : Shape → Shape) (s : Shape) (k k' : Tally) → one W σ e k (λ p. gives (f p)) ≡ Shaped s k' → Kept D (λ m. One (R m) σ e f s) k k'
+  alone : (σ : Shapes) (e : Term) (f : Shape → Shape) (s : Shape) (k k' : Tally) → after_part W σ e k (λ p. yields (f p)) ≡ Shaped s k' → Kept D (λ m. One (R m) σ e f s) k k'
   alone σ e f s k k' h =
-      let i = next_is (W σ e k) (λ p. gives (f p)) s k' h in
+      let i = next_is (W σ e k) (λ p. yields (f p)) s k' h in
       let a = keeps σ e i.0 k i.1 i.2 in
-      let g = gives_is D (f i.0) s i.1 k' i.3 in
+      let g = yields_is D (f i.0) s i.1 k' i.3 in
       record { later = follows a.later g.1; holds = λ m l. (i.0, a.holds m (up_to g.1.deeper l), g.0) }
 
   -- two parts, and then what f makes of them
-  both : (σ : Shapes) (a b : Term) (f : Shape → Shape → Tally → Outcome) (P : Shape → Shape → ℕ → Type 0) (s : Shape) (k k' : Tally)
-      → ((p q : Shape) (j : Tally) → f p q j ≡ Shaped s k' → Kept D (P p q) j k') → two W σ a b k f ≡ Shaped s k' → Kept D (λ m. (p q : Shape) × R m σ a p × R m σ b q × P p q m) k k'
+  both : (σ : Shapes) (a b : Term) (f : Shape → Shape → Tally → WalkOutcome) (P : Shape → Shape → ℕ → Type 0) (s : Shape) (k k' : Tally)
+      → ((p q : Shape) (j : Tally) → f p q j ≡ Shaped s k' → Kept D (P p q) j k') → after_parts W σ a b k f ≡ Shaped s k' → Kept D (λ m. (p q : Shape) × R m σ a p × R m σ b q × P p q m) k k'
   both σ a b f P s k k' then h =
       let i = next_is (W σ a k) (λ p k. next (W σ b k) (f p)) s k' h in
       let x = keeps σ a i.0 k i.1 i.2 in
@@ -72,11 +72,11 @@ module _ (D : ℕ) (W : Walk) (R : ℕ → Shaping) (keeps : Keeps D W R) where
       let l = follows y.later z.later in
       record { later = follows x.later l; holds = λ m n. (i.0, j.0, x.holds m (up_to l.deeper n), y.holds m (up_to z.later.deeper n), z.holds m n) }
 
-  pair : (σ : Shapes) (a b : Term) (f : Shape → Shape → Shape) (s : Shape) (k k' : Tally) → two W σ a b k (λ p q. gives (f p q)) ≡ Shaped s k' → Kept D (λ m. Two (R m) σ a b f s) k k'
-  pair σ a b f s k k' h = both σ a b (λ p q. gives (f p q)) (λ p q m. s ≡ f p q) s k k' (λ p q j. leaf (f p q) s j k') h
+  pair : (σ : Shapes) (a b : Term) (f : Shape → Shape → Shape) (s : Shape) (k k' : Tally) → after_parts W σ a b k (λ p q. yields (f p q)) ≡ Shaped s k' → Kept D (λ m. Two (R m) σ a b f s) k k'
+  pair σ a b f s k k' h = both σ a b (λ p q. yields (f p q)) (λ p q m. s ≡ f p q) s k k' (λ p q j. leaf (f p q) s j k') h
 
   -- a part, and a body in which its shape is bound
-  bound : (σ : Shapes) (e b : Term) (τ : Shape → Shapes) (s : Shape) (k k' : Tally) → one W σ e k (λ p. W (τ p) b) ≡ Shaped s k' → Kept D (λ m. (p : Shape) × R m σ e p × R m (τ p) b s) k k'
+  bound : (σ : Shapes) (e b : Term) (τ : Shape → Shapes) (s : Shape) (k k' : Tally) → after_part W σ e k (λ p. W (τ p) b) ≡ Shaped s k' → Kept D (λ m. (p : Shape) × R m σ e p × R m (τ p) b s) k k'
   bound σ e b τ s k k' h =
       let i = next_is (W σ e k) (λ p. W (τ p) b) s k' h in
       let x = keeps σ e i.0 k i.1 i.2 in
@@ -85,16 +85,16 @@ module _ (D : ℕ) (W : Walk) (R : ℕ → Shaping) (keeps : Keeps D W R) where
 
   -- a condition, and two branches in which its shape may be bound
   branches : (σ : Shapes) (e a b : Term) (τ υ : Shape → Shapes) (s : Shape) (k k' : Tally)
-      → one W σ e k (λ c k. next (W (τ c) a k) (λ p k. next (W (υ c) b k) (λ q. gives (wider p q)))) ≡ Shaped s k'
+      → after_part W σ e k (λ c k. next (W (τ c) a k) (λ p k. next (W (υ c) b k) (λ q. yields (wider p q)))) ≡ Shaped s k'
       → Kept D (λ m. (c p q : Shape) × R m σ e c × R m (τ c) a p × R m (υ c) b q × (s ≡ wider p q)) k k'
   branches σ e a b τ υ s k k' h =
-      let i = next_is (W σ e k) (λ c k. next (W (τ c) a k) (λ p k. next (W (υ c) b k) (λ q. gives (wider p q)))) s k' h in
+      let i = next_is (W σ e k) (λ c k. next (W (τ c) a k) (λ p k. next (W (υ c) b k) (λ q. yields (wider p q)))) s k' h in
       let x = keeps σ e i.0 k i.1 i.2 in
-      let j = next_is (W (τ i.0) a i.1) (λ p k. next (W (υ i.0) b k) (λ q. gives (wider p q))) s k' i.3 in
+      let j = next_is (W (τ i.0) a i.1) (λ p k. next (W (υ i.0) b k) (λ q. yields (wider p q))) s k' i.3 in
       let y = keeps (τ i.0) a j.0 i.1 j.1 j.2 in
-      let l = next_is (W (υ i.0) b j.1) (λ q. gives (wider j.0 q)) s k' j.3 in
+      let l = next_is (W (υ i.0) b j.1) (λ q. yields (wider j.0 q)) s k' j.3 in
       let z = keeps (υ i.0) b l.0 j.1 l.1 l.2 in
-      let g = gives_is D (wider j.0 l.0) s l.1 k' l.3 in
+      let g = yields_is D (wider j.0 l.0) s l.1 k' l.3 in
       let zg = follows z.later g.1 in
       let yzg = follows y.later zg in
       record { later = follows x.later yzg; holds = λ m n. (i.0, j.0, l.0, x.holds m (up_to yzg.deeper n), y.holds m (up_to zg.deeper n), z.holds m (up_to g.1.deeper n), g.0) }
@@ -108,14 +108,14 @@ module _ (D : ℕ) (W : Walk) (R : ℕ → Shaping) (keeps : Keeps D W R) where
 
   over : (σ : Shapes) (f b : Term) (s : Shape) (k k' : Tally) → over_bag W σ f b k ≡ Shaped s k' → Kept D (λ m. OverBag (R m) σ f b s) k k'
   over σ f b s k k' h =
-      let r = both σ f b (λ c q k. next (enters W c (Wide 0) k) (λ r k. gives (Wide (width_of q)) k)) (λ c q m. (r : Shape) × Enters (R m) c (Wide 0) r × (s ≡ Wide (width_of q))) s k k' inside h in
+      let r = both σ f b (λ c q k. next (enters W c (Wide 0) k) (λ r k. yields (Wide (width_of q)) k)) (λ c q m. (r : Shape) × Enters (R m) c (Wide 0) r × (s ≡ Wide (width_of q))) s k k' inside h in
       record { later = r.later; holds = λ m n. let o = r.holds m n in (o.0, o.1, o.2, o.3, (o.4.0, o.4.1), o.4.2) }
     where
-      inside : (c q : Shape) (j : Tally) → next (enters W c (Wide 0) j) (λ r k. gives (Wide (width_of q)) k) ≡ Shaped s k' → Kept D (λ m. (r : Shape) × Enters (R m) c (Wide 0) r × (s ≡ Wide (width_of q))) j k'
+      inside : (c q : Shape) (j : Tally) → next (enters W c (Wide 0) j) (λ r k. yields (Wide (width_of q)) k) ≡ Shaped s k' → Kept D (λ m. (r : Shape) × Enters (R m) c (Wide 0) r × (s ≡ Wide (width_of q))) j k'
       inside c q j h =
-          let i = next_is (enters W c (Wide 0) j) (λ r k. gives (Wide (width_of q)) k) s k' h in
+          let i = next_is (enters W c (Wide 0) j) (λ r k. yields (Wide (width_of q)) k) s k' h in
           let x = entered c (Wide 0) i.0 j i.1 i.2 in
-          let g = gives_is D (Wide (width_of q)) s i.1 k' i.3 in
+          let g = yields_is D (Wide (width_of q)) s i.1 k' i.3 in
           record { later = follows x.later g.1; holds = λ m n. (i.0, x.holds m (up_to g.1.deeper n), g.0) }
 
   rules_keep : (σ : Shapes) (t : Term) (s : Shape) (k k' : Tally) → walk_rules W σ t k ≡ Shaped s k' → Kept D (λ m. ShapeRules (R m) σ t s) k k'
@@ -154,7 +154,7 @@ module _ (D : ℕ) (W : Walk) (R : ℕ → Shaping) (keeps : Keeps D W R) where
   rules_keep σ (at _ (SplitE f b)) s k k' h = over σ f b s k k' h
 
 -- a turn that isn't past the limit
-turn_is : (b : Bool) (f : ShapeFault) (o : Outcome) (s : Shape) (k' : Tally) → cond b (Stops f) o ≡ Shaped s k' → (b ≡ false) × (o ≡ Shaped s k')
+pub turn_is : (b : Bool) (f : ShapeFault) (o : WalkOutcome) (s : Shape) (k' : Tally) → cond b (Stops f) o ≡ Shaped s k' → (b ≡ false) × (o ≡ Shaped s k')
 turn_is true f o s k' h = cc
 turn_is false f o s k' h = (refl, h)
 

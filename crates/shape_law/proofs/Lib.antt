@@ -1,6 +1,7 @@
 pub mod Fits
 pub mod Runs
 pub mod Kept
+pub mod Widths
 pub mod Programs
 pub mod Worked
 mod Examples

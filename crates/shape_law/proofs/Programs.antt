@@ -11,7 +11,8 @@ use Rattle.metric_values.specs.Values.{BagV}
 use Rattle.shape_law.proofs.Fits.{FitsEnv, fits_also, fits_ground, fits_nothing}
 use Rattle.shape_law.proofs.Runs.{num_run, run}
 use Rattle.shape_law.proofs.Kept.{walk_keeps}
-use Rattle.shape_law.specs.Law.{Planned, ShapedProgramsRun, WalksHaveHeights}
+use Rattle.shape_law.proofs.Widths.{narrow_walk, tables_narrow}
+use Rattle.shape_law.specs.Law.{Planned, PlansAreWithinLimits, ShapedProgramsRun, WalksHaveHeights}
 use Rattle.shape_law.specs.Walk.{Shaped, depth_limit, start, turn_limit, walk}
 use Rattle.shape_law.specs.ShapeIn.{ShapeIn}
 use Rattle.shape_law.specs.Shapes.{table_shapes}
@@ -26,7 +27,7 @@ tables_fit (t ∷ ts) (xs ∷ X) h = fits_also (fits_ground tt (typed_ground (ta
 pub planned : Planned
 planned ts t D r s l a n p h X k =
     let z = num_run (run n (context_of ts) (context_ok ts s) t NumT D (typed_program ts t D r l a) (table_shapes ts) (rows_of ts X) p (tables_fit ts X k) h) in
-    (z.0, z.1)
+    record { number = z.0; does = z.1 }
 
 from_first : (m : ℕ) → suc m - 1 ≡ m
 from_first m = omega arith
@@ -42,8 +43,12 @@ heights left σ t s k h = go left h
 
 pub shaped : ShapedProgramsRun
 shaped ts t D r l a p s k h =
+    planned ts t D r l a p k.depth s (heights depth_limit (table_shapes ts) t s k h).0
+
+pub within_limits : PlansAreWithinLimits
+within_limits ts t s k h =
     let w = heights depth_limit (table_shapes ts) t s k h in
-    (w.1, w.2, λ X x. planned ts t D r l a p k.depth s w.0 X x)
+    record { deep = w.1; long = w.2; wide = (narrow_walk depth_limit 1 (table_shapes ts) t s start k (tables_narrow ts) (omega arith) h).1 }
 
 pub depth_limit_is : depth_limit ≡ 128
 unfolding depth_limit

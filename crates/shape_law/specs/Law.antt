@@ -1,22 +1,16 @@
 -- What is proved of the run without data.
-use Rattle.std.specs.Prelude.{ℕ, ◌≤◌, ◌≡◌, ℤ}
+use Rattle.std.specs.Prelude.{ℕ, ◌≤◌, ◌≡◌}
 use Rattle.fz_frac.specs.Distance.{Distance}
 use Rattle.fz_ast.specs.Limits.{TermLimits}
 use Rattle.fz_ast.specs.Signature.{IsSignature, Signature}
 use Rattle.fz_ast.specs.Terms.{Term}
 use Rattle.linear_types.specs.Program.{Accepted, sensitivity_of}
 use Rattle.linear_types.specs.Sensitivities.{Sensitivities}
-use Rattle.metric_values.specs.Tables.{IsDataset}
-use Rattle.metric_law.specs.Means.{MeansIn}
-use Rattle.metric_values.specs.Tables.{Dataset, rows_of}
-use Rattle.metric_values.specs.Values.{Env, NumV}
+use Rattle.metric_law.specs.Means.{HasNumber}
+use Rattle.metric_values.specs.Tables.{Dataset, IsDataset, rows_of}
 use Rattle.shape_law.specs.Shapes.{Shape, Shapes, table_shapes}
 use Rattle.shape_law.specs.ShapeIn.{ShapeIn}
-use Rattle.shape_law.specs.Walk.{Shaped, Tally, depth_limit, shape, start, turn_limit, walk}
-
--- the term has a number, by a derivation of at most this height
-abbrev pub HasNumber : ℕ → Env → Term → Type 0
-HasNumber n γ t = (z : ℤ) × MeansIn n γ t (NumV z)
+use Rattle.shape_law.specs.Walk.{Shaped, Tally, depth_limit, shape, start, turn_limit, walk, width_limit}
 
 -- where an accepted program has a shape by a walk of some height, it has a number on each dataset by a derivation no higher
 abbrev pub Planned : Type 0
@@ -24,15 +18,24 @@ Planned =
     (ts : Signature) (t : Term) (D : Sensitivities) (r : Distance) → IsSignature ts → TermLimits t → sensitivity_of ts t ≡ Accepted D r
     → (n : ℕ) (s : Shape) → ShapeIn n (table_shapes ts) t s → (X : Dataset) → IsDataset ts X → HasNumber n (rows_of ts X) t
 
--- a whole walk that stops nowhere is at most as high as the deepest visit that it tells, which is within the limit
+-- a whole walk that stops nowhere is at most as high as the deepest visit that it tells, which is within its depths
 abbrev pub WalksHaveHeights : Type 0
 WalksHaveHeights =
     (left : ℕ) (σ : Shapes) (t : Term) (s : Shape) (k : Tally) → walk left 1 σ t start ≡ Shaped s k
     → ShapeIn k.depth σ t s × (k.depth ≤ left) × (k.turns ≤ turn_limit)
 
+-- no limit is passed
+pub record IsWithinLimits (depth turns width : ℕ) : Type 0 where
+  pub deep : depth ≤ depth_limit
+  pub long : turns ≤ turn_limit
+  pub wide : width ≤ width_limit
+
+-- a program's run without data that stops nowhere is within the limits; no types are needed
+abbrev pub PlansAreWithinLimits : Type 0
+PlansAreWithinLimits = (ts : Signature) (t : Term) (s : Shape) (k : Tally) → shape ts t ≡ Shaped s k → IsWithinLimits k.depth k.turns k.width
+
 -- an accepted program with a shape has a number on each dataset by a derivation no higher than the depth that is told
 abbrev pub ShapedProgramsRun : Type 0
 ShapedProgramsRun =
     (ts : Signature) (t : Term) (D : Sensitivities) (r : Distance) → IsSignature ts → TermLimits t → sensitivity_of ts t ≡ Accepted D r
-    → (s : Shape) (k : Tally) → shape ts t ≡ Shaped s k
-    → (k.depth ≤ depth_limit) × (k.turns ≤ turn_limit) × ((X : Dataset) → IsDataset ts X → HasNumber k.depth (rows_of ts X) t)
+    → (s : Shape) (k : Tally) → shape ts t ≡ Shaped s k → (X : Dataset) → IsDataset ts X → HasNumber k.depth (rows_of ts X) t

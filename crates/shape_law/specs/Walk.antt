@@ -29,83 +29,83 @@ pub data ShapeFault : Type 0 where
   TooLong : (s : Span) → ShapeFault
   TooWide : (s : Span) (width : ℕ) → ShapeFault
 
-pub data Outcome : Type 0 where
-  Shaped : (r : Shape) (k : Tally) → Outcome
-  Stops : (f : ShapeFault) → Outcome
+pub data WalkOutcome : Type 0 where
+  Shaped : (r : Shape) (k : Tally) → WalkOutcome
+  Stops : (f : ShapeFault) → WalkOutcome
 
 -- a way to visit a term under names with shapes, after what came so far
 abbrev pub Walk : Type 0
-Walk = Shapes → Term → Tally → Outcome
+Walk = Shapes → Term → Tally → WalkOutcome
 
 -- and then, with the shape and what came so far
-abbrev pub next : Outcome → (Shape → Tally → Outcome) → Outcome
+abbrev pub next : WalkOutcome → (Shape → Tally → WalkOutcome) → WalkOutcome
 next (Shaped r k) f = f r k
 next (Stops x) f = Stops x
 
--- the term's own shape
-abbrev pub gives : Shape → Tally → Outcome
-gives r k = Shaped r (record k { width = max k.width (width_of r) })
+-- a term's own shape, whose width counts
+abbrev pub yields : Shape → Tally → WalkOutcome
+yields r k = Shaped r (record k { width = max k.width (width_of r) })
 
--- a part alone, and two parts
-abbrev pub one : Walk → Shapes → Term → Tally → (Shape → Tally → Outcome) → Outcome
-one W σ e k f = next (W σ e k) f
+-- what follows a part alone, and two parts
+abbrev pub after_part : Walk → Shapes → Term → Tally → (Shape → Tally → WalkOutcome) → WalkOutcome
+after_part W σ e k f = next (W σ e k) f
 
-abbrev pub two : Walk → Shapes → Term → Term → Tally → (Shape → Shape → Tally → Outcome) → Outcome
-two W σ a b k f = next (W σ a k) (λ p k. next (W σ b k) (f p))
+abbrev pub after_parts : Walk → Shapes → Term → Term → Tally → (Shape → Shape → Tally → WalkOutcome) → WalkOutcome
+after_parts W σ a b k f = next (W σ a k) (λ p k. next (W σ b k) (f p))
 
 -- the body of c under the argument u; an `fn` takes what the argument's bang holds
-abbrev pub enters : Walk → Shape → Shape → Tally → Outcome
+abbrev pub enters : Walk → Shape → Shape → Tally → WalkOutcome
 enters W (FunS x e σ) u k = W (Also x u σ) e k
 enters W (FnS x e σ) u k = W (Also x (in_bang u) σ) e k
-enters W c u k = gives (Wide 0) k
+enters W c u k = yields (Wide 0) k
 
 -- the function, the bag, and the function's body once
-abbrev pub over_bag : Walk → Shapes → Term → Term → Tally → Outcome
-over_bag W σ f b k = two W σ f b k (λ c q k. next (enters W c (Wide 0) k) (λ r k. gives (Wide (width_of q)) k))
+abbrev pub over_bag : Walk → Shapes → Term → Term → Tally → WalkOutcome
+over_bag W σ f b k = after_parts W σ f b k (λ c q k. next (enters W c (Wide 0) k) (λ r k. yields (Wide (width_of q)) k))
 
 -- the union at s of bags of these widths
-abbrev pub union : Span → Shape → Shape → Tally → Outcome
-union s p q k = cond (nat_le (width_of p + width_of q) width_limit) (gives (Wide (width_of p + width_of q)) k) (Stops (TooWide s (width_of p + width_of q)))
+abbrev pub union : Span → Shape → Shape → Tally → WalkOutcome
+union s p q k = cond (nat_le (width_of p + width_of q) width_limit) (yields (Wide (width_of p + width_of q)) k) (Stops (TooWide s (width_of p + width_of q)))
 
 -- what a term does after its own turn, W being the way to visit one deeper
 abbrev pub walk_rules : Walk → Walk
-walk_rules W σ (at s (VarE x)) k = gives (shape_of σ x) k
-walk_rules W σ (at s (NumE z)) k = gives (Wide 0) k
-walk_rules W σ (at s (TextE t)) k = gives (Wide 0) k
-walk_rules W σ (at s UnitE) k = gives (Wide 0) k
-walk_rules W σ (at s (PairE a b)) k = two W σ a b k (λ p q. gives (pair_shape p q))
-walk_rules W σ (at s (WithE a b)) k = two W σ a b k (λ p q. gives (pair_shape p q))
-walk_rules W σ (at s (FstE e)) k = one W σ e k (λ p. gives (first_half p))
-walk_rules W σ (at s (SndE e)) k = one W σ e k (λ p. gives (second_half p))
-walk_rules W σ (at s (LetPairE x y e b)) k = one W σ e k (λ p. W (Also y (second_half p) (Also x (first_half p) σ)) b)
-walk_rules W σ (at s (InlE u t e)) k = one W σ e k (λ p. gives (Wide (width_of p)))
-walk_rules W σ (at s (InrE u t e)) k = one W σ e k (λ p. gives (Wide (width_of p)))
+walk_rules W σ (at s (VarE x)) k = yields (shape_of σ x) k
+walk_rules W σ (at s (NumE z)) k = yields (Wide 0) k
+walk_rules W σ (at s (TextE t)) k = yields (Wide 0) k
+walk_rules W σ (at s UnitE) k = yields (Wide 0) k
+walk_rules W σ (at s (PairE a b)) k = after_parts W σ a b k (λ p q. yields (pair_shape p q))
+walk_rules W σ (at s (WithE a b)) k = after_parts W σ a b k (λ p q. yields (pair_shape p q))
+walk_rules W σ (at s (FstE e)) k = after_part W σ e k (λ p. yields (first_half p))
+walk_rules W σ (at s (SndE e)) k = after_part W σ e k (λ p. yields (second_half p))
+walk_rules W σ (at s (LetPairE x y e b)) k = after_part W σ e k (λ p. W (Also y (second_half p) (Also x (first_half p) σ)) b)
+walk_rules W σ (at s (InlE u t e)) k = after_part W σ e k (λ p. yields (Wide (width_of p)))
+walk_rules W σ (at s (InrE u t e)) k = after_part W σ e k (λ p. yields (Wide (width_of p)))
 -- both branches, with names as wide as the condition
 walk_rules W σ (at s (CaseE e x a y b)) k =
-    one W σ e k (λ c k. next (W (Also x (Wide (width_of c)) σ) a k) (λ p k. next (W (Also y (Wide (width_of c)) σ) b k) (λ q. gives (wider p q))))
-walk_rules W σ (at s (IfE e a b)) k = one W σ e k (λ c k. two W σ a b k (λ p q. gives (wider p q)))
-walk_rules W σ (at s (FunE x u t e)) k = gives (FunS x e σ) k
-walk_rules W σ (at s (FnE x u t e)) k = gives (FnS x e σ) k
-walk_rules W σ (at s (AppE f a)) k = two W σ f a k (enters W)
-walk_rules W σ (at s (BangE r e)) k = one W σ e k (λ p. gives (bang_shape p))
-walk_rules W σ (at s (LetBangE x e b)) k = one W σ e k (λ p. W (Also x (in_bang p) σ) b)
-walk_rules W σ (at s (LetE x e b)) k = one W σ e k (λ p. W (Also x p σ) b)
-walk_rules W σ (at s (PlusE a b)) k = two W σ a b k (λ p q. gives (Wide 0))
-walk_rules W σ (at s (MinusE a b)) k = two W σ a b k (λ p q. gives (Wide 0))
-walk_rules W σ (at s (TimesE n e)) k = one W σ e k (λ p. gives (Wide 0))
-walk_rules W σ (at s (LeE a b)) k = two W σ a b k (λ p q. gives (Wide 0))
-walk_rules W σ (at s (EqE a b)) k = two W σ a b k (λ p q. gives (Wide 0))
-walk_rules W σ (at s (ClipE lo hi e)) k = one W σ e k (λ p. gives (Wide 0))
-walk_rules W σ (at s (LeastE e)) k = one W σ e k (λ p. gives (Wide 0))
-walk_rules W σ (at s (GreatestE e)) k = one W σ e k (λ p. gives (Wide 0))
-walk_rules W σ (at s (SizeE e)) k = one W σ e k (λ p. gives (Wide 0))
-walk_rules W σ (at s (SumE lo hi e)) k = one W σ e k (λ p. gives (Wide 0))
-walk_rules W σ (at s (UnionE a b)) k = two W σ a b k (union s)
+    after_part W σ e k (λ c k. next (W (Also x (Wide (width_of c)) σ) a k) (λ p k. next (W (Also y (Wide (width_of c)) σ) b k) (λ q. yields (wider p q))))
+walk_rules W σ (at s (IfE e a b)) k = after_part W σ e k (λ c k. after_parts W σ a b k (λ p q. yields (wider p q)))
+walk_rules W σ (at s (FunE x u t e)) k = yields (FunS x e σ) k
+walk_rules W σ (at s (FnE x u t e)) k = yields (FnS x e σ) k
+walk_rules W σ (at s (AppE f a)) k = after_parts W σ f a k (enters W)
+walk_rules W σ (at s (BangE r e)) k = after_part W σ e k (λ p. yields (bang_shape p))
+walk_rules W σ (at s (LetBangE x e b)) k = after_part W σ e k (λ p. W (Also x (in_bang p) σ) b)
+walk_rules W σ (at s (LetE x e b)) k = after_part W σ e k (λ p. W (Also x p σ) b)
+walk_rules W σ (at s (PlusE a b)) k = after_parts W σ a b k (λ p q. yields (Wide 0))
+walk_rules W σ (at s (MinusE a b)) k = after_parts W σ a b k (λ p q. yields (Wide 0))
+walk_rules W σ (at s (TimesE n e)) k = after_part W σ e k (λ p. yields (Wide 0))
+walk_rules W σ (at s (LeE a b)) k = after_parts W σ a b k (λ p q. yields (Wide 0))
+walk_rules W σ (at s (EqE a b)) k = after_parts W σ a b k (λ p q. yields (Wide 0))
+walk_rules W σ (at s (ClipE lo hi e)) k = after_part W σ e k (λ p. yields (Wide 0))
+walk_rules W σ (at s (LeastE e)) k = after_part W σ e k (λ p. yields (Wide 0))
+walk_rules W σ (at s (GreatestE e)) k = after_part W σ e k (λ p. yields (Wide 0))
+walk_rules W σ (at s (SizeE e)) k = after_part W σ e k (λ p. yields (Wide 0))
+walk_rules W σ (at s (SumE lo hi e)) k = after_part W σ e k (λ p. yields (Wide 0))
+walk_rules W σ (at s (UnionE a b)) k = after_parts W σ a b k (union s)
 walk_rules W σ (at s (MapE f b)) k = over_bag W σ f b k
 walk_rules W σ (at s (FilterE f b)) k = over_bag W σ f b k
 walk_rules W σ (at s (SplitE f b)) k = over_bag W σ f b k
 
--- one turn more, at this depth
+-- after_part turn more, at this depth
 abbrev pub turn : ℕ → Tally → Tally
 turn here k = record { turns = suc k.turns; depth = max k.depth here; width = k.width }
 
@@ -118,5 +118,5 @@ abbrev pub start : Tally
 start = record { turns = 0; depth = 0; width = 0 }
 
 -- a whole program over the tables of a signature: the program's node has depth 1
-abbrev pub shape : Signature → Term → Outcome
+abbrev pub shape : Signature → Term → WalkOutcome
 shape ts t = walk depth_limit 1 (table_shapes ts) t start

@@ -2,7 +2,7 @@
 #![tactic(auto)]
 
 ghost use Rattle.metric_law.specs.Worked.{span, counted, filtered_and_mapped};
-ghost use Rattle.shape_law.specs.Law.{Planned, ShapedProgramsRun, WalksHaveHeights};
+ghost use Rattle.shape_law.specs.Law.{Planned, PlansAreWithinLimits, ShapedProgramsRun, WalksHaveHeights};
 ghost use Rattle.shape_law.specs.Walk.{TooWide};
 ghost use Rattle.shape_law.specs.Worked.{PassesLimit, Plans, doubled};
 
@@ -11,10 +11,11 @@ pub fn runs_are_planned()
     ensures { Planned }
 {}
 
-/// A walk that stops nowhere is as high as the deepest visit that it tells, and within the limits;
+/// A walk that stops nowhere is as high as the deepest visit that it tells, and no limit is passed;
 /// so an accepted program that has a shape has a number on each dataset by a derivation no higher.
 pub fn walks_are_high_enough()
     ensures heights { WalksHaveHeights }
+    ensures limits { PlansAreWithinLimits }
     ensures runs { ShapedProgramsRun }
 {}
 

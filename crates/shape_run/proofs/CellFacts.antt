@@ -4,7 +4,7 @@ use Rattle.std.proofs.lemmas.List.{append-nil, append_assoc}
 use Rattle.std.proofs.Common.{length-append}
 use Rattle.std.proofs.Math.ListN.{get_or-append}
 use Rattle.std.proofs.lemmas.Option.{get_or_from_slice_get, slice_get-get_or, slice_get_within}
-use Rattle.std.specs.Prelude.{bytes_eq, true, false, ◌&&◌, IfOk, List, Ok, Err, Result, Some, length, max, slice_get, suc, ℕ, ◌++◌, ◌+◌, ◌-◌, ◌<◌, ◌≡◌, ◌≤◌}
+use Rattle.std.specs.Prelude.{⊤, bytes_eq, true, false, ◌&&◌, IfOk, List, Ok, Err, Result, Some, length, max, slice_get, suc, ℕ, ◌++◌, ◌+◌, ◌-◌, ◌<◌, ◌≡◌, ◌≤◌}
 use Rattle.fz_ast.specs.Names.{name_of}
 use Rattle.fz_ast.specs.Terms.{Term}
 use Rattle.fz_ast.specs.TermNodes.{term_at}
@@ -143,7 +143,7 @@ pair_ground cs ds a b v w m r g h k e i =
 abbrev pub NotHalved : Cell → Type 0
 NotHalved (Ground w) = ⊥
 NotHalved (Pair a b) = ⊥
-NotHalved c = Unit {0}
+NotHalved c = ⊤
 
 pub unhalved : (cs : List Cell) (k : ℕ) (c : Cell) → slice_get cs k ≡ Some c → NotHalved c → (N : List Term) (r : Shape) → (p : Shape) × IsShape N cs k p × (r ≡ first_half p) → r ≡ Wide 0
 unhalved cs k c h n N r t = go c n (read N cs k t.0 c h t.1)
@@ -224,7 +224,7 @@ further N cs k σ x s r y z h e i = let t = frame_read N cs k σ x s r z h i in 
 abbrev pub NotHolding : Cell → Type 0
 NotHolding (Ground w) = ⊥
 NotHolding (Bang a) = ⊥
-NotHolding c = Unit {0}
+NotHolding c = ⊤
 
 pub not_holding : (c : Cell) → ((w : ℕ) → c ≡ Ground w → ⊥) → ((a : ℕ) → c ≡ Bang a → ⊥) → NotHolding c
 not_holding (Ground w) h k = h w refl

@@ -1,16 +1,15 @@
 -- The outcome of a visit from those of its parts.
-use denote.Enum.Declared.{tag_of}
-use Rattle.std.proofs.Common.{ap, arith, refl, subst, sym, inl, inr, ◌⊎◌, ◌∙◌}
+use Rattle.std.proofs.Common.{ap, arith, refl, subst, sym, ◌∙◌}
 use Rattle.std.proofs.lemmas.Bool.{le-leb, lt-leb}
-use Rattle.std.specs.Prelude.{⊤, List, Some, false, nat_le, suc, true, zero, ℕ, ◌+◌, ◌-◌, ◌<◌, ◌≡◌, ◌≤◌}
+use Rattle.std.specs.Prelude.{List, Some, false, nat_le, suc, true, zero, ℕ, ◌+◌, ◌-◌, ◌<◌, ◌≡◌, ◌≤◌}
 use Rattle.fz_ast.specs.Names.{name_of}
-use Rattle.fz_ast.specs.contracts.term.Form.{the_type}
 use Rattle.fz_ast.specs.Terms.{CaseE, IfE, LetBangE, LetE, LetPairE, Term, at, span_of}
 use Rattle.fz_ast.specs.TermNodes.{IsKnown, binary, term_of, term_at, unary}
 use Rattle.fz_ast.specs.Types.{Ty}
 use Rattle.fz_ast.specs.declared.name.Name.{Name}
 use Rattle.fz_ast.specs.declared.span.Span.{Span}
 use Rattle.fz_ast.specs.declared.term.Arrow.{Arrow}
+use Rattle.fz_ast.specs.declared.term.Arrow.TheVariants.{Fn as Unlimited, Fun as Linear}
 use Rattle.fz_ast.specs.declared.term.Binary.{Binary}
 use Rattle.fz_ast.specs.declared.term.Binary.TheVariants.{App, AtMost, Equal, Filter, Map, Minus, Pair as Both, Plus, Split, Union, With}
 use Rattle.fz_ast.specs.declared.term.Form.{Form}
@@ -20,16 +19,16 @@ use Rattle.fz_ast.specs.declared.term.Side.TheVariants.{Inl, Inr}
 use Rattle.fz_ast.specs.declared.term.Unary.{Unary}
 use Rattle.fz_ast.specs.declared.term.Unary.TheVariants.{Fst, Greatest, Least, Size, Snd}
 use Rattle.shape_law.specs.Shapes.{Also, Shape, Shapes, Wide, bang_shape, first_half, in_bang, second_half, width_of, wider}
-use Rattle.shape_law.specs.Walk.{Outcome, Shaped, Stops, Tally, TooLong, Walk, enters, gives, next, one, turn, turn_limit, two, walk, walk_rules}
+use Rattle.shape_law.specs.Walk.{WalkOutcome, Shaped, Stops, Tally, TooLong, Walk, enters, yields, next, after_part, turn, turn_limit, after_parts, walk, walk_rules}
 use Rattle.shape_run.proofs.CellFacts.{Reads}
-use Rattle.shape_run.specs.Rules.{beside, binary_rule, branches, over, part_in, part_shape, unary_shape}
-use Rattle.shape_run.specs.Tells.{IsStop}
+use Rattle.shape_run.specs.Rules.{HasBody, beside, branches, combined, leaf_shape, over, part_in, part_shape, unary_shape}
+use Rattle.shape_run.specs.Tells.{StopsAt}
 use Rattle.shape_run.specs.declared.store.Cell.{Cell}
 use Rattle.shape_run.specs.declared.store.Cell.TheVariants.{Bang, Fn, Frame, Fun, Ground, Pair}
-use Rattle.shape_run.specs.declared.store.Stop.{Stop}
-use Rattle.shape_run.specs.declared.store.Stop.TheVariants.{Deep, Long, NoMemory, Wide as Broad}
+use Rattle.shape_run.specs.declared.plan.ShapeFault.{ShapeFault}
+use Rattle.shape_run.specs.declared.plan.ShapeFault.TheVariants.{NoMemory, TooDeep as Deep, TooLong as Long, TooWide as Broad}
 
-pub to : (P : Outcome → Type 0) (o o' : Outcome) → o ≡ o' → P o' → P o
+pub to : (P : WalkOutcome → Type 0) (o o' : WalkOutcome) → o ≡ o' → P o' → P o
 to P o o' e x = subst P (sym e) x
 
 -- a node's tree
@@ -65,7 +64,7 @@ a_turn (suc left) here σ t k j z l e =
 
 -- two parts
 
-binary_path : (W : Walk) (σ : Shapes) (s : Span) (o : Binary) (a b : Term) (k : Tally) → walk_rules W σ (at s (binary o a b)) k ≡ two W σ a b k (binary_rule W s o)
+binary_path : (W : Walk) (σ : Shapes) (s : Span) (o : Binary) (a b : Term) (k : Tally) → walk_rules W σ (at s (binary o a b)) k ≡ after_parts W σ a b k (combined W s o)
 binary_path W σ s Both a b k = refl
 binary_path W σ s With a b k = refl
 binary_path W σ s App a b k = refl
@@ -78,26 +77,26 @@ binary_path W σ s Map a b k = refl
 binary_path W σ s Filter a b k = refl
 binary_path W σ s Split a b k = refl
 
-next_shaped : (o : Outcome) (f : Shape → Tally → Outcome) (p : Shape) (j : Tally) → o ≡ Shaped p j → next o f ≡ f p j
+next_shaped : (o : WalkOutcome) (f : Shape → Tally → WalkOutcome) (p : Shape) (j : Tally) → o ≡ Shaped p j → next o f ≡ f p j
 next_shaped o f p j h = ap (λ o. next o f) h
 
 -- what a node of two parts makes of them
 pub binary_then : (W : Walk) (σ : Shapes) (s : Span) (o : Binary) (a b t : Term) (k j l : Tally) (p q : Shape) → t ≡ at s (binary o a b) → W σ a k ≡ Shaped p j → W σ b j ≡ Shaped q l
-    → walk_rules W σ t k ≡ binary_rule W s o p q l
+    → walk_rules W σ t k ≡ combined W s o p q l
 binary_then W σ s o a b t k j l p q e h g =
-    ap (λ t. walk_rules W σ t k) e ∙ binary_path W σ s o a b k ∙ next_shaped (W σ a k) (λ p k. next (W σ b k) (binary_rule W s o p)) p j h ∙ next_shaped (W σ b j) (binary_rule W s o p) q l g
+    ap (λ t. walk_rules W σ t k) e ∙ binary_path W σ s o a b k ∙ next_shaped (W σ a k) (λ p k. next (W σ b k) (combined W s o p)) p j h ∙ next_shaped (W σ b j) (combined W s o p) q l g
 
-pub stopped : (x : Stop) (o : Outcome) (f : Shape → Tally → Outcome) → IsStop x o → IsStop x (next o f)
+pub stopped : (x : ShapeFault) (o : WalkOutcome) (f : Shape → Tally → WalkOutcome) → StopsAt x o → StopsAt x (next o f)
 stopped (Deep s) o f h = ap (λ o. next o f) h
 stopped (Long s) o f h = ap (λ o. next o f) h
 stopped (Broad s w) o f h = ap (λ o. next o f) h
 stopped NoMemory o f h = tt
 
-pub second_stops : (W : Walk) (σ : Shapes) (s : Span) (o : Binary) (a b t : Term) (k j : Tally) (p : Shape) (x : Stop) → t ≡ at s (binary o a b) → W σ a k ≡ Shaped p j → IsStop x (W σ b j) → IsStop x (walk_rules W σ t k)
+pub second_stops : (W : Walk) (σ : Shapes) (s : Span) (o : Binary) (a b t : Term) (k j : Tally) (p : Shape) (x : ShapeFault) → t ≡ at s (binary o a b) → W σ a k ≡ Shaped p j → StopsAt x (W σ b j) → StopsAt x (walk_rules W σ t k)
 second_stops W σ s o a b t k j p x e h g =
-    to (IsStop x) (walk_rules W σ t k) (next (W σ b j) (binary_rule W s o p))
-    (ap (λ t. walk_rules W σ t k) e ∙ binary_path W σ s o a b k ∙ next_shaped (W σ a k) (λ p k. next (W σ b k) (binary_rule W s o p)) p j h)
-    (stopped x (W σ b j) (binary_rule W s o p) g)
+    to (StopsAt x) (walk_rules W σ t k) (next (W σ b j) (combined W s o p))
+    (ap (λ t. walk_rules W σ t k) e ∙ binary_path W σ s o a b k ∙ next_shaped (W σ a k) (λ p k. next (W σ b k) (combined W s o p)) p j h)
+    (stopped x (W σ b j) (combined W s o p) g)
 
 -- let
 
@@ -107,7 +106,7 @@ let_then W σ s x a b t k j p e h = ap (λ t. walk_rules W σ t k) e ∙ next_sh
 -- a shape that is no function's
 
 pub no_function : (N : List Term) (cs : List Cell) (c : Cell) (W : Walk) (p q : Shape) (k : Tally) → ((x : Name) (e s : ℕ) → c ≡ Fun x e s → ⊥) → ((x : Name) (e s : ℕ) → c ≡ Fn x e s → ⊥) → Reads N cs c p
-    → enters W p q k ≡ gives (Wide 0) k
+    → enters W p q k ≡ yields (Wide 0) k
 no_function N cs (Ground w) W p q k f g h = ap (λ p. enters W p q k) h
 no_function N cs (Pair a b) W p q k f g h = ap (λ p. enters W p q k) h.4
 no_function N cs (Bang a) W p q k f g h = ap (λ p. enters W p q k) h.2
@@ -115,12 +114,9 @@ no_function N cs (Fun x e s) W p q k f g h = absurd (f x e s refl)
 no_function N cs (Fn x e s) W p q k f g h = absurd (g x e s refl)
 no_function N cs (Frame x s r) W p q k f g h = absurd h
 
-pub known_lambda : (m i n : ℕ) (f : Form) (o : Arrow) (x : Name) (u : Span) (t e : ℕ) → f ≡ Lambda o x u t e → IsKnown m i f → i < n → e < n
-known_lambda m i n f o x u t e h k l = let k' : IsKnown m i (Lambda o x u t e) = subst (IsKnown m i) h k in let y = k'.1 in omega arith
-
 -- one part
 
-unary_path : (W : Walk) (σ : Shapes) (s : Span) (o : Unary) (a : Term) (k : Tally) → walk_rules W σ (at s (unary o a)) k ≡ one W σ a k (λ p. gives (unary_shape o p))
+unary_path : (W : Walk) (σ : Shapes) (s : Span) (o : Unary) (a : Term) (k : Tally) → walk_rules W σ (at s (unary o a)) k ≡ after_part W σ a k (λ p. yields (unary_shape o p))
 unary_path W σ s Fst a k = refl
 unary_path W σ s Snd a k = refl
 unary_path W σ s Least a k = refl
@@ -128,14 +124,14 @@ unary_path W σ s Greatest a k = refl
 unary_path W σ s Size a k = refl
 
 -- a form of one part visits it
-pub part_path : (W : Walk) (σ : Shapes) (ty : ℕ → Ty) (part : ℕ → Term) (s : Span) (f : Form) (e : ℕ) (k : Tally) → part_in f ≡ Some e → walk_rules W σ (term_of ty part s f) k ≡ one W σ (part e) k (λ p. gives (part_shape f p))
-part_path W σ ty part s (Op o e') e k h = let i : e' ≡ e = cc h in unary_path W σ s o (part e') k ∙ ap (λ e. one W σ (part e) k (λ p. gives (unary_shape o p))) i
-part_path W σ ty part s (Times n e') e k h = let i : e' ≡ e = cc h in ap (λ e. one W σ (part e) k (λ p. gives (Wide 0))) i
-part_path W σ ty part s (Bounded Sum lo hi e') e k h = let i : e' ≡ e = cc h in ap (λ e. one W σ (part e) k (λ p. gives (Wide 0))) i
-part_path W σ ty part s (Bounded Clip lo hi e') e k h = let i : e' ≡ e = cc h in ap (λ e. one W σ (part e) k (λ p. gives (Wide 0))) i
-part_path W σ ty part s (Inject Inl u t e') e k h = let i : e' ≡ e = cc h in ap (λ e. one W σ (part e) k (λ p. gives (Wide (width_of p)))) i
-part_path W σ ty part s (Inject Inr u t e') e k h = let i : e' ≡ e = cc h in ap (λ e. one W σ (part e) k (λ p. gives (Wide (width_of p)))) i
-part_path W σ ty part s (Banged r e') e k h = let i : e' ≡ e = cc h in ap (λ e. one W σ (part e) k (λ p. gives (bang_shape p))) i
+pub part_path : (W : Walk) (σ : Shapes) (ty : ℕ → Ty) (part : ℕ → Term) (s : Span) (f : Form) (e : ℕ) (k : Tally) → part_in f ≡ Some e → walk_rules W σ (term_of ty part s f) k ≡ after_part W σ (part e) k (λ p. yields (part_shape f p))
+part_path W σ ty part s (Op o e') e k h = let i : e' ≡ e = cc h in unary_path W σ s o (part e') k ∙ ap (λ e. after_part W σ (part e) k (λ p. yields (unary_shape o p))) i
+part_path W σ ty part s (Times n e') e k h = let i : e' ≡ e = cc h in ap (λ e. after_part W σ (part e) k (λ p. yields (Wide 0))) i
+part_path W σ ty part s (Bounded Sum lo hi e') e k h = let i : e' ≡ e = cc h in ap (λ e. after_part W σ (part e) k (λ p. yields (Wide 0))) i
+part_path W σ ty part s (Bounded Clip lo hi e') e k h = let i : e' ≡ e = cc h in ap (λ e. after_part W σ (part e) k (λ p. yields (Wide 0))) i
+part_path W σ ty part s (Inject Inl u t e') e k h = let i : e' ≡ e = cc h in ap (λ e. after_part W σ (part e) k (λ p. yields (Wide (width_of p)))) i
+part_path W σ ty part s (Inject Inr u t e') e k h = let i : e' ≡ e = cc h in ap (λ e. after_part W σ (part e) k (λ p. yields (Wide (width_of p)))) i
+part_path W σ ty part s (Banged r e') e k h = let i : e' ≡ e = cc h in ap (λ e. after_part W σ (part e) k (λ p. yields (bang_shape p))) i
 part_path W σ ty part s (Var x) e k h = cc
 part_path W σ ty part s (Num z) e k h = cc
 part_path W σ ty part s (Text t) e k h = cc
@@ -167,20 +163,20 @@ part_known m i n (Case c x a y b) e h k l = cc
 part_known m i n (Lambda o x u t b) e h k l = cc
 
 pub part_then : (W : Walk) (σ : Shapes) (ty : ℕ → Ty) (N : List Term) (t : Term) (s : Span) (f : Form) (e : ℕ) (k j : Tally) (p : Shape) → t ≡ term_of ty (term_at N) s f → part_in f ≡ Some e → W σ (term_at N e) k ≡ Shaped p j
-    → walk_rules W σ t k ≡ gives (part_shape f p) j
-part_then W σ ty N t s f e k j p h i g = ap (λ t. walk_rules W σ t k) h ∙ part_path W σ ty (term_at N) s f e k i ∙ next_shaped (W σ (term_at N e) k) (λ p. gives (part_shape f p)) p j g
+    → walk_rules W σ t k ≡ yields (part_shape f p) j
+part_then W σ ty N t s f e k j p h i g = ap (λ t. walk_rules W σ t k) h ∙ part_path W σ ty (term_at N) s f e k i ∙ next_shaped (W σ (term_at N e) k) (λ p. yields (part_shape f p)) p j g
 
-pub part_stops : (W : Walk) (σ : Shapes) (ty : ℕ → Ty) (N : List Term) (t : Term) (s : Span) (f : Form) (e : ℕ) (k : Tally) (x : Stop) → t ≡ term_of ty (term_at N) s f → part_in f ≡ Some e → IsStop x (W σ (term_at N e) k) → IsStop x (walk_rules W σ t k)
+pub part_stops : (W : Walk) (σ : Shapes) (ty : ℕ → Ty) (N : List Term) (t : Term) (s : Span) (f : Form) (e : ℕ) (k : Tally) (x : ShapeFault) → t ≡ term_of ty (term_at N) s f → part_in f ≡ Some e → StopsAt x (W σ (term_at N e) k) → StopsAt x (walk_rules W σ t k)
 part_stops W σ ty N t s f e k x h i g =
-    to (IsStop x) (walk_rules W σ t k) (one W σ (term_at N e) k (λ p. gives (part_shape f p))) (ap (λ t. walk_rules W σ t k) h ∙ part_path W σ ty (term_at N) s f e k i) (stopped x (W σ (term_at N e) k) (λ p. gives (part_shape f p)) g)
+    to (StopsAt x) (walk_rules W σ t k) (after_part W σ (term_at N e) k (λ p. yields (part_shape f p))) (ap (λ t. walk_rules W σ t k) h ∙ part_path W σ ty (term_at N) s f e k i) (stopped x (W σ (term_at N e) k) (λ p. yields (part_shape f p)) g)
 
 -- a bag primitive
 
-pub over_then : (W : Walk) (c q r : Shape) (k j : Tally) → enters W c (Wide 0) k ≡ Shaped r j → over W c q k ≡ gives (Wide (width_of q)) j
-over_then W c q r k j h = next_shaped (enters W c (Wide 0) k) (λ r k. gives (Wide (width_of q)) k) r j h
+pub over_then : (W : Walk) (c q r : Shape) (k j : Tally) → enters W c (Wide 0) k ≡ Shaped r j → over W c q k ≡ yields (Wide (width_of q)) j
+over_then W c q r k j h = next_shaped (enters W c (Wide 0) k) (λ r k. yields (Wide (width_of q)) k) r j h
 
-pub over_stops : (W : Walk) (c q : Shape) (k : Tally) (x : Stop) → IsStop x (enters W c (Wide 0) k) → IsStop x (over W c q k)
-over_stops W c q k x h = stopped x (enters W c (Wide 0) k) (λ r k. gives (Wide (width_of q)) k) h
+pub over_stops : (W : Walk) (c q : Shape) (k : Tally) (x : ShapeFault) → StopsAt x (enters W c (Wide 0) k) → StopsAt x (over W c q k)
+over_stops W c q k x h = stopped x (enters W c (Wide 0) k) (λ r k. yields (Wide (width_of q)) k) h
 
 -- let !x
 
@@ -231,58 +227,67 @@ case_then W σ s x y c a b t k j p e h = ap (λ t. walk_rules W σ t k) e ∙ ne
 
 -- two branches
 
-pub branches_then : (W : Walk) (σ τ : Shapes) (a b : Term) (k j l : Tally) (p q : Shape) → W σ a k ≡ Shaped p j → W τ b j ≡ Shaped q l → branches W σ a τ b k ≡ gives (wider p q) l
+pub branches_then : (W : Walk) (σ τ : Shapes) (a b : Term) (k j l : Tally) (p q : Shape) → W σ a k ≡ Shaped p j → W τ b j ≡ Shaped q l → branches W σ a τ b k ≡ yields (wider p q) l
 branches_then W σ τ a b k j l p q h g =
-    next_shaped (W σ a k) (λ p k. next (W τ b k) (λ q. gives (wider p q))) p j h ∙ next_shaped (W τ b j) (λ q. gives (wider p q)) q l g
+    next_shaped (W σ a k) (λ p k. next (W τ b k) (λ q. yields (wider p q))) p j h ∙ next_shaped (W τ b j) (λ q. yields (wider p q)) q l g
 
-pub first_branch_stops : (W : Walk) (σ τ : Shapes) (a b : Term) (k : Tally) (x : Stop) → IsStop x (W σ a k) → IsStop x (branches W σ a τ b k)
-first_branch_stops W σ τ a b k x h = stopped x (W σ a k) (λ p k. next (W τ b k) (λ q. gives (wider p q))) h
+pub first_branch_stops : (W : Walk) (σ τ : Shapes) (a b : Term) (k : Tally) (x : ShapeFault) → StopsAt x (W σ a k) → StopsAt x (branches W σ a τ b k)
+first_branch_stops W σ τ a b k x h = stopped x (W σ a k) (λ p k. next (W τ b k) (λ q. yields (wider p q))) h
 
-pub second_branch_stops : (W : Walk) (σ τ : Shapes) (a b : Term) (k j : Tally) (p : Shape) (x : Stop) → W σ a k ≡ Shaped p j → IsStop x (W τ b j) → IsStop x (branches W σ a τ b k)
+pub second_branch_stops : (W : Walk) (σ τ : Shapes) (a b : Term) (k j : Tally) (p : Shape) (x : ShapeFault) → W σ a k ≡ Shaped p j → StopsAt x (W τ b j) → StopsAt x (branches W σ a τ b k)
 second_branch_stops W σ τ a b k j p x h g =
-    to (IsStop x) (branches W σ a τ b k) (next (W τ b j) (λ q. gives (wider p q)))
-    (next_shaped (W σ a k) (λ p k. next (W τ b k) (λ q. gives (wider p q))) p j h)
-    (stopped x (W τ b j) (λ q. gives (wider p q)) g)
+    to (StopsAt x) (branches W σ a τ b k) (next (W τ b j) (λ q. yields (wider p q)))
+    (next_shaped (W σ a k) (λ p k. next (W τ b k) (λ q. yields (wider p q))) p j h)
+    (stopped x (W τ b j) (λ q. yields (wider p q)) g)
 
--- a form that the walk's other arms leave over has one part
+-- a form that the walk's other arms leave over visits nothing
 
-abbrev pub IsLeft : ℕ → Type 0
-IsLeft k = (k ≡ 4) ⊎ ((k ≡ 6) ⊎ ((k ≡ 7) ⊎ ((k ≡ 8) ⊎ (k ≡ 9))))
+pub leaf_known : (m i n : ℕ) (f : Form) → IsKnown m i f → i < n → HasBody n f
+leaf_known m i n (Lambda o x u t e) k l = let y = k.1 in omega arith
+leaf_known m i n (Op o e) k l = tt
+leaf_known m i n (Times k' e) k l = tt
+leaf_known m i n (Bounded o lo hi e) k l = tt
+leaf_known m i n (Inject o u t e) k l = tt
+leaf_known m i n (Banged r e) k l = tt
+leaf_known m i n (Var x) k l = tt
+leaf_known m i n (Num z) k l = tt
+leaf_known m i n (Text t) k l = tt
+leaf_known m i n One k l = tt
+leaf_known m i n (Op2 o a b) k l = tt
+leaf_known m i n (Let x a b) k l = tt
+leaf_known m i n (LetBang x a b) k l = tt
+leaf_known m i n (LetPair x y a b) k l = tt
+leaf_known m i n (If c a b) k l = tt
+leaf_known m i n (Case c x a y b) k l = tt
 
-abbrev left_over : ℕ → Type 0
-left_over zero = ⊥
-left_over (suc zero) = ⊥
-left_over (suc (suc zero)) = ⊥
-left_over (suc (suc (suc zero))) = ⊥
-left_over (suc (suc (suc (suc zero)))) = ⊤
-left_over (suc (suc (suc (suc (suc zero))))) = ⊥
-left_over (suc (suc (suc (suc (suc (suc zero)))))) = ⊤
-left_over (suc (suc (suc (suc (suc (suc (suc zero))))))) = ⊤
-left_over (suc (suc (suc (suc (suc (suc (suc (suc zero)))))))) = ⊤
-left_over (suc (suc (suc (suc (suc (suc (suc (suc (suc zero))))))))) = ⊤
-left_over (suc (suc (suc (suc (suc (suc (suc (suc (suc (suc k)))))))))) = ⊥
+-- no other arm of the walk has the form
+pub record IsLeft (f : Form) : Type 0 where
+  pub no_part : (e : ℕ) → part_in f ≡ Some e → ⊥
+  pub no_binary : (o : Binary) (a b : ℕ) → f ≡ Op2 o a b → ⊥
+  pub no_let : (x : Name) (a b : ℕ) → f ≡ Let x a b → ⊥
+  pub no_let_bang : (x : Name) (a b : ℕ) → f ≡ LetBang x a b → ⊥
+  pub no_let_pair : (x y : Name) (a b : ℕ) → f ≡ LetPair x y a b → ⊥
+  pub no_if : (c a b : ℕ) → f ≡ If c a b → ⊥
+  pub no_case : (c : ℕ) (x : Name) (a : ℕ) (y : Name) (b : ℕ) → f ≡ Case c x a y b → ⊥
 
-left_is : (k : ℕ) → IsLeft k → left_over k
-left_is k (inl e) = rw e tt
-left_is k (inr (inl e)) = rw e tt
-left_is k (inr (inr (inl e))) = rw e tt
-left_is k (inr (inr (inr (inl e)))) = rw e tt
-left_is k (inr (inr (inr (inr e)))) = rw e tt
+leaf_path : (W : Walk) (σ : Shapes) (ty : ℕ → Ty) (N : List Term) (s : Span) (f : Form) (k : Tally) → IsLeft f → walk_rules W σ (term_of ty (term_at N) s f) k ≡ yields (leaf_shape N σ f) k
+leaf_path W σ ty N s (Var x) k l = refl
+leaf_path W σ ty N s (Num z) k l = refl
+leaf_path W σ ty N s (Text t) k l = refl
+leaf_path W σ ty N s One k l = refl
+leaf_path W σ ty N s (Lambda Linear x u t b) k l = refl
+leaf_path W σ ty N s (Lambda Unlimited x u t b) k l = refl
+leaf_path W σ ty N s (Op o e) k l = absurd (l.no_part e refl)
+leaf_path W σ ty N s (Times z e) k l = absurd (l.no_part e refl)
+leaf_path W σ ty N s (Bounded o lo hi e) k l = absurd (l.no_part e refl)
+leaf_path W σ ty N s (Inject o u t e) k l = absurd (l.no_part e refl)
+leaf_path W σ ty N s (Banged r e) k l = absurd (l.no_part e refl)
+leaf_path W σ ty N s (Op2 o a b) k l = absurd (l.no_binary o a b refl)
+leaf_path W σ ty N s (Let x a b) k l = absurd (l.no_let x a b refl)
+leaf_path W σ ty N s (LetBang x a b) k l = absurd (l.no_let_bang x a b refl)
+leaf_path W σ ty N s (LetPair x y a b) k l = absurd (l.no_let_pair x y a b refl)
+leaf_path W σ ty N s (If c a b) k l = absurd (l.no_if c a b refl)
+leaf_path W σ ty N s (Case c x a y b) k l = absurd (l.no_case c x a y b refl)
 
-pub left_has_part : (f : Form) → ((e : ℕ) → part_in f ≡ Some e → ⊥) → IsLeft (tag_of the_type f) → ⊥
-left_has_part (Op o e) n l = n e refl
-left_has_part (Times k e) n l = n e refl
-left_has_part (Bounded o lo hi e) n l = n e refl
-left_has_part (Inject o u t e) n l = n e refl
-left_has_part (Banged r e) n l = n e refl
-left_has_part (Var x) n l = left_is (tag_of the_type (Var x)) l
-left_has_part (Num z) n l = left_is (tag_of the_type (Num z)) l
-left_has_part (Text t) n l = left_is (tag_of the_type (Text t)) l
-left_has_part One n l = left_is (tag_of the_type One) l
-left_has_part (Op2 o a b) n l = left_is (tag_of the_type (Op2 o a b)) l
-left_has_part (Let x a b) n l = left_is (tag_of the_type (Let x a b)) l
-left_has_part (LetBang x a b) n l = left_is (tag_of the_type (LetBang x a b)) l
-left_has_part (LetPair x y a b) n l = left_is (tag_of the_type (LetPair x y a b)) l
-left_has_part (If c a b) n l = left_is (tag_of the_type (If c a b)) l
-left_has_part (Case c x a y b) n l = left_is (tag_of the_type (Case c x a y b)) l
-left_has_part (Lambda o x u t b) n l = left_is (tag_of the_type (Lambda o x u t b)) l
+pub leaf_then : (W : Walk) (σ : Shapes) (ty : ℕ → Ty) (N : List Term) (t : Term) (s : Span) (f : Form) (k : Tally) → t ≡ term_of ty (term_at N) s f → IsLeft f → walk_rules W σ t k ≡ yields (leaf_shape N σ f) k
+leaf_then W σ ty N t s f k h l = ap (λ t. walk_rules W σ t k) h ∙ leaf_path W σ ty N s f k l

@@ -1,50 +1,74 @@
 -- The rules of the run without data by the forms of nodes.
-use Rattle.std.specs.Prelude.{ℕ, List, None, Option, Some}
+use Rattle.std.specs.Prelude.{ℕ, ◌<◌, length, List, None, Option, Some, ⊤}
+use Rattle.fz_ast.specs.Names.{name_of}
 use Rattle.fz_ast.specs.Terms.{Term}
+use Rattle.fz_ast.specs.TermNodes.{term_at}
 use Rattle.fz_ast.specs.declared.span.Span.{Span}
+use Rattle.fz_ast.specs.declared.term.Arrow.{Arrow}
+use Rattle.fz_ast.specs.declared.term.Arrow.TheVariants.{Fn, Fun}
 use Rattle.fz_ast.specs.declared.term.Binary.{Binary}
 use Rattle.fz_ast.specs.declared.term.Binary.TheVariants.{Pair, With, App, Plus, Minus, AtMost, Equal, Union, Map, Filter, Split}
 use Rattle.fz_ast.specs.declared.term.Form.{Form}
-use Rattle.fz_ast.specs.declared.term.Form.TheVariants.{Bang as Banged, Inject, Ranged as Bounded, Times, Unary as Op}
+use Rattle.fz_ast.specs.declared.term.Form.TheVariants.{Bang as Banged, Inject, Lambda, Ranged as Bounded, Times, Unary as Op, Var}
 use Rattle.fz_ast.specs.declared.term.Unary.{Unary}
 use Rattle.fz_ast.specs.declared.term.Unary.TheVariants.{Fst, Greatest, Least, Size, Snd}
-use Rattle.shape_law.specs.Shapes.{Also, bang_shape, first_half, second_half, Shape, Shapes, Wide, pair_shape, width_of, wider}
-use Rattle.shape_law.specs.Walk.{Outcome, Tally, Walk, enters, gives, next, union}
+use Rattle.shape_law.specs.Shapes.{Also, FnS, FunS, Shape, Shapes, Wide, bang_shape, first_half, pair_shape, second_half, shape_of, width_of, wider}
+use Rattle.shape_law.specs.Walk.{WalkOutcome, Tally, Walk, enters, yields, next, union}
 use Rattle.shape_run.specs.Cells.{IsScope, IsShape}
 use Rattle.shape_run.specs.declared.store.Cell.{Cell}
 
 -- over a bag as wide as q, the function c is entered once
-abbrev pub over : Walk → Shape → Shape → Tally → Outcome
-over W c q k = next (enters W c (Wide 0) k) (λ r k. gives (Wide (width_of q)) k)
+abbrev pub over : Walk → Shape → Shape → Tally → WalkOutcome
+over W c q k = next (enters W c (Wide 0) k) (λ r k. yields (Wide (width_of q)) k)
 
 -- what the word or sign at s makes of the shapes of its two parts
-abbrev pub binary_rule : Walk → Span → Binary → Shape → Shape → Tally → Outcome
-binary_rule W s Pair p q = gives (pair_shape p q)
-binary_rule W s With p q = gives (pair_shape p q)
-binary_rule W s App p q = enters W p q
-binary_rule W s Plus p q = gives (Wide 0)
-binary_rule W s Minus p q = gives (Wide 0)
-binary_rule W s AtMost p q = gives (Wide 0)
-binary_rule W s Equal p q = gives (Wide 0)
-binary_rule W s Union p q = union s p q
-binary_rule W s Map p q = over W p q
-binary_rule W s Filter p q = over W p q
-binary_rule W s Split p q = over W p q
+abbrev pub combined : Walk → Span → Binary → Shape → Shape → Tally → WalkOutcome
+combined W s Pair p q = yields (pair_shape p q)
+combined W s With p q = yields (pair_shape p q)
+combined W s App p q = enters W p q
+combined W s Plus p q = yields (Wide 0)
+combined W s Minus p q = yields (Wide 0)
+combined W s AtMost p q = yields (Wide 0)
+combined W s Equal p q = yields (Wide 0)
+combined W s Union p q = union s p q
+combined W s Map p q = over W p q
+combined W s Filter p q = over W p q
+combined W s Split p q = over W p q
 
 -- a name as wide as a condition
 abbrev pub beside : List ℕ → Shape → Shapes → Shapes
 beside x p σ = Also x (Wide (width_of p)) σ
 
 -- a branch under σ, and then one under τ
-abbrev pub branches : Walk → Shapes → Term → Shapes → Term → Tally → Outcome
-branches W σ a τ b k = next (W σ a k) (λ p k. next (W τ b k) (λ q. gives (wider p q)))
+abbrev pub branches : Walk → Shapes → Term → Shapes → Term → Tally → WalkOutcome
+branches W σ a τ b k = next (W σ a k) (λ p k. next (W τ b k) (λ q. yields (wider p q)))
 
 -- over the terms of the nodes
-abbrev pub Stands : List Term → List Cell → ℕ → Type 0
-Stands N cs k = (p : Shape) × IsShape N cs k p
+abbrev pub StandsForShape : List Term → List Cell → ℕ → Type 0
+StandsForShape N cs k = (p : Shape) × IsShape N cs k p
 
 abbrev pub Scopes : List Term → List Cell → ℕ → Type 0
 Scopes N cs k = (σ : Shapes) × IsScope N cs k σ
+
+-- the shape of a function with this arrow, name, body and names
+abbrev pub function_shape : Arrow → List ℕ → Term → Shapes → Shape
+function_shape Fun x e σ = FunS x e σ
+function_shape Fn x e σ = FnS x e σ
+
+-- the shape of a form that visits nothing: a name, a function, or a constant
+abbrev pub leaf_shape : List Term → Shapes → Form → Shape
+leaf_shape N σ (Var x) = shape_of σ (name_of x)
+leaf_shape N σ (Lambda o x u t e) = function_shape o (name_of x) (term_at N e) σ
+leaf_shape N σ f = Wide 0
+
+-- a function's body is one of so many terms
+abbrev pub HasBody : ℕ → Form → Type 0
+HasBody n (Lambda o x u t e) = e < n
+HasBody n f = ⊤
+
+-- this scope stands for names over terms with the body
+abbrev pub HasLeaf : List Cell → ℕ → Form → Type 0
+HasLeaf cs k f = (N : List Term) × (σ : Shapes) × IsScope N cs k σ × HasBody (length N) f
 
 -- the part of a form of one part, in which no name is bound
 abbrev pub part_in : Form → Option ℕ

@@ -1,28 +1,24 @@
 -- What a visit answers, by the definition's outcome.
-use Rattle.std.specs.Prelude.{ℕ, ◌≡◌, List, MatchResult, Result}
+use Rattle.std.specs.Prelude.{ℕ, ◌≡◌, List, MatchResult, Result, ⊤}
 use Rattle.fz_ast.specs.Terms.{Term}
 use Rattle.shape_law.specs.Shapes.{Shape}
-use Rattle.shape_law.specs.Walk.{Outcome, Shaped, Stops, Tally, TooDeep, TooLong, TooWide}
+use Rattle.shape_law.specs.Walk.{Shaped, Stops, Tally, TooDeep, TooLong, TooWide, WalkOutcome}
 use Rattle.shape_run.specs.Cells.{IsShape}
 use Rattle.shape_run.specs.declared.store.Cell.{Cell}
-use Rattle.shape_run.specs.declared.store.Count.{Count}
-use Rattle.shape_run.specs.declared.store.Stop.{Stop}
-use Rattle.shape_run.specs.declared.store.Stop.TheVariants.{NoMemory, Deep, Long, Wide}
+use Rattle.shape_run.specs.declared.plan.Plan.{Plan}
+use Rattle.shape_run.specs.declared.plan.ShapeFault.{ShapeFault}
+use Rattle.shape_run.specs.declared.plan.ShapeFault.TheVariants.{NoMemory, TooDeep as Deep, TooLong as Long, TooWide as Broad}
 
-abbrev pub tally_of : Count → Tally
-tally_of k = record { turns = k.turns; depth = k.depth; width = k.width }
+abbrev pub tally_of : Plan → Tally
+tally_of plan = record { turns = plan.turns; depth = plan.depth; width = plan.width }
 
--- want of memory may come at any time
-abbrev pub IsStop : Stop → Outcome → Type 0
-IsStop (Deep s) o = o ≡ Stops (TooDeep s)
-IsStop (Long s) o = o ≡ Stops (TooLong s)
-IsStop (Wide s w) o = o ≡ Stops (TooWide s w)
-IsStop NoMemory o = Unit {0}
+-- the outcome is just this limit, with its span and width; want of memory may come at any time
+abbrev pub StopsAt : ShapeFault → WalkOutcome → Type 0
+StopsAt (Deep s) o = o ≡ Stops (TooDeep s)
+StopsAt (Long s) o = o ≡ Stops (TooLong s)
+StopsAt (Broad s w) o = o ≡ Stops (TooWide s w)
+StopsAt NoMemory o = ⊤
 
 -- the answer is that outcome, of the shape in a cell, with this count
-abbrev pub Tells : List Term → List Cell → Count → Result ℕ Stop → Outcome → Type 0
-Tells N cs k r o = MatchResult r (λ n. (p : Shape) × IsShape N cs n p × (o ≡ Shaped p (tally_of k))) (λ e. IsStop e o)
-
--- the answer for a whole program
-abbrev pub Answers : Result Count Stop → Outcome → Type 0
-Answers r o = MatchResult r (λ k. (p : Shape) × (o ≡ Shaped p (tally_of k))) (λ e. IsStop e o)
+abbrev pub Tells : List Term → List Cell → Plan → Result ℕ ShapeFault → WalkOutcome → Type 0
+Tells N cs k r o = MatchResult r (λ n. (p : Shape) × IsShape N cs n p × (o ≡ Shaped p (tally_of k))) (λ e. StopsAt e o)

@@ -1,93 +1,96 @@
 //! What a term gives, with the widest shape so far.
-ghost use Rattle.std.specs.Prelude.{◌≡◌, ◌+◌, ◌<◌, ◌≤◌, List, max};
+ghost use Rattle.std.specs.Prelude.{◌≡◌, ◌+◌, ◌<◌, ◌≤◌, List, length, max};
+ghost use Rattle.fz_ast.specs.Names.{name_of};
+ghost use Rattle.fz_ast.specs.TermNodes.{term_at};
 ghost use Rattle.fz_ast.specs.Terms.{Term, at};
-ghost use Rattle.shape_law.specs.Shapes.{Shape, bang_shape, first_half, pair_shape, second_half, width_of, wider};
-ghost use Rattle.shape_law.specs.Walk.{gives, turn, turn_limit, union};
-ghost use Rattle.shape_run.specs.Cells.{Grown, HasShape, HaveShapes, IsShape};
-ghost use Rattle.shape_run.specs.Rules.{Stands, part_in, part_shape};
+ghost use Rattle.shape_law.specs.Shapes.{Shape, Shapes, bang_shape, first_half, pair_shape, second_half, shape_of, width_of, wider};
+ghost use Rattle.shape_law.specs.Walk.{yields, turn, turn_limit, union};
+ghost use Rattle.shape_run.specs.Cells.{Grown, HasScope, HasShape, HaveShapes, IsScope, IsShape};
+ghost use Rattle.shape_run.specs.Rules.{HasBody, HasLeaf, function_shape, leaf_shape, part_in, part_shape};
 ghost use Rattle.shape_run.specs.Tells.{Tells, tally_of};
 
-use crate::store::{Count, Stop, Store};
-use fz_ast::{Form, Span, Unary};
+use crate::plan::{Plan, ShapeFault};
+use crate::store::Store;
+use fz_ast::{Arrow, Form, Name, Span, Unary};
 
 /// The shape in this cell.
-pub fn give(store: &Store, count: &mut Count, k: u32) -> Result<u32, Stop>
+pub fn give(store: &Store, count: &mut Plan, k: u32) -> Result<u32, ShapeFault>
     requires { HasShape store.now.cells.items k }
     ensures { (N : List Term) (p : Shape) → IsShape N store.now.cells.items k p
-        → Tells N store.now.cells.items count.new result (gives p (tally_of count.old)) }
+        → Tells N store.now.cells.items count.new result (yields p (tally_of count.old)) }
 {
     count.width = count.width.max(store.width(k) as u32);
     Ok(k)
 }
 
 /// The shape of a ground value.
-pub fn give_ground(store: &mut Store, count: &mut Count, width: u8) -> Result<u32, Stop>
-    ensures is { (N : List Term) → Tells N store.new.cells.items count.new result (gives (Rattle.shape_law.specs.Shapes.Wide width) (tally_of count.old)) }
+pub fn give_ground(store: &mut Store, count: &mut Plan, width: u8) -> Result<u32, ShapeFault>
+    ensures is { (N : List Term) → Tells N store.new.cells.items count.new result (yields (Rattle.shape_law.specs.Shapes.Wide width) (tally_of count.old)) }
     ensures grown { Grown store.old.cells.items store.new.cells.items }
 {
     let Ok(k) = store.ground(width) else {
-        return Err(Stop::NoMemory);
+        return Err(ShapeFault::NoMemory);
     };
     give(store, count, k)
 }
 
 /// The shape of a pair.
-pub fn give_pair(store: &mut Store, count: &mut Count, a: u32, b: u32) -> Result<u32, Stop>
+pub fn give_pair(store: &mut Store, count: &mut Plan, a: u32, b: u32) -> Result<u32, ShapeFault>
     requires { HaveShapes store.old.cells.items a b }
     ensures is { (N : List Term) (p q : Shape) → IsShape N store.old.cells.items a p → IsShape N store.old.cells.items b q
-        → Tells N store.new.cells.items count.new result (gives (pair_shape p q) (tally_of count.old)) }
+        → Tells N store.new.cells.items count.new result (yields (pair_shape p q) (tally_of count.old)) }
     ensures grown { Grown store.old.cells.items store.new.cells.items }
 {
     let Ok(k) = store.pair(a, b) else {
-        return Err(Stop::NoMemory);
+        return Err(ShapeFault::NoMemory);
     };
     give(store, count, k)
 }
 
 /// The shape of a pair's first half.
-pub fn give_first(store: &mut Store, count: &mut Count, a: u32) -> Result<u32, Stop>
+pub fn give_first(store: &mut Store, count: &mut Plan, a: u32) -> Result<u32, ShapeFault>
     requires { HasShape store.old.cells.items a }
     ensures is { (N : List Term) (p : Shape) → IsShape N store.old.cells.items a p
-        → Tells N store.new.cells.items count.new result (gives (first_half p) (tally_of count.old)) }
+        → Tells N store.new.cells.items count.new result (yields (first_half p) (tally_of count.old)) }
     ensures grown { Grown store.old.cells.items store.new.cells.items }
 {
     let Ok(k) = store.first(a) else {
-        return Err(Stop::NoMemory);
+        return Err(ShapeFault::NoMemory);
     };
     give(store, count, k)
 }
 
 /// The shape of a pair's second half.
-pub fn give_second(store: &mut Store, count: &mut Count, a: u32) -> Result<u32, Stop>
+pub fn give_second(store: &mut Store, count: &mut Plan, a: u32) -> Result<u32, ShapeFault>
     requires { HasShape store.old.cells.items a }
     ensures is { (N : List Term) (p : Shape) → IsShape N store.old.cells.items a p
-        → Tells N store.new.cells.items count.new result (gives (second_half p) (tally_of count.old)) }
+        → Tells N store.new.cells.items count.new result (yields (second_half p) (tally_of count.old)) }
     ensures grown { Grown store.old.cells.items store.new.cells.items }
 {
     let Ok(k) = store.second(a) else {
-        return Err(Stop::NoMemory);
+        return Err(ShapeFault::NoMemory);
     };
     give(store, count, k)
 }
 
 /// The shape of a bang.
-pub fn give_bang(store: &mut Store, count: &mut Count, a: u32) -> Result<u32, Stop>
+pub fn give_bang(store: &mut Store, count: &mut Plan, a: u32) -> Result<u32, ShapeFault>
     requires { HasShape store.old.cells.items a }
     ensures is { (N : List Term) (p : Shape) → IsShape N store.old.cells.items a p
-        → Tells N store.new.cells.items count.new result (gives (bang_shape p) (tally_of count.old)) }
+        → Tells N store.new.cells.items count.new result (yields (bang_shape p) (tally_of count.old)) }
     ensures grown { Grown store.old.cells.items store.new.cells.items }
 {
     let Ok(k) = store.bang(a) else {
-        return Err(Stop::NoMemory);
+        return Err(ShapeFault::NoMemory);
     };
     give(store, count, k)
 }
 
 /// The shape of a sum, of the width of its side.
-pub fn give_side(store: &mut Store, count: &mut Count, a: u32) -> Result<u32, Stop>
+pub fn give_side(store: &mut Store, count: &mut Plan, a: u32) -> Result<u32, ShapeFault>
     requires { HasShape store.old.cells.items a }
     ensures is { (N : List Term) (p : Shape) → IsShape N store.old.cells.items a p
-        → Tells N store.new.cells.items count.new result (gives (Rattle.shape_law.specs.Shapes.Wide (width_of p)) (tally_of count.old)) }
+        → Tells N store.new.cells.items count.new result (yields (Rattle.shape_law.specs.Shapes.Wide (width_of p)) (tally_of count.old)) }
     ensures grown { Grown store.old.cells.items store.new.cells.items }
 {
     let width = store.width(a);
@@ -95,14 +98,73 @@ pub fn give_side(store: &mut Store, count: &mut Count, a: u32) -> Result<u32, St
 }
 
 /// The wider of two ground shapes.
-pub fn give_wider(store: &mut Store, count: &mut Count, a: u32, b: u32) -> Result<u32, Stop>
+pub fn give_wider(store: &mut Store, count: &mut Plan, a: u32, b: u32) -> Result<u32, ShapeFault>
     requires { HaveShapes store.old.cells.items a b }
     ensures is { (N : List Term) (p q : Shape) → IsShape N store.old.cells.items a p → IsShape N store.old.cells.items b q
-        → Tells N store.new.cells.items count.new result (gives (wider p q) (tally_of count.old)) }
+        → Tells N store.new.cells.items count.new result (yields (wider p q) (tally_of count.old)) }
     ensures grown { Grown store.old.cells.items store.new.cells.items }
 {
     let width = store.width(a).max(store.width(b));
     give_ground(store, count, width)
+}
+
+/// The shape of a name.
+fn give_name(
+    store: &mut Store,
+    count: &mut Plan,
+    scope: u32,
+    name: &Name,
+) -> Result<u32, ShapeFault>
+    requires { HasScope store.old.cells.items scope }
+    ensures is { (N : List Term) (σ : Shapes) → IsScope N store.old.cells.items scope σ
+        → Tells N store.new.cells.items count.new result (yields (shape_of σ (name_of name.now)) (tally_of count.old)) }
+    ensures grown { Grown store.old.cells.items store.new.cells.items }
+{
+    match store.find(scope, name) {
+        Some(k) => give(store, count, k),
+        None => give_ground(store, count, 0),
+    }
+}
+
+/// The shape of a function with its names.
+fn give_function(
+    store: &mut Store,
+    count: &mut Plan,
+    scope: u32,
+    arrow: Arrow,
+    name: Name,
+    body: u32,
+) -> Result<u32, ShapeFault>
+    requires { (N : List Term) × (σ : Shapes) × IsScope N store.old.cells.items scope σ × (body < length N) }
+    ensures is { (N : List Term) (σ : Shapes) → IsScope N store.old.cells.items scope σ → body < length N
+        → Tells N store.new.cells.items count.new result (yields (function_shape arrow (name_of name) (term_at N body) σ) (tally_of count.old)) }
+    ensures grown { Grown store.old.cells.items store.new.cells.items }
+{
+    let Ok(k) = store.function(arrow, name, body, scope) else {
+        return Err(ShapeFault::NoMemory);
+    };
+    give(store, count, k)
+}
+
+/// The shape of a form that visits nothing.
+pub fn give_leaf(
+    store: &mut Store,
+    count: &mut Plan,
+    scope: u32,
+    form: &Form,
+) -> Result<u32, ShapeFault>
+    requires { HasLeaf store.old.cells.items scope form.now }
+    ensures is { (N : List Term) (σ : Shapes) → IsScope N store.old.cells.items scope σ → HasBody (length N) form.now
+        → Tells N store.new.cells.items count.new result (yields (leaf_shape N σ form.now) (tally_of count.old)) }
+    ensures grown { Grown store.old.cells.items store.new.cells.items }
+{
+    match form {
+        Form::Var(name) => give_name(store, count, scope, name),
+        Form::Lambda(arrow, name, _, _, body) => {
+            give_function(store, count, scope, *arrow, *name, *body)
+        }
+        _ => give_ground(store, count, 0),
+    }
 }
 
 /// The part of a form of one part, in which no name is bound.
@@ -120,10 +182,15 @@ pub fn part_of(form: &Form) -> Option<u32>
 }
 
 /// What such a form makes of its part's shape.
-pub fn give_part(store: &mut Store, count: &mut Count, form: &Form, a: u32) -> Result<u32, Stop>
+pub fn give_part(
+    store: &mut Store,
+    count: &mut Plan,
+    form: &Form,
+    a: u32,
+) -> Result<u32, ShapeFault>
     requires { HasShape store.old.cells.items a }
     ensures is { (N : List Term) (p : Shape) → IsShape N store.old.cells.items a p
-        → Tells N store.new.cells.items count.new result (gives (part_shape form.now p) (tally_of count.old)) }
+        → Tells N store.new.cells.items count.new result (yields (part_shape form.now p) (tally_of count.old)) }
     ensures grown { Grown store.old.cells.items store.new.cells.items }
 {
     match form {
@@ -138,11 +205,11 @@ pub fn give_part(store: &mut Store, count: &mut Count, form: &Form, a: u32) -> R
 /// The shape of the union at this span.
 pub fn give_union(
     store: &mut Store,
-    count: &mut Count,
+    count: &mut Plan,
     span: Span,
     a: u32,
     b: u32,
-) -> Result<u32, Stop>
+) -> Result<u32, ShapeFault>
     requires { HaveShapes store.old.cells.items a b }
     ensures is { (N : List Term) (p q : Shape) → IsShape N store.old.cells.items a p → IsShape N store.old.cells.items b q
         → Tells N store.new.cells.items count.new result (union span p q (tally_of count.old)) }
@@ -150,13 +217,13 @@ pub fn give_union(
 {
     let width = store.width(a) as u32 + store.width(b) as u32;
     if width > 64 {
-        return Err(Stop::Wide(span, width));
+        return Err(ShapeFault::TooWide { span, width });
     }
     give_ground(store, count, width as u8)
 }
 
 /// One turn more.
-pub fn take_turn(count: &mut Count, here: u32)
+pub fn take_turn(count: &mut Plan, here: u32)
     requires { count.old.turns < turn_limit }
     ensures { tally_of count.new ≡ turn here (tally_of count.old) }
 {

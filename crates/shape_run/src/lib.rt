@@ -3,11 +3,12 @@
 
 mod gives;
 mod plan;
+mod program;
 mod store;
 mod walk;
 
-pub use plan::shape;
-pub use store::{Count, Stop};
+pub use plan::{Plan, ShapeFault};
+pub use program::shape;
 
 #[cfg(test)]
 mod tests;

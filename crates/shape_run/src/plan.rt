@@ -1,69 +1,23 @@
-//! The plan of a whole program.
-ghost use Rattle.std.specs.Prelude.{◌≡◌, ◌<◌, IfOk, List, length};
-ghost use Rattle.fz_ast.specs.Limits.{TermLimits};
-ghost use Rattle.fz_ast.specs.Signature.{IsSignature};
-ghost use Rattle.fz_ast.specs.Terms.{Term};
-ghost use Rattle.fz_frac.specs.Distance.{Distance};
-ghost use Rattle.linear_types.specs.Program.{Accepted, sensitivity_of};
-ghost use Rattle.linear_types.specs.Sensitivities.{Sensitivities};
-ghost use Rattle.metric_values.specs.Tables.{IsDataset};
-ghost use Rattle.metric_values.specs.Tables.{Dataset, rows_of};
-ghost use Rattle.shape_law.specs.Law.{HasNumber};
-ghost use Rattle.shape_law.specs.Shapes.{table_shapes};
-ghost use Rattle.shape_law.specs.Walk.{depth_limit, shape};
-ghost use Rattle.shape_run.specs.Cells.{IsScope, IsShape};
-ghost use Rattle.shape_run.specs.Tells.{Answers, tally_of};
+//! What the run without data tells of a program.
+use fz_ast::Span;
 
-use crate::store::{Count, Stop, Store};
-use crate::walk::visit;
-use fz_ast::{NoMemory, Sig, Term};
-use std::alloc::Global;
-
-// How deep a run may be.
-fn limit() -> u32
-    ensures is { result ≡ depth_limit }
-    ensures small { result < 1000 }
-{
-    128
+/// How deep, long and wide the runs of a program are: the deepest visit, the visits, and the tables in the widest bag.
+#[derive(Clone, Copy, Debug, PartialEq, Eq)]
+pub struct Plan {
+    pub depth: u32,
+    pub turns: u32,
+    pub width: u32,
 }
 
-// The names of the tables, each as wide as `table` says.
-fn bind_tables(store: &mut Store, sig: &Sig, table: u32) -> Result<u32, NoMemory>
-    requires { (N : List Term) → IsShape N store.old.cells.items table (Rattle.shape_law.specs.Shapes.Wide 1) }
-    ensures { IfOk result (λ n. (N : List Term) → IsScope N store.new.cells.items n (table_shapes sig.now)) }
-{
-    let mut scope = 0;
-    let mut i = sig.len();
-    while i > 0 {
-        i -= 1;
-        let Ok(inner) = store.bind(sig.table(i).name, table, scope) else {
-            return Err(NoMemory);
-        };
-        scope = inner;
-    }
-    Ok(scope)
-}
-
-/// How deep, long and wide the runs of a program are, or the first limit that one passes.
-/// An accepted program with a plan has a number on each dataset, by a derivation no higher than its depth.
-pub fn shape(alloc: Global, sig: &Sig, term: &Term) -> Result<Count, Stop>
-    ensures is { Answers result (shape sig.now term.now) }
-    ensures runs { (D : Sensitivities) (r : Distance) → IsSignature sig.now → TermLimits (term.now) → sensitivity_of sig.now term.now ≡ Accepted D r
-        → IfOk result (λ k. (X : Dataset) → IsDataset sig.now X → HasNumber k.depth (rows_of sig.now X) term.now) }
-{
-    let (nodes, root) = term.parts();
-    let mut store = Store::new(alloc);
-    let Ok(table) = store.ground(1) else {
-        return Err(Stop::NoMemory);
-    };
-    let Ok(scope) = bind_tables(&mut store, sig, table) else {
-        return Err(Stop::NoMemory);
-    };
-    let mut count = Count {
-        turns: 0,
-        depth: 0,
-        width: 0,
-    };
-    let _ = visit(nodes, &mut store, &mut count, scope, root, limit(), 1)?;
-    Ok(count)
+/// Why a program has no plan: the first limit that its run without data passes, and where.
+#[derive(Clone, Copy)]
+pub enum ShapeFault {
+    /// A visit is deeper than 128.
+    TooDeep { span: Span },
+    /// A visit is the 20,001st.
+    TooLong { span: Span },
+    /// A union is more than 64 tables wide.
+    TooWide { span: Span, width: u32 },
+    /// Memory ran out.
+    NoMemory,
 }

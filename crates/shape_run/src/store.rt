@@ -3,11 +3,11 @@ ghost use Rattle.std.specs.Prelude.{◌≡◌, ◌+◌, ◌<◌, ◌≤◌, ◌+
 ghost use Rattle.fz_ast.specs.Names.{name_of};
 ghost use Rattle.fz_ast.specs.Terms.{Name, Term};
 ghost use Rattle.fz_ast.specs.TermNodes.{term_at};
-ghost use Rattle.shape_law.specs.Shapes.{Also, FnS, FunS, Shape, Shapes, bang_shape, first_half, in_bang, pair_shape, second_half, shape_of, width_of};
+ghost use Rattle.shape_law.specs.Shapes.{Also, Shape, Shapes, bang_shape, first_half, in_bang, pair_shape, second_half, shape_of, width_of};
 ghost use Rattle.shape_run.specs.Cells.{Adds, Grown, HasScope, HasShape, HaveShapes, IsScope, IsShape, is_wide};
-ghost use Rattle.shape_run.specs.Rules.{beside};
+ghost use Rattle.shape_run.specs.Rules.{beside, function_shape};
 
-use fz_ast::{Name, NoMemory, Span};
+use fz_ast::{Arrow, Name, NoMemory};
 use std::alloc::Global;
 
 /// A shape, or a name with its shape before others. Numbers are those of cells, of a scope 0 or one more than its cell's.
@@ -21,23 +21,6 @@ pub enum Cell {
     Fn(Name, u32, u32),
     /// The name, its shape, and the scope outside.
     Frame(Name, u32, u32),
-}
-
-/// The turns so far, the deepest visit and the widest shape.
-#[derive(Clone, Copy)]
-pub struct Count {
-    pub turns: u32,
-    pub depth: u32,
-    pub width: u32,
-}
-
-/// Why there is no shape.
-#[derive(Clone, Copy)]
-pub enum Stop {
-    Deep(Span),
-    Long(Span),
-    Wide(Span, u32),
-    NoMemory,
 }
 
 /// The cells of a run.
@@ -86,22 +69,22 @@ impl Store {
         self.push(Cell::Ground(width))
     }
 
-    /// A function, with the term of its body.
-    pub fn fun(&mut self, name: Name, body: u32, scope: u32) -> Result<u32, NoMemory>
+    /// A function, with the number of its body's term.
+    pub fn function(
+        &mut self,
+        arrow: Arrow,
+        name: Name,
+        body: u32,
+        scope: u32,
+    ) -> Result<u32, NoMemory>
         ensures is { Adds self.new.cells.items result (λ N p. (σ : Shapes) × IsScope N self.old.cells.items scope σ × (body < length N)
-            × (p ≡ FunS (name_of name) (term_at N body) σ)) }
+            × (p ≡ function_shape arrow (name_of name) (term_at N body) σ)) }
         ensures grown { Grown self.old.cells.items self.new.cells.items }
     {
-        self.push(Cell::Fun(name, body, scope))
-    }
-
-    /// An unlimited function, with the term of its body.
-    pub fn unlimited(&mut self, name: Name, body: u32, scope: u32) -> Result<u32, NoMemory>
-        ensures is { Adds self.new.cells.items result (λ N p. (σ : Shapes) × IsScope N self.old.cells.items scope σ × (body < length N)
-            × (p ≡ FnS (name_of name) (term_at N body) σ)) }
-        ensures grown { Grown self.old.cells.items self.new.cells.items }
-    {
-        self.push(Cell::Fn(name, body, scope))
+        match arrow {
+            Arrow::Fun => self.push(Cell::Fun(name, body, scope)),
+            Arrow::Fn => self.push(Cell::Fn(name, body, scope)),
+        }
     }
 
     /// One name more.

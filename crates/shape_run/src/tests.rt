@@ -1,25 +1,44 @@
-//! Worked programs with their plans, and a bag that is doubled.
+//! Programs with their plans, and with the first limit that they pass.
 use super::*;
-use fz_ast::{Binary, Column, Form, Name, NoMemory, Nodes, Sig, Span, Term, Unary, row_type};
+use fz_ast::{Column, Name, NoMemory, Sig, row_type};
+use fz_lexer::lex;
+use fz_parser::parse;
 use std::alloc::Global;
 use std::test::Fail;
 
-const HERE: Span = Span { from: 0, to: 1 };
-
-/// A plan's turns, depth and width, or the width and span of a union that is too wide.
+/// What is told of a program, with the spans of faults.
 #[derive(Clone, Copy, PartialEq, Eq)]
-enum Plan {
-    Is(u32, u32, u32),
+enum Verdict {
+    Is(Plan),
+    TooDeep(u32, u32),
+    TooLong(u32, u32),
     TooWide(u32, u32, u32),
-    Another,
+    NoMemory,
+    NoProgram,
 }
 
-fn plan_of(alloc: Global, sig: &Sig, term: &Term) -> Plan {
-    match shape(alloc, sig, term) {
-        Ok(count) => Plan::Is(count.turns, count.depth, count.width),
-        Err(Stop::Wide(span, width)) => Plan::TooWide(width, span.from, span.to),
-        Err(_) => Plan::Another,
+fn told(alloc: Global, sig: &Sig, program: &[u8]) -> Verdict {
+    let Ok(tokens) = lex(alloc, program) else {
+        return Verdict::NoProgram;
+    };
+    let Ok(term) = parse(alloc, &tokens) else {
+        return Verdict::NoProgram;
+    };
+    match shape(alloc, sig, &term) {
+        Ok(plan) => Verdict::Is(plan),
+        Err(ShapeFault::TooDeep { span }) => Verdict::TooDeep(span.from, span.to),
+        Err(ShapeFault::TooLong { span }) => Verdict::TooLong(span.from, span.to),
+        Err(ShapeFault::TooWide { span, width }) => Verdict::TooWide(span.from, span.to, width),
+        Err(ShapeFault::NoMemory) => Verdict::NoMemory,
     }
+}
+
+fn plan(turns: u32, depth: u32, width: u32) -> Verdict {
+    Verdict::Is(Plan {
+        depth,
+        turns,
+        width,
+    })
 }
 
 // One table, `people`, with a column of numbers.
@@ -32,67 +51,115 @@ fn people(alloc: Global) -> Result<Sig, NoMemory> {
     Ok(sig)
 }
 
-fn whole(nodes: Nodes, root: u32) -> Result<Term, NoMemory> {
-    if root as usize >= nodes.len() || nodes.depth(root) > 64 {
-        return Err(NoMemory);
-    }
-    Ok(Term::new(nodes, root))
-}
-
-// size people
-fn size(alloc: Global) -> Result<Term, NoMemory> {
-    let mut nodes = Nodes::new(alloc);
-    let table = nodes.push(HERE, Form::Var(Name::new(b"people")))?;
-    let root = nodes.push(HERE, Form::Unary(Unary::Size, table))?;
-    whole(nodes, root)
-}
-
-// if size people <= 3 then 0 else size people
-fn compared(alloc: Global) -> Result<Term, NoMemory> {
-    let mut nodes = Nodes::new(alloc);
-    let table = nodes.push(HERE, Form::Var(Name::new(b"people")))?;
-    let size = nodes.push(HERE, Form::Unary(Unary::Size, table))?;
-    let three = nodes.push(HERE, Form::Num(3))?;
-    let test = nodes.push(HERE, Form::Binary(Binary::AtMost, size, three))?;
-    let none = nodes.push(HERE, Form::Num(0))?;
-    let root = nodes.push(HERE, Form::If(test, none, size))?;
-    whole(nodes, root)
-}
-
-// let b = union name name in body, the union at (span, span + 1)
-fn doubled(nodes: &mut Nodes, span: u32, name: Name, body: u32) -> Result<u32, NoMemory> {
-    if body as usize >= nodes.len() || span > 100 {
-        return Err(NoMemory);
-    }
-    let first = nodes.push(HERE, Form::Var(name))?;
-    let second = nodes.push(HERE, Form::Var(name))?;
-    let at = Span {
-        from: span,
-        to: span + 1,
-    };
-    let bag = nodes.push(at, Form::Binary(Binary::Union, first, second))?;
-    nodes.push(HERE, Form::Let(Name::new(b"b"), bag, body))
-}
-
-// let b = union people people in let b = union b b in .. size b, with so many unions, the innermost at (1, 2)
-fn doubling(alloc: Global, unions: u32) -> Result<Term, NoMemory> {
-    let mut nodes = Nodes::new(alloc);
-    let name = nodes.push(HERE, Form::Var(Name::new(b"b")))?;
-    let mut body = nodes.push(HERE, Form::Unary(Unary::Size, name))?;
-    for span in 1..unions {
-        body = doubled(&mut nodes, span, Name::new(b"b"), body)?;
-    }
-    let root = doubled(&mut nodes, unions, Name::new(b"people"), body)?;
-    whole(nodes, root)
-}
-
 #[test]
-fn worked_plans(rt: HostRuntime) -> Result<(), Fail> {
+fn plans(rt: HostRuntime) -> Result<(), Fail> {
     let alloc = rt.alloc();
     let sig = people(alloc)?;
-    assert!(rt; plan_of(alloc, &sig, &size(alloc)?) == Plan::Is(2, 2, 1));
-    assert!(rt; plan_of(alloc, &sig, &compared(alloc)?) == Plan::Is(8, 4, 1));
-    assert!(rt; plan_of(alloc, &sig, &doubling(alloc, 6)?) == Plan::Is(26, 8, 64));
-    assert!(rt; plan_of(alloc, &sig, &doubling(alloc, 7)?) == Plan::TooWide(128, 1, 2));
+    let rows: [(&[u8], Verdict); 8] = [
+        (b"size people", plan(2, 2, 1)),
+        (
+            b"if size people <= 3 then 0 else size people",
+            plan(8, 4, 1),
+        ),
+        (
+            b"case inl[num] people of inl x => size x | inr y => size (union people y)",
+            plan(9, 4, 2),
+        ),
+        // a body is visited for each application
+        (b"let f = fun (x : num) => x + 1 in f (f 2)", plan(13, 5, 0)),
+        // a map is as wide as its bag, and its body is visited once
+        (
+            b"size (union people (map (fn (x : num) => x + x) people))",
+            plan(9, 5, 2),
+        ),
+        (
+            b"let !y = ![2] (fun (x : num) => x) in fst <y 1, 2>",
+            plan(10, 5, 0),
+        ),
+        (
+            b"let (a, b) = split (fn (x : num) => x <= 1) people in size b",
+            plan(9, 4, 1),
+        ),
+        (b"size (union (union people people) people)", plan(6, 4, 3)),
+    ];
+    for (program, want) in rows {
+        assert!(rt; told(alloc, &sig, program) == want);
+    }
+    Ok(())
+}
+
+// Six names, each twice as wide as the one before: `f` is 64 wide.
+const SIX_NAMES: &[u8] =
+    b"let a = union people people in let b = union a a in let c = union b b in \
+    let d = union c c in let e = union d d in let f = union e e in ";
+
+// A piece so many times.
+fn add(text: &mut Vec<u8>, piece: &[u8], times: u32) -> Result<(), NoMemory> {
+    for _ in 0..times {
+        for byte in piece {
+            if let Err(_) = text.push(*byte) {
+                return Err(NoMemory);
+            }
+        }
+    }
+    Ok(())
+}
+
+fn after_six_names(alloc: Global, end: &[u8]) -> Result<Vec<u8>, NoMemory> {
+    let mut text = Vec::new(alloc);
+    add(&mut text, SIX_NAMES, 1)?;
+    add(&mut text, end, 1)?;
+    Ok(text)
+}
+
+// Three functions, each with the one before at its depth: 60, 50 and `last` multiples.
+fn three_functions(alloc: Global, last: u32) -> Result<Vec<u8>, NoMemory> {
+    let mut text = Vec::new(alloc);
+    add(&mut text, b"let f = fun (x : num) => ", 1)?;
+    add(&mut text, b"1 * ", 60)?;
+    add(&mut text, b"x in let g = fun (x : num) => ", 1)?;
+    add(&mut text, b"1 * ", 50)?;
+    add(&mut text, b"f x in let h = fun (x : num) => ", 1)?;
+    add(&mut text, b"1 * ", last)?;
+    add(&mut text, b"g x in h 1", 1)?;
+    Ok(text)
+}
+
+// Ten functions, the first of 34 nodes, each of the others twice the one before, under so many multiples.
+fn ten_functions(alloc: Global, multiples: u32) -> Result<Vec<u8>, NoMemory> {
+    let mut text = Vec::new(alloc);
+    add(&mut text, b"let f = fun (x : num) => ", 1)?;
+    add(&mut text, b"1 * ", 33)?;
+    add(&mut text, b"x in ", 1)?;
+    add(&mut text, b"let f = fun (x : num) => f (f x) in ", 9)?;
+    add(&mut text, b"1 * ", multiples)?;
+    add(&mut text, b"f 1", 1)?;
+    Ok(text)
+}
+
+// Each limit from both sides.
+#[test]
+fn limits(rt: HostRuntime) -> Result<(), Fail> {
+    let alloc = rt.alloc();
+    let sig = people(alloc)?;
+    assert!(rt; told(alloc, &sig, &after_six_names(alloc, b"size f")?) == plan(26, 8, 64));
+    assert!(rt;
+        told(
+            alloc,
+            &sig,
+            &after_six_names(alloc, b"size (union f people)")?
+        ) == Verdict::TooWide(142, 156, 65)
+    );
+    assert!(rt;
+        told(
+            alloc,
+            &sig,
+            &after_six_names(alloc, b"let g = union f f in size g")?
+        ) == Verdict::TooWide(144, 153, 128)
+    );
+    assert!(rt; told(alloc, &sig, &three_functions(alloc, 11)?) == plan(137, 128, 0));
+    assert!(rt; told(alloc, &sig, &three_functions(alloc, 12)?) == Verdict::TooDeep(265, 266));
+    assert!(rt; told(alloc, &sig, &ten_functions(alloc, 14)?) == plan(20000, 77, 0));
+    assert!(rt; told(alloc, &sig, &ten_functions(alloc, 15)?) == Verdict::TooLong(157, 158));
     Ok(())
 }

@@ -8,31 +8,32 @@ ghost use Rattle.fz_ast.specs.TypeNodes.{type_at};
 ghost use Rattle.shape_law.specs.Shapes.{Shape, Shapes, first_half, in_bang, second_half};
 ghost use Rattle.shape_law.specs.Walk.{enters, walk, walk_rules};
 ghost use Rattle.shape_run.specs.Cells.{Grown, IsScope, IsShape};
-ghost use Rattle.shape_run.specs.Rules.{Scopes, Stands, beside, binary_rule, branches, over, part_in, part_shape};
+ghost use Rattle.shape_run.specs.Rules.{Scopes, StandsForShape, beside, combined, branches, over, part_in, part_shape};
 ghost use Rattle.shape_run.specs.Tells.{Tells, tally_of};
 
 use crate::gives::{
-    give, give_ground, give_pair, give_part, give_union, give_wider, part_of, take_turn,
+    give_ground, give_leaf, give_pair, give_part, give_union, give_wider, part_of, take_turn,
 };
-use crate::store::{Cell, Count, Stop, Store};
-use fz_ast::{Arrow, Binary, Form, Name, Nodes, Span};
+use crate::plan::{Plan, ShapeFault};
+use crate::store::{Cell, Store};
+use fz_ast::{Binary, Form, Name, Nodes, Span};
 
 // The body of a function under one name more.
 #[cycle(visiting)]
 fn visit_under(
     nodes: &Nodes,
     store: &mut Store,
-    count: &mut Count,
+    count: &mut Plan,
     scope: u32,
     name: Name,
     shape: u32,
     i: u32,
     left: u32,
     here: u32,
-) -> Result<u32, Stop>
+) -> Result<u32, ShapeFault>
     requires known { i < length nodes.now.terms }
     requires scope { Scopes nodes.now.terms store.old.cells.items scope }
-    requires shape { Stands nodes.now.terms store.old.cells.items shape }
+    requires shape { StandsForShape nodes.now.terms store.old.cells.items shape }
     requires room { here + left < 4294967295 }
     ensures is { (σ : Shapes) (p : Shape) → IsScope nodes.now.terms store.old.cells.items scope σ → IsShape nodes.now.terms store.old.cells.items shape p
         → Tells nodes.now.terms store.new.cells.items count.new result
@@ -40,7 +41,7 @@ fn visit_under(
     ensures grown { Grown store.old.cells.items store.new.cells.items }
 {
     let Ok(inner) = store.bind(name, shape, scope) else {
-        return Err(Stop::NoMemory);
+        return Err(ShapeFault::NoMemory);
     };
     visit(nodes, store, count, inner, i, left, here)
 }
@@ -50,17 +51,17 @@ fn visit_under(
 fn visit_held(
     nodes: &Nodes,
     store: &mut Store,
-    count: &mut Count,
+    count: &mut Plan,
     scope: u32,
     name: Name,
     bang: u32,
     i: u32,
     left: u32,
     here: u32,
-) -> Result<u32, Stop>
+) -> Result<u32, ShapeFault>
     requires known { i < length nodes.now.terms }
     requires scope { Scopes nodes.now.terms store.old.cells.items scope }
-    requires bang { Stands nodes.now.terms store.old.cells.items bang }
+    requires bang { StandsForShape nodes.now.terms store.old.cells.items bang }
     requires room { here + left < 4294967295 }
     ensures is { (σ : Shapes) (p : Shape) → IsScope nodes.now.terms store.old.cells.items scope σ → IsShape nodes.now.terms store.old.cells.items bang p
         → Tells nodes.now.terms store.new.cells.items count.new result
@@ -68,7 +69,7 @@ fn visit_held(
     ensures grown { Grown store.old.cells.items store.new.cells.items }
 {
     let Ok(held) = store.in_bang(bang) else {
-        return Err(Stop::NoMemory);
+        return Err(ShapeFault::NoMemory);
     };
     visit_under(nodes, store, count, scope, name, held, i, left, here)
 }
@@ -78,7 +79,7 @@ fn visit_held(
 fn visit_halves(
     nodes: &Nodes,
     store: &mut Store,
-    count: &mut Count,
+    count: &mut Plan,
     scope: u32,
     x: Name,
     y: Name,
@@ -86,21 +87,22 @@ fn visit_halves(
     i: u32,
     left: u32,
     here: u32,
-) -> Result<u32, Stop>
+) -> Result<u32, ShapeFault>
     requires known { i < length nodes.now.terms }
     requires scope { Scopes nodes.now.terms store.old.cells.items scope }
-    requires pair { Stands nodes.now.terms store.old.cells.items pair }
+    requires pair { StandsForShape nodes.now.terms store.old.cells.items pair }
     requires room { here + left < 4294967295 }
     ensures is { (σ : Shapes) (p : Shape) → IsScope nodes.now.terms store.old.cells.items scope σ → IsShape nodes.now.terms store.old.cells.items pair p
         → Tells nodes.now.terms store.new.cells.items count.new result
-        (walk left here (Rattle.shape_law.specs.Shapes.Also (name_of y) (second_half p) (Rattle.shape_law.specs.Shapes.Also (name_of x) (first_half p) σ)) (term_at nodes.now.terms i) (tally_of count.old)) }
+        (walk left here (Rattle.shape_law.specs.Shapes.Also (name_of y) (second_half p) (Rattle.shape_law.specs.Shapes.Also (name_of x) (first_half p) σ))
+        (term_at nodes.now.terms i) (tally_of count.old)) }
     ensures grown { Grown store.old.cells.items store.new.cells.items }
 {
     let Ok(inner) = store.bind_first(x, pair, scope) else {
-        return Err(Stop::NoMemory);
+        return Err(ShapeFault::NoMemory);
     };
     let Ok(second) = store.second(pair) else {
-        return Err(Stop::NoMemory);
+        return Err(ShapeFault::NoMemory);
     };
     visit_under(nodes, store, count, inner, y, second, i, left, here)
 }
@@ -110,14 +112,14 @@ fn visit_halves(
 fn visit_both(
     nodes: &Nodes,
     store: &mut Store,
-    count: &mut Count,
+    count: &mut Plan,
     scope: u32,
     a: u32,
     other: u32,
     b: u32,
     left: u32,
     here: u32,
-) -> Result<u32, Stop>
+) -> Result<u32, ShapeFault>
     requires first { a < length nodes.now.terms }
     requires second { b < length nodes.now.terms }
     requires scope { Scopes nodes.now.terms store.old.cells.items scope }
@@ -138,7 +140,7 @@ fn visit_both(
 fn visit_sides(
     nodes: &Nodes,
     store: &mut Store,
-    count: &mut Count,
+    count: &mut Plan,
     scope: u32,
     side: u32,
     x: Name,
@@ -147,11 +149,11 @@ fn visit_sides(
     b: u32,
     left: u32,
     here: u32,
-) -> Result<u32, Stop>
+) -> Result<u32, ShapeFault>
     requires first { a < length nodes.now.terms }
     requires second { b < length nodes.now.terms }
     requires scope { Scopes nodes.now.terms store.old.cells.items scope }
-    requires side { Stands nodes.now.terms store.old.cells.items side }
+    requires side { StandsForShape nodes.now.terms store.old.cells.items side }
     requires room { here + left < 4294967295 }
     ensures is { (σ : Shapes) (p : Shape) → IsScope nodes.now.terms store.old.cells.items scope σ → IsShape nodes.now.terms store.old.cells.items side p
         → Tells nodes.now.terms store.new.cells.items count.new result (branches (walk left here) (beside (name_of x) p σ) (term_at nodes.now.terms a)
@@ -159,10 +161,10 @@ fn visit_sides(
     ensures grown { Grown store.old.cells.items store.new.cells.items }
 {
     let Ok(under_x) = store.bind_side(x, side, scope) else {
-        return Err(Stop::NoMemory);
+        return Err(ShapeFault::NoMemory);
     };
     let Ok(under_y) = store.bind_side(y, side, scope) else {
-        return Err(Stop::NoMemory);
+        return Err(ShapeFault::NoMemory);
     };
     visit_both(nodes, store, count, under_x, a, under_y, b, left, here)
 }
@@ -172,14 +174,14 @@ fn visit_sides(
 fn enter(
     nodes: &Nodes,
     store: &mut Store,
-    count: &mut Count,
+    count: &mut Plan,
     c: u32,
     u: u32,
     left: u32,
     here: u32,
-) -> Result<u32, Stop>
-    requires function { Stands nodes.now.terms store.old.cells.items c }
-    requires argument { Stands nodes.now.terms store.old.cells.items u }
+) -> Result<u32, ShapeFault>
+    requires function { StandsForShape nodes.now.terms store.old.cells.items c }
+    requires argument { StandsForShape nodes.now.terms store.old.cells.items u }
     requires room { here + left < 4294967295 }
     ensures is { (p q : Shape) → IsShape nodes.now.terms store.old.cells.items c p → IsShape nodes.now.terms store.old.cells.items u q
         → Tells nodes.now.terms store.new.cells.items count.new result (enters (walk left here) p q (tally_of count.old)) }
@@ -191,7 +193,7 @@ fn enter(
         ),
         Cell::Fn(name, body, scope) => {
             let Ok(held) = store.in_bang(u) else {
-                return Err(Stop::NoMemory);
+                return Err(ShapeFault::NoMemory);
             };
             visit_under(nodes, store, count, scope, name, held, body, left, here)
         }
@@ -204,19 +206,19 @@ fn enter(
 fn combine(
     nodes: &Nodes,
     store: &mut Store,
-    count: &mut Count,
+    count: &mut Plan,
     span: Span,
     form: Binary,
     a: u32,
     b: u32,
     left: u32,
     here: u32,
-) -> Result<u32, Stop>
-    requires first { Stands nodes.now.terms store.old.cells.items a }
-    requires second { Stands nodes.now.terms store.old.cells.items b }
+) -> Result<u32, ShapeFault>
+    requires first { StandsForShape nodes.now.terms store.old.cells.items a }
+    requires second { StandsForShape nodes.now.terms store.old.cells.items b }
     requires room { here + left < 4294967295 }
     ensures is { (p q : Shape) → IsShape nodes.now.terms store.old.cells.items a p → IsShape nodes.now.terms store.old.cells.items b q
-        → Tells nodes.now.terms store.new.cells.items count.new result (binary_rule (walk left here) span form p q (tally_of count.old)) }
+        → Tells nodes.now.terms store.new.cells.items count.new result (combined (walk left here) span form p q (tally_of count.old)) }
     ensures grown { Grown store.old.cells.items store.new.cells.items }
 {
     match form {
@@ -237,14 +239,14 @@ fn combine(
 fn over(
     nodes: &Nodes,
     store: &mut Store,
-    count: &mut Count,
+    count: &mut Plan,
     c: u32,
     b: u32,
     left: u32,
     here: u32,
-) -> Result<u32, Stop>
-    requires function { Stands nodes.now.terms store.old.cells.items c }
-    requires bag { Stands nodes.now.terms store.old.cells.items b }
+) -> Result<u32, ShapeFault>
+    requires function { StandsForShape nodes.now.terms store.old.cells.items c }
+    requires bag { StandsForShape nodes.now.terms store.old.cells.items b }
     requires room { here + left < 4294967295 }
     ensures is { (p q : Shape) → IsShape nodes.now.terms store.old.cells.items c p → IsShape nodes.now.terms store.old.cells.items b q
         → Tells nodes.now.terms store.new.cells.items count.new result (over (walk left here) p q (tally_of count.old)) }
@@ -252,7 +254,7 @@ fn over(
 {
     let width = store.width(b);
     let Ok(element) = store.ground(0) else {
-        return Err(Stop::NoMemory);
+        return Err(ShapeFault::NoMemory);
     };
     let _ = enter(nodes, store, count, c, element, left, here)?;
     give_ground(store, count, width)
@@ -263,12 +265,12 @@ fn over(
 fn visit_parts(
     nodes: &Nodes,
     store: &mut Store,
-    count: &mut Count,
+    count: &mut Plan,
     scope: u32,
     i: u32,
     left: u32,
     here: u32,
-) -> Result<u32, Stop>
+) -> Result<u32, ShapeFault>
     requires known { i < length nodes.now.terms }
     requires scope { Scopes nodes.now.terms store.old.cells.items scope }
     requires room { here + left < 4294967295 }
@@ -282,11 +284,6 @@ fn visit_parts(
         return give_part(store, count, &node.form, a);
     }
     match node.form {
-        Form::Var(name) => match store.find(scope, &name) {
-            Some(k) => give(store, count, k),
-            None => give_ground(store, count, 0),
-        },
-        Form::Num(_) | Form::Text(_) | Form::Unit => give_ground(store, count, 0),
         Form::Binary(form, a, b) => {
             let first = visit(nodes, store, count, scope, a, left, here)?;
             let second = visit(nodes, store, count, scope, b, left, here)?;
@@ -302,18 +299,6 @@ fn visit_parts(
             let bang = visit(nodes, store, count, scope, e, left, here)?;
             visit_held(nodes, store, count, scope, name, bang, b, left, here)
         }
-        Form::Lambda(Arrow::Fun, name, _, _, e) => {
-            let Ok(k) = store.fun(name, e, scope) else {
-                return Err(Stop::NoMemory);
-            };
-            give(store, count, k)
-        }
-        Form::Lambda(Arrow::Fn, name, _, _, e) => {
-            let Ok(k) = store.unlimited(name, e, scope) else {
-                return Err(Stop::NoMemory);
-            };
-            give(store, count, k)
-        }
         Form::LetPair(x, y, e, b) => {
             let pair = visit(nodes, store, count, scope, e, left, here)?;
             visit_halves(nodes, store, count, scope, x, y, pair, b, left, here)
@@ -326,7 +311,7 @@ fn visit_parts(
             let side = visit(nodes, store, count, scope, e, left, here)?;
             visit_sides(nodes, store, count, scope, side, x, a, y, b, left, here)
         }
-        _ => unreachable!(),
+        _ => give_leaf(store, count, scope, &node.form),
     }
 }
 
@@ -335,12 +320,12 @@ fn visit_parts(
 pub fn visit(
     nodes: &Nodes,
     store: &mut Store,
-    count: &mut Count,
+    count: &mut Plan,
     scope: u32,
     i: u32,
     left: u32,
     here: u32,
-) -> Result<u32, Stop>
+) -> Result<u32, ShapeFault>
     requires known { i < length nodes.now.terms }
     requires scope { Scopes nodes.now.terms store.old.cells.items scope }
     requires room { here + left < 4294967295 }
@@ -350,10 +335,10 @@ pub fn visit(
 {
     let span = nodes.node(i).span;
     if left == 0 {
-        return Err(Stop::Deep(span));
+        return Err(ShapeFault::TooDeep { span });
     }
     if count.turns >= 20000 {
-        return Err(Stop::Long(span));
+        return Err(ShapeFault::TooLong { span });
     }
     take_turn(count, here);
     visit_parts(nodes, store, count, scope, i, left - 1, here + 1)

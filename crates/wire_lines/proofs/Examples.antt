@@ -1,12 +1,12 @@
 -- The definitions, computed on lines as the protocol's rules write them.
-use Rattle.std.proofs.Common.{◌≡◌, ℕ, pos, negsuc, true, false, List, [], ◌∷◌, length, Some, None, Ok, Err, codes, refl, sym, ◌∙◌, subst, arith}
+use Rattle.std.proofs.Common.{◌≡◌, ℕ, pos, negsuc, true, false, List, [], ◌∷◌, length, Some, None, Ok, Err, codes, refl, arith}
 use Rattle.std.specs.Fmt.{digits}
 use Rattle.fz_frac.specs.Distance.{Fin, Inf}
 use Rattle.wire_lines.specs.Lines.{lines_of, words_of, joined}
 use Rattle.wire_lines.specs.Name.{is_name}
 use Rattle.wire_lines.specs.Epsilon.{epsilon_of}
 use Rattle.wire_lines.specs.Request.{hello, ask, bye, line_limit, request_of, fault_of}
-use Rattle.wire_lines.specs.Refusal.{by_line, by_program, by_money, by_number, no_memory, no_token, no_term, too_nested, ill_typed, too_sensitive, out_of_range, unbounded, no_number, unread}
+use Rattle.wire_lines.specs.Refusal.{by_line, by_program, by_money, by_number, no_memory, no_token, no_term, too_nested, ill_typed, too_sensitive, out_of_range, unbounded, no_number, too_deep, too_long, too_wide}
 use Rattle.wire_lines.specs.Reply.{greeted, answered, ended, refused, reply_text}
 use Rattle.wire_lines.specs.declared.refusal.LineRefusal.TheVariants.{Malformed, TooLong, Unknown, NoEpsilon, NoHello}
 use Rattle.wire_lines.specs.declared.refusal.MoneyRefusal.TheVariants.{OverBudget, JournalFull}
@@ -370,9 +370,18 @@ code_34 : reply_text (refused (by_program no_number)) ≡ codes "no 34\n"
 unfolding reply_text digits
 code_34 = refl
 
-code_39 : reply_text (refused (by_program (unread 3 11))) ≡ codes "no 39 3 11\n"
+code_35 : reply_text (refused (by_program (too_deep 3 11))) ≡ codes "no 35 3 11\n"
 unfolding reply_text digits
-code_39 = refl
+code_35 = refl
+
+code_36 : reply_text (refused (by_program (too_long 0 15999))) ≡ codes "no 36 0 15999\n"
+unfolding reply_text digits
+code_36 = refl
+
+-- the union's span and width
+code_37 : reply_text (refused (by_program (too_wide 4 11 65))) ≡ codes "no 37 4 11 65\n"
+unfolding reply_text digits
+code_37 = refl
 
 -- spent, after, budget, records seen
 code_40 : reply_text (refused (by_money (OverBudget 1 2 3 4))) ≡ codes "no 40 1 2 3 4\n"

@@ -13,13 +13,11 @@ use Rattle.std.proofs.lemmas.Fmt.{length-decimal-le, digits_decimal, digits_valu
 use Rattle.std.proofs.lemmas.List.Splits.{length-slice_split, slice_split_none, slice_split_at}
 use Rattle.wire_lines.specs.Lines.{lf, space, words_of, pieces_of}
 use Rattle.fz_frac.specs.Distance.{Distance, Fin, Inf}
-use Rattle.wire_lines.specs.Refusal.{ProgramRefusal, no_token, no_term, too_nested, ill_typed, too_sensitive, out_of_range, unbounded, no_number, unread, Refusal, by_line, by_program, by_money, by_number, no_memory}
+use Rattle.wire_lines.specs.Refusal.{ProgramRefusal, no_token, no_term, too_nested, ill_typed, too_sensitive, out_of_range, unbounded, no_number, too_deep, too_long, too_wide, Refusal, by_line, by_program, by_money, by_number, no_memory}
 use Rattle.wire_lines.specs.Reply.{Replied, greeted, answered, ended, refused, Datum, number, signed, text, ratio, datum_text, sensitivity_text, reply_words, refusal_words, reply_text, HasSize, IsReply, type_fault_text}
 use Rattle.wire_lines.specs.declared.refusal.LineRefusal.{LineRefusal}
 use Rattle.wire_lines.specs.declared.refusal.LineRefusal.TheVariants.{Malformed, TooLong, Unknown, NoEpsilon, NoHello}
-use Rattle.wire_lines.specs.declared.refusal.MoneyRefusal.{MoneyRefusal}
 use Rattle.wire_lines.specs.declared.refusal.MoneyRefusal.TheVariants.{OverBudget, JournalFull}
-use Rattle.wire_lines.specs.declared.refusal.NumberRefusal.{NumberRefusal}
 use Rattle.wire_lines.specs.declared.refusal.NumberRefusal.TheVariants.{Exhausted, Lost}
 use Rattle.wire_lines.specs.declared.refusal.TypeFault.{TypeFault}
 use Rattle.wire_lines.specs.declared.refusal.TypeFault.TheVariants.{Unbound, Mismatch, NotGround, NotFlat}
@@ -151,7 +149,9 @@ rows =
     ∷ (codes "32", λ ws. refused (by_program (out_of_range (num ws 0) (num ws 1))))
     ∷ (codes "33", λ ws. refused (by_program (unbounded (nth ws 0))))
     ∷ (codes "34", λ ws. refused (by_program no_number))
-    ∷ (codes "39", λ ws. refused (by_program (unread (num ws 0) (num ws 1))))
+    ∷ (codes "35", λ ws. refused (by_program (too_deep (num ws 0) (num ws 1))))
+    ∷ (codes "36", λ ws. refused (by_program (too_long (num ws 0) (num ws 1))))
+    ∷ (codes "37", λ ws. refused (by_program (too_wide (num ws 0) (num ws 1) (num ws 2))))
     ∷ (codes "40", λ ws. refused (by_money (OverBudget (num ws 0) (num ws 1) (num ws 2) (num ws 3))))
     ∷ (codes "41", λ ws. refused (by_money (JournalFull (num ws 0) (num ws 1) (num ws 2))))
     ∷ (codes "50", λ ws. refused (by_number (Exhausted (num ws 0))))
@@ -229,7 +229,9 @@ read_back_is (refused (by_program (too_sensitive from to r))) h = rw (value_is f
 read_back_is (refused (by_program (out_of_range from to))) h = rw (value_is from h.0, value_is to h.1.0) refl
 read_back_is (refused (by_program (unbounded table))) h = refl
 read_back_is (refused (by_program no_number)) h = refl
-read_back_is (refused (by_program (unread from to))) h = rw (value_is from h.0, value_is to h.1.0) refl
+read_back_is (refused (by_program (too_deep from to))) h = rw (value_is from h.0, value_is to h.1.0) refl
+read_back_is (refused (by_program (too_long from to))) h = rw (value_is from h.0, value_is to h.1.0) refl
+read_back_is (refused (by_program (too_wide from to width))) h = rw (value_is from h.0, value_is to h.1.0, value_is width h.1.1.0) refl
 read_back_is (refused (by_money (OverBudget spent after budget seen))) h = rw (value_is spent h.0, value_is after h.1.0, value_is budget h.1.1.0, value_is seen h.1.1.1.0) refl
 read_back_is (refused (by_money (JournalFull used unsettled capacity))) h = rw (value_is used h.0, value_is unsettled h.1.0, value_is capacity h.1.1.0) refl
 read_back_is (refused (by_number (Exhausted n))) h = rw (value_is n h.0) refl
@@ -258,7 +260,9 @@ program_no_lf (too_sensitive from to r) = refl
 program_no_lf (out_of_range from to) = refl
 program_no_lf (unbounded table) = refl
 program_no_lf no_number = refl
-program_no_lf (unread from to) = refl
+program_no_lf (too_deep from to) = refl
+program_no_lf (too_long from to) = refl
+program_no_lf (too_wide from to width) = refl
 
 refusal_no_lf : (refusal : Refusal) → no_lf (refusal_words refusal).0 ≡ true
 unfolding no_lf

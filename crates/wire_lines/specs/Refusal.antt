@@ -6,7 +6,7 @@ use Rattle.wire_lines.specs.declared.refusal.TypeFault.{TypeFault}
 use Rattle.wire_lines.specs.declared.refusal.LineRefusal.{LineRefusal}
 use Rattle.wire_lines.specs.declared.refusal.LineRefusal.TheVariants.{Malformed, TooLong}
 use Rattle.wire_lines.specs.declared.refusal.ProgramRefusal.{ProgramRefusal as ProgramRefusalAt}
-use Rattle.wire_lines.specs.declared.refusal.ProgramRefusal.TheVariants.{NoToken, NoTerm, TooNested, IllTyped, TooSensitive, OutOfRange, Unbounded, NoNumber, Unread}
+use Rattle.wire_lines.specs.declared.refusal.ProgramRefusal.TheVariants.{NoToken, NoTerm, TooNested, IllTyped, TooSensitive, OutOfRange, Unbounded, NoNumber, TooDeep, TooLong as ProgramTooLong, TooWide}
 use Rattle.wire_lines.specs.declared.refusal.MoneyRefusal.{MoneyRefusal}
 use Rattle.wire_lines.specs.declared.refusal.NumberRefusal.{NumberRefusal}
 use Rattle.wire_lines.specs.declared.refusal.Refusal.{Refusal as RefusalAt}
@@ -22,7 +22,9 @@ pub data ProgramRefusal : Type 0 where
   out_of_range : (from to : ℕ) → ProgramRefusal
   unbounded : (table : List ℕ) → ProgramRefusal
   no_number : ProgramRefusal
-  unread : (from to : ℕ) → ProgramRefusal
+  too_deep : (from to : ℕ) → ProgramRefusal
+  too_long : (from to : ℕ) → ProgramRefusal
+  too_wide : (from to width : ℕ) → ProgramRefusal
 
 -- said by the line itself, of the program, by the budget, of a number, or for want of memory
 pub data Refusal : Type 0 where
@@ -48,7 +50,9 @@ program_refusal_at (TooSensitive from to sens) = too_sensitive from to (distance
 program_refusal_at (OutOfRange from to) = out_of_range from to
 program_refusal_at (Unbounded table) = unbounded table.bytes.now
 program_refusal_at NoNumber = no_number
-program_refusal_at (Unread from to) = unread from to
+program_refusal_at (TooDeep from to) = too_deep from to
+program_refusal_at (ProgramTooLong from to) = too_long from to
+program_refusal_at (TooWide from to width) = too_wide from to width
 
 abbrev pub refusal_at : RefusalAt → Refusal
 refusal_at (Line refusal) = by_line refusal

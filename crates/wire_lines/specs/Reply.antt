@@ -7,7 +7,7 @@ use Rattle.fz_frac.specs.Distance.{Distance, Fin, Inf}
 use Rattle.fz_frac.specs.Sens.{distance_of}
 use Rattle.wire_lines.specs.Lines.{lf, space}
 use Rattle.wire_lines.specs.Name.{is_name}
-use Rattle.wire_lines.specs.Refusal.{ProgramRefusal, no_token, no_term, too_nested, ill_typed, too_sensitive, out_of_range, unbounded, no_number, unread, Refusal, by_line, by_program, by_money, by_number, no_memory, refusal_at}
+use Rattle.wire_lines.specs.Refusal.{ProgramRefusal, no_token, no_term, too_nested, ill_typed, too_sensitive, out_of_range, unbounded, no_number, too_deep, too_long, too_wide, Refusal, by_line, by_program, by_money, by_number, no_memory, refusal_at}
 use Rattle.wire_lines.specs.declared.reply.Reply.{Reply}
 use Rattle.wire_lines.specs.declared.reply.Reply.TheVariants.{Hello, Answer, Bye, Refused}
 use Rattle.wire_lines.specs.declared.reply.Field.{Field}
@@ -73,7 +73,9 @@ program_words (too_sensitive from to r) = (codes "no 31", number from ∷ number
 program_words (out_of_range from to) = (codes "no 32", number from ∷ number to ∷ [])
 program_words (unbounded table) = (codes "no 33", text table ∷ [])
 program_words no_number = (codes "no 34", [])
-program_words (unread from to) = (codes "no 39", number from ∷ number to ∷ [])
+program_words (too_deep from to) = (codes "no 35", number from ∷ number to ∷ [])
+program_words (too_long from to) = (codes "no 36", number from ∷ number to ∷ [])
+program_words (too_wide from to width) = (codes "no 37", number from ∷ number to ∷ number width ∷ [])
 
 abbrev pub money_words : MoneyRefusal → List ℕ × List Datum
 money_words (OverBudget spent after budget seen) = (codes "no 40", number spent ∷ number after ∷ number budget ∷ number seen ∷ [])

@@ -64,10 +64,21 @@ pub enum ProgramRefusal<'a> {
     },
     /// 34: the value of the program is no number.
     NoNumber,
-    /// 39: the span of a program that is accepted and isn't answered yet.
-    Unread {
+    /// 35: the span of the term at which the run without data is too deep.
+    TooDeep {
         from: u32,
         to: u32,
+    },
+    /// 36: the span of the term at which the run without data takes a turn too many.
+    TooLong {
+        from: u32,
+        to: u32,
+    },
+    /// 37: the span of the union that is too wide, and how many tables wide it is.
+    TooWide {
+        from: u32,
+        to: u32,
+        width: u32,
     },
 }
 
@@ -103,7 +114,7 @@ pub enum NumberRefusal {
 pub enum Refusal<'a> {
     /// 10 to 14
     Line(LineRefusal),
-    /// 20 to 34, and 39
+    /// 20 to 37
     Program(ProgramRefusal<'a>),
     /// 40 and 41
     Money(MoneyRefusal),

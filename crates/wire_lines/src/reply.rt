@@ -172,7 +172,15 @@ fn write_program_refusal(refusal: ProgramRefusal<'_>, out: &mut [u8; REPLY_LIMIT
         }
         ProgramRefusal::Unbounded { table } => put_line(out, b"no 33", &[Field::Name(table)]),
         ProgramRefusal::NoNumber => put_line(out, b"no 34", &[]),
-        ProgramRefusal::Unread { from, to } => put_line(out, b"no 39", &[Number(from), Number(to)]),
+        ProgramRefusal::TooDeep { from, to } => {
+            put_line(out, b"no 35", &[Number(from), Number(to)])
+        }
+        ProgramRefusal::TooLong { from, to } => {
+            put_line(out, b"no 36", &[Number(from), Number(to)])
+        }
+        ProgramRefusal::TooWide { from, to, width } => {
+            put_line(out, b"no 37", &[Number(from), Number(to), Number(width)])
+        }
     }
 }
 

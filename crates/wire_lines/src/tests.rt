@@ -146,7 +146,7 @@ fn too_sensitive(sens: Sens) -> Refusal<'static> {
 #[test]
 fn writes_refusals(rt: HostRuntime) {
     let half = frac(3, 2);
-    let rows: [(Refusal<'_>, &[u8]); 23] = [
+    let rows: [(Refusal<'_>, &[u8]); 25] = [
         (
             Refusal::Line(LineRefusal::Malformed { word: 2 }),
             b"no 10 2\n",
@@ -183,8 +183,20 @@ fn writes_refusals(rt: HostRuntime) {
         ),
         (Refusal::Program(ProgramRefusal::NoNumber), b"no 34\n"),
         (
-            Refusal::Program(ProgramRefusal::Unread { from: 0, to: 0 }),
-            b"no 39 0 0\n",
+            Refusal::Program(ProgramRefusal::TooDeep { from: 3, to: 11 }),
+            b"no 35 3 11\n",
+        ),
+        (
+            Refusal::Program(ProgramRefusal::TooLong { from: 0, to: 15999 }),
+            b"no 36 0 15999\n",
+        ),
+        (
+            Refusal::Program(ProgramRefusal::TooWide {
+                from: 4,
+                to: 11,
+                width: 65,
+            }),
+            b"no 37 4 11 65\n",
         ),
         (
             Refusal::Money(MoneyRefusal::OverBudget {

@@ -2,109 +2,88 @@ use Rattle.std.proofs.Common.{rules, length}
 use Rattle.fz_ast.specs.Names.{name_of}
 use Rattle.fz_ast.specs.TermNodes.{term_at}
 use Rattle.fz_ast.specs.TypeNodes.{type_at}
-use Rattle.shape_law.specs.Walk.{enters, gives, walk, walk_rules}
+use Rattle.shape_law.specs.Walk.{enters, yields, walk, walk_rules}
 use Rattle.shape_run.specs.Rules.{beside, branches, over}
-use Rattle.shape_run.specs.Tells.{IsStop, Tells, tally_of}
+use Rattle.shape_run.specs.Tells.{StopsAt, Tells, tally_of}
 use Rattle.std.proofs.Common.{ap, refl, sym, ◌∙◌}
 use Rattle.std.proofs.lemmas.Result.{err_from_is_err_and}
-use Rattle.shape_law.specs.Shapes.{Also, FnS, FunS, Wide, first_half, in_bang, second_half}
+use Rattle.shape_law.specs.Shapes.{Also, Wide, first_half, in_bang, second_half}
 use Rattle.shape_run.specs.declared.store.Cell.TheVariants.{Fn, Fun}
 use Rattle.shape_run.proofs.CellFacts.{grown_on, in_cells, read, scope_kept, shape_kept}
-use Rattle.shape_run.proofs.Steps.{a_turn, branches_then, case_then, if_then, known_case, known_if, known_let_pair, left_has_part, let_pair_then, node_case, node_if, node_let_pair, second_branch_stops, known_let_bang, let_bang_then, node_let_bang, binary_then, over_stops, over_then, part_known, part_stops, part_then, known_binary, known_lambda, known_let, let_then, no_function, node_binary, node_let, node_span, past_limit, second_stops, to}
+use Rattle.shape_run.proofs.Steps.{a_turn, branches_then, case_then, if_then, known_case, known_if, known_let_pair, leaf_known, leaf_then, IsLeft, let_pair_then, node_case, node_if, node_let_pair, second_branch_stops, known_let_bang, let_bang_then, node_let_bang, binary_then, over_stops, over_then, part_known, part_stops, part_then, known_binary, known_let, let_then, no_function, node_binary, node_let, node_span, past_limit, second_stops, to}
 use Rattle.shape_run.proofs.walk.+visiting.Goals as goal
 
--- src/walk.rt:98:40
 pub combine-give_pair-requires : goal.combine-give_pair-requires
 combine-give_pair-requires t c = search rules
 
--- src/walk.rt:99:24
 pub combine-enter-requires : goal.combine-enter-requires
 combine-enter-requires t c = search rules
 
--- src/walk.rt:103:26
 pub combine-give_union-requires : goal.combine-give_union-requires
 combine-give_union-requires t c = search rules
 
--- src/walk.rt:78:1
 pub combine-returns-in-Pair-clause-is : goal.combine-returns-in-Pair-clause-is
 combine-returns-in-Pair-clause-is t c = search rules
 
--- src/walk.rt:78:1
 pub combine-returns-in-Pair-clause-grown : goal.combine-returns-in-Pair-clause-grown
 combine-returns-in-Pair-clause-grown t c = search rules
 
--- src/walk.rt:78:1
 pub combine-returns-in-App-clause-is : goal.combine-returns-in-App-clause-is
 combine-returns-in-App-clause-is t c = search rules
 
--- src/walk.rt:78:1
 pub combine-returns-in-App-clause-grown : goal.combine-returns-in-App-clause-grown
 combine-returns-in-App-clause-grown t c = search rules
 
--- src/walk.rt:78:1
 pub combine-returns-in-Plus-clause-is : goal.combine-returns-in-Plus-clause-is
 combine-returns-in-Plus-clause-is t c = search rules
 
--- src/walk.rt:78:1
 pub combine-returns-in-Plus-clause-grown : goal.combine-returns-in-Plus-clause-grown
 combine-returns-in-Plus-clause-grown t c = search rules
 
--- src/walk.rt:78:1
 pub combine-returns-in-Union-clause-is : goal.combine-returns-in-Union-clause-is
 combine-returns-in-Union-clause-is t c = search rules
 
--- src/walk.rt:78:1
 pub combine-returns-in-Union-clause-grown : goal.combine-returns-in-Union-clause-grown
 combine-returns-in-Union-clause-grown t c = search rules
 
--- src/walk.rt:63:11
 pub enter-cell-requires : goal.enter-cell-requires
 enter-cell-requires t c = in_cells c.args.nodes.now.terms c.args.store.now.cells.items c.args.c c.requires.function.0 c.requires.function.1
 
--- src/walk.rt:64:41
 pub enter-visit_under-requires : goal.enter-visit_under-requires
 enter-visit_under-requires t c =
     let r = read c.args.nodes.now.terms c.args.store.now.cells.items c.args.c c.requires.function.0 (Fun c.in-Fun.name c.in-Fun.body c.in-Fun.scope) c.in-Fun.ensures c.requires.function.1 in
     (search rules, (r.2, ((r.0, r.1), (c.requires.argument, c.requires.room))))
 
--- src/walk.rt:68:28
 pub enter-in_bang-requires : goal.enter-in_bang-requires
 enter-in_bang-requires t c = search rules
 
--- src/walk.rt:69:17
 pub enter-returns-in_default-in_bang-clause-grown :
     goal.enter-returns-in_default-in_bang-clause-grown
 enter-returns-in_default-in_bang-clause-grown t c = search rules
 
--- src/walk.rt:71:13
 pub enter-visit_under-requires-in-Fn : goal.enter-visit_under-requires-in-Fn
 enter-visit_under-requires-in-Fn t c =
     let r = read c.args.nodes.now.terms c.args.store.now.cells.items c.args.c c.requires.function.0 (Fn c.in-Fn.name c.in-Fn.body c.in-Fn.scope) c.in-Fn.ensures c.requires.function.1 in
     let a = c.requires.argument in
     (search rules, (r.2, ((r.0, scope_kept c.args.nodes.now.terms c.args.store.now.cells.items c.in_bang.new.self.cells.items c.in-Fn.scope r.0 c.in_bang.ensures.grown r.1), ((in_bang a.0, c.in-Ok.ensures.is c.args.nodes.now.terms (in_bang a.0) (a.0, a.1, refl)), c.requires.room))))
 
--- src/walk.rt:46:1
 pub enter-returns-in-Fun-clause-is : goal.enter-returns-in-Fun-clause-is
 enter-returns-in-Fun-clause-is t c = λ p q h k.
     let r = read c.args.nodes.now.terms c.args.store.now.cells.items c.args.c p (Fun c.in-Fun.name c.in-Fun.body c.in-Fun.scope) c.in-Fun.ensures h in
     to (Tells c.args.nodes.now.terms c.visit_under.new.store.cells.items c.visit_under.new.count c.visit_under.result) _ _ (ap (λ p. enters (walk c.args.left c.args.here) p q (tally_of c.args.count.now)) r.3) (c.visit_under.ensures.is r.0 q r.1 k)
 
--- src/walk.rt:46:1
 pub enter-returns-in-Fun-clause-grown : goal.enter-returns-in-Fun-clause-grown
 enter-returns-in-Fun-clause-grown t c = search rules
 
--- src/walk.rt:46:1
 pub enter-returns-in-Ok-clause-is : goal.enter-returns-in-Ok-clause-is
 enter-returns-in-Ok-clause-is t c = λ p q h k.
     let r = read c.args.nodes.now.terms c.args.store.now.cells.items c.args.c p (Fn c.in-Fn.name c.in-Fn.body c.in-Fn.scope) c.in-Fn.ensures h in
     to (Tells c.args.nodes.now.terms c.visit_under-in-Fn.new.store.cells.items c.visit_under-in-Fn.new.count c.visit_under-in-Fn.result) _ _ (ap (λ p. enters (walk c.args.left c.args.here) p q (tally_of c.args.count.now)) r.3)
     (c.visit_under-in-Fn.ensures.is r.0 (in_bang q) (scope_kept c.args.nodes.now.terms c.args.store.now.cells.items c.in_bang.new.self.cells.items c.in-Fn.scope r.0 c.in_bang.ensures.grown r.1) (c.in-Ok.ensures.is c.args.nodes.now.terms (in_bang q) (q, k, refl)))
 
--- src/walk.rt:46:1
 pub enter-returns-in-Ok-clause-grown : goal.enter-returns-in-Ok-clause-grown
 enter-returns-in-Ok-clause-grown t c = grown_on c.args.store.now.cells.items c.in_bang.new.self.cells.items c.visit_under-in-Fn.new.store.cells.items c.in_bang.ensures.grown c.visit_under-in-Fn.ensures.grown
 
--- src/walk.rt:46:1
 pub enter-returns-in_default : goal.enter-returns-in_default
 enter-returns-in_default t c = record {
   is = λ p q h k. to (Tells c.args.nodes.now.terms c.give_ground.new.store.cells.items c.give_ground.new.count c.give_ground.result) _ _
@@ -112,97 +91,71 @@ enter-returns-in_default t c = record {
   grown = c.give_ground.ensures.grown;
 }
 
--- src/walk.rt:178:16
 pub visit-node-requires : goal.visit-node-requires
 visit-node-requires t c = search rules
 
--- src/walk.rt:180:9
 pub visit-returns-then-left-eq0-clause-is : goal.visit-returns-then-left-eq0-clause-is
 visit-returns-then-left-eq0-clause-is t c = search rules
 
--- src/walk.rt:180:9
 pub visit-returns-then-left-eq0-clause-grown : goal.visit-returns-then-left-eq0-clause-grown
 visit-returns-then-left-eq0-clause-grown t c = search rules
 
--- src/walk.rt:183:9
 pub visit-returns-then-count-ge20000-clause-is : goal.visit-returns-then-count-ge20000-clause-is
 visit-returns-then-count-ge20000-clause-is t c = λ σ h. past_limit c.args.left c.args.here σ (term_at c.args.nodes.now.terms c.args.i) c.node.result.now.span (tally_of c.args.count.now) c.if-left-eq0.false c.if-count-ge20000.true (node_span (type_at c.args.nodes.now.types) c.args.nodes.now.terms (term_at c.args.nodes.now.terms c.args.i) c.node.result.now.span c.node.result.now.form c.node.ensures.form)
 
--- src/walk.rt:183:9
 pub visit-returns-then-count-ge20000-clause-grown :
     goal.visit-returns-then-count-ge20000-clause-grown
 visit-returns-then-count-ge20000-clause-grown t c = search rules
 
--- src/walk.rt:185:5
 pub visit-take_turn-requires : goal.visit-take_turn-requires
 visit-take_turn-requires t c = search rules
 
--- src/walk.rt:186:48
 pub visit-overflow_sub-left : goal.visit-overflow_sub-left
 visit-overflow_sub-left t c = search rules
 
--- src/walk.rt:186:58
 pub visit-overflow_add-here : goal.visit-overflow_add-here
 visit-overflow_add-here t c = search rules
 
--- src/walk.rt:186:5
 pub visit-visit_parts-requires : goal.visit-visit_parts-requires
 visit-visit_parts-requires t c = search rules
 
--- src/walk.rt:161:1
 pub visit-returns-clause-is : goal.visit-returns-clause-is
 visit-returns-clause-is t c = λ σ h. to (Tells c.args.nodes.now.terms c.visit_parts.new.store.cells.items c.visit_parts.new.count c.visit_parts.result) _ _
     (a_turn c.args.left c.args.here σ (term_at c.args.nodes.now.terms c.args.i) (tally_of c.args.count.now) (tally_of c.take_turn.new.count) c.if-left-eq0.false c.if-count-ge20000.false c.take_turn.ensures) (c.visit_parts.ensures.is σ h)
 
--- src/walk.rt:161:1
 pub visit-returns-clause-grown : goal.visit-returns-clause-grown
 visit-returns-clause-grown t c = search rules
 
--- src/walk.rt:126:9
 pub visit_parts-node-node-requires : goal.visit_parts-node-node-requires
 visit_parts-node-node-requires t c = search rules
 
--- src/walk.rt:128:34
-pub visit_parts-find-requires : goal.visit_parts-find-requires
-visit_parts-find-requires t c = search rules
-
--- src/walk.rt:129:24
-pub visit_parts-give-requires : goal.visit_parts-give-requires
-visit_parts-give-requires t c = search rules
-
--- src/walk.rt:134:25
 pub visit_parts-returns-in_err-first-in-Binary-clause-is :
     goal.visit_parts-returns-in_err-first-in-Binary-clause-is
 visit_parts-returns-in_err-first-in-Binary-clause-is t c = search rules
 
--- src/walk.rt:134:25
 pub visit_parts-returns-in_err-first-in-Binary-clause-grown :
     goal.visit_parts-returns-in_err-first-in-Binary-clause-grown
 visit_parts-returns-in_err-first-in-Binary-clause-grown t c = search rules
 
--- src/walk.rt:135:26
 pub visit_parts-visit-requires-in-Binary-2 : goal.visit_parts-visit-requires-in-Binary-2
 visit_parts-visit-requires-in-Binary-2 t c =
     let k = known_binary (length c.args.nodes.now.types) c.args.i (length c.args.nodes.now.terms) c.node-node.result.now.form c.in-Binary.form c.in-Binary.a c.in-Binary.b c.in-Binary.is c.node-node.ensures.known c.requires.known in
     let s = c.requires.scope in
     (search rules, (k.1, ((s.0, scope_kept c.args.nodes.now.terms c.args.store.now.cells.items c.visit-in-Binary.new.store.cells.items c.args.scope s.0 c.visit-in-Binary.ensures.grown s.1), c.requires.room)))
 
--- src/walk.rt:135:26
 pub visit_parts-returns-in_err-second-in-Binary-clause-is :
     goal.visit_parts-returns-in_err-second-in-Binary-clause-is
 visit_parts-returns-in_err-second-in-Binary-clause-is t c = λ σ h.
     let a = c.in_ok-first-in-Binary.ensures.is σ h in
     let b = c.in_err-second-in-Binary.ensures.is σ (scope_kept c.args.nodes.now.terms c.args.store.now.cells.items c.visit-in-Binary.new.store.cells.items c.args.scope σ c.visit-in-Binary.ensures.grown h) in
-    let told : IsStop c.in_err-second-in-Binary.field-0.0 (walk_rules (walk c.args.left c.args.here) σ (term_at c.args.nodes.now.terms c.args.i) (tally_of c.args.count.now)) =
+    let told : StopsAt c.in_err-second-in-Binary.field-0.0 (walk_rules (walk c.args.left c.args.here) σ (term_at c.args.nodes.now.terms c.args.i) (tally_of c.args.count.now)) =
     second_stops (walk c.args.left c.args.here) σ c.node-node.result.now.span c.in-Binary.form (term_at c.args.nodes.now.terms c.in-Binary.a) (term_at c.args.nodes.now.terms c.in-Binary.b) (term_at c.args.nodes.now.terms c.args.i) (tally_of c.args.count.now) (tally_of c.visit-in-Binary.new.count) a.0 c.in_err-second-in-Binary.field-0.0 (node_binary (type_at c.args.nodes.now.types) c.args.nodes.now.terms (term_at c.args.nodes.now.terms c.args.i) c.node-node.result.now.span c.node-node.result.now.form c.in-Binary.form c.in-Binary.a c.in-Binary.b c.node-node.ensures.form c.in-Binary.is) a.2 b in
     let e = err_from_is_err_and c.from_residual-in_err-second-in-Binary.result c.from_residual-in_err-second-in-Binary.ensures.1 in rw (e.1, e.2) told
 
--- src/walk.rt:135:26
 pub visit_parts-returns-in_err-second-in-Binary-clause-grown :
     goal.visit_parts-returns-in_err-second-in-Binary-clause-grown
 visit_parts-returns-in_err-second-in-Binary-clause-grown t c = grown_on c.args.store.now.cells.items c.visit-in-Binary.new.store.cells.items c.visit-in-Binary-2.new.store.cells.items c.visit-in-Binary.ensures.grown c.visit-in-Binary-2.ensures.grown
 
--- src/walk.rt:136:13
 pub visit_parts-combine-requires : goal.visit_parts-combine-requires
 visit_parts-combine-requires t c =
     let s = c.requires.scope in
@@ -210,21 +163,17 @@ visit_parts-combine-requires t c =
     let b = c.in_ok-second-in-Binary.ensures.is s.0 (scope_kept c.args.nodes.now.terms c.args.store.now.cells.items c.visit-in-Binary.new.store.cells.items c.args.scope s.0 c.visit-in-Binary.ensures.grown s.1) in
     (search rules, ((a.0, shape_kept c.args.nodes.now.terms c.visit-in-Binary.new.store.cells.items c.visit-in-Binary-2.new.store.cells.items c.in_ok-first-in-Binary.first a.0 c.visit-in-Binary-2.ensures.grown a.1), ((b.0, b.1), c.requires.room)))
 
--- src/walk.rt:141:25
 pub visit_parts-visit-requires-in-Let : goal.visit_parts-visit-requires-in-Let
 visit_parts-visit-requires-in-Let t c = search rules
 
--- src/walk.rt:141:25
 pub visit_parts-returns-in_err-shape-in-Let-clause-is :
     goal.visit_parts-returns-in_err-shape-in-Let-clause-is
 visit_parts-returns-in_err-shape-in-Let-clause-is t c = search rules
 
--- src/walk.rt:141:25
 pub visit_parts-returns-in_err-shape-in-Let-clause-grown :
     goal.visit_parts-returns-in_err-shape-in-Let-clause-grown
 visit_parts-returns-in_err-shape-in-Let-clause-grown t c = search rules
 
--- src/walk.rt:142:13
 pub visit_parts-visit_under-requires : goal.visit_parts-visit_under-requires
 visit_parts-visit_under-requires t c =
     let k = known_let (length c.args.nodes.now.types) c.args.i (length c.args.nodes.now.terms) c.node-node.result.now.form c.in-Let.name c.in-Let.e c.in-Let.b c.in-Let.is c.node-node.ensures.known c.requires.known in
@@ -232,49 +181,6 @@ visit_parts-visit_under-requires t c =
     let a = c.in_ok-shape-in-Let.ensures.is s.0 s.1 in
     (search rules, (k.1, ((s.0, scope_kept c.args.nodes.now.terms c.args.store.now.cells.items c.visit-in-Let.new.store.cells.items c.args.scope s.0 c.visit-in-Let.ensures.grown s.1), ((a.0, a.1), c.requires.room))))
 
--- src/walk.rt:146:17
-pub visit_parts-returns-in_default-fun-clause-grown :
-    goal.visit_parts-returns-in_default-fun-clause-grown
-visit_parts-returns-in_default-fun-clause-grown t c = search rules
-
--- src/walk.rt:148:13
-pub visit_parts-give-requires-in-Lambda-Fun-default-default-default-default :
-    goal.visit_parts-give-requires-in-Lambda-Fun-default-default-default-default
-visit_parts-give-requires-in-Lambda-Fun-default-default-default-default t c =
-    let s = c.requires.scope in
-    let k = known_lambda (length c.args.nodes.now.types) c.args.i (length c.args.nodes.now.terms) c.node-node.result.now.form _ _ _ _ _ c.in-Lambda-Fun-default-default-default-default.is c.node-node.ensures.known c.requires.known in
-    (c.args.nodes.now.terms, FunS (name_of c.in-Lambda-Fun-default-default-default-default.name) (term_at c.args.nodes.now.terms c.in-Lambda-Fun-default-default-default-default.e) s.0, c.in-Ok.ensures.is c.args.nodes.now.terms _ (s.0, s.1, k, refl))
-
--- src/walk.rt:152:17
-pub visit_parts-returns-in_default-unlimited-clause-grown :
-    goal.visit_parts-returns-in_default-unlimited-clause-grown
-visit_parts-returns-in_default-unlimited-clause-grown t c = search rules
-
--- src/walk.rt:154:13
-pub visit_parts-give-requires-in-Lambda-Fn-default-default-default-default :
-    goal.visit_parts-give-requires-in-Lambda-Fn-default-default-default-default
-visit_parts-give-requires-in-Lambda-Fn-default-default-default-default t c =
-    let s = c.requires.scope in
-    let k = known_lambda (length c.args.nodes.now.types) c.args.i (length c.args.nodes.now.terms) c.node-node.result.now.form _ _ _ _ _ c.in-Lambda-Fn-default-default-default-default.is c.node-node.ensures.known c.requires.known in
-    (c.args.nodes.now.terms, FnS (name_of c.in-Lambda-Fn-default-default-default-default.name) (term_at c.args.nodes.now.terms c.in-Lambda-Fn-default-default-default-default.e) s.0, c.in-Ok-unlimited.ensures.is c.args.nodes.now.terms _ (s.0, s.1, k, refl))
-
--- src/walk.rt:109:1
-pub visit_parts-returns-in-None-clause-is : goal.visit_parts-returns-in-None-clause-is
-visit_parts-returns-in-None-clause-is t c = search rules
-
--- src/walk.rt:109:1
-pub visit_parts-returns-in-None-clause-grown : goal.visit_parts-returns-in-None-clause-grown
-visit_parts-returns-in-None-clause-grown t c = search rules
-
--- src/walk.rt:109:1
-pub visit_parts-returns-in-Num-clause-is : goal.visit_parts-returns-in-Num-clause-is
-visit_parts-returns-in-Num-clause-is t c = search rules
-
--- src/walk.rt:109:1
-pub visit_parts-returns-in-Num-clause-grown : goal.visit_parts-returns-in-Num-clause-grown
-visit_parts-returns-in-Num-clause-grown t c = search rules
-
--- src/walk.rt:109:1
 pub visit_parts-returns-in_ok-second-in-Binary-clause-is :
     goal.visit_parts-returns-in_ok-second-in-Binary-clause-is
 visit_parts-returns-in_ok-second-in-Binary-clause-is t c = λ σ h.
@@ -284,12 +190,10 @@ visit_parts-returns-in_ok-second-in-Binary-clause-is t c = λ σ h.
     (binary_then (walk c.args.left c.args.here) σ c.node-node.result.now.span c.in-Binary.form (term_at c.args.nodes.now.terms c.in-Binary.a) (term_at c.args.nodes.now.terms c.in-Binary.b) (term_at c.args.nodes.now.terms c.args.i) (tally_of c.args.count.now) (tally_of c.visit-in-Binary.new.count) (tally_of c.visit-in-Binary-2.new.count) a.0 b.0 (node_binary (type_at c.args.nodes.now.types) c.args.nodes.now.terms (term_at c.args.nodes.now.terms c.args.i) c.node-node.result.now.span c.node-node.result.now.form c.in-Binary.form c.in-Binary.a c.in-Binary.b c.node-node.ensures.form c.in-Binary.is) a.2 b.2)
     (c.combine.ensures.is a.0 b.0 (shape_kept c.args.nodes.now.terms c.visit-in-Binary.new.store.cells.items c.visit-in-Binary-2.new.store.cells.items c.in_ok-first-in-Binary.first a.0 c.visit-in-Binary-2.ensures.grown a.1) b.1)
 
--- src/walk.rt:109:1
 pub visit_parts-returns-in_ok-second-in-Binary-clause-grown :
     goal.visit_parts-returns-in_ok-second-in-Binary-clause-grown
 visit_parts-returns-in_ok-second-in-Binary-clause-grown t c = grown_on c.args.store.now.cells.items c.visit-in-Binary.new.store.cells.items c.combine.new.store.cells.items c.visit-in-Binary.ensures.grown (grown_on c.visit-in-Binary.new.store.cells.items c.visit-in-Binary-2.new.store.cells.items c.combine.new.store.cells.items c.visit-in-Binary-2.ensures.grown c.combine.ensures.grown)
 
--- src/walk.rt:109:1
 pub visit_parts-returns-in_ok-shape-in-Let-clause-is :
     goal.visit_parts-returns-in_ok-shape-in-Let-clause-is
 visit_parts-returns-in_ok-shape-in-Let-clause-is t c = λ σ h.
@@ -299,44 +203,21 @@ visit_parts-returns-in_ok-shape-in-Let-clause-is t c = λ σ h.
     (node_let (type_at c.args.nodes.now.types) c.args.nodes.now.terms (term_at c.args.nodes.now.terms c.args.i) c.node-node.result.now.span c.node-node.result.now.form c.in-Let.name c.in-Let.e c.in-Let.b c.node-node.ensures.form c.in-Let.is) a.2)
     (c.visit_under.ensures.is σ a.0 (scope_kept c.args.nodes.now.terms c.args.store.now.cells.items c.visit-in-Let.new.store.cells.items c.args.scope σ c.visit-in-Let.ensures.grown h) a.1)
 
--- src/walk.rt:109:1
 pub visit_parts-returns-in_ok-shape-in-Let-clause-grown :
     goal.visit_parts-returns-in_ok-shape-in-Let-clause-grown
 visit_parts-returns-in_ok-shape-in-Let-clause-grown t c = grown_on c.args.store.now.cells.items c.visit-in-Let.new.store.cells.items c.visit_under.new.store.cells.items c.visit-in-Let.ensures.grown c.visit_under.ensures.grown
 
--- src/walk.rt:109:1
-pub visit_parts-returns-in-Ok-clause-is : goal.visit_parts-returns-in-Ok-clause-is
-visit_parts-returns-in-Ok-clause-is t c = search rules
-
--- src/walk.rt:109:1
-pub visit_parts-returns-in-Ok-clause-grown : goal.visit_parts-returns-in-Ok-clause-grown
-visit_parts-returns-in-Ok-clause-grown t c = search rules
-
--- src/walk.rt:109:1
-pub visit_parts-returns-in-Ok-unlimited-clause-is :
-    goal.visit_parts-returns-in-Ok-unlimited-clause-is
-visit_parts-returns-in-Ok-unlimited-clause-is t c = search rules
-
--- src/walk.rt:109:1
-pub visit_parts-returns-in-Ok-unlimited-clause-grown :
-    goal.visit_parts-returns-in-Ok-unlimited-clause-grown
-visit_parts-returns-in-Ok-unlimited-clause-grown t c = search rules
-
--- src/walk.rt:40:9
 pub visit_under-returns-in_default-clause-grown : goal.visit_under-returns-in_default-clause-grown
 visit_under-returns-in_default-clause-grown t c = search rules
 
--- src/walk.rt:42:5
 pub visit_under-visit-requires : goal.visit_under-visit-requires
 visit_under-visit-requires t c =
     let s = c.requires.scope in let p = c.requires.shape in
     (search rules, (c.requires.known, ((Also (name_of c.args.name) p.0 s.0, c.in-Ok.ensures.is c.args.nodes.now.terms p.0 s.0 p.1 s.1), c.requires.room)))
 
--- src/walk.rt:19:1
 pub visit_under-returns-clause-is : goal.visit_under-returns-clause-is
 visit_under-returns-clause-is t c = search rules
 
--- src/walk.rt:19:1
 pub visit_under-returns-clause-grown : goal.visit_under-returns-clause-grown
 visit_under-returns-clause-grown t c = grown_on c.args.store.now.cells.items c.bind.new.self.cells.items c.visit.new.store.cells.items c.bind.ensures.grown c.visit.ensures.grown
 
@@ -355,19 +236,6 @@ over-returns-in_default-clause-grown t c = search rules
 pub visit_parts-visit-requires-in-Binary : goal.visit_parts-visit-requires-in-Binary
 visit_parts-visit-requires-in-Binary t c = search rules
 
-pub visit_parts-returns-in-Some-find-clause-is : goal.visit_parts-returns-in-Some-find-clause-is
-visit_parts-returns-in-Some-find-clause-is t c = search rules
-
-pub visit_parts-returns-in-Some-find-clause-grown : goal.visit_parts-returns-in-Some-find-clause-grown
-visit_parts-returns-in-Some-find-clause-grown t c = search rules
-
-pub visit_parts-unreachable-requires : goal.visit_parts-unreachable-requires
-visit_parts-unreachable-requires t c = search rules
-
-pub visit_parts-unreachable-unreachable : goal.visit_parts-unreachable-unreachable
-visit_parts-unreachable-unreachable t c =
-    left_has_part c.node-node.result.now.form (λ e h. c.in_default.not-Some e (c.part_of.ensures ∙ h)) c.in_default-form.in_default-form-own.keys10
-
 pub visit_parts-returns-in_err-a-clause-grown : goal.visit_parts-returns-in_err-a-clause-grown
 visit_parts-returns-in_err-a-clause-grown t c = search rules
 
@@ -381,7 +249,7 @@ over-enter-requires t c =
 
 pub over-returns-in_err-enter-clause-is : goal.over-returns-in_err-enter-clause-is
 over-returns-in_err-enter-clause-is t c = λ p q h k.
-    let told : IsStop c.in_err-enter.field-0.0 (over (walk c.args.left c.args.here) p q (tally_of c.args.count.now)) = over_stops (walk c.args.left c.args.here) p q (tally_of c.args.count.now) c.in_err-enter.field-0.0 (c.in_err-enter.ensures.is p (Wide 0) (shape_kept c.args.nodes.now.terms c.args.store.now.cells.items c.ground.new.self.cells.items c.args.c p c.ground.ensures.grown h) (c.in-Ok.ensures.is c.args.nodes.now.terms (Wide 0) refl)) in
+    let told : StopsAt c.in_err-enter.field-0.0 (over (walk c.args.left c.args.here) p q (tally_of c.args.count.now)) = over_stops (walk c.args.left c.args.here) p q (tally_of c.args.count.now) c.in_err-enter.field-0.0 (c.in_err-enter.ensures.is p (Wide 0) (shape_kept c.args.nodes.now.terms c.args.store.now.cells.items c.ground.new.self.cells.items c.args.c p c.ground.ensures.grown h) (c.in-Ok.ensures.is c.args.nodes.now.terms (Wide 0) refl)) in
     let e = err_from_is_err_and c.from_residual.result c.from_residual.ensures.1 in rw (e.1, e.2) told
 
 pub over-returns-in_err-enter-clause-grown : goal.over-returns-in_err-enter-clause-grown
@@ -391,7 +259,7 @@ pub over-returns-clause-is : goal.over-returns-clause-is
 over-returns-clause-is t c = λ p q h k.
     let a = c.in_ok-enter.ensures.is p (Wide 0) (shape_kept c.args.nodes.now.terms c.args.store.now.cells.items c.ground.new.self.cells.items c.args.c p c.ground.ensures.grown h) (c.in-Ok.ensures.is c.args.nodes.now.terms (Wide 0) refl) in
     to (Tells c.args.nodes.now.terms c.give_ground.new.store.cells.items c.give_ground.new.count c.give_ground.result) _ _
-    (over_then (walk c.args.left c.args.here) p q a.0 (tally_of c.args.count.now) (tally_of c.enter.new.count) a.2 ∙ ap (λ w. gives (Wide w) (tally_of c.enter.new.count)) (sym (c.width-width.ensures c.args.nodes.now.terms q k))) (c.give_ground.ensures.is c.args.nodes.now.terms)
+    (over_then (walk c.args.left c.args.here) p q a.0 (tally_of c.args.count.now) (tally_of c.enter.new.count) a.2 ∙ ap (λ w. yields (Wide w) (tally_of c.enter.new.count)) (sym (c.width-width.ensures c.args.nodes.now.terms q k))) (c.give_ground.ensures.is c.args.nodes.now.terms)
 
 pub over-returns-clause-grown : goal.over-returns-clause-grown
 over-returns-clause-grown t c = grown_on c.args.store.now.cells.items c.ground.new.self.cells.items c.give_ground.new.store.cells.items c.ground.ensures.grown (grown_on c.ground.new.self.cells.items c.enter.new.store.cells.items c.give_ground.new.store.cells.items c.enter.ensures.grown c.give_ground.ensures.grown)
@@ -402,7 +270,7 @@ visit_parts-visit-requires t c =
 
 pub visit_parts-returns-in_err-a-clause-is : goal.visit_parts-returns-in_err-a-clause-is
 visit_parts-returns-in_err-a-clause-is t c = λ σ h.
-    let told : IsStop c.in_err-a.field-0.0 (walk_rules (walk c.args.left c.args.here) σ (term_at c.args.nodes.now.terms c.args.i) (tally_of c.args.count.now)) =
+    let told : StopsAt c.in_err-a.field-0.0 (walk_rules (walk c.args.left c.args.here) σ (term_at c.args.nodes.now.terms c.args.i) (tally_of c.args.count.now)) =
     part_stops (walk c.args.left c.args.here) σ (type_at c.args.nodes.now.types) c.args.nodes.now.terms (term_at c.args.nodes.now.terms c.args.i) c.node-node.result.now.span c.node-node.result.now.form c.in-Some.e (tally_of c.args.count.now) c.in_err-a.field-0.0 c.node-node.ensures.form (sym c.part_of.ensures ∙ c.in-Some.is) (c.in_err-a.ensures.is σ h) in
     let e = err_from_is_err_and c.from_residual.result c.from_residual.ensures.1 in rw (e.1, e.2) told
 
@@ -481,7 +349,7 @@ pub visit_both-returns-in_err-second-clause-is : goal.visit_both-returns-in_err-
 visit_both-returns-in_err-second-clause-is t c = λ σ τ h k.
     let a = c.in_ok-first.ensures.is σ h in
     let b = c.in_err-second.ensures.is τ (scope_kept c.args.nodes.now.terms c.args.store.now.cells.items c.visit.new.store.cells.items c.args.other τ c.visit.ensures.grown k) in
-    let told : IsStop c.in_err-second.field-0.0 (branches (walk c.args.left c.args.here) σ (term_at c.args.nodes.now.terms c.args.a) τ (term_at c.args.nodes.now.terms c.args.b) (tally_of c.args.count.now)) =
+    let told : StopsAt c.in_err-second.field-0.0 (branches (walk c.args.left c.args.here) σ (term_at c.args.nodes.now.terms c.args.a) τ (term_at c.args.nodes.now.terms c.args.b) (tally_of c.args.count.now)) =
     second_branch_stops (walk c.args.left c.args.here) σ τ (term_at c.args.nodes.now.terms c.args.a) (term_at c.args.nodes.now.terms c.args.b) (tally_of c.args.count.now) (tally_of c.visit.new.count) a.0 c.in_err-second.field-0.0 a.2 b in
     let e = err_from_is_err_and c.from_residual-in_err-second.result c.from_residual-in_err-second.ensures.1 in rw (e.1, e.2) told
 
@@ -638,3 +506,28 @@ visit_parts-returns-in_ok-side-in-Case-clause-is t c = λ σ h.
 
 pub visit_parts-returns-in_ok-side-in-Case-clause-grown : goal.visit_parts-returns-in_ok-side-in-Case-clause-grown
 visit_parts-returns-in_ok-side-in-Case-clause-grown t c = grown_on c.args.store.now.cells.items c.visit-in-Case.new.store.cells.items c.visit_sides.new.store.cells.items c.visit-in-Case.ensures.grown c.visit_sides.ensures.grown
+
+pub visit_parts-give_leaf-requires : goal.visit_parts-give_leaf-requires
+visit_parts-give_leaf-requires t c =
+    let s = c.requires.scope in
+    (c.args.nodes.now.terms, s.0, s.1, leaf_known (length c.args.nodes.now.types) c.args.i (length c.args.nodes.now.terms) c.node-node.result.now.form c.node-node.ensures.known c.requires.known)
+
+pub visit_parts-returns-in_default-form : goal.visit_parts-returns-in_default-form
+visit_parts-returns-in_default-form t c =
+    let o = c.in_default-form in
+    let l : IsLeft c.node-node.result.now.form = record {
+      no_part = λ e h. c.in_default.not-Some e (c.part_of.ensures ∙ h);
+      no_binary = o.not-Binary;
+      no_let = o.not-Let;
+      no_let_bang = o.not-LetBang;
+      no_let_pair = o.not-LetPair;
+      no_if = o.not-If;
+      no_case = o.not-Case;
+    } in
+    let k = leaf_known (length c.args.nodes.now.types) c.args.i (length c.args.nodes.now.terms) c.node-node.result.now.form c.node-node.ensures.known c.requires.known in
+    record {
+      is = λ σ h. to (Tells c.args.nodes.now.terms c.give_leaf.new.store.cells.items c.give_leaf.new.count c.give_leaf.result) _ _
+          (leaf_then (walk c.args.left c.args.here) σ (type_at c.args.nodes.now.types) c.args.nodes.now.terms (term_at c.args.nodes.now.terms c.args.i) c.node-node.result.now.span c.node-node.result.now.form (tally_of c.args.count.now) c.node-node.ensures.form l)
+          (c.give_leaf.ensures.is c.args.nodes.now.terms σ h k);
+      grown = c.give_leaf.ensures.grown;
+    }

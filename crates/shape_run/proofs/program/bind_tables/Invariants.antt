@@ -2,7 +2,7 @@ use Rattle.std.proofs.Common.{List, drop, length, ◌≤◌}
 use Rattle.fz_ast.specs.Terms.{Term}
 use Rattle.shape_law.specs.Shapes.{Wide, table_shapes}
 use Rattle.shape_run.specs.Cells.{IsScope, IsShape}
-use Rattle.shape_run.proofs.plan.bind_tables.Given as goal
+use Rattle.shape_run.proofs.program.bind_tables.Given as goal
 
 abbrev pub invariant-loop-i : goal.invariant-loop-i
 invariant-loop-i l = record {

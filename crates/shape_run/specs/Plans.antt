@@ -1,0 +1,17 @@
+-- What the run without data tells of a whole program.
+use Rattle.std.specs.Prelude.{◌≡◌}
+use Rattle.fz_ast.specs.Signature.{Signature}
+use Rattle.fz_ast.specs.Terms.{Term}
+use Rattle.shape_law.specs.Shapes.{Shape}
+use Rattle.shape_law.specs.Walk.{Shaped, shape}
+use Rattle.shape_run.specs.Tells.{StopsAt, tally_of}
+use Rattle.shape_run.specs.declared.plan.Plan.{Plan}
+use Rattle.shape_run.specs.declared.plan.ShapeFault.{ShapeFault}
+
+-- it passes no limit, and is just so deep, long and wide
+abbrev pub IsPlanOf : Signature → Term → Plan → Type 0
+IsPlanOf ts t plan = (s : Shape) × (shape ts t ≡ Shaped s (tally_of plan))
+
+-- this is the first limit that it passes, at just this span and width, or memory ran out
+abbrev pub IsStopOf : Signature → Term → ShapeFault → Type 0
+IsStopOf ts t fault = StopsAt fault (shape ts t)
