@@ -1,20 +1,25 @@
 -- Functions applied, and what an answer says of its value.
 use Rattle.std.proofs.Common.{◌≡◌, ℕ, refl, ap, sym, subst, ◌∙◌, List}
-use Rattle.std.specs.Prelude.{Result, Ok, Err, IfOk}
+use Rattle.std.specs.Prelude.{Result, Ok, Err, IfOk, OnOk}
 use Rattle.fz_ast.specs.Terms.{Name, Term}
 use Rattle.fz_ast.specs.declared.term.Arrow.{Arrow}
 use Rattle.fz_ast.specs.declared.term.Arrow.TheVariants.{Fun, Fn}
 use Rattle.fz_ast.specs.declared.term.Binary.{Binary}
 use Rattle.fz_ast.specs.declared.term.Binary.TheVariants.{Pair, With, App, Plus, Minus, AtMost, Equal, Union, Map, Filter, Split}
 use Rattle.metric_law.specs.Means.{Applies, Maps, MeansIn, Splits, apply, apply_fn}
-use Rattle.metric_values.specs.Values.{BagV, BangV, Bind, Env, Flat, FnV, FunV, PairV, Value}
-use Rattle.run_values.specs.Parts.{IsBag, IsBang, IsClosure, banged_in, elements, is_fn, is_fun}
-use Rattle.fuzz_eval.specs.Steps.{Can2, CanApply, CanFilter, CanMap, Gives2, HasValue, IsPlain, closure_of}
+use Rattle.metric_values.specs.Values.{BagV, BangV, Bind, Empty, Env, Flat, FnV, FunV, PairV, UnitV, Value}
+use Rattle.run_values.specs.Parts.{IsBag, IsBangValue, IsClosure, banged_in, elements, is_fn, is_fun, rebound}
+use Rattle.fuzz_eval.specs.Steps.{Can2, CanApply, CanFilter, CanMap, Gives2, HasValueWithin, AppliesNoFunction, closure_of}
+use Rattle.fuzz_eval.specs.Loops.{bound_element, function_inside}
 
 -- an answer's value has what follows from what it has
 pub if_ok : {E : Type 0} (r : Result Value E) (P Q : Value → Type 0) → IfOk r P → ((v : Value) → P v → Q v) → IfOk r Q
 if_ok (Ok v) P Q h f = f v h
 if_ok (Err e) P Q h f = tt
+
+pub on_ok : {E : Type 0} (r : Result Value E) (P : Type 0) → P → OnOk r P
+on_ok (Ok v) P h = h
+on_ok (Err e) P h = tt
 
 pub can_closure : {n : ℕ} {c u : Value} → CanApply n c u → IsClosure c
 can_closure {n} {c} {u} h = go h.gives
@@ -26,7 +31,7 @@ can_closure {n} {c} {u} h = go h.gives
 fun_parts : (n : ℕ) {x : Name} {e : Term} {γ : Env} {u v : Value} → Applies (MeansIn n) (FunV x e γ) u v → MeansIn n (Bind x u γ) e v
 fun_parts n (apply k) = k
 
-fn_bang : (n : ℕ) {x : Name} {e : Term} {γ : Env} {u v : Value} → Applies (MeansIn n) (FnV x e γ) u v → IsBang u
+fn_bang : (n : ℕ) {x : Name} {e : Term} {γ : Env} {u v : Value} → Applies (MeansIn n) (FnV x e γ) u v → IsBangValue u
 fn_bang n (apply_fn k) = refl
 
 fn_parts : (n : ℕ) {x : Name} {e : Term} {γ : Env} {u v : Value} → Applies (MeansIn n) (FnV x e γ) u v → MeansIn n (Bind x (banged_in u) γ) e v
@@ -39,21 +44,45 @@ module _ (n : ℕ) (c u : Value) (o : Arrow) (x : Name) (t : Term) (γ : Env) (e
   fn_is : o ≡ Fn → c ≡ FnV x t γ
   fn_is h = e ∙ ap (λ o. closure_of o x t γ) h
 
-  pub fun_has : o ≡ Fun → CanApply n c u → HasValue n (Bind x u γ) t
+  pub fun_has : o ≡ Fun → CanApply n c u → HasValueWithin n (Bind x u γ) t
   fun_has h k = record { value = k.value; does = fun_parts n (subst (λ (c : Value). Applies (MeansIn n) c u k.value) (fun_is h) k.gives) }
 
   pub fun_gives : o ≡ Fun → (v : Value) → MeansIn n (Bind x u γ) t v → Applies (MeansIn n) c u v
   fun_gives h v d = subst (λ (c : Value). Applies (MeansIn n) c u v) (sym (fun_is h)) (apply d)
 
-  pub fn_can : o ≡ Fn → CanApply n c u → IsBang u
+  pub fn_can : o ≡ Fn → CanApply n c u → IsBangValue u
   fn_can h k = fn_bang n (subst (λ (c : Value). Applies (MeansIn n) c u k.value) (fn_is h) k.gives)
 
-  pub fn_has : o ≡ Fn → CanApply n c u → (w : Value) → w ≡ banged_in u → HasValue n (Bind x w γ) t
+  pub fn_has : o ≡ Fn → CanApply n c u → (w : Value) → w ≡ banged_in u → HasValueWithin n (Bind x w γ) t
   fn_has h k w q = record { value = k.value; does = subst (λ (w : Value). MeansIn n (Bind x w γ) t k.value) (sym q) (fn_parts n (subst (λ (c : Value). Applies (MeansIn n) c u k.value) (fn_is h) k.gives)) }
 
-  pub fn_gives : o ≡ Fn → IsBang u → (w : Value) → w ≡ banged_in u → (v : Value) → MeansIn n (Bind x w γ) t v → Applies (MeansIn n) c u v
+  pub fn_gives : o ≡ Fn → IsBangValue u → (w : Value) → w ≡ banged_in u → (v : Value) → MeansIn n (Bind x w γ) t v → Applies (MeansIn n) c u v
   fn_gives h b w q v d =
       subst (λ (c : Value). Applies (MeansIn n) c u v) (sym (fn_is h)) (subst (λ (u : Value). Applies (MeansIn n) (FnV x t γ) u v) (sym (b ∙ ap BangV (sym q))) (apply_fn d))
+
+not_unit : {c : Value} → IsClosure c → c ≡ UnitV → ⊥
+not_unit is_fun e = absurd (cc e)
+not_unit is_fn e = absurd (cc e)
+
+-- a function over the elements of a bag, in the scope inside its own name
+
+pub element_has : (n : ℕ) (o : Arrow) (t : Term) (x : Value) (γ : Env) → CanApply n (function_inside o γ t) (BangV x) → HasValueWithin n (rebound γ (bound_element o x)) t
+element_has n o t x Empty h = absurd (not_unit (can_closure h) refl)
+element_has n Fun t x (Bind y v γ) h = record { value = h.value; does = fun_parts n h.gives }
+element_has n Fn t x (Bind y v γ) h = record { value = h.value; does = fn_parts n h.gives }
+
+pub element_gives : (n : ℕ) (o : Arrow) (t : Term) (x : Value) (γ : Env) → CanApply n (function_inside o γ t) (BangV x) → (w : Value) → MeansIn n (rebound γ (bound_element o x)) t w → Applies (MeansIn n) (function_inside o γ t) (BangV x) w
+element_gives n o t x Empty h w d = absurd (not_unit (can_closure h) refl)
+element_gives n Fun t x (Bind y v γ) h w d = apply d
+element_gives n Fn t x (Bind y v γ) h w d = apply_fn d
+
+pub same_function : (o : Arrow) (t : Term) (γ : Env) (w : Value) → function_inside o (rebound γ w) t ≡ function_inside o γ t
+same_function o t Empty w = refl
+same_function o t (Bind y v γ) w = refl
+
+-- what it gives, where it is c
+pub given : (n : ℕ) (c : Value) (w x : Value) {f : Value} → f ≡ c → Applies (MeansIn n) f (BangV x) w → Applies (MeansIn n) c (BangV x) w
+given n c w x e a = subst (λ (f : Value). Applies (MeansIn n) f (BangV x) w) e a
 
 -- signs that apply a function
 module _ (n : ℕ) (o : Binary) (u w : Value) (k : Can2 n o u w) where
@@ -99,7 +128,7 @@ module _ (n : ℕ) (o : Binary) (u w : Value) (k : Can2 n o u w) where
   pub app_gives : o ≡ App → (v : Value) → Applies (MeansIn n) u w v → Gives2 (MeansIn n) o u w v
   app_gives h v r = subst (λ (o : Binary). Gives2 (MeansIn n) o u w v) (sym h) r
 
-pub plain_here : (o : Binary) → (o ≡ App → ⊥) → (o ≡ Map → ⊥) → (o ≡ Filter → ⊥) → (o ≡ Split → ⊥) → IsPlain o
+pub plain_here : (o : Binary) → (o ≡ App → ⊥) → (o ≡ Map → ⊥) → (o ≡ Filter → ⊥) → (o ≡ Split → ⊥) → AppliesNoFunction o
 plain_here App a m f s = a refl
 plain_here Map a m f s = m refl
 plain_here Filter a m f s = f refl

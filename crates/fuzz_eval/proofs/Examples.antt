@@ -1,13 +1,15 @@
 -- The rules over values at worked values, on both sides of each choice.
 use Rattle.std.proofs.Common.{inl, inr, refl}
 use Rattle.std.specs.Prelude.{[], codes, false, neg_ℤ, pos, true, ◌∷◌, ◌≡◌}
+use Rattle.fz_ast.specs.Terms.{Term}
+use Rattle.fz_ast.specs.declared.term.Arrow.TheVariants.{Fn, Fun}
 use Rattle.fz_ast.specs.declared.term.Binary.TheVariants.{Equal, Union}
 use Rattle.fz_ast.specs.declared.term.Ranged.TheVariants.{Clip, Sum}
 use Rattle.fz_ast.specs.declared.term.Unary.TheVariants.{Greatest, Least, Size, Snd}
 use Rattle.metric_law.specs.Means.{Meaning}
-use Rattle.metric_values.specs.Values.{BagV, NumF, NumV, PairV, TextF, TextV, UnitF, UnitV, truth}
-use Rattle.fuzz_eval.specs.Loops.{numbers_in}
-use Rattle.fuzz_eval.specs.Steps.{Gives1, Gives2, GivesRanged, GivesTimes, share_of}
+use Rattle.metric_values.specs.Values.{BagV, BangV, Bind, Env, FnV, NumF, NumV, PairV, TextV, UnitF, UnitV, truth}
+use Rattle.fuzz_eval.specs.Loops.{bound_element, function_inside}
+use Rattle.fuzz_eval.specs.Steps.{Gives1, Gives2, GivesRanged, GivesTimes}
 
 module _ (R : Meaning) where
   same_numbers : Gives2 R Equal (NumV (pos 7)) (NumV (pos 7)) (truth true)
@@ -46,12 +48,13 @@ clipped_above = (pos 11, refl, refl)
 each_clipped : GivesRanged Sum (pos 0) (pos 10) (BagV (NumF (pos 11) ∷ NumF (neg_ℤ (pos 5)) ∷ NumF (pos 3) ∷ [])) (NumV (pos 13))
 each_clipped = (pos 11 ∷ neg_ℤ (pos 5) ∷ pos 3 ∷ [], refl, refl)
 
--- what a loop over elements adds up
-numbers_alone : numbers_in (NumF (pos 1) ∷ TextF [] ∷ NumF (pos 2) ∷ []) ≡ pos 1 ∷ pos 2 ∷ []
-numbers_alone = refl
+-- the bang of an element is a Fun's argument, and the element is what an Fn's name stands for
+element_of_fun : bound_element Fun UnitV ≡ BangV UnitV
+element_of_fun = refl
 
-share_of_number : share_of (pos 0) (pos 10) (NumV (pos 12)) ≡ pos 10
-share_of_number = refl
+element_of_fn : bound_element Fn UnitV ≡ UnitV
+element_of_fn = refl
 
-share_of_text : share_of (pos 4) (pos 10) (TextV []) ≡ pos 0
-share_of_text = refl
+-- whatever its name stands for
+function_around : (γ : Env) (e : Term) → function_inside Fn (Bind (codes "x") UnitV γ) e ≡ FnV (codes "x") e γ
+function_around γ e = refl

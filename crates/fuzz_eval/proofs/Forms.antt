@@ -22,16 +22,16 @@ use Rattle.fz_ast.specs.declared.term.Unary.{Unary}
 use Rattle.metric_law.specs.Means.{MeansIn, Rules, find}
 use Rattle.metric_law.proofs.Unique.{same_value}
 use Rattle.metric_values.specs.Values.{BagV, BangV, Bind, Env, InlV, InrV, NumF, NumV, PairV, TextV, UnitV, Value}
-use Rattle.run_values.specs.Parts.{IsBang, IsPair, IsSum, banged_in, first_in, second_in, side_in}
+use Rattle.run_values.specs.Parts.{IsBangValue, IsPair, IsSum, banged_in, first_in, second_in, side_in}
 use Rattle.run_values.specs.Views.{IsFunction, function_of, is_fn, is_fun}
-use Rattle.fuzz_eval.specs.Steps.{Can1, Can2, CanRanged, CanTimes, Gives1, Gives2, GivesRanged, GivesTimes, HasValue, injected}
+use Rattle.fuzz_eval.specs.Steps.{Can1, Can2, CanRanged, CanTimes, Gives1, Gives2, GivesRanged, GivesTimes, HasValueWithin, injected}
 use Rattle.fuzz_eval.proofs.Steps.{binary_parts, binary_whole, means, rules, unary_parts, unary_whole}
 
 function_here : (t : Term) (ty : ℕ → Ty) (part : ℕ → Term) (s : Span) (o : Arrow) (x : Name) (u : Span) (w a : ℕ) → t ≡ term_of ty part s (Lambda o x u w a) → IsFunction t
 function_here t ty part s Fun x u w a e = subst IsFunction (sym e) is_fun
 function_here t ty part s Fn x u w a e = subst IsFunction (sym e) is_fn
 
-module _ (n : ℕ) (γ : Env) (t : Term) (ty : ℕ → Ty) (part : ℕ → Term) (s : Span) (f : Form) (e : t ≡ term_of ty part s f) (k : HasValue n γ t) where
+module _ (n : ℕ) (γ : Env) (t : Term) (ty : ℕ → Ty) (part : ℕ → Term) (s : Span) (f : Form) (e : t ≡ term_of ty part s f) (k : HasValueWithin n γ t) where
   -- what the node's form says of its value
   abbrev Said : Form → Type 0
   Said g = Rules (MeansIn (n - 1)) γ (form_of ty part g) k.value
@@ -61,7 +61,7 @@ module _ (n : ℕ) (γ : Env) (t : Term) (ty : ℕ → Ty) (part : ℕ → Term)
   pub unit_means : f ≡ One → (v : Value) → v ≡ UnitV → MeansIn n γ t v
   unit_means h v r = done One h v r
 
-  pub unary_has : (o : Unary) (a : ℕ) → f ≡ Op o a → HasValue (n - 1) γ (part a)
+  pub unary_has : (o : Unary) (a : ℕ) → f ≡ Op o a → HasValueWithin (n - 1) γ (part a)
   unary_has o a h = let p = unary_parts (MeansIn (n - 1)) γ s o (part a) k.value (said (Op o a) h) in record { value = p.0; does = p.1 }
 
   pub unary_can : (o : Unary) (a : ℕ) → f ≡ Op o a → (u : Value) → Has a u → Can1 o u
@@ -72,10 +72,10 @@ module _ (n : ℕ) (γ : Env) (t : Term) (ty : ℕ → Ty) (part : ℕ → Term)
   pub unary_means : (o : Unary) (a : ℕ) → f ≡ Op o a → (u : Value) → Has a u → (v : Value) → Gives1 o u v → MeansIn n γ t v
   unary_means o a h u d v g = done (Op o a) h v (unary_whole (MeansIn (n - 1)) γ s o (part a) u v d g)
 
-  pub first_has : (o : Binary) (a b : ℕ) → f ≡ Op2 o a b → HasValue (n - 1) γ (part a)
+  pub first_has : (o : Binary) (a b : ℕ) → f ≡ Op2 o a b → HasValueWithin (n - 1) γ (part a)
   first_has o a b h = let p = binary_parts (MeansIn (n - 1)) γ s o (part a) (part b) k.value (said (Op2 o a b) h) in record { value = p.0; does = p.2 }
 
-  pub second_has : (o : Binary) (a b : ℕ) → f ≡ Op2 o a b → HasValue (n - 1) γ (part b)
+  pub second_has : (o : Binary) (a b : ℕ) → f ≡ Op2 o a b → HasValueWithin (n - 1) γ (part b)
   second_has o a b h = let p = binary_parts (MeansIn (n - 1)) γ s o (part a) (part b) k.value (said (Op2 o a b) h) in record { value = p.1; does = p.3 }
 
   pub binary_can : (o : Binary) (a b : ℕ) → f ≡ Op2 o a b → (u w : Value) → Has a u → Has b w → Can2 (n - 1) o u w
@@ -86,7 +86,7 @@ module _ (n : ℕ) (γ : Env) (t : Term) (ty : ℕ → Ty) (part : ℕ → Term)
   pub binary_means : (o : Binary) (a b : ℕ) → f ≡ Op2 o a b → (u w : Value) → Has a u → Has b w → (v : Value) → Gives2 (MeansIn (n - 1)) o u w v → MeansIn n γ t v
   binary_means o a b h u w c d v g = done (Op2 o a b) h v (binary_whole (MeansIn (n - 1)) γ s o (part a) (part b) u w v c d g)
 
-  pub times_has : (z : ℤ) (a : ℕ) → f ≡ Times z a → HasValue (n - 1) γ (part a)
+  pub times_has : (z : ℤ) (a : ℕ) → f ≡ Times z a → HasValueWithin (n - 1) γ (part a)
   times_has z a h = let r = said (Times z a) h in record { value = NumV r.0; does = r.1 }
 
   pub times_can : (z : ℤ) (a : ℕ) → f ≡ Times z a → (u : Value) → Has a u → CanTimes z u
@@ -95,7 +95,7 @@ module _ (n : ℕ) (γ : Env) (t : Term) (ty : ℕ → Ty) (part : ℕ → Term)
   pub times_means : (z : ℤ) (a : ℕ) → f ≡ Times z a → (u : Value) → Has a u → (v : Value) → GivesTimes z u v → MeansIn n γ t v
   times_means z a h u d v g = done (Times z a) h v (g.0, subst (λ (u : Value). Has a u) g.1 d, g.2)
 
-  pub ranged_has : (o : Ranged) (lo hi : ℤ) (a : ℕ) → f ≡ Bounded o lo hi a → HasValue (n - 1) γ (part a)
+  pub ranged_has : (o : Ranged) (lo hi : ℤ) (a : ℕ) → f ≡ Bounded o lo hi a → HasValueWithin (n - 1) γ (part a)
   ranged_has Sum lo hi a h = let r = said (Bounded Sum lo hi a) h in record { value = BagV (map NumF r.0); does = r.1 }
   ranged_has Clip lo hi a h = let r = said (Bounded Clip lo hi a) h in record { value = NumV r.0; does = r.1 }
 
@@ -107,7 +107,7 @@ module _ (n : ℕ) (γ : Env) (t : Term) (ty : ℕ → Ty) (part : ℕ → Term)
   ranged_means Sum lo hi a h u d v g = done (Bounded Sum lo hi a) h v (g.0, subst (λ (u : Value). Has a u) g.1 d, g.2)
   ranged_means Clip lo hi a h u d v g = done (Bounded Clip lo hi a) h v (g.0, subst (λ (u : Value). Has a u) g.1 d, g.2)
 
-  pub inject_has : (o : Side) (u : Span) (w a : ℕ) → f ≡ Inject o u w a → HasValue (n - 1) γ (part a)
+  pub inject_has : (o : Side) (u : Span) (w a : ℕ) → f ≡ Inject o u w a → HasValueWithin (n - 1) γ (part a)
   inject_has Inl u w a h = let r = said (Inject Inl u w a) h in record { value = r.0; does = r.1 }
   inject_has Inr u w a h = let r = said (Inject Inr u w a) h in record { value = r.0; does = r.1 }
 
@@ -115,16 +115,16 @@ module _ (n : ℕ) (γ : Env) (t : Term) (ty : ℕ → Ty) (part : ℕ → Term)
   inject_means Inl u w a h x d v g = done (Inject Inl u w a) h v (x, d, g)
   inject_means Inr u w a h x d v g = done (Inject Inr u w a) h v (x, d, g)
 
-  pub bang_has : (r : Sens) (a : ℕ) → f ≡ Bang r a → HasValue (n - 1) γ (part a)
+  pub bang_has : (r : Sens) (a : ℕ) → f ≡ Bang r a → HasValueWithin (n - 1) γ (part a)
   bang_has r a h = let q = said (Bang r a) h in record { value = q.0; does = q.1 }
 
   pub bang_means : (r : Sens) (a : ℕ) → f ≡ Bang r a → (u : Value) → Has a u → (v : Value) → v ≡ BangV u → MeansIn n γ t v
   bang_means r a h u d v g = done (Bang r a) h v (u, d, g)
 
-  pub let_has : (x : Name) (a b : ℕ) → f ≡ Let x a b → HasValue (n - 1) γ (part a)
+  pub let_has : (x : Name) (a b : ℕ) → f ≡ Let x a b → HasValueWithin (n - 1) γ (part a)
   let_has x a b h = let r = said (Let x a b) h in record { value = r.0; does = r.1 }
 
-  pub let_inside : (x : Name) (a b : ℕ) → f ≡ Let x a b → (u : Value) → Has a u → HasValue (n - 1) (Bind (name_of x) u γ) (part b)
+  pub let_inside : (x : Name) (a b : ℕ) → f ≡ Let x a b → (u : Value) → Has a u → HasValueWithin (n - 1) (Bind (name_of x) u γ) (part b)
   let_inside x a b h u d =
       let r = said (Let x a b) h in
       record { value = k.value; does = subst (λ (u : Value). MeansIn (n - 1) (Bind (name_of x) u γ) ((part b)) k.value) (same_value _ _ _ _ _ _ r.1 d) r.2 }
@@ -132,13 +132,13 @@ module _ (n : ℕ) (γ : Env) (t : Term) (ty : ℕ → Ty) (part : ℕ → Term)
   pub let_means : (x : Name) (a b : ℕ) → f ≡ Let x a b → (u : Value) → Has a u → (v : Value) → MeansIn (n - 1) (Bind (name_of x) u γ) ((part b)) v → MeansIn n γ t v
   let_means x a b h u d v g = done (Let x a b) h v (u, d, g)
 
-  pub let_bang_has : (x : Name) (a b : ℕ) → f ≡ LetBang x a b → HasValue (n - 1) γ (part a)
+  pub let_bang_has : (x : Name) (a b : ℕ) → f ≡ LetBang x a b → HasValueWithin (n - 1) γ (part a)
   let_bang_has x a b h = let r = said (LetBang x a b) h in record { value = BangV r.0; does = r.1 }
 
-  pub let_bang_can : (x : Name) (a b : ℕ) → f ≡ LetBang x a b → (u : Value) → Has a u → IsBang u
-  let_bang_can x a b h u d = let r = said (LetBang x a b) h in subst IsBang (same_value _ _ _ _ _ _ r.1 d) refl
+  pub let_bang_can : (x : Name) (a b : ℕ) → f ≡ LetBang x a b → (u : Value) → Has a u → IsBangValue u
+  let_bang_can x a b h u d = let r = said (LetBang x a b) h in subst IsBangValue (same_value _ _ _ _ _ _ r.1 d) refl
 
-  pub let_bang_inside : (x : Name) (a b : ℕ) → f ≡ LetBang x a b → (u w : Value) → Has a u → w ≡ banged_in u → HasValue (n - 1) (Bind (name_of x) w γ) (part b)
+  pub let_bang_inside : (x : Name) (a b : ℕ) → f ≡ LetBang x a b → (u w : Value) → Has a u → w ≡ banged_in u → HasValueWithin (n - 1) (Bind (name_of x) w γ) (part b)
   let_bang_inside x a b h u w d q =
       let r = said (LetBang x a b) h in
       record { value = k.value; does = subst (λ (u : Value). MeansIn (n - 1) (Bind (name_of x) u γ) ((part b)) k.value) (ap banged_in (same_value _ _ _ _ _ _ r.1 d) ∙ sym q) r.2 }
@@ -146,13 +146,13 @@ module _ (n : ℕ) (γ : Env) (t : Term) (ty : ℕ → Ty) (part : ℕ → Term)
   pub let_bang_means : (x : Name) (a b : ℕ) → f ≡ LetBang x a b → (u w : Value) → Has a u → w ≡ banged_in u → (v : Value) → MeansIn (n - 1) (Bind (name_of x) w γ) ((part b)) v → MeansIn n γ t v
   let_bang_means x a b h u w d q v g = done (LetBang x a b) h v (w, subst (λ (u : Value). Has a u) (let_bang_can x a b h u d ∙ ap BangV (sym q)) d, g)
 
-  pub let_pair_has : (x y : Name) (a b : ℕ) → f ≡ LetPair x y a b → HasValue (n - 1) γ (part a)
+  pub let_pair_has : (x y : Name) (a b : ℕ) → f ≡ LetPair x y a b → HasValueWithin (n - 1) γ (part a)
   let_pair_has x y a b h = let r = said (LetPair x y a b) h in record { value = PairV r.0 r.1; does = r.2 }
 
   pub let_pair_can : (x y : Name) (a b : ℕ) → f ≡ LetPair x y a b → (u : Value) → Has a u → IsPair u
   let_pair_can x y a b h u d = let r = said (LetPair x y a b) h in subst IsPair (same_value _ _ _ _ _ _ r.2 d) refl
 
-  pub let_pair_inside : (x y : Name) (a b : ℕ) → f ≡ LetPair x y a b → (u p q : Value) → Has a u → p ≡ first_in u → q ≡ second_in u → HasValue (n - 1) (Bind (name_of y) q (Bind (name_of x) p γ)) (part b)
+  pub let_pair_inside : (x y : Name) (a b : ℕ) → f ≡ LetPair x y a b → (u p q : Value) → Has a u → p ≡ first_in u → q ≡ second_in u → HasValueWithin (n - 1) (Bind (name_of y) q (Bind (name_of x) p γ)) (part b)
   let_pair_inside x y a b h u p q d i j =
       let r = said (LetPair x y a b) h in
       let at_second = subst (λ (q : Value). MeansIn (n - 1) (Bind (name_of y) q (Bind (name_of x) r.0 γ)) ((part b)) k.value) (ap second_in (same_value _ _ _ _ _ _ r.2 d) ∙ sym j) r.3 in
@@ -164,10 +164,10 @@ module _ (n : ℕ) (γ : Env) (t : Term) (ty : ℕ → Ty) (part : ℕ → Term)
       done (LetPair x y a b) h v (p, q, subst (λ (u : Value). Has a u) r d, g)
 
   module _ (c a b : ℕ) (h : f ≡ If c a b) where
-    pub if_has : HasValue (n - 1) γ (part c)
+    pub if_has : HasValueWithin (n - 1) γ (part c)
     if_has = go (said (If c a b) h)
       where
-        go : Said (If c a b) → HasValue (n - 1) γ (part c)
+        go : Said (If c a b) → HasValueWithin (n - 1) γ (part c)
         go (inl r) = record { value = InlV UnitV; does = r.0 }
         go (inr r) = record { value = InrV UnitV; does = r.0 }
 
@@ -178,17 +178,17 @@ module _ (n : ℕ) (γ : Env) (t : Term) (ty : ℕ → Ty) (part : ℕ → Term)
         go (inl r) = subst IsSum (same_value _ _ _ _ _ _ r.0 d) (inl refl)
         go (inr r) = subst IsSum (same_value _ _ _ _ _ _ r.0 d) (inr refl)
 
-    pub if_left : (u : Value) → Has c u → u ≡ InlV (side_in u) → HasValue (n - 1) γ (part a)
+    pub if_left : (u : Value) → Has c u → u ≡ InlV (side_in u) → HasValueWithin (n - 1) γ (part a)
     if_left u d q = go (said (If c a b) h)
       where
-        go : Said (If c a b) → HasValue (n - 1) γ (part a)
+        go : Said (If c a b) → HasValueWithin (n - 1) γ (part a)
         go (inl r) = record { value = k.value; does = r.1 }
         go (inr r) = let w = same_value _ _ _ _ _ _ r.0 d in absurd (cc (w, q))
 
-    pub if_right : (u : Value) → Has c u → u ≡ InrV (side_in u) → HasValue (n - 1) γ (part b)
+    pub if_right : (u : Value) → Has c u → u ≡ InrV (side_in u) → HasValueWithin (n - 1) γ (part b)
     if_right u d q = go (said (If c a b) h)
       where
-        go : Said (If c a b) → HasValue (n - 1) γ (part b)
+        go : Said (If c a b) → HasValueWithin (n - 1) γ (part b)
         go (inl r) = let w = same_value _ _ _ _ _ _ r.0 d in absurd (cc (w, q))
         go (inr r) = record { value = k.value; does = r.1 }
 
@@ -207,10 +207,10 @@ module _ (n : ℕ) (γ : Env) (t : Term) (ty : ℕ → Ty) (part : ℕ → Term)
         go (inr r) = done (If c a b) h v (inr (r.0, g))
 
   module _ (c : ℕ) (x : Name) (a : ℕ) (y : Name) (b : ℕ) (h : f ≡ Case c x a y b) where
-    pub case_has : HasValue (n - 1) γ (part c)
+    pub case_has : HasValueWithin (n - 1) γ (part c)
     case_has = go (said (Case c x a y b) h)
       where
-        go : Said (Case c x a y b) → HasValue (n - 1) γ (part c)
+        go : Said (Case c x a y b) → HasValueWithin (n - 1) γ (part c)
         go (inl r) = record { value = InlV r.0; does = r.1 }
         go (inr r) = record { value = InrV r.0; does = r.1 }
 
@@ -221,17 +221,17 @@ module _ (n : ℕ) (γ : Env) (t : Term) (ty : ℕ → Ty) (part : ℕ → Term)
         go (inl r) = subst IsSum (same_value _ _ _ _ _ _ r.1 d) (inl refl)
         go (inr r) = subst IsSum (same_value _ _ _ _ _ _ r.1 d) (inr refl)
 
-    pub case_left : (u w : Value) → Has c u → u ≡ InlV (side_in u) → w ≡ side_in u → HasValue (n - 1) (Bind (name_of x) w γ) (part a)
+    pub case_left : (u w : Value) → Has c u → u ≡ InlV (side_in u) → w ≡ side_in u → HasValueWithin (n - 1) (Bind (name_of x) w γ) (part a)
     case_left u w d q p = go (said (Case c x a y b) h)
       where
-        go : Said (Case c x a y b) → HasValue (n - 1) (Bind (name_of x) w γ) (part a)
+        go : Said (Case c x a y b) → HasValueWithin (n - 1) (Bind (name_of x) w γ) (part a)
         go (inl r) = record { value = k.value; does = subst (λ (w : Value). MeansIn (n - 1) (Bind (name_of x) w γ) ((part a)) k.value) (ap side_in (same_value _ _ _ _ _ _ r.1 d) ∙ sym p) r.2 }
         go (inr r) = let z = same_value _ _ _ _ _ _ r.1 d in absurd (cc (z, q))
 
-    pub case_right : (u w : Value) → Has c u → u ≡ InrV (side_in u) → w ≡ side_in u → HasValue (n - 1) (Bind (name_of y) w γ) (part b)
+    pub case_right : (u w : Value) → Has c u → u ≡ InrV (side_in u) → w ≡ side_in u → HasValueWithin (n - 1) (Bind (name_of y) w γ) (part b)
     case_right u w d q p = go (said (Case c x a y b) h)
       where
-        go : Said (Case c x a y b) → HasValue (n - 1) (Bind (name_of y) w γ) (part b)
+        go : Said (Case c x a y b) → HasValueWithin (n - 1) (Bind (name_of y) w γ) (part b)
         go (inl r) = let z = same_value _ _ _ _ _ _ r.1 d in absurd (cc (z, q))
         go (inr r) = record { value = k.value; does = subst (λ (w : Value). MeansIn (n - 1) (Bind (name_of y) w γ) ((part b)) k.value) (ap side_in (same_value _ _ _ _ _ _ r.1 d) ∙ sym p) r.2 }
 

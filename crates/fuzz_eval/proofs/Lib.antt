@@ -4,3 +4,6 @@ pub mod Forms
 pub mod Applying
 pub mod Held
 pub mod Examples
+pub mod Elements
+mod Datasets
+mod Programs

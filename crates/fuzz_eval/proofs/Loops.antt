@@ -1,28 +1,16 @@
 -- One turn of a loop over a bag's elements, and its end.
-use Rattle.std.proofs.Common.{◌≡◌, ℕ, ◌+◌, ◌<◌, ◌≤◌, List, [], ◌∷◌, ◌++◌, length, drop, get_or, refl, ap, sym, subst, ◌∙◌, arith, append_assoc, inl, inr}
+use Rattle.std.proofs.Common.{◌≡◌, ℕ, ◌+◌, ◌<◌, ◌≤◌, List, [], ◌∷◌, ◌++◌, length, drop, get_or, refl, ap, sym, subst, ◌∙◌, append_assoc, inl, inr}
 use Rattle.std.proofs.lemmas.List.{drop_more}
 use Rattle.std.proofs.Math.ListN.{drop_of_length-le}
-use Rattle.fz_ast.specs.declared.term.Ranged.{Ranged}
-use Rattle.fz_ast.specs.declared.term.Ranged.TheVariants.{Sum}
 use Rattle.metric_law.specs.Means.{Applies, Maps, MeansIn, Splits, apply, apply_fn}
 use Rattle.metric_law.proofs.Unique.{same_value}
-use Rattle.metric_values.specs.Values.{BangV, Flat, NumF, TextF, UnitF, PairF, InlF, InrF, BangF, InlV, InrV, NumV, UnitV, Value, value_of}
+use Rattle.metric_values.specs.Values.{BangV, Flat, UnitF, InlV, InrV, UnitV, Value, value_of}
 use Rattle.run_values.specs.Flats.{AllFlat, IsFlat, flat_of, flats_of}
-use Rattle.run_values.specs.Parts.{IsSum, elements, side_in}
-use Rattle.std.proofs.lemmas.Int.{ints}
-use Rattle.std.specs.Prelude.{map, neg_ℤ, pos, ℤ, ◌+ℤ◌, ◌≤ℤ◌}
-use Rattle.metric_values.specs.Numbers.{clamp, clipped_sum}
-use Rattle.fuzz_eval.specs.Loops.{Copied, Divided, Kept, Mapped, Summed, numbers_in}
-use Rattle.fuzz_eval.specs.Steps.{CanApply, CanFilter, CanMap, GivesRanged, share_of}
-
-pub back : (x : Flat) → flat_of (value_of x) ≡ x
-back (NumF z) = refl
-back (TextF s) = refl
-back UnitF = refl
-back (PairF a b) = λ i. PairF (back a i) (back b i)
-back (InlF a) = λ i. InlF (back a i)
-back (InrF a) = λ i. InrF (back a i)
-back (BangF a) = λ i. BangF (back a i)
+use Rattle.run_values.specs.Parts.{IsClosure, IsSum, side_in}
+use Rattle.fuzz_eval.specs.Loops.{Divided, Kept, Mapped}
+use Rattle.fuzz_eval.specs.Steps.{CanApply, CanFilter, CanMap}
+use Rattle.fuzz_eval.proofs.Applying.{can_closure}
+use Rattle.fuzz_eval.proofs.Elements.{back}
 
 -- an element, as a value
 pub is_element : (v : Value) (x : Flat) → v ≡ value_of x → flat_of v ≡ x
@@ -43,26 +31,9 @@ all_more (u ∷ us) v h k = (h.0, all_more us v h.1 k)
 shifted : (out : List Value) (v : Value) (x : Flat) (rest : List Flat) → v ≡ value_of x → flats_of out ++ (x ∷ rest) ≡ flats_of (out ++ v ∷ []) ++ rest
 shifted out v x rest e = sym (ap (λ ys. ys ++ rest) (flats_more out v ∙ ap (λ y. flats_of out ++ y ∷ []) (is_element v x e)) ∙ append_assoc (flats_of out) (x ∷ []) rest)
 
-pub copied_none : (xs : List Flat) → Copied [] xs 0 []
-copied_none xs = record { flat = tt; is = refl }
-
-pub copied_more : (prefix xs : List Flat) (i : ℕ) (out more : List Value) (v : Value) → i < length xs → Copied prefix xs i out → v ≡ value_of (get_or xs i UnitF) → more ≡ out ++ v ∷ [] → Copied prefix xs (i + 1) more
-copied_more prefix xs i out more v l h e g =
-    subst (λ (more : List Value). Copied prefix xs (i + 1) more) (sym g) (record {
-      flat = all_more out v h.flat (element_flat v (get_or xs i UnitF) e);
-      is = sym (shifted out v (get_or xs i UnitF) (drop (i + 1) xs) e) ∙ sym (ap (λ ys. flats_of out ++ ys) (drop_more xs i UnitF l)) ∙ h.is;
-    })
-
 append_none : (xs : List Flat) → xs ++ [] ≡ xs
 append_none [] = refl
 append_none (x ∷ xs) = ap (λ ys. x ∷ ys) (append_none xs)
-
-pub copied_all : (prefix xs : List Flat) (i : ℕ) (out : List Value) → length xs ≤ i → Copied prefix xs i out → flats_of out ≡ prefix ++ xs
-copied_all prefix xs i out l h = sym (ap (λ ys. flats_of out ++ ys) (drop_of_length-le xs l) ∙ append_none (flats_of out)) ∙ h.is
-
--- the second list's loop begins where the first one's ends
-pub copied_first : (xs ys : List Flat) (i : ℕ) (out : List Value) → length xs ≤ i → Copied [] xs i out → Copied xs ys 0 out
-copied_first xs ys i out l h = record { flat = h.flat; is = ap (λ zs. zs ++ ys) (copied_all [] xs i out l h) }
 
 applies_one : (n : ℕ) {c u v w : Value} → Applies (MeansIn n) c u v → Applies (MeansIn n) c u w → v ≡ w
 applies_one n (apply h) (apply k) = same_value _ _ _ _ _ _ h k
@@ -204,39 +175,16 @@ divided_all n c xs i out others l h k =
     let q = r.4 ∙ ap (λ zs. flats_of others ++ zs) e.1 ∙ append_none (flats_of others) in
     subst (λ (ys : List Flat). Splits (MeansIn n) c xs ys (flats_of others)) p (subst (λ (zs : List Flat). Splits (MeansIn n) c xs k.kept zs) q k.gives)
 
-share_here : (lo hi : ℤ) (x : Flat) (xs : List Flat) → (share_of lo hi (value_of x) +ℤ clipped_sum lo hi (numbers_in xs)) ≡ clipped_sum lo hi (numbers_in (x ∷ xs))
-share_here lo hi (NumF z) xs = refl
-share_here lo hi (TextF s) xs = omega (arith, ints)
-share_here lo hi UnitF xs = omega (arith, ints)
-share_here lo hi (PairF a b) xs = omega (arith, ints)
-share_here lo hi (InlF a) xs = omega (arith, ints)
-share_here lo hi (InrF a) xs = omega (arith, ints)
-share_here lo hi (BangF a) xs = omega (arith, ints)
+-- a bag with no elements, and one with some
 
-pub summed_none : (lo hi : ℤ) (xs : List Flat) → Summed lo hi xs 0 (pos 0)
-summed_none lo hi xs = record { low = omega (arith, ints); high = omega (arith, ints); is = omega (arith, ints) }
+pub map_nothing : (n : ℕ) (c : Value) (xs : List Flat) → length xs ≤ 0 → CanMap n c xs → Maps (MeansIn n) c xs []
+map_nothing n c xs l k = mapped_all n c xs 0 [] l (mapped_none n c xs) k
 
-pub summed_more : (lo hi : ℤ) (xs : List Flat) (i : ℕ) (total here more : ℤ) (v : Value) → i < length xs → Summed lo hi xs i total → v ≡ value_of (get_or xs i UnitF) → here ≡ share_of lo hi v → neg_ℤ (pos 9223372036854775808) ≤ℤ here → here ≤ℤ pos 9223372036854775807 → more ≡ total +ℤ here → Summed lo hi xs (i + 1) more
-summed_more lo hi xs i total here more v l s e h a b g =
-    let y = share_here lo hi (get_or xs i UnitF) (drop (i + 1) xs) in
-    let k : here ≡ share_of lo hi (value_of (get_or xs i UnitF)) = h ∙ ap (share_of lo hi) e in
-    let d = ap (λ ys. clipped_sum lo hi (numbers_in ys)) (drop_more xs i UnitF l) in
-    record {
-      low = omega (arith, ints, s.low, a, g);
-      high = omega (arith, ints, s.high, b, g);
-      is = omega (arith, ints, s.is, y, k, d, g);
-    }
+pub split_nothing : (n : ℕ) (c : Value) (xs : List Flat) → length xs ≤ 0 → CanFilter n c xs → Splits (MeansIn n) c xs [] []
+split_nothing n c xs l k = divided_all n c xs 0 [] [] l (divided_none n c xs) k
 
-pub summed_all : (lo hi : ℤ) (xs : List Flat) (i : ℕ) (total : ℤ) → length xs ≤ i → Summed lo hi xs i total → total ≡ clipped_sum lo hi (numbers_in xs)
-summed_all lo hi xs i total l s = let d = ap (λ ys. clipped_sum lo hi (numbers_in ys)) (drop_of_length-le xs l) in omega (arith, ints, s.is, d)
+pub map_closure : (n : ℕ) (c : Value) (xs : List Flat) → 0 < length xs → CanMap n c xs → IsClosure c
+map_closure n c xs l k = can_closure (mapped_can n c xs 0 [] l (value_of (get_or xs 0 UnitF)) (mapped_none n c xs) k refl)
 
--- of numbers alone these are all
-pub numbers_back : (zs : List ℤ) → numbers_in (map NumF zs) ≡ zs
-numbers_back [] = refl
-numbers_back (z ∷ zs) = ap (λ ys. z ∷ ys) (numbers_back zs)
-
-pub sum_gives : (o : Ranged) → o ≡ Sum → (lo hi : ℤ) (u w v : Value) (z : ℤ) → GivesRanged o lo hi u w → z ≡ clamp (clipped_sum lo hi (numbers_in (elements u))) → v ≡ NumV z → GivesRanged o lo hi u v
-sum_gives o h lo hi u w v z g p q =
-    let s = subst (λ (o : Ranged). GivesRanged o lo hi u w) h g in
-    let t : numbers_in (elements u) ≡ s.0 = ap (λ u. numbers_in (elements u)) s.1 ∙ numbers_back s.0 in
-    subst (λ (o : Ranged). GivesRanged o lo hi u v) (sym h) (s.0, s.1, q ∙ ap NumV (p ∙ ap (λ ys. clamp (clipped_sum lo hi ys)) t))
+pub filter_closure : (n : ℕ) (c : Value) (xs : List Flat) → 0 < length xs → CanFilter n c xs → IsClosure c
+filter_closure n c xs l k = can_closure (kept_can n c xs 0 [] l (value_of (get_or xs 0 UnitF)) (kept_none n c xs) k refl)

@@ -11,7 +11,7 @@ use Rattle.fz_ast.specs.declared.term.Unary.{Unary}
 use Rattle.fz_ast.specs.declared.term.Unary.TheVariants.{Fst, Snd, Least, Greatest, Size}
 use Rattle.metric_law.specs.Means.{Meaning, MeansIn, Rules}
 use Rattle.metric_values.specs.Values.{Env, NumV, PairV, Value}
-use Rattle.fuzz_eval.specs.Steps.{Gives1, Gives2, HasValue}
+use Rattle.fuzz_eval.specs.Steps.{Gives1, Gives2, HasValueWithin}
 
 -- a term's form
 abbrev pub form_in : Term → TermForm
@@ -25,7 +25,7 @@ up : (n : ℕ) (γ : Env) (e : Term) (v : Value) → 0 < n → Rules (MeansIn (n
 up zero γ e v l h = absurd (omega arith)
 up (suc n) γ (at s f) v l h = let k : suc n - 1 ≡ n = omega arith in subst (λ (m : ℕ). Rules (MeansIn m) γ f v) k h
 
-pub above : {n : ℕ} {γ : Env} {t : Term} → HasValue n γ t → 0 < n
+pub above : {n : ℕ} {γ : Env} {t : Term} → HasValueWithin n γ t → 0 < n
 above {n} {γ} {t} h = (down n γ t h.value h.does).0
 
 -- a node, by its form
@@ -33,10 +33,10 @@ module _ (n : ℕ) (γ : Env) (t : Term) (ty : ℕ → Ty) (part : ℕ → Term)
   term_is : t ≡ (term_of ty part s g)
   term_is = e ∙ ap (term_of ty part s) h
 
-  pub rules : (k : HasValue n γ t) → Rules (MeansIn (n - 1)) γ (form_of ty part g) k.value
+  pub rules : (k : HasValueWithin n γ t) → Rules (MeansIn (n - 1)) γ (form_of ty part g) k.value
   rules k = (down n γ (term_of ty part s g) k.value (subst (λ (e : Term). MeansIn n γ e k.value) term_is k.does)).1
 
-  pub means : HasValue n γ t → (v : Value) → Rules (MeansIn (n - 1)) γ (form_of ty part g) v → MeansIn n γ t v
+  pub means : HasValueWithin n γ t → (v : Value) → Rules (MeansIn (n - 1)) γ (form_of ty part g) v → MeansIn n γ t v
   means k v r = subst (λ (e : Term). MeansIn n γ e v) (sym term_is) (up n γ (term_of ty part s g) v (above k) r)
 
 module _ (R : Meaning) (γ : Env) (s : Span) where

@@ -1,20 +1,22 @@
 -- How far a loop over a bag's elements has come.
-use Rattle.std.specs.Prelude.{List, [], ◌∷◌, drop, neg_ℤ, pos, ℕ, ℤ, ◌*◌, ◌++◌, ◌+ℤ◌, ◌≡◌, ◌≤ℤ◌}
+use Rattle.std.specs.Prelude.{List, drop, ℕ, ◌++◌, ◌≡◌}
 use Rattle.metric_law.specs.Means.{Maps, MeansIn, Splits}
-use Rattle.metric_values.specs.Numbers.{clipped_sum}
-use Rattle.metric_values.specs.Values.{Flat, NumF, Value}
+use Rattle.fz_ast.specs.Terms.{Term}
+use Rattle.fz_ast.specs.declared.term.Arrow.{Arrow}
+use Rattle.fz_ast.specs.declared.term.Arrow.TheVariants.{Fun, Fn}
+use Rattle.metric_values.specs.Values.{BangV, Bind, Empty, Env, Flat, UnitV, Value}
 use Rattle.run_values.specs.Flats.{AllFlat, flats_of}
+use Rattle.fuzz_eval.specs.Steps.{closure_of}
 
--- the numbers among these elements
-abbrev pub numbers_in : List Flat → List ℤ
-numbers_in [] = []
-numbers_in (NumF z ∷ xs) = z ∷ numbers_in xs
-numbers_in (x ∷ xs) = numbers_in xs
+-- what a function's name stands for while it is applied to the bang of x
+abbrev pub bound_element : Arrow → Value → Value
+bound_element Fun x = BangV x
+bound_element Fn x = x
 
--- out has the elements of prefix, and those of xs before place i
-pub record Copied (prefix xs : List Flat) (i : ℕ) (out : List Value) : Type 0 where
-  pub flat : AllFlat out
-  pub is : flats_of out ++ drop i xs ≡ prefix ++ xs
+-- the function with this body, which is meant in the scope inside its own name
+abbrev pub function_inside : Arrow → Env → Term → Value
+function_inside o Empty e = UnitV
+function_inside o (Bind x v γ) e = closure_of o x e γ
 
 -- out is what c gives for the elements of xs before place i
 pub record Mapped (n : ℕ) (c : Value) (xs : List Flat) (i : ℕ) (out : List Value) : Type 0 where
@@ -33,9 +35,3 @@ pub record Divided (n : ℕ) (c : Value) (xs : List Flat) (i : ℕ) (kept others
   pub each :
       (ys zs : List Flat) → Splits (MeansIn n) c xs ys zs
       → (us ws : List Flat) × Splits (MeansIn n) c (drop i xs) us ws × (ys ≡ flats_of kept ++ us) × (zs ≡ flats_of others ++ ws)
-
--- total is the sum for the elements of xs before place i
-pub record Summed (lo hi : ℤ) (xs : List Flat) (i : ℕ) (total : ℤ) : Type 0 where
-  pub low : neg_ℤ (pos (i * 9223372036854775808)) ≤ℤ total
-  pub high : total ≤ℤ pos (i * 9223372036854775808)
-  pub is : (total +ℤ clipped_sum lo hi (numbers_in (drop i xs))) ≡ clipped_sum lo hi (numbers_in xs)

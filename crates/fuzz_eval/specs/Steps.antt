@@ -1,6 +1,6 @@
 -- What a term's value is made of, once its parts have theirs: the rules of meaning, by groups of forms.
 use Rattle.std.specs.Int.{int_max, int_min}
-use Rattle.std.specs.Prelude.{List, bytes_eq, int_le, length, map, pos, ℕ, ℤ, ◌*ℤ◌, ◌++◌, ◌+ℤ◌, ◌-ℤ◌, ◌≡◌, ◌⊎◌}
+use Rattle.std.specs.Prelude.{List, bytes_eq, int_le, length, map, pos, ℕ, ℤ, ◌*ℤ◌, ◌++◌, ◌+ℤ◌, ◌-ℤ◌, ◌≡◌, ◌⊎◌, ⊤}
 use Rattle.fz_ast.specs.Terms.{Name, Term}
 use Rattle.fz_ast.specs.declared.term.Arrow.{Arrow}
 use Rattle.fz_ast.specs.declared.term.Arrow.TheVariants.{Fun, Fn}
@@ -15,12 +15,12 @@ use Rattle.fz_ast.specs.declared.term.Unary.TheVariants.{Fst, Snd, Least, Greate
 use Rattle.metric_law.specs.Means.{Applies, Maps, Meaning, MeansIn, Splits}
 use Rattle.metric_values.specs.Numbers.{clamp, clip, clipped_sum}
 use Rattle.metric_values.specs.Distances.{same_number}
-use Rattle.run_values.specs.Parts.{IsNum, IsText}
+use Rattle.run_values.specs.Parts.{IsNum, IsTextValue}
 use Rattle.run_values.specs.Views.{function_of}
 use Rattle.metric_values.specs.Values.{BagV, Env, Flat, FnV, FunV, InlV, InrV, NumF, NumV, PairV, TextV, Value, truth}
 
 -- the term has a value, by a derivation of at most this height
-pub record HasValue (n : ℕ) (γ : Env) (t : Term) : Type 0 where
+pub record HasValueWithin (n : ℕ) (γ : Env) (t : Term) : Type 0 where
   pub value : Value
   pub does : MeansIn n γ t value
 
@@ -61,16 +61,16 @@ Gives2 R Filter a b v = (xs ys zs : List Flat) × (b ≡ BagV xs) × Splits R a 
 Gives2 R Split a b v = (xs ys zs : List Flat) × (b ≡ BagV xs) × Splits R a xs ys zs × (v ≡ PairV (BagV ys) (BagV zs))
 
 -- a sign of two parts that applies no function
-abbrev pub IsPlain : Binary → Type 0
-IsPlain App = ⊥
-IsPlain Map = ⊥
-IsPlain Filter = ⊥
-IsPlain Split = ⊥
-IsPlain o = Unit {0}
+abbrev pub AppliesNoFunction : Binary → Type 0
+AppliesNoFunction App = ⊥
+AppliesNoFunction Map = ⊥
+AppliesNoFunction Filter = ⊥
+AppliesNoFunction Split = ⊥
+AppliesNoFunction o = ⊤
 
 -- two numbers or two texts
 abbrev pub AreComparable : Value → Value → Type 0
-AreComparable u w = (IsNum u × IsNum w) ⊎ (IsText u × IsText w)
+AreComparable u w = (IsNum u × IsNum w) ⊎ (IsTextValue u × IsTextValue w)
 
 -- there is something that it gives
 pub record Can1 (o : Unary) (u : Value) : Type 0 where
@@ -107,16 +107,6 @@ closure_of Fn x e γ = FnV x e γ
 abbrev pub IsClosureOf : Term → Arrow → Name → Term → Type 0
 IsClosureOf t o x e = (γ : Env) → function_of t γ ≡ closure_of o x e γ
 
--- the program has a number, by a derivation of at most this height
-pub record HasNumber (n : ℕ) (γ : Env) (t : Term) : Type 0 where
-  pub number : ℤ
-  pub does : MeansIn n γ t (NumV number)
-
 pub record CanRanged (o : Ranged) (lo hi : ℤ) (u : Value) : Type 0 where
   pub value : Value
   pub gives : GivesRanged o lo hi u value
-
--- what a value adds to a sum
-abbrev pub share_of : ℤ → ℤ → Value → ℤ
-share_of lo hi (NumV z) = clip lo hi z
-share_of lo hi v = pos 0

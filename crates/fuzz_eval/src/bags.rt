@@ -1,24 +1,30 @@
 //! Bags as wholes.
-ghost use Rattle.std.specs.Prelude.{◌≡◌, ◌++◌, ◌∷◌, [], IfOk, OnOk};
-ghost use Rattle.metric_values.specs.Values.{BagV};
-ghost use Rattle.run_values.specs.Parts.{IsBag, elements};
-ghost use Rattle.metric_values.specs.Numbers.{clamp, clipped_sum};
-ghost use Rattle.fuzz_eval.specs.Loops.{numbers_in};
-ghost use Rattle.fuzz_eval.specs.Steps.{share_of};
+ghost use Rattle.std.specs.Prelude.{◌≡◌, ◌<◌, ◌++◌, [], IfOk, length};
+ghost use Rattle.std.proofs.Common.{get_or};
+ghost use Rattle.fz_ast.specs.declared.term.Ranged.TheVariants.{Sum};
+ghost use Rattle.metric_values.specs.Values.{BagV, NumV, PairV, UnitF, value_of};
+ghost use Rattle.run_values.specs.Parts.{IsBag, IsNum, elements, number_in};
+ghost use Rattle.fuzz_eval.specs.Steps.{CanRanged, GivesRanged};
 
-use crate::numbers::clipped;
+use bag_ops::by_place::{append_by, clipped_sum_by};
 use fz_ast::NoMemory;
 use run_values::Value;
 use std::alloc::Global;
 
-/// Adds a value at the end.
-pub fn put(out: &mut Vec<Value>, value: Value) -> Result<(), NoMemory>
-    ensures { OnOk result (out.new.items ≡ out.old.items ++ value ∷ []) }
+/// The bag with no elements.
+pub fn no_elements(alloc: Global) -> Result<Value, NoMemory>
+    ensures { IfOk result (λ v. v ≡ BagV []) }
 {
-    match out.push(value) {
-        Ok(()) => Ok(()),
-        Err(_) => Err(NoMemory),
-    }
+    Value::list(alloc, Vec::new(alloc))
+}
+
+/// Two bags with no elements.
+pub fn no_elements_twice(alloc: Global) -> Result<Value, NoMemory>
+    ensures { IfOk result (λ v. v ≡ PairV (BagV []) (BagV [])) }
+{
+    let first = no_elements(alloc)?;
+    let second = no_elements(alloc)?;
+    Value::pair(alloc, first, second)
 }
 
 /// The elements of both.
@@ -28,57 +34,38 @@ pub fn union(alloc: Global, a: &Value, b: &Value) -> Result<Value, NoMemory>
     ensures { IfOk result (λ v. v ≡ BagV (elements a.now ++ elements b.now)) }
 {
     let mut out = Vec::new(alloc);
-    for i in 0..a.size() {
-        let x = a.element(i)?;
-        put(&mut out, x)?;
-    }
-    for j in 0..b.size() {
-        let y = b.element(j)?;
-        put(&mut out, y)?;
-    }
+    let of_a = |i: usize| -> Result<Value, NoMemory>
+        requires { IsBag a.now × (i < length (elements a.now)) }
+        ensures { IfOk result (λ x. x ≡ value_of (get_or (elements a.entry.now) i UnitF)) }
+    { a.element(i) };
+    append_by(&mut out, a.size(), &of_a)?;
+    let of_b = |i: usize| -> Result<Value, NoMemory>
+        requires { IsBag b.now × (i < length (elements b.now)) }
+        ensures { IfOk result (λ x. x ≡ value_of (get_or (elements b.entry.now) i UnitF)) }
+    { b.element(i) };
+    append_by(&mut out, b.size(), &of_b)?;
     Value::list(alloc, out)
 }
 
-// What a value adds to a sum.
-fn share(lo: i64, hi: i64, x: &Value) -> i64
-    ensures { result ≡ share_of lo hi x.now }
+// A number of a bag.
+fn number_at(b: &Value, i: usize) -> Result<i64, NoMemory>
+    requires bag { IsBag b.now }
+    requires within { i < length (elements b.now) }
+    requires number { IsNum (value_of (get_or (elements b.now) i UnitF)) }
+    ensures { IfOk result (λ z. z ≡ number_in (value_of (get_or (elements b.now) i UnitF))) }
 {
-    match x.as_number() {
-        Some(z) => clipped(lo, hi, z),
-        None => 0,
-    }
-}
-
-fn narrowed(total: i128) -> i64
-    ensures { result ≡ clamp total }
-{
-    if total > 1 << 50 {
-        1 << 50
-    } else if total < -(1 << 50) {
-        -(1 << 50)
-    } else {
-        total as i64
-    }
-}
-
-// The sum of the numbers, each clipped.
-fn total(lo: i64, hi: i64, b: &Value) -> Result<i128, NoMemory>
-    requires { IsBag b.now }
-    ensures { IfOk result (λ z. z ≡ clipped_sum lo hi (numbers_in (elements b.now))) }
-{
-    let mut total: i128 = 0;
-    for i in 0..b.size() {
-        let x = b.element(i)?;
-        let here = share(lo, hi, &x);
-        total += here as i128;
-    }
-    Ok(total)
+    let x = b.element(i)?;
+    Ok(x.number())
 }
 
 /// The sum of the numbers, each clipped, clamped once.
 pub fn sum(lo: i64, hi: i64, b: &Value) -> Result<i64, NoMemory>
-    requires { IsBag b.now }
-    ensures { IfOk result (λ z. z ≡ clamp (clipped_sum lo hi (numbers_in (elements b.now)))) }
+    requires { CanRanged Sum lo hi b.now }
+    ensures { IfOk result (λ z. GivesRanged Sum lo hi b.now (NumV z)) }
 {
-    Ok(narrowed(total(lo, hi, b)?))
+    let number = |i: usize| -> Result<i64, NoMemory>
+        requires { IsBag b.now × (i < length (elements b.now)) × IsNum (value_of (get_or (elements b.now) i UnitF)) }
+        ensures { IfOk result (λ z. z ≡ number_in (value_of (get_or (elements b.entry.now) i UnitF))) }
+    { number_at(b, i) };
+    clipped_sum_by(lo, hi, b.size(), &number)
 }

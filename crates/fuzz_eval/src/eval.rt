@@ -1,18 +1,20 @@
 //! A term's value, by recursion on the height of its derivation.
 #![tactic(none)]
 
-ghost use Rattle.std.specs.Prelude.{◌≡◌, ◌<◌, IfOk, List, length};
+ghost use Rattle.std.specs.Prelude.{◌≡◌, ◌<◌, IfOk, List, OnOk, length};
 ghost use Rattle.fz_ast.specs.Names.{name_of};
 ghost use Rattle.fz_ast.specs.Terms.{at};
 ghost use Rattle.fz_ast.specs.TermNodes.{term_at};
 ghost use Rattle.metric_law.specs.Means.{Applies, Maps, MeansIn, Splits};
 ghost use Rattle.metric_values.specs.Values.{BagV, BangV, Bind, Flat, PairV};
 ghost use Rattle.run_values.specs.Parts.{IsBag, elements};
-ghost use Rattle.fuzz_eval.specs.Steps.{Can2, CanApply, CanFilter, CanMap, Gives2, HasValue};
+ghost use Rattle.fuzz_eval.specs.Loops.{function_inside};
+ghost use Rattle.fuzz_eval.specs.Steps.{Can2, CanApply, CanFilter, CanMap, Gives2, HasValueWithin};
 
-use crate::bags::put;
-use crate::nodes::{body_of, look};
+use crate::bags::{no_elements, no_elements_twice};
+use crate::nodes::{Body, bind_element, body_of, look};
 use crate::words::{inject, plain, ranged, scale, unary};
+use bag_ops::put::put;
 use fz_ast::{Arrow, Binary, Form, Name, NoMemory, Nodes};
 use run_values::{Scope, Value};
 use std::alloc::Global;
@@ -30,7 +32,7 @@ fn eval_under(
     left: u32,
 ) -> Result<Value, NoMemory>
     requires known { i < length nodes.now.value.terms }
-    requires has { HasValue left (Bind (name_of name) value scope.now) (term_at nodes.now.value.terms i) }
+    requires has { HasValueWithin left (Bind (name_of name) value scope.now) (term_at nodes.now.value.terms i) }
     ensures { IfOk result (λ v. MeansIn left (Bind (name_of name) value scope.now) (term_at nodes.now.value.terms i) v) }
 {
     let inner = scope.with(alloc, name, value)?;
@@ -70,50 +72,48 @@ fn apply(alloc: Global, c: &Value, u: Value, left: u32) -> Result<Value, NoMemor
     }
 }
 
-// What a function gives for an element of a bag, which it is given as a bang.
+// What a function gives for an element of a bag, which it is given as a bang. Its name stands for the element in `inner`, which
+// is one scope for all of them.
 #[cycle(evaluating)]
-fn apply_to_element(alloc: Global, c: &Value, x: Value, left: u32) -> Result<Value, NoMemory>
-    requires { CanApply left c.now (BangV x) }
-    ensures { IfOk result (λ v. Applies (MeansIn left) c.now (BangV x) v) }
+fn apply_to_element(
+    alloc: Global,
+    nodes: &Rc<Nodes>,
+    body: Body,
+    inner: &mut Scope,
+    x: Value,
+    left: u32,
+) -> Result<Value, NoMemory>
+    requires known { body.term < length nodes.now.value.terms }
+    requires can { CanApply left (function_inside body.arrow inner.old (term_at nodes.now.value.terms body.term)) (BangV x) }
+    ensures gives { IfOk result (λ v. Applies (MeansIn left) (function_inside body.arrow inner.old (term_at nodes.now.value.terms body.term)) (BangV x) v) }
+    ensures function { OnOk result (
+        function_inside body.arrow inner.new (term_at nodes.now.value.terms body.term)
+        ≡ function_inside body.arrow inner.old (term_at nodes.now.value.terms body.term)
+        ) }
 {
-    let function = c.function();
-    let body = body_of(&function.nodes, function.lambda);
-    match body.arrow {
-        Arrow::Fun => {
-            let bang = Value::bang(alloc, x)?;
-            eval_under(
-                alloc,
-                &function.nodes,
-                &function.scope,
-                body.name,
-                bang,
-                body.term,
-                left,
-            )
-        }
-        Arrow::Fn => eval_under(
-            alloc,
-            &function.nodes,
-            &function.scope,
-            body.name,
-            x,
-            body.term,
-            left,
-        ),
-    }
+    bind_element(alloc, body.arrow, inner, x)?;
+    eval(alloc, nodes, inner, body.term, left)
 }
 
-// What a function gives for each element.
+// What a function gives for each element. Where there is none, `c` need not be a function.
 #[cycle(evaluating)]
+#[inline(never)]
 fn map(alloc: Global, c: &Value, b: &Value, left: u32) -> Result<Value, NoMemory>
     requires bag { IsBag b.now }
     requires can { CanMap left c.now (elements b.now) }
     ensures { IfOk result (λ v. (ys : List Flat) × Maps (MeansIn left) c.now (elements b.now) ys × (v ≡ BagV ys)) }
 {
+    let size = b.size();
+    if size == 0 {
+        return no_elements(alloc);
+    }
+    let function = c.function();
+    let body = body_of(&function.nodes, function.lambda);
+    let mut inner = function.scope.with(alloc, body.name, Value::unit())?;
     let mut out = Vec::new(alloc);
-    for i in 0..b.size() {
+    for i in 0..size {
         let x = b.element(i)?;
-        let y = apply_to_element(alloc, c, x, left)?;
+        let y = apply_to_element(alloc, &function.nodes, body, &mut inner, x, left)?;
         put(&mut out, y)?;
     }
     Value::list(alloc, out)
@@ -121,15 +121,23 @@ fn map(alloc: Global, c: &Value, b: &Value, left: u32) -> Result<Value, NoMemory
 
 // The elements for which a function gives true.
 #[cycle(evaluating)]
+#[inline(never)]
 fn filter(alloc: Global, c: &Value, b: &Value, left: u32) -> Result<Value, NoMemory>
     requires bag { IsBag b.now }
     requires can { CanFilter left c.now (elements b.now) }
     ensures { IfOk result (λ v. (ys zs : List Flat) × Splits (MeansIn left) c.now (elements b.now) ys zs × (v ≡ BagV ys)) }
 {
+    let size = b.size();
+    if size == 0 {
+        return no_elements(alloc);
+    }
+    let function = c.function();
+    let body = body_of(&function.nodes, function.lambda);
+    let mut inner = function.scope.with(alloc, body.name, Value::unit())?;
     let mut out = Vec::new(alloc);
-    for i in 0..b.size() {
+    for i in 0..size {
         let x = b.element(i)?;
-        let verdict = apply_to_element(alloc, c, x, left)?;
+        let verdict = apply_to_element(alloc, &function.nodes, body, &mut inner, x, left)?;
         if verdict.is_left() {
             let kept = b.element(i)?;
             put(&mut out, kept)?;
@@ -140,16 +148,24 @@ fn filter(alloc: Global, c: &Value, b: &Value, left: u32) -> Result<Value, NoMem
 
 // The elements for which a function gives true, and the others.
 #[cycle(evaluating)]
+#[inline(never)]
 fn split(alloc: Global, c: &Value, b: &Value, left: u32) -> Result<Value, NoMemory>
     requires bag { IsBag b.now }
     requires can { CanFilter left c.now (elements b.now) }
     ensures { IfOk result (λ v. (ys zs : List Flat) × Splits (MeansIn left) c.now (elements b.now) ys zs × (v ≡ PairV (BagV ys) (BagV zs))) }
 {
+    let size = b.size();
+    if size == 0 {
+        return no_elements_twice(alloc);
+    }
+    let function = c.function();
+    let body = body_of(&function.nodes, function.lambda);
+    let mut inner = function.scope.with(alloc, body.name, Value::unit())?;
     let mut kept = Vec::new(alloc);
     let mut others = Vec::new(alloc);
-    for i in 0..b.size() {
+    for i in 0..size {
         let x = b.element(i)?;
-        let answer = apply_to_element(alloc, c, x, left)?;
+        let answer = apply_to_element(alloc, &function.nodes, body, &mut inner, x, left)?;
         let y = b.element(i)?;
         if answer.is_left() {
             put(&mut kept, y)?;
@@ -164,6 +180,7 @@ fn split(alloc: Global, c: &Value, b: &Value, left: u32) -> Result<Value, NoMemo
 
 // What a word or sign of two parts gives for their values.
 #[cycle(evaluating)]
+#[inline(never)]
 fn combine(alloc: Global, form: Binary, u: Value, w: Value, left: u32) -> Result<Value, NoMemory>
     requires { Can2 left form u w }
     ensures { IfOk result (λ v. Gives2 (MeansIn left) form u w v) }
@@ -189,7 +206,7 @@ pub fn eval(
     left: u32,
 ) -> Result<Value, NoMemory>
     requires known { i < length nodes.now.value.terms }
-    requires has { HasValue left scope.now (term_at nodes.now.value.terms i) }
+    requires has { HasValueWithin left scope.now (term_at nodes.now.value.terms i) }
     ensures { IfOk result (λ v. MeansIn left scope.now (term_at nodes.now.value.terms i) v) }
 {
     match look(nodes, i).form {
@@ -210,7 +227,7 @@ fn eval_two(
     left: u32,
 ) -> Result<Value, NoMemory>
     requires known { i < length nodes.now.value.terms }
-    requires has { HasValue left scope.now (term_at nodes.now.value.terms i) }
+    requires has { HasValueWithin left scope.now (term_at nodes.now.value.terms i) }
     ensures { IfOk result (λ v. MeansIn left scope.now (term_at nodes.now.value.terms i) v) }
 {
     let Form::Binary(form, a, b) = look(nodes, i).form else {
@@ -233,7 +250,7 @@ fn eval_other(
     left: u32,
 ) -> Result<Value, NoMemory>
     requires known { i < length nodes.now.value.terms }
-    requires has { HasValue left scope.now (term_at nodes.now.value.terms i) }
+    requires has { HasValueWithin left scope.now (term_at nodes.now.value.terms i) }
     ensures { IfOk result (λ v. MeansIn left scope.now (term_at nodes.now.value.terms i) v) }
 {
     let below = left - 1;

@@ -1,14 +1,18 @@
 //! Nodes by their numbers.
-ghost use Rattle.std.specs.Prelude.{◌≡◌, ◌<◌, length};
+ghost use Rattle.std.specs.Prelude.{◌≡◌, ◌<◌, OnOk, length};
 ghost use Rattle.fz_ast.specs.Limits.{TermLimits};
 ghost use Rattle.fz_ast.specs.Names.{name_of};
 ghost use Rattle.fz_ast.specs.Terms.{at};
 ghost use Rattle.fz_ast.specs.TermNodes.{IsKnown, term_of, term_at};
 ghost use Rattle.fz_ast.specs.TypeNodes.{type_at};
+ghost use Rattle.run_values.specs.Parts.{rebound};
 ghost use Rattle.run_values.specs.Views.{IsFunction};
+ghost use Rattle.fuzz_eval.specs.Loops.{bound_element};
 ghost use Rattle.fuzz_eval.specs.Steps.{IsClosureOf};
 
-use fz_ast::{Arrow, Form, Name, Node, Nodes};
+use fz_ast::{Arrow, Form, Name, NoMemory, Node, Nodes};
+use run_values::{Scope, Value};
+use std::alloc::Global;
 use std::rc::Rc;
 
 /// The node of this number.
@@ -39,5 +43,23 @@ pub fn body_of(nodes: &Rc<Nodes>, lambda: u32) -> Body
     match look(nodes, lambda).form {
         Form::Lambda(arrow, name, _, _, term) => Body { arrow, name, term },
         _ => unreachable!(),
+    }
+}
+
+/// A function's name stands for this element of a bag: for its bang, where the arrow is `fun`.
+pub fn bind_element(
+    alloc: Global,
+    arrow: Arrow,
+    inner: &mut Scope,
+    x: Value,
+) -> Result<(), NoMemory>
+    ensures { OnOk result (inner.new ≡ rebound inner.old (bound_element arrow x)) }
+{
+    match arrow {
+        Arrow::Fun => {
+            let bang = Value::bang(alloc, x)?;
+            inner.rebind(alloc, bang)
+        }
+        Arrow::Fn => inner.rebind(alloc, x),
     }
 }

@@ -1,6 +1,6 @@
 //! Arithmetic, clamped.
-ghost use Rattle.std.specs.Prelude.{◌≡◌, pos, ◌+ℤ◌, ◌-ℤ◌, ◌*ℤ◌};
-ghost use Rattle.metric_values.specs.Numbers.{clamp, clip};
+ghost use Rattle.std.specs.Prelude.{◌≡◌, ◌+ℤ◌, ◌-ℤ◌, ◌*ℤ◌};
+ghost use Rattle.metric_values.specs.Numbers.{clamp};
 
 const GREATEST: i64 = 1 << 50;
 
@@ -8,13 +8,6 @@ pub fn clamped(z: i64) -> i64
     ensures { result ≡ clamp z }
 {
     z.min(GREATEST).max(-GREATEST)
-}
-
-/// A number of elements.
-pub fn count(n: usize) -> i64
-    ensures { result ≡ clamp (pos n) }
-{
-    n.min(1 << 50) as i64
 }
 
 pub fn plus(y: i64, z: i64) -> i64
@@ -33,10 +26,4 @@ pub fn times(y: i64, z: i64) -> i64
     ensures { result ≡ clamp (y *ℤ z) }
 {
     clamped(y.saturating_mul(z))
-}
-
-pub fn clipped(lo: i64, hi: i64, z: i64) -> i64
-    ensures { result ≡ clip lo hi z }
-{
-    z.min(hi).max(lo)
 }

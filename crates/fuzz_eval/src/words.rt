@@ -5,11 +5,13 @@ ghost use Rattle.metric_values.specs.Numbers.{clamp};
 ghost use Rattle.metric_values.specs.Distances.{same_number};
 ghost use Rattle.metric_values.specs.Values.{NumV};
 ghost use Rattle.std.specs.Prelude.{◌+ℤ◌, ◌-ℤ◌};
-ghost use Rattle.run_values.specs.Parts.{IsNum, IsText, number_in, text_in};
-ghost use Rattle.fuzz_eval.specs.Steps.{AreComparable, Can1, Can2, CanRanged, CanTimes, Gives1, Gives2, GivesRanged, GivesTimes, IsPlain, injected};
+ghost use Rattle.run_values.specs.Parts.{IsNum, IsTextValue, number_in, text_in};
+ghost use Rattle.fuzz_eval.specs.Steps.{AreComparable, Can1, Can2, CanRanged, CanTimes, Gives1, Gives2, GivesRanged, GivesTimes, AppliesNoFunction, injected};
 
 use crate::bags::{sum, union};
-use crate::numbers::{clipped, count, minus, plus, times};
+use crate::numbers::{minus, plus, times};
+use bag_ops::clipped;
+use bag_ops::numbers::count;
 use fz_ast::{Binary, NoMemory, Ranged, Side, Unary};
 use run_values::Value;
 use std::alloc::Global;
@@ -64,7 +66,7 @@ fn subtract(u: &Value, w: &Value) -> Value
 fn equal(u: &Value, w: &Value) -> bool
     requires { AreComparable u.now w.now }
     ensures numbers { IsNum u.now → result ≡ same_number (number_in u.now) (number_in w.now) }
-    ensures texts { IsText u.now → result ≡ bytes_eq (text_in u.now) (text_in w.now) }
+    ensures texts { IsTextValue u.now → result ≡ bytes_eq (text_in u.now) (text_in w.now) }
 {
     match (u.as_number(), w.as_number()) {
         (Some(y), Some(z)) => y == z,
@@ -74,7 +76,7 @@ fn equal(u: &Value, w: &Value) -> bool
 
 /// What a word or sign with two parts gives, but for those that apply a function.
 pub fn plain(alloc: Global, form: Binary, u: Value, w: Value, left: u32) -> Result<Value, NoMemory>
-    requires plain { IsPlain form }
+    requires plain { AppliesNoFunction form }
     requires can { Can2 left form u w }
     ensures { IfOk result (λ v. Gives2 (MeansIn left) form u w v) }
 {

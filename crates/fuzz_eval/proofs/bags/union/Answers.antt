@@ -1,14 +1,23 @@
-use Rattle.std.proofs.Common.{arith, []}
+use Rattle.std.proofs.Common.{◌++◌, ◌∙◌, ap, rules}
+use Rattle.bag_ops.proofs.Lists.{if_ok}
+use Rattle.metric_values.specs.Values.{BagV, value_of}
 use Rattle.run_values.specs.Parts.{elements}
-use Rattle.fuzz_eval.proofs.Loops.{copied_more}
+use Rattle.fuzz_eval.proofs.Elements.{all_flat, both_are, flats_are, given_each}
 use Rattle.fuzz_eval.proofs.bags.union.Goals as goal
 
-pub loop-i-preserved : goal.loop-i-preserved
-loop-i-preserved c =
-    copied_more [] (elements c.args.a.now) c.loop-i.i c.loop-i.out.items c.put.new.out.items c.in_ok-x.x
-    (omega (arith, c.loop-i-test.true, c.size-i-end.ensures)) c.loop-i.invariant c.in_ok-x.ensures c.in_ok-put.ensures
+pub list-requires : goal.list-requires
+list-requires c =
+    let xs = elements c.args.a.now in let ys = elements c.args.b.now in
+    let r = c.in_ok-append_by.ensures in let s = c.in_ok-append_by-2.ensures in
+    let p = given_each _ value_of xs _ r.0 c.size.ensures (λ i x l e. search rules) r.1 in
+    let q = given_each _ value_of ys _ s.0 c.size-2.ensures (λ i x l e. search rules) s.1 in
+    all_flat (xs ++ ys) _ (both_are xs ys r.0 s.0 _ _ _ p q c.new-out.ensures.items r.2 s.2)
 
-pub loop-j-preserved : goal.loop-j-preserved
-loop-j-preserved c =
-    copied_more (elements c.args.a.now) (elements c.args.b.now) c.loop-j.j c.loop-j.out.items c.put-in-loop-j.new.out.items c.in_ok-y.y
-    (omega (arith, c.loop-j-test.true, c.size-j-end.ensures)) c.loop-j.invariant c.in_ok-y.ensures c.in_ok-put-2.ensures
+pub returns : goal.returns
+returns c =
+    let xs = elements c.args.a.now in let ys = elements c.args.b.now in
+    let r = c.in_ok-append_by.ensures in let s = c.in_ok-append_by-2.ensures in
+    let p = given_each _ value_of xs _ r.0 c.size.ensures (λ i x l e. search rules) r.1 in
+    let q = given_each _ value_of ys _ s.0 c.size-2.ensures (λ i x l e. search rules) s.1 in
+    let all = both_are xs ys r.0 s.0 _ _ _ p q c.new-out.ensures.items r.2 s.2 in
+    if_ok c.list.result _ _ c.list.ensures (λ v e. e ∙ ap BagV (flats_are (xs ++ ys) _ all))

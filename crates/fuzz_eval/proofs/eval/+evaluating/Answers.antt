@@ -1,4 +1,4 @@
-use Rattle.std.proofs.Common.{rules, ◌≡◌, ◌<◌, ◌+◌, ◌-◌, arith, ap, sym, subst, ◌∙◌, length, List, [], ℤ, to_z, of_z, w64, refl}
+use Rattle.std.proofs.Common.{rules, ◌≡◌, ◌<◌, ◌+◌, ◌-◌, arith, ap, sym, subst, ◌∙◌, length, List, [], ℤ, to_z, of_z, w64}
 use Rattle.std.specs.Prelude.{IfOk, Some}
 use Rattle.fz_ast.specs.Names.{name_of, text_of}
 use Rattle.fz_ast.specs.Parts.{Parts}
@@ -8,13 +8,13 @@ use Rattle.fz_ast.specs.declared.term.Form.{Form}
 use Rattle.metric_law.specs.Means.{Applies, Maps, MeansIn, Splits, find}
 use Rattle.metric_values.specs.Values.{BagV, BangV, Bind, Env, Flat, NumV, PairV, TextV, Value}
 use Rattle.run_values.specs.Flats.{flats_of}
-use Rattle.run_values.specs.Parts.{elements}
+use Rattle.run_values.specs.Parts.{elements, rebound}
 use Rattle.run_values.specs.Views.{IsFunction, function_of}
-use Rattle.fuzz_eval.specs.Loops.{Divided, Kept, Mapped}
-use Rattle.fuzz_eval.specs.Steps.{CanRanged, Gives1, Gives2, GivesRanged, GivesTimes, CanApply, CanTimes, HasValue, injected}
-use Rattle.fuzz_eval.proofs.Applying.{app_can, app_gives, can_closure, filter_bag, filter_can, filter_gives, fn_can, fn_gives, fn_has, fun_gives, fun_has, if_ok, map_bag, map_can, map_gives, plain_here, split_bag, split_can, split_gives}
+use Rattle.fuzz_eval.specs.Loops.{Divided, Kept, Mapped, bound_element, function_inside}
+use Rattle.fuzz_eval.specs.Steps.{CanRanged, Gives1, Gives2, GivesRanged, GivesTimes, CanApply, CanTimes, HasValueWithin, injected}
+use Rattle.fuzz_eval.proofs.Applying.{app_can, app_gives, can_closure, element_gives, element_has, given, on_ok, same_function, filter_bag, filter_can, filter_gives, fn_can, fn_gives, fn_has, fun_gives, fun_has, if_ok, map_bag, map_can, map_gives, plain_here, split_bag, split_can, split_gives}
 use Rattle.fuzz_eval.proofs.Held.{high_held, low_held, num_held, times_held}
-use Rattle.fuzz_eval.proofs.Loops.{divided_all, divided_no, divided_none, divided_yes, kept_all, kept_can, kept_no, kept_none, kept_of, kept_sum, kept_yes, mapped_all, mapped_can, mapped_more, mapped_none}
+use Rattle.fuzz_eval.proofs.Loops.{divided_all, divided_no, divided_none, divided_yes, kept_all, kept_can, kept_no, kept_none, kept_of, kept_sum, kept_yes, mapped_all, map_closure, map_nothing, mapped_can, mapped_more, mapped_none, filter_closure, split_nothing}
 use Rattle.fuzz_eval.proofs.Forms.{bang_has, bang_means, binary_can, binary_means, case_can, case_has, case_left, case_left_means, case_right, case_right_means, first_has, if_can, if_has, if_left, if_left_means, if_right, if_right_means, inject_has, inject_means, lambda_function, lambda_means, let_bang_can, let_bang_has, let_bang_inside, let_bang_means, let_has, let_inside, let_means, let_pair_can, let_pair_has, let_pair_inside, let_pair_means, num_means, ranged_can, ranged_has, ranged_means, second_has, text_means, times_can, times_has, times_means, unary_can, unary_has, unary_means, unit_means, var_known, var_means}
 use Rattle.fuzz_eval.proofs.Steps.{above}
 use Rattle.fuzz_eval.proofs.eval.+evaluating.Goals.{filter-then-is_left+in_ok-kept+in_ok-put, filter-else-is_left, split-then-is_left+in_ok-put, split-else-is_left+in_ok-put-2}
@@ -46,30 +46,6 @@ apply-eval_under-requires-in-Fn t c = (omega arith, (c.body_of-body.ensures.with
 
 pub apply-returns-in_ok-inner-in-Fn : goal.apply-returns-in_ok-inner-in-Fn
 apply-returns-in_ok-inner-in-Fn t c = if_ok c.eval_under-in-Fn.result (λ v. MeansIn c.args.left (Bind (name_of c.body_of-body.result.name) c.in_ok-inner-in-Fn.inner c.function-function.result.now.scope) ((term_at c.function-function.result.now.nodes.value.terms c.body_of-body.result.term)) v) (λ v. Applies (MeansIn c.args.left) c.args.c.now c.args.u v) c.eval_under-in-Fn.ensures (fn_gives c.args.left c.args.c.now c.args.u c.body_of-body.result.arrow (name_of c.body_of-body.result.name) (term_at c.function-function.result.now.nodes.value.terms c.body_of-body.result.term) c.function-function.result.now.scope (c.function-function.ensures.is ∙ c.body_of-body.ensures.is c.function-function.result.now.scope) c.in-Fn.is (fn_can c.args.left c.args.c.now c.args.u c.body_of-body.result.arrow (name_of c.body_of-body.result.name) (term_at c.function-function.result.now.nodes.value.terms c.body_of-body.result.term) c.function-function.result.now.scope (c.function-function.ensures.is ∙ c.body_of-body.ensures.is c.function-function.result.now.scope) c.in-Fn.is c.requires) c.in_ok-inner-in-Fn.inner c.in_ok-inner-in-Fn.ensures)
-
-pub apply_to_element-function-function-requires : goal.apply_to_element-function-function-requires
-apply_to_element-function-function-requires t c = can_closure c.requires
-
-pub apply_to_element-body_of-body-requires-clause-known : goal.apply_to_element-body_of-body-requires-clause-known
-apply_to_element-body_of-body-requires-clause-known t c = c.function-function.ensures.known
-
-pub apply_to_element-body_of-body-requires-clause-function : goal.apply_to_element-body_of-body-requires-clause-function
-apply_to_element-body_of-body-requires-clause-function t c = c.function-function.ensures.function
-
-pub apply_to_element-returns-in_err-bang-in-Fun : goal.apply_to_element-returns-in_err-bang-in-Fun
-apply_to_element-returns-in_err-bang-in-Fun t c = search rules
-
-pub apply_to_element-eval_under-requires : goal.apply_to_element-eval_under-requires
-apply_to_element-eval_under-requires t c = (omega arith, (c.body_of-body.ensures.within, fun_has c.args.left c.args.c.now c.in_ok-bang-in-Fun.bang c.body_of-body.result.arrow (name_of c.body_of-body.result.name) (term_at c.function-function.result.now.nodes.value.terms c.body_of-body.result.term) c.function-function.result.now.scope (c.function-function.ensures.is ∙ c.body_of-body.ensures.is c.function-function.result.now.scope) c.in-Fun.is (subst (λ (u : Value). CanApply c.args.left c.args.c.now u) (sym c.in_ok-bang-in-Fun.ensures) c.requires)))
-
-pub apply_to_element-returns-in_ok-bang-in-Fun : goal.apply_to_element-returns-in_ok-bang-in-Fun
-apply_to_element-returns-in_ok-bang-in-Fun t c = subst (λ (u : Value). IfOk c.eval_under.result (λ v. Applies (MeansIn c.args.left) c.args.c.now u v)) c.in_ok-bang-in-Fun.ensures (if_ok c.eval_under.result (λ v. MeansIn c.args.left (Bind (name_of c.body_of-body.result.name) c.in_ok-bang-in-Fun.bang c.function-function.result.now.scope) ((term_at c.function-function.result.now.nodes.value.terms c.body_of-body.result.term)) v) (λ v. Applies (MeansIn c.args.left) c.args.c.now c.in_ok-bang-in-Fun.bang v) c.eval_under.ensures (fun_gives c.args.left c.args.c.now c.in_ok-bang-in-Fun.bang c.body_of-body.result.arrow (name_of c.body_of-body.result.name) (term_at c.function-function.result.now.nodes.value.terms c.body_of-body.result.term) c.function-function.result.now.scope (c.function-function.ensures.is ∙ c.body_of-body.ensures.is c.function-function.result.now.scope) c.in-Fun.is))
-
-pub apply_to_element-eval_under-requires-in-Fn : goal.apply_to_element-eval_under-requires-in-Fn
-apply_to_element-eval_under-requires-in-Fn t c = (omega arith, (c.body_of-body.ensures.within, fn_has c.args.left c.args.c.now (BangV c.args.x) c.body_of-body.result.arrow (name_of c.body_of-body.result.name) (term_at c.function-function.result.now.nodes.value.terms c.body_of-body.result.term) c.function-function.result.now.scope (c.function-function.ensures.is ∙ c.body_of-body.ensures.is c.function-function.result.now.scope) c.in-Fn.is c.requires c.args.x refl))
-
-pub apply_to_element-returns-in-Fn : goal.apply_to_element-returns-in-Fn
-apply_to_element-returns-in-Fn t c = if_ok c.eval_under-in-Fn.result (λ v. MeansIn c.args.left (Bind (name_of c.body_of-body.result.name) c.args.x c.function-function.result.now.scope) ((term_at c.function-function.result.now.nodes.value.terms c.body_of-body.result.term)) v) (λ v. Applies (MeansIn c.args.left) c.args.c.now (BangV c.args.x) v) c.eval_under-in-Fn.ensures (fn_gives c.args.left c.args.c.now (BangV c.args.x) c.body_of-body.result.arrow (name_of c.body_of-body.result.name) (term_at c.function-function.result.now.nodes.value.terms c.body_of-body.result.term) c.function-function.result.now.scope (c.function-function.ensures.is ∙ c.body_of-body.ensures.is c.function-function.result.now.scope) c.in-Fn.is refl c.args.x refl)
 
 pub combine-apply-requires : goal.combine-apply-requires
 combine-apply-requires t c = (omega arith, app_can c.args.left c.args.form c.args.u c.args.w c.requires c.in-App.is)
@@ -105,19 +81,19 @@ pub eval_under-returns-in_err-inner : goal.eval_under-returns-in_err-inner
 eval_under-returns-in_err-inner t c = search rules
 
 pub eval_under-eval-requires : goal.eval_under-eval-requires
-eval_under-eval-requires t c = (omega arith, (c.requires.known, subst (λ (γ : Env). HasValue c.args.left γ (term_at c.args.nodes.now.value.terms c.args.i)) (sym c.in_ok-inner.ensures) c.requires.has))
+eval_under-eval-requires t c = (omega arith, (c.requires.known, subst (λ (γ : Env). HasValueWithin c.args.left γ (term_at c.args.nodes.now.value.terms c.args.i)) (sym c.in_ok-inner.ensures) c.requires.has))
 
 pub eval_under-returns : goal.eval_under-returns
 eval_under-returns t c = subst (λ (γ : Env). IfOk c.eval.result (λ v. MeansIn c.args.left γ ((term_at c.args.nodes.now.value.terms c.args.i)) v)) c.in_ok-inner.ensures c.eval.ensures
 
-pub map-size-i-end-requires : goal.map-size-i-end-requires
-map-size-i-end-requires t c = c.requires.bag
+pub map-size-size-requires : goal.map-size-size-requires
+map-size-size-requires t c = c.requires.bag
 
 pub map-element-requires-clause-bag : goal.map-element-requires-clause-bag
 map-element-requires-clause-bag t c = c.requires.bag
 
 pub map-element-requires-clause-within : goal.map-element-requires-clause-within
-map-element-requires-clause-within t c = omega (arith, c.loop-i-test.true, c.size-i-end.ensures)
+map-element-requires-clause-within t c = omega (arith, c.loop-i-test.true, c.size-size.ensures)
 
 pub map-returns-in_err-x : goal.map-returns-in_err-x
 map-returns-in_err-x t c = search rules
@@ -129,16 +105,16 @@ pub map-loop-i-smaller : goal.map-loop-i-smaller
 map-loop-i-smaller t c = search rules
 
 pub map-list-requires : goal.map-list-requires
-map-list-requires t c = c.loop-i.invariant.flat
+map-list-requires t c = c.loop-i.invariant.0.flat
 
-pub filter-size-i-end-requires : goal.filter-size-i-end-requires
-filter-size-i-end-requires t c = c.requires.bag
+pub filter-size-size-requires : goal.filter-size-size-requires
+filter-size-size-requires t c = c.requires.bag
 
 pub filter-element-requires-clause-bag : goal.filter-element-requires-clause-bag
 filter-element-requires-clause-bag t c = c.requires.bag
 
 pub filter-element-requires-clause-within : goal.filter-element-requires-clause-within
-filter-element-requires-clause-within t c = omega (arith, c.loop-i-test.true, c.size-i-end.ensures)
+filter-element-requires-clause-within t c = omega (arith, c.loop-i-test.true, c.size-size.ensures)
 
 pub filter-returns-in_err-x : goal.filter-returns-in_err-x
 filter-returns-in_err-x t c = search rules
@@ -150,68 +126,70 @@ pub filter-loop-i-smaller : goal.filter-loop-i-smaller
 filter-loop-i-smaller t c = search rules
 
 pub filter-list-requires : goal.filter-list-requires
-filter-list-requires t c = c.loop-i.invariant.flat
-
-pub map-apply_to_element-requires : goal.map-apply_to_element-requires
-map-apply_to_element-requires t c = (omega arith, mapped_can c.args.left c.args.c.now (elements c.args.b.now) c.loop-i.i c.loop-i.out.items (omega (arith, c.loop-i-test.true, c.size-i-end.ensures)) c.in_ok-x.x c.loop-i.invariant c.requires.can c.in_ok-x.ensures)
+filter-list-requires t c = c.loop-i.invariant.0.flat
 
 pub map-returns-in_err-y : goal.map-returns-in_err-y
 map-returns-in_err-y t c = search rules
 
 pub map-loop-i-init : goal.map-loop-i-init
-map-loop-i-init t c = subst (λ (out : List Value). Mapped c.args.left c.args.c.now (elements c.args.b.now) 0 out) (sym c.new-out.ensures.items) (mapped_none c.args.left c.args.c.now (elements c.args.b.now))
+map-loop-i-init t c = (
+  subst (λ (out : List Value). Mapped c.args.left c.args.c.now (elements c.args.b.now) 0 out) (sym c.new-out.ensures.items) (mapped_none c.args.left c.args.c.now (elements c.args.b.now)),
+  (ap (λ γ. function_inside c.body_of-body.result.arrow γ (term_at c.function-function.result.now.nodes.value.terms c.body_of-body.result.term)) c.in_ok-inner.ensures ∙ sym (c.function-function.ensures.is ∙ c.body_of-body.ensures.is c.function-function.result.now.scope)),
+)
 
 pub map-loop-i-preserved : goal.map-loop-i-preserved
-map-loop-i-preserved t c = mapped_more c.args.left c.args.c.now (elements c.args.b.now) c.loop-i.i c.loop-i.out.items (omega (arith, c.loop-i-test.true, c.size-i-end.ensures)) c.in_ok-x.x c.in_ok-y.y c.put.new.out.items c.loop-i.invariant c.requires.can c.in_ok-x.ensures c.in_ok-y.ensures c.in_ok-put.ensures
+map-loop-i-preserved t c = (
+  mapped_more c.args.left c.args.c.now (elements c.args.b.now) c.loop-i.i c.loop-i.out.items (omega (arith, c.loop-i-test.true, c.size-size.ensures)) c.in_ok-x.x c.in_ok-y.y c.put.new.out.items c.loop-i.invariant.0 c.requires.can c.in_ok-x.ensures (given c.args.left c.args.c.now c.in_ok-y.y c.in_ok-x.x c.loop-i.invariant.1 c.in_ok-y.ensures.gives) c.in_ok-put.ensures,
+  (c.in_ok-y.ensures.function ∙ c.loop-i.invariant.1),
+)
 
 pub map-returns : goal.map-returns
-map-returns t c = if_ok c.list.result (λ v. v ≡ BagV (flats_of c.loop-i.out.items)) (λ v. (ys : List Flat) × Maps (MeansIn c.args.left) c.args.c.now (elements c.args.b.now) ys × (v ≡ BagV ys)) c.list.ensures (λ v e. (flats_of c.loop-i.out.items, mapped_all c.args.left c.args.c.now (elements c.args.b.now) c.loop-i.i c.loop-i.out.items (omega (arith, c.loop-i-test.false, c.size-i-end.ensures)) c.loop-i.invariant c.requires.can, e))
-
-pub filter-apply_to_element-requires : goal.filter-apply_to_element-requires
-filter-apply_to_element-requires t c = (omega arith, kept_can c.args.left c.args.c.now (elements c.args.b.now) c.loop-i.i c.loop-i.out.items (omega (arith, c.loop-i-test.true, c.size-i-end.ensures)) c.in_ok-x.x c.loop-i.invariant c.requires.can c.in_ok-x.ensures)
+map-returns t c = if_ok c.list.result (λ v. v ≡ BagV (flats_of c.loop-i.out.items)) (λ v. (ys : List Flat) × Maps (MeansIn c.args.left) c.args.c.now (elements c.args.b.now) ys × (v ≡ BagV ys)) c.list.ensures (λ v e. (flats_of c.loop-i.out.items, mapped_all c.args.left c.args.c.now (elements c.args.b.now) c.loop-i.i c.loop-i.out.items (omega (arith, c.loop-i-test.false, c.size-size.ensures)) c.loop-i.invariant.0 c.requires.can, e))
 
 pub filter-returns-in_err-verdict : goal.filter-returns-in_err-verdict
 filter-returns-in_err-verdict t c = search rules
 
 pub filter-is_left-requires : goal.filter-is_left-requires
-filter-is_left-requires t c = kept_sum c.args.left c.args.c.now (elements c.args.b.now) c.loop-i.i c.loop-i.out.items (omega (arith, c.loop-i-test.true, c.size-i-end.ensures)) c.in_ok-x.x c.in_ok-verdict.verdict c.loop-i.invariant c.requires.can c.in_ok-x.ensures c.in_ok-verdict.ensures
+filter-is_left-requires t c = kept_sum c.args.left c.args.c.now (elements c.args.b.now) c.loop-i.i c.loop-i.out.items (omega (arith, c.loop-i-test.true, c.size-size.ensures)) c.in_ok-x.x c.in_ok-verdict.verdict c.loop-i.invariant.0 c.requires.can c.in_ok-x.ensures (given c.args.left c.args.c.now c.in_ok-verdict.verdict c.in_ok-x.x c.loop-i.invariant.1 c.in_ok-verdict.ensures.gives)
 
 pub filter-element-requires-then-is_left-clause-bag : goal.filter-element-requires-then-is_left-clause-bag
 filter-element-requires-then-is_left-clause-bag t c = c.requires.bag
 
 pub filter-element-requires-then-is_left-clause-within : goal.filter-element-requires-then-is_left-clause-within
-filter-element-requires-then-is_left-clause-within t c = omega (arith, c.loop-i-test.true, c.size-i-end.ensures)
+filter-element-requires-then-is_left-clause-within t c = omega (arith, c.loop-i-test.true, c.size-size.ensures)
 
 pub filter-returns-in_err-kept : goal.filter-returns-in_err-kept
 filter-returns-in_err-kept t c = search rules
 
 pub filter-loop-i-init : goal.filter-loop-i-init
-filter-loop-i-init t c = subst (λ (out : List Value). Kept c.args.left c.args.c.now (elements c.args.b.now) 0 out) (sym c.new-out.ensures.items) (kept_none c.args.left c.args.c.now (elements c.args.b.now))
+filter-loop-i-init t c = (
+  subst (λ (out : List Value). Kept c.args.left c.args.c.now (elements c.args.b.now) 0 out) (sym c.new-out.ensures.items) (kept_none c.args.left c.args.c.now (elements c.args.b.now)),
+  (ap (λ γ. function_inside c.body_of-body.result.arrow γ (term_at c.function-function.result.now.nodes.value.terms c.body_of-body.result.term)) c.in_ok-inner.ensures ∙ sym (c.function-function.ensures.is ∙ c.body_of-body.ensures.is c.function-function.result.now.scope)),
+)
 
 pub filter-returns : goal.filter-returns
-filter-returns t c = if_ok c.list.result (λ v. v ≡ BagV (flats_of c.loop-i.out.items)) (λ v. (ys zs : List Flat) × Splits (MeansIn c.args.left) c.args.c.now (elements c.args.b.now) ys zs × (v ≡ BagV ys)) c.list.ensures (λ v e. (flats_of c.loop-i.out.items, c.requires.can.rest, kept_all c.args.left c.args.c.now (elements c.args.b.now) c.loop-i.i c.loop-i.out.items (omega (arith, c.loop-i-test.false, c.size-i-end.ensures)) c.loop-i.invariant c.requires.can, e))
+filter-returns t c = if_ok c.list.result (λ v. v ≡ BagV (flats_of c.loop-i.out.items)) (λ v. (ys zs : List Flat) × Splits (MeansIn c.args.left) c.args.c.now (elements c.args.b.now) ys zs × (v ≡ BagV ys)) c.list.ensures (λ v e. (flats_of c.loop-i.out.items, c.requires.can.rest, kept_all c.args.left c.args.c.now (elements c.args.b.now) c.loop-i.i c.loop-i.out.items (omega (arith, c.loop-i-test.false, c.size-size.ensures)) c.loop-i.invariant.0 c.requires.can, e))
 
 pub filter-loop-i-preserved : goal.filter-loop-i-preserved
-filter-loop-i-preserved t c =
-    elim c.if-is_left.branch [
-      | filter-then-is_left+in_ok-kept+in_ok-put w ↦ kept_yes c.args.left c.args.c.now (elements c.args.b.now) c.loop-i.i c.loop-i.out.items (omega (arith, c.loop-i-test.true, c.size-i-end.ensures)) c.in_ok-x.x c.in_ok-verdict.verdict w.in_ok-kept.kept c.if-is_left.out.items c.loop-i.invariant c.in_ok-x.ensures w.in_ok-kept.ensures c.in_ok-verdict.ensures (c.is_left.ensures.left w.if-is_left.true) (ap (λ o. o.items) w.out-is ∙ w.in_ok-put.ensures)
-      | filter-else-is_left w ↦ subst (λ o. Kept c.args.left c.args.c.now (elements c.args.b.now) (c.loop-i.i + 1) o.items) (sym w.out-is) (kept_no c.args.left c.args.c.now (elements c.args.b.now) c.loop-i.i c.loop-i.out.items (omega (arith, c.loop-i-test.true, c.size-i-end.ensures)) c.in_ok-x.x c.in_ok-verdict.verdict c.loop-i.invariant c.in_ok-x.ensures c.in_ok-verdict.ensures (c.is_left.ensures.right (λ h. absurd (cc (h, w.if-is_left.false)))))
-    ]
+filter-loop-i-preserved t c = (
+  elim c.if-is_left.branch [
+    | filter-then-is_left+in_ok-kept+in_ok-put w ↦ kept_yes c.args.left c.args.c.now (elements c.args.b.now) c.loop-i.i c.loop-i.out.items (omega (arith, c.loop-i-test.true, c.size-size.ensures)) c.in_ok-x.x c.in_ok-verdict.verdict w.in_ok-kept.kept c.if-is_left.out.items c.loop-i.invariant.0 c.in_ok-x.ensures w.in_ok-kept.ensures (given c.args.left c.args.c.now c.in_ok-verdict.verdict c.in_ok-x.x c.loop-i.invariant.1 c.in_ok-verdict.ensures.gives) (c.is_left.ensures.left w.if-is_left.true) (ap (λ o. o.items) w.out-is ∙ w.in_ok-put.ensures)
+    | filter-else-is_left w ↦ subst (λ o. Kept c.args.left c.args.c.now (elements c.args.b.now) (c.loop-i.i + 1) o.items) (sym w.out-is) (kept_no c.args.left c.args.c.now (elements c.args.b.now) c.loop-i.i c.loop-i.out.items (omega (arith, c.loop-i-test.true, c.size-size.ensures)) c.in_ok-x.x c.in_ok-verdict.verdict c.loop-i.invariant.0 c.in_ok-x.ensures (given c.args.left c.args.c.now c.in_ok-verdict.verdict c.in_ok-x.x c.loop-i.invariant.1 c.in_ok-verdict.ensures.gives) (c.is_left.ensures.right (λ h. absurd (cc (h, w.if-is_left.false)))))
+  ],
+  (c.in_ok-verdict.ensures.function ∙ c.loop-i.invariant.1),
+)
 
-pub split-size-i-end-requires : goal.split-size-i-end-requires
-split-size-i-end-requires t c = c.requires.bag
+pub split-size-size-requires : goal.split-size-size-requires
+split-size-size-requires t c = c.requires.bag
 
 pub split-element-requires-clause-bag : goal.split-element-requires-clause-bag
 split-element-requires-clause-bag t c = c.requires.bag
 
 pub split-element-requires-clause-within : goal.split-element-requires-clause-within
-split-element-requires-clause-within t c = omega (arith, c.loop-i-test.true, c.size-i-end.ensures)
+split-element-requires-clause-within t c = omega (arith, c.loop-i-test.true, c.size-size.ensures)
 
 pub split-returns-in_err-x : goal.split-returns-in_err-x
 split-returns-in_err-x t c = search rules
-
-pub split-apply_to_element-requires : goal.split-apply_to_element-requires
-split-apply_to_element-requires t c = (omega arith, kept_can c.args.left c.args.c.now (elements c.args.b.now) c.loop-i.i c.loop-i.kept.items (omega (arith, c.loop-i-test.true, c.size-i-end.ensures)) c.in_ok-x.x (kept_of c.args.left c.args.c.now (elements c.args.b.now) c.loop-i.i c.loop-i.kept.items c.loop-i.others.items c.loop-i.invariant) c.requires.can c.in_ok-x.ensures)
 
 pub split-returns-in_err-answer : goal.split-returns-in_err-answer
 split-returns-in_err-answer t c = search rules
@@ -220,13 +198,13 @@ pub split-element-requires-in-loop-i-clause-bag : goal.split-element-requires-in
 split-element-requires-in-loop-i-clause-bag t c = c.requires.bag
 
 pub split-element-requires-in-loop-i-clause-within : goal.split-element-requires-in-loop-i-clause-within
-split-element-requires-in-loop-i-clause-within t c = omega (arith, c.loop-i-test.true, c.size-i-end.ensures)
+split-element-requires-in-loop-i-clause-within t c = omega (arith, c.loop-i-test.true, c.size-size.ensures)
 
 pub split-returns-in_err-y : goal.split-returns-in_err-y
 split-returns-in_err-y t c = search rules
 
 pub split-is_left-requires : goal.split-is_left-requires
-split-is_left-requires t c = kept_sum c.args.left c.args.c.now (elements c.args.b.now) c.loop-i.i c.loop-i.kept.items (omega (arith, c.loop-i-test.true, c.size-i-end.ensures)) c.in_ok-x.x c.in_ok-answer.answer (kept_of c.args.left c.args.c.now (elements c.args.b.now) c.loop-i.i c.loop-i.kept.items c.loop-i.others.items c.loop-i.invariant) c.requires.can c.in_ok-x.ensures c.in_ok-answer.ensures
+split-is_left-requires t c = kept_sum c.args.left c.args.c.now (elements c.args.b.now) c.loop-i.i c.loop-i.kept.items (omega (arith, c.loop-i-test.true, c.size-size.ensures)) c.in_ok-x.x c.in_ok-answer.answer (kept_of c.args.left c.args.c.now (elements c.args.b.now) c.loop-i.i c.loop-i.kept.items c.loop-i.others.items c.loop-i.invariant.0) c.requires.can c.in_ok-x.ensures (given c.args.left c.args.c.now c.in_ok-answer.answer c.in_ok-x.x c.loop-i.invariant.1 c.in_ok-answer.ensures.gives)
 
 pub split-returns-in_err-put : goal.split-returns-in_err-put
 split-returns-in_err-put t c = search rules
@@ -235,21 +213,23 @@ pub split-returns-in_err-put-2 : goal.split-returns-in_err-put-2
 split-returns-in_err-put-2 t c = search rules
 
 pub split-loop-i-init : goal.split-loop-i-init
-split-loop-i-init t c =
-    subst (λ (kept : List Value). Divided c.args.left c.args.c.now (elements c.args.b.now) 0 kept c.new-others.result.items) (sym c.new-kept.ensures.items)
-    (subst (λ (others : List Value). Divided c.args.left c.args.c.now (elements c.args.b.now) 0 [] others) (sym c.new-others.ensures.items) (divided_none c.args.left c.args.c.now (elements c.args.b.now)))
+split-loop-i-init t c = (
+  subst (λ (kept : List Value). Divided c.args.left c.args.c.now (elements c.args.b.now) 0 kept c.new-others.result.items) (sym c.new-kept.ensures.items)
+      (subst (λ (others : List Value). Divided c.args.left c.args.c.now (elements c.args.b.now) 0 [] others) (sym c.new-others.ensures.items) (divided_none c.args.left c.args.c.now (elements c.args.b.now))),
+  (ap (λ γ. function_inside c.body_of-body.result.arrow γ (term_at c.function-function.result.now.nodes.value.terms c.body_of-body.result.term)) c.in_ok-inner.ensures ∙ sym (c.function-function.ensures.is ∙ c.body_of-body.ensures.is c.function-function.result.now.scope)),
+)
 
 pub split-loop-i-smaller : goal.split-loop-i-smaller
 split-loop-i-smaller t c = search rules
 
 pub split-list-requires : goal.split-list-requires
-split-list-requires t c = c.loop-i.invariant.kept_flat
+split-list-requires t c = c.loop-i.invariant.0.kept_flat
 
 pub split-returns-in_err-first : goal.split-returns-in_err-first
 split-returns-in_err-first t c = search rules
 
 pub split-list-requires-2 : goal.split-list-requires-2
-split-list-requires-2 t c = c.loop-i.invariant.others_flat
+split-list-requires-2 t c = c.loop-i.invariant.0.others_flat
 
 pub split-returns-in_err-second : goal.split-returns-in_err-second
 split-returns-in_err-second t c = search rules
@@ -263,22 +243,24 @@ split-returns t c =
     (λ v e. (
       flats_of c.loop-i.kept.items,
       flats_of c.loop-i.others.items,
-      divided_all c.args.left c.args.c.now (elements c.args.b.now) c.loop-i.i c.loop-i.kept.items c.loop-i.others.items (omega (arith, c.loop-i-test.false, c.size-i-end.ensures)) c.loop-i.invariant c.requires.can,
+      divided_all c.args.left c.args.c.now (elements c.args.b.now) c.loop-i.i c.loop-i.kept.items c.loop-i.others.items (omega (arith, c.loop-i-test.false, c.size-size.ensures)) c.loop-i.invariant.0 c.requires.can,
       e ∙ ap (λ z. PairV z c.in_ok-second.second) c.in_ok-first.ensures ∙ ap (λ z. PairV (BagV (flats_of c.loop-i.kept.items)) z) c.in_ok-second.ensures,
     ))
 
 pub split-loop-i-preserved : goal.split-loop-i-preserved
-split-loop-i-preserved t c =
-    elim c.if-is_left.branch [
-      | split-then-is_left+in_ok-put w ↦
-          subst (λ o. Divided c.args.left c.args.c.now (elements c.args.b.now) (c.loop-i.i + 1) c.if-is_left.kept.items o.items) (sym w.others-is)
-          (divided_yes c.args.left c.args.c.now (elements c.args.b.now) c.loop-i.i c.loop-i.kept.items (omega (arith, c.loop-i-test.true, c.size-i-end.ensures)) c.loop-i.others.items c.in_ok-x.x c.in_ok-answer.answer c.in_ok-y.y c.if-is_left.kept.items c.loop-i.invariant
-          c.in_ok-x.ensures c.in_ok-y.ensures c.in_ok-answer.ensures (c.is_left.ensures.left w.if-is_left.true) (ap (λ o. o.items) w.kept-is ∙ w.in_ok-put.ensures))
-      | split-else-is_left+in_ok-put-2 w ↦
-          subst (λ o. Divided c.args.left c.args.c.now (elements c.args.b.now) (c.loop-i.i + 1) o.items c.if-is_left.others.items) (sym w.kept-is)
-          (divided_no c.args.left c.args.c.now (elements c.args.b.now) c.loop-i.i c.loop-i.kept.items (omega (arith, c.loop-i-test.true, c.size-i-end.ensures)) c.loop-i.others.items c.in_ok-x.x c.in_ok-answer.answer c.in_ok-y.y c.if-is_left.others.items c.loop-i.invariant
-          c.in_ok-x.ensures c.in_ok-y.ensures c.in_ok-answer.ensures (c.is_left.ensures.right (λ h. absurd (cc (h, w.if-is_left.false)))) (ap (λ o. o.items) w.others-is ∙ w.in_ok-put-2.ensures))
-    ]
+split-loop-i-preserved t c = (
+  elim c.if-is_left.branch [
+    | split-then-is_left+in_ok-put w ↦
+        subst (λ o. Divided c.args.left c.args.c.now (elements c.args.b.now) (c.loop-i.i + 1) c.if-is_left.kept.items o.items) (sym w.others-is)
+        (divided_yes c.args.left c.args.c.now (elements c.args.b.now) c.loop-i.i c.loop-i.kept.items (omega (arith, c.loop-i-test.true, c.size-size.ensures)) c.loop-i.others.items c.in_ok-x.x c.in_ok-answer.answer c.in_ok-y.y c.if-is_left.kept.items c.loop-i.invariant.0
+        c.in_ok-x.ensures c.in_ok-y.ensures (given c.args.left c.args.c.now c.in_ok-answer.answer c.in_ok-x.x c.loop-i.invariant.1 c.in_ok-answer.ensures.gives) (c.is_left.ensures.left w.if-is_left.true) (ap (λ o. o.items) w.kept-is ∙ w.in_ok-put.ensures))
+    | split-else-is_left+in_ok-put-2 w ↦
+        subst (λ o. Divided c.args.left c.args.c.now (elements c.args.b.now) (c.loop-i.i + 1) o.items c.if-is_left.others.items) (sym w.kept-is)
+        (divided_no c.args.left c.args.c.now (elements c.args.b.now) c.loop-i.i c.loop-i.kept.items (omega (arith, c.loop-i-test.true, c.size-size.ensures)) c.loop-i.others.items c.in_ok-x.x c.in_ok-answer.answer c.in_ok-y.y c.if-is_left.others.items c.loop-i.invariant.0
+        c.in_ok-x.ensures c.in_ok-y.ensures (given c.args.left c.args.c.now c.in_ok-answer.answer c.in_ok-x.x c.loop-i.invariant.1 c.in_ok-answer.ensures.gives) (c.is_left.ensures.right (λ h. absurd (cc (h, w.if-is_left.false)))) (ap (λ o. o.items) w.others-is ∙ w.in_ok-put-2.ensures))
+  ],
+  (c.in_ok-answer.ensures.function ∙ c.loop-i.invariant.1),
+)
 
 pub eval_other-overflow_sub-below : goal.eval_other-overflow_sub-below
 eval_other-overflow_sub-below t c = omega (arith, above c.requires.has)
@@ -422,7 +404,7 @@ pub eval_other-same-second : goal.eval_other-same-second
 eval_other-same-second t c = search rules
 
 pub eval_other-eval_under-requires-in-LetPair : goal.eval_other-eval_under-requires-in-LetPair
-eval_other-eval_under-requires-in-LetPair t c = (omega (arith, above c.requires.has), ((let q = (subst (λ (f : Form). IsKnown (length c.args.nodes.now.value.types) c.args.i f) c.in-LetPair.is c.look-node.ensures.known) in let k = q.1 in omega (arith, k, c.requires.known)), subst (λ (γ : Env). HasValue (c.args.left - 1) (Bind (name_of c.in-LetPair.y) c.in_ok-second-in-LetPair.second γ) (term_at c.args.nodes.now.value.terms c.in-LetPair.b)) (sym c.in_ok-outer-in-LetPair.ensures) (let_pair_inside c.args.left c.args.scope.now (term_at c.args.nodes.now.value.terms c.args.i) (type_at c.args.nodes.now.value.types) (term_at c.args.nodes.now.value.terms) c.look-node.result.now.span c.look-node.result.now.form c.look-node.ensures.form c.requires.has c.in-LetPair.x c.in-LetPair.y c.in-LetPair.e c.in-LetPair.b c.in-LetPair.is c.in_ok-u-in-LetPair.u c.in_ok-first-in-LetPair.first c.in_ok-second-in-LetPair.second c.in_ok-u-in-LetPair.ensures c.in_ok-first-in-LetPair.ensures c.in_ok-second-in-LetPair.ensures)))
+eval_other-eval_under-requires-in-LetPair t c = (omega (arith, above c.requires.has), ((let q = (subst (λ (f : Form). IsKnown (length c.args.nodes.now.value.types) c.args.i f) c.in-LetPair.is c.look-node.ensures.known) in let k = q.1 in omega (arith, k, c.requires.known)), subst (λ (γ : Env). HasValueWithin (c.args.left - 1) (Bind (name_of c.in-LetPair.y) c.in_ok-second-in-LetPair.second γ) (term_at c.args.nodes.now.value.terms c.in-LetPair.b)) (sym c.in_ok-outer-in-LetPair.ensures) (let_pair_inside c.args.left c.args.scope.now (term_at c.args.nodes.now.value.terms c.args.i) (type_at c.args.nodes.now.value.types) (term_at c.args.nodes.now.value.terms) c.look-node.result.now.span c.look-node.result.now.form c.look-node.ensures.form c.requires.has c.in-LetPair.x c.in-LetPair.y c.in-LetPair.e c.in-LetPair.b c.in-LetPair.is c.in_ok-u-in-LetPair.u c.in_ok-first-in-LetPair.first c.in_ok-second-in-LetPair.second c.in_ok-u-in-LetPair.ensures c.in_ok-first-in-LetPair.ensures c.in_ok-second-in-LetPair.ensures)))
 
 pub eval_other-returns-in-LetPair : goal.eval_other-returns-in-LetPair
 eval_other-returns-in-LetPair t c = if_ok c.eval_under-in-LetPair.result (λ v. MeansIn (c.args.left - 1) (Bind (name_of c.in-LetPair.y) c.in_ok-second-in-LetPair.second c.in_ok-outer-in-LetPair.outer) ((term_at c.args.nodes.now.value.terms c.in-LetPair.b)) v) (λ v. MeansIn c.args.left c.args.scope.now ((term_at c.args.nodes.now.value.terms c.args.i)) v) c.eval_under-in-LetPair.ensures (λ v g. let_pair_means c.args.left c.args.scope.now (term_at c.args.nodes.now.value.terms c.args.i) (type_at c.args.nodes.now.value.types) (term_at c.args.nodes.now.value.terms) c.look-node.result.now.span c.look-node.result.now.form c.look-node.ensures.form c.requires.has c.in-LetPair.x c.in-LetPair.y c.in-LetPair.e c.in-LetPair.b c.in-LetPair.is c.in_ok-u-in-LetPair.u c.in_ok-first-in-LetPair.first c.in_ok-second-in-LetPair.second c.in_ok-u-in-LetPair.ensures c.in_ok-first-in-LetPair.ensures c.in_ok-second-in-LetPair.ensures v (subst (λ (γ : Env). MeansIn (c.args.left - 1) (Bind (name_of c.in-LetPair.y) c.in_ok-second-in-LetPair.second γ) ((term_at c.args.nodes.now.value.terms c.in-LetPair.b)) v) c.in_ok-outer-in-LetPair.ensures g))
@@ -558,3 +540,72 @@ eval_two-combine-requires t c = (omega (arith, above c.requires.has), binary_can
 
 pub eval_two-returns : goal.eval_two-returns
 eval_two-returns t c = if_ok c.combine.result (λ v. Gives2 (MeansIn (c.args.left - 1)) c.in-Binary.form c.in_ok-u.u c.in_ok-w.w v) (λ v. MeansIn c.args.left c.args.scope.now ((term_at c.args.nodes.now.value.terms c.args.i)) v) c.combine.ensures (binary_means c.args.left c.args.scope.now (term_at c.args.nodes.now.value.terms c.args.i) (type_at c.args.nodes.now.value.types) (term_at c.args.nodes.now.value.terms) c.look.result.now.span c.look.result.now.form c.look.ensures.form c.requires.has c.in-Binary.form c.in-Binary.a c.in-Binary.b c.in-Binary.is c.in_ok-u.u c.in_ok-w.w c.in_ok-u.ensures c.in_ok-w.ensures)
+
+pub apply_to_element-returns-in_err-bind_element-clause-gives : goal.apply_to_element-returns-in_err-bind_element-clause-gives
+apply_to_element-returns-in_err-bind_element-clause-gives t c = search rules
+
+pub apply_to_element-returns-in_err-bind_element-clause-function : goal.apply_to_element-returns-in_err-bind_element-clause-function
+apply_to_element-returns-in_err-bind_element-clause-function t c = search rules
+
+pub apply_to_element-eval-requires : goal.apply_to_element-eval-requires
+apply_to_element-eval-requires t c = (omega arith, (c.requires.known, subst (λ (γ : Env). HasValueWithin c.args.left γ (term_at c.args.nodes.now.value.terms c.args.body.term)) (sym c.in_ok-bind_element.ensures) (element_has c.args.left c.args.body.arrow (term_at c.args.nodes.now.value.terms c.args.body.term) c.args.x c.args.inner.now c.requires.can)))
+
+pub apply_to_element-returns-clause-gives : goal.apply_to_element-returns-clause-gives
+apply_to_element-returns-clause-gives t c = if_ok c.eval.result (λ v. MeansIn c.args.left (rebound c.args.inner.now (bound_element c.args.body.arrow c.args.x)) (term_at c.args.nodes.now.value.terms c.args.body.term) v) (λ v. Applies (MeansIn c.args.left) (function_inside c.args.body.arrow c.args.inner.now (term_at c.args.nodes.now.value.terms c.args.body.term)) (BangV c.args.x) v) (subst (λ (γ : Env). IfOk c.eval.result (λ v. MeansIn c.args.left γ (term_at c.args.nodes.now.value.terms c.args.body.term) v)) c.in_ok-bind_element.ensures c.eval.ensures) (element_gives c.args.left c.args.body.arrow (term_at c.args.nodes.now.value.terms c.args.body.term) c.args.x c.args.inner.now c.requires.can)
+
+pub apply_to_element-returns-clause-function : goal.apply_to_element-returns-clause-function
+apply_to_element-returns-clause-function t c = on_ok c.eval.result _ (ap (λ γ. function_inside c.args.body.arrow γ (term_at c.args.nodes.now.value.terms c.args.body.term)) c.in_ok-bind_element.ensures ∙ same_function c.args.body.arrow (term_at c.args.nodes.now.value.terms c.args.body.term) c.args.inner.now (bound_element c.args.body.arrow c.args.x))
+
+pub map-returns-in_err-inner : goal.map-returns-in_err-inner
+map-returns-in_err-inner t c = search rules
+
+pub map-body_of-body-requires-clause-known : goal.map-body_of-body-requires-clause-known
+map-body_of-body-requires-clause-known t c = c.function-function.ensures.known
+
+pub map-body_of-body-requires-clause-function : goal.map-body_of-body-requires-clause-function
+map-body_of-body-requires-clause-function t c = c.function-function.ensures.function
+
+pub map-apply_to_element-requires : goal.map-apply_to_element-requires
+map-apply_to_element-requires t c = (omega arith, (c.body_of-body.ensures.within, subst (λ (u : Value). CanApply c.args.left u (BangV c.in_ok-x.x)) (sym c.loop-i.invariant.1) (mapped_can c.args.left c.args.c.now (elements c.args.b.now) c.loop-i.i c.loop-i.out.items (omega (arith, c.loop-i-test.true, c.size-size.ensures)) c.in_ok-x.x c.loop-i.invariant.0 c.requires.can c.in_ok-x.ensures)))
+
+pub map-function-function-requires : goal.map-function-function-requires
+map-function-function-requires t c = map_closure c.args.left c.args.c.now (elements c.args.b.now) (omega (arith, c.if-size-eq0.false, c.size-size.ensures)) c.requires.can
+
+pub filter-returns-in_err-inner : goal.filter-returns-in_err-inner
+filter-returns-in_err-inner t c = search rules
+
+pub filter-body_of-body-requires-clause-known : goal.filter-body_of-body-requires-clause-known
+filter-body_of-body-requires-clause-known t c = c.function-function.ensures.known
+
+pub filter-body_of-body-requires-clause-function : goal.filter-body_of-body-requires-clause-function
+filter-body_of-body-requires-clause-function t c = c.function-function.ensures.function
+
+pub filter-apply_to_element-requires : goal.filter-apply_to_element-requires
+filter-apply_to_element-requires t c = (omega arith, (c.body_of-body.ensures.within, subst (λ (u : Value). CanApply c.args.left u (BangV c.in_ok-x.x)) (sym c.loop-i.invariant.1) (kept_can c.args.left c.args.c.now (elements c.args.b.now) c.loop-i.i c.loop-i.out.items (omega (arith, c.loop-i-test.true, c.size-size.ensures)) c.in_ok-x.x c.loop-i.invariant.0 c.requires.can c.in_ok-x.ensures)))
+
+pub filter-function-function-requires : goal.filter-function-function-requires
+filter-function-function-requires t c = filter_closure c.args.left c.args.c.now (elements c.args.b.now) (omega (arith, c.if-size-eq0.false, c.size-size.ensures)) c.requires.can
+
+pub split-returns-in_err-inner : goal.split-returns-in_err-inner
+split-returns-in_err-inner t c = search rules
+
+pub split-body_of-body-requires-clause-known : goal.split-body_of-body-requires-clause-known
+split-body_of-body-requires-clause-known t c = c.function-function.ensures.known
+
+pub split-body_of-body-requires-clause-function : goal.split-body_of-body-requires-clause-function
+split-body_of-body-requires-clause-function t c = c.function-function.ensures.function
+
+pub split-apply_to_element-requires : goal.split-apply_to_element-requires
+split-apply_to_element-requires t c = (omega arith, (c.body_of-body.ensures.within, subst (λ (u : Value). CanApply c.args.left u (BangV c.in_ok-x.x)) (sym c.loop-i.invariant.1) (kept_can c.args.left c.args.c.now (elements c.args.b.now) c.loop-i.i c.loop-i.kept.items (omega (arith, c.loop-i-test.true, c.size-size.ensures)) c.in_ok-x.x (kept_of c.args.left c.args.c.now (elements c.args.b.now) c.loop-i.i c.loop-i.kept.items c.loop-i.others.items c.loop-i.invariant.0) c.requires.can c.in_ok-x.ensures)))
+
+pub split-function-function-requires : goal.split-function-function-requires
+split-function-function-requires t c = filter_closure c.args.left c.args.c.now (elements c.args.b.now) (omega (arith, c.if-size-eq0.false, c.size-size.ensures)) c.requires.can
+
+pub map-returns-then-size-eq0 : goal.map-returns-then-size-eq0
+map-returns-then-size-eq0 t c = if_ok c.no_elements.result (λ v. v ≡ BagV []) (λ v. (ys : List Flat) × Maps (MeansIn c.args.left) c.args.c.now (elements c.args.b.now) ys × (v ≡ BagV ys)) c.no_elements.ensures (λ v e. ([], map_nothing c.args.left c.args.c.now (elements c.args.b.now) (omega (arith, c.if-size-eq0.true, c.size-size.ensures)) c.requires.can, e))
+
+pub filter-returns-then-size-eq0 : goal.filter-returns-then-size-eq0
+filter-returns-then-size-eq0 t c = if_ok c.no_elements.result (λ v. v ≡ BagV []) (λ v. (ys zs : List Flat) × Splits (MeansIn c.args.left) c.args.c.now (elements c.args.b.now) ys zs × (v ≡ BagV ys)) c.no_elements.ensures (λ v e. ([], [], split_nothing c.args.left c.args.c.now (elements c.args.b.now) (omega (arith, c.if-size-eq0.true, c.size-size.ensures)) c.requires.can, e))
+
+pub split-returns-then-size-eq0 : goal.split-returns-then-size-eq0
+split-returns-then-size-eq0 t c = if_ok c.no_elements_twice.result (λ v. v ≡ PairV (BagV []) (BagV [])) (λ v. (ys zs : List Flat) × Splits (MeansIn c.args.left) c.args.c.now (elements c.args.b.now) ys zs × (v ≡ PairV (BagV ys) (BagV zs))) c.no_elements_twice.ensures (λ v e. ([], [], split_nothing c.args.left c.args.c.now (elements c.args.b.now) (omega (arith, c.if-size-eq0.true, c.size-size.ensures)) c.requires.can, e))

@@ -1,6 +1,7 @@
-use Rattle.std.proofs.Common.{◌+◌, ◌*◌}
+use Rattle.std.proofs.Common.{◌+◌, ◌*◌, ◌≡◌}
+use Rattle.fz_ast.specs.TermNodes.{term_at}
 use Rattle.run_values.specs.Parts.{elements}
-use Rattle.fuzz_eval.specs.Loops.{Divided, Kept, Mapped}
+use Rattle.fuzz_eval.specs.Loops.{Divided, Kept, Mapped, function_inside}
 use Rattle.fuzz_eval.proofs.eval.+evaluating.Given as goal
 
 abbrev pub decreases-eval : goal.decreases-eval
@@ -34,10 +35,10 @@ abbrev pub decreases-combine : goal.decreases-combine
 decreases-combine l = 8 * l.left + 6
 
 abbrev pub invariant-map-loop-i : goal.invariant-map-loop-i
-invariant-map-loop-i l = Mapped l.left l.c (elements l.b) l.i l.out.items
+invariant-map-loop-i l = Mapped l.left l.c (elements l.b) l.i l.out.items × (function_inside l.body.arrow l.inner (term_at l.function.nodes.value.terms l.body.term) ≡ l.c)
 
 abbrev pub invariant-filter-loop-i : goal.invariant-filter-loop-i
-invariant-filter-loop-i l = Kept l.left l.c (elements l.b) l.i l.out.items
+invariant-filter-loop-i l = Kept l.left l.c (elements l.b) l.i l.out.items × (function_inside l.body.arrow l.inner (term_at l.function.nodes.value.terms l.body.term) ≡ l.c)
 
 abbrev pub invariant-split-loop-i : goal.invariant-split-loop-i
-invariant-split-loop-i l = Divided l.left l.c (elements l.b) l.i l.kept.items l.others.items
+invariant-split-loop-i l = Divided l.left l.c (elements l.b) l.i l.kept.items l.others.items × (function_inside l.body.arrow l.inner (term_at l.function.nodes.value.terms l.body.term) ≡ l.c)
