@@ -1,0 +1,418 @@
+-- worked examples of the command that words are, from the written rules
+use Rattle.std.proofs.Common.{◌≡◌, refl, [], ◌∷◌, Some, None, codes}
+use Rattle.clap.proofs.OnLiterals.{clap_on_literals}
+use Rattle.command_words.specs.Command.{check, run, gap, command_of, number_written}
+
+-- each command
+a_check : command_of (codes "check" ∷ codes "c" ∷ codes "o" ∷ codes "f" ∷ []) ≡ Some (check (codes "c") (codes "o") (codes "f"))
+unfolding command_of clap_on_literals
+a_check = refl
+
+a_run : command_of (codes "run" ∷ codes "c" ∷ codes "k" ∷ []) ≡ Some (run (codes "c") (codes "k") 1)
+unfolding command_of clap_on_literals
+a_run = refl
+
+a_gap : command_of (codes "gap" ∷ codes "c" ∷ codes "o" ∷ codes "d" ∷ codes "f" ∷ []) ≡ Some (gap (codes "c") (codes "o") (codes "d") (codes "f"))
+unfolding command_of clap_on_literals
+a_gap = refl
+
+names_of_files : command_of (codes "run" ∷ codes "people.csv" ∷ codes "a key/of b" ∷ []) ≡ Some (run (codes "people.csv") (codes "a key/of b") 1)
+unfolding command_of clap_on_literals
+names_of_files = refl
+
+-- the option: after the words, between them and before them, in both forms, and each numeral of 1
+option_last : command_of (codes "run" ∷ codes "c" ∷ codes "k" ∷ codes "--workers" ∷ codes "1" ∷ []) ≡ Some (run (codes "c") (codes "k") 1)
+unfolding command_of clap_on_literals
+option_last = refl
+
+option_between : command_of (codes "run" ∷ codes "c" ∷ codes "--workers" ∷ codes "1" ∷ codes "k" ∷ []) ≡ Some (run (codes "c") (codes "k") 1)
+unfolding command_of clap_on_literals
+option_between = refl
+
+option_first : command_of (codes "run" ∷ codes "--workers" ∷ codes "1" ∷ codes "c" ∷ codes "k" ∷ []) ≡ Some (run (codes "c") (codes "k") 1)
+unfolding command_of clap_on_literals
+option_first = refl
+
+option_in_one_word : command_of (codes "run" ∷ codes "c" ∷ codes "k" ∷ codes "--workers=1" ∷ []) ≡ Some (run (codes "c") (codes "k") 1)
+unfolding command_of clap_on_literals
+option_in_one_word = refl
+
+leading_zero : command_of (codes "run" ∷ codes "c" ∷ codes "k" ∷ codes "--workers" ∷ codes "01" ∷ []) ≡ Some (run (codes "c") (codes "k") 1)
+unfolding command_of clap_on_literals
+leading_zero = refl
+
+leading_plus : command_of (codes "run" ∷ codes "c" ∷ codes "k" ∷ codes "--workers" ∷ codes "+1" ∷ []) ≡ Some (run (codes "c") (codes "k") 1)
+unfolding command_of clap_on_literals
+leading_plus = refl
+
+plus_and_zeros : command_of (codes "run" ∷ codes "c" ∷ codes "k" ∷ codes "--workers=+001" ∷ []) ≡ Some (run (codes "c") (codes "k") 1)
+unfolding command_of clap_on_literals
+plus_and_zeros = refl
+
+-- other numbers, no number, no value, and two values
+no_workers : command_of (codes "run" ∷ codes "c" ∷ codes "k" ∷ codes "--workers" ∷ codes "0" ∷ []) ≡ None
+unfolding command_of clap_on_literals
+no_workers = refl
+
+two_workers : command_of (codes "run" ∷ codes "c" ∷ codes "k" ∷ codes "--workers" ∷ codes "2" ∷ []) ≡ None
+unfolding command_of clap_on_literals
+two_workers = refl
+
+two_workers_in_one_word : command_of (codes "run" ∷ codes "c" ∷ codes "k" ∷ codes "--workers=2" ∷ []) ≡ None
+unfolding command_of clap_on_literals
+two_workers_in_one_word = refl
+
+negative_workers : command_of (codes "run" ∷ codes "c" ∷ codes "k" ∷ codes "--workers=-1" ∷ []) ≡ None
+unfolding command_of clap_on_literals
+negative_workers = refl
+
+no_number : command_of (codes "run" ∷ codes "c" ∷ codes "k" ∷ codes "--workers" ∷ codes "one" ∷ []) ≡ None
+unfolding command_of clap_on_literals
+no_number = refl
+
+number_and_more : command_of (codes "run" ∷ codes "c" ∷ codes "k" ∷ codes "--workers" ∷ codes "1x" ∷ []) ≡ None
+unfolding command_of clap_on_literals
+number_and_more = refl
+
+empty_number : command_of (codes "run" ∷ codes "c" ∷ codes "k" ∷ codes "--workers" ∷ codes "" ∷ []) ≡ None
+unfolding command_of clap_on_literals
+empty_number = refl
+
+empty_number_in_one_word : command_of (codes "run" ∷ codes "c" ∷ codes "k" ∷ codes "--workers=" ∷ []) ≡ None
+unfolding command_of clap_on_literals
+empty_number_in_one_word = refl
+
+no_value : command_of (codes "run" ∷ codes "c" ∷ codes "k" ∷ codes "--workers" ∷ []) ≡ None
+unfolding command_of clap_on_literals
+no_value = refl
+
+no_value_but_a_word : command_of (codes "run" ∷ codes "c" ∷ codes "--workers" ∷ codes "k" ∷ []) ≡ None
+unfolding command_of clap_on_literals
+no_value_but_a_word = refl
+
+given_twice : command_of (codes "run" ∷ codes "c" ∷ codes "k" ∷ codes "--workers" ∷ codes "1" ∷ codes "--workers" ∷ codes "1" ∷ []) ≡ None
+unfolding command_of clap_on_literals
+given_twice = refl
+
+-- no command
+no_words : command_of ([]) ≡ None
+unfolding command_of clap_on_literals
+no_words = refl
+
+empty_command : command_of (codes "" ∷ []) ≡ None
+unfolding command_of clap_on_literals
+empty_command = refl
+
+unknown_command : command_of (codes "serve" ∷ codes "c" ∷ codes "k" ∷ []) ≡ None
+unfolding command_of clap_on_literals
+unknown_command = refl
+
+capital : command_of (codes "Run" ∷ codes "c" ∷ codes "k" ∷ []) ≡ None
+unfolding command_of clap_on_literals
+capital = refl
+
+begun_command : command_of (codes "ru" ∷ codes "c" ∷ codes "k" ∷ []) ≡ None
+unfolding command_of clap_on_literals
+begun_command = refl
+
+late_command : command_of (codes "c" ∷ codes "run" ∷ codes "k" ∷ []) ≡ None
+unfolding command_of clap_on_literals
+late_command = refl
+
+-- words too few and too many
+check_alone : command_of (codes "check" ∷ []) ≡ None
+unfolding command_of clap_on_literals
+check_alone = refl
+
+check_short : command_of (codes "check" ∷ codes "c" ∷ codes "o" ∷ []) ≡ None
+unfolding command_of clap_on_literals
+check_short = refl
+
+check_long : command_of (codes "check" ∷ codes "c" ∷ codes "o" ∷ codes "f" ∷ codes "g" ∷ []) ≡ None
+unfolding command_of clap_on_literals
+check_long = refl
+
+run_alone : command_of (codes "run" ∷ []) ≡ None
+unfolding command_of clap_on_literals
+run_alone = refl
+
+run_short : command_of (codes "run" ∷ codes "c" ∷ []) ≡ None
+unfolding command_of clap_on_literals
+run_short = refl
+
+run_long : command_of (codes "run" ∷ codes "c" ∷ codes "k" ∷ codes "l" ∷ []) ≡ None
+unfolding command_of clap_on_literals
+run_long = refl
+
+gap_alone : command_of (codes "gap" ∷ []) ≡ None
+unfolding command_of clap_on_literals
+gap_alone = refl
+
+gap_short : command_of (codes "gap" ∷ codes "c" ∷ codes "o" ∷ codes "d" ∷ []) ≡ None
+unfolding command_of clap_on_literals
+gap_short = refl
+
+gap_long : command_of (codes "gap" ∷ codes "c" ∷ codes "o" ∷ codes "d" ∷ codes "f" ∷ codes "g" ∷ []) ≡ None
+unfolding command_of clap_on_literals
+gap_long = refl
+
+-- options that the command lacks
+workers_of_check : command_of (codes "check" ∷ codes "c" ∷ codes "o" ∷ codes "f" ∷ codes "--workers" ∷ codes "1" ∷ []) ≡ None
+unfolding command_of clap_on_literals
+workers_of_check = refl
+
+workers_of_gap : command_of (codes "gap" ∷ codes "c" ∷ codes "o" ∷ codes "d" ∷ codes "f" ∷ codes "--workers" ∷ codes "1" ∷ []) ≡ None
+unfolding command_of clap_on_literals
+workers_of_gap = refl
+
+unknown_option : command_of (codes "run" ∷ codes "c" ∷ codes "k" ∷ codes "--seed" ∷ codes "1" ∷ []) ≡ None
+unfolding command_of clap_on_literals
+unknown_option = refl
+
+begun_option : command_of (codes "run" ∷ codes "c" ∷ codes "k" ∷ codes "--work" ∷ codes "1" ∷ []) ≡ None
+unfolding command_of clap_on_literals
+begun_option = refl
+
+short_option : command_of (codes "run" ∷ codes "-w" ∷ codes "1" ∷ codes "c" ∷ codes "k" ∷ []) ≡ None
+unfolding command_of clap_on_literals
+short_option = refl
+
+option_before_the_command : command_of (codes "--workers" ∷ codes "1" ∷ codes "run" ∷ codes "c" ∷ codes "k" ∷ []) ≡ None
+unfolding command_of clap_on_literals
+option_before_the_command = refl
+
+-- calls for help and for the version are faults
+help_flag : command_of (codes "--help" ∷ []) ≡ None
+unfolding command_of clap_on_literals
+help_flag = refl
+
+short_help_flag : command_of (codes "-h" ∷ []) ≡ None
+unfolding command_of clap_on_literals
+short_help_flag = refl
+
+help_command : command_of (codes "help" ∷ []) ≡ None
+unfolding command_of clap_on_literals
+help_command = refl
+
+help_on_run : command_of (codes "help" ∷ codes "run" ∷ []) ≡ None
+unfolding command_of clap_on_literals
+help_on_run = refl
+
+help_flag_of_run : command_of (codes "run" ∷ codes "--help" ∷ []) ≡ None
+unfolding command_of clap_on_literals
+help_flag_of_run = refl
+
+help_flag_after_words : command_of (codes "run" ∷ codes "c" ∷ codes "k" ∷ codes "-h" ∷ []) ≡ None
+unfolding command_of clap_on_literals
+help_flag_after_words = refl
+
+version_flag : command_of (codes "--version" ∷ []) ≡ None
+unfolding command_of clap_on_literals
+version_flag = refl
+
+short_version_flag : command_of (codes "-V" ∷ []) ≡ None
+unfolding command_of clap_on_literals
+short_version_flag = refl
+
+version_flag_of_run : command_of (codes "run" ∷ codes "c" ∷ codes "k" ∷ codes "--version" ∷ []) ≡ None
+unfolding command_of clap_on_literals
+version_flag_of_run = refl
+
+-- names that begin with a hyphen follow `--`; a hyphen alone is a name, and so is an empty word
+hyphens : command_of (codes "run" ∷ codes "--" ∷ codes "-c" ∷ codes "--workers" ∷ []) ≡ Some (run (codes "-c") (codes "--workers") 1)
+unfolding command_of clap_on_literals
+hyphens = refl
+
+hyphens_later : command_of (codes "run" ∷ codes "c" ∷ codes "--" ∷ codes "-k" ∷ []) ≡ Some (run (codes "c") (codes "-k") 1)
+unfolding command_of clap_on_literals
+hyphens_later = refl
+
+hyphens_named : command_of (codes "run" ∷ codes "--workers" ∷ codes "1" ∷ codes "--" ∷ codes "--" ∷ codes "k" ∷ []) ≡ Some (run (codes "--") (codes "k") 1)
+unfolding command_of clap_on_literals
+hyphens_named = refl
+
+hyphens_bare : command_of (codes "run" ∷ codes "-c" ∷ codes "k" ∷ []) ≡ None
+unfolding command_of clap_on_literals
+hyphens_bare = refl
+
+late_option : command_of (codes "run" ∷ codes "c" ∷ codes "--" ∷ codes "k" ∷ codes "--workers" ∷ codes "1" ∷ []) ≡ None
+unfolding command_of clap_on_literals
+late_option = refl
+
+hyphen_alone : command_of (codes "run" ∷ codes "-" ∷ codes "-" ∷ []) ≡ Some (run (codes "-") (codes "-") 1)
+unfolding command_of clap_on_literals
+hyphen_alone = refl
+
+empty_name : command_of (codes "run" ∷ codes "" ∷ codes "k" ∷ []) ≡ Some (run (codes "") (codes "k") 1)
+unfolding command_of clap_on_literals
+empty_name = refl
+
+names_of_commands : command_of (codes "check" ∷ codes "check" ∷ codes "run" ∷ codes "gap" ∷ []) ≡ Some (check (codes "check") (codes "run") (codes "gap"))
+unfolding command_of clap_on_literals
+names_of_commands = refl
+
+help_as_a_name : command_of (codes "run" ∷ codes "help" ∷ codes "k" ∷ []) ≡ Some (run (codes "help") (codes "k") 1)
+unfolding command_of clap_on_literals
+help_as_a_name = refl
+
+command_after_hyphens : command_of (codes "--" ∷ codes "run" ∷ codes "c" ∷ codes "k" ∷ []) ≡ None
+unfolding command_of clap_on_literals
+command_after_hyphens = refl
+
+-- numbers as a word of their own: a minus begins an option, a number of 2^32 and more is none, and one plus is enough
+negative_workers_in_two_words : command_of (codes "run" ∷ codes "c" ∷ codes "k" ∷ codes "--workers" ∷ codes "-1" ∷ []) ≡ None
+unfolding command_of clap_on_literals
+negative_workers_in_two_words = refl
+
+workers_past_the_numbers : command_of (codes "run" ∷ codes "c" ∷ codes "k" ∷ codes "--workers" ∷ codes "4294967297" ∷ []) ≡ None
+unfolding command_of clap_on_literals
+workers_past_the_numbers = refl
+
+workers_past_the_numbers_in_one_word : command_of (codes "run" ∷ codes "c" ∷ codes "k" ∷ codes "--workers=4294967297" ∷ []) ≡ None
+unfolding command_of clap_on_literals
+workers_past_the_numbers_in_one_word = refl
+
+two_pluses : command_of (codes "run" ∷ codes "c" ∷ codes "k" ∷ codes "--workers" ∷ codes "++1" ∷ []) ≡ None
+unfolding command_of clap_on_literals
+two_pluses = refl
+
+-- the option without the words of a run
+option_alone : command_of (codes "run" ∷ codes "--workers" ∷ codes "1" ∷ []) ≡ None
+unfolding command_of clap_on_literals
+option_alone = refl
+
+option_and_one_word : command_of (codes "run" ∷ codes "--workers" ∷ codes "1" ∷ codes "c" ∷ []) ≡ None
+unfolding command_of clap_on_literals
+option_and_one_word = refl
+
+-- calls for help and for the version behind the words of the other commands
+help_behind_check : command_of (codes "check" ∷ codes "c" ∷ codes "o" ∷ codes "f" ∷ codes "--help" ∷ []) ≡ None
+unfolding command_of clap_on_literals
+help_behind_check = refl
+
+short_help_behind_check : command_of (codes "check" ∷ codes "c" ∷ codes "o" ∷ codes "f" ∷ codes "-h" ∷ []) ≡ None
+unfolding command_of clap_on_literals
+short_help_behind_check = refl
+
+version_behind_check : command_of (codes "check" ∷ codes "c" ∷ codes "o" ∷ codes "f" ∷ codes "--version" ∷ []) ≡ None
+unfolding command_of clap_on_literals
+version_behind_check = refl
+
+help_alone_of_check : command_of (codes "check" ∷ codes "--help" ∷ []) ≡ None
+unfolding command_of clap_on_literals
+help_alone_of_check = refl
+
+help_behind_gap : command_of (codes "gap" ∷ codes "c" ∷ codes "o" ∷ codes "d" ∷ codes "f" ∷ codes "--help" ∷ []) ≡ None
+unfolding command_of clap_on_literals
+help_behind_gap = refl
+
+short_help_behind_gap : command_of (codes "gap" ∷ codes "c" ∷ codes "o" ∷ codes "d" ∷ codes "f" ∷ codes "-h" ∷ []) ≡ None
+unfolding command_of clap_on_literals
+short_help_behind_gap = refl
+
+version_behind_gap : command_of (codes "gap" ∷ codes "c" ∷ codes "o" ∷ codes "d" ∷ codes "f" ∷ codes "--version" ∷ []) ≡ None
+unfolding command_of clap_on_literals
+version_behind_gap = refl
+
+help_alone_of_gap : command_of (codes "gap" ∷ codes "--help" ∷ []) ≡ None
+unfolding command_of clap_on_literals
+help_alone_of_gap = refl
+
+-- and behind `--` they are names, as in each command
+help_flag_as_a_name : command_of (codes "run" ∷ codes "--" ∷ codes "--help" ∷ codes "-h" ∷ []) ≡ Some (run (codes "--help") (codes "-h") 1)
+unfolding command_of clap_on_literals
+help_flag_as_a_name = refl
+
+version_flag_as_a_name : command_of (codes "check" ∷ codes "c" ∷ codes "o" ∷ codes "--" ∷ codes "--version" ∷ []) ≡ Some (check (codes "c") (codes "o") (codes "--version"))
+unfolding command_of clap_on_literals
+version_flag_as_a_name = refl
+
+hyphens_of_check : command_of (codes "check" ∷ codes "--" ∷ codes "-c" ∷ codes "-o" ∷ codes "--" ∷ []) ≡ Some (check (codes "-c") (codes "-o") (codes "--"))
+unfolding command_of clap_on_literals
+hyphens_of_check = refl
+
+hyphens_of_gap : command_of (codes "gap" ∷ codes "c" ∷ codes "--" ∷ codes "-o" ∷ codes "-d" ∷ codes "-f" ∷ []) ≡ Some (gap (codes "c") (codes "-o") (codes "-d") (codes "-f"))
+unfolding command_of clap_on_literals
+hyphens_of_gap = refl
+
+hyphens_bare_of_check : command_of (codes "check" ∷ codes "c" ∷ codes "-o" ∷ codes "f" ∷ []) ≡ None
+unfolding command_of clap_on_literals
+hyphens_bare_of_check = refl
+
+hyphens_bare_of_gap : command_of (codes "gap" ∷ codes "c" ∷ codes "o" ∷ codes "d" ∷ codes "-f" ∷ []) ≡ None
+unfolding command_of clap_on_literals
+hyphens_bare_of_gap = refl
+
+-- a last `--` with no word behind it adds nothing, and stands for no word
+hyphens_last_of_run : command_of (codes "run" ∷ codes "c" ∷ codes "k" ∷ codes "--" ∷ []) ≡ Some (run (codes "c") (codes "k") 1)
+unfolding command_of clap_on_literals
+hyphens_last_of_run = refl
+
+hyphens_last_of_check : command_of (codes "check" ∷ codes "c" ∷ codes "o" ∷ codes "f" ∷ codes "--" ∷ []) ≡ Some (check (codes "c") (codes "o") (codes "f"))
+unfolding command_of clap_on_literals
+hyphens_last_of_check = refl
+
+hyphens_last_of_gap : command_of (codes "gap" ∷ codes "c" ∷ codes "o" ∷ codes "d" ∷ codes "f" ∷ codes "--" ∷ []) ≡ Some (gap (codes "c") (codes "o") (codes "d") (codes "f"))
+unfolding command_of clap_on_literals
+hyphens_last_of_gap = refl
+
+hyphens_are_no_word : command_of (codes "run" ∷ codes "c" ∷ codes "--" ∷ []) ≡ None
+unfolding command_of clap_on_literals
+hyphens_are_no_word = refl
+
+-- names have any bytes: those of `é`, and one byte over 127 that is no text
+name_of_two_bytes : command_of (codes "run" ∷ (195 ∷ 169 ∷ []) ∷ codes "k" ∷ []) ≡ Some (run (195 ∷ 169 ∷ []) (codes "k") 1)
+unfolding command_of clap_on_literals
+name_of_two_bytes = refl
+
+name_of_a_byte : command_of (codes "check" ∷ codes "c" ∷ (255 ∷ []) ∷ codes "f" ∷ []) ≡ Some (check (codes "c") (255 ∷ []) (codes "f"))
+unfolding command_of clap_on_literals
+name_of_a_byte = refl
+
+name_that_ends_in_a_byte : command_of (codes "gap" ∷ codes "c" ∷ codes "o" ∷ codes "d" ∷ (97 ∷ 128 ∷ []) ∷ []) ≡ Some (gap (codes "c") (codes "o") (codes "d") (97 ∷ 128 ∷ []))
+unfolding command_of clap_on_literals
+name_that_ends_in_a_byte = refl
+
+command_in_other_bytes : command_of ((242 ∷ 245 ∷ 238 ∷ []) ∷ codes "c" ∷ codes "k" ∷ []) ≡ None
+unfolding command_of clap_on_literals
+command_in_other_bytes = refl
+
+-- numbers
+number_one : number_written (codes "1") ≡ Some 1
+number_one = refl
+
+number_zero : number_written (codes "0") ≡ Some 0
+number_zero = refl
+
+number_plus : number_written (codes "+12") ≡ Some 12
+number_plus = refl
+
+number_zeros : number_written (codes "0012") ≡ Some 12
+number_zeros = refl
+
+number_largest : number_written (codes "4294967295") ≡ Some 4294967295
+number_largest = refl
+
+number_too_large : number_written (codes "4294967296") ≡ None
+number_too_large = refl
+
+number_no_digit : number_written (codes "") ≡ None
+number_no_digit = refl
+
+number_plus_alone : number_written (codes "+") ≡ None
+number_plus_alone = refl
+
+number_minus : number_written (codes "-1") ≡ None
+number_minus = refl
+
+number_space : number_written (codes "1 ") ≡ None
+number_space = refl
+
+number_letter : number_written (codes "a") ≡ None
+number_letter = refl
+
+number_past_the_largest : number_written (codes "4294967297") ≡ None
+number_past_the_largest = refl
+
+number_two_pluses : number_written (codes "++1") ≡ None
+number_two_pluses = refl

@@ -1,0 +1,7 @@
+pub mod Numbers
+pub mod Parses
+pub mod Kept
+pub mod Accepted
+pub mod Plain
+mod Examples
+pub mod Workers

@@ -1,0 +1,294 @@
+-- Words of which none begins with a hyphen are the commands of the table.
+use Rattle.std.proofs.Common.{◌≡◌, ℕ, Bool, cond, true, false, refl, sym, ap, ap₂, subst, List, [], ◌∷◌, ◌∙◌, ◌++◌, Option, Some, None, is_some, codes}
+use Rattle.std.specs.List.{AllByRecursion, fold}
+use Rattle.std.specs.Option.{option_map_or}
+use Rattle.std.specs.Str.{bytes_eq}
+use Rattle.std.proofs.lemmas.Slice.Eq.{bytes_eq-Decides}
+use Rattle.clap.specs.Lexer.{long_of, short_of}
+use Rattle.clap.specs.Walk.{Held, Names, Rule, Step, Text, Waiting, Walk, after_step, arg_by_index, finished, idle, is_multiple, long_or_other, nothing_held, plain_word, rows_after, settled, short_or_plain, subcommand_met, subcommand_or_other, to_positional, trailing, value, walk_from, walked, word_met}
+use Rattle.clap.specs.Simple.{Shape, built, entered, names_of}
+use Rattle.clap.specs.Faults.{bundle_fault, check_fault, defaults_fault, entered_fault, flag_word_fault, level_fault, other_fault, settle_fault, step_fault, turn_fault, walk_fault, word_fault}
+use Rattle.clap.specs.Kinds.{Kinds, or_else}
+use Rattle.clap.proofs.WalkLemmas.{walk_stopped}
+use Rattle.command_words.specs.Program.{program_app}
+use Rattle.command_words.specs.Command.{Command, command_met, command_named, command_of, unless_fault}
+use Rattle.command_words.specs.Table.{begins_with_hyphen, plain_command}
+use Rattle.command_words.proofs.Kept.{both_empty, holds_of_found}
+use Rattle.command_words.proofs.Parses.{command_refused}
+use Rattle.command_words.proofs.Accepted.{check_shape, gap_shape, run_shape}
+
+abbrev pub IsPlainWord : Text → Type 0
+IsPlainWord word = begins_with_hyphen word ≡ false
+
+abbrev pub ArePlain : List Text → Type 0
+ArePlain words = AllByRecursion IsPlainWord words
+
+no_dashes : (word : Text) → IsPlainWord word → bytes_eq word (45 ∷ 45 ∷ []) ≡ false
+no_dashes [] e = refl
+no_dashes (x ∷ xs) e = rw e refl
+
+no_long : (word : Text) → IsPlainWord word → long_of word ≡ None
+no_long [] e = refl
+no_long (x ∷ xs) e = rw e refl
+
+no_short : (word : Text) → IsPlainWord word → short_of word ≡ None
+no_short [] e = refl
+no_short (x ∷ xs) e = rw e refl
+
+-- ---- a plain word goes to the next positional
+
+-- nothing waits, nothing was cut off
+abbrev IsIdle : Walk → Type 0
+IsIdle w = (w.waiting ≡ idle) × ((w.is_trailing ≡ false) × (w.stopped ≡ None))
+
+abbrev pub next_walk : List Rule → Walk → Text → Walk
+next_walk c w word = to_positional c (arg_by_index c w.position) word w w.held
+
+abbrev at : Held → ℕ → Walk
+at h p = record {
+  held = h;
+  waiting = idle;
+  position = p;
+  is_trailing = false;
+  stopped = None;
+}
+
+pub word_is : (c : List Rule) (names : Names) (waiting : Waiting) (h : Held) (p : ℕ) (word : Text) → IsPlainWord word → subcommand_met names waiting word ≡ None
+    → word_met c names false waiting p word h ≡ plain_word c waiting word h
+word_is c names waiting h p word plain unnamed =
+    ap (λ (o : Option Text). subcommand_or_other c o waiting p word h) unnamed
+    ∙ ap (λ (b : Bool). cond b (h, trailing p) (long_or_other c waiting word (long_of word) h)) (no_dashes word plain)
+    ∙ ap (λ (l : Option (Text × Option Text)). long_or_other c waiting word l h) (no_long word plain)
+    ∙ ap (λ (s : Option Text). short_or_plain c waiting word s h) (no_short word plain)
+
+pub fault_is : (s : Shape) (names : Names) (waiting : Waiting) (h : Held) (word : Text) → IsPlainWord word → subcommand_met names waiting word ≡ None
+    → word_fault s names false waiting word h ≡ []
+fault_is s names waiting h word plain unnamed =
+    ap (λ (o : Option Text). other_fault s o word h) unnamed
+    ∙ ap (λ (b : Bool). cond b [] (flag_word_fault s.rules s.args_override_self (long_of word) word h)) (no_dashes word plain)
+    ∙ ap (λ (l : Option (Text × Option Text)). flag_word_fault s.rules s.args_override_self l word h) (no_long word plain)
+    ∙ ap (λ (f : Option Text). option_map_or (λ flags. bundle_fault s.rules s.args_override_self flags h) f []) (no_short word plain)
+
+walked_at : (c : List Rule) (names : Names) (h : Held) (p : ℕ) (word : Text) → IsPlainWord word → subcommand_met names idle word ≡ None
+    → walked c names (at h p) word ≡ next_walk c (at h p) word
+unfolding walked
+walked_at c names h p word plain unnamed = ap (λ (m : Held × Step). after_step c word (at h p) m.0 m.1) (word_is c names idle h p word plain unnamed)
+
+turn_at : (s : Shape) (names : Names) (h : Held) (p : ℕ) (word : Text) → IsPlainWord word → subcommand_met names idle word ≡ None
+    → turn_fault s names (at h p) word ≡ step_fault s p h value
+turn_at s names h p word plain unnamed =
+    ap₂ (λ (k : Kinds) (m : Held × Step). or_else k (step_fault s p m.0 m.1)) (fault_is s names idle h word plain unnamed) (word_is s.rules names idle h p word plain unnamed)
+
+idle_is : (w : Walk) → IsIdle w → w ≡ at w.held w.position
+idle_is w i = λ j. record {
+  held = w.held;
+  waiting = i.0 j;
+  position = w.position;
+  is_trailing = i.1.0 j;
+  stopped = i.1.1 j;
+}
+
+pub walked_plain : (c : List Rule) (w : Walk) (word : Text) → IsIdle w → IsPlainWord word → walked c [] w word ≡ next_walk c w word
+walked_plain c w word i plain =
+    let same = idle_is w i in
+    ap (λ (v : Walk). walked c [] v word) same ∙ walked_at c [] w.held w.position word plain refl ∙ sym (ap (λ (v : Walk). next_walk c v word) same)
+
+pub turn_plain : (s : Shape) (w : Walk) (word : Text) → IsIdle w → IsPlainWord word → turn_fault s [] w word ≡ step_fault s w.position w.held value
+turn_plain s w word i plain =
+    ap (λ (v : Walk). turn_fault s [] v word) (idle_is w i) ∙ turn_at s [] w.held w.position word plain refl
+
+-- each argument has one value
+abbrev IsSingle : Rule → Type 0
+IsSingle a = (is_multiple a ≡ false) × (a.trailing_var_arg ≡ false)
+
+idle_next : (c : List Rule) → AllByRecursion IsSingle c → (w : Walk) (word : Text) → IsIdle w → IsIdle (next_walk c w word)
+idle_next c single w word i = go (arg_by_index c w.position) refl
+  where
+    go : (o : Option Rule) → arg_by_index c w.position ≡ o → IsIdle (to_positional c o word w w.held)
+    go None is = i
+    go (Some a) is =
+        let one = holds_of_found IsSingle _ c a single is in
+        (rw one.0 refl, (rw (i.1.0, one.1) refl, refl))
+
+-- ---- plain words alone
+
+abbrev plain_walk : List Rule → Walk → List Text → Walk
+plain_walk c w [] = w
+plain_walk c w (word ∷ rest) = plain_walk c (next_walk c w word) rest
+
+abbrev plain_fault : Shape → Walk → List Text → Kinds
+plain_fault s w [] = []
+plain_fault s w (word ∷ rest) = or_else (step_fault s w.position w.held value) (plain_fault s (next_walk s.rules w word) rest)
+
+walk_is : (c : List Rule) → AllByRecursion IsSingle c → (w : Walk) (words : List Text) → IsIdle w → ArePlain words
+    → fold (walked c []) w words ≡ plain_walk c w words
+walk_is c single w [] i plain = refl
+walk_is c single w (word ∷ rest) i plain =
+    ap (λ (v : Walk). fold (walked c []) v rest) (walked_plain c w word i plain.0)
+    ∙ walk_is c single (next_walk c w word) rest (idle_next c single w word i) plain.1
+
+walk_fault_is : (s : Shape) → AllByRecursion IsSingle s.rules → (w : Walk) (words : List Text) → IsIdle w → ArePlain words
+    → walk_fault s [] w words ≡ plain_fault s w words
+unfolding walk_fault
+walk_fault_is s single w [] i plain = refl
+walk_fault_is s single w (word ∷ rest) i plain =
+    ap₂ (λ (k : Kinds) (v : Walk). or_else k (walk_fault s [] v rest)) (turn_plain s w word i plain.0) (walked_plain s.rules w word i plain.0)
+    ∙ ap (or_else (step_fault s w.position w.held value)) (walk_fault_is s single (next_walk s.rules w word) rest (idle_next s.rules single w word i) plain.1)
+
+-- what is left of a level after its walk
+abbrev level_by : Shape → Kinds → Walk → Kinds
+level_by s fault end = or_else fault (or_else (settle_fault s.rules s.args_override_self end.held)
+    (or_else (defaults_fault (settled s.rules end.held).rows s.rules) (check_fault s (finished s.rules end.held) false)))
+
+abbrev pub command_by : Shape → Kinds → Walk → Option Command
+command_by s fault end = unless_fault (level_by s fault end) (command_named s.name (finished s.rules end.held))
+
+-- the command of one name, by its words
+abbrev pub leaf : Shape → List Text → Option Command
+leaf s words = unless_fault (level_fault s [] nothing_held words false []) (command_named s.name (rows_after s.rules [] words))
+
+abbrev plain_leaf : Shape → List Text → Option Command
+plain_leaf s words = command_by s (plain_fault s (walk_from nothing_held) words) (plain_walk s.rules (walk_from nothing_held) words)
+
+leaf_is : (s : Shape) → AllByRecursion IsSingle s.rules → (words : List Text) → ArePlain words → leaf s words ≡ plain_leaf s words
+leaf_is s single words plain =
+    ap₂ (λ (k : Kinds) (v : Walk). command_by s k v) (walk_fault_is s single (walk_from nothing_held) words (refl, (refl, refl)) plain)
+    (walk_is s.rules single (walk_from nothing_held) words (refl, (refl, refl)) plain)
+
+check_leaf : (words : List Text) → plain_leaf check_shape words ≡ plain_command (codes "check" ∷ words)
+unfolding defaults_fault
+check_leaf [] = refl
+check_leaf (catalog ∷ []) = refl
+check_leaf (catalog ∷ owner ∷ []) = refl
+check_leaf (catalog ∷ owner ∷ file ∷ []) = refl
+check_leaf (catalog ∷ owner ∷ file ∷ more ∷ []) = refl
+check_leaf (catalog ∷ owner ∷ file ∷ more ∷ word ∷ words) = refl
+
+run_leaf : (words : List Text) → plain_leaf run_shape words ≡ plain_command (codes "run" ∷ words)
+unfolding defaults_fault
+run_leaf [] = refl
+run_leaf (catalog ∷ []) = refl
+run_leaf (catalog ∷ key ∷ []) = refl
+run_leaf (catalog ∷ key ∷ more ∷ []) = refl
+run_leaf (catalog ∷ key ∷ more ∷ word ∷ []) = refl
+run_leaf (catalog ∷ key ∷ more ∷ word ∷ next ∷ words) = refl
+
+gap_leaf : (words : List Text) → plain_leaf gap_shape words ≡ plain_command (codes "gap" ∷ words)
+unfolding defaults_fault
+gap_leaf [] = refl
+gap_leaf (catalog ∷ []) = refl
+gap_leaf (catalog ∷ owner ∷ []) = refl
+gap_leaf (catalog ∷ owner ∷ other ∷ []) = refl
+gap_leaf (catalog ∷ owner ∷ other ∷ file ∷ []) = refl
+gap_leaf (catalog ∷ owner ∷ other ∷ file ∷ more ∷ words) = refl
+
+-- ---- the program
+
+abbrev top : Shape
+top = (built program_app).top
+
+abbrev names : Names
+names = names_of (built program_app)
+
+abbrev start : Walk
+start = walk_from nothing_held
+
+or_none : (k : Kinds) → or_else k [] ≡ k
+or_none [] = refl
+or_none (x ∷ xs) = refl
+
+-- after a command is named its words are left to it
+left_fault : (name : Text) (seen words : List Text) → walk_fault top names (record start { stopped = Some (name, seen) }) words ≡ []
+unfolding walk_fault walked
+left_fault name seen [] = refl
+left_fault name seen (word ∷ rest) = left_fault name (seen ++ word ∷ []) rest
+
+abbrev program_by : Kinds → Walk → Option Command
+program_by fault end = unless_fault (or_else fault (or_else (entered_fault (built program_app) end.stopped)
+    (or_else (settle_fault top.rules top.args_override_self end.held)
+    (or_else (defaults_fault (settled top.rules end.held).rows top.rules)
+    (check_fault top (finished top.rules end.held) (is_some (entered (built program_app) end.stopped)))))))
+    (command_met (entered (built program_app) end.stopped))
+
+abbrev met_by : Text → List Text → Option Command
+met_by name words = program_by [] (record start { stopped = Some (name, words) })
+
+-- the first word names a command
+named : (name : Text) (words : List Text) → walked top.rules names start name ≡ record start { stopped = Some (name, []) } → turn_fault top names start name ≡ []
+    → command_of (name ∷ words) ≡ met_by name words
+unfolding command_of walk_fault
+named name words walk_at turn_at =
+    ap₂ program_by
+    (ap₂ (λ (k : Kinds) (w : Walk). or_else k (walk_fault top names w words)) turn_at walk_at ∙ left_fault name [] words)
+    (ap (λ (w : Walk). fold (walked top.rules names) w words) walk_at ∙ sym (walk_stopped top.rules names start name [] words))
+
+left_to : (s : Shape) (k : Kinds) (words : List Text) → unless_fault (or_else k []) (command_named s.name (rows_after s.rules [] words))
+    ≡ unless_fault k (command_named s.name (rows_after s.rules [] words))
+left_to s k words = ap (λ (x : Kinds). unless_fault x (command_named s.name (rows_after s.rules [] words))) (or_none k)
+
+check_is : (words : List Text) → ArePlain words → command_of (codes "check" ∷ words) ≡ plain_command (codes "check" ∷ words)
+unfolding walked defaults_fault
+check_is words plain = named (codes "check") words refl refl ∙ left_to check_shape (level_fault check_shape [] nothing_held words false []) words
+    ∙ leaf_is check_shape ((refl, refl), ((refl, refl), ((refl, refl), tt))) words plain ∙ check_leaf words
+
+-- the words after `run` are its own
+pub run_left : (words : List Text) → command_of (codes "run" ∷ words) ≡ leaf run_shape words
+unfolding walked defaults_fault
+run_left words = named (codes "run") words refl refl ∙ left_to run_shape (level_fault run_shape [] nothing_held words false []) words
+
+run_is : (words : List Text) → ArePlain words → command_of (codes "run" ∷ words) ≡ plain_command (codes "run" ∷ words)
+run_is words plain = run_left words
+    ∙ leaf_is run_shape ((refl, refl), ((refl, refl), ((refl, refl), tt))) words plain ∙ run_leaf words
+
+gap_is : (words : List Text) → ArePlain words → command_of (codes "gap" ∷ words) ≡ plain_command (codes "gap" ∷ words)
+unfolding walked defaults_fault
+gap_is words plain = named (codes "gap") words refl refl ∙ left_to gap_shape (level_fault gap_shape [] nothing_held words false []) words
+    ∙ leaf_is gap_shape ((refl, refl), ((refl, refl), ((refl, refl), ((refl, refl), tt)))) words plain ∙ gap_leaf words
+
+-- ---- a first word that names none
+
+stray_is : (name : Text) (words : List Text) → IsPlainWord name → subcommand_met names idle name ≡ None → command_of (name ∷ words) ≡ None
+unfolding walk_fault
+stray_is name words plain unnamed = command_refused (name ∷ words) (λ well.
+    let walked_well = both_empty (walk_fault top names start (name ∷ words)) _ well in
+    let stray = both_empty (turn_fault top names start name) _ walked_well.0 in
+    cc (stray.0, turn_at top names nothing_held 1 name plain unnamed))
+
+untabled : (name : Text) (words : List Text) → bytes_eq name (codes "check") ≡ false → bytes_eq name (codes "run") ≡ false → bytes_eq name (codes "gap") ≡ false
+    → plain_command (name ∷ words) ≡ None
+untabled name [] a b c = refl
+untabled name (x ∷ []) a b c = refl
+untabled name (x ∷ y ∷ []) a b c = rw b refl
+untabled name (x ∷ y ∷ z ∷ []) a b c = rw a refl
+untabled name (x ∷ y ∷ z ∷ w ∷ []) a b c = rw c refl
+untabled name (x ∷ y ∷ z ∷ w ∷ v ∷ words) a b c = refl
+
+unmet : (name : Text) → bytes_eq (codes "check") name ≡ false → bytes_eq (codes "run") name ≡ false → bytes_eq (codes "gap") name ≡ false
+    → subcommand_met names idle name ≡ None
+unmet name a b c = rw (a, b, c) refl
+
+flipped : (a b : Text) → bytes_eq a a ≡ true → bytes_eq a b ≡ false → bytes_eq b a ≡ false
+flipped a b same apart = go (bytes_eq b a) refl
+  where
+    go : (r : Bool) → bytes_eq b a ≡ r → r ≡ false
+    go false e = refl
+    go true e =
+        let equal = (bytes_eq-Decides b a).0 e in
+        let both : bytes_eq a a ≡ false = subst (λ (x : Text). bytes_eq a x ≡ false) equal apart in
+        cc (same, both)
+
+abbrev IsTabled : List Text → Type 0
+IsTabled words = command_of words ≡ plain_command words
+
+pub plain_is_tabled : (words : List Text) → ArePlain words → IsTabled words
+unfolding command_of walk_fault defaults_fault
+plain_is_tabled [] plain = refl
+plain_is_tabled (name ∷ words) plain = go (bytes_eq (codes "check") name) refl (bytes_eq (codes "run") name) refl (bytes_eq (codes "gap") name) refl
+  where
+    go : (a : Bool) → bytes_eq (codes "check") name ≡ a → (b : Bool) → bytes_eq (codes "run") name ≡ b → (c : Bool) → bytes_eq (codes "gap") name ≡ c
+        → IsTabled (name ∷ words)
+    go true e b f c g = subst (λ (n : Text). IsTabled (n ∷ words)) ((bytes_eq-Decides (codes "check") name).0 e) (check_is words plain.1)
+    go false e true f c g = subst (λ (n : Text). IsTabled (n ∷ words)) ((bytes_eq-Decides (codes "run") name).0 f) (run_is words plain.1)
+    go false e false f true g = subst (λ (n : Text). IsTabled (n ∷ words)) ((bytes_eq-Decides (codes "gap") name).0 g) (gap_is words plain.1)
+    go false e false f false g = stray_is name words plain.0 (unmet name e f g)
+        ∙ sym (untabled name words (flipped (codes "check") name refl e) (flipped (codes "run") name refl f) (flipped (codes "gap") name refl g))

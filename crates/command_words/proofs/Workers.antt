@@ -1,0 +1,139 @@
+-- The option's text is accepted exactly where it is a number in range.
+use Rattle.std.proofs.Common.{◌≡◌, ◌≤◌, ℕ, Bool, cond, true, false, refl, sym, ap, ap₂, subst, [], ◌∷◌, ◌∙◌, Option, Some, None, arith, codes}
+use Rattle.std.specs.Prelude.{◌&&◌, ⊤, nat_le, option_and_then, option_map}
+use Rattle.std.specs.List.{fold}
+use Rattle.std.specs.Str.Parse.{ParsesUnsigned, digits_value, starts_with_minus, without_leading_plus}
+use Rattle.std.proofs.lemmas.Bool.{le-leb, leb-true}
+use Rattle.std.proofs.lemmas.Int.{ints}
+use Rattle.clap.specs.Lexer.{without_minus}
+use Rattle.clap.specs.Words.{ReadsOne}
+use Rattle.clap.specs.ValueTests.{accepts}
+use Rattle.clap.specs.Walk.{Held, Step, Text, Walk, after_step, nothing_held, option, plain_word, walk_from, walked}
+use Rattle.clap.specs.Faults.{defaults_fault, step_fault, turn_fault, walk_fault}
+use Rattle.clap.specs.Kinds.{Kinds, or_else}
+use Rattle.clap.proofs.ValueTestLemmas.{Accepts-accepts}
+use Rattle.clap.proofs.WalkLemmas.{both}
+use Rattle.command_words.specs.Program.{greatest_workers}
+use Rattle.command_words.specs.Command.{Command, command_of, number_written, run, run_of}
+use Rattle.command_words.specs.Table.{workers_said}
+use Rattle.command_words.proofs.Numbers.{number_reads}
+use Rattle.command_words.proofs.Accepted.{IsCount, count_read, run_shape, workers_parser, WORKERS}
+use Rattle.command_words.proofs.Plain.{IsPlainWord, command_by, fault_is, next_walk, run_left, turn_plain, walked_plain, word_is}
+
+same_text : (text : Text) → IsPlainWord text → without_minus text ≡ text
+same_text [] plain = refl
+same_text (x ∷ xs) plain = rw plain refl
+
+-- ---- the walk
+
+abbrev at_start : Walk
+at_start = walk_from nothing_held
+
+abbrev after_names : Text → Text → Walk
+after_names catalog key = next_walk run_shape.rules (next_walk run_shape.rules at_start catalog) key
+
+-- the option waits for its value
+abbrev after_option : Text → Text → Walk
+after_option catalog key = walked run_shape.rules [] (after_names catalog key) (codes "--workers")
+
+abbrev after_value : Text → Text → Text → Walk
+after_value catalog key text =
+    let w = after_option catalog key in
+    after_step run_shape.rules text w (plain_word run_shape.rules w.waiting text w.held).0 (plain_word run_shape.rules w.waiting text w.held).1
+
+option_turn : (catalog key : Text) → turn_fault run_shape [] (after_names catalog key) (codes "--workers") ≡ []
+unfolding walked
+option_turn catalog key = refl
+
+value_walk : (catalog key text : Text) → IsPlainWord text → walked run_shape.rules [] (after_option catalog key) text ≡ after_value catalog key text
+unfolding walked
+value_walk catalog key text plain =
+    let w = after_option catalog key in
+    ap (λ (m : Held × Step). after_step run_shape.rules text w m.0 m.1) (word_is run_shape.rules [] (option WORKERS) w.held w.position text plain refl)
+
+value_turn : (catalog key text : Text) → IsPlainWord text → turn_fault run_shape [] (after_option catalog key) text ≡ []
+unfolding walked
+value_turn catalog key text plain =
+    let w = after_option catalog key in
+    ap₂ (λ (k : Kinds) (m : Held × Step). or_else k (step_fault run_shape w.position m.0 m.1)) (fault_is run_shape [] (option WORKERS) w.held text plain refl)
+    (word_is run_shape.rules [] (option WORKERS) w.held w.position text plain refl)
+
+-- what the words come to, by whether the option's text is accepted
+abbrev said_by : Text → Text → Bool → Option ℕ → Option Command
+said_by catalog key true count = run_of (Some catalog) (Some key) count
+said_by catalog key false count = None
+
+run_fault : (catalog key text : Text) → IsPlainWord catalog → IsPlainWord key → IsPlainWord text
+    → walk_fault run_shape [] at_start (catalog ∷ key ∷ codes "--workers" ∷ text ∷ []) ≡ []
+unfolding walk_fault
+run_fault catalog key text a b c =
+    ap₂ (λ (k : Kinds) (w : Walk). or_else k (walk_fault run_shape [] w (key ∷ codes "--workers" ∷ text ∷ [])))
+    (turn_plain run_shape at_start catalog (refl, (refl, refl)) a) (walked_plain run_shape.rules at_start catalog (refl, (refl, refl)) a)
+    ∙ ap₂ (λ (k : Kinds) (w : Walk). or_else k (walk_fault run_shape [] w (codes "--workers" ∷ text ∷ [])))
+    (turn_plain run_shape (next_walk run_shape.rules at_start catalog) key (refl, (refl, refl)) b)
+    (walked_plain run_shape.rules (next_walk run_shape.rules at_start catalog) key (refl, (refl, refl)) b)
+    ∙ ap (λ (k : Kinds). or_else k (walk_fault run_shape [] (after_option catalog key) (text ∷ []))) (option_turn catalog key)
+    ∙ ap (λ (k : Kinds). or_else k []) (value_turn catalog key text c)
+
+run_walk : (catalog key text : Text) → IsPlainWord catalog → IsPlainWord key → IsPlainWord text
+    → fold (walked run_shape.rules []) at_start (catalog ∷ key ∷ codes "--workers" ∷ text ∷ []) ≡ after_value catalog key text
+run_walk catalog key text a b c =
+    ap (λ (w : Walk). fold (walked run_shape.rules []) w (key ∷ codes "--workers" ∷ text ∷ [])) (walked_plain run_shape.rules at_start catalog (refl, (refl, refl)) a)
+    ∙ ap (λ (w : Walk). fold (walked run_shape.rules []) w (codes "--workers" ∷ text ∷ []))
+    (walked_plain run_shape.rules (next_walk run_shape.rules at_start catalog) key (refl, (refl, refl)) b)
+    ∙ value_walk catalog key text c
+
+said_is : (catalog key text : Text) → command_by run_shape [] (after_value catalog key text)
+    ≡ said_by catalog key (accepts false workers_parser text) (number_written (without_minus text))
+unfolding walked defaults_fault
+said_is catalog key text = go (accepts false workers_parser text) refl
+  where
+    go : (b : Bool) → accepts false workers_parser text ≡ b → command_by run_shape [] (after_value catalog key text) ≡ said_by catalog key b (number_written (without_minus text))
+    go true e = rw e refl
+    go false e = rw e refl
+
+-- ---- the text
+
+no_minus : (text : Text) → IsPlainWord text → starts_with_minus text ≡ false
+no_minus [] plain = refl
+no_minus (x ∷ xs) plain = plain
+
+in_range : (text : Text) (n : ℕ) → IsPlainWord text → number_written text ≡ Some n → (1 ≤ n) → (n ≤ greatest_workers) → accepts false workers_parser text ≡ true
+in_range text n plain is low high =
+    let read : ReadsOne {T = ℕ} {E = ⊤} (ParsesUnsigned 32 10) text (Some n) = subst (λ (o : Option ℕ). ReadsOne {T = ℕ} {E = ⊤} (ParsesUnsigned 32 10) text o) is (number_reads text) in
+    let value : n ≡ digits_value 10 (without_leading_plus text) = read.1 in
+    Accepts-accepts false workers_parser text
+    (rw (no_minus text plain) (read.0.0, record { sfits = omega (arith, value, high) }, omega (arith, ints, value, low), omega (arith, ints, value, high)))
+
+pub workers_are_said : (catalog key text : Text) → IsPlainWord catalog → IsPlainWord key → IsPlainWord text
+    → command_of (codes "run" ∷ catalog ∷ key ∷ codes "--workers" ∷ text ∷ []) ≡ option_map (run catalog key) (workers_said text)
+workers_are_said catalog key text a b c =
+    run_left (catalog ∷ key ∷ codes "--workers" ∷ text ∷ [])
+    ∙ ap₂ (λ (k : Kinds) (w : Walk). command_by run_shape k w) (run_fault catalog key text a b c) (run_walk catalog key text a b c)
+    ∙ said_is catalog key text ∙ go (accepts false workers_parser text) refl
+  where
+    within : ℕ → Option ℕ
+    within n = cond (nat_le 1 n && nat_le n greatest_workers) (Some n) None
+
+    counted : (n : ℕ) → IsCount n → within n ≡ Some n
+    counted n count = rw (le-leb 1 n count.0, le-leb n greatest_workers count.1) refl
+
+    outside : (n : ℕ) → number_written text ≡ Some n → accepts false workers_parser text ≡ false → (r : Bool) → (nat_le 1 n && nat_le n greatest_workers) ≡ r
+        → None ≡ option_map (run catalog key) (cond r (Some n) None)
+    outside n is e false f = refl
+    outside n is e true f =
+        let parts = both _ _ f in
+        let yes = in_range text n c is (leb-true _ _ parts.0) (leb-true _ _ parts.1) in
+        cc (e, yes)
+
+    unread : (o : Option ℕ) → number_written text ≡ o → accepts false workers_parser text ≡ false → None ≡ option_map (run catalog key) (option_and_then within o)
+    unread None is e = refl
+    unread (Some n) is e = outside n is e (nat_le 1 n && nat_le n greatest_workers) refl
+
+    go : (r : Bool) → accepts false workers_parser text ≡ r → said_by catalog key r (number_written (without_minus text)) ≡ option_map (run catalog key) (workers_said text)
+    go true e =
+        let count = count_read text e in
+        let here : number_written text ≡ Some count.0 = ap number_written (sym (same_text text c)) ∙ count.1 in
+        ap (λ (o : Option ℕ). run_of (Some catalog) (Some key) o) count.1
+        ∙ sym (ap (λ (o : Option ℕ). option_map (run catalog key) (option_and_then within o)) here ∙ ap (λ (o : Option ℕ). option_map (run catalog key) o) (counted count.0 count.2))
+    go false e = unread (number_written text) refl e

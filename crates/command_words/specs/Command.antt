@@ -1,0 +1,65 @@
+-- the command that words are
+use Rattle.std.specs.Prelude.{◌^◌, ◌&&◌, ℕ, List, [], ◌∷◌, Option, Some, None, codes, bytes_eq, if◌then◌else◌, nat_lt, option_and_then}
+use Rattle.std.specs.Str.Parse.{digits_value, without_leading_plus}
+use Rattle.clap.specs.Words.{Row, Text, fault_of, first_of, one_of, subcommand_of}
+use Rattle.clap.specs.Kinds.{Kinds}
+use Rattle.clap.specs.ValueTests.{is_numeral}
+use Rattle.command_words.specs.Program.{program_app}
+
+pub data Command : Type 0 where
+  -- `check CATALOG OWNER FILE`: the names of a file, of an owner and of another file
+  check : (catalog owner file : List ℕ) → Command
+  -- `run CATALOG KEY --workers W`: the names of two files, and a number of workers
+  run : (catalog key : List ℕ) (workers : ℕ) → Command
+  -- `gap CATALOG OWNER CATALOG2 FILE`: the names of a file, of an owner and of two other files
+  gap : (catalog owner second_catalog file : List ℕ) → Command
+
+-- The number that a text is: digits, perhaps after a plus, below 2^32.
+abbrev pub number_written : Text → Option ℕ
+number_written text = let digits = without_leading_plus text in
+    if is_numeral digits && nat_lt (digits_value 10 digits) (2 ^ 32) then Some (digits_value 10 digits) else None
+
+-- a command of its words, where all are there
+abbrev pub check_of : (catalog owner file : Option Text) → Option Command
+check_of (Some catalog) (Some owner) (Some file) = Some (check catalog owner file)
+check_of _ _ _ = None
+
+abbrev pub run_of : (catalog key : Option Text) (workers : Option ℕ) → Option Command
+run_of (Some catalog) (Some key) (Some workers) = Some (run catalog key workers)
+run_of _ _ _ = None
+
+abbrev pub gap_of : (catalog owner second_catalog file : Option Text) → Option Command
+gap_of (Some catalog) (Some owner) (Some second_catalog) (Some file) = Some (gap catalog owner second_catalog file)
+gap_of _ _ _ _ = None
+
+-- each command, of what clap found for it
+abbrev pub check_found_in : List Row → Option Command
+check_found_in found = check_of (first_of (codes "catalog") found) (first_of (codes "owner") found) (first_of (codes "file") found)
+
+abbrev pub run_found_in : List Row → Option Command
+run_found_in found = run_of (first_of (codes "catalog") found) (first_of (codes "key") found)
+    (option_and_then number_written (one_of (codes "workers") found))
+
+abbrev pub gap_found_in : List Row → Option Command
+gap_found_in found = gap_of (first_of (codes "catalog") found) (first_of (codes "owner") found)
+    (first_of (codes "second_catalog") found) (first_of (codes "file") found)
+
+-- the command of this name, of what clap found for it
+abbrev pub command_named : (name : Text) → (found : List Row) → Option Command
+command_named name found =
+    if bytes_eq name (codes "check") then check_found_in found
+    else if bytes_eq name (codes "run") then run_found_in found
+    else if bytes_eq name (codes "gap") then gap_found_in found
+    else None
+
+abbrev pub command_met : Option (Text × List Row) → Option Command
+command_met None = None
+command_met (Some (name, found)) = command_named name found
+
+abbrev pub unless_fault : (faults : Kinds) → Option Command → Option Command
+unless_fault [] command = command
+unless_fault (fault ∷ faults) command = None
+
+-- The command that the words are: that of clap's parse, and nothing where the parse answers a fault.
+unfoldable pub command_of : List (List ℕ) → Option Command
+command_of words = unless_fault (fault_of program_app words) (command_met (subcommand_of program_app words))

@@ -1,0 +1,4 @@
+pub mod Program
+pub mod Command
+pub mod Meant
+pub mod Table

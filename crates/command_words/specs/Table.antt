@@ -1,0 +1,23 @@
+-- the commands of words without options, as a table
+use Rattle.std.specs.Prelude.{◌==◌, ◌&&◌, ℕ, Bool, false, List, [], ◌∷◌, Option, Some, None, codes, bytes_eq, if◌then◌else◌, nat_le, option_and_then}
+use Rattle.command_words.specs.Command.{Command, check, run, gap, number_written}
+use Rattle.command_words.specs.Program.{greatest_workers}
+
+-- the word begins with `-` (45), as options do
+abbrev pub begins_with_hyphen : List ℕ → Bool
+begins_with_hyphen [] = false
+begins_with_hyphen (byte ∷ bytes) = byte == 45
+
+abbrev pub plain_command : List (List ℕ) → Option Command
+plain_command [] = None
+plain_command (name ∷ []) = None
+plain_command (name ∷ catalog ∷ []) = None
+plain_command (name ∷ catalog ∷ key ∷ []) = if bytes_eq name (codes "run") then Some (run catalog key 1) else None
+plain_command (name ∷ catalog ∷ owner ∷ file ∷ []) = if bytes_eq name (codes "check") then Some (check catalog owner file) else None
+plain_command (name ∷ catalog ∷ owner ∷ second_catalog ∷ file ∷ []) =
+    if bytes_eq name (codes "gap") then Some (gap catalog owner second_catalog file) else None
+plain_command (name ∷ catalog ∷ owner ∷ second_catalog ∷ file ∷ more ∷ words) = None
+
+-- the number of workers that a text says, where it is in range
+abbrev pub workers_said : List ℕ → Option ℕ
+workers_said text = option_and_then (λ n. if nat_le 1 n && nat_le n greatest_workers then Some n else None) (number_written text)

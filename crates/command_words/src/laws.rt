@@ -1,0 +1,31 @@
+//! What is proved of the definitions.
+
+ghost use Rattle.std.specs.Prelude.{◌≡◌, ◌≢◌, ◌↔◌, ◌≤◌, ℕ, List, [], ◌∷◌, None, Some, codes, false, option_map};
+ghost use Rattle.std.specs.List.{AllByRecursion};
+ghost use Rattle.clap.specs.Words.{fault_of};
+ghost use Rattle.command_words.specs.Command.{command_of, run};
+ghost use Rattle.command_words.specs.Program.{greatest_workers, program_app};
+ghost use Rattle.command_words.specs.Table.{begins_with_hyphen, plain_command, workers_said};
+
+/// Words are no command exactly where clap's parse of them answers a fault.
+pub fn faults_alone_are_no_command()
+    ensures { (words : List (List ℕ)) → (command_of words ≡ None) ↔ (fault_of program_app words ≢ []) }
+{}
+
+/// The workers of a run are in range.
+pub fn workers_are_in_range()
+    ensures { (words : List (List ℕ)) (catalog key : List ℕ) (workers : ℕ) → command_of words ≡ Some (run catalog key workers) →
+        (1 ≤ workers) × (workers ≤ greatest_workers) }
+{}
+
+/// Words of which none begins with a hyphen are the commands of a table.
+pub fn plain_words_are_a_table()
+    ensures { (words : List (List ℕ)) → AllByRecursion (λ word. begins_with_hyphen word ≡ false) words →
+        command_of words ≡ plain_command words }
+{}
+
+/// `--workers W` after the words of a run is accepted exactly where W is a number in range.
+pub fn workers_are_said_by_a_number()
+    ensures { (catalog key text : List ℕ) → begins_with_hyphen catalog ≡ false → begins_with_hyphen key ≡ false → begins_with_hyphen text ≡ false →
+        command_of (codes "run" ∷ catalog ∷ key ∷ codes "--workers" ∷ text ∷ []) ≡ option_map (run catalog key) (workers_said text) }
+{}

@@ -1,0 +1,15 @@
+//! The program's words, read with clap.
+#![tactic(auto)]
+
+mod commands;
+mod laws;
+mod words;
+
+pub use crate::laws::{
+    faults_alone_are_no_command, plain_words_are_a_table, workers_are_in_range,
+    workers_are_said_by_a_number,
+};
+pub use crate::words::{Command, WordsFault, read_words};
+
+#[cfg(test)]
+mod tests;

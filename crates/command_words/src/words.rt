@@ -1,0 +1,135 @@
+//! Words to a command.
+
+ghost use Rattle.std.specs.Prelude.{◌≡◌, ◌≢◌, [], IfErr, IfOk, None, Some, map, option_and_then, option_map, string_bytes};
+ghost use Rattle.clap.specs.Words.{fault_of, first_of, found_of, one_of, rows_of, subcommand_of, subcommand_rows_of};
+ghost use Rattle.command_words.specs.Command.{check_found_in, command_met, command_of, gap_found_in, number_written, run_found_in};
+ghost use Rattle.command_words.specs.Program.{program_app};
+ghost use Rattle.command_words.specs.Meant.{command_meant};
+
+use crate::commands::program_command;
+use clap::ArgMatches;
+use clap::error::ErrorKind;
+use std::alloc::Global;
+
+/// A command, with the names in it.
+#[derive(Clone, Copy, Debug, PartialEq, Eq)]
+pub enum Command<'a> {
+    Check {
+        catalog: &'a str,
+        owner: &'a str,
+        file: &'a str,
+    },
+    Run {
+        catalog: &'a str,
+        key: &'a str,
+        workers: u32,
+    },
+    Gap {
+        catalog: &'a str,
+        owner: &'a str,
+        second_catalog: &'a str,
+        file: &'a str,
+    },
+}
+
+/// Why there is no command.
+#[derive(Clone, Copy, Debug, PartialEq, Eq)]
+pub enum WordsFault {
+    /// The words are none.
+    Usage,
+    NoMemory,
+}
+
+/// What clap finds in the words.
+fn matches_of<'a>(alloc: Global, words: &'a [String]) -> Result<ArgMatches<'a>, WordsFault>
+    ensures taken { IfOk result (λ m. fault_of program_app (map string_bytes words.entry.now) ≡ []) }
+    ensures found { IfOk result (λ m. subcommand_rows_of m ≡ subcommand_of program_app (map string_bytes words.entry.now)) }
+    ensures refused { IfErr result (λ e. e ≡ WordsFault.Usage → fault_of program_app (map string_bytes words.entry.now) ≢ []) }
+{
+    let Ok(command) = program_command(alloc) else {
+        return Err(WordsFault::NoMemory);
+    };
+    match command.try_get_matches_from(words) {
+        Ok(matches) => Ok(matches),
+        Err(error) => match error.kind() {
+            ErrorKind::OutOfMemory => Err(WordsFault::NoMemory),
+            _ => Err(WordsFault::Usage),
+        },
+    }
+}
+
+/// The text that was found under this name.
+fn text_found<'a>(found: &ArgMatches<'a>, name: &str) -> Option<&'a str>
+    ensures { option_map (λ s. s.now) result ≡ first_of name.now (rows_of (found_of found.now)) }
+{
+    found.get_str(name)
+}
+
+/// The number that was found under this name.
+fn number_found(found: &ArgMatches, name: &str) -> Option<u32>
+    ensures { result ≡ option_and_then number_written (one_of name.now (rows_of (found_of found.now))) }
+{
+    found.get_one::<u32>(name)
+}
+
+/// `check`, with what was found for it.
+fn check_found<'a>(found: &ArgMatches<'a>) -> Option<Command<'a>>
+    ensures { option_map command_meant result ≡ check_found_in (rows_of (found_of found.now)) }
+{
+    Some(Command::Check {
+        catalog: text_found(found, "catalog")?,
+        owner: text_found(found, "owner")?,
+        file: text_found(found, "file")?,
+    })
+}
+
+/// `run`, with what was found for it.
+fn run_found<'a>(found: &ArgMatches<'a>) -> Option<Command<'a>>
+    ensures { option_map command_meant result ≡ run_found_in (rows_of (found_of found.now)) }
+{
+    Some(Command::Run {
+        catalog: text_found(found, "catalog")?,
+        key: text_found(found, "key")?,
+        workers: number_found(found, "workers")?,
+    })
+}
+
+/// `gap`, with what was found for it.
+fn gap_found<'a>(found: &ArgMatches<'a>) -> Option<Command<'a>>
+    ensures { option_map command_meant result ≡ gap_found_in (rows_of (found_of found.now)) }
+{
+    Some(Command::Gap {
+        catalog: text_found(found, "catalog")?,
+        owner: text_found(found, "owner")?,
+        second_catalog: text_found(found, "second_catalog")?,
+        file: text_found(found, "file")?,
+    })
+}
+
+/// The command that was found.
+fn command_found<'a>(matches: &ArgMatches<'a>) -> Option<Command<'a>>
+    ensures { option_map command_meant result ≡ command_met (subcommand_rows_of matches.now) }
+{
+    match matches.subcommand() {
+        Some(("check", found)) => check_found(found),
+        Some(("run", found)) => run_found(found),
+        Some(("gap", found)) => gap_found(found),
+        _ => None,
+    }
+}
+
+/// The command that the words are; they leave out the program's own name.
+///
+/// - `check CATALOG OWNER FILE`
+/// - `run CATALOG KEY`, perhaps with `--workers W`: W is 1, also where it isn't given.
+/// - `gap CATALOG OWNER CATALOG2 FILE`
+///
+/// `Usage` comes exactly where clap's parse of the words answers a fault, and `NoMemory` may come at any words.
+#[tactic(auto, using(crate::proofs::Parses::command_taken, crate::proofs::Parses::command_refused))]
+pub fn read_words<'a>(alloc: Global, words: &'a [String]) -> Result<Command<'a>, WordsFault>
+    ensures read { IfOk result (λ c. command_of (map string_bytes words.entry.now) ≡ Some (command_meant c)) }
+    ensures refused { IfErr result (λ e. e ≡ WordsFault.Usage → command_of (map string_bytes words.entry.now) ≡ None) }
+{
+    let matches = matches_of(alloc, words)?;
+    command_found(&matches).ok_or(WordsFault::Usage)
+}
