@@ -1,8 +1,6 @@
 -- the steps of `ask`, in the words of the verdict and the reply
-use Rattle.std.proofs.Common.{◌≡◌, ℕ, zero, suc, ◌+◌, ◌<◌, ◌≤◌, ◌^◌, Bool, true, false, cond, List, [], ◌∷◌, ◌++◌, length, map, refl, sym, ◌∙◌, ap, subst, arith, get_or, append-nil, inl, inr}
-use Rattle.std.specs.Prelude.{ℤ, pos, ◌+ℤ◌, unsigned_abs, nat_lt, Result, Ok, Err}
-use Rattle.std.proofs.lemmas.Int.{ints, clamps}
-use Rattle.std.specs.Int.{int_min}
+use Rattle.std.proofs.Common.{◌≡◌, ℕ, ◌+◌, Bool, true, false, cond, List, [], ◌∷◌, ◌++◌, length, refl, sym, ◌∙◌, ap, subst, append-nil, inl, inr, Option, Some, None}
+use Rattle.std.specs.Prelude.{ℤ, nat_lt, Result, Ok, Err}
 use mathlib.Core.List.{IsPrefix}
 use Rattle.budget_core.specs.declared.records.View.{View}
 use Rattle.budget_core.specs.declared.records.View.TheVariants.{Whole}
@@ -17,32 +15,27 @@ use Rattle.budget_core.specs.Entries.{Entry}
 use Rattle.budget_core.specs.Cost.{cost_of}
 use Rattle.budget_core.specs.Counts.{open_from}
 use Rattle.budget_core.specs.Ledger.{money_verdict, reservation_for, reservation_numbered, next_number, cost_with, rise_of}
-use Rattle.fz_frac.specs.Distance.{Distance, Fin}
-use Rattle.fz_frac.specs.Sens.{distance_of}
+use Rattle.fz_frac.specs.Distance.{Fin}
 use Rattle.fz_ast.specs.Signature.{Signature}
-use Rattle.fz_ast.specs.Limits.{limit}
-use Rattle.fz_ast.specs.Terms.{Term, at}
-use Rattle.metric_values.specs.Tables.{IsDataset}
-use Rattle.metric_values.specs.Tables.{Dataset}
-use Rattle.metric_values.specs.Values.{NumF}
-use Rattle.std.proofs.lemmas.List.{length-map}
+use Rattle.fz_ast.specs.Terms.{Term}
+use Rattle.metric_law.specs.Means.{Means}
+use Rattle.metric_values.specs.Tables.{rows_of}
+use Rattle.metric_values.specs.Values.{NumV}
 use Rattle.wire_lines.specs.Reply.{refused}
 use Rattle.wire_lines.specs.Refusal.{ProgramRefusal, Refusal, by_line, by_program, by_money, by_number, no_memory}
 use Rattle.fz_outside.specs.Draws.{first_draws}
 use Rattle.discrete_laplace.specs.DiscreteLaplace.{draw_limit}
 use Rattle.discrete_laplace.specs.Noise.{noise_of}
 use Rattle.answer_path.specs.Reading.{read, IsReading}
-use Rattle.answer_path.specs.Judgement.{Judgement, accepted, judgement_of, IsSizeOf, HasValue}
-use Rattle.answer_path.specs.Owner.{Owner, Holding, IsHolding, IsOwnerOf, rows_held}
+use Rattle.answer_path.specs.Judgement.{Judgement, accepted, judgement_of, HasValue}
+use Rattle.answer_path.specs.Owner.{Owner, Holding, IsOwnerOf}
 use Rattle.answer_path.specs.Query.{Query}
 use Rattle.answer_path.specs.Program.{HasValueIn}
 use Rattle.answer_path.specs.Noise.{noise_at, scale_numerator, scale_denominator}
 use Rattle.answer_path.specs.Verdict.{program_refused, money_refused, granted, ask_for, money_refusal, verdict_by_money, IsVerdictBy, IsVerdict}
-use Rattle.answer_path.specs.Answered.{IsSettledBy, outcome_reply, granted_record, IsAsked}
+use Rattle.answer_path.specs.Answered.{IsSettledAt, IsSettledBy, outcome_reply, granted_record, IsAsked}
 use Rattle.answer_path.specs.Pass.{records_told, told_of_reserve}
-use Rattle.answer_path.specs.Code.{IsAnswerable, IsUnanswerableFor, IsAskRefusal}
-use Rattle.answer_path.specs.declared.size.TableSize.{TableSize}
-use Rattle.answer_path.proofs.Sizes.{size_is_rows, sized_within}
+use Rattle.answer_path.specs.Code.{IsRefusedFor, IsProgramRefusal}
 
 -- the program is accepted where it is asked, at p/q
 abbrev pub IsAcceptedAt : Signature → List ℕ → (p q : ℕ) → Type 0
@@ -60,7 +53,7 @@ money_says owner start records query p q money c is = (
 )
 
 -- a program that is refused
-pub program_says : (owner : Owner) (start : ℕ) (records : List Record) (query : Query) (refusal : ProgramRefusal) → IsUnanswerableFor owner.tables query.program refusal
+pub program_says : (owner : Owner) (start : ℕ) (records : List Record) (query : Query) (refusal : ProgramRefusal) → IsRefusedFor owner.tables query.program refusal
     → IsVerdict owner.entry owner.tables start records query (program_refused refusal)
 unfolding IsVerdict
 program_says owner start records query refusal h = (h.0, h.1, subst (λ (j : Judgement). IsVerdictBy owner.entry start records query j (program_refused refusal)) (sym h.2) refl)
@@ -69,7 +62,7 @@ self : (records : List Record) → IsPrefix records records
 self records = ([], append-nil records)
 
 -- A refusal before the budget is asked adds nothing.
-pub refused_asked : (owner : Owner) (draws : ℕ → ℕ → ℕ) (start : ℕ) (query : Query) (seen : List Record) (refusal : Refusal) → IsAskRefusal owner.tables query.program refusal
+pub refused_asked : (owner : Owner) (draws : ℕ → ℕ → ℕ) (start : ℕ) (query : Query) (seen : List Record) (refusal : Refusal) → IsProgramRefusal owner.tables query.program refusal
     → IsAsked owner draws start query seen (refused refusal) [] seen
 unfolding IsAsked
 refused_asked owner draws start query seen (by_program refusal) h = (seen, self seen, inl (program_refused refusal, program_says owner start seen query refusal h, (refl, refl, refl)))
@@ -131,45 +124,28 @@ granted_asked owner draws start query seen u after p q grant outcome c is settle
       ),
     )
 
--- a program that may be answered is charged its sensitivity
-pub answerable_accepted : (tables : Signature) (program : List ℕ) (size : TableSize) (p q : ℕ) → IsAnswerable tables program size → distance_of size.sens ≡ Fin p q → IsAcceptedAt tables program p q
-answerable_accepted tables program size p q j is = (j.term, j.reading, j.judgement ∙ ap (λ (r : Distance). accepted j.term r) is)
+-- what a settlement says of one worth it says of each that the first gives
+settlement_map : (A B : ℤ → Type 0) (noise : Option ℤ) (outcome : Outcome) → ((value : ℤ) → A value → B value) → IsSettledAt A noise outcome → IsSettledAt B noise outcome
+settlement_map A B None outcome gives is = is
+settlement_map A B (Some noise) outcome gives (inl (value, has, is)) = inl (value, gives value has, is)
+settlement_map A B (Some noise) outcome gives (inr lost) = inr lost
 
--- a dataset has rows for each table
-dataset_length : (ts : Signature) (X : Dataset) → IsDataset ts X → length X ≡ length ts
-dataset_length [] [] h = refl
-dataset_length [] (xs ∷ X) h = absurd h
-dataset_length (t ∷ ts) [] h = absurd h
-dataset_length (t ∷ ts) (xs ∷ X) h = ap (λ n. suc n) (dataset_length ts X h.1)
-
-pub table_within : (holding : Holding) (e : Term) (i : ℕ) → IsHolding holding → IsSizeOf holding.tables e i → i < length holding.numbers
-table_within holding e i h size =
-    omega (arith, sized_within holding.tables e i size, dataset_length holding.tables (rows_held holding) h.dataset, length-map holding.numbers (λ (numbers : List ℤ). map (λ z. NumF z) numbers))
-
-rows_there : (numbers : List (List ℤ)) (i : ℕ) → length (get_or (map (λ (ns : List ℤ). map (λ z. NumF z) ns) numbers) i []) ≡ length (get_or numbers i [])
-rows_there [] i = refl
-rows_there (ns ∷ numbers) zero = length-map ns (λ z. NumF z)
-rows_there (ns ∷ numbers) (suc i) = rows_there numbers i
-
--- The size of a table is how many rows it has.
-pub value_is_rows : (holding : Holding) (view : View) (program : List ℕ) (e : Term) (i n : ℕ) → IsHolding holding → view ≡ Whole → IsReading program (read e) → IsSizeOf holding.tables e i
-    → n ≡ length (get_or holding.numbers i []) → n ≤ 2 ^ 20 → HasValueIn holding.tables (rows_held holding) view program (pos n)
-value_is_rows holding view program e i n h whole reads size is few =
-    let value : HasValue holding.tables (rows_held holding) program (pos n) =
-    (size_is_rows holding.tables (rows_held holding) program e i (pos n) h.dataset reads size).1 (small n (length (get_or (rows_held holding) i [])) (rows_there holding.numbers i ∙ sym is) few) in
-    subst (λ (v : View). HasValueIn holding.tables (rows_held holding) v program (pos n)) (sym whole) value
-  where
-    small : (n m : ℕ) → m ≡ n → n ≤ 2 ^ 20 → pos n ≡ int_min limit (pos m)
-    small n m same few = omega (arith, ints, clamps)
+-- a reservation that is settled by the number of a program's term is settled by the program
+pub settled_by_term : (owner : Owner) (draws : ℕ → ℕ → ℕ) (query : Query) (number : ℕ) (e : Term) (outcome : Outcome) → query.view ≡ Whole → IsReading query.program (read e)
+    → IsSettledAt (λ value. Means (rows_of owner.tables owner.rows) e (NumV value)) (noise_at query.e (draws number)) outcome → IsSettledBy owner draws query number outcome
+unfolding HasValue
+settled_by_term owner draws query number e outcome whole reads is =
+    settlement_map (λ value. Means (rows_of owner.tables owner.rows) e (NumV value)) (HasValueIn owner.tables owner.rows query.view query.program) (noise_at query.e (draws number)) outcome
+    (λ value means. subst (λ (view : View). HasValueIn owner.tables owner.rows view query.program value) (sym whole) (e, reads, means)) is
 
 -- an owner of this entry and holding
 abbrev pub owner_with : List ℕ → Entry → Holding → Owner
-owner_with name entry holding = record { name = name; entry = entry; tables = holding.tables; rows = rows_held holding }
+owner_with name entry holding = record { name = name; entry = entry; tables = holding.tables; rows = holding.rows }
 
 pub owner_is : (entry : Entry) (holding : Holding) (owner : Owner) → IsOwnerOf entry holding owner → owner_with owner.name entry holding ≡ owner
 owner_is entry holding owner is =
     ap (λ e. owner_with owner.name e holding) (sym is.entry_is)
-    ∙ ap (λ ts. record { name = owner.name; entry = owner.entry; tables = ts; rows = rows_held holding }) (sym is.tables_are)
+    ∙ ap (λ ts. record { name = owner.name; entry = owner.entry; tables = ts; rows = holding.rows }) (sym is.tables_are)
     ∙ ap (λ X. record { name = owner.name; entry = owner.entry; tables = owner.tables; rows = X }) (sym is.rows_are)
 
 -- the noise of a number's draws is what the sampler gives for its scale
@@ -178,7 +154,3 @@ unfolding noise_at
 noise_is e p q draws words over under same =
     ap (λ (d : ℕ → ℕ). noise_of (scale_numerator e) (scale_denominator e) (first_draws draw_limit d)) (sym same)
     ∙ ap (λ t. noise_of t (scale_denominator e) (first_draws draw_limit words)) (sym over) ∙ ap (λ s. noise_of p s (first_draws draw_limit words)) (sym under)
-
--- a number of rows with noise is far from the ends of its type
-pub noisy_small : (rows : ℕ) (noise : ℤ) → rows ≤ 2 ^ 20 → unsigned_abs noise < 2 ^ 33 → unsigned_abs (pos rows +ℤ noise) < 2 ^ 63
-noisy_small rows noise few small = omega (arith, ints)

@@ -15,7 +15,6 @@ use Rattle.answer_path.specs.Reading.{read, IsReading}
 use Rattle.answer_path.specs.Judgement.{accepted, judgement_of}
 use Rattle.answer_path.specs.Laws.{ChargedHaveValues, OneValueIn}
 use Rattle.answer_path.proofs.Programs.{accepted_is, read_limits, accepted_have_values, one_value}
-use Rattle.answer_path.proofs.Sizes.{answerable_is}
 
 pub charged_have_values : ChargedHaveValues
 charged_have_values tables rows Whole program p q well are c =
@@ -41,8 +40,7 @@ lowest_of p q above one = record {
 -- An accepted program's sensitivity is finite.
 pub accepted_finite : (tables : Signature) (program : List ℕ) (e : Term) (r : Distance) → IsReading program (read e) → judgement_of tables (read e) ≡ accepted e r → is_endless r ≡ false
 accepted_finite tables program e r reads is =
-    let a = answerable_is tables e e r is in
-    let i = accepted_is tables e e r a.0 in
+    let i = accepted_is tables e e r is in
     let b = accepted_is_bounded tables e i.0 i.1 (read_limits program e reads) i.2 in
     subst (λ (d : Distance). is_endless d ≡ false) (sym i.4) (lowest_finite i.1 b.2)
   where

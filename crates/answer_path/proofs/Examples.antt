@@ -1,5 +1,6 @@
 -- The definitions, computed on small inputs.
-use Rattle.std.proofs.Common.{◌≡◌, ℕ, ◌≤◌, arith, List, [], ◌∷◌, ◌++◌, Some, None, codes, refl, sym, ◌∙◌, ap, pos, negsuc, inl, inr}
+use Rattle.std.proofs.Common.{◌≡◌, ℕ, ◌≤◌, arith, List, [], ◌∷◌, ◌++◌, Option, Some, None, codes, refl, sym, ◌∙◌, ap, subst, pos, negsuc, inl, inr}
+use Rattle.std.specs.Prelude.{ℤ, ◌+ℤ◌}
 use Rattle.budget_core.specs.declared.records.View.TheVariants.{Whole}
 use Rattle.budget_core.specs.declared.records.Outcome.TheVariants.{Answered, Exhausted, Lost}
 use Rattle.budget_core.specs.declared.records.Record.{Record}
@@ -19,30 +20,31 @@ use Rattle.discrete_laplace.specs.Noise.{noise_of}
 use Rattle.discrete_laplace.specs.Readers.{read_sample, read_attempt, read_geometric, read_bernoulli_exp, read_run, read_bernoulli, read_uniform}
 use Rattle.discrete_laplace.proofs.Fewer.{noise_of_first}
 use Rattle.linear_types.specs.Inferred as rules
+use Rattle.shape_law.specs.Walk.{TooDeep, TooLong, TooWide, depth_limit}
 use Rattle.metric_values.specs.Values.{Flat, NumF}
 use Rattle.wire_lines.specs.Reply.{answered, refused}
-use Rattle.wire_lines.specs.Refusal.{by_number, no_memory, no_token, no_term, too_nested, ill_typed, too_sensitive, out_of_range, unbounded, no_number, unread}
+use Rattle.wire_lines.specs.Refusal.{by_number, no_memory, no_token, no_term, too_nested, ill_typed, too_sensitive, out_of_range, unbounded, no_number, too_deep, too_long, too_wide}
 use Rattle.wire_lines.specs.declared.refusal.MoneyRefusal.TheVariants.{OverBudget as NoBudget, JournalFull}
 use Rattle.wire_lines.specs.declared.refusal.NumberRefusal.TheVariants.{Exhausted as NoNoise, Lost as NoAnswer}
 use Rattle.wire_lines.specs.declared.refusal.TypeFault.TheVariants.{Unbound, Mismatch, NotGround, NotFlat}
 use Rattle.answer_path.specs.Reading.{unlexed, stuck, nested, read}
-use Rattle.answer_path.specs.Judgement.{refused_for, accepted, fault_refusal, checked_of, judgement_of, IsFirstNamed, IsSizeOf, HasValue}
-use Rattle.answer_path.specs.Owner.{Owner, Holding, rows_held}
+use Rattle.answer_path.specs.Judgement.{refused_for, accepted, fault_refusal, shape_refusal, judgement_of, HasValue}
+use Rattle.answer_path.specs.Owner.{Owner}
 use Rattle.answer_path.specs.Query.{Query}
 use Rattle.answer_path.specs.Program.{IsCharged, HasValueIn}
 use Rattle.answer_path.specs.Noise.{scale_numerator, scale_denominator, noise_at}
 use Rattle.answer_path.specs.Verdict.{program_refused, money_refused, granted, ask_for, money_refusal, IsVerdict}
-use Rattle.answer_path.specs.Answered.{settled_by, outcome_reply, grant_records, IsAsked}
+use Rattle.answer_path.specs.Answered.{IsSettledAt, IsSettledBy, HasSmallAnswer, answer_limit, outcome_reply, grant_records, IsAsked}
 use Rattle.answer_path.specs.Pass.{first_of_run, told_behind, records_told}
 use Rattle.answer_path.proofs.Answering.{IsAcceptedAt, money_says, noise_is}
 use Rattle.answer_path.proofs.Scales.{scale_is}
 use Rattle.answer_path.proofs.SizePeople.{size_people, size_term, size_reads, span}
 
 -- two tables, of numbers and of texts
-abbrev people : TableType
+abbrev pub people : TableType
 people = record { name = codes "people"; row = row_of NumT [] }
 
-abbrev words : TableType
+abbrev pub words : TableType
 words = record { name = codes "words"; row = row_of TextT [] }
 
 -- What each fault of the typing rules is told by.
@@ -74,67 +76,49 @@ unbounded_is = refl
 no_number_is : fault_refusal (rules.NotNum TextT) ≡ no_number
 no_number_is = refl
 
+-- What each limit of the run without data is told by.
+too_deep_is : shape_refusal (TooDeep (span 3 9)) ≡ too_deep 3 9
+too_deep_is = refl
+
+too_long_is : shape_refusal (TooLong (span 0 4)) ≡ too_long 0 4
+too_long_is = refl
+
+too_wide_is : shape_refusal (TooWide (span 5 9) 65) ≡ too_wide 5 9 65
+too_wide_is = refl
+
 -- What a program comes to.
-unlexed_is : checked_of [] (unlexed 12) ≡ refused_for (no_token 12)
-unfolding checked_of
+unlexed_is : judgement_of [] (unlexed 12) ≡ refused_for (no_token 12)
+unfolding judgement_of
 unlexed_is = refl
 
-stuck_is : checked_of [] (stuck 3) ≡ refused_for (no_term 3)
-unfolding checked_of
+stuck_is : judgement_of [] (stuck 3) ≡ refused_for (no_term 3)
+unfolding judgement_of
 stuck_is = refl
 
-nested_is : checked_of [] (nested 65) ≡ refused_for (too_nested 65)
-unfolding checked_of
+nested_is : judgement_of [] (nested 65) ≡ refused_for (too_nested 65)
+unfolding judgement_of
 nested_is = refl
 
-size_checked : checked_of (people ∷ []) (read size_term) ≡ accepted size_term (Fin 1 1)
-unfolding checked_of gcd gcd_in
-size_checked = refl
-
--- it is answered where it is asked, and a number isn't yet
-size_judged : judgement_of (people ∷ []) (read size_term) ≡ accepted size_term (Fin 1 1)
-unfolding checked_of gcd gcd_in
+pub size_judged : judgement_of (people ∷ []) (read size_term) ≡ accepted size_term (Fin 1 1)
+unfolding judgement_of depth_limit gcd gcd_in
 size_judged = refl
 
-number_checked : checked_of (people ∷ []) (read (at (span 0 1) (NumE (pos 1)))) ≡ accepted (at (span 0 1) (NumE (pos 1))) (Fin 0 1)
-unfolding checked_of gcd gcd_in
-number_checked = refl
-
-number_judged : judgement_of (people ∷ []) (read (at (span 0 1) (NumE (pos 1)))) ≡ refused_for (unread 0 1)
-unfolding checked_of gcd gcd_in
+number_judged : judgement_of (people ∷ []) (read (at (span 0 1) (NumE (pos 1)))) ≡ accepted (at (span 0 1) (NumE (pos 1))) (Fin 0 1)
+unfolding judgement_of depth_limit gcd gcd_in
 number_judged = refl
 
 -- without its table the name is unbound, and a table alone is no number
-no_table : judgement_of (words ∷ []) (read size_term) ≡ refused_for (ill_typed Unbound 5 11)
-unfolding checked_of
+pub no_table : judgement_of (words ∷ []) (read size_term) ≡ refused_for (ill_typed Unbound 5 11)
+unfolding judgement_of
 no_table = refl
 
 table_alone : judgement_of (people ∷ []) (read (at (span 0 6) (VarE (codes "people")))) ≡ refused_for no_number
-unfolding checked_of gcd gcd_in
+unfolding judgement_of gcd gcd_in
 table_alone = refl
 
--- the first table of the name
-second_table : IsSizeOf (words ∷ people ∷ people ∷ []) size_term 1
-second_table = record {
-  span = span 0 11;
-  name_span = span 5 11;
-  name = codes "people";
-  is = refl;
-  first = record { table = people; at = refl; named = refl; before = (refl, tt) };
-}
-
-not_the_later : IsFirstNamed (people ∷ people ∷ []) (codes "people") 1 → ⊥
-not_the_later h = cc (h.before.0)
-
 -- the value of the size is how many rows that table has
-abbrev holding : Holding
-holding = record { tables = people ∷ []; numbers = (pos 20 ∷ pos 30 ∷ pos 40 ∷ []) ∷ [] }
-
-abbrev rows : List Flat
+abbrev pub rows : List Flat
 rows = NumF (pos 20) ∷ NumF (pos 30) ∷ NumF (pos 40) ∷ []
-
-rows_are : rows_held holding ≡ rows ∷ []
-rows_are = refl
 
 three_value : HasValueIn (people ∷ []) (rows ∷ []) Whole size_people (pos 3)
 unfolding HasValue
@@ -162,7 +146,7 @@ unfolding gcd gcd_in
 scale_at_greatest = scale_is 1 1000 1000000000 (record { least = omega arith; most = omega arith }) (omega arith) refl (record { le = record { le = omega arith }; ge = record { le = omega arith } })
 
 -- draws of one of exp(-1) and a negative sign: at epsilon 1 their noise is -1
-abbrev draws_of_minus_one : ℕ → ℕ
+abbrev pub draws_of_minus_one : ℕ → ℕ
 draws_of_minus_one = padded (0 ∷ 0 ∷ 0 ∷ 0 ∷ 1 ∷ 0 ∷ 1 ∷ 0 ∷ [])
 
 in_front : noise_of 1 1 (first_draws 8 draws_of_minus_one) ≡ Some (negsuc 0)
@@ -178,17 +162,43 @@ minus_one =
     noise_is 1000000 1 1 draws_of_minus_one draws_of_minus_one scale_at_one.0 scale_at_one.1 refl
     ∙ (noise_of_first 1 1 8 draws_of_minus_one (negsuc 0) within_limit in_front).0
 
--- How a reservation is settled, and what is said of it.
-answer_settles : settled_by (pos 3) (Some (negsuc 0)) ≡ Answered (pos 2)
-answer_settles = refl
+-- How a reservation may be settled: a noisy value where there is noise, or as lost.
+abbrev is_three : ℤ → Type 0
+is_three value = value ≡ pos 3
 
-below_zero : settled_by (pos 0) (Some (negsuc 4)) ≡ Answered (negsuc 4)
-below_zero = refl
+answer_settles : IsSettledAt is_three (Some (negsuc 0)) (Answered (pos 2))
+answer_settles = inl (pos 3, refl, refl)
 
-no_noise_settles : settled_by (pos 3) None ≡ Exhausted
+below_zero : IsSettledAt is_three (Some (negsuc 4)) (Answered (negsuc 1))
+below_zero = inl (pos 3, refl, refl)
+
+lost_settles : IsSettledAt is_three (Some (negsuc 0)) Lost
+lost_settles = inr refl
+
+no_noise_settles : IsSettledAt is_three None Exhausted
 no_noise_settles = refl
 
-abbrev a_grant : (number taken seen : ℕ) → Grant
+-- neither by another value, nor as exhausted where there is noise, nor otherwise where there is none
+not_the_value : IsSettledAt is_three (Some (negsuc 0)) (Answered (pos 3)) → ⊥
+not_the_value (inl (value, is, sum)) =
+    let same : pos 3 ≡ pos 2 = cc (answered_alike (pos 3) (value +ℤ negsuc 0) sum ∙ ap (λ v. v +ℤ negsuc 0) is) in cc (same)
+  where
+    answered_alike : (a b : ℤ) → Answered a ≡ Answered b → a ≡ b
+    answered_alike a b is = cc is
+not_the_value (inr lost) = absurd (cc lost)
+
+not_exhausted : IsSettledAt is_three (Some (negsuc 0)) Exhausted → ⊥
+not_exhausted (inl (value, is, sum)) = absurd (cc sum)
+not_exhausted (inr lost) = absurd (cc lost)
+
+not_answered : IsSettledAt is_three None (Answered (pos 3)) → ⊥
+not_answered is = absurd (cc is)
+
+not_lost : IsSettledAt is_three None Lost → ⊥
+not_lost is = absurd (cc is)
+
+-- what is said of an outcome
+abbrev pub a_grant : (number taken seen : ℕ) → Grant
 a_grant number taken seen = record { number = number; taken = taken; seen = seen }
 
 answer_is : outcome_reply (a_grant 4 7 9) (Answered (negsuc 0)) ≡ answered 4 (negsuc 0) 7
@@ -200,17 +210,36 @@ exhausted_is = refl
 lost_is : outcome_reply (a_grant 4 7 9) Lost ≡ refused (by_number (NoAnswer 4))
 lost_is = refl
 
+-- an answer is within 2^50 + 2^33 on both sides; what is no answer is within every limit
+limit_is : answer_limit ≡ 1125908496777216
+limit_is = refl
+
+just_small : HasSmallAnswer (answered 4 (pos 1125908496777216) 7)
+just_small = omega arith
+
+just_small_below : HasSmallAnswer (answered 4 (negsuc 1125908496777215) 7)
+just_small_below = omega arith
+
+not_small : HasSmallAnswer (answered 4 (pos 1125908496777217) 7) → ⊥
+not_small h = omega (arith, h)
+
+not_small_below : HasSmallAnswer (answered 4 (negsuc 1125908496777216) 7) → ⊥
+not_small_below h = omega (arith, h)
+
+refusal_is_small : HasSmallAnswer (refused (by_number (NoAnswer 4)))
+refusal_is_small = tt
+
 -- an ask carries the query's analyst, view and epsilon, and a reservation the ask's
-abbrev a_query : List ℕ → Query
+abbrev pub a_query : List ℕ → Query
 a_query program = record { owner = 2; analyst = 5; view = Whole; e = 1000000; program = program }
 
-abbrev an_ask : Ask
+abbrev pub an_ask : Ask
 an_ask = record { analyst = 5; view = Whole; e = 1000000; p = 1; q = 1 }
 
 ask_is : ask_for (a_query size_people) 1 1 ≡ an_ask
 ask_is = refl
 
-abbrev reserved : ℕ → Record
+abbrev pub reserved : ℕ → Record
 reserved number = Reserve (record { number = number; view = Whole; e = 1000000; p = 1; q = 1; taken = 1000000; analyst = 5 })
 
 records_are : grant_records an_ask (a_grant 4 1000000 9) Exhausted ≡ reserved 4 ∷ Settle 4 Exhausted ∷ []
@@ -223,7 +252,7 @@ over_is = refl
 full_is : money_refusal (Full 1 2 3) ≡ JournalFull 1 2 3
 full_is = refl
 
-abbrev owner : (budget capacity : ℕ) → Owner
+abbrev pub owner : (budget capacity : ℕ) → Owner
 owner budget capacity = record {
   name = codes "census";
   entry = record { budget = budget; capacity = capacity; analysts = 6; keys = [] };
@@ -231,11 +260,11 @@ owner budget capacity = record {
   rows = rows ∷ [];
 }
 
-size_accepted : IsAcceptedAt (people ∷ []) size_people 1 1
+pub size_accepted : IsAcceptedAt (people ∷ []) size_people 1 1
 size_accepted = (size_term, size_reads, size_judged)
 
 charged : IsCharged (people ∷ []) Whole size_people 1 1
-charged = (size_term, size_reads, size_checked)
+charged = (size_term, size_reads, size_judged)
 
 just_enough : IsVerdict (owner 1000000 2).entry (people ∷ []) 0 [] (a_query size_people) (granted an_ask (a_grant 0 1000000 1))
 unfolding cost_of partition_cost
@@ -249,8 +278,16 @@ no_room : IsVerdict (owner 2000000 3).entry (people ∷ []) 0 (reserved 0 ∷ Se
 unfolding cost_of partition_cost
 no_room = money_says (owner 2000000 3) 0 (reserved 0 ∷ Settle 0 Exhausted ∷ []) (a_query size_people) 1 1 _ size_accepted refl
 
+-- the program's value and the noise settle its reservation, and so does want of memory
+pub settled_by_three : noise_at 1000000 draws_of_minus_one ≡ Some (negsuc 0) → IsSettledBy (owner 9000000 100) (λ number. draws_of_minus_one) (a_query size_people) 1 (Answered (pos 2))
+settled_by_three noise =
+    subst (λ (k : Option ℤ). IsSettledAt (HasValueIn (people ∷ []) (rows ∷ []) Whole size_people) k (Answered (pos 2))) (sym noise) (inl (pos 3, three_value, refl))
+
+pub settled_as_lost : IsSettledBy (owner 9000000 100) (λ number. draws_of_minus_one) (a_query size_people) 1 Lost
+settled_as_lost = subst (λ (k : Option ℤ). IsSettledAt (HasValueIn (people ∷ []) (rows ∷ []) Whole size_people) k Lost) (sym minus_one) (inr refl)
+
 -- A line that saw nothing, where another line reserved and settled before it, and a third reserves meanwhile.
-abbrev before : List Record
+abbrev pub before : List Record
 before = reserved 0 ∷ Settle 0 Exhausted ∷ []
 
 abbrev meanwhile : List Record
@@ -268,7 +305,29 @@ asked_among_others = (
     record {
       outcome = Answered (pos 2);
       u = meanwhile;
-      settled = (pos 3, three_value, ap (settled_by (pos 3)) (sym minus_one));
+      settled = settled_by_three minus_one;
+      reserved = (reserved 2 ∷ [], refl);
+      reply_is = refl;
+      told_is = refl;
+      after_is = refl;
+    },
+  ),
+)
+
+-- the same line where memory ran out after its reservation
+asked_and_lost : IsAsked (owner 9000000 100) (λ number. draws_of_minus_one) 0 (a_query size_people) [] (refused (by_number (NoAnswer 1)))
+    ((2, reserved 1) ∷ (4, Settle 1 Lost) ∷ []) (meanwhile ++ Settle 1 Lost ∷ [])
+unfolding IsAsked cost_of partition_cost
+asked_and_lost = (
+  before,
+  (before, refl),
+  inl (
+    granted an_ask (a_grant 1 1000000 3),
+    money_says (owner 9000000 100) 0 before (a_query size_people) 1 1 _ size_accepted refl,
+    record {
+      outcome = Lost;
+      u = meanwhile;
+      settled = settled_as_lost;
       reserved = (reserved 2 ∷ [], refl);
       reply_is = refl;
       told_is = refl;

@@ -1,6 +1,6 @@
 -- Which refusal each fault is told by.
-use Rattle.std.proofs.Common.{◌≡◌, ℕ, zero, suc, List, [], ◌∷◌, refl, sym, ap, subst, slice_get, Some, inl, inr}
-use Rattle.std.specs.Prelude.{IsTrue, IfErr, Result, Err}
+use Rattle.std.proofs.Common.{◌≡◌, ℕ, zero, suc, List, [], ◌∷◌, refl, sym, ◌∙◌, ap, subst, slice_get, Some, inl, inr}
+use Rattle.std.specs.Prelude.{IsTrue}
 use Rattle.std.proofs.lemmas.Option.{slice_get_within, same_Some}
 use Rattle.fz_frac.specs.Sens.{distance_of}
 use Rattle.fz_ast.specs.Signature.{Signature, TableType}
@@ -19,11 +19,15 @@ use Rattle.sensitivity_check.specs.declared.fault.CheckFault.{CheckFault}
 use Rattle.sensitivity_check.specs.declared.fault.CheckFault.TheVariants.{Unbound, Mismatch, NotGround, NotFlat, TooSensitive, Range, Unbounded, NotNum, NoMemory as NoPlace}
 use Rattle.sensitivity_check.specs.Answered.{IsChecked, IsFirstFault}
 use Rattle.wire_lines.specs.Name.{is_name}
-use Rattle.wire_lines.specs.Refusal.{Refusal, by_program, refusal_at}
-use Rattle.wire_lines.specs.declared.refusal.Refusal.{Refusal as RefusalAt}
+use Rattle.shape_law.specs.Walk.{shape}
+use Rattle.shape_run.specs.declared.plan.Plan.{Plan}
+use Rattle.shape_run.specs.declared.plan.ShapeFault.{ShapeFault}
+use Rattle.shape_run.specs.declared.plan.ShapeFault.TheVariants.{TooDeep, TooLong, TooWide, NoMemory as NoCell}
+use Rattle.shape_run.specs.Plans.{IsPlanOf, IsStopOf}
+use Rattle.wire_lines.specs.Refusal.{Refusal, by_line, by_program, by_money, by_number, no_memory}
 use Rattle.answer_path.specs.Reading.{unlexed, stuck, nested, read, IsReading}
-use Rattle.answer_path.specs.Judgement.{accepted, checked_of, judged_by, fault_refusal, AreNames}
-use Rattle.answer_path.specs.Code.{IsProgramRefusal, lex_refusal, parse_refusal, HasTable, TellsFault}
+use Rattle.answer_path.specs.Judgement.{accepted, judgement_of, judged_by, shaped_by, fault_refusal, AreNames}
+use Rattle.answer_path.specs.Code.{IsProgramRefusal, IsTermRefusal, lex_refusal, parse_refusal, limit_refusal, HasTable, TellsFault}
 
 -- a table's name can be said in a reply
 pub named : (ts : Signature) (i : ℕ) (t : TableType) → AreNames ts → slice_get ts i ≡ Some t → IsTrue (is_name t.name)
@@ -32,7 +36,7 @@ named (u ∷ ts) zero t h e = subst (λ x. IsTrue (is_name x.name)) (same_Some u
 named (u ∷ ts) (suc i) t h e = named ts i t h.1 e
 
 pub unlexed_refused : (w : List ℕ) (fault : LexFault) (refusal : Refusal) → ExplainsLex w fault → refusal ≡ lex_refusal fault → (ts : Signature) → IsProgramRefusal ts w refusal
-unfolding IsReading checked_of
+unfolding IsReading judgement_of
 unlexed_refused w fault refusal h e ts = subst (λ x. IsProgramRefusal ts w x) (sym e) (go fault h)
   where
     go : (fault : LexFault) → ExplainsLex w fault → IsProgramRefusal ts w (lex_refusal fault)
@@ -45,7 +49,7 @@ unfolding IsReading
 is_read w us e h k = (us, h, k)
 
 pub unparsed_refused : (w : List ℕ) (us : List Token) (fault : ParseFault) (refusal : Refusal) → IsLexed w us → ExplainsParse us fault → refusal ≡ parse_refusal fault → (ts : Signature) → IsProgramRefusal ts w refusal
-unfolding IsReading checked_of
+unfolding IsReading judgement_of
 unparsed_refused w us fault refusal l h e ts = subst (λ x. IsProgramRefusal ts w x) (sym e) (go fault h)
   where
     go : (fault : ParseFault) → ExplainsParse us fault → IsProgramRefusal ts w (parse_refusal fault)
@@ -53,20 +57,20 @@ unparsed_refused w us fault refusal l h e ts = subst (λ x. IsProgramRefusal ts 
     go (TooNested d) h = (nested d, (us, l, h), refl)
     go NoSpace h = tt
 
-rejected : (ts : Signature) (w : List ℕ) (e : Term) (f : Fault) (refusal : Refusal) → IsReading w (read e) → sensitivity_of ts e ≡ Rejected f → refusal ≡ by_program (fault_refusal f) → IsProgramRefusal ts w refusal
-unfolding checked_of
-rejected ts w e f refusal h k r = subst (λ x. IsProgramRefusal ts w x) (sym r) (read e, h, ap (judged_by e) k)
+rejected : (ts : Signature) (e : Term) (f : Fault) (refusal : Refusal) → sensitivity_of ts e ≡ Rejected f → refusal ≡ by_program (fault_refusal f) → IsTermRefusal ts e refusal
+unfolding judgement_of
+rejected ts e f refusal k r = subst (λ x. IsTermRefusal ts e x) (sym r) (ap (judged_by ts e) k)
 
-pub fault_refused : (ts : Signature) (w : List ℕ) (e : Term) (fault : CheckFault) (refusal : Refusal) → IsReading w (read e) → IsFirstFault ts e fault → TellsFault ts fault refusal → IsProgramRefusal ts w refusal
-fault_refused ts w e (Unbound s) refusal h k r = rejected ts w e k.0 refusal h k.1 (r k.0 k.2)
-fault_refused ts w e (Mismatch s T t u) refusal h k r = rejected ts w e k.0 refusal h k.1 (r k.0 k.2)
-fault_refused ts w e (NotGround s) refusal h k r = rejected ts w e k.0 refusal h k.1 (r k.0 k.2)
-fault_refused ts w e (NotFlat s) refusal h k r = rejected ts w e k.0 refusal h k.1 (r k.0 k.2)
-fault_refused ts w e (TooSensitive s x d) refusal h k r = rejected ts w e k.0 refusal h k.1 (r k.0 k.2)
-fault_refused ts w e (Range s) refusal h k r = rejected ts w e k.0 refusal h k.1 (r k.0 k.2)
-fault_refused ts w e (Unbounded i) refusal h k r = rejected ts w e k.0 refusal h k.1 (r k.0 k.2)
-fault_refused ts w e (NotNum T t) refusal h k r = rejected ts w e k.0 refusal h k.1 (r k.0 k.2)
-fault_refused ts w e NoPlace refusal h k r = subst (λ x. IsProgramRefusal ts w x) (sym r) tt
+pub fault_refused : (ts : Signature) (e : Term) (fault : CheckFault) (refusal : Refusal) → IsFirstFault ts e fault → TellsFault ts fault refusal → IsTermRefusal ts e refusal
+fault_refused ts e (Unbound s) refusal k r = rejected ts e k.0 refusal k.1 (r k.0 k.2)
+fault_refused ts e (Mismatch s T t u) refusal k r = rejected ts e k.0 refusal k.1 (r k.0 k.2)
+fault_refused ts e (NotGround s) refusal k r = rejected ts e k.0 refusal k.1 (r k.0 k.2)
+fault_refused ts e (NotFlat s) refusal k r = rejected ts e k.0 refusal k.1 (r k.0 k.2)
+fault_refused ts e (TooSensitive s x d) refusal k r = rejected ts e k.0 refusal k.1 (r k.0 k.2)
+fault_refused ts e (Range s) refusal k r = rejected ts e k.0 refusal k.1 (r k.0 k.2)
+fault_refused ts e (Unbounded i) refusal k r = rejected ts e k.0 refusal k.1 (r k.0 k.2)
+fault_refused ts e (NotNum T t) refusal k r = rejected ts e k.0 refusal k.1 (r k.0 k.2)
+fault_refused ts e NoPlace refusal k r = subst (λ x. IsTermRefusal ts e x) (sym r) tt
 
 pub has_table : (ts : Signature) (e : Term) (fault : CheckFault) → IsFirstFault ts e fault → HasTable ts fault
 has_table ts e (Unbound s) k = tt
@@ -79,10 +83,28 @@ has_table ts e (Unbounded i) k = slice_get_within ts i k.2.0 k.2.1
 has_table ts e (NotNum T t) k = tt
 has_table ts e NoPlace k = tt
 
-pub checked_accepted : (ts : Signature) (e : Term) (checked : Checked) → IsChecked ts e checked → checked_of ts (read e) ≡ accepted e (distance_of checked.sens)
-unfolding checked_of
-checked_accepted ts e checked h = cc (ap (judged_by e) h.accepted, h.sens)
+-- an accepted term comes to what its run without data comes to
+pub by_shape : (ts : Signature) (e : Term) (checked : Checked) → IsChecked ts e checked → judgement_of ts (read e) ≡ shaped_by e (distance_of checked.sens) (shape ts e)
+unfolding judgement_of
+by_shape ts e checked h = ap (judged_by ts e) h.accepted ∙ ap (λ r. shaped_by e r (shape ts e)) (sym h.sens)
 
--- an error that is passed on
-pub passed_on : {T : Type 0} (ts : Signature) (w : List ℕ) (r : Result T RefusalAt) (x y : RefusalAt) → r ≡ Err x → x ≡ y → IsProgramRefusal ts w (refusal_at y) → IfErr r (λ refusal. IsProgramRefusal ts w (refusal_at refusal))
-passed_on ts w r x y e f h = rw (e, f) h
+pub planned_accepted : (ts : Signature) (e : Term) (checked : Checked) (plan : Plan) → IsChecked ts e checked → IsPlanOf ts e plan → judgement_of ts (read e) ≡ accepted e (distance_of checked.sens)
+planned_accepted ts e checked plan h p = by_shape ts e checked h ∙ ap (shaped_by e (distance_of checked.sens)) p.1
+
+pub stopped_refused : (ts : Signature) (e : Term) (checked : Checked) (fault : ShapeFault) (refusal : Refusal) → IsChecked ts e checked → IsStopOf ts e fault → refusal ≡ limit_refusal fault
+    → IsTermRefusal ts e refusal
+stopped_refused ts e checked fault refusal h p r = subst (λ x. IsTermRefusal ts e x) (sym r) (go fault p)
+  where
+    go : (fault : ShapeFault) → IsStopOf ts e fault → IsTermRefusal ts e (limit_refusal fault)
+    go (TooDeep s) p = by_shape ts e checked h ∙ ap (shaped_by e (distance_of checked.sens)) p
+    go (TooLong s) p = by_shape ts e checked h ∙ ap (shaped_by e (distance_of checked.sens)) p
+    go (TooWide s w) p = by_shape ts e checked h ∙ ap (shaped_by e (distance_of checked.sens)) p
+    go NoCell p = tt
+
+-- the refusal of a program's term is the program's
+pub term_refused : (ts : Signature) (w : List ℕ) (e : Term) (refusal : Refusal) → IsReading w (read e) → IsTermRefusal ts e refusal → IsProgramRefusal ts w refusal
+term_refused ts w e (by_program refusal) h k = (read e, h, k)
+term_refused ts w e no_memory h k = tt
+term_refused ts w e (by_line refusal) h k = absurd k
+term_refused ts w e (by_money refusal) h k = absurd k
+term_refused ts w e (by_number refusal) h k = absurd k

@@ -1,5 +1,6 @@
 -- the reply to a query, and the records that it adds
-use Rattle.std.specs.Prelude.{◌≡◌, ℕ, ℤ, ◌+ℤ◌, List, [], ◌∷◌, ◌++◌, length, Option, Some, None, ◌⊎◌}
+use Rattle.std.specs.Prelude.{◌≡◌, ℕ, ◌+◌, ◌^◌, ◌≤◌, ℤ, ◌+ℤ◌, unsigned_abs, List, [], ◌∷◌, ◌++◌, length}
+use Rattle.std.specs.Prelude.{Option, Some, None, ◌⊎◌, ⊤}
 use mathlib.Core.List.{IsPrefix}
 use Rattle.budget_core.specs.declared.records.Outcome.{Outcome}
 use Rattle.budget_core.specs.declared.records.Outcome.TheVariants.{Answered, Exhausted, Lost}
@@ -17,21 +18,30 @@ use Rattle.answer_path.specs.Program.{HasValueIn}
 use Rattle.answer_path.specs.Noise.{noise_at}
 use Rattle.answer_path.specs.Verdict.{Verdict, program_refused, money_refused, granted, IsVerdict}
 
--- how a reservation is settled, by its program's value and its noise
-abbrev pub settled_by : ℤ → Option ℤ → Outcome
-settled_by value (Some noise) = Answered (value +ℤ noise)
-settled_by value None = Exhausted
+-- How a reservation may be settled, by what its program is worth and its noise: where the draws don't suffice there is no
+-- noise, and else there is the value plus the noise, or memory ran out before it was known.
+abbrev pub IsSettledAt : (HasWorth : ℤ → Type 0) → Option ℤ → Outcome → Type 0
+IsSettledAt HasWorth None outcome = outcome ≡ Exhausted
+IsSettledAt HasWorth (Some noise) outcome = ((value : ℤ) × HasWorth value × (outcome ≡ Answered (value +ℤ noise))) ⊎ (outcome ≡ Lost)
 
--- this owner's reservation of this number is settled so; the owner's numbers have these draws
+-- this owner's reservation of this number may be settled so; the owner's numbers have these draws
 abbrev pub IsSettledBy : Owner → (ℕ → ℕ → ℕ) → Query → ℕ → Outcome → Type 0
 IsSettledBy owner draws query number outcome =
-    (value : ℤ) × HasValueIn owner.tables owner.rows query.view query.program value
-    × (outcome ≡ settled_by value (noise_at query.e (draws number)))
+    IsSettledAt (HasValueIn owner.tables owner.rows query.view query.program) (noise_at query.e (draws number)) outcome
 
 abbrev pub outcome_reply : Grant → Outcome → Replied
 outcome_reply grant (Answered value) = answered grant.number value grant.taken
 outcome_reply grant Exhausted = refused (by_number (NoNoise grant.number))
 outcome_reply grant Lost = refused (by_number (NoAnswer grant.number))
+
+-- how far from 0 an answer may be: a number is within 2^50, and noise within 2^33
+abbrev pub answer_limit : ℕ
+answer_limit = 2 ^ 50 + 2 ^ 33
+
+-- an answer is within the limit
+abbrev pub HasSmallAnswer : Replied → Type 0
+HasSmallAnswer (answered number value taken) = unsigned_abs value ≤ answer_limit
+HasSmallAnswer reply = ⊤
 
 -- the reservation that was granted
 abbrev pub granted_record : Ask → Grant → Record

@@ -1,14 +1,10 @@
 -- What the code's answers mean.
-use Rattle.std.specs.Prelude.{◌≡◌, ◌<◌, ◌≤◌, ℕ, List, length, Option, Some, None, ⊤}
+use Rattle.std.specs.Prelude.{◌≡◌, ◌<◌, ◌≤◌, ℕ, List, length, ⊤}
 use Rattle.budget_core.specs.Entries.{Entry, IsEpsilon}
 use Rattle.budget_core.specs.declared.records.View.TheVariants.{Whole}
 use Rattle.fz_frac.specs.Sens.{distance_of}
 use Rattle.fz_ast.specs.Signature.{Signature}
-use Rattle.fz_ast.specs.Terms.{Term, at}
-use Rattle.fz_ast.specs.declared.name.Name.{Name}
-use Rattle.fz_ast.specs.declared.term.Form.{Form}
-use Rattle.fz_ast.specs.declared.term.Form.TheVariants.{Var, Unary}
-use Rattle.fz_ast.specs.declared.term.Unary.TheVariants.{Size}
+use Rattle.fz_ast.specs.Terms.{Term}
 use Rattle.fz_lexer.specs.declared.token.LexFault.{LexFault}
 use Rattle.fz_lexer.specs.declared.token.LexFault.TheVariants.{Bad, TooManyTokens, NoMemory as NoRoom}
 use Rattle.fz_parser.specs.declared.fault.ParseFault.{ParseFault}
@@ -16,22 +12,25 @@ use Rattle.fz_parser.specs.declared.fault.ParseFault.TheVariants.{Stuck, TooNest
 use Rattle.linear_types.specs.Inferred.{Fault}
 use Rattle.sensitivity_check.specs.declared.fault.CheckFault.{CheckFault}
 use Rattle.sensitivity_check.specs.declared.fault.CheckFault.TheVariants.{Unbounded, NoMemory as NoPlace}
-use Rattle.sensitivity_check.specs.Answered.{IsCheckFault}
-use Rattle.wire_lines.specs.Refusal.{ProgramRefusal, no_token, no_term, too_nested, Refusal, by_program, no_memory}
+use Rattle.sensitivity_check.specs.Answered.{IsChecked, IsCheckFault}
+use Rattle.shape_run.specs.declared.plan.ShapeFault.{ShapeFault}
+use Rattle.shape_run.specs.declared.plan.ShapeFault.TheVariants.{TooDeep, TooLong, TooWide, NoMemory as NoCell}
+use Rattle.shape_run.specs.Plans.{IsPlanOf}
+use Rattle.wire_lines.specs.Refusal.{ProgramRefusal, no_token, no_term, too_nested, too_deep, too_long, too_wide, Refusal, by_program, no_memory}
 use Rattle.answer_path.specs.Reading.{Reading, read, IsReading}
-use Rattle.answer_path.specs.Judgement.{refused_for, accepted, checked_of, judgement_of, fault_refusal, IsSizeOf}
+use Rattle.answer_path.specs.Judgement.{refused_for, accepted, judgement_of, fault_refusal}
 use Rattle.answer_path.specs.Query.{Query}
 use Rattle.answer_path.specs.declared.program.Accepted.{Accepted}
+use Rattle.answer_path.specs.declared.program.Judged.{Judged}
 use Rattle.answer_path.specs.declared.query.Query.{Query as QueryAt}
-use Rattle.answer_path.specs.declared.size.TableSize.{TableSize}
 
 -- the program is this term, which is accepted with this sensitivity
 abbrev pub IsAccepted : Signature → List ℕ → Accepted → Type 0
-IsAccepted ts program a = IsReading program (read a.term) × (checked_of ts (read a.term) ≡ accepted a.term (distance_of a.sens))
+IsAccepted ts program a = IsReading program (read a.term) × (judgement_of ts (read a.term) ≡ accepted a.term (distance_of a.sens))
 
--- by the typing rules the program is refused for this
+-- the program is refused for this
 abbrev pub IsRefusedFor : Signature → List ℕ → ProgramRefusal → Type 0
-IsRefusedFor ts program refusal = (reading : Reading) × IsReading program reading × (checked_of ts reading ≡ refused_for refusal)
+IsRefusedFor ts program refusal = (reading : Reading) × IsReading program reading × (judgement_of ts reading ≡ refused_for refusal)
 
 -- the same of any refusal; memory may run out at any program
 abbrev pub IsProgramRefusal : Signature → List ℕ → Refusal → Type 0
@@ -39,32 +38,17 @@ IsProgramRefusal ts program (by_program refusal) = IsRefusedFor ts program refus
 IsProgramRefusal ts program no_memory = ⊤
 IsProgramRefusal ts program refusal = ⊥
 
--- where it is asked, the program is accepted with this sensitivity, and is the size of this table
-pub record IsAnswerable (ts : Signature) (program : List ℕ) (size : TableSize) : Type 0 where
-  pub term : Term
-  pub reading : IsReading program (read term)
-  pub judgement : judgement_of ts (read term) ≡ accepted term (distance_of size.sens)
-  pub table : IsSizeOf ts term size.table
+-- The term is accepted with this sensitivity, and this is the plan of its run without data.
+pub record IsJudged (ts : Signature) (e : Term) (judged : Judged) : Type 0 where
+  pub checked : IsChecked ts e judged.checked
+  pub planned : IsPlanOf ts e judged.plan
+  pub accepts : judgement_of ts (read e) ≡ accepted e (distance_of judged.checked.sens)
 
--- where it is asked, the program is refused for this
-abbrev pub IsUnanswerableFor : Signature → List ℕ → ProgramRefusal → Type 0
-IsUnanswerableFor ts program refusal = (reading : Reading) × IsReading program reading × (judgement_of ts reading ≡ refused_for refusal)
-
--- the same of any refusal
-abbrev pub IsAskRefusal : Signature → List ℕ → Refusal → Type 0
-IsAskRefusal ts program (by_program refusal) = IsUnanswerableFor ts program refusal
-IsAskRefusal ts program no_memory = ⊤
-IsAskRefusal ts program refusal = ⊥
-
--- the part of `size e`, by its number
-abbrev pub part_of_size : Form → Option ℕ
-part_of_size (Unary Size part) = Some part
-part_of_size form = None
-
--- the name that a form is
-abbrev pub name_of_form : Form → Option Name
-name_of_form (Var name) = Some name
-name_of_form form = None
+-- a program that is this term is refused for this; memory may run out at any term
+abbrev pub IsTermRefusal : Signature → Term → Refusal → Type 0
+IsTermRefusal ts e (by_program refusal) = judgement_of ts (read e) ≡ refused_for refusal
+IsTermRefusal ts e no_memory = ⊤
+IsTermRefusal ts e refusal = ⊥
 
 -- 20, or want of memory
 abbrev pub lex_refusal : LexFault → Refusal
@@ -77,6 +61,13 @@ abbrev pub parse_refusal : ParseFault → Refusal
 parse_refusal (Stuck token) = by_program (no_term token)
 parse_refusal (TooNested depth) = by_program (too_nested depth)
 parse_refusal NoSpace = no_memory
+
+-- 35 to 37, or want of memory
+abbrev pub limit_refusal : ShapeFault → Refusal
+limit_refusal (TooDeep s) = by_program (too_deep s.from s.to)
+limit_refusal (TooLong s) = by_program (too_long s.from s.to)
+limit_refusal (TooWide s width) = by_program (too_wide s.from s.to width)
+limit_refusal NoCell = no_memory
 
 -- the token's number is one of a program's
 abbrev pub HasPlace : ParseFault → Type 0

@@ -1,20 +1,23 @@
 -- What is proved of readings and of judgements.
-use Rattle.std.specs.Prelude.{◌≡◌, ◌↔◌, ◌⊎◌, ℕ, ℤ, pos, List, [], ◌++◌, get_or, length}
+use Rattle.std.specs.Prelude.{◌≡◌, ◌↔◌, ◌⊎◌, ℕ, ℤ, List, [], ◌∷◌, ◌++◌}
 use Rattle.budget_core.specs.declared.records.Record.{Record}
+use Rattle.budget_core.specs.declared.records.Record.TheVariants.{Reserve, Settle}
+use Rattle.budget_core.specs.declared.records.Outcome.TheVariants.{Lost}
+use Rattle.budget_core.specs.declared.entry.Ask.{Ask}
+use Rattle.budget_core.specs.Ledger.{reservation_numbered}
 use Rattle.budget_core.specs.declared.records.View.{View}
 use Rattle.budget_core.specs.Bare.{without_answers}
 use Rattle.budget_core.specs.Entries.{Entry}
-use Rattle.std.specs.Int.{int_min}
-use Rattle.fz_frac.specs.Distance.{Distance, Fin, mul, one, ◌⊑◌}
-use Rattle.fz_ast.specs.Limits.{IsNumber, limit}
+use Rattle.fz_frac.specs.Distance.{Distance, Fin, mul, ◌⊑◌}
+use Rattle.fz_ast.specs.Limits.{IsNumber}
 use Rattle.fz_ast.specs.Signature.{Signature, IsSignature}
-use Rattle.fz_ast.specs.Terms.{Term, at}
+use Rattle.fz_ast.specs.Terms.{Term}
 use Rattle.metric_values.specs.Distances.{gap}
 use Rattle.metric_values.specs.Tables.{Dataset, apart}
 use Rattle.metric_values.specs.Tables.{IsDataset}
-use Rattle.wire_lines.specs.Refusal.{ProgramRefusal, by_number}
+use Rattle.wire_lines.specs.Refusal.{by_number}
 use Rattle.wire_lines.specs.Reply.{Replied, refused}
-use Rattle.wire_lines.specs.declared.refusal.NumberRefusal.TheVariants.{Lost}
+use Rattle.wire_lines.specs.declared.refusal.NumberRefusal.TheVariants.{Lost as NoAnswer}
 use Rattle.answer_path.specs.Owner.{Owner}
 use Rattle.answer_path.specs.Query.{Query}
 use Rattle.answer_path.specs.Program.{IsCharged, HasValueIn}
@@ -22,7 +25,7 @@ use Rattle.answer_path.specs.Verdict.{Verdict, IsVerdict}
 use Rattle.answer_path.specs.Answered.{Told, IsAsked, IsAnswered, IsUnanswered}
 use Rattle.answer_path.specs.Pass.{records_told}
 use Rattle.answer_path.specs.Reading.{Reading, read, IsReading}
-use Rattle.answer_path.specs.Judgement.{refused_for, accepted, checked_of, judgement_of, HasValue, IsSizeOf}
+use Rattle.answer_path.specs.Judgement.{accepted, judgement_of, HasValue}
 
 -- a program comes to one thing at most
 abbrev pub OneReading : Type 0
@@ -35,7 +38,7 @@ EveryReading = (w : List ℕ) → (reading : Reading) × IsReading w reading
 -- an accepted program has a number within -M..M on each dataset
 abbrev pub AcceptedHaveValues : Type 0
 AcceptedHaveValues =
-    (ts : Signature) (w : List ℕ) (e t : Term) (r : Distance) → IsSignature ts → IsReading w (read e) → checked_of ts (read e) ≡ accepted t r
+    (ts : Signature) (w : List ℕ) (e t : Term) (r : Distance) → IsSignature ts → IsReading w (read e) → judgement_of ts (read e) ≡ accepted t r
     → (X : Dataset) → IsDataset ts X → (z : ℤ) × HasValue ts X w z × IsNumber z
 
 -- a program has one number at most on a dataset
@@ -45,26 +48,9 @@ OneValue = (ts : Signature) (X : Dataset) (w : List ℕ) (y z : ℤ) → HasValu
 -- an accepted program's numbers on two datasets differ by at most its sensitivity times how far the datasets are apart
 abbrev pub AcceptedAreBounded : Type 0
 AcceptedAreBounded =
-    (ts : Signature) (w : List ℕ) (e t : Term) (r : Distance) → IsSignature ts → IsReading w (read e) → checked_of ts (read e) ≡ accepted t r
+    (ts : Signature) (w : List ℕ) (e t : Term) (r : Distance) → IsSignature ts → IsReading w (read e) → judgement_of ts (read e) ≡ accepted t r
     → (X Y : Dataset) → IsDataset ts X → IsDataset ts Y → (y z : ℤ) → HasValue ts X w y → HasValue ts Y w z
     → Fin (gap y z) 1 ⊑ mul r (Fin (apart X Y) 1)
-
--- a program that is accepted where it is asked is the size of a table, and its sensitivity is 1
-abbrev pub AnswerableIsSize : Type 0
-AnswerableIsSize =
-    (ts : Signature) (e t : Term) (r : Distance) → judgement_of ts (read e) ≡ accepted t r
-    → (t ≡ e) × (checked_of ts (read e) ≡ accepted e r) × (r ≡ one) × ((i : ℕ) × IsSizeOf ts e i)
-
--- the value of the size of a table is how many rows it has, or M where that is less
-abbrev pub SizeIsRows : Type 0
-SizeIsRows =
-    (ts : Signature) (X : Dataset) (w : List ℕ) (e : Term) (i : ℕ) (z : ℤ) → IsDataset ts X → IsReading w (read e) → IsSizeOf ts e i
-    → HasValue ts X w z ↔ (z ≡ int_min limit (pos (length (get_or X i []))))
-
--- what the typing rules refuse is refused alike where it is asked
-abbrev pub RefusalsAreKept : Type 0
-RefusalsAreKept =
-    (ts : Signature) (reading : Reading) (refusal : ProgramRefusal) → checked_of ts reading ≡ refused_for refusal → judgement_of ts reading ≡ refused_for refusal
 
 -- a program that is accepted in a view has a value on each dataset of the tables, and only one
 abbrev pub ChargedHaveValues : Type 0
@@ -90,8 +76,10 @@ AloneIsAnswered =
     → IsAsked owner draws start query seen reply told after → after ≡ seen ++ records_told told
     → IsAnswered owner draws start seen query reply (records_told told) ⊎ IsUnanswered reply (records_told told)
 
--- no reply to a query says that an answer was lost
-abbrev pub NoneIsLost : Type 0
-NoneIsLost =
+-- where memory ran out after a reservation, both records were added: the reservation of the number that is told, and its
+-- settlement as lost
+abbrev pub LostAreCharged : Type 0
+LostAreCharged =
     (owner : Owner) (draws : ℕ → ℕ → ℕ) (start : ℕ) (query : Query) (seen : List Record) (reply : Replied) (told : List Told)
-    → (after : List Record) (n : ℕ) → IsAsked owner draws start query seen reply told after → reply ≡ refused (by_number (Lost n)) → ⊥
+    → (after : List Record) (n : ℕ) → IsAsked owner draws start query seen reply told after → reply ≡ refused (by_number (NoAnswer n))
+    → (asking : Ask) × (taken : ℕ) × (records_told told ≡ Reserve (reservation_numbered n asking taken) ∷ Settle n Lost ∷ [])

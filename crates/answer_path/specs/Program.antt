@@ -7,11 +7,11 @@ use Rattle.fz_ast.specs.Signature.{Signature}
 use Rattle.fz_ast.specs.Terms.{Term}
 use Rattle.metric_values.specs.Tables.{Dataset}
 use Rattle.answer_path.specs.Reading.{read, IsReading}
-use Rattle.answer_path.specs.Judgement.{accepted, checked_of, HasValue}
+use Rattle.answer_path.specs.Judgement.{accepted, judgement_of, HasValue}
 
--- The typing rules accept the program over these tables, and p/q in lowest terms is its sensitivity.
+-- The program is accepted over these tables, and p/q in lowest terms is its sensitivity.
 abbrev pub IsCharged : Signature → View → List ℕ → (p q : ℕ) → Type 0
-IsCharged tables Whole program p q = (e : Term) × IsReading program (read e) × (checked_of tables (read e) ≡ accepted e (Fin p q))
+IsCharged tables Whole program p q = (e : Term) × IsReading program (read e) × (judgement_of tables (read e) ≡ accepted e (Fin p q))
 IsCharged tables (Part partition part) program p q = ⊥
 
 -- the program's value on some rows of these tables in a view

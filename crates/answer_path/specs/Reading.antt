@@ -1,6 +1,6 @@
 -- A program's bytes are a term, or there is a fault of tokens or of the term.
 use Rattle.std.specs.Prelude.{ℕ, List, ◌⊎◌}
-use Rattle.fz_ast.specs.Terms.{Term, at}
+use Rattle.fz_ast.specs.Terms.{Term}
 use Rattle.fz_lexer.specs.declared.token.Token.{Token}
 use Rattle.fz_lexer.specs.declared.token.LexFault.TheVariants.{Bad, TooManyTokens}
 use Rattle.fz_lexer.specs.Tokens.{IsLexed, ExplainsLex}

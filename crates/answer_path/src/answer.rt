@@ -1,25 +1,30 @@
 //! One query, from its program to its reply.
 
-ghost use Rattle.std.specs.Prelude.{◌≡◌, ◌++◌, ◌<◌, ◌≤◌, ◌^◌, pos, ◌+ℤ◌, unsigned_abs, false, List};
+ghost use Rattle.std.specs.Prelude.{◌≡◌, ◌++◌, ◌<◌, ◌≤◌, ◌^◌, ◌+ℤ◌, unsigned_abs, false, List, Some};
 ghost use Rattle.budget_core.specs.Entries.{IsEpsilon};
+ghost use Rattle.fz_ast.specs.Limits.{IsNumber};
 ghost use Rattle.fz_frac.specs.Distance.{Fin};
 ghost use Rattle.fz_frac.specs.Sens.{distance_of};
 ghost use Rattle.linear_types.specs.Program.{is_endless};
+ghost use Rattle.metric_law.specs.Means.{Means};
+ghost use Rattle.metric_values.specs.Tables.{rows_of};
+ghost use Rattle.metric_values.specs.Values.{NumV};
 ghost use Rattle.wire_lines.specs.Reply.{replied};
 ghost use Rattle.answer_path.specs.Owner.{Owner, IsOwnerOf};
 ghost use Rattle.answer_path.specs.Noise.{scale_numerator, scale_denominator, noise_at};
-ghost use Rattle.answer_path.specs.Verdict.{money_refusal};
-ghost use Rattle.answer_path.specs.Answered.{Told, IsAsked, settled_by, outcome_reply};
+ghost use Rattle.answer_path.specs.Verdict.{ask_for, money_refusal};
+ghost use Rattle.answer_path.specs.Answered.{Told, HasSmallAnswer, IsAsked, IsSettledAt, answer_limit, outcome_reply};
 ghost use Rattle.answer_path.specs.Pass.{first_of_run, records_told};
-ghost use Rattle.answer_path.specs.Code.{IsQueryOf, query_of};
+ghost use Rattle.answer_path.specs.Code.{IsJudged, IsQueryOf, query_of};
 
 use crate::dataset::Dataset;
 use crate::pass::{Desk, Pass};
+use crate::program::{Judged, judge, read_program};
 use crate::query::Query;
-use crate::size::judge_program;
 use budget_core::entry::{Ask, Grant, ReserveFault};
 use budget_core::records::Outcome;
 use discrete_laplace::sample;
+use fuzz_eval::run::run;
 use fz_frac::{Frac, Sens};
 use fz_outside::words::Streams;
 use std::alloc::Global;
@@ -38,25 +43,49 @@ fn scale_of(e: u32) -> Frac
     }
 }
 
-/// A number of rows with noise.
-fn noisy(rows: usize, noise: i64) -> i64
-    requires few { rows ≤ 2 ^ 20 }
+/// A program's value with noise.
+fn noisy(value: i64, noise: i64) -> i64
+    requires number { IsNumber value }
     requires small { unsigned_abs noise < 2 ^ 33 }
-    ensures { result ≡ pos rows +ℤ noise }
+    ensures sum { result ≡ value +ℤ noise }
+    ensures fits { unsigned_abs result ≤ answer_limit }
 {
-    rows as i64 + noise
+    value + noise
 }
 
-/// How an owner's reservation of this number is settled, where the value is a number of rows.
-fn outcome_at<S: Streams>(rows: usize, streams: &S, owner: u32, e: u32, number: u32) -> Outcome
-    requires few { rows ≤ 2 ^ 20 }
-    requires epsilon { IsEpsilon e }
-    ensures { result ≡ settled_by (pos rows) (noise_at e (S.given streams.now owner number)) }
+/// How a reservation with this noise is settled: by the program's value, or as lost where memory ran out.
+fn outcome_with(alloc: Global, judged: &Judged<'_>, dataset: &Dataset, noise: i64) -> Outcome
+    requires judged { IsJudged dataset.now.tables (judged.now.checked.term.now) judged.now }
+    requires small { unsigned_abs noise < 2 ^ 33 }
+    ensures settled { IsSettledAt (λ value. Means (rows_of dataset.now.tables dataset.now.rows) (judged.now.checked.term.now) (NumV value))
+        (Some noise) result }
+    ensures fits { (grant : Grant) → HasSmallAnswer (outcome_reply grant result) }
 {
-    let scale = scale_of(e);
-    let mut words = streams.stream(owner, number);
+    match run(alloc, &judged.checked, &judged.plan, dataset.tables()) {
+        Ok(value) => Outcome::Answered(noisy(value, noise)),
+        Err(_) => Outcome::Lost,
+    }
+}
+
+/// How an owner's reservation of this number is settled. A number whose draws don't suffice needs no run.
+fn outcome_at<S: Streams>(
+    alloc: Global,
+    judged: &Judged<'_>,
+    dataset: &Dataset,
+    streams: &S,
+    query: &Query<'_>,
+    number: u32,
+) -> Outcome
+    requires judged { IsJudged dataset.now.tables (judged.now.checked.term.now) judged.now }
+    requires epsilon { IsEpsilon query.now.epsilon }
+    ensures settled { IsSettledAt (λ value. Means (rows_of dataset.now.tables dataset.now.rows) (judged.now.checked.term.now) (NumV value))
+        (noise_at query.now.epsilon (S.given streams.now query.now.owner number)) result }
+    ensures fits { (grant : Grant) → HasSmallAnswer (outcome_reply grant result) }
+{
+    let scale = scale_of(query.epsilon);
+    let mut words = streams.stream(query.owner, number);
     match sample(scale.p, scale.q, &mut words) {
-        Ok(noise) => Outcome::Answered(noisy(rows, noise)),
+        Ok(noise) => outcome_with(alloc, judged, dataset, noise),
         Err(_) => Outcome::Exhausted,
     }
 }
@@ -116,8 +145,21 @@ fn reply_of<'a>(grant: Grant, outcome: Outcome) -> Reply<'a>
     }
 }
 
-/// Answers a query: the program is read and checked, the budget is asked, the noise is drawn, and the reservation is settled.
-/// Want of memory is said before a reservation.
+/// What a query asks of the budget.
+fn asking_of(query: &Query<'_>, sens: Frac) -> Ask
+    ensures { result ≡ ask_for (query_of query.now) sens.p sens.q }
+{
+    Ask {
+        analyst: query.analyst,
+        view: query.view,
+        e: query.epsilon,
+        p: sens.p,
+        q: sens.q,
+    }
+}
+
+/// Answers a query: the program is read and judged, the budget is asked, the noise is drawn, the program is run, and the
+/// reservation is settled. Want of memory is said before a reservation, and an answer is lost after it.
 pub fn ask<'d, S: Streams>(
     alloc: Global,
     _desk: &Desk,
@@ -135,24 +177,22 @@ pub fn ask<'d, S: Streams>(
     // No other line added records meanwhile.
     ensures alone { (told : List Told) → pass.new.own ≡ pass.old.own ++ told → pass.new.seen ≡ pass.old.seen ++ records_told told }
     ensures kept { (pass.new.entry ≡ pass.old.entry) × (pass.new.found ≡ pass.old.found) }
+    // An answer is within 2^50 + 2^33 in absolute value.
+    ensures fits { HasSmallAnswer (replied result) }
 {
-    let size = match judge_program(alloc, dataset.sig(), query.program) {
-        Ok(size) => size,
+    let term = match read_program(alloc, query.program) {
+        Ok(term) => term,
         Err(refusal) => return Reply::Refused(refusal),
     };
-    let sens = fraction_of(size.sens);
-    let asking = Ask {
-        analyst: query.analyst,
-        view: query.view,
-        e: query.epsilon,
-        p: sens.p,
-        q: sens.q,
+    let judged = match judge(alloc, dataset.sig(), &term) {
+        Ok(judged) => judged,
+        Err(refusal) => return Reply::Refused(refusal),
     };
+    let asking = asking_of(query, fraction_of(judged.checked.sens));
     match pass.reserve(&asking) {
         Err(fault) => Reply::Refused(Refusal::Money(refusal_of(fault))),
         Ok(grant) => {
-            let rows = dataset.rows(size.table);
-            let outcome = outcome_at(rows, streams, query.owner, query.epsilon, grant.number);
+            let outcome = outcome_at(alloc, &judged, dataset, streams, query, grant.number);
             pass.settle(grant.number, outcome);
             reply_of(grant, outcome)
         }

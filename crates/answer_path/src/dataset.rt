@@ -1,17 +1,17 @@
 //! An owner's tables and their rows.
 
-ghost use Rattle.std.specs.Prelude.{◌≡◌, ◌≤◌, ◌<◌, ◌^◌, length, get_or, []};
+ghost use Rattle.std.specs.Prelude.{◌≡◌};
 ghost use Rattle.answer_path.specs.Owner.{Holding, IsHolding};
 
 use fz_ast::Sig;
+use metric_values::Tables;
 use std::marker::Model;
-use table_store::Table;
 
 /// An owner's tables, by a signature, and the rows of each.
 #[derive(Drop)]
 pub struct Dataset {
     sig: Sig,
-    tables: Vec<Table>,
+    tables: Tables,
 }
 
 impl Model for Dataset {
@@ -21,16 +21,16 @@ impl Model for Dataset {
 
     ghost coded = { holding_code };
 
-    ghost view = { λ d. record { tables = d.sig; numbers = d.tables.items } };
+    ghost view = { λ d. record { tables = d.sig; rows = d.tables } };
 
-    ghost invariant = { λ d. IsHolding (record { tables = d.sig; numbers = d.tables.items }) };
+    ghost invariant = { λ d. IsHolding (record { tables = d.sig; rows = d.tables }) };
 }
 
 impl Dataset {
     /// The tables of a signature with their rows.
-    pub fn new(sig: Sig, tables: Vec<Table>) -> Dataset
-        requires { IsHolding (record { tables = sig; numbers = tables.items }) }
-        ensures { result ≡ record { tables = sig; numbers = tables.items } }
+    pub fn new(sig: Sig, tables: Tables) -> Dataset
+        requires { IsHolding (record { tables = sig; rows = tables }) }
+        ensures { result ≡ record { tables = sig; rows = tables } }
     {
         Dataset { sig, tables }
     }
@@ -43,12 +43,11 @@ impl Dataset {
         &self.sig
     }
 
-    /// How many rows the table of this number has.
-    pub fn rows(&self, table: usize) -> usize
-        requires { table < length self.now.numbers }
-        ensures count { result ≡ length (get_or self.now.numbers table []) }
-        ensures few { result ≤ 2 ^ 20 }
+    /// The rows of each table.
+    pub fn tables(&self) -> &Tables
+        ensures rows { result.now ≡ self.now.rows }
+        ensures holding { IsHolding self.now }
     {
-        self.tables[table].len()
+        &self.tables
     }
 }

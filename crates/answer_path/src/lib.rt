@@ -8,15 +8,13 @@ mod pass;
 pub mod program;
 pub mod query;
 mod refusals;
-mod size;
 
 pub use answer::ask;
 pub use dataset::Dataset;
 pub use laws::{
-    accepted_programs_have_values, answered_programs_are_sizes, lone_asks_are_answered,
-    no_answer_is_lost, programs_are_bounded, programs_are_read_in_one_way, verdicts_see_no_answers,
+    accepted_programs_have_values, lone_asks_are_answered, lost_answers_are_charged,
+    programs_are_bounded, programs_are_read_in_one_way, verdicts_see_no_answers,
 };
 pub use pass::{Desk, Pass};
-pub use program::{Accepted, check_program};
+pub use program::{Accepted, Judged, check_program, judge, read_program};
 pub use query::Query;
-pub use size::{TableSize, judge_program};

@@ -1,26 +1,34 @@
-//! A program is read and checked.
+//! A program is read, checked, and run without data.
 
 ghost use Rattle.std.specs.Prelude.{◌≡◌, IfOk, IfErr};
 ghost use Rattle.fz_ast.specs.Signature.{Signature};
 ghost use Rattle.wire_lines.specs.Refusal.{refusal_at};
 ghost use Rattle.answer_path.specs.Reading.{read, IsReading};
 ghost use Rattle.answer_path.specs.Judgement.{AreNames};
-ghost use Rattle.answer_path.specs.Code.{IsAccepted, IsProgramRefusal};
+ghost use Rattle.answer_path.specs.Code.{IsAccepted, IsJudged, IsProgramRefusal, IsTermRefusal};
 
-use crate::refusals::{fault_refusal, lex_refusal, parse_refusal};
+use crate::refusals::{fault_refusal, lex_refusal, limit_refusal, parse_refusal};
 use fz_ast::{Sig, Term};
 use fz_frac::Sens;
 use fz_lexer::lex;
 use fz_parser::parse;
-use sensitivity_check::check;
+use sensitivity_check::{Checked, check};
+use shape_run::{Plan, shape};
 use std::alloc::Global;
 use wire_lines::Refusal;
 
-/// A program that the typing rules accept, and its greatest sensitivity over the tables, which is finite and in lowest terms.
+/// A program that is accepted, and its greatest sensitivity over the tables, which is finite and in lowest terms.
 #[derive(Drop)]
 pub struct Accepted {
     pub term: Term,
     pub sens: Sens,
+}
+
+/// A term that is accepted: what the checker found of it, and the plan of its run.
+#[derive(Drop)]
+pub struct Judged<'a> {
+    pub checked: Checked<'a>,
+    pub plan: Plan,
 }
 
 /// Reads a program as a term.
@@ -28,7 +36,7 @@ pub struct Accepted {
 /// # Errors
 ///
 /// What it is refused for, by the codes 20, 21 and 22; or that memory ran out.
-fn read_program<'s>(alloc: Global, bytes: &[u8]) -> Result<Term, Refusal<'s>>
+pub fn read_program<'s>(alloc: Global, bytes: &[u8]) -> Result<Term, Refusal<'s>>
     ensures term { IfOk result (λ term. IsReading bytes.now (read term)) }
     ensures refused { IfErr result (λ refusal. (ts : Signature) → IsProgramRefusal ts bytes.now (refusal_at refusal)) }
 {
@@ -42,20 +50,47 @@ fn read_program<'s>(alloc: Global, bytes: &[u8]) -> Result<Term, Refusal<'s>>
     }
 }
 
-/// Reads a program and checks it over the tables of a signature.
+/// Checks a term over the tables of a signature, and runs it without data.
 ///
 /// # Errors
 ///
-/// What it is refused for, by the codes 20, 21, 22 and 30 to 34; or that memory ran out.
+/// What it is refused for, by the codes 30 to 37; or that memory ran out.
+pub fn judge<'s: 'a, 'a>(
+    alloc: Global,
+    sig: &'s Sig,
+    term: &'a Term,
+) -> Result<Judged<'a>, Refusal<'s>>
+    requires { AreNames sig.now }
+    ensures judged { IfOk result (IsJudged sig.now term.now) }
+    ensures refused { IfErr result (λ refusal. IsTermRefusal sig.now term.now (refusal_at refusal)) }
+{
+    let checked = match check(alloc, sig, term) {
+        Ok(checked) => checked,
+        Err(fault) => return Err(fault_refusal(sig, &fault)),
+    };
+    match shape(alloc, sig, term) {
+        Ok(plan) => Ok(Judged { checked, plan }),
+        Err(fault) => Err(limit_refusal(fault)),
+    }
+}
+
+/// Reads a program, and says whether it is accepted over the tables of a signature.
+///
+/// # Errors
+///
+/// What it is refused for, by the codes 20 to 22 and 30 to 37; or that memory ran out.
 pub fn check_program<'s>(alloc: Global, sig: &'s Sig, bytes: &[u8]) -> Result<Accepted, Refusal<'s>>
     requires { AreNames sig.now }
     ensures accepted { IfOk result (IsAccepted sig.now bytes.now) }
     ensures refused { IfErr result (λ refusal. IsProgramRefusal sig.now bytes.now (refusal_at refusal)) }
 {
-    let term = read_program(alloc, bytes)?;
-    let sens = match check(alloc, sig, &term) {
-        Ok(checked) => checked.sens,
-        Err(fault) => return Err(fault_refusal(sig, &fault)),
+    let term = match read_program(alloc, bytes) {
+        Ok(term) => term,
+        Err(refusal) => return Err(refusal),
+    };
+    let sens = match judge(alloc, sig, &term) {
+        Ok(judged) => judged.checked.sens,
+        Err(refusal) => return Err(refusal),
     };
     Ok(Accepted { term, sens })
 }

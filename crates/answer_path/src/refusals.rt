@@ -4,12 +4,13 @@ ghost use Rattle.std.specs.Prelude.{◌≡◌, ◌<◌, length, slice_get, Some}
 ghost use Rattle.fz_ast.specs.Signature.{TableType};
 ghost use Rattle.wire_lines.specs.Refusal.{ill_typed, unbounded, program_refusal_at, refusal_at};
 ghost use Rattle.answer_path.specs.Judgement.{AreNames};
-ghost use Rattle.answer_path.specs.Code.{HasPlace, HasTable, TellsFault, lex_refusal, parse_refusal};
+ghost use Rattle.answer_path.specs.Code.{HasPlace, HasTable, TellsFault, lex_refusal, limit_refusal, parse_refusal};
 
 use fz_ast::{Sig, Span};
 use fz_lexer::LexFault;
 use fz_parser::ParseFault;
 use sensitivity_check::CheckFault;
+use shape_run::ShapeFault;
 use wire_lines::{Name, ProgramRefusal, Refusal, TypeFault};
 
 /// 20, or want of memory.
@@ -84,5 +85,27 @@ pub(crate) fn fault_refusal<'s>(sig: &'s Sig, fault: &CheckFault) -> Refusal<'s>
         CheckFault::Unbounded { table } => unbounded(sig, *table),
         CheckFault::NotNum { .. } => ProgramRefusal::NoNumber,
         CheckFault::NoMemory => return Refusal::NoMemory,
+    })
+}
+
+/// 35 to 37, or want of memory.
+pub(crate) fn limit_refusal<'s>(fault: ShapeFault) -> Refusal<'s>
+    ensures { refusal_at result ≡ limit_refusal fault }
+{
+    Refusal::Program(match fault {
+        ShapeFault::TooDeep { span } => ProgramRefusal::TooDeep {
+            from: span.from,
+            to: span.to,
+        },
+        ShapeFault::TooLong { span } => ProgramRefusal::TooLong {
+            from: span.from,
+            to: span.to,
+        },
+        ShapeFault::TooWide { span, width } => ProgramRefusal::TooWide {
+            from: span.from,
+            to: span.to,
+            width,
+        },
+        ShapeFault::NoMemory => return Refusal::NoMemory,
     })
 }

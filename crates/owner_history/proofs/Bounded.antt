@@ -1,5 +1,6 @@
 -- the displacement that records show is at most their cost times how far the datasets are apart
 use Rattle.std.proofs.Common.{◌≡◌, ℕ, ◌+◌, ◌*◌, ◌≤◌, List, [], ◌∷◌, Option, Some, None, slice_get, if◌then◌else◌, length, zero, suc, refl, sym, ◌∙◌, ap, subst, arith, sum_by, zero-add}
+use Rattle.std.specs.Prelude.{⊤}
 use Rattle.std.proofs.lemmas.List.Sums.{sum_by-cons}
 use Rattle.std.proofs.Math.Nat.{mul-le-mul}
 use Rattle.budget_core.specs.declared.records.Reservation.{Reservation}
@@ -30,7 +31,7 @@ IsChargedFor tables program (Reserve r) = IsCharged tables r.view program r.p r.
 IsChargedFor tables program (Settle number outcome) = ⊥
 
 abbrev pub AreCharged : Signature → List (List ℕ) → List Record → Type 0
-AreCharged tables [] [] = Unit {0}
+AreCharged tables [] [] = ⊤
 AreCharged tables (program ∷ programs) (reservation ∷ reservations) = IsChargedFor tables program reservation × AreCharged tables programs reservations
 AreCharged tables [] (reservation ∷ reservations) = ⊥
 AreCharged tables (program ∷ programs) [] = ⊥

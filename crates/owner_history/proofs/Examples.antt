@@ -11,6 +11,7 @@ use Rattle.fz_frac.specs.Lowest.{gcd, gcd_in}
 use Rattle.fz_ast.specs.Signature.{TableType, row_of}
 use Rattle.fz_ast.specs.Types.{NumT}
 use Rattle.metric_values.specs.Values.{NumF}
+use Rattle.shape_law.specs.Walk.{depth_limit}
 use Rattle.metric_values.specs.Tables.{Dataset}
 use Rattle.wire_lines.specs.Reply.{greeted, answered, ended, refused}
 use Rattle.wire_lines.specs.Refusal.{by_line, by_program, by_money, by_number, no_memory, no_number}
@@ -19,7 +20,7 @@ use Rattle.wire_lines.specs.declared.refusal.MoneyRefusal.TheVariants.{JournalFu
 use Rattle.wire_lines.specs.declared.refusal.NumberRefusal.TheVariants.{Exhausted as NoNoise, Lost as NoAnswer}
 use Rattle.answer_path.specs.Owner.{Owner}
 use Rattle.answer_path.specs.Query.{Query}
-use Rattle.answer_path.specs.Judgement.{checked_of, HasValue}
+use Rattle.answer_path.specs.Judgement.{judgement_of, HasValue}
 use Rattle.answer_path.specs.Program.{IsCharged, HasValueIn}
 use Rattle.answer_path.specs.Noise.{noise_at}
 use Rattle.answer_path.proofs.Charged.{one_value_in}
@@ -28,11 +29,11 @@ use Rattle.owner_history.specs.Explains.{ExplainsOutcome, IsExplained, Explains}
 use Rattle.owner_history.specs.Shown.{IsShown}
 use Rattle.owner_history.specs.Granted.{settlement_in, IsGranted, IsBorneOut}
 
-abbrev people : TableType
+abbrev pub people : TableType
 people = record { name = codes "people"; row = row_of NumT [] }
 
 -- an owner with three rows, and its rows without the first
-abbrev three : Owner
+abbrev pub three : Owner
 three = record {
   name = codes "census";
   entry = record { budget = 10000000; capacity = 100; analysts = 2; keys = [] };
@@ -40,33 +41,33 @@ three = record {
   rows = (NumF (pos 20) ∷ NumF (pos 30) ∷ NumF (pos 40) ∷ []) ∷ [];
 }
 
-abbrev two_rows : Dataset
+abbrev pub two_rows : Dataset
 two_rows = (NumF (pos 30) ∷ NumF (pos 40) ∷ []) ∷ []
 
 size_charged : IsCharged (people ∷ []) Whole size_people 1 1
-unfolding checked_of gcd gcd_in
+unfolding judgement_of depth_limit gcd gcd_in
 size_charged = (size_term, size_reads, refl)
 
-three_value : HasValueIn (people ∷ []) three.rows Whole size_people (pos 3)
+pub three_value : HasValueIn (people ∷ []) three.rows Whole size_people (pos 3)
 unfolding HasValue
 three_value = (size_term, size_reads, (2, (NumF (pos 20) ∷ NumF (pos 30) ∷ NumF (pos 40) ∷ [], refl, refl)))
 
-two_value : HasValueIn (people ∷ []) two_rows Whole size_people (pos 2)
+pub two_value : HasValueIn (people ∷ []) two_rows Whole size_people (pos 2)
 unfolding HasValue
 two_value = (size_term, size_reads, (2, (NumF (pos 30) ∷ NumF (pos 40) ∷ [], refl, refl)))
 
 -- the size at epsilon 1, by the first analyst, and its answer: three rows and the noise -1
-abbrev reserved : Reservation
+abbrev pub reserved : Reservation
 reserved = record { number = 0; view = Whole; e = 1000000; p = 1; q = 1; taken = 1000000; analyst = 0 }
 
-abbrev settled_as : Outcome → List Record
+abbrev pub settled_as : Outcome → List Record
 settled_as outcome = Reserve reserved ∷ Settle 0 outcome ∷ []
 
-explained_two : (draws : ℕ → ℕ) → noise_at 1000000 draws ≡ Some (negsuc 0) → IsExplained three draws reserved size_people (Some (Answered (pos 2)))
+pub explained_two : (draws : ℕ → ℕ) → noise_at 1000000 draws ≡ Some (negsuc 0) → IsExplained three draws reserved size_people (Some (Answered (pos 2)))
 explained_two draws noise = record { charged = size_charged; settled = record { value = pos 3; noise = negsuc 0; has_value = three_value; has_noise = noise; sum = refl } }
 
 -- another answer isn't explained, nor is a number exhausted that has noise
-not_three : (draws : ℕ → ℕ) → noise_at 1000000 draws ≡ Some (negsuc 0) → ExplainsOutcome three draws reserved size_people (Some (Answered (pos 3))) → ⊥
+pub not_three : (draws : ℕ → ℕ) → noise_at 1000000 draws ≡ Some (negsuc 0) → ExplainsOutcome three draws reserved size_people (Some (Answered (pos 3))) → ⊥
 not_three draws noise h =
     let value : h.value ≡ pos 3 = one_value_in (people ∷ []) three.rows Whole size_people h.value (pos 3) h.has_value three_value in
     let both : Some h.noise ≡ Some (negsuc 0) = sym h.has_noise ∙ noise in

@@ -18,7 +18,7 @@ use Rattle.answer_path.specs.Owner.{Owner}
 use Rattle.answer_path.specs.Query.{Query}
 use Rattle.answer_path.specs.Program.{IsCharged, HasValueIn}
 use Rattle.answer_path.specs.Noise.{noise_at}
-use Rattle.answer_path.specs.Answered.{settled_by, IsSettledBy}
+use Rattle.answer_path.specs.Answered.{IsSettledAt, IsSettledBy}
 use Rattle.owner_history.specs.Explains.{ExplainsOutcome, IsExplained, Explains}
 
 same_reserved : (r s : Reservation) → Some (Reserve r) ≡ Some (Reserve s) → r ≡ s
@@ -91,15 +91,16 @@ module _ (owner : Owner) (draws : ℕ → ℕ → ℕ) (programs : List (List �
             };
       }
 
-settled_explains : (owner : Owner) (draws : ℕ → ℕ) (reserved : Reservation) (program : List ℕ) (v : ℤ) (k : Option ℤ) → HasValueIn owner.tables owner.rows reserved.view program v
-    → noise_at reserved.e draws ≡ k → ExplainsOutcome owner draws reserved program (Some (settled_by v k))
-settled_explains owner draws reserved program v (Some k) has_v has_k = record { value = v; noise = k; has_value = has_v; has_noise = has_k; sum = refl }
-settled_explains owner draws reserved program v None has_v has_k = has_k
+settled_explains : (owner : Owner) (draws : ℕ → ℕ) (reserved : Reservation) (program : List ℕ) (noise : Option ℤ) (outcome : Outcome) → noise_at reserved.e draws ≡ noise
+    → IsSettledAt (HasValueIn owner.tables owner.rows reserved.view program) noise outcome → ExplainsOutcome owner draws reserved program (Some outcome)
+settled_explains owner draws reserved program None outcome drawn is = subst (λ (o : Outcome). ExplainsOutcome owner draws reserved program (Some o)) (sym is) drawn
+settled_explains owner draws reserved program (Some k) outcome drawn (inl (v, has_v, is)) =
+    subst (λ (o : Outcome). ExplainsOutcome owner draws reserved program (Some o)) (sym is) (record { value = v; noise = k; has_value = has_v; has_noise = drawn; sum = refl })
+settled_explains owner draws reserved program (Some k) outcome drawn (inr is) = subst (λ (o : Outcome). ExplainsOutcome owner draws reserved program (Some o)) (sym is) tt
 
 -- how a query's reservation is settled explains it
 pub outcome_explains : (owner : Owner) (draws : ℕ → ℕ → ℕ) (query : Query) (n : ℕ) (outcome : Outcome) (reserved : Reservation) → reserved.view ≡ query.view → reserved.e ≡ query.e
     → IsSettledBy owner draws query n outcome → ExplainsOutcome owner (draws n) reserved query.program (Some outcome)
 outcome_explains owner draws query n outcome reserved view e settled =
-    subst (λ (o : Outcome). ExplainsOutcome owner (draws n) reserved query.program (Some o)) (sym (settled.2 ∙ ap (λ (k : ℕ). settled_by settled.0 (noise_at k (draws n))) (sym e)))
-    (settled_explains owner (draws n) reserved query.program settled.0 (noise_at reserved.e (draws n))
-    (subst (λ v. HasValueIn owner.tables owner.rows v query.program settled.0) (sym view) settled.1) refl)
+    settled_explains owner (draws n) reserved query.program (noise_at query.e (draws n)) outcome (ap (λ (k : ℕ). noise_at k (draws n)) e)
+    (subst (λ v. IsSettledAt (HasValueIn owner.tables owner.rows v query.program) (noise_at query.e (draws n)) outcome) (sym view) settled)

@@ -1,5 +1,5 @@
 -- what a verdict that grants says
-use Rattle.std.proofs.Common.{◌≡◌, ℕ, Bool, true, false, cond, List, refl, ap, subst, ◌∙◌}
+use Rattle.std.proofs.Common.{◌≡◌, ℕ, List, refl, sym, ap, subst}
 use Rattle.std.specs.Prelude.{Result, Ok, Err}
 use Rattle.budget_core.specs.declared.records.View.TheVariants.{Whole}
 use Rattle.budget_core.specs.declared.records.Record.{Record}
@@ -14,29 +14,19 @@ use Rattle.answer_path.specs.Owner.{Owner}
 use Rattle.answer_path.specs.Query.{Query}
 use Rattle.answer_path.specs.Program.{IsCharged}
 use Rattle.answer_path.specs.Reading.{Reading, unlexed, stuck, nested, read, IsReading}
-use Rattle.answer_path.specs.Judgement.{Judgement, refused_for, accepted, judged_by, checked_of, is_size_of_table, answerable, judgement_of}
+use Rattle.answer_path.specs.Judgement.{Judgement, refused_for, accepted, judgement_of}
 use Rattle.answer_path.specs.Verdict.{granted, ask_for, verdict_by_money, IsVerdictBy, IsVerdict}
-use Rattle.linear_types.specs.Program.{Answer, Accepted, Rejected, sensitivity_of}
+use Rattle.answer_path.proofs.Programs.{accepted_is}
 
--- a reading that is accepted is of the term, which the typing rules accept so
-chosen : (ts : Signature) (b : Bool) (t e : Term) (s r : Distance) (other : _) → cond b (accepted t s) (refused_for other) ≡ accepted e r → (t ≡ e) × (s ≡ r)
-chosen ts true t e s r other is = (cc, cc)
-chosen ts false t e s r other is = absurd (cc (is))
-
-pub accepted_as : (ts : Signature) (reading : Reading) (e : Term) (r : Distance) → judgement_of ts reading ≡ accepted e r → (reading ≡ read e) × (checked_of ts (read e) ≡ accepted e r)
-unfolding checked_of
+-- a reading that is accepted is of the term that is accepted
+pub accepted_as : (ts : Signature) (reading : Reading) (e : Term) (r : Distance) → judgement_of ts reading ≡ accepted e r → (reading ≡ read e) × (judgement_of ts (read e) ≡ accepted e r)
+unfolding judgement_of
 accepted_as ts (unlexed place) e r is = absurd (cc (is))
 accepted_as ts (stuck token) e r is = absurd (cc (is))
 accepted_as ts (nested depth) e r is = absurd (cc (is))
-accepted_as ts (read t) e r is = judged (sensitivity_of ts t) refl is
-  where
-    judged : (a : Answer) → sensitivity_of ts t ≡ a → answerable ts (judged_by t a) ≡ accepted e r → (read t ≡ read e) × (judged_by e (sensitivity_of ts e) ≡ accepted e r)
-    judged (Rejected fault) was by = absurd (cc (by))
-    judged (Accepted D s) was by =
-        let same = chosen ts (is_size_of_table ts t) t e _ r _ by in (
-          ap read same.0,
-          subst (λ (u : Term). judged_by u (sensitivity_of ts u) ≡ accepted u r) same.0 (ap (judged_by t) was ∙ ap (λ (d : Distance). accepted t d) same.1),
-        )
+accepted_as ts (read t) e r is =
+    let same : e ≡ t = (accepted_is ts t e r is).3 in
+    (ap read (sym same), subst (λ (u : Term). judgement_of ts (read u) ≡ accepted e r) (sym same) is)
 
 -- an ask is granted by its sensitivity and the budget
 pub record IsGrantFor (owner : Owner) (start : ℕ) (records : List Record) (query : Query) (asking : Ask) (grant : Grant) : Type 0 where

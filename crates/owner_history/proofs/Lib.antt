@@ -7,3 +7,4 @@ pub mod Grants
 pub mod Steps
 pub mod Sound
 pub mod Examples
+mod ExamplesOfRecords

@@ -1,5 +1,5 @@
 -- programs explain records
-use Rattle.std.specs.Prelude.{◌≡◌, ℕ, ℤ, ◌+ℤ◌, List, length, slice_get, Option, Some, None}
+use Rattle.std.specs.Prelude.{◌≡◌, ℕ, ℤ, ◌+ℤ◌, List, length, slice_get, Option, Some, None, ⊤}
 use Rattle.budget_core.specs.declared.records.Outcome.{Outcome}
 use Rattle.budget_core.specs.declared.records.Outcome.TheVariants.{Answered, Exhausted, Lost}
 use Rattle.budget_core.specs.declared.records.Reservation.{Reservation}
@@ -18,12 +18,12 @@ pub record IsNoisedValue (owner : Owner) (draws : ℕ → ℕ) (reserved : Reser
   pub has_noise : noise_at reserved.e draws ≡ Some noise
   pub sum : answer ≡ value +ℤ noise
 
--- what explains how a reservation was settled
+-- what explains how a reservation was settled: nothing has to explain one that is open or lost
 abbrev pub ExplainsOutcome : Owner → (ℕ → ℕ) → Reservation → List ℕ → Option Outcome → Type 0
-ExplainsOutcome owner draws reserved program None = Unit {0}
+ExplainsOutcome owner draws reserved program None = ⊤
 ExplainsOutcome owner draws reserved program (Some (Answered answer)) = IsNoisedValue owner draws reserved program answer
 ExplainsOutcome owner draws reserved program (Some Exhausted) = noise_at reserved.e draws ≡ None
-ExplainsOutcome owner draws reserved program (Some Lost) = Unit {0}
+ExplainsOutcome owner draws reserved program (Some Lost) = ⊤
 
 -- A reservation is charged by its program's sensitivity, and settled by its value and noise.
 pub record IsExplained (owner : Owner) (draws : ℕ → ℕ) (reserved : Reservation) (program : List ℕ) (outcome : Option Outcome) : Type 0 where

@@ -1,32 +1,34 @@
 -- The definitions, computed on small scripts.
 use Rattle.std.proofs.Common.{◌≡◌, ℕ, zero, suc, List, [], ◌∷◌, map, Option, Some, None, slice_get, codes, refl, sym, ◌∙◌, ap, subst, pos, negsuc, inl, inr, arith}
-use Rattle.std.specs.Prelude.{ℤ, Ok}
+use Rattle.std.specs.Prelude.{ℤ, ◌+ℤ◌, Ok}
 use Rattle.std.specs.Fmt.{digits}
 use Rattle.std.specs.List.{flat_map}
 use mathlib.Core.List.{IsPrefix}
 use Rattle.budget_core.specs.declared.records.View.TheVariants.{Whole}
 use Rattle.budget_core.specs.declared.records.Outcome.{Outcome}
-use Rattle.budget_core.specs.declared.records.Outcome.TheVariants.{Answered}
+use Rattle.budget_core.specs.declared.records.Outcome.TheVariants.{Answered, Exhausted, Lost}
 use Rattle.budget_core.specs.declared.records.Record.{Record}
 use Rattle.budget_core.specs.declared.entry.Ask.{Ask}
 use Rattle.budget_core.specs.declared.entry.Grant.{Grant}
 use Rattle.budget_core.specs.Cost.{cost_of, partition_cost}
 use Rattle.budget_core.specs.Ledger.{money_verdict}
 use Rattle.fz_frac.specs.Lowest.{gcd, gcd_in}
+use Rattle.shape_law.specs.Walk.{depth_limit}
 use Rattle.wire_lines.specs.Lines.{lines_of}
 use Rattle.wire_lines.specs.Request.{request_of}
 use Rattle.wire_lines.specs.Reply.{Replied, greeted, answered, ended, refused, reply_text}
-use Rattle.wire_lines.specs.Refusal.{by_line, by_money, no_memory}
+use Rattle.wire_lines.specs.Refusal.{by_line, by_money, by_number, no_memory}
 use Rattle.wire_lines.specs.declared.refusal.LineRefusal.TheVariants.{Malformed, Unknown, NoEpsilon, NoHello}
 use Rattle.wire_lines.specs.declared.refusal.MoneyRefusal.TheVariants.{OverBudget as NoBudget, JournalFull}
+use Rattle.wire_lines.specs.declared.refusal.NumberRefusal.TheVariants.{Exhausted as NoNoise, Lost as NoAnswer}
 use Rattle.metric_values.specs.Values.{NumF}
-use Rattle.answer_path.specs.Owner.{Owner, rows_held}
+use Rattle.answer_path.specs.Owner.{Owner}
 use Rattle.answer_path.specs.Query.{Query}
-use Rattle.answer_path.specs.Judgement.{checked_of, HasValue}
+use Rattle.answer_path.specs.Judgement.{judgement_of, HasValue}
 use Rattle.answer_path.specs.Program.{HasValueIn}
 use Rattle.answer_path.specs.Noise.{noise_at}
-use Rattle.answer_path.specs.Verdict.{program_refused, money_refused, granted, ask_for}
-use Rattle.answer_path.specs.Answered.{settled_by, outcome_reply, grant_records, IsAnswered, IsAsked}
+use Rattle.answer_path.specs.Verdict.{program_refused, money_refused, granted, ask_for, IsVerdict}
+use Rattle.answer_path.specs.Answered.{outcome_reply, grant_records, IsSettledAt, IsAnswered, IsAsked}
 use Rattle.answer_path.proofs.Answering.{IsAcceptedAt, money_says}
 use Rattle.answer_path.proofs.SizePeople.{size_people, size_term, size_reads}
 use Rattle.owner_history.specs.Granted.{settlement_in}
@@ -36,6 +38,7 @@ use Rattle.session_core.specs.Turns.{Turn, turns_of}
 use Rattle.session_core.specs.Exchanges.{Exchange, told_of}
 use Rattle.session_core.specs.Transcript.{Journals, LeadExactly, placed_from, IsScriptRun, IsScriptWritten, IsTranscript}
 use Rattle.session_core.specs.Served.{AnswersOn, StandIn, Sources, IsAskedAt, AreAskedBy, ArePlaced}
+use Rattle.session_core.specs.Said.{HadMemory}
 use Rattle.session_core.proofs.Exactly.{answers_on}
 
 -- a house of two analysts, with these ages
@@ -59,14 +62,14 @@ only records (suc o) = []
 
 -- the program is judged by the rules, and its value is how many rows there are
 size_asked : IsAcceptedAt (people_table ∷ []) size_people 1 1
-unfolding checked_of gcd gcd_in
+unfolding judgement_of gcd gcd_in depth_limit
 size_asked = (size_term, size_reads, refl)
 
-three_value : HasValueIn (people_table ∷ []) (rows_held (people_holding (pos 20 ∷ pos 30 ∷ pos 40 ∷ []))) Whole size_people (pos 3)
+three_value : HasValueIn (people_table ∷ []) (people_holding (pos 20 ∷ pos 30 ∷ pos 40 ∷ [])).rows Whole size_people (pos 3)
 unfolding HasValue
 three_value = (size_term, size_reads, (2, (NumF (pos 20) ∷ NumF (pos 30) ∷ NumF (pos 40) ∷ [], refl, refl)))
 
-no_value : HasValueIn (people_table ∷ []) (rows_held (people_holding [])) Whole size_people (pos 0)
+no_value : HasValueIn (people_table ∷ []) (people_holding []).rows Whole size_people (pos 0)
 unfolding HasValue
 no_value = (size_term, size_reads, (2, ([], refl, refl)))
 
@@ -82,15 +85,24 @@ a_grant = record { number = 0; taken = 1000000; seen = 1 }
 abbrev made : Outcome → List Record
 made outcome = grant_records an_ask a_grant outcome
 
+-- how the ask is settled where memory suffices
+abbrev outcome_with : (size : ℕ) → Option ℤ → Outcome
+outcome_with size None = Exhausted
+outcome_with size (Some noise) = Answered (pos size +ℤ noise)
+
+settled_with : (HasWorth : ℤ → Type 0) (size : ℕ) (noise : Option ℤ) → HasWorth (pos size) → IsSettledAt HasWorth noise (outcome_with size noise)
+settled_with HasWorth size None has = refl
+settled_with HasWorth size (Some noise) has = inl (pos size, has, refl)
+
 abbrev outcome_of_size : (size : ℕ) → (ℕ → ℕ → ℕ → ℕ) → Outcome
-outcome_of_size size draws = settled_by (pos size) (noise_at 1000000 (draws 0 0))
+outcome_of_size size draws = outcome_with size (noise_at 1000000 (draws 0 0))
 
 first_answer : (register : Register) (draws : ℕ → ℕ → ℕ → ℕ) (size : ℕ) → register.holding.tables ≡ people_table ∷ [] → IsAcceptedAt (owner_of register).tables size_people 1 1
     → money_verdict (owner_of register).entry 0 [] (ask_for a_query 1 1) ≡ Ok a_grant → HasValueIn (owner_of register).tables (owner_of register).rows Whole size_people (pos size)
     → IsAnswered (owner_of register) (draws 0) 0 [] a_query (outcome_reply a_grant (outcome_of_size size draws)) (made (outcome_of_size size draws))
 unfolding IsAnswered
 first_answer register draws size tables accepts money value =
-    (granted an_ask a_grant, money_says (owner_of register) 0 [] a_query 1 1 _ accepts money, (outcome_of_size size draws, (pos size, value, refl), refl, refl))
+    (granted an_ask a_grant, money_says (owner_of register) 0 [] a_query 1 1 _ accepts money, (outcome_of_size size draws, settled_with _ size (noise_at 1000000 (draws 0 0)) value, refl, refl))
 
 -- a script of one ask: ann greets, asks and ends
 abbrev one_ask_script : List ℕ
@@ -139,7 +151,7 @@ three_run draws =
       owners = one_owner three_rows draws (one_ask outcome) (made outcome) (three_leads draws);
     }
 
--- .. or memory ran out before
+-- .. or memory ran out before the reservation ..
 without_memory : (draws : ℕ → ℕ → ℕ → ℕ) → IsScriptRun (house_of three_rows) draws fresh one_ask_script (greeted (codes "ann") ∷ refused no_memory ∷ ended ∷ []) (only [])
 unfolding lines_of meant_by request_of
 without_memory draws =
@@ -150,6 +162,43 @@ without_memory draws =
       plain = ((refl, refl), (tt, ((refl, refl), tt)));
       owners = one_owner three_rows draws xs [] ([], ([], inr (refl, refl), refl, refl), refl);
     }
+
+-- .. or after it, where the draws suffice: both records are added
+lost_leads : (draws : ℕ → ℕ → ℕ → ℕ) (noise : ℤ) → noise_at 1000000 (draws 0 0) ≡ Some noise → LeadExactly (house_of three_rows) draws 0 0 [] (one_ask Lost) (made Lost)
+unfolding meant_by request_of cost_of partition_cost IsAnswered
+lost_leads draws noise is =
+    let settled = subst (λ (k : Option ℤ). IsSettledAt (λ z. HasValueIn (people_table ∷ []) (owner_of three_rows).rows Whole size_people z) k Lost) (sym is) (inr refl) in
+    (made Lost, (made Lost, inl (granted an_ask a_grant, money_says (owner_of three_rows) 0 [] a_query 1 1 _ size_asked refl, (Lost, settled, refl, refl)), refl, refl), refl)
+
+lost_run : (draws : ℕ → ℕ → ℕ → ℕ) (noise : ℤ) → noise_at 1000000 (draws 0 0) ≡ Some noise
+    → IsScriptRun (house_of three_rows) draws fresh one_ask_script (greeted (codes "ann") ∷ refused (by_number (NoAnswer 0)) ∷ ended ∷ []) (only (made Lost))
+unfolding lines_of meant_by request_of
+lost_run draws noise is = record {
+  exchanges = one_ask Lost;
+  turns = refl;
+  replied = refl;
+  plain = ((refl, refl), (tt, ((refl, refl), tt)));
+  owners = one_owner three_rows draws (one_ask Lost) (made Lost) (lost_leads draws noise is);
+}
+
+-- a loss is charged, and the next number is one more
+behind_loss : IsVerdict (owner_of three_rows).entry (people_table ∷ []) 0 (made Lost) a_query (granted an_ask (record { number = 1; taken = 1000000; seen = 3 }))
+unfolding cost_of partition_cost
+behind_loss = money_says (owner_of three_rows) 0 (made Lost) a_query 1 1 _ size_asked refl
+
+over_by_loss : IsVerdict (owner_of (house 1000000 100 [])).entry (people_table ∷ []) 0 (made Lost) a_query (money_refused (NoBudget 1000000 2000000 1000000 2))
+unfolding cost_of partition_cost
+over_by_loss = money_says (owner_of (house 1000000 100 [])) 0 (made Lost) a_query 1 1 _ size_asked refl
+
+-- Of these replies 90 and 51 say that memory ran out, and 50 doesn't.
+had_memory : HadMemory (refused (by_number (NoNoise 0)))
+had_memory = tt
+
+had_none_before : HadMemory (refused no_memory) → ⊥
+had_none_before had = had
+
+had_none_after : HadMemory (refused (by_number (NoAnswer 0))) → ⊥
+had_none_after had = had
 
 -- behind a bye nobody speaks
 behind_bye : (draws : ℕ → ℕ → ℕ → ℕ) → IsScriptRun (house_of three_rows) draws fresh (codes "hello ann\nbye\nask census 1 x\n") (greeted (codes "ann") ∷ ended ∷ refused (by_line NoHello) ∷ []) (only [])
@@ -209,7 +258,7 @@ second_full draws =
 
 -- what is written, with the noise -1, with none, and on no rows
 abbrev text_of : (size : ℕ) → Option ℤ → List ℕ
-text_of size noise = flat_map reply_text (greeted (codes "ann") ∷ outcome_reply a_grant (settled_by (pos size) noise) ∷ ended ∷ [])
+text_of size noise = flat_map reply_text (greeted (codes "ann") ∷ outcome_reply a_grant (outcome_with size noise) ∷ ended ∷ [])
 
 three_text : text_of 3 (Some (negsuc 0)) ≡ codes "hello ann\nanswer 0 2 1000000\nbye\n"
 unfolding reply_text digits
@@ -222,6 +271,10 @@ no_rows_text = refl
 exhausted_text : text_of 3 None ≡ codes "hello ann\nno 50 0\nbye\n"
 unfolding reply_text digits
 exhausted_text = refl
+
+lost_text : flat_map reply_text (greeted (codes "ann") ∷ refused (by_number (NoAnswer 0)) ∷ ended ∷ []) ≡ codes "hello ann\nno 51 0\nbye\n"
+unfolding reply_text digits
+lost_text = refl
 
 three_transcript : (draws : ℕ → ℕ → ℕ → ℕ) → noise_at 1000000 (draws 0 0) ≡ Some (negsuc 0) → IsTranscript (house_of three_rows) draws fresh one_ask_script (codes "hello ann\nanswer 0 2 1000000\nbye\n")
 unfolding IsTranscript IsScriptWritten

@@ -1,10 +1,12 @@
 -- every script has replies, where every program has a reading
 use Rattle.std.proofs.Common.{◌≡◌, ℕ, ◌==◌, Bool, true, false, cond, List, [], ◌∷◌, ◌++◌, length, map, slice_get, Option, Some, None, refl, sym, ◌∙◌, ap, subst, eqb-true}
-use Rattle.std.specs.Prelude.{ℤ, Result, Ok, Err, MatchBool}
+use Rattle.std.specs.Prelude.{ℤ, ◌+ℤ◌, Result, Ok, Err, MatchBool}
 use Rattle.std.specs.List.{AllByRecursion}
 use mathlib.Core.Logic.{inl}
 use Rattle.budget_core.specs.declared.records.View.{View}
 use Rattle.budget_core.specs.declared.records.View.TheVariants.{Whole}
+use Rattle.budget_core.specs.declared.records.Outcome.{Outcome}
+use Rattle.budget_core.specs.declared.records.Outcome.TheVariants.{Answered, Exhausted}
 use Rattle.budget_core.specs.declared.records.Record.{Record}
 use Rattle.budget_core.specs.declared.entry.Grant.{Grant}
 use Rattle.budget_core.specs.declared.entry.ReserveFault.{ReserveFault}
@@ -16,10 +18,10 @@ use Rattle.answer_path.specs.Owner.{Owner}
 use Rattle.answer_path.specs.Query.{Query}
 use Rattle.answer_path.specs.Reading.{Reading, IsReading}
 use Rattle.answer_path.specs.Judgement.{Judgement, refused_for, accepted, judgement_of}
-use Rattle.answer_path.specs.Program.{IsCharged}
+use Rattle.answer_path.specs.Program.{IsCharged, HasValueIn}
 use Rattle.answer_path.specs.Noise.{noise_at}
 use Rattle.answer_path.specs.Verdict.{program_refused, money_refused, granted, money_refusal, ask_for, verdict_by_money, IsVerdictBy, IsVerdict}
-use Rattle.answer_path.specs.Answered.{settled_by, outcome_reply, grant_records, IsAnswered}
+use Rattle.answer_path.specs.Answered.{outcome_reply, grant_records, IsSettledAt, IsAnswered}
 use Rattle.answer_path.proofs.Charged.{charged_have_values, accepted_finite}
 use Rattle.owner_history.specs.Sound.{HasData}
 use Rattle.owner_history.proofs.Grants.{accepted_as}
@@ -41,11 +43,17 @@ record IsAnswer (owner : Owner) (draws : ℕ → ℕ → ℕ) (start : ℕ) (rec
   answered : IsAnswered owner draws start records query reply added
   had : HadMemory reply
 
-module _ (owner : Owner) (draws : ℕ → ℕ → ℕ) (start : ℕ) (records : List Record) (query : Query) (has : HasData owner) (whole : query.view ≡ Whole) where
-  settled_had : (grant : Grant) (v : ℤ) (k : Option ℤ) → HadMemory (outcome_reply grant (settled_by v k))
-  settled_had grant v (Some k) = tt
-  settled_had grant v None = tt
+-- how a reservation is settled where memory suffices: by the program's value and the noise, or as exhausted
+record IsSettlement (HasWorth : ℤ → Type 0) (noise : Option ℤ) (grant : Grant) : Type 0 where
+  outcome : Outcome
+  settled : IsSettledAt HasWorth noise outcome
+  had : HadMemory (outcome_reply grant outcome)
 
+settlement : (HasWorth : ℤ → Type 0) (noise : Option ℤ) (grant : Grant) (value : ℤ) → HasWorth value → IsSettlement HasWorth noise grant
+settlement HasWorth None grant value has = record { outcome = Exhausted; settled = refl; had = tt }
+settlement HasWorth (Some noise) grant value has = record { outcome = Answered (value +ℤ noise); settled = inl (value, has, refl); had = tt }
+
+module _ (owner : Owner) (draws : ℕ → ℕ → ℕ) (start : ℕ) (records : List Record) (query : Query) (has : HasData owner) (whole : query.view ≡ Whole) where
   by_money_verdict : (p q : ℕ) (money : Result Grant ReserveFault) → money_verdict owner.entry start records (ask_for query p q) ≡ money → IsCharged owner.tables query.view query.program p q
       → ((v : _) → v ≡ verdict_by_money (ask_for query p q) money → IsVerdict owner.entry owner.tables start records query v) → IsAnswer owner draws start records query
   unfolding IsAnswered
@@ -53,12 +61,12 @@ module _ (owner : Owner) (draws : ℕ → ℕ → ℕ) (start : ℕ) (records : 
       record { reply = refused (by_money (money_refusal fault)); added = []; answered = (money_refused (money_refusal fault), verdict _ refl, (refl, refl)); had = tt }
   by_money_verdict p q (Ok grant) is charged verdict =
       let v = charged_have_values owner.tables owner.rows query.view query.program p q has.tables has.rows charged in
-      let outcome = settled_by v.0 (noise_at query.e (draws grant.number)) in
+      let made = settlement (λ z. HasValueIn owner.tables owner.rows query.view query.program z) (noise_at query.e (draws grant.number)) grant v.0 v.1 in
       record {
-        reply = outcome_reply grant outcome;
-        added = grant_records (ask_for query p q) grant outcome;
-        answered = (granted (ask_for query p q) grant, verdict _ refl, (outcome, (v.0, v.1, refl), refl, refl));
-        had = settled_had grant v.0 (noise_at query.e (draws grant.number));
+        reply = outcome_reply grant made.outcome;
+        added = grant_records (ask_for query p q) grant made.outcome;
+        answered = (granted (ask_for query p q) grant, verdict _ refl, (made.outcome, made.settled, refl, refl));
+        had = made.had;
       }
 
   by_judgement : (reading : Reading) → IsReading query.program reading → (j : Judgement) → judgement_of owner.tables reading ≡ j → IsAnswer owner draws start records query

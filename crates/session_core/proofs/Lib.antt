@@ -6,7 +6,6 @@ pub mod Runs
 pub mod Headlines
 pub mod Once
 pub mod Plain
-pub mod Losses
 pub mod Exists
 pub mod Rows
 pub mod Names

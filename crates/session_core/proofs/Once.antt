@@ -1,9 +1,11 @@
 -- two lists of replies to one script, in which memory didn't run out, are the same
-use Rattle.std.proofs.Common.{◌≡◌, ℕ, ◌==◌, Bool, true, false, List, [], ◌∷◌, ◌++◌, map, slice_get, Some, refl, sym, ◌∙◌, ap, subst, eq-eqb}
-use Rattle.std.specs.Prelude.{ℤ, MatchBool}
+use Rattle.std.proofs.Common.{◌≡◌, ℕ, ◌==◌, Bool, true, false, List, [], ◌∷◌, ◌++◌, map, slice_get, Option, Some, None, refl, sym, ◌∙◌, ap, subst, eq-eqb}
+use Rattle.std.specs.Prelude.{ℤ, ◌+ℤ◌, MatchBool}
 use Rattle.std.specs.List.{AllByRecursion}
 use mathlib.Core.Logic.{inl, inr}
+use Rattle.budget_core.specs.declared.entry.Grant.{Grant}
 use Rattle.budget_core.specs.declared.records.Outcome.{Outcome}
+use Rattle.budget_core.specs.declared.records.Outcome.TheVariants.{Answered, Lost}
 use Rattle.budget_core.specs.declared.records.Record.{Record}
 use Rattle.budget_core.specs.Entries.{Entry}
 use Rattle.fz_frac.specs.Distance.{Fin, Inf}
@@ -16,7 +18,7 @@ use Rattle.answer_path.specs.Noise.{noise_at}
 use Rattle.answer_path.specs.Reading.{Reading}
 use Rattle.answer_path.specs.Judgement.{Judgement, refused_for, accepted, judgement_of}
 use Rattle.answer_path.specs.Verdict.{Verdict, program_refused, money_refused, granted, IsVerdictBy, IsVerdict}
-use Rattle.answer_path.specs.Answered.{settled_by, outcome_reply, grant_records, IsSettledBy, IsAnsweredBy, IsAnswered}
+use Rattle.answer_path.specs.Answered.{outcome_reply, grant_records, IsSettledAt, IsSettledBy, IsAnsweredBy, IsAnswered}
 use Rattle.answer_path.proofs.Readings.{one_reading}
 use Rattle.answer_path.proofs.Charged.{one_value_in}
 use Rattle.session_core.specs.House.{House}
@@ -41,18 +43,28 @@ verdict_once entry tables start records query v w f g =
     judged_once entry start records query (judgement_of tables f.0) v w f.2
     (subst (λ (r : Reading). IsVerdictBy entry start records query (judgement_of tables r) w) (sym reads) g.2)
 
--- a reservation is settled in one way
-outcome_once : (owner : Owner) (draws : ℕ → ℕ → ℕ) (query : Query) (n : ℕ) (o u : Outcome) → IsSettledBy owner draws query n o → IsSettledBy owner draws query n u → o ≡ u
-outcome_once owner draws query n o u f g =
-    let same : f.0 ≡ g.0 = one_value_in owner.tables owner.rows query.view query.program f.0 g.0 f.1 g.1 in
-    f.2 ∙ ap (λ (z : ℤ). settled_by z (noise_at query.e (draws n))) same ∙ sym g.2
+-- a reservation is settled in one way, where its answer isn't lost
+settled_once : (HasWorth : ℤ → Type 0) (noise : Option ℤ) (o u : Outcome) → ((y z : ℤ) → HasWorth y → HasWorth z → y ≡ z) → (o ≡ Lost → ⊥) → (u ≡ Lost → ⊥)
+    → IsSettledAt HasWorth noise o → IsSettledAt HasWorth noise u → o ≡ u
+settled_once HasWorth None o u one kept held f g = f ∙ sym g
+settled_once HasWorth (Some noise) o u one kept held (inr lost) g = absurd (kept lost)
+settled_once HasWorth (Some noise) o u one kept held (inl f) (inr lost) = absurd (held lost)
+settled_once HasWorth (Some noise) o u one kept held (inl f) (inl g) = f.2 ∙ ap (λ (z : ℤ). Answered (z +ℤ noise)) (one f.0 g.0 f.1 g.1) ∙ sym g.2
 
-answered_once : (owner : Owner) (draws : ℕ → ℕ → ℕ) (query : Query) (v : Verdict) (reply other : Replied) (added more : List Record)
+outcome_once : (owner : Owner) (draws : ℕ → ℕ → ℕ) (query : Query) (n : ℕ) (o u : Outcome) → (o ≡ Lost → ⊥) → (u ≡ Lost → ⊥) → IsSettledBy owner draws query n o → IsSettledBy owner draws query n u → o ≡ u
+outcome_once owner draws query n o u kept held f g =
+    settled_once _ (noise_at query.e (draws n)) o u (λ y z has had. one_value_in owner.tables owner.rows query.view query.program y z has had) kept held f g
+
+-- a reply where memory sufficed is of no lost answer
+not_lost : (grant : Grant) (reply : Replied) (outcome : Outcome) → HadMemory reply → reply ≡ outcome_reply grant outcome → outcome ≡ Lost → ⊥
+not_lost grant reply outcome had is lost = subst (λ (r : Replied). HadMemory r) (is ∙ ap (λ (o : Outcome). outcome_reply grant o) lost) had
+
+answered_once : (owner : Owner) (draws : ℕ → ℕ → ℕ) (query : Query) (v : Verdict) (reply other : Replied) (added more : List Record) → HadMemory reply → HadMemory other
     → IsAnsweredBy owner draws query v reply added → IsAnsweredBy owner draws query v other more → (reply ≡ other) × (added ≡ more)
-answered_once owner draws query (program_refused refusal) reply other added more f g = (f.0 ∙ sym g.0, f.1 ∙ sym g.1)
-answered_once owner draws query (money_refused refusal) reply other added more f g = (f.0 ∙ sym g.0, f.1 ∙ sym g.1)
-answered_once owner draws query (granted asking grant) reply other added more f g =
-    let same : f.0 ≡ g.0 = outcome_once owner draws query grant.number f.0 g.0 f.1 g.1 in
+answered_once owner draws query (program_refused refusal) reply other added more had has f g = (f.0 ∙ sym g.0, f.1 ∙ sym g.1)
+answered_once owner draws query (money_refused refusal) reply other added more had has f g = (f.0 ∙ sym g.0, f.1 ∙ sym g.1)
+answered_once owner draws query (granted asking grant) reply other added more had has f g =
+    let same : f.0 ≡ g.0 = outcome_once owner draws query grant.number f.0 g.0 (not_lost grant reply f.0 had f.2) (not_lost grant other g.0 has g.2) f.1 g.1 in
     (f.2 ∙ ap (λ (o : Outcome). outcome_reply grant o) same ∙ sym g.2, f.3 ∙ ap (λ (o : Outcome). grant_records asking grant o) same ∙ sym g.3)
 
 ran_out : (reply : Replied) → HadMemory reply → reply ≡ refused no_memory → ⊥
@@ -66,7 +78,7 @@ met_once draws start owner (asks query) seen x y a b had has (added, inr f, told
 met_once draws start owner (asks query) seen x y a b had has (added, inl f, told, is) (more, inr g, said, ends) = absurd (ran_out y.reply has g.0)
 met_once draws start owner (asks query) seen x y a b had has (added, inl f, told, is) (more, inl g, said, ends) =
     let same : f.0 ≡ g.0 = verdict_once owner.entry owner.tables start seen query f.0 g.0 f.1 g.1 in
-    let both = answered_once owner draws query f.0 x.reply y.reply added more f.2 (subst (λ (v : Verdict). IsAnsweredBy owner draws query v y.reply more) (sym same) g.2) in
+    let both = answered_once owner draws query f.0 x.reply y.reply added more had has f.2 (subst (λ (v : Verdict). IsAnsweredBy owner draws query v y.reply more) (sym same) g.2) in
     (both.0, is ∙ ap (λ rs. seen ++ rs) both.1 ∙ sym ends)
 
 -- what two runs of one owner's part come from

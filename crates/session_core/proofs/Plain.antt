@@ -1,6 +1,6 @@
 -- what a line that asks nobody is told: a greeting, an end, or a refusal of the line
 use Rattle.std.proofs.Common.{ℕ, List, Option, Some, None}
-use Rattle.std.specs.Prelude.{Result, Ok, Err}
+use Rattle.std.specs.Prelude.{Result, Ok, Err, ⊤}
 use Rattle.wire_lines.specs.Reply.{Replied, greeted, ended, refused}
 use Rattle.wire_lines.specs.Refusal.{by_line}
 use Rattle.wire_lines.specs.Request.{Asked, hello, ask, bye, request_of}
@@ -12,7 +12,7 @@ use Rattle.session_core.specs.Meant.{Meant, says, wants, meant_by, meant_by_requ
 module _ (P : Replied → Type 0) (of_greeting : (name : List ℕ) → P (greeted name)) (of_end : P ended) (of_line : (refusal : LineRefusal) → P (refused (by_line refusal))) where
   abbrev pub Says : Meant → Type 0
   Says (says reply next) = P reply
-  Says (wants n owner demand) = Unit {0}
+  Says (wants n owner demand) = ⊤
 
   hello_says : (house : House) (who : Option ℕ) (name : List ℕ) (found : Option ℕ) → Says (meant_by_hello house who name found)
   hello_says house who name None = of_line _

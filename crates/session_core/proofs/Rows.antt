@@ -1,5 +1,5 @@
 -- the owner of a register, and the rows of the table of numbers
-use Rattle.std.proofs.Common.{◌≡◌, zero, suc, ◌≤◌, ◌^◌, List, [], ◌∷◌, length, refl, subst, arith}
+use Rattle.std.proofs.Common.{◌≡◌, zero, suc, List, [], ◌∷◌, refl, subst, arith}
 use Rattle.std.specs.Prelude.{ℤ, map, All}
 use Rattle.std.specs.List.{AllByRecursion}
 use Rattle.std.proofs.lemmas.List.Elements.{recursion_from_All, All-from_recursion}
@@ -25,13 +25,12 @@ number_rows : (numbers : List ℤ) → AllByRecursion IsCellNumber numbers → A
 number_rows [] h = tt
 number_rows (z ∷ zs) h = (h.0, number_rows zs h.1)
 
--- Numbers in range, and no more than 2^20 of them, are rows of the table.
-pub people_hold : (numbers : List ℤ) → All IsCellNumber numbers → length numbers ≤ 2 ^ 20 → IsHolding (people_holding numbers)
-people_hold numbers h few = record {
+-- Numbers in range are rows of the table.
+pub people_hold : (numbers : List ℤ) → All IsCellNumber numbers → IsHolding (people_holding numbers)
+people_hold numbers h = record {
   names = (refl, tt);
   dataset = (
     All-from_recursion (λ (row : Flat). TypedFlat NumT row) (map (λ z. NumF z) numbers) (number_rows numbers (recursion_from_All IsCellNumber numbers h)),
     tt,
   );
-  few = All-from_recursion (λ (table : List ℤ). length table ≤ 2 ^ 20) (numbers ∷ []) (few, tt);
 }

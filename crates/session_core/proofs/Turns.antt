@@ -1,7 +1,7 @@
 -- the turns of a script: whose lines they are, and who may speak
 use Rattle.std.proofs.Common.{◌≡◌, ℕ, ◌<◌, Bool, true, false, cond, List, [], ◌∷◌, ◌++◌, length, map, Option, Some, None, refl, ◌∙◌, ap, bytes_eq}
 use Rattle.std.specs.List.{flat_map, onto_first, AllByRecursion}
-use Rattle.std.specs.Prelude.{Result, Ok, Err}
+use Rattle.std.specs.Prelude.{Result, Ok, Err, ⊤}
 use Rattle.std.proofs.lemmas.List.{map-append}
 use Rattle.std.proofs.lemmas.List.Quantifiers.{position-Some}
 use Rattle.wire_lines.specs.Lines.{lines_of}
@@ -47,7 +47,7 @@ turns_lines house script = blocks_lines house (blocks_of (lines_of script)) ∙ 
 
 -- who speaks is an analyst of the house
 abbrev pub IsKnown : House → Option ℕ → Type 0
-IsKnown house None = Unit {0}
+IsKnown house None = ⊤
 IsKnown house (Some analyst) = analyst < length house.analysts
 
 greeted_known : (house : House) (who : Option ℕ) (name : List ℕ) (found : Option ℕ) → analyst_named house name ≡ found → IsKnown house who

@@ -1,6 +1,6 @@
 -- what a line that asks comes to
 use Rattle.std.proofs.Common.{◌≡◌, ℕ, suc, ◌+◌, ◌<◌, Bool, true, false, cond, List, [], ◌∷◌, length, slice_get, Option, Some, None, refl, sym, ◌∙◌, ap, arith, bytes_eq}
-use Rattle.std.specs.Prelude.{Result, Ok, Err}
+use Rattle.std.specs.Prelude.{Result, Ok, Err, ⊤}
 use Rattle.budget_core.specs.Entries.{IsEpsilon}
 use Rattle.budget_core.specs.declared.records.View.TheVariants.{Whole}
 use Rattle.wire_lines.proofs.Requests.{grammar_from}
@@ -22,7 +22,7 @@ pub record IsAskOf (house : House) (line : List ℕ) (n : ℕ) (owner : Owner) (
   pub written : request_of line ≡ Ok (ask name (Some query.e) query.program)
 
 abbrev pub AsksOnly : House → List ℕ → Meant → Type 0
-AsksOnly house line (says reply next) = Unit {0}
+AsksOnly house line (says reply next) = ⊤
 AsksOnly house line (wants n owner (asks query)) = IsAskOf house line n owner query
 
 found_from : (k : ℕ) (owners : List Owner) (name : List ℕ) (found : ℕ × Owner) → owner_from k owners name ≡ Some found → (i : ℕ) × (found.0 ≡ k + i) × (slice_get owners i ≡ Some found.1)

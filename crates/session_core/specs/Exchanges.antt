@@ -1,5 +1,5 @@
 -- lines and their replies, as far as they concern one owner
-use Rattle.std.specs.Prelude.{◌≡◌, ℕ, ◌==◌, Bool, false, List, [], ◌∷◌, MatchBool, if◌then◌else◌}
+use Rattle.std.specs.Prelude.{◌≡◌, ℕ, ◌==◌, Bool, false, List, [], ◌∷◌, ⊤, MatchBool, if◌then◌else◌}
 use Rattle.std.specs.List.{AllByRecursion, flat_map}
 use Rattle.budget_core.specs.declared.records.Record.{Record}
 use Rattle.wire_lines.specs.Reply.{Replied}
@@ -18,7 +18,7 @@ pub record Exchange : Type 0 where
 -- what a turn that asks no owner is told
 abbrev pub IsPlain : Meant → Exchange → Type 0
 IsPlain (says reply next) x = (x.reply ≡ reply) × (x.told ≡ [])
-IsPlain (wants n owner demand) x = Unit {0}
+IsPlain (wants n owner demand) x = ⊤
 
 abbrev pub ArePlain : House → List Exchange → Type 0
 ArePlain house xs = AllByRecursion (λ x. IsPlain (meant_at house x.turn) x) xs

@@ -43,7 +43,8 @@ pub record IsHonoured (house : House) (draws : ℕ → ℕ → ℕ → ℕ) (scr
   pub replied : IsReplied house draws o owner found earlier sources xs records
 
 -- The records of every owner are sound, whatever was replied.
-abbrev pub AreOwed : House → (ℕ → ℕ → ℕ → ℕ) → (found : Journals) → (earlier : Programs) → (script : List ℕ) → (records : Journals) → Type 0
+abbrev pub AreOwed :
+    House → (ℕ → ℕ → ℕ → ℕ) → (found : Journals) → (earlier : Programs) → (script : List ℕ) → (records : Journals) → Type 0
 AreOwed house draws found earlier script records = (o : ℕ) (owner : Owner) → slice_get house.owners o ≡ Some owner
     → (sources : Sources) × IsOwed house draws script o owner (found o) (earlier o) sources (records o)
 

@@ -1,11 +1,13 @@
 -- the house: its analysts, its owners, their tables
-use Rattle.std.specs.Prelude.{◌≡◌, ℕ, ◌+◌, ℤ, List, [], ◌∷◌, length, Option, Some, None, cond, position, bytes_eq, codes, All, IsTrue, slice_get, refl}
+use Rattle.std.specs.Prelude.{◌≡◌, refl, ℕ, ◌+◌, ℤ, List, [], ◌∷◌, length, Option, Some, None, cond, map}
+use Rattle.std.specs.Prelude.{position, bytes_eq, codes, All, IsTrue, slice_get}
 use Rattle.std.specs.Coded.{Coded, coded×, coded_list, coded_ℕ, code_by}
 use Rattle.budget_core.specs.Entries.{Entry, IsEntry}
 use Rattle.wire_lines.specs.Name.{is_name}
 use Rattle.fz_ast.specs.Types.{NumT}
 use Rattle.fz_ast.specs.Signature.{TableType, IsSignature, row_of}
-use Rattle.answer_path.specs.Owner.{Owner, Holding, IsHolding, holding_code, rows_held}
+use Rattle.metric_values.specs.Values.{NumF}
+use Rattle.answer_path.specs.Owner.{Owner, Holding, IsHolding, holding_code}
 use Rattle.owner_history.specs.Sound.{HasData}
 
 -- the analysts' names, in order, and the owners
@@ -59,7 +61,7 @@ entry_of register =
 
 abbrev pub owner_of : Register → Owner
 owner_of register =
-    record { name = register.owner; entry = entry_of register; tables = register.holding.tables; rows = rows_held register.holding }
+    record { name = register.owner; entry = entry_of register; tables = register.holding.tables; rows = register.holding.rows }
 
 abbrev pub house_of : Register → House
 house_of register = record { analysts = register.analysts; owners = owner_of register ∷ [] }
@@ -75,5 +77,6 @@ pub record IsRegister (register : Register) : Type 0 where
 abbrev pub people_table : TableType
 people_table = record { name = codes "people"; row = row_of NumT [] }
 
+-- and its rows, by their numbers
 abbrev pub people_holding : List ℤ → Holding
-people_holding numbers = record { tables = people_table ∷ []; numbers = numbers ∷ [] }
+people_holding numbers = record { tables = people_table ∷ []; rows = map (λ z. NumF z) numbers ∷ [] }

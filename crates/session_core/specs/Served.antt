@@ -19,7 +19,8 @@ abbrev pub MeetsOnSome : (ℕ → ℕ → ℕ) → (start : ℕ) → Owner → D
 MeetsOnSome draws start owner (asks query) seen x after = IsAsked owner draws start query seen x.reply x.told after
 
 -- One owner's part in some exchanges of one worker, in any order with those of others.
-abbrev pub AnswersOn : House → (ℕ → ℕ → ℕ → ℕ) → (o start : ℕ) → (seen : List Record) → List Exchange → (last : List Record) → Type 0
+abbrev pub AnswersOn :
+    House → (ℕ → ℕ → ℕ → ℕ) → (o start : ℕ) → (seen : List Record) → List Exchange → (last : List Record) → Type 0
 AnswersOn house draws o start seen xs last = Lead house o (MeetsOnSome (draws o) start) seen xs last
 
 -- the records stand at their places

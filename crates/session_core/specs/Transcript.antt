@@ -17,13 +17,15 @@ placed_from k [] = []
 placed_from k (x ∷ xs) = (k, x) ∷ placed_from (k + 1) xs
 
 -- A demand is met on just the records that were known: what it adds stands right behind them.
-abbrev pub MeetsExactly : (ℕ → ℕ → ℕ) → (start : ℕ) → Owner → Demand → (seen : List Record) → Exchange → (after : List Record) → Type 0
+abbrev pub MeetsExactly :
+    (ℕ → ℕ → ℕ) → (start : ℕ) → Owner → Demand → (seen : List Record) → Exchange → (after : List Record) → Type 0
 MeetsExactly draws start owner (asks query) seen x after =
     (added : List Record) × (IsAnswered owner draws start seen query x.reply added ⊎ IsUnanswered x.reply added)
     × (x.told ≡ placed_from (length seen) added) × (after ≡ seen ++ added)
 
 -- One owner's part in some exchanges, each turn on the records so far.
-abbrev pub LeadExactly : House → (ℕ → ℕ → ℕ → ℕ) → (o start : ℕ) → (seen : List Record) → List Exchange → (last : List Record) → Type 0
+abbrev pub LeadExactly :
+    House → (ℕ → ℕ → ℕ → ℕ) → (o start : ℕ) → (seen : List Record) → List Exchange → (last : List Record) → Type 0
 LeadExactly house draws o start seen xs last = Lead house o (MeetsExactly (draws o) start) seen xs last
 
 -- each owner's records, by its number
@@ -36,7 +38,8 @@ first_new found = length (reservations_of found)
 
 -- The replies to a script, where these records were found, and the records after it: each of the script's turns has its
 -- reply, and each owner's turns are answered one after another, on its records so far.
-pub record IsScriptRun (house : House) (draws : ℕ → ℕ → ℕ → ℕ) (found : Journals) (script : List ℕ) (replies : List Replied) (last : Journals) : Type 0 where
+pub record IsScriptRun (house : House) (draws : ℕ → ℕ → ℕ → ℕ) (found : Journals) (script : List ℕ)
+    (replies : List Replied) (last : Journals) : Type 0 where
   pub exchanges : List Exchange
   pub turns : map (λ x. x.turn) exchanges ≡ turns_of house script
   pub replied : map (λ x. x.reply) exchanges ≡ replies

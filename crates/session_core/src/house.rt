@@ -2,11 +2,14 @@
 
 ghost use Rattle.std.specs.Prelude.{◌≡◌, length, bytes_eq, map, string_bytes, [], ◌∷◌, position, IfOk, IfSome, IsTrue, ◌<◌};
 ghost use Rattle.wire_lines.specs.Name.{is_name};
-ghost use Rattle.session_core.specs.House.{Register, IsRegister, register_with, house_of, analyst_named, entry_of, people_table};
+ghost use Rattle.answer_path.specs.Owner.{IsHolding};
+ghost use Rattle.session_core.specs.House.{Register, IsRegister, register_with, house_of, analyst_named, entry_of};
+ghost use Rattle.session_core.specs.House.{people_table, people_holding};
 
 use answer_path::Dataset;
 use budget_core::entry::Entry;
 use fz_ast::{Column, Name, NoMemory, Sig, row_type};
+use metric_values::{Table, Tables};
 use std::alloc::Global;
 use std::marker::Model;
 
@@ -18,6 +21,18 @@ pub fn people_signature(alloc: Global) -> Result<Sig, NoMemory>
     let mut sig = Sig::new(alloc);
     sig.push(Name::new(b"people"), row)?;
     Ok(sig)
+}
+
+/// The table `people` with these numbers.
+pub fn people_dataset(alloc: Global, numbers: Vec<i64>) -> Result<Dataset, NoMemory>
+    requires { IsHolding (people_holding numbers.items) }
+    ensures { IfOk result (λ dataset. dataset ≡ people_holding numbers.items) }
+{
+    let sig = people_signature(alloc)?;
+    let rows = Table::numbers(alloc, numbers)?;
+    let mut tables = Tables::new(alloc);
+    tables.push(rows)?;
+    Ok(Dataset::new(sig, tables))
 }
 
 /// The analysts who may ask, and the owner with its budget, room for records, tables and rows.

@@ -7,14 +7,15 @@ ghost use Rattle.answer_path.specs.Owner.{Owner};
 ghost use Rattle.session_core.specs.House.{Register, IsRegister, House, AreOwners, house_of};
 ghost use Rattle.session_core.specs.Transcript.{Journals, IsScriptRun};
 ghost use Rattle.session_core.specs.Headline.{Programs, AreFound, AreOwed, Headline};
-ghost use Rattle.session_core.specs.Said.{HadMemory, IsNoLoss};
+ghost use Rattle.session_core.specs.Said.{HadMemory};
 
 /// The replies to a script, and the records after it, keep the promises to each owner: legal records within the budget,
 /// explained by the programs of the script's lines behind those of the records that were found, each line's reply the stated
 /// one, and against any second dataset a displacement of at most cost times distance. (It is proved of every house and of
 /// whatever legal and explained records were found, and there is nothing to do.)
 pub fn every_transcript_keeps_the_headline()
-    ensures { (house : House) (draws : ℕ → ℕ → ℕ → ℕ) (found : Journals) (earlier : Programs) (script : List ℕ) (replies : List Replied) (last : Journals) →
+    ensures { (house : House) (draws : ℕ → ℕ → ℕ → ℕ) (found : Journals) (earlier : Programs) (script : List ℕ) (replies : List Replied) →
+        (last : Journals) →
         AreOwners house → AreFound house draws earlier found →
         IsScriptRun house draws found script replies last → Headline house draws found earlier script replies last }
 {}
@@ -29,7 +30,8 @@ pub fn found_records_are_owed()
 /// Two lists of replies to a script, in none of which memory ran out, are the same, and so are each owner's records after
 /// them. (It is proved of every house, whatever records were found, and there is nothing to do.)
 pub fn one_transcript()
-    ensures { (house : House) (draws : ℕ → ℕ → ℕ → ℕ) (found : Journals) (script : List ℕ) (replies others : List Replied) (last end : Journals) →
+    ensures { (house : House) (draws : ℕ → ℕ → ℕ → ℕ) (found : Journals) (script : List ℕ) (replies others : List Replied) →
+        (last end : Journals) →
         IsScriptRun house draws found script replies last → IsScriptRun house draws found script others end →
         AllByRecursion HadMemory replies → AllByRecursion HadMemory others →
         (replies ≡ others) × ((o : ℕ) (owner : Owner) → slice_get house.owners o ≡ Some owner → last o ≡ end o) }
@@ -40,12 +42,6 @@ pub fn one_transcript()
 pub fn scripts_have_transcripts()
     ensures { (house : House) (draws : ℕ → ℕ → ℕ → ℕ) (found : Journals) (script : List ℕ) → AreOwners house →
         (replies : List Replied) × (last : Journals) × IsScriptRun house draws found script replies last × AllByRecursion HadMemory replies }
-{}
-
-/// No reply to a script says that an answer was lost, whatever records were found. (It is proved, and there is nothing to do.)
-pub fn no_reply_is_lost()
-    ensures { (house : House) (draws : ℕ → ℕ → ℕ → ℕ) (found : Journals) (script : List ℕ) (replies : List Replied) (last : Journals) →
-        IsScriptRun house draws found script replies last → AllByRecursion IsNoLoss replies }
 {}
 
 /// A register's owner has rows of its tables, and counts its analysts. (It is proved, and there is nothing to do.)

@@ -1,6 +1,7 @@
 //! A script, from its bytes to its replies.
 
-ghost use Rattle.std.specs.Prelude.{◌≡◌, ◌+◌, ◌-◌, ◌++◌, ◌<◌, ◌≤◌, ◌^◌, length, min, IfOk, IfErr, None, if◌then◌else◌, vec_capacity, List};
+ghost use Rattle.std.specs.Prelude.{◌≡◌, ◌+◌, ◌-◌, ◌++◌, ◌<◌, ◌≤◌, ◌^◌, length, min};
+ghost use Rattle.std.specs.Prelude.{IfOk, IfErr, None, if◌then◌else◌, vec_capacity, List};
 ghost use Rattle.wire_lines.specs.Lines.{lines_of};
 ghost use Rattle.wire_lines.specs.Reply.{replied, reply_text};
 ghost use Rattle.answer_path.specs.Answered.{Told};

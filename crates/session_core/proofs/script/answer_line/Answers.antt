@@ -1,7 +1,7 @@
 use Rattle.std.proofs.Common.{◌∙◌, ℕ, List, [], ◌∷◌, refl, sym, ap, subst}
 use Rattle.budget_core.specs.Entries.{Entry}
 use Rattle.wire_lines.specs.Reply.{replied}
-use Rattle.answer_path.specs.Owner.{Holding, rows_held}
+use Rattle.answer_path.specs.Owner.{Holding}
 use Rattle.answer_path.specs.Answered.{IsAsked}
 use Rattle.answer_path.specs.Pass.{Pass, first_of_run}
 use Rattle.answer_path.specs.Code.{query_of, IsQueryOf}
@@ -27,7 +27,7 @@ returns-in-Asks-clause-served g c =
     let step = c.ask.ensures.step (owner_of register) (record {
       entry_is = sym entry;
       tables_are = ap (λ (h : Holding). h.tables) (sym c.dataset.ensures);
-      rows_are = ap (λ (h : Holding). rows_held h) (sym c.dataset.ensures);
+      rows_are = ap (λ (h : Holding). h.rows) (sym c.dataset.ensures);
     }) in
     let x : Exchange = record { turn = record { who = c.args.who; line = c.args.line.now }; reply = replied c.ask.result; told = step.0 } in
     let asked = subst (λ (n : ℕ). IsAsked (owner_of register) (draws n) (first_of_run c.passes.inside.pass) query c.passes.inside.pass.seen (replied c.ask.result) step.0 c.ask.new.pass.seen) c.in-Asks.ensures.proper.0 step.1 in

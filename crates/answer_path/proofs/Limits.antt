@@ -1,0 +1,93 @@
+-- Programs at each limit of the run without data, and one past it.
+use Rattle.std.proofs.Common.{◌≡◌, ℕ, zero, suc, codes, refl, pos}
+use Rattle.fz_frac.specs.Distance.{Fin}
+use Rattle.fz_frac.specs.Lowest.{gcd, gcd_in, is_out}
+use Rattle.fz_ast.specs.Terms.{AppE, ClipE, FunE, IfE, LeE, LetE, NumE, PairE, PlusE, SizeE, UnionE, Name, Term, VarE, at}
+use Rattle.fz_ast.specs.Types.{NumT}
+use Rattle.metric_law.specs.Worked.{worked_tables}
+use Rattle.shape_law.specs.Walk.{depth_limit}
+use Rattle.wire_lines.specs.Refusal.{ill_typed, unbounded, no_number, too_deep, too_long, too_wide}
+use Rattle.wire_lines.specs.declared.refusal.TypeFault.TheVariants.{Unbound}
+use Rattle.answer_path.specs.Reading.{read}
+use Rattle.answer_path.specs.Judgement.{refused_for, accepted, judgement_of}
+use Rattle.answer_path.proofs.SizePeople.{span}
+
+abbrev name : Name → Term
+name x = at (span 1 2) (VarE x)
+
+abbrev number : Term
+number = at (span 3 4) (NumE (pos 1))
+
+abbrev let_in : Name → Term → Term → Term
+let_in x e b = at (span 0 9) (LetE x e b)
+
+abbrev function : Name → Term → Term
+function x e = at (span 0 9) (FunE x (span 5 8) NumT e)
+
+abbrev applied : Name → Term → Term
+applied f e = at (span 0 9) (AppE (name f) e)
+
+-- n clips around a term
+abbrev clipped : ℕ → Term → Term
+clipped zero e = e
+clipped (suc n) e = at (span 0 9) (ClipE (pos 0) (pos 1) (clipped n e))
+
+-- let f = fun (x : num) => x under 40 clips in let g = fun (y : num) => f y under 40 clips in g 1 under n clips.
+-- The x is visited at depth n + 85.
+abbrev chained : ℕ → Term
+chained n =
+    let_in (codes "f") (function (codes "x") (clipped 40 (at (span 6 7) (VarE (codes "x")))))
+    (let_in (codes "g") (function (codes "y") (clipped 40 (applied (codes "f") (name (codes "y")))))
+    (clipped n (applied (codes "g") number)))
+
+just_deep : judgement_of worked_tables (read (chained 43)) ≡ accepted (chained 43) (Fin 0 1)
+unfolding judgement_of depth_limit gcd gcd_in is_out
+just_deep = refl
+
+too_deep_is : judgement_of worked_tables (read (chained 44)) ≡ refused_for (too_deep 6 7)
+unfolding judgement_of depth_limit gcd gcd_in is_out
+too_deep_is = refl
+
+-- the typing rules come first: an unbound name, a table without a bound, and a value that is no number
+unbound_first : judgement_of worked_tables (read (at (span 0 9) (PlusE (chained 44) (name (codes "z"))))) ≡ refused_for (ill_typed Unbound 1 2)
+unfolding judgement_of depth_limit gcd gcd_in is_out
+unbound_first = refl
+
+unbounded_first : judgement_of worked_tables (read (at (span 0 9) (IfE (at (span 0 9) (LeE (at (span 0 9) (SizeE (name (codes "people")))) number)) (chained 44) number)))
+    ≡ refused_for (unbounded (codes "people"))
+unfolding judgement_of depth_limit gcd gcd_in is_out
+unbounded_first = refl
+
+no_number_first : judgement_of worked_tables (read (at (span 0 9) (PairE (chained 44) number))) ≡ refused_for no_number
+unfolding judgement_of depth_limit gcd gcd_in is_out
+no_number_first = refl
+
+-- n times let f = fun (x : num) => f (f x) in .., and then the term
+abbrev twice : ℕ → Term → Term
+twice zero e = e
+twice (suc n) e = let_in (codes "f") (function (codes "x") (applied (codes "f") (applied (codes "f") (name (codes "x"))))) (twice n e)
+
+-- f 1 under n clips, where f is doubled nine times from x under 33 clips: 19986 + n turns
+abbrev repeated : ℕ → Term
+repeated n = let_in (codes "f") (function (codes "x") (clipped 33 (at (span 6 7) (VarE (codes "x"))))) (twice 9 (clipped n (applied (codes "f") number)))
+
+just_long : judgement_of worked_tables (read (repeated 14)) ≡ accepted (repeated 14) (Fin 0 1)
+unfolding judgement_of depth_limit gcd gcd_in is_out
+just_long = refl
+
+too_long_is : judgement_of worked_tables (read (repeated 15)) ≡ refused_for (too_long 6 7)
+unfolding judgement_of depth_limit gcd gcd_in is_out
+too_long_is = refl
+
+-- n times let x = union x x in .., from this name, and then the term
+abbrev doublings : ℕ → Name → Term → Term
+doublings zero x e = e
+doublings (suc n) x e = let_in (codes "x") (at (span 0 9) (UnionE (name x) (name x))) (doublings n (codes "x") e)
+
+just_wide : judgement_of worked_tables (read (doublings 6 (codes "people") (at (span 0 9) (SizeE (name (codes "x")))))) ≡ accepted (doublings 6 (codes "people") (at (span 0 9) (SizeE (name (codes "x"))))) (Fin 64 1)
+unfolding judgement_of depth_limit gcd gcd_in is_out
+just_wide = refl
+
+too_wide_is : judgement_of worked_tables (read (doublings 6 (codes "people") (at (span 0 9) (SizeE (at (span 6 8) (UnionE (name (codes "x")) (name (codes "people")))))))) ≡ refused_for (too_wide 6 8 65)
+unfolding judgement_of depth_limit gcd gcd_in is_out
+too_wide_is = refl
