@@ -5,17 +5,27 @@ use Rattle.std.proofs.lemmas.Bool.{le-leb, lt-leb}
 use Rattle.fz_outside.specs.Files.{IsRead, IsBounded}
 use Rattle.fz_outside.specs.declared.files.FileRead.{FileRead}
 use Rattle.fz_outside.specs.declared.files.FileRead.TheVariants.{Absent, TooLong, Bytes}
-use Rattle.query_server.specs.Command.{Command, run, check, command_of}
+use Rattle.command_words.specs.Command.{Command, run, check, gap, command_of}
 use Rattle.query_server.specs.Ending.{Ending}
-use Rattle.query_server.specs.Files.{readable, IsHeldFile}
+use Rattle.query_server.specs.Files.{readable, IsHeldFile, IsLeft}
 use Rattle.query_server.specs.Run.{run_ending}
 use Rattle.query_server.specs.Check.{check_ending}
+use Rattle.query_server.specs.Gap.{gap_ending}
 use Rattle.query_server.specs.Due.{ForContents, command_ending, ending_of}
 
 -- some contents of a file
 pub any_held : (held : Option (List ℕ → Option (List ℕ))) (name : List ℕ) → (contents : Option (List ℕ)) × IsHeldFile held name contents
 any_held None name = (None, tt)
 any_held (Some told) name = (told name, refl)
+
+-- what files hold may be called otherwise
+pub held_same : (held other : Option (List ℕ → Option (List ℕ))) (name : List ℕ) (contents : Option (List ℕ)) → other ≡ held → IsHeldFile other name contents → IsHeldFile held name contents
+held_same held other name contents same is = subst (λ (h : Option (List ℕ → Option (List ℕ))). IsHeldFile h name contents) same is
+
+-- some bytes of a source
+pub any_left : (left : Option (List ℕ)) → (script : List ℕ) × IsLeft left script
+any_left None = ([], tt)
+any_left (Some bytes) = (bytes, refl)
 
 readable_short : (bytes : List ℕ) → length bytes ≤ 2 ^ 26 → readable (Some bytes) ≡ Some bytes
 readable_short bytes short = ap (λ b. cond b (Some bytes) None) (le-leb (length bytes) (2 ^ 26) short)
@@ -49,8 +59,10 @@ read_contents (Some told) name read found bound = (told name, refl, read_told (t
 pub for_contents : (command : Option Command) (held : Option (List ℕ → Option (List ℕ))) (left : Option (List ℕ)) (P Q : Ending → List ℕ → Type 0)
     → ((ending : Ending) (script : List ℕ) → P ending script → Q ending script) → ForContents command held left P → ForContents command held left Q
 for_contents None held left P Q f p = λ script. f _ script (p script)
-for_contents (Some (run catalog key)) held left P Q f (table, given, script, has_table, has_key, has_script, p) =
+for_contents (Some (run catalog key workers)) held left P Q f (table, given, script, has_table, has_key, has_script, p) =
     (table, given, script, has_table, has_key, has_script, f _ _ p)
+for_contents (Some (gap catalog owner second_catalog file)) held left P Q f (table, second, program, has_table, has_second, has_program, p) =
+    (table, second, program, has_table, has_second, has_program, λ script. f _ script (p script))
 for_contents (Some (check catalog owner file)) held left P Q f (table, program, has_table, has_program, p) =
     (table, program, has_table, has_program, λ script. f _ script (p script))
 
@@ -68,12 +80,41 @@ by_check held catalog owner file table given script P has_table has_file p =
     subst (λ (bytes : Option (List ℕ)). P (check_ending catalog owner file (readable (held catalog)) (readable bytes)) script) has_file
     (subst (λ (bytes : Option (List ℕ)). P (check_ending catalog owner file (readable bytes) (readable given)) script) has_table p)
 
+by_gap : (held : List ℕ → Option (List ℕ)) (catalog owner second_catalog file : List ℕ) (table second given : Option (List ℕ)) (script : List ℕ) (P : Ending → List ℕ → Type 0)
+    → table ≡ held catalog → second ≡ held second_catalog → given ≡ held file → P (gap_ending catalog owner second_catalog file (readable table) (readable second) (readable given)) script
+    → P (gap_ending catalog owner second_catalog file (readable (held catalog)) (readable (held second_catalog)) (readable (held file))) script
+by_gap held catalog owner second_catalog file table second given script P has_table has_second has_file p =
+    subst (λ (bytes : Option (List ℕ)). P (gap_ending catalog owner second_catalog file (readable (held catalog)) (readable (held second_catalog)) (readable bytes)) script) has_file
+    (subst (λ (bytes : Option (List ℕ)). P (gap_ending catalog owner second_catalog file (readable (held catalog)) (readable bytes) (readable given)) script) has_second
+    (subst (λ (bytes : Option (List ℕ)). P (gap_ending catalog owner second_catalog file (readable bytes) (readable second) (readable given)) script) has_table p))
+
+-- What is so of every ending is so at some contents.
+pub at_some : (command : Option Command) (held : Option (List ℕ → Option (List ℕ))) (left : Option (List ℕ)) (P : Ending → List ℕ → Type 0)
+    → ((ending : Ending) (script : List ℕ) → P ending script) → ForContents command held left P
+at_some None held left P p = λ script. p _ script
+at_some (Some (run catalog key workers)) held left P p =
+    let table = any_held held catalog in
+    let given = any_held held key in
+    let script = any_left left in
+    (table.0, given.0, script.0, table.1, given.1, script.1, p _ script.0)
+at_some (Some (gap catalog owner second_catalog file)) held left P p =
+    let table = any_held held catalog in
+    let second = any_held held second_catalog in
+    let program = any_held held file in
+    (table.0, second.0, program.0, table.1, second.1, program.1, λ script. p _ script)
+at_some (Some (check catalog owner file)) held left P p =
+    let table = any_held held catalog in
+    let program = any_held held file in
+    (table.0, program.0, table.1, program.1, λ script. p _ script)
+
 -- where files tell what they hold
 pub at_held : (command : Option Command) (held : List ℕ → Option (List ℕ)) (left : Option (List ℕ)) (P : Ending → List ℕ → Type 0)
     → ForContents command (Some held) left P → (script : List ℕ) × P (command_ending command held) script
 at_held None held left P p = ([], p [])
-at_held (Some (run catalog key)) held left P (table, given, script, has_table, has_key, has_script, p) =
+at_held (Some (run catalog key workers)) held left P (table, given, script, has_table, has_key, has_script, p) =
     (script, by_run held catalog key table given script P has_table has_key p)
+at_held (Some (gap catalog owner second_catalog file)) held left P (table, second, program, has_table, has_second, has_program, p) =
+    ([], by_gap held catalog owner second_catalog file table second program [] P has_table has_second has_program (p []))
 at_held (Some (check catalog owner file)) held left P (table, program, has_table, has_program, p) =
     ([], by_check held catalog owner file table program [] P has_table has_program (p []))
 
@@ -81,9 +122,11 @@ at_held (Some (check catalog owner file)) held left P (table, program, has_table
 pub at_told : (command : Option Command) (held : List ℕ → Option (List ℕ)) (script : List ℕ) (P : Ending → List ℕ → Type 0)
     → ForContents command (Some held) (Some script) P → P (command_ending command held) script
 at_told None held script P p = p script
-at_told (Some (run catalog key)) held script P (table, given, other, has_table, has_key, has_script, p) =
+at_told (Some (run catalog key workers)) held script P (table, given, other, has_table, has_key, has_script, p) =
     subst (λ (left : List ℕ). P (run_ending catalog key (readable (held catalog)) (readable (held key))) left) has_script
     (by_run held catalog key table given other P has_table has_key p)
+at_told (Some (gap catalog owner second_catalog file)) held script P (table, second, program, has_table, has_second, has_program, p) =
+    by_gap held catalog owner second_catalog file table second program script P has_table has_second has_program (p script)
 at_told (Some (check catalog owner file)) held script P (table, program, has_table, has_program, p) =
     by_check held catalog owner file table program script P has_table has_program (p script)
 

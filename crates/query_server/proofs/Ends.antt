@@ -1,23 +1,22 @@
 -- what stops a command, and what it ends with
-use Rattle.std.proofs.Common.{◌≡◌, ℕ, ◌≤◌, ◌<◌, ◌+◌, List, [], ◌∷◌, ◌++◌, length, Option, Some, None, refl, sym, ap, subst, ◌∙◌, arith, string_bytes, length-append, append-nil}
-use Rattle.std.specs.Prelude.{Result, Ok, Err, MatchResult, ℤ, ◌^◌}
+use Rattle.std.proofs.Common.{◌≡◌, ℕ, ◌<◌, List, [], ◌++◌, length, Option, Some, None, refl, sym, ap, subst, ◌∙◌, arith, string_bytes, length-append, append-nil}
+use Rattle.std.specs.Prelude.{Result, Ok, Err, MatchResult, ℤ}
 use Rattle.std.specs.Io.KnownBytes.{prepend_known, IsAtEnd}
-use mathlib.Core.Logic.{◌⊎◌, inl, inr}
-use Rattle.query_server.specs.Ending.{Ending, usage, refused, to_answer, to_check}
+use mathlib.Core.Logic.{inl, inr}
+use Rattle.session_core.specs.House.{people_holding}
+use Rattle.query_server.specs.Ending.{Ending, refused, to_answer, to_check, to_compare}
 use Rattle.query_server.specs.Files.{IsLeft}
 use Rattle.query_server.specs.Run.{IsScriptDue, script_limit}
 use Rattle.query_server.specs.Due.{IsDue}
 use Rattle.query_server.specs.Status.{refused_text, usage_text}
-use Rattle.query_server.specs.Ends.{IsStop, IsStopAt, IsRefusalOf, IsFailing, IsEndOf, IsVerdictOn, stop_status, run_status, run_text, check_status, check_text, end_by}
+use Rattle.query_server.specs.Ends.{IsStopFor, IsStopAt, IsRefusalOf, IsFailing, IsEndOf, IsGapOn, IsVerdictOn, stop_status, run_status, run_text, program_status, program_text, end_by}
 use Rattle.query_server.specs.Taken.{IsTaken}
-use Rattle.query_server.specs.declared.end.Status.{Status}
 use Rattle.query_server.specs.declared.end.Status.TheVariants as code
 use Rattle.query_server.specs.declared.end.Stop.{Stop}
 use Rattle.query_server.specs.declared.end.Stop.TheVariants.{Usage, Refused, Fault, NoMemory}
-use Rattle.query_server.specs.declared.end.End.{End}
-use Rattle.query_server.specs.declared.end.End.TheVariants.{Stopped, Run, Check}
+use Rattle.query_server.specs.declared.end.End.TheVariants.{Stopped, Run, Check, Gap}
 use Rattle.query_server.specs.declared.running.RunEnd.{RunEnd}
-use Rattle.query_server.specs.declared.checking.CheckEnd.{CheckEnd}
+use Rattle.query_server.specs.declared.programs.ProgramEnd.{ProgramEnd}
 
 -- a name that is refused, with its cause
 pub stop_at : (name : List ℕ) (Cause : Type 0) (stop : Stop) → Cause → IsRefusalOf name stop → IsStopAt name Cause stop
@@ -27,14 +26,14 @@ stop_at name Cause Fault cause is = absurd is
 stop_at name Cause NoMemory cause is = tt
 
 -- the cause gives the ending
-pub stop_by : (ending : Ending) (name : List ℕ) (Cause : Type 0) (stop : Stop) → (Cause → ending ≡ refused name) → IsStopAt name Cause stop → IsStop ending stop
+pub stop_by : (ending : Ending) (name : List ℕ) (Cause : Type 0) (stop : Stop) → (Cause → ending ≡ refused name) → IsStopAt name Cause stop → IsStopFor ending stop
 stop_by ending name Cause Usage f is = absurd is
 stop_by ending name Cause (Refused other) f (same, cause) = f cause ∙ ap refused (sym same)
 stop_by ending name Cause Fault f is = tt
 stop_by ending name Cause NoMemory f is = tt
 
 -- What stops a command is due, whatever the script is.
-pub stop_end : (ending : Ending) (script : List ℕ) (stop : Stop) → IsStop ending stop → IsEndOf ending script (Stopped stop)
+pub stop_end : (ending : Ending) (script : List ℕ) (stop : Stop) → IsStopFor ending stop → IsEndOf ending script (Stopped stop)
 stop_end ending script Usage is = inl (subst (λ (e : Ending). IsDue e script code.Usage usage_text) (sym is) (refl, refl))
 stop_end ending script (Refused name) is = inl (subst (λ (e : Ending). IsDue e script code.Refused (refused_text (string_bytes name))) (sym is) (refl, refl))
 stop_end ending script Fault is = inr (inl refl)
@@ -67,11 +66,6 @@ left_too_long before None taken is long = (taken, subst (λ (left : Option (List
 left_too_long before (Some rest) taken is long =
     (taken ++ rest, subst (λ (left : Option (List ℕ)). IsLeft left (taken ++ rest)) (sym is) refl, omega (arith, long, length-append taken rest))
 
--- some bytes of a source
-pub any_left : (left : Option (List ℕ)) → (script : List ℕ) × IsLeft left script
-any_left None = ([], tt)
-any_left (Some bytes) = (bytes, refl)
-
 -- the end of a script that was to be answered
 pub script_end : (ending : Ending) (ages : List ℤ) (key script : List ℕ) (result : Result RunEnd Stop) → ending ≡ to_answer ages key
     → MatchResult result (λ end. IsScriptDue ages key script (run_status end) (run_text end)) IsFailing → IsEndOf ending script (end_by Run result)
@@ -79,13 +73,18 @@ script_end ending ages key script (Ok end) is due = inl (subst (λ (e : Ending).
 script_end ending ages key script (Err stop) is failing = failing_end ending script stop failing
 
 -- and of a program that was to be checked
-pub program_end : (ending : Ending) (program script : List ℕ) (end : CheckEnd) → ending ≡ to_check program → IsVerdictOn program end → IsEndOf ending script (Check end)
-program_end ending program script end is verdict = inl (subst (λ (e : Ending). IsDue e script (check_status end) (check_text end)) (sym is) verdict)
+pub program_end : (ending : Ending) (program script : List ℕ) (end : ProgramEnd) → ending ≡ to_check program → IsVerdictOn program end → IsEndOf ending script (Check end)
+program_end ending program script end is verdict = inl (subst (λ (e : Ending). IsDue e script (program_status end) (program_text end)) (sym is) verdict)
+
+-- and of one that was to be compared
+pub gap_end : (ending : Ending) (ages second_ages : List ℤ) (program script : List ℕ) (end : ProgramEnd) → ending ≡ to_compare ages second_ages program
+    → IsGapOn (people_holding ages).rows (people_holding second_ages).rows program end → IsEndOf ending script (Gap end)
+gap_end ending ages second_ages program script end is due = inl (subst (λ (e : Ending). IsDue e script (program_status end) (program_text end)) (sym is) due)
 
 -- a stop that is passed on
 pub passed_on : {T : Type 0} (r : Result T Stop) (x y : Stop) (P : T → Type 0) (Q : Stop → Type 0) → r ≡ Err x → x ≡ y → Q y → MatchResult r P Q
 passed_on r x y P Q e f h = rw (e, f) h
 
 -- a `run` that is stopped
-pub passed_end : (ending : Ending) (script : List ℕ) (r : Result RunEnd Stop) (x y : Stop) → r ≡ Err x → x ≡ y → IsStop ending y → IsEndOf ending script (end_by Run r)
+pub passed_end : (ending : Ending) (script : List ℕ) (r : Result RunEnd Stop) (x y : Stop) → r ≡ Err x → x ≡ y → IsStopFor ending y → IsEndOf ending script (end_by Run r)
 passed_end ending script r x y e f h = rw (e, f) (stop_end ending script y h)

@@ -1,21 +1,27 @@
 -- worked examples of the definitions, from the written rules, on both sides of each choice and at each limit
 use Rattle.std.proofs.Common.{◌≡◌, ℕ, ◌+◌, ◌<◌, ◌≤◌, cond, List, [], ◌∷◌, length, Option, Some, None, refl, ap, replicate, subst, arith}
-use Rattle.std.specs.Prelude.{ℤ, ◌^◌, Ok, Err, codes, pos}
+use Rattle.std.specs.Prelude.{ℤ, ◌^◌, Ok, Err, codes, pos, negsuc}
 use Rattle.std.proofs.lemmas.Bool.{le-leb, lt-leb}
 use Rattle.std.specs.Fmt.{digits}
 use Rattle.std.specs.Io.KnownBytes.{prepend_known}
-use mathlib.Core.Logic.{◌⊎◌, inl, inr}
+use mathlib.Core.Logic.{inl, inr}
 use Rattle.fz_frac.specs.Distance.{Fin}
 use Rattle.table_store.specs.declared.TableFault.{TableFault}
-use Rattle.session_core.specs.House.{people_table}
-use Rattle.query_server.specs.Command.{run, check, command_of}
-use Rattle.query_server.specs.Status.{code_of, refused_text, memory_text, too_long_text, usage_text}
-use Rattle.query_server.specs.Ending.{Ending, usage, refused, to_answer, to_check}
+use Rattle.metric_values.specs.Values.{NumF}
+use Rattle.metric_values.specs.Tables.{Dataset, apart}
+use Rattle.wire_lines.specs.Refusal.{no_token}
+use Rattle.wire_lines.specs.Reply.{reply_text}
+use Rattle.answer_path.specs.Reading.{IsReading, unlexed}
+use Rattle.answer_path.specs.Judgement.{judgement_of, refused_for}
+use Rattle.session_core.specs.House.{people_holding, people_table}
+use Rattle.query_server.specs.Status.{code_of, refused_text, usage_text}
+use Rattle.query_server.specs.Ending.{usage, refused, to_compare}
 use Rattle.query_server.specs.Files.{readable}
 use Rattle.query_server.specs.House.{census}
 use Rattle.query_server.specs.Run.{script_limit, rows_ending, key_ending, run_ending, IsScriptDue}
 use Rattle.query_server.specs.Check.{checked_ending, check_ending, accepted_text}
-use Rattle.query_server.specs.Due.{command_ending, IsPrefix, IsWrittenAt}
+use Rattle.query_server.specs.Gap.{IsGapBy, IsGapDue, both_rows_ending, gap_ending, gap_text, second_ending}
+use Rattle.query_server.specs.Due.{IsFaultyWordsEnd, command_ending, IsPrefix, IsWrittenAt}
 use Rattle.query_server.specs.Taken.{IsTaken}
 use Rattle.query_server.specs.declared.end.Status.TheVariants.{Done, ProgramRefused, Usage, Refused, Fault, NoMemory, ScriptTooLong}
 
@@ -55,34 +61,6 @@ whole_line = refl
 fraction_line : accepted_text (Fin 3 2) ≡ codes "ok 3/2\n"
 unfolding digits
 fraction_line = refl
-
--- the words
-a_run : command_of (codes "run" ∷ codes "people.csv" ∷ codes "key" ∷ []) ≡ Some (run (codes "people.csv") (codes "key"))
-a_run = refl
-
-a_check : command_of (codes "check" ∷ codes "people.csv" ∷ codes "census" ∷ codes "query" ∷ []) ≡ Some (check (codes "people.csv") (codes "census") (codes "query"))
-a_check = refl
-
-no_words : command_of [] ≡ None
-no_words = refl
-
-run_alone : command_of (codes "run" ∷ []) ≡ None
-run_alone = refl
-
-run_short : command_of (codes "run" ∷ codes "people.csv" ∷ []) ≡ None
-run_short = refl
-
-run_long : command_of (codes "run" ∷ codes "people.csv" ∷ codes "key" ∷ codes "more" ∷ []) ≡ None
-run_long = refl
-
-check_short : command_of (codes "check" ∷ codes "people.csv" ∷ codes "census" ∷ []) ≡ None
-check_short = refl
-
-check_long : command_of (codes "check" ∷ codes "people.csv" ∷ codes "census" ∷ codes "query" ∷ codes "more" ∷ []) ≡ None
-check_long = refl
-
-capital : command_of (codes "Run" ∷ codes "people.csv" ∷ codes "key" ∷ []) ≡ None
-capital = refl
 
 -- files by their length
 longest_file : (bytes : List ℕ) → length bytes ≡ 67108864 → readable (Some bytes) ≡ Some bytes
@@ -130,13 +108,83 @@ rows_before_file catalog file fault = refl
 file_at_last : (catalog file : List ℕ) (ages : List ℤ) → checked_ending catalog file (Ok ages) None ≡ refused file
 file_at_last catalog file ages = refl
 
+-- And in a `gap`: CATALOG, OWNER, CATALOG2, the rows of CATALOG, those of CATALOG2, FILE.
+first_catalog_before_owner : (catalog second_catalog file : List ℕ) → gap_ending catalog (codes "nobody") second_catalog file None None None ≡ refused catalog
+first_catalog_before_owner catalog second_catalog file = refl
+
+owner_before_second_catalog : (catalog second_catalog file table : List ℕ) → gap_ending catalog (codes "nobody") second_catalog file (Some table) None None ≡ refused (codes "nobody")
+owner_before_second_catalog catalog second_catalog file table = refl
+
+known_to_both : (catalog second_catalog file table : List ℕ) (second_table program : Option (List ℕ))
+    → gap_ending catalog (codes "census") second_catalog file (Some table) second_table program ≡ second_ending catalog second_catalog file table second_table program
+known_to_both catalog second_catalog file table second_table program = refl
+
+second_catalog_before_rows : (catalog second_catalog file table : List ℕ) → second_ending catalog second_catalog file table None None ≡ refused second_catalog
+second_catalog_before_rows catalog second_catalog file table = refl
+
+first_rows_before_second : (catalog second_catalog file : List ℕ) (fault other : TableFault) → both_rows_ending catalog second_catalog file (Err fault) (Err other) None ≡ refused catalog
+first_rows_before_second catalog second_catalog file fault other = refl
+
+second_rows_before_file : (catalog second_catalog file : List ℕ) (ages : List ℤ) (fault : TableFault) → both_rows_ending catalog second_catalog file (Ok ages) (Err fault) None ≡ refused second_catalog
+second_rows_before_file catalog second_catalog file ages fault = refl
+
+file_behind_both_rows : (catalog second_catalog file : List ℕ) (ages second_ages : List ℤ) → both_rows_ending catalog second_catalog file (Ok ages) (Ok second_ages) None ≡ refused file
+file_behind_both_rows catalog second_catalog file ages second_ages = refl
+
+both_in_their_order : (catalog second_catalog file program : List ℕ) (ages second_ages : List ℤ)
+    → both_rows_ending catalog second_catalog file (Ok ages) (Ok second_ages) (Some program) ≡ to_compare ages second_ages program
+both_in_their_order catalog second_catalog file program ages second_ages = refl
+
+-- the lines of a `gap`: ages 2, 3 against 1, 2, 2 are 3 apart
+rows_apart : apart (people_holding (pos 2 ∷ pos 3 ∷ [])).rows (people_holding (pos 1 ∷ pos 2 ∷ pos 2 ∷ [])).rows ≡ 3
+rows_apart = refl
+
+same_rows_apart : apart (people_holding (pos 2 ∷ pos 1 ∷ [])).rows (people_holding (pos 1 ∷ pos 2 ∷ [])).rows ≡ 0
+same_rows_apart = refl
+
+four_lines : gap_text 3 (Fin 1 1) (pos 2) (pos 3) ≡ codes "distance 3\nsensitivity 1\nvalues 2 3\ngap 1\n"
+unfolding digits
+four_lines = refl
+
+lines_below_zero : gap_text 2 (Fin 3 2) (pos 5) (negsuc 6) ≡ codes "distance 2\nsensitivity 3/2\nvalues 5 -7\ngap 12\n"
+unfolding digits
+lines_below_zero = refl
+
+-- a program that begins no token is refused, whatever the datasets are, and nothing else is due
+no_token_refused : (X Y : Dataset) (program : List ℕ) → IsReading program (unlexed 0) → IsGapDue X Y program ProgramRefused (codes "no 20 0\n")
+unfolding judgement_of reply_text digits
+no_token_refused X Y program reads = record { reading = unlexed 0; reads = reads; due = (refl, refl) }
+
+no_token_undone : (X Y : Dataset) (program text : List ℕ) → IsGapBy (refused_for (no_token 0)) X Y program Done text → ⊥
+no_token_undone X Y program text (wrong, is) = cc
+
+-- faulty words: their line, or that memory ran out; where the sink failed a prefix of either, and no other status
+faulty_words_told : IsFaultyWordsEnd Usage (codes "usage\n") ⊥
+faulty_words_told = inl (refl, refl)
+
+faulty_words_without_memory : IsFaultyWordsEnd NoMemory (codes "memory\n") ⊥
+faulty_words_without_memory = inr (inl (refl, refl))
+
+faulty_words_cut : (SinkFailed : Type 0) → SinkFailed → IsFaultyWordsEnd Fault (codes "usa") SinkFailed
+faulty_words_cut SinkFailed failed = inr (inr (refl, inl (codes "ge\n", refl), failed))
+
+faulty_words_need_a_failure : (text : List ℕ) → IsFaultyWordsEnd Fault text ⊥ → ⊥
+faulty_words_need_a_failure text (inl (wrong, is)) = cc
+faulty_words_need_a_failure text (inr (inl (wrong, is))) = cc
+faulty_words_need_a_failure text (inr (inr (is, prefix, failed))) = absurd failed
+
+faulty_words_are_not_done : (text : List ℕ) (SinkFailed : Type 0) → IsFaultyWordsEnd Done text SinkFailed → ⊥
+faulty_words_are_not_done text SinkFailed (inl (wrong, is)) = cc
+faulty_words_are_not_done text SinkFailed (inr (inl (wrong, is))) = cc
+faulty_words_are_not_done text SinkFailed (inr (inr (wrong, prefix, failed))) = cc
+
 -- the house
 house : census (pos 20 ∷ []) ≡ record {
   analysts = codes "ann" ∷ codes "bob" ∷ [];
   owner = codes "census";
   budget = 10000000;
   capacity = 100;
-  holding = record { tables = people_table ∷ []; numbers = (pos 20 ∷ []) ∷ [] };
+  holding = record { tables = people_table ∷ []; rows = (NumF (pos 20) ∷ []) ∷ [] };
 }
 house = refl
 

@@ -1,5 +1,6 @@
 pub mod Prefixes
 pub mod Judged
+pub mod Bounded
 pub mod Endings
 pub mod Contents
 pub mod Ends

@@ -4,7 +4,7 @@ use Rattle.fz_frac.specs.Distance.{Distance}
 use Rattle.wire_lines.specs.Refusal.{by_program}
 use Rattle.wire_lines.specs.Reply.{refused as refused_reply, sensitivity_text, reply_text}
 use Rattle.answer_path.specs.Reading.{Reading, IsReading}
-use Rattle.answer_path.specs.Judgement.{Judgement, refused_for, accepted, checked_of}
+use Rattle.answer_path.specs.Judgement.{Judgement, refused_for, accepted, judgement_of}
 use Rattle.table_store.specs.Table.{table_in_file}
 use Rattle.table_store.specs.declared.TableFault.{TableFault}
 use Rattle.query_server.specs.House.{owner_name, column_name, census_tables}
@@ -41,9 +41,10 @@ abbrev pub text_by : Judgement → List ℕ
 text_by (refused_for refusal) = reply_text (refused_reply (by_program refusal))
 text_by (accepted e r) = accepted_text r
 
--- What is due to a program: its bytes have a reading, and by the typing rules that comes to this status and this text.
+-- What is due to a program: its bytes have a reading, and by the typing rules and the run without data that comes to this
+-- status and this text.
 pub record IsProgramDue (program : List ℕ) (status : Status) (text : List ℕ) : Type 0 where
   pub reading : Reading
   pub reads : IsReading program reading
-  pub is_status : status ≡ status_by (checked_of census_tables reading)
-  pub is_text : text ≡ text_by (checked_of census_tables reading)
+  pub is_status : status ≡ status_by (judgement_of census_tables reading)
+  pub is_text : text ≡ text_by (judgement_of census_tables reading)

@@ -9,3 +9,5 @@ pub data Ending : Type 0 where
   to_answer : (ages : List ℤ) (key : List ℕ) → Ending
   -- by `check`: a program is to be checked
   to_check : (program : List ℕ) → Ending
+  -- by `gap`: a program is to be run over a table of these ages and over one of the second ages
+  to_compare : (ages second_ages : List ℤ) (program : List ℕ) → Ending

@@ -1,10 +1,10 @@
-pub mod Command
 pub mod Status
 pub mod Ending
 pub mod Files
 pub mod House
 pub mod Run
 pub mod Check
+pub mod Gap
 pub mod Due
 pub mod Promise
 pub mod Ends

@@ -7,7 +7,7 @@ use Rattle.session_core.specs.House.{house_of}
 use Rattle.session_core.specs.Headline.{Programs, Headline}
 use Rattle.session_core.specs.Transcript.{Journals, IsScriptRun}
 use Rattle.wire_lines.specs.Reply.{Replied, reply_text}
-use Rattle.query_server.specs.Command.{run, command_of}
+use Rattle.command_words.specs.Command.{run, command_of}
 use Rattle.query_server.specs.Ending.{to_answer}
 use Rattle.query_server.specs.Files.{readable}
 use Rattle.query_server.specs.House.{census, column_name}
@@ -19,8 +19,9 @@ use Rattle.query_server.specs.Due.{ending_of, IsPrefix}
 pub record IsHouseOf (words : List (List ℕ)) (held : List ℕ → Option (List ℕ)) (ages : List ℤ) (key : List ℕ) : Type 0 where
   pub catalog : List ℕ
   pub key_name : List ℕ
+  pub workers : ℕ
   pub table : List ℕ
-  pub commanded : command_of words ≡ Some (run catalog key_name)
+  pub commanded : command_of words ≡ Some (run catalog key_name workers)
   pub has_table : readable (held catalog) ≡ Some table
   pub has_rows : table_in_file column_name table ≡ Ok ages
   pub has_key : readable (held key_name) ≡ Some key

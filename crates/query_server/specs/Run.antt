@@ -1,5 +1,6 @@
 -- `run`: a script is answered
-use Rattle.std.specs.Prelude.{◌≡◌, ◌⊎◌, ℕ, ◌^◌, ◌<◌, ◌≤◌, nat_eq, ℤ, List, [], length, Option, Some, None, Result, Ok, Err, if◌then◌else◌}
+use Rattle.std.specs.Prelude.{◌≡◌, ◌⊎◌, ℕ, ◌^◌, ◌<◌, ◌≤◌, nat_eq, ℤ, List, [], length, Option, Some, None}
+use Rattle.std.specs.Prelude.{Result, Ok, Err, if◌then◌else◌}
 use Rattle.table_store.specs.Table.{table_in_file}
 use Rattle.table_store.specs.declared.TableFault.{TableFault}
 use Rattle.word_streams.specs.Draws.{draws_of}

@@ -1,7 +1,7 @@
 -- what is taken of the source
 use Rattle.std.specs.Prelude.{◌≡◌, ℕ, ◌+◌, ◌≤◌, ◌<◌, List, [], length, Option, Some, None}
 use Rattle.std.specs.Io.KnownBytes.{prepend_known, IsAtEnd}
-use Rattle.query_server.specs.Command.{Command, run, check}
+use Rattle.command_words.specs.Command.{Command, run, check, gap}
 use Rattle.query_server.specs.Run.{script_limit}
 use Rattle.query_server.specs.declared.end.Status.{Status}
 use Rattle.query_server.specs.declared.end.Status.TheVariants.{Done, Refused, ScriptTooLong}
@@ -19,5 +19,6 @@ pub record IsTaken (before after : Option (List ℕ)) (status : Status) : Type 0
 -- Nothing is taken but by a `run`.
 abbrev pub IsTakenAt : Option Command → (before after : Option (List ℕ)) → (status : Status) → Type 0
 IsTakenAt None before after status = after ≡ before
-IsTakenAt (Some (run catalog key)) before after status = IsTaken before after status
+IsTakenAt (Some (run catalog key workers)) before after status = IsTaken before after status
+IsTakenAt (Some (gap catalog owner second_catalog file)) before after status = after ≡ before
 IsTakenAt (Some (check catalog owner file)) before after status = after ≡ before

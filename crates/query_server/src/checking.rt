@@ -2,52 +2,22 @@
 
 ghost use Rattle.std.specs.Prelude.{◌≡◌, ℕ, List, Option, Some, IfOk, IsErrOf};
 ghost use Rattle.fz_frac.specs.Sens.{distance_of};
-ghost use Rattle.wire_lines.specs.Refusal.{refusal_at};
-ghost use Rattle.wire_lines.specs.Reply.{refused, reply_text};
-ghost use Rattle.answer_path.specs.Code.{IsProgramRefusal};
 ghost use Rattle.fz_outside.specs.Faults.{HasCause};
-ghost use Rattle.query_server.specs.Command.{check};
+ghost use Rattle.command_words.specs.Command.{check};
 ghost use Rattle.query_server.specs.House.{census_tables};
 ghost use Rattle.query_server.specs.Check.{accepted_text};
 ghost use Rattle.query_server.specs.Due.{ForContents};
 ghost use Rattle.query_server.specs.Ends.{IsEndOf, IsVerdictOn, end_by};
 
-use crate::end::{End, Status, Stop};
+use crate::end::{End, Stop};
 use crate::opening::{read_program, signature};
+use crate::programs::{ProgramEnd, refuse};
 use answer_path::check_program;
 use fz_ast::Sig;
 use fz_frac::Sens;
 use fz_outside::files::Files;
 use std::alloc::{AllocError, Global};
-use wire_lines::{REPLY_LIMIT, Refusal, Reply, write_reply, write_sensitivity};
-
-/// The end of a `check`, with its line.
-#[derive(Drop)]
-pub(crate) enum CheckEnd {
-    Accepted(Vec<u8>),
-    Refused(Vec<u8>),
-}
-
-impl CheckEnd {
-    ghost use Rattle.query_server.specs.Ends.{check_status, check_text};
-
-    pub(crate) fn status(&self) -> Status
-        ensures { result ≡ check_status self.now }
-    {
-        match self {
-            CheckEnd::Accepted(_) => Status::Done,
-            CheckEnd::Refused(_) => Status::ProgramRefused,
-        }
-    }
-
-    pub(crate) fn text(&self) -> &[u8]
-        ensures { result.now ≡ check_text self.now }
-    {
-        match self {
-            CheckEnd::Accepted(line) | CheckEnd::Refused(line) => line,
-        }
-    }
-}
+use wire_lines::{REPLY_LIMIT, write_sensitivity};
 
 /// The line of an accepted program.
 fn accepted_line(alloc: Global, sens: Sens) -> Result<Vec<u8>, AllocError>
@@ -62,39 +32,19 @@ fn accepted_line(alloc: Global, sens: Sens) -> Result<Vec<u8>, AllocError>
     Ok(line)
 }
 
-/// The line of a refusal.
-fn refusal_line(alloc: Global, refusal: &Refusal<'_>) -> Result<Vec<u8>, AllocError>
-    ensures { IfOk result (λ line. line.items ≡ reply_text (refused (refusal_at refusal.now))) }
-{
-    let mut text = [0u8; REPLY_LIMIT];
-    let n = write_reply(&Reply::Refused(*refusal), &mut text);
-    text[..n].to_vec(alloc)
-}
-
-/// How a program that is refused ends. Want of memory is no refusal of it.
-#[tactic(auto, using(crate::proofs::Judged::program_refused))]
-fn refuse(alloc: Global, refusal: &Refusal<'_>) -> Result<CheckEnd, AllocError>
-    ensures { (program : List ℕ) → IsProgramRefusal census_tables program (refusal_at refusal.now) → IfOk result (IsVerdictOn program) }
-{
-    if let Refusal::NoMemory = refusal {
-        return Err(AllocError);
-    }
-    Ok(CheckEnd::Refused(refusal_line(alloc, refusal)?))
-}
-
 /// What a program comes to over the tables of a house.
-fn judge(alloc: Global, sig: &Sig, program: &[u8]) -> Result<CheckEnd, AllocError>
+fn judge(alloc: Global, sig: &Sig, program: &[u8]) -> Result<ProgramEnd, AllocError>
     requires { sig.now ≡ census_tables }
     ensures { IfOk result (IsVerdictOn program.now) }
 {
     match check_program(alloc, sig, program) {
-        Ok(accepted) => Ok(CheckEnd::Accepted(accepted_line(alloc, accepted.sens)?)),
+        Ok(accepted) => Ok(ProgramEnd::Accepted(accepted_line(alloc, accepted.sens)?)),
         Err(refusal) => refuse(alloc, &refusal),
     }
 }
 
 /// Checks a program over the tables of the house.
-fn check_bytes(alloc: Global, program: &[u8]) -> Result<CheckEnd, AllocError>
+fn check_bytes(alloc: Global, program: &[u8]) -> Result<ProgramEnd, AllocError>
     ensures { IfOk result (IsVerdictOn program.now) }
 {
     let sig = signature(alloc)?;
@@ -108,7 +58,7 @@ pub(crate) fn check_file<F: Files>(
     catalog: &str,
     owner: &str,
     file: &str,
-) -> Result<CheckEnd, Stop>
+) -> Result<ProgramEnd, Stop>
     ensures end { (left : Option (List ℕ)) → ForContents (Some (check catalog.now owner.now file.now)) (F.held files.old) left
         (λ ending script. IsEndOf ending script (end_by End.Check result)) }
     ensures same { F.held files.new ≡ F.held files.old }

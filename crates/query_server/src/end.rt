@@ -3,7 +3,7 @@
 ghost use Rattle.std.specs.Prelude.{◌≡◌};
 ghost use Rattle.query_server.specs.Status.{code_of};
 
-use crate::checking::CheckEnd;
+use crate::programs::ProgramEnd;
 use crate::running::RunEnd;
 use std::alloc::Global;
 
@@ -12,7 +12,7 @@ use std::alloc::Global;
 pub enum Status {
     /// 0: all was done.
     Done,
-    /// 1: the program that was to be checked is refused.
+    /// 1: the program that was to be checked or compared is refused.
     ProgramRefused,
     /// 2: the words are no command.
     Usage,
@@ -85,7 +85,8 @@ impl Stop {
 pub(crate) enum End {
     Stopped(Stop),
     Run(RunEnd),
-    Check(CheckEnd),
+    Check(ProgramEnd),
+    Gap(ProgramEnd),
 }
 
 impl End {
@@ -98,6 +99,7 @@ impl End {
             End::Stopped(stop) => stop.status(),
             End::Run(end) => end.status(),
             End::Check(end) => end.status(),
+            End::Gap(end) => end.status(),
         }
     }
 }

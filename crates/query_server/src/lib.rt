@@ -2,11 +2,15 @@
 #![tactic(auto)]
 
 mod checking;
+mod comparing;
 mod end;
+mod laws;
 mod opening;
+mod programs;
 mod running;
 mod server;
 mod writing;
 
 pub use crate::end::Status;
+pub use crate::laws::gaps_are_bounded;
 pub use crate::server::run_server;

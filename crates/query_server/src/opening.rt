@@ -1,6 +1,7 @@
 //! The files of a command are read: a table's, and a key's or a program's.
 
-ghost use Rattle.std.specs.Prelude.{◌≡◌, ◌≢◌, ℕ, List, [], ◌∷◌, length, Option, Some, None, Ok, Err, MatchResult, MatchOption, IfOk, IsErrOf};
+ghost use Rattle.std.specs.Prelude.{◌≡◌, ◌≢◌, ℕ, List, [], ◌∷◌, length, Option, Some, None};
+ghost use Rattle.std.specs.Prelude.{Ok, Err, MatchResult, MatchOption, IfOk, IsErrOf};
 ghost use Rattle.fz_outside.specs.Faults.{HasCause};
 ghost use Rattle.table_store.specs.Table.{table_in_file};
 ghost use Rattle.answer_path.specs.Owner.{IsHolding};
@@ -10,7 +11,7 @@ ghost use Rattle.query_server.specs.Files.{readable, IsHeldFile};
 ghost use Rattle.query_server.specs.House.{census, census_tables, column_name};
 ghost use Rattle.query_server.specs.Run.{run_ending};
 ghost use Rattle.query_server.specs.Check.{check_ending};
-ghost use Rattle.query_server.specs.Ends.{IsStop, IsStopAt};
+ghost use Rattle.query_server.specs.Ends.{IsStopFor, IsStopAt};
 ghost use Rattle.query_server.specs.Opened.{IsOpened};
 
 use crate::end::Stop;
@@ -18,7 +19,7 @@ use answer_path::Dataset;
 use fz_ast::{NoMemory, Sig};
 use fz_outside::FileFault;
 use fz_outside::files::{FileRead, Files};
-use session_core::house::{House, people_signature};
+use session_core::house::{House, people_dataset, people_signature};
 use std::alloc::{AllocError, Global};
 use table_store::{Table, TableFault, load};
 
@@ -26,7 +27,7 @@ use table_store::{Table, TableFault, load};
 const COLUMN: &str = "age";
 
 /// What the owner's house is called, and what it may spend.
-const OWNER: &str = "census";
+pub(crate) const OWNER: &str = "census";
 
 const FIRST_ANALYST: &str = "ann";
 
@@ -44,7 +45,7 @@ pub(crate) struct Opened {
 }
 
 /// The bytes of a file that is there and not too long.
-fn read_file<F: Files>(alloc: Global, files: &mut F, name: &str) -> Result<Vec<u8>, Stop>
+pub(crate) fn read_file<F: Files>(alloc: Global, files: &mut F, name: &str) -> Result<Vec<u8>, Stop>
     ensures read { (contents : Option (List ℕ)) × IsHeldFile (F.held files.old) name.now contents
         × MatchResult result (λ bytes. readable contents ≡ Some bytes.items) (IsStopAt name.now (readable contents ≡ None)) }
     ensures same { F.held files.new ≡ F.held files.old }
@@ -72,7 +73,7 @@ fn key_of(bytes: &[u8]) -> Option<[u8; 32]>
 }
 
 /// The rows of a table's file.
-fn read_table(alloc: Global, catalog: &str, bytes: &[u8]) -> Result<Table, Stop>
+pub(crate) fn read_table(alloc: Global, catalog: &str, bytes: &[u8]) -> Result<Table, Stop>
     ensures rows { MatchResult result (λ table. table_in_file column_name bytes.now ≡ Ok table)
         (IsStopAt catalog.now ((fault : TableFault) × (table_in_file column_name bytes.now ≡ Err fault))) }
     ensures held { IfOk result (λ table. IsHolding (people_holding table)) }
@@ -95,6 +96,17 @@ pub(crate) fn signature(alloc: Global) -> Result<Sig, AllocError>
     }
 }
 
+/// The table's rows as a dataset.
+pub(crate) fn dataset_of(alloc: Global, table: Table) -> Result<Dataset, AllocError>
+    requires { IsHolding (people_holding table) }
+    ensures { IfOk result (λ dataset. dataset ≡ people_holding table) }
+{
+    match people_dataset(alloc, table.into_numbers()) {
+        Ok(dataset) => Ok(dataset),
+        Err(NoMemory) => Err(AllocError),
+    }
+}
+
 /// The house of these rows.
 #[tactic(auto, using(crate::proofs::Endings::register_of_holding))]
 fn house_of_rows(alloc: Global, table: Table) -> Result<House, AllocError>
@@ -107,9 +119,7 @@ fn house_of_rows(alloc: Global, table: Table) -> Result<House, AllocError>
     let mut analysts = Vec::with_capacity(alloc, 2)?;
     analysts.push(first)?;
     analysts.push(second)?;
-    let mut tables = Vec::with_capacity(alloc, 1)?;
-    tables.push(table)?;
-    let dataset = Dataset::new(signature(alloc)?, tables);
+    let dataset = dataset_of(alloc, table)?;
     Ok(House::new(analysts, owner, BUDGET, CAPACITY, dataset))
 }
 
@@ -120,8 +130,9 @@ pub(crate) fn open_house<F: Files>(
     catalog: &str,
     key: &str,
 ) -> Result<Opened, Stop>
-    ensures opened { (table : Option (List ℕ)) × (given : Option (List ℕ)) × IsHeldFile (F.held files.old) catalog.now table × IsHeldFile (F.held files.old) key.now given
-        × MatchResult result (IsOpened table given) (IsStop (run_ending catalog.now key.now (readable table) (readable given))) }
+    ensures opened { (table : Option (List ℕ)) × (given : Option (List ℕ))
+        × IsHeldFile (F.held files.old) catalog.now table × IsHeldFile (F.held files.old) key.now given
+        × MatchResult result (IsOpened table given) (IsStopFor (run_ending catalog.now key.now (readable table) (readable given))) }
     ensures same { F.held files.new ≡ F.held files.old }
     ensures cause { HasCause (F.faults files.old) (F.faults files.new) (IsErrOf result Stop.Fault) }
 {
@@ -145,10 +156,11 @@ pub(crate) fn read_program<F: Files>(
     owner: &str,
     file: &str,
 ) -> Result<Vec<u8>, Stop>
-    ensures program { (table : Option (List ℕ)) × (given : Option (List ℕ)) × IsHeldFile (F.held files.old) catalog.now table × IsHeldFile (F.held files.old) file.now given
+    ensures program { (table : Option (List ℕ)) × (given : Option (List ℕ))
+        × IsHeldFile (F.held files.old) catalog.now table × IsHeldFile (F.held files.old) file.now given
         × MatchResult result
         (λ program. check_ending catalog.now owner.now file.now (readable table) (readable given) ≡ to_check program.items)
-        (IsStop (check_ending catalog.now owner.now file.now (readable table) (readable given))) }
+        (IsStopFor (check_ending catalog.now owner.now file.now (readable table) (readable given))) }
     ensures same { F.held files.new ≡ F.held files.old }
     ensures cause { HasCause (F.faults files.old) (F.faults files.new) (IsErrOf result Stop.Fault) }
 {

@@ -3,7 +3,7 @@
 ghost use Rattle.std.specs.Prelude.{◌≡◌, ◌⊎◌, ℕ, ℤ, List, Option, Some, length, ◌≤◌, ◌+◌, ◌<◌, MatchResult, IsErrOf};
 ghost use Rattle.std.specs.Io.KnownBytes.{prepend_known, IsAtEnd};
 ghost use Rattle.fz_outside.specs.Faults.{HasCause, HasRisen};
-ghost use Rattle.query_server.specs.Command.{run};
+ghost use Rattle.command_words.specs.Command.{run};
 ghost use Rattle.query_server.specs.Files.{IsLeft};
 ghost use Rattle.query_server.specs.House.{census};
 ghost use Rattle.query_server.specs.Run.{IsScriptDue};
@@ -94,7 +94,7 @@ pub(crate) fn run_script<F: Files, S: Source>(
     catalog: &str,
     key: &str,
 ) -> Result<RunEnd, Stop>
-    ensures end { ForContents (Some (run catalog.now key.now)) (F.held files.old) (S.left source.old)
+    ensures end { (workers : ℕ) → ForContents (Some (run catalog.now key.now workers)) (F.held files.old) (S.left source.old)
         (λ ending script. IsEndOf ending script (end_by End.Run result)) }
     ensures taken { IsTaken (S.left source.old) (S.left source.new) (status_at (end_by End.Run result)) }
     ensures same { F.held files.new ≡ F.held files.old }

@@ -1,61 +1,30 @@
 //! The top call.
 
-ghost use Rattle.std.specs.Prelude.{◌≡◌, ◌⊎◌, ◌≤◌, ◌++◌, [], ℕ, List, Option, Some, None, map, string_bytes, MatchOption};
+ghost use Rattle.std.specs.Prelude.{◌≡◌, ◌⊎◌, ◌≤◌, ◌++◌, [], ℕ, ℤ, List, Option, Some, None, map, string_bytes};
 ghost use Rattle.std.specs.Io.KnownBytes.{append_known};
 ghost use Rattle.fz_outside.specs.Faults.{HasRisen};
 ghost use Rattle.answer_path.specs.Reading.{Reading, IsReading};
-ghost use Rattle.answer_path.specs.Judgement.{checked_of};
-ghost use Rattle.query_server.specs.Command.{run, command_of};
-ghost use Rattle.query_server.specs.Ending.{refused, to_check};
+ghost use Rattle.answer_path.specs.Judgement.{judgement_of};
+ghost use Rattle.command_words.specs.Command.{run, command_of};
+ghost use Rattle.query_server.specs.Ending.{refused, to_check, to_compare};
 ghost use Rattle.query_server.specs.House.{census_tables};
 ghost use Rattle.query_server.specs.Check.{status_by};
-ghost use Rattle.query_server.specs.Status.{refused_text, usage_text};
-ghost use Rattle.query_server.specs.Due.{ForContents, IfFinished, IsDue, IsOfCheck, IsOfRun, IsPrefix, IsWrittenAt, ending_of};
+ghost use Rattle.query_server.specs.Status.{refused_text};
+ghost use Rattle.query_server.specs.Due.{ForContents, IfFinished, IsDue, IsForProgram, IsFaultyWordsEnd, IsOfProgram, IsOfRun, IsWrittenAt, ending_of};
 ghost use Rattle.query_server.specs.Promise.{IsAnsweredScript, IsScriptCutShort};
-ghost use Rattle.query_server.specs.Ends.{IsEndOf, command_meant, status_at};
+ghost use Rattle.query_server.specs.Ends.{IsEndOf, status_at};
 ghost use Rattle.query_server.specs.Taken.{IsTakenAt};
 
 use crate::checking::check_file;
+use crate::comparing::compare_files;
 use crate::end::{End, Status, Stop};
 use crate::running::run_script;
 use crate::writing::finish;
+use command_words::{Command, WordsFault, read_words};
 use fz_outside::files::Files;
 use fz_outside::sink::Sink;
 use fz_outside::source::Source;
 use std::alloc::Global;
-
-/// A command, with the names in it.
-#[derive(Clone, Copy)]
-enum Command<'a> {
-    Run {
-        catalog: &'a str,
-        key: &'a str,
-    },
-    Check {
-        catalog: &'a str,
-        owner: &'a str,
-        file: &'a str,
-    },
-}
-
-/// The command that the words are.
-fn read_words(words: &[String]) -> Option<Command<'_>>
-    ensures { MatchOption result (command_of (map string_bytes words.now) ≡ None)
-        (λ c. command_of (map string_bytes words.now) ≡ Some (command_meant c)) }
-{
-    match words {
-        [verb, catalog, key] if verb.as_str() == "run" => Some(Command::Run {
-            catalog: catalog.as_str(),
-            key: key.as_str(),
-        }),
-        [verb, catalog, owner, file] if verb.as_str() == "check" => Some(Command::Check {
-            catalog: catalog.as_str(),
-            owner: owner.as_str(),
-            file: file.as_str(),
-        }),
-        _ => None,
-    }
-}
 
 /// Does a command, up to what is written at its end.
 fn run_command<F: Files, S: Source>(
@@ -64,26 +33,29 @@ fn run_command<F: Files, S: Source>(
     files: &mut F,
     source: &mut S,
 ) -> End
-    ensures end { ForContents (command_of (map string_bytes words.now)) (F.held files.old) (S.left source.old) (λ ending script. IsEndOf ending script result) }
+    ensures end { ForContents (command_of (map string_bytes words.now)) (F.held files.old) (S.left source.old)
+        (λ ending script. IsEndOf ending script result) }
     ensures taken { IsTakenAt (command_of (map string_bytes words.now)) (S.left source.old) (S.left source.new) (status_at result) }
     ensures unread { IsOfRun (command_of (map string_bytes words.now)) ⊎ (source.new ≡ source.old) }
     ensures same { F.held files.new ≡ F.held files.old }
     ensures files { F.faults files.old ≤ F.faults files.new }
     ensures source { S.faults source.old ≤ S.faults source.new }
-    ensures idle { command_of (map string_bytes words.now) ≡ None → (files.new ≡ files.old) × (result ≡ End.Stopped Stop.Usage) }
+    ensures idle { command_of (map string_bytes words.now) ≡ None → (files.new ≡ files.old)
+        × ((result ≡ End.Stopped Stop.Usage) ⊎ (result ≡ End.Stopped Stop.NoMemory)) }
     ensures cause { result ≡ End.Stopped Stop.Fault →
         HasRisen (F.faults files.old) (F.faults files.new)
         ⊎ (IsOfRun (command_of (map string_bytes words.now)) × HasRisen (S.faults source.old) (S.faults source.new)) }
 {
-    match read_words(words) {
-        None => End::Stopped(Stop::Usage),
-        Some(Command::Run { catalog, key }) => match run_script(
+    match read_words(alloc, words) {
+        Err(WordsFault::Usage) => End::Stopped(Stop::Usage),
+        Err(WordsFault::NoMemory) => End::Stopped(Stop::NoMemory),
+        Ok(Command::Run { catalog, key, .. }) => match run_script(
             alloc, files, source, catalog, key,
         ) {
             Ok(end) => End::Run(end),
             Err(stop) => End::Stopped(stop),
         },
-        Some(
+        Ok(
             Command::Check {
                 catalog,
                 owner,
@@ -93,18 +65,33 @@ fn run_command<F: Files, S: Source>(
             Ok(end) => End::Check(end),
             Err(stop) => End::Stopped(stop),
         },
+        Ok(
+            Command::Gap {
+                catalog,
+                owner,
+                second_catalog,
+                file,
+            },
+        ) => match compare_files(alloc, files, catalog, owner, second_catalog, file) {
+            Ok(end) => End::Gap(end),
+            Err(stop) => End::Stopped(stop),
+        },
     }
 }
 
-/// Does one of two commands; no records are there at the start.
+/// Does one of three commands; no records are there at the start.
 ///
-/// - `run CATALOG KEY`: CATALOG is the CSV file of the table `people`, KEY a file of 32 bytes, and the source is a script. Its
+/// - `run CATALOG KEY`, perhaps with `--workers W`: CATALOG is the CSV file of the table `people`, KEY a file of 32 bytes, and the source is a script. Its
 ///   replies go to the sink.
 /// - `check CATALOG OWNER FILE`: OWNER is the house's owner, and FILE holds a program. Its sensitivity, or the line that
 ///   refuses it, goes to the sink. Nothing is taken of the source.
+/// - `gap CATALOG OWNER CATALOG2 FILE`: CATALOG2 is a file as CATALOG. How far the two tables are apart, the program's
+///   sensitivity, its values on both without noise and their difference go to the sink, or the line that refuses the program.
+///   Nothing is taken of the source.
 ///
 /// At another status the status's line goes to the sink. Files, source and sink tell what they hold, or don't; what is said of
-/// their contents holds where they do. Want of memory (`NoMemory`) may be answered at any time after the words were read.
+/// their contents holds where they do. Want of memory (`NoMemory`) may be answered at any time, at faulty words too; in a
+/// script that is answered it may be the reply to a line that asks: 90 before a reservation, and 51 after it.
 pub fn run_server<F: Files, S: Source, K: Sink>(
     alloc: Global,
     words: &[String],
@@ -118,15 +105,16 @@ pub fn run_server<F: Files, S: Source, K: Sink>(
         × ForContents (command_of (map string_bytes words.now)) (F.held files.old) (S.left source.old)
         (λ ending script. IsWrittenAt ending script result text) }
     // At status Done a transcript of the script, for the house that the files give, or the program's line; at another status
-    // its line alone; at Fault a prefix of what is due or of the line for want of memory.
+    // its line alone; at Fault a prefix of what is due or of the line for want of memory. A script has just one transcript in
+    // which no line is answered 90 or 51.
     ensures exact { (held : List ℕ → Option (List ℕ)) (script before : List ℕ) →
         F.held files.old ≡ Some held → S.left source.old ≡ Some script → K.contents sink.old ≡ Some before →
         (text : List ℕ) × (K.contents sink.new ≡ Some (before ++ text))
         × IsWrittenAt (ending_of (map string_bytes words.now) held) script result text }
     // The promises to the owner, where a run ends with status Done.
-    ensures headline { (held : List ℕ → Option (List ℕ)) (catalog key script before : List ℕ) →
+    ensures headline { (held : List ℕ → Option (List ℕ)) (catalog key : List ℕ) (workers : ℕ) (script before : List ℕ) →
         F.held files.old ≡ Some held → S.left source.old ≡ Some script → K.contents sink.old ≡ Some before →
-        command_of (map string_bytes words.now) ≡ Some (run catalog key) → result ≡ Status.Done →
+        command_of (map string_bytes words.now) ≡ Some (run catalog key workers) → result ≡ Status.Done →
         (text : List ℕ) × (K.contents sink.new ≡ Some (before ++ text)) × IsAnsweredScript (map string_bytes words.now) held script text }
     // The same at Fault, of a transcript that was due.
     ensures cut_short { (held : List ℕ → Option (List ℕ)) (script before : List ℕ) →
@@ -142,22 +130,27 @@ pub fn run_server<F: Files, S: Source, K: Sink>(
     ensures name { (held : List ℕ → Option (List ℕ)) (before : List ℕ) → F.held files.old ≡ Some held → K.contents sink.old ≡ Some before →
         result ≡ Status.Refused → (name : List ℕ) × (ending_of (map string_bytes words.now) held ≡ refused name)
         × (K.contents sink.new ≡ Some (before ++ refused_text name)) }
-    ensures program { (held : List ℕ → Option (List ℕ)) (program before : List ℕ) → F.held files.old ≡ Some held → K.contents sink.old ≡ Some before →
+    ensures program { (held : List ℕ → Option (List ℕ)) (program before : List ℕ) →
+        F.held files.old ≡ Some held → K.contents sink.old ≡ Some before →
         ending_of (map string_bytes words.now) held ≡ to_check program →
         (text : List ℕ) × (K.contents sink.new ≡ Some (before ++ text)) × IsWrittenAt (to_check program) [] result text }
+    // The same of a program that is compared.
+    ensures comparison { (held : List ℕ → Option (List ℕ)) (ages second_ages : List ℤ) (program before : List ℕ) →
+        F.held files.old ≡ Some held → K.contents sink.old ≡ Some before →
+        ending_of (map string_bytes words.now) held ≡ to_compare ages second_ages program →
+        (text : List ℕ) × (K.contents sink.new ≡ Some (before ++ text)) × IsWrittenAt (to_compare ages second_ages program) [] result text }
     // Status 1 comes exactly where the program is refused, and 0 where it is accepted.
     ensures verdict { (held : List ℕ → Option (List ℕ)) (program : List ℕ) (reading : Reading) → F.held files.old ≡ Some held →
-        ending_of (map string_bytes words.now) held ≡ to_check program → IsReading program reading →
-        IfFinished result (result ≡ status_by (checked_of census_tables reading)) }
+        IsForProgram program (ending_of (map string_bytes words.now) held) → IsReading program reading →
+        IfFinished result (result ≡ status_by (judgement_of census_tables reading)) }
     ensures usage { result ≡ Status.Usage → command_of (map string_bytes words.now) ≡ None }
-    // At faulty words no file is read, the line of Usage is written or a prefix of it, and another status comes only where
-    // that line can't be written.
+    // At faulty words no file is read, and the line of Usage is written, unless memory ran out or the sink failed.
     ensures no_command { command_of (map string_bytes words.now) ≡ None →
-        (text : List ℕ) × (K.contents sink.new ≡ append_known (K.contents sink.old) text) × IsPrefix text usage_text
-        × (((result ≡ Status.Usage) × (text ≡ usage_text)) ⊎ ((result ≡ Status.Fault) × HasRisen (K.faults sink.old) (K.faults sink.new))) }
+        (text : List ℕ) × (K.contents sink.new ≡ append_known (K.contents sink.old) text)
+        × IsFaultyWordsEnd result text (HasRisen (K.faults sink.old) (K.faults sink.new)) }
     ensures idle { command_of (map string_bytes words.now) ≡ None → files.new ≡ files.old }
-    // Status 1 is of a check alone, and 8 of a run.
-    ensures of_check { result ≡ Status.ProgramRefused → IsOfCheck (command_of (map string_bytes words.now)) }
+    // Status 1 is of a check or a gap alone, and 8 of a run.
+    ensures of_program { result ≡ Status.ProgramRefused → IsOfProgram (command_of (map string_bytes words.now)) }
     ensures of_run { result ≡ Status.ScriptTooLong → IsOfRun (command_of (map string_bytes words.now)) }
     // Of the source a run alone takes anything.
     ensures taken { IsTakenAt (command_of (map string_bytes words.now)) (S.left source.old) (S.left source.new) result }

@@ -58,6 +58,7 @@ fn write_end<K: Sink>(sink: &mut K, end: &End) -> Result<(), Failed>
         End::Stopped(stop) => write_stop(sink, stop),
         End::Run(end) => put_line(sink, end.text()),
         End::Check(end) => put_line(sink, end.text()),
+        End::Gap(end) => put_line(sink, end.text()),
     }
 }
 

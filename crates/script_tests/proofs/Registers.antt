@@ -1,4 +1,4 @@
--- a house of one analyst over a table without rows keeps its limits
+-- a house of one analyst over a table's file keeps its limits
 use Rattle.std.proofs.Common.{◌≡◌, ◌≤◌, ◌<◌, ◌^◌, lit≤, ℕ, List, [], ◌∷◌, refl}
 use Rattle.std.specs.Prelude.{ℤ, IsTrue, Ok, codes}
 use Rattle.std.proofs.lemmas.List.Elements.{All-cons, All-nil}
@@ -9,14 +9,14 @@ use Rattle.session_core.specs.House.{IsRegister, people_holding, register_with}
 use Rattle.session_core.proofs.Rows.{people_signed}
 use Rattle.query_server.proofs.Endings.{ages_hold}
 
--- what is loaded of a header alone can be held
-pub empty_hold : (ages : List ℤ) → table_in_file (codes "age") (codes "age\n") ≡ Ok ages → IsHolding (people_holding ages)
-empty_hold ages is = ages_hold (codes "age\n") ages is
+-- what is loaded of a file can be held
+pub table_holds : (bytes : List ℕ) (ages : List ℤ) → table_in_file (codes "age") bytes ≡ Ok ages → IsHolding (people_holding ages)
+table_holds bytes ages is = ages_hold bytes ages is
 
 -- so it can with a budget and a capacity within their limits
-pub empty_register : (budget capacity : ℕ) (ages : List ℤ) → 0 < budget → budget ≤ 10 ^ 18 → 2 ≤ capacity → capacity ≤ 262144 → IsHolding (people_holding ages)
+pub small_register : (budget capacity : ℕ) (ages : List ℤ) → 0 < budget → budget ≤ 10 ^ 18 → 2 ≤ capacity → capacity ≤ 262144 → IsHolding (people_holding ages)
     → IsRegister (register_with (codes "ann" ∷ []) (codes "census") budget capacity (people_holding ages))
-empty_register budget capacity ages some_budget most_budget some_room most_room holds = record {
+small_register budget capacity ages some_budget most_budget some_room most_room holds = record {
   names = All-cons (λ name. IsTrue (is_name name)) (codes "ann") [] refl (All-nil (λ name. IsTrue (is_name name)));
   entry = record {
     some_budget = some_budget;

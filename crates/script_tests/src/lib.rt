@@ -7,3 +7,5 @@ mod listed;
 mod plain;
 #[cfg(test)]
 mod scripts;
+#[cfg(test)]
+mod worked;

@@ -62,7 +62,9 @@ fn transcripts(rt: HostRuntime) -> Result<(), Fail> {
         Case {
             name: "over budget",
             pieces: &[(b"hello ann\n", 1), (b"ask census 1 size people\n", 11)],
-            want: b"hello ann\nanswer 0 5 1000000\nanswer 1 3 1000000\nanswer 2 3 1000000\nanswer 3 0 1000000\nanswer 4 4 1000000\nanswer 5 4 1000000\nanswer 6 3 1000000\nanswer 7 4 1000000\nanswer 8 0 1000000\nanswer 9 3 1000000\nno 40 10000000 11000000 10000000 20\n",
+            want: b"hello ann\nanswer 0 5 1000000\nanswer 1 3 1000000\nanswer 2 3 1000000\nanswer 3 0 1000000\nanswer 4 4 1000000\n\
+                answer 5 4 1000000\nanswer 6 3 1000000\nanswer 7 4 1000000\nanswer 8 0 1000000\nanswer 9 3 1000000\n\
+                no 40 10000000 11000000 10000000 20\n",
         },
         Case {
             name: "before a hello",
@@ -79,10 +81,14 @@ fn transcripts(rt: HostRuntime) -> Result<(), Fail> {
         Case {
             name: "words",
             pieces: &[(
-                b"hello ann\nhello\nhello \nhello ann x\nhello  ann\nhello eve\nrecall census 0\nASK census 1 1\nask\nask census\nask census \nask census 1\nask census 1 \nask census 1. 1\nask census 0.0000001 1\nask census 1000.000001 1\nask census 1 \"\nask census 1 1125899906842625\nask census 1 naaaaaaaaaaaaaaaaaaaaaaaaaaaaaaaa\nask census 1 \0\nask census 1 size people people\nask census 1 (fn (x : num) => x\nask census 1 1 -o 2\nbye \nask census 1 size people\n",
+                b"hello ann\nhello\nhello \nhello ann x\nhello  ann\nhello eve\nrecall census 0\nASK census 1 1\nask\nask census\nask census \n\
+                    ask census 1\nask census 1 \nask census 1. 1\nask census 0.0000001 1\nask census 1000.000001 1\nask census 1 \"\n\
+                    ask census 1 1125899906842625\nask census 1 naaaaaaaaaaaaaaaaaaaaaaaaaaaaaaaa\nask census 1 \0\nask census 1 size people people\n\
+                    ask census 1 (fn (x : num) => x\nask census 1 1 -o 2\nbye \nask census 1 size people\n",
                 1,
             )],
-            want: b"hello ann\nno 10 1\nno 10 1\nno 10 2\nno 10 1\nno 12 1\nno 10 0\nno 10 0\nno 10 1\nno 10 2\nno 10 2\nno 10 3\nno 21 0\nno 13\nno 13\nno 13\nno 20 0\nno 20 0\nno 20 0\nno 20 0\nno 21 2\nno 21 9\nno 21 1\nno 10 1\nanswer 0 5 1000000\n",
+            want: b"hello ann\nno 10 1\nno 10 1\nno 10 2\nno 10 1\nno 12 1\nno 10 0\nno 10 0\nno 10 1\nno 10 2\nno 10 2\nno 10 3\nno 21 0\nno 13\n\
+                no 13\nno 13\nno 20 0\nno 20 0\nno 20 0\nno 20 0\nno 21 2\nno 21 9\nno 21 1\nno 10 1\nanswer 0 5 1000000\n",
         },
         Case {
             name: "long programs",
@@ -144,7 +150,8 @@ fn transcripts(rt: HostRuntime) -> Result<(), Fail> {
         Case {
             name: "two faults, no money asked",
             pieces: &[(
-                b"ask nobody 0\nask  0 x\nask nobody 0 x\nask nobody 1 size people\nask census 0 x\nask census 1 x\nhello ann\nask nobody 1 x\nask census 0 x\n",
+                b"ask nobody 0\nask  0 x\nask nobody 0 x\nask nobody 1 size people\nask census 0 x\nask census 1 x\nhello ann\nask nobody 1 x\n\
+                    ask census 0 x\n",
                 1,
             )],
             want: b"no 10 3\nno 10 1\nno 12 1\nno 12 1\nno 13\nno 14\nhello ann\nno 12 1\nno 13\n",
@@ -155,18 +162,29 @@ fn transcripts(rt: HostRuntime) -> Result<(), Fail> {
                 (b"hello ann\n", 1),
                 (b"ask census 0.000001 size people\n", 51),
                 (
-                    b"ask census 1000 size people\nask census 1 x\nask census 0 size people\nask nobody 1 size people\nask census 1\nbye\nask census 1 size people\n",
+                    b"ask census 1000 size people\nask census 1 x\nask census 0 size people\nask nobody 1 size people\nask census 1\nbye\n\
+                        ask census 1 size people\n",
                     1,
                 ),
             ],
-            want: b"hello ann\nanswer 0 2219833 1\nanswer 1 1853682 1\nanswer 2 670675 1\nanswer 3 1600267 1\nanswer 4 492120 1\nanswer 5 466397 1\nanswer 6 138308 1\nanswer 7 -510741 1\nanswer 8 2932079 1\nanswer 9 559000 1\nanswer 10 88079 1\nanswer 11 9559 1\nanswer 12 312668 1\nanswer 13 -1233544 1\nanswer 14 -908194 1\nanswer 15 242306 1\nanswer 16 -477117 1\nanswer 17 -1164476 1\nanswer 18 62403 1\nanswer 19 -1801301 1\nanswer 20 173168 1\nanswer 21 1376735 1\nanswer 22 2289686 1\nanswer 23 323899 1\nanswer 24 463096 1\nanswer 25 -9473 1\nanswer 26 225564 1\nanswer 27 103489 1\nanswer 28 231093 1\nanswer 29 -34408 1\nanswer 30 3386209 1\nanswer 31 -514645 1\nanswer 32 1496521 1\nanswer 33 -244250 1\nanswer 34 -703873 1\nanswer 35 -246359 1\nanswer 36 -1568502 1\nanswer 37 -1161899 1\nanswer 38 2827729 1\nanswer 39 -1753503 1\nanswer 40 -848539 1\nanswer 41 -47454 1\nanswer 42 917093 1\nanswer 43 -369510 1\nanswer 44 907935 1\nanswer 45 2080907 1\nanswer 46 -2208760 1\nanswer 47 379866 1\nanswer 48 1048170 1\nanswer 49 687537 1\nno 41 100 0 100\nno 40 50 1000000050 10000000 100\nno 30 unbound 0 1\nno 13\nno 12 1\nno 10 3\nbye\nno 14\n",
+            want: b"hello ann\nanswer 0 2219833 1\nanswer 1 1853682 1\nanswer 2 670675 1\nanswer 3 1600267 1\nanswer 4 492120 1\nanswer 5 466397 1\n\
+                answer 6 138308 1\nanswer 7 -510741 1\nanswer 8 2932079 1\nanswer 9 559000 1\nanswer 10 88079 1\nanswer 11 9559 1\n\
+                answer 12 312668 1\nanswer 13 -1233544 1\nanswer 14 -908194 1\nanswer 15 242306 1\nanswer 16 -477117 1\nanswer 17 -1164476 1\n\
+                answer 18 62403 1\nanswer 19 -1801301 1\nanswer 20 173168 1\nanswer 21 1376735 1\nanswer 22 2289686 1\nanswer 23 323899 1\n\
+                answer 24 463096 1\nanswer 25 -9473 1\nanswer 26 225564 1\nanswer 27 103489 1\nanswer 28 231093 1\nanswer 29 -34408 1\n\
+                answer 30 3386209 1\nanswer 31 -514645 1\nanswer 32 1496521 1\nanswer 33 -244250 1\nanswer 34 -703873 1\nanswer 35 -246359 1\n\
+                answer 36 -1568502 1\nanswer 37 -1161899 1\nanswer 38 2827729 1\nanswer 39 -1753503 1\nanswer 40 -848539 1\nanswer 41 -47454 1\n\
+                answer 42 917093 1\nanswer 43 -369510 1\nanswer 44 907935 1\nanswer 45 2080907 1\nanswer 46 -2208760 1\nanswer 47 379866 1\n\
+                answer 48 1048170 1\nanswer 49 687537 1\nno 41 100 0 100\nno 40 50 1000000050 10000000 100\nno 30 unbound 0 1\nno 13\nno 12 1\n\
+                no 10 3\nbye\nno 14\n",
         },
         Case {
             name: "two faults, over budget",
             pieces: &[
                 (b"hello ann\n", 1),
                 (
-                    b"ask census 10 size people\nask census 1 x\nask census 0 size people\nask nobody 1 size people\nask census 1\nbye\nask census 1 size people\n",
+                    b"ask census 10 size people\nask census 1 x\nask census 0 size people\nask nobody 1 size people\nask census 1\nbye\n\
+                        ask census 1 size people\n",
                     1,
                 ),
             ],
@@ -189,142 +207,66 @@ fn transcripts(rt: HostRuntime) -> Result<(), Fail> {
     Ok(())
 }
 
-// The table's file is looked at before the key, the key before the rows, and the rows before the script.
+const RUN: &[&str] = &["run", "people.csv", "key"];
+
+const ASK: &[u8] = b"hello ann\nask census 1 size people\n";
+
+// Words, the table's file, the key's and the script; how the run ends, and what it writes.
+#[rattlefmt::skip]
+const STATUSES: [(&[&str], &[u8], &[u8], &[u8], Status, &[u8]); 11] = [
+    (&[], TABLE, &KEY, b"", Status::Usage, b"usage\n"),
+    (&["run", "people.csv"], TABLE, &KEY, b"", Status::Usage, b"usage\n"),
+    (&["run", "people.csv", "key", "x"], TABLE, &KEY, b"", Status::Usage, b"usage\n"),
+    (&["Run", "people.csv", "key"], TABLE, &KEY, b"", Status::Usage, b"usage\n"),
+    (&["run", "none", "nokey"], TABLE, &KEY, b"", Status::Refused, b"refused none\n"),
+    (&["run", "people.csv", "nokey"], b"age\n1.5\n", &KEY, b"", Status::Refused, b"refused nokey\n"),
+    (RUN, b"age\n1.5\n", &[0; 31], b"", Status::Refused, b"refused key\n"),
+    (RUN, TABLE, &[0; 33], b"", Status::Refused, b"refused key\n"),
+    (RUN, TABLE, b"", b"", Status::Refused, b"refused key\n"),
+    (RUN, b"age\n", &KEY, ASK, Status::Done, b"hello ann\nanswer 0 2 1000000\n"),
+    (RUN, b"\xEF\xBB\xBFage\r\n-5", &KEY, ASK, Status::Done, b"hello ann\nanswer 0 3 1000000\n"),
+];
+
+// The table's file is looked at before the key, and the key before the rows.
 #[test]
 fn statuses(rt: HostRuntime) -> Result<(), Fail> {
     let alloc = rt.alloc();
-    let run: &[&str] = &["run", "people.csv", "key"];
-    let long = joined(alloc, &[(b"\n", 16_777_217)])?;
-    let cases: [(&[&str], &[u8], &[u8], &[u8], Status, &[u8]); 18] = [
-        (&[], TABLE, &KEY, b"", Status::Usage, b"usage\n"),
-        (
-            &["run", "people.csv"],
-            TABLE,
-            &KEY,
-            b"",
-            Status::Usage,
-            b"usage\n",
-        ),
-        (
-            &["run", "people.csv", "key", "x"],
-            TABLE,
-            &KEY,
-            b"",
-            Status::Usage,
-            b"usage\n",
-        ),
-        (
-            &["Run", "people.csv", "key"],
-            TABLE,
-            &KEY,
-            b"",
-            Status::Usage,
-            b"usage\n",
-        ),
-        (
-            &["go", "none", "none"],
-            TABLE,
-            &KEY,
-            &long,
-            Status::Usage,
-            b"usage\n",
-        ),
-        (
-            &["run", "none", "nokey"],
-            TABLE,
-            &KEY,
-            b"",
-            Status::Refused,
-            b"refused none\n",
-        ),
-        (
-            &["run", "people.csv", "nokey"],
-            b"age\n1.5\n",
-            &KEY,
-            b"",
-            Status::Refused,
-            b"refused nokey\n",
-        ),
-        (
-            run,
-            b"age\n1.5\n",
-            &[0; 31],
-            b"",
-            Status::Refused,
-            b"refused key\n",
-        ),
-        (run, TABLE, &[0; 33], b"", Status::Refused, b"refused key\n"),
-        (run, TABLE, b"", b"", Status::Refused, b"refused key\n"),
-        (
-            run,
-            b"age\n1.5\n",
-            &KEY,
-            &long,
-            Status::Refused,
-            b"refused people.csv\n",
-        ),
-        (
-            run,
-            b"years\n20\n",
-            &KEY,
-            b"",
-            Status::Refused,
-            b"refused people.csv\n",
-        ),
-        (
-            run,
-            b"",
-            &KEY,
-            b"",
-            Status::Refused,
-            b"refused people.csv\n",
-        ),
-        (
-            run,
-            b"age\n20\n30,1\n",
-            &KEY,
-            b"",
-            Status::Refused,
-            b"refused people.csv\n",
-        ),
-        (
-            run,
-            b"age\n1125899906842625\n",
-            &KEY,
-            b"",
-            Status::Refused,
-            b"refused people.csv\n",
-        ),
-        (
-            run,
-            TABLE,
-            &KEY,
-            &long,
-            Status::ScriptTooLong,
-            b"script too long\n",
-        ),
-        (
-            run,
-            b"age\n",
-            &KEY,
-            b"hello ann\nask census 1 size people\n",
-            Status::Done,
-            b"hello ann\nanswer 0 2 1000000\n",
-        ),
-        (
-            run,
-            b"\xEF\xBB\xBFage\r\n-5",
-            &[0; 32],
-            b"hello ann\nask census 1 size people\n",
-            Status::Done,
-            b"hello ann\nanswer 0 3 1000000\n",
-        ),
-    ];
-    for (words, table, key, script, status, want) in cases {
+    for (words, table, key, script, status, want) in STATUSES {
         let (ended, out) = written(alloc, words, table, key, script)?;
         assert_eq!(rt; ended, status, "{words:?}");
         assert!(rt; out.as_slice() == want, "{words:?}");
     }
+    Ok(())
+}
+
+// Tables that are none.
+const NO_TABLES: [&[u8]; 5] = [
+    b"",
+    b"age\n1.5\n",
+    b"years\n20\n",
+    b"age\n20\n30,1\n",
+    b"age\n1125899906842625\n",
+];
+
+// The rows are looked at before the script, and at faulty words no script is read.
+#[test]
+fn scripts_too_long(rt: HostRuntime) -> Result<(), Fail> {
+    let alloc = rt.alloc();
+    let long = joined(alloc, &[(b"\n", 16_777_217)])?;
+    for table in NO_TABLES {
+        let (ended, out) = written(alloc, RUN, table, &KEY, &long)?;
+        assert_eq!(rt; ended, Status::Refused, "{table:?}");
+        assert!(rt;
+            out.as_slice() == b"refused people.csv\n".as_slice(),
+            "{table:?}"
+        );
+    }
+    let (ended, out) = written(alloc, RUN, TABLE, &KEY, &long)?;
+    assert_eq!(rt; ended, Status::ScriptTooLong);
+    assert!(rt; out.as_slice() == b"script too long\n".as_slice());
+    let (ended, out) = written(alloc, &["go", "none", "none"], TABLE, &KEY, &long)?;
+    assert_eq!(rt; ended, Status::Usage);
+    assert!(rt; out.as_slice() == b"usage\n".as_slice());
     Ok(())
 }
 

@@ -4,7 +4,10 @@ use Rattle.table_store.specs.Table.{table_in_file}
 use Rattle.query_server.specs.Ending.{to_answer}
 use Rattle.query_server.specs.Files.{readable}
 use Rattle.query_server.specs.Run.{run_ending, rows_ending}
+use Rattle.command_words.specs.Command.{run}
+use Rattle.command_words.proofs.Plain.{plain_is_tabled}
 use Rattle.query_server.specs.Due.{ending_of}
+use Rattle.query_server.proofs.Endings.{ending_by}
 use Rattle.worked_row.proofs.RowDraws.{zeros}
 use Rattle.worked_row.proofs.RowTable.{ages, table, has_ages}
 
@@ -12,8 +15,7 @@ abbrev pub words : List (List ℕ)
 words = codes "run" ∷ codes "people.csv" ∷ codes "key" ∷ []
 
 by_files : (held : List ℕ → Option (List ℕ)) → ending_of words held ≡ run_ending (codes "people.csv") (codes "key") (readable (held (codes "people.csv"))) (readable (held (codes "key")))
-unfolding ending_of
-by_files held = refl
+by_files held = ending_by words held (Some (run (codes "people.csv") (codes "key") 1)) (plain_is_tabled words (refl, (refl, (refl, tt))))
 
 by_rows : run_ending (codes "people.csv") (codes "key") (readable (Some table)) (readable (Some zeros)) ≡ rows_ending (codes "people.csv") (table_in_file (codes "age") table) zeros
 by_rows = refl

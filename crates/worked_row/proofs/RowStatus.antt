@@ -11,7 +11,7 @@ use Rattle.query_server.specs.declared.end.Status.{Status}
 use Rattle.query_server.specs.declared.end.Status.TheVariants.{Done, Fault, NoMemory}
 use Rattle.worked_row.proofs.RowDraws.{zeros, noise_is_two}
 use Rattle.worked_row.proofs.RowTable.{ages}
-use Rattle.worked_row.proofs.RowReplies.{script, row, row_without, transcript_is}
+use Rattle.worked_row.proofs.RowReplies.{script, row, row_without, row_lost, IsRowText, transcript_is}
 
 row_length : length row ≡ 33
 row_length = refl
@@ -19,18 +19,19 @@ row_length = refl
 without_length : length row_without ≡ 20
 without_length = refl
 
+lost_length : length row_lost ≡ 22
+lost_length = refl
+
 memory_length : length memory_text ≡ 7
 memory_length = refl
 
 long_length : length too_long_text ≡ 16
 long_length = refl
 
-abbrev pub IsRow : List ℕ → Type 0
-IsRow text = (text ≡ row) ⊎ (text ≡ row_without)
-
-row_short : (text : List ℕ) → IsRow text → length text < 64
+row_short : (text : List ℕ) → IsRowText text → length text < 64
 row_short text (inl is) = let e : length text ≡ length row = ap length is in omega (arith, row_length)
-row_short text (inr is) = let e : length text ≡ length row_without = ap length is in omega (arith, without_length)
+row_short text (inr (inl is)) = let e : length text ≡ length row_without = ap length is in omega (arith, without_length)
+row_short text (inr (inr is)) = let e : length text ≡ length row_lost = ap length is in omega (arith, lost_length)
 
 prefix_short : (text whole : List ℕ) → IsPrefix text whole → length whole < 64 → length text < 64
 prefix_short text whole (rest, is) short =
@@ -62,23 +63,28 @@ script_length = refl
 
 -- where nothing fails
 finished_row : (status : Status) (text : List ℕ) → IsWrittenAt (to_answer ages zeros) script status text → (status ≡ Fault → ⊥)
-    → (status ≡ NoMemory) ⊎ ((status ≡ Done) × IsRow text)
+    → (status ≡ NoMemory) ⊎ ((status ≡ Done) × IsRowText text)
 finished_row status text (inl (inl (done, few, is))) sound = inr (done, transcript_is (draws_of zeros) noise_is_two text is)
 finished_row status text (inl (inr (over, many, is))) sound = absurd (omega (arith, many, script_length))
 finished_row status text (inr (inl (memory, is))) sound = inl memory
 finished_row status text (inr (inr (fault, is))) sound = absurd (sound fault)
 
-written_row : (text written : List ℕ) → Some written ≡ Some ([] ++ text) → IsRow text → (Some written ≡ Some row) ⊎ (Some written ≡ Some row_without)
+-- what the sink may hold then
+abbrev IsRowWritten : List ℕ → Type 0
+IsRowWritten written = (Some written ≡ Some row) ⊎ (Some written ≡ Some row_without) ⊎ (Some written ≡ Some row_lost)
+
+written_row : (text written : List ℕ) → Some written ≡ Some ([] ++ text) → IsRowText text → IsRowWritten written
 written_row text written whole (inl is) = inl (whole ∙ ap Some is)
-written_row text written whole (inr is) = inr (whole ∙ ap Some is)
+written_row text written whole (inr (inl is)) = inr (inl (whole ∙ ap Some is))
+written_row text written whole (inr (inr is)) = inr (inr (whole ∙ ap Some is))
 
 -- Where nothing fails, the row is written or memory is wanting.
 pub finished : (ending : Ending) (status : Status) (text written : List ℕ) → ending ≡ to_answer ages zeros → IsWrittenAt ending script status text
     → Some written ≡ Some ([] ++ text) → (status ≡ Fault → ⊥)
-    → (status ≡ NoMemory) ⊎ ((status ≡ Done) × ((Some written ≡ Some row) ⊎ (Some written ≡ Some row_without)))
+    → (status ≡ NoMemory) ⊎ ((status ≡ Done) × IsRowWritten written)
 finished ending status text written due is whole sound = here (finished_row status text (subst (λ (e : Ending). IsWrittenAt e script status text) due is) sound)
   where
-    here : (status ≡ NoMemory) ⊎ ((status ≡ Done) × IsRow text) → (status ≡ NoMemory) ⊎ ((status ≡ Done) × ((Some written ≡ Some row) ⊎ (Some written ≡ Some row_without)))
+    here : (status ≡ NoMemory) ⊎ ((status ≡ Done) × IsRowText text) → (status ≡ NoMemory) ⊎ ((status ≡ Done) × IsRowWritten written)
     here (inl none) = inl none
     here (inr (complete, same)) = inr (complete, written_row text written whole same)
 

@@ -5,7 +5,7 @@ use Rattle.csv.specs.Machine.{next_record}
 use Rattle.csv.specs.Reading.{records_from, strip_bom}
 use Rattle.table_store.specs.Cell.{cell_number}
 use Rattle.table_store.specs.Table.{rows_from, table_in_file}
-use Rattle.metric_values.specs.Values.{NumF}
+use Rattle.metric_values.specs.Values.{Flat, NumF}
 use Rattle.metric_values.specs.Tables.{Dataset}
 use Rattle.metric_values.specs.Tables.{IsDataset}
 use Rattle.query_server.specs.House.{census_tables}
@@ -21,8 +21,11 @@ pub has_ages : table_in_file (codes "age") table ≡ Ok ages
 unfolding table_in_file next_record records_from strip_bom rows_from cell_number
 has_ages = refl
 
+abbrev pub row_list : List Flat
+row_list = NumF (pos 20) ∷ NumF (pos 30) ∷ NumF (pos 40) ∷ []
+
 abbrev pub rows : Dataset
-rows = (NumF (pos 20) ∷ NumF (pos 30) ∷ NumF (pos 40) ∷ []) ∷ []
+rows = row_list ∷ []
 
 pub are_rows : IsDataset census_tables rows
 are_rows = (ages_hold table ages has_ages).dataset

@@ -48,12 +48,13 @@ fn files_of_row() -> [MemFile<'static>; 2]
 }
 
 /// An analyst asks for the size of a table of three rows. Under a key of zeros the noise is 2, so the answer is 5. These
-/// replies are written, or memory is wanting, for the whole or for the one program; nothing else can come.
+/// replies are written, or memory is wanting, for the whole, for the one program, or after its reservation; nothing else can come.
 pub fn row_one(alloc: Global) -> Result<Ran, AllocError>
     ensures { IfOk result (λ ran. (ran.status ≡ Status.NoMemory)
         ⊎ ((ran.status ≡ Status.Done)
         × ((⟦<MemSink<ROOM> as Sink>⟧.contents ran.sink ≡ Some (codes "hello ann\nanswer 0 5 1000000\nbye\n"))
-        ⊎ (⟦<MemSink<ROOM> as Sink>⟧.contents ran.sink ≡ Some (codes "hello ann\nno 90\nbye\n"))))) }
+        ⊎ (⟦<MemSink<ROOM> as Sink>⟧.contents ran.sink ≡ Some (codes "hello ann\nno 90\nbye\n"))
+        ⊎ (⟦<MemSink<ROOM> as Sink>⟧.contents ran.sink ≡ Some (codes "hello ann\nno 51 0\nbye\n"))))) }
 {
     let words = words_of_row(alloc)?;
     let listed = files_of_row();

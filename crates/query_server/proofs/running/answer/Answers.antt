@@ -7,7 +7,8 @@ use Rattle.session_core.specs.Transcript.{IsTranscript}
 use Rattle.query_server.specs.House.{census}
 use Rattle.query_server.specs.Run.{none_found, script_limit}
 use mathlib.Core.Logic.{inl, inr}
-use Rattle.query_server.proofs.Ends.{any_left, left_at_end, left_too_long}
+use Rattle.query_server.proofs.Contents.{any_left}
+use Rattle.query_server.proofs.Ends.{left_at_end, left_too_long}
 use Rattle.query_server.proofs.Passes.{answered_in}
 use Rattle.query_server.proofs.running.answer.Goals as goal
 

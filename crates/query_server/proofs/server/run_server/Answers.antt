@@ -1,10 +1,10 @@
-use Rattle.std.proofs.Common.{◌≡◌, ◌∙◌, ℕ, List, Some, ap, map, string_bytes}
+use Rattle.std.proofs.Common.{◌∙◌, ℕ, List, Some, ap, map, string_bytes}
 use Rattle.std.specs.Io.KnownBytes.{append_known}
-use Rattle.query_server.specs.Command.{command_of}
+use Rattle.command_words.specs.Command.{command_of}
 use Rattle.query_server.specs.Ending.{Ending}
 use Rattle.query_server.specs.Due.{ForContents, IsWrittenAt, ending_of}
 use Rattle.query_server.proofs.Contents.{for_contents, words_held, words_told}
-use Rattle.query_server.proofs.Outcomes.{cut_short_by, finished_due, finished_map, headline_by, name_by, of_check_by, of_run_by, program_by, taken_with, usage_by, usage_written, verdict_by, written_by}
+use Rattle.query_server.proofs.Outcomes.{comparison_by, cut_short_by, finished_due, finished_map, headline_by, name_by, of_program_by, of_run_by, program_by, taken_with, usage_by, usage_written, verdict_by, written_by}
 use Rattle.query_server.proofs.server.run_server.Goals as goal
 
 pub returns-clause-line : goal.returns-clause-line
@@ -32,7 +32,7 @@ returns-clause-exact g c = λ told script before files source sink.
     (done.0, done.1 ∙ ap (λ known. append_known known done.0) sink, words_told words told script held left Comes files source written)
 
 pub returns-clause-headline : goal.returns-clause-headline
-returns-clause-headline g c = λ told catalog key script before files source sink commanded same.
+returns-clause-headline g c = λ told catalog key workers script before files source sink commanded same.
     let words = map string_bytes c.args.words.now in
     let held = g.F.Files.held c.args.files.now in
     let left = g.S.Source.left c.args.source.now in
@@ -41,7 +41,7 @@ returns-clause-headline g c = λ told catalog key script before files source sin
     let done = c.finish.ensures.written in
     let Comes : Ending → List ℕ → Type 0 = λ ending script. IsWrittenAt ending script status done.0 in
     let written : ForContents (command_of words) held left Comes = for_contents (command_of words) held left _ _ (written_by end status done.0 done.2) c.run_command-end.ensures.end in
-    (done.0, done.1 ∙ ap (λ known. append_known known done.0) sink, headline_by words told catalog key script done.0 status commanded same (words_told words told script held left Comes files source written))
+    (done.0, done.1 ∙ ap (λ known. append_known known done.0) sink, headline_by words told catalog key workers script done.0 status commanded same (words_told words told script held left Comes files source written))
 
 pub returns-clause-cut_short : goal.returns-clause-cut_short
 returns-clause-cut_short g c = λ told script before files source sink same.
@@ -107,6 +107,19 @@ returns-clause-program g c = λ told program before files sink due.
     let w = words_held words told held left Comes files written in
     (done.0, done.1 ∙ ap (λ known. append_known known done.0) sink, program_by (ending_of words told) program w.0 status done.0 due w.1)
 
+pub returns-clause-comparison : goal.returns-clause-comparison
+returns-clause-comparison g c = λ told ages second_ages program before files sink due.
+    let words = map string_bytes c.args.words.now in
+    let held = g.F.Files.held c.args.files.now in
+    let left = g.S.Source.left c.args.source.now in
+    let end = c.run_command-end.result in
+    let status = c.finish.result in
+    let done = c.finish.ensures.written in
+    let Comes : Ending → List ℕ → Type 0 = λ ending script. IsWrittenAt ending script status done.0 in
+    let written : ForContents (command_of words) held left Comes = for_contents (command_of words) held left _ _ (written_by end status done.0 done.2) c.run_command-end.ensures.end in
+    let w = words_held words told held left Comes files written in
+    (done.0, done.1 ∙ ap (λ known. append_known known done.0) sink, comparison_by (ending_of words told) ages second_ages program w.0 status done.0 due w.1)
+
 pub returns-clause-verdict : goal.returns-clause-verdict
 returns-clause-verdict g c = λ told program reading files due reads.
     let words = map string_bytes c.args.words.now in
@@ -143,10 +156,10 @@ returns-clause-no_command g c = λ none.
     let Comes : Ending → List ℕ → Type 0 = λ ending script. IsWrittenAt ending script status done.0 in
     let written : ForContents (command_of words) held left Comes = for_contents (command_of words) held left _ _ (written_by end status done.0 done.2) c.run_command-end.ensures.end in
     let used = usage_written end status done.0 _ (c.run_command-end.ensures.idle none).1 done.2 c.finish.ensures.fault in
-    (done.0, done.1, used.0, used.1)
+    (done.0, done.1, used)
 
-pub returns-clause-of_check : goal.returns-clause-of_check
-returns-clause-of_check g c = λ same.
+pub returns-clause-of_program : goal.returns-clause-of_program
+returns-clause-of_program g c = λ same.
     let words = map string_bytes c.args.words.now in
     let held = g.F.Files.held c.args.files.now in
     let left = g.S.Source.left c.args.source.now in
@@ -155,7 +168,7 @@ returns-clause-of_check g c = λ same.
     let done = c.finish.ensures.written in
     let Comes : Ending → List ℕ → Type 0 = λ ending script. IsWrittenAt ending script status done.0 in
     let written : ForContents (command_of words) held left Comes = for_contents (command_of words) held left _ _ (written_by end status done.0 done.2) c.run_command-end.ensures.end in
-    of_check_by (command_of words) held left status done.0 same written
+    of_program_by (command_of words) held left status done.0 same written
 
 pub returns-clause-of_run : goal.returns-clause-of_run
 returns-clause-of_run g c = λ same.

@@ -1,0 +1,50 @@
+//! Worked rows: scripts with their replies, byte for byte, under a key of zeros. What is wanted was worked out by hand from the rules,
+//! with the noise that tools/reference.py draws.
+
+use memory_runs::{KEY, Piece, TABLE, ended, joined, two_files};
+use query_server::Status;
+use std::test::Fail;
+
+// What is asked of which table, and what is written.
+#[rattlefmt::skip]
+const ROWS: [(&[u8], &[Piece<'static>], &[u8]); 15] = [
+    (TABLE, &[(b"ask census 1 size people\n", 1)], b"answer 0 5 1000000\n"),
+    // The noise has scale 2/1, 1/1 and 1000000/1, and a charge is the epsilon times the sensitivity, rounded up.
+    (TABLE, &[(b"ask census 0.5 2 * size people\n", 1)], b"answer 0 10 1000000\n"),
+    (TABLE, &[(b"ask census 1 let !y = ![2] (size people) in y\n", 1)], b"answer 0 5 1000000\n"),
+    (TABLE, &[(b"ask census 0.000001 (fun (x : ![3/2] num) => let !y = x in y) (![3/2] (size people))\n", 1)], b"answer 0 2219833 2\n"),
+    (TABLE, &[(b"ask census 0.000001 let !y = ![1/2] (size people) in let !z = ![2] y in 3 * z\n", 1)], b"answer 0 2219839 3\n"),
+    (TABLE, &[(b"ask census 1 if size people <= 3 then 0 else 100\n", 1)], b"no 33 people\n"),
+    (TABLE, &[(b"ask census 1 case inl[unit] (size people) of inl x => 5 | inr y => 7\n", 1)], b"answer 0 7 1000000\n"),
+    (b"age\n-5\n40\n1000\n", &[(b"ask census 0.01 sum[0,100] people\n", 1)], b"answer 0 280 1000000\n"),
+    (TABLE, &[(b"ask census 1 let (a, b) = split (fn (x : num) => x <= 30) people in size a + size b\n", 1),
+        (b"ask census 1 size people + size people\n", 1)], b"answer 0 5 1000000\nanswer 1 6 2000000\n"),
+    (TABLE, &[(b"ask census 1 size (filter (fn (x : num) => x <= 30) (map (fn (y : num) => y + 1) people))\n", 1)], b"answer 0 3 1000000\n"),
+    (TABLE, &[(b"ask census 1 size people $\nask census 1 size\nask census 1 ", 1), (b"1 + ", 63), (b"1\nask census 1 ", 1),
+        (b"1 + ", 64), (b"1\n", 1)], b"no 20 12\nno 21 1\nanswer 0 66 0\nno 22 65\n"),
+    // Programs of sensitivity 0 are charged nothing, and each is answered with noise of its own number.
+    (TABLE, &[(b"ask census 1 1\n", 11)],
+        b"answer 0 3 0\nanswer 1 1 0\nanswer 2 1 0\nanswer 3 -2 0\nanswer 4 2 0\nanswer 5 2 0\nanswer 6 1 0\nanswer 7 2 0\n\
+        answer 8 -2 0\nanswer 9 1 0\nanswer 10 1 0\n"),
+    // 64 tables wide.
+    (TABLE, &[(b"ask census 0.01 let a = union people people in let b = union a a in let c = union b b in let d = union c c in ", 1),
+        (b"let e = union d d in size (union e e)\n", 1)], b"answer 0 332 640000\n"),
+    (TABLE, &[(b"ask census 0.1 sum[5,3] people\nask census 0.1 sum[-3,-5] people\n", 1)], b"answer 0 35 500000\nanswer 1 10 500000\n"),
+    (TABLE, &[(b"ask census 1000 1125899906842624 + 1\nask census 1000 - 1125899906842624 - 1\nask census 1000 clip[10,0] 5\n", 1)],
+        b"answer 0 1125899906842624 0\nanswer 1 -1125899906842624 0\nanswer 2 10 0\n"),
+];
+
+#[test]
+fn worked_rows(rt: HostRuntime) -> Result<(), Fail> {
+    let alloc = rt.alloc();
+    for (table, asked, want) in ROWS {
+        let asks = joined(alloc, asked)?;
+        let script = joined(alloc, &[(b"hello ann\n", 1), (&asks, 1), (b"bye\n", 1)])?;
+        let due = joined(alloc, &[(b"hello ann\n", 1), (want, 1), (b"bye\n", 1)])?;
+        let held = two_files(table, "key", &KEY);
+        let (status, out) = ended(alloc, &["run", "people.csv", "key"], &held, &script)?;
+        assert_eq!(rt; status, Status::Done, "{asked:?}");
+        assert!(rt; out.as_slice() == due.as_slice(), "{asked:?}");
+    }
+    Ok(())
+}
