@@ -32,11 +32,11 @@ table() {
     printf "$3" >table.csv
     words "table '$3'" "$1" "$2" run table.csv key
 }
-# asked REPLY PROGRAM [R]: an ask of this program gets this reply, and `check` of it says the same, or for a no 39 that it is
+# asked REPLY PROGRAM [R]: an ask of this program gets this reply, and `check` of it says the same, or for an answer that it is
 # accepted at sensitivity R.
 asked() {
     local said=$1
-    [[ $1 != "no 39 "* ]] || said="ok $3"
+    [[ $1 != "answer "* ]] || said="ok $3"
     printf 'hello ann\nask census 1 %s\n' "$2" >lines
     "$program" run people.csv key <lines >output 2>errors
     status=$?
@@ -44,6 +44,13 @@ asked() {
     printf '%s' "$2" >text
     words "check ${2:0:33}" "$([[ $said == ok* ]] && echo 0 || echo 1)" "$said/" check people.csv census text
 }
+# functions COUNT FIRST MORE: lets of so many functions of x, an @ standing for the one before, and a call of the last one.
+functions() {
+    local made="let f0 = fun (x : num) => $2 in " at
+    for ((at = 1; at < $1; at++)); do made+="let f$at = fun (x : num) => ${3//@/f$((at - 1))} in "; done
+    printf '%s' "${made}f$(($1 - 1)) 1"
+}
+unions="let a = union people people in let b = union a a in let c = union b b in let d = union c c in let e = union d d in "
 # lines STATUS OUTPUT TEXT: a script of this text, with printf's escapes.
 lines() {
     printf "$3" >lines
@@ -166,9 +173,13 @@ asked "no 32 0 29" '65536 * (65536 * size people)'
 asked "no 33 people" 'if size people <= 3 then 0 else 100'
 asked "no 34" '"a"'
 asked "no 34" people
-asked "no 39 0 15" '2 * size people' 2
-asked "no 39 1 2" '(1)' 0
-asked "no 39 1 16" '(size people + 1)' 1
+asked "no 35 65 67" "$(functions 43 '0 + x' '0 + @ x')"
+asked "no 36 61 63" "$(functions 16 x '@ (@ x)')"
+asked "no 37 121 145 65" "${unions}size (union (union e people) e)"
+asked "answer 0 8 2000000" '2 * size people' 2
+asked "answer 0 3 0" '(1)' 0
+asked "answer 0 6 1000000" '(size people + 1)' 1
+asked "answer 0 4 1000000" 'size (filter (fn (x : num) => x <= 30) people)' 1
 long=$(head -c 16384 /dev/zero | tr '\0' a)
 printf '%s\n%sa\n' "$long" "$long" >lines
 "$program" run people.csv key <lines >output 2>errors

@@ -14,7 +14,7 @@ import tempfile
 from fractions import Fraction
 
 TOP = os.path.dirname(os.path.dirname(os.path.abspath(__file__)))
-PROGRAM = os.environ.get("PROGRAM", f"{TOP}/out/hitchseason")
+PROGRAM = os.path.abspath(os.environ.get("PROGRAM", f"{TOP}/out/hitchseason"))
 BUDGET, CAPACITY, MOST_DRAWS = 10_000_000, 100, 4096
 
 

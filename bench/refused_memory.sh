@@ -1,16 +1,19 @@
 #!/usr/bin/env bash
 # Refuses allocation 1, 2, 3, .. of the first run's example, one a run, until none is refused.
 # Each run must end with status 7 and the line 'memory' (or no line, where the words themselves had no memory),
-# or with the right replies and status 0, of which that to an ask may be 'no 90'.
+# or with the right replies and status 0, of which that to an ask may be 'no 90', or 'no 51 0' once number 0 was reserved.
 # usage: bench/refused_memory.sh              the proved program under a malloc that refuses: a second in all. Needs cc.
 #        bench/refused_memory.sh --more       the same of other runs: larger inputs and refusals. A row a run's kind.
 #        bench/refused_memory.sh --programs   the same of `check`, and of asks whose programs are checked. A row a run's kind.
+#        bench/refused_memory.sh --gaps       the same of `gap`: two tables, several programs, and each refusal. A row a run's kind.
+#        bench/refused_memory.sh --runs       the same of asks whose programs run over bags, with what they are charged: refused_runs.py.
 #        bench/refused_memory.sh --try [FIRST [LAST]]     the kit's own refusals, in a build of its own that
 #                                             isn't proved: 15 to 30 s a run. Ends after five right runs in a row.
 . "$(dirname "$0")/common.sh"
 example=$top/examples/first-run
 right=$'hello ann\nanswer 0 5 1000000\nbye'
 spared=$'hello ann\nno 90\nbye'
+lost=$'hello ann\nno 51 0\nbye'
 passed=0
 
 # judge NUMBER STATUS OUTPUT: prints a row.
@@ -20,6 +23,7 @@ judge() {
         7/memory | 7/) verdict="want of memory" ;;
         "0/$right") verdict="the right replies" ;;
         "0/$spared") verdict="the ask's refusal" ;;
+        "0/$lost") verdict="lost once reserved" ;;
         *) passed=1 ;;
     esac
     printf '%8s %7s   %-40s %s\n' "$1" "$2" "$(tr '\n' '/' <<<"$3")" "$verdict"
@@ -59,14 +63,15 @@ by_malloc() {
     done
 }
 
-# is_spared: the files output and wanted have as many lines, each the same, but that some asks' replies are 'no 90'.
+# is_spared: the files output and wanted have as many lines, each the same, but that some asks' replies are 'no 90', and those of
+# granted ones 'no 51' with their number.
 is_spared() {
-    awk 'NR == FNR { wanted[NR] = $0; lines = NR; next }
-        { differs += $0 != wanted[FNR] && ($0 != "no 90" || wanted[FNR] !~ /^(no|answer) /) }
+    awk 'NR == FNR { wanted[NR] = $0; split($0, words, " "); if (words[1] == "answer") lost[NR] = "no 51 " words[2]; lines = NR; next }
+        { differs += $0 != wanted[FNR] && ($0 != "no 90" || wanted[FNR] !~ /^(no|answer) /) && $0 != lost[FNR] }
         END { exit differs > 0 || FNR != lines }' wanted output
 }
 # turns NAME SCRIPT WORD..: each allocation of this run refused in turn, alone and with all later ones. Each run must
-# end with status 7 and the line 'memory', or as it ends with none refused, but that replies to asks may be 'no 90'.
+# end with status 7 and the line 'memory', or as it ends with none refused, but that replies to asks may be 'no 90' or 'no 51'.
 turns() {
     local name=$1 script=$2 count number all right=0 ninety=0 want
     shift 2
@@ -79,7 +84,7 @@ turns() {
             status=$?
             if [ "$status" = "$want" ] && cmp -s output wanted; then
                 right=$((right + 1))
-            elif [ "$status" = "$want" ] && [ "$want" = 0 ] && grep -qx 'no 90' output && is_spared; then
+            elif [ "$status" = "$want" ] && [ "$want" = 0 ] && grep -qx 'no 90\|no 51 [0-9]*' output && is_spared; then
                 ninety=$((ninety + 1))
             elif [ "$status" != 7 ] || [ "$(cat output)" != memory ]; then
                 echo "$name: allocation $number $all: status $status"
@@ -87,7 +92,7 @@ turns() {
             fi
         done
     done
-    printf '%-28s status %s, %4d allocations, of %5d runs %4d as with none refused, %5d with no 90   %s\n' \
+    printf '%-28s status %s, %4d allocations, of %5d runs %4d as with none refused, %5d with no 90 or 51   %s\n' \
         "$name" "$want" "$count" $((2 * count)) "$right" "$ninety" "$([ "$1" = check ] && head -c 40 wanted)"
 }
 
@@ -125,6 +130,7 @@ checks() {
 }
 
 by_malloc_programs() {
+    local unions="let a = union people people in let b = union a a in let c = union b b in let d = union c c in let e = union d d in let f = union e e in "
     local doubling="let a1 = size people in " sum="(size people + 2 * size people)" number
     need_program
     need_tool cc gcc
@@ -134,9 +140,10 @@ by_malloc_programs() {
     for ((number = 2; number <= 31; number++)); do doubling+="let a$number = (a$((number - 1)), a$((number - 1))) in "; done
     for ((number = 0; number < 5; number++)); do sum="($sum + $sum)"; done
     local programs=(
-        "$(cat program)" "$sum" "${doubling}3" "${doubling}a31" "size people" "if size people <= 3 then 0 else 100"
+        "$(cat program)" "$sum" "$doubling(size people)" "${doubling}a31" "size people" "if size people <= 3 then 0 else 100"
         "let !y = ![2] (size people) in y" "(fun (x : ![3/2] num) => let !y = x in y) (![3/2] (size people))"
-        'case inl[bag text] ("a" == "b") of inl x => if x then 1 else 2 | inr y => size y'
+        'size people + (case inl[bag text] ("a" == "b") of inl x => if x then 1 else 2 | inr y => size y)'
+        "$unions(size f)" "$unions(size (union f people))"
         "(fun (x : num) => x + x) (size people)" "size nobody" "size 3" "fst 1"
         "inl[num -o num] 1" "map (fn (x : num) => people) people" "(fn (x : bag (bag num)) => 1) 2"
         "65536 * (65536 * size people)" '"a text"' "1 +" "size people $" "$(printf '(1,%.0s' {1..64})1$(printf ')%.0s' {1..64})" ""
@@ -147,13 +154,40 @@ by_malloc_programs() {
     turns "check: an absent file" /dev/null check people.csv census nothing
     turns "check: no such owner" /dev/null check people.csv nobody program
     turns "check: two words" /dev/null check people.csv census
-    # One grant, the last of the asks, so that its number doesn't hang on what was refused before.
+    # One grant, the last of the asks, so that its number doesn't hang on what was refused before: the others are over the budget.
     {
         echo "hello ann"
-        for text in "${programs[@]}"; do [ "$text" = "size people" ] || echo "ask census 1 ${text//$'\n'/ }"; done
+        for text in "${programs[@]}"; do [ "$text" = "size people" ] || echo "ask census 1000 ${text//$'\n'/ }"; done
         printf 'ask census 1 size people\nbye\n'
     } >asks
     turns "asks of all of these" asks run people.csv key
+}
+
+# gaps NAME PROGRAM: the turns of this program under `gap`.
+gaps() {
+    printf '%s' "$2" >text
+    turns "gap: $1" /dev/null gap first.csv census second.csv text
+}
+
+by_malloc_gaps() {
+    need_program
+    need_tool cc gcc
+    make_room
+    cc -O1 -shared -fPIC -o refuse.so "$top/bench/refuse_allocation.c" -ldl || exit 2
+    { echo age; seq 1000; } >first.csv
+    { echo age; seq 3 1005; } >second.csv
+    printf 'age\n1.5\n' >bad.csv
+    gaps "a count" "size people"
+    gaps "a filter" "size (filter (fn (x : num) => x <= 30) people)"
+    gaps "a sum of a map" "sum[0,100] (map (fn (x : num) => x + 1) people)"
+    gaps "two numbers of a split" "let (a, b) = split (fn (x : num) => x <= 30) people in size a + 2 * size b"
+    gaps "unbounded" "if size people <= 3 then 0 else 100"
+    gaps "no token" "size people $"
+    printf 'size people' >text
+    turns "gap: a bad table" /dev/null gap bad.csv census second.csv text
+    turns "gap: a bad second table" /dev/null gap first.csv census bad.csv text
+    turns "gap: no such owner" /dev/null gap first.csv nobody second.csv text
+    turns "gap: an absent program" /dev/null gap first.csv census second.csv nothing
 }
 
 head_of_rows() { printf '%8s %7s   %-40s %s\n' "refused" "status" "output" "verdict"; }
@@ -161,6 +195,8 @@ case "$1" in
     --try) head_of_rows && by_try "${2:-1}" "${3:-10000}" ;;
     --more) by_malloc_more ;;
     --programs) by_malloc_programs ;;
+    --gaps) by_malloc_gaps ;;
+    --runs) python3 "$top/bench/refused_runs.py" || passed=1 ;;
     *) head_of_rows && by_malloc ;;
 esac
 exit $passed

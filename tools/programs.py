@@ -1,6 +1,6 @@
 """The language of programs, read and checked once more: tokens, terms and types by their grammar, and the typing rules.
 
-    judgement(PROGRAM)      what is said of a program's bytes: the sensitivity, or the words of the refusal
+    checked(PROGRAM)        the term and the sensitivity of a program's bytes; Refused, with the words of the refusal, else
 
 It shares nothing with the server but the rules. A term is read by a procedure a phrase, types are nested tuples, and what
 a term's names are used at is a dictionary of fractions.
@@ -694,19 +694,3 @@ def checked(text, tables=PEOPLE):
         return term, Checker(tables).program(term)
 
     return deep(call)
-
-
-def judgement(text, tables=PEOPLE):
-    """What `check` says, without its end."""
-    try:
-        return "ok " + sensitivity_text(checked(text, tables)[1])
-    except Refused as refusal:
-        return f"no {refusal}"
-
-
-def asked(text, tables=PEOPLE):
-    """The sensitivity of a program that `ask` answers: of the accepted ones only the size of a table is."""
-    term, r = checked(text, tables)
-    if term.form != "size" or term.parts[0].form != "name" or term.parts[0].parts[0] not in [name for name, _ in tables]:
-        raise Refused(f"39 {term.span()}")
-    return r

@@ -1,12 +1,13 @@
 #!/usr/bin/env python3
 """What the server must write for a script, worked out apart from it.
 
-    reference.py [--key FILE] [--rows N] < SCRIPT      the transcript of a script
+    reference.py [--key FILE] [--table FILE] < SCRIPT  the transcript of a script
     reference.py --program < PROGRAM                   what is said of a program
     reference.py --check                               the values that are known from outside
 
 The house is the one the server has: the analysts ann and bob, the owner census with a budget of 10 (in millionths
-10000000) and room for 100 records, and a table `people` of N rows (3, unless said). The key is 32 zero bytes, unless said.
+10000000) and room for 100 records, and a table `people` with the rows of FILE (20, 30, 40, unless said), whose first line is
+its header. The key is 32 zero bytes, unless said.
 The test values of crates/hitchseason are written by this program. It shares nothing with the server but the rules:
 
 - Draw i of the number n of owner o is 8 bytes, lowest first, of ChaCha20 with a 64-bit counter and a 64-bit nonce. The
@@ -14,7 +15,7 @@ The test values of crates/hitchseason are written by this program. It shares not
   counter and 96 to the nonce: test vectors 1, 2 and 5 of its appendix A.1 hold for both.)
 - The noise is discrete Laplace by the sampler of "The Discrete Gaussian for Differential Privacy" by Canonne, Kamath and
   Steinke, from at most 4096 draws.
-- A program is read and checked by programs.py. Of the accepted ones only the size of a table is answered.
+- A program is read and checked by programs.py, and run by runs.py.
 """
 import argparse
 import sys
@@ -23,7 +24,8 @@ from math import ceil
 
 from cryptography.hazmat.primitives.ciphers import Cipher, algorithms
 
-from programs import Refused, asked, judgement
+from programs import Refused
+from runs import asked, judgement, value
 
 BUDGET = 10_000_000
 CAPACITY = 100
@@ -32,6 +34,7 @@ OWNER = b"census"
 LINE_LIMIT = 16_384
 SCRIPT_LIMIT = 2**24
 DRAW_LIMIT = 4096
+ROWS = (20, 30, 40)
 
 
 def key_draws(key, owner, number):
@@ -113,7 +116,7 @@ def millionths(text):
 
 class Server:
     def __init__(self, rows, draws):
-        self.rows = rows
+        self.rows = list(rows)
         self.draws = draws
         self.who = None
         self.spent = 0
@@ -161,11 +164,11 @@ class Server:
         if self.who is None:
             return "no 14"
         try:
-            return self.query(e, asked(program))
+            return self.query(e, *asked(program))
         except Refused as refusal:
             return f"no {refusal}"
 
-    def query(self, e, sensitivity):
+    def query(self, e, term, sensitivity):
         cost = ceil(sensitivity * e)
         if self.spent + cost > BUDGET:
             return f"no 40 {self.spent} {self.spent + cost} {BUDGET} {self.records}"
@@ -176,12 +179,13 @@ class Server:
         self.spent += cost
         self.records += 2
         try:
-            return f"answer {number} {self.rows + noise(e, self.draws(number))} {cost}"
+            exact = value(term, {"people": self.rows})
+            return f"answer {number} {exact + noise(e, self.draws(number))} {cost}"
         except Exhausted:
             return f"no 50 {number}"
 
 
-def transcript(script, rows=3, draws=lambda number: key_draws(bytes(32), 0, number)):
+def transcript(script, rows=ROWS, draws=lambda number: key_draws(bytes(32), 0, number)):
     if len(script) > SCRIPT_LIMIT:
         return "script too long\n"
     server = Server(rows, draws)
@@ -192,6 +196,22 @@ KNOWN_DRAWS = """
 903df1a0ade0b876 28bd8653e56a5d40 1aed8da0b819d2bd c70d778bccef36a8 8d4857517c5941da 374ad8b83fe02477 1ca11815f4b8436a
 8665eeb269b687c3 7a385155bee7079f 0d082d737c97ba98 6965e348a0290fcb ed7aee323e53c612 434ee69c7621b729
 """.split()
+
+
+def chain(names, first, more, last):
+    """Lets of so many functions f0, f1, .., an @ standing for the one before, and then this call of the last one."""
+    text = f"let f0 = fun (x : num) => {first} in "
+    for name in range(1, names):
+        text += f"let f{name} = fun (x : num) => {more.replace('@', f'f{name - 1}')} in "
+    return (text + f"f{names - 1} {last}").encode()
+
+
+def unions(names):
+    """Lets of so many bags, each twice the one before, and then the size of the last one."""
+    text = "let a0 = union people people in "
+    for name in range(1, names):
+        text += f"let a{name} = union a{name - 1} a{name - 1} in "
+    return (text + f"size a{names - 1}").encode()
 
 
 KNOWN_PROGRAMS = [
@@ -223,6 +243,35 @@ KNOWN_PROGRAMS = [
     (b"(fn (x : num) => x", "no 21 9"),
     (b"1 -o 2", "no 21 1"),
     (b"(" * 2047 + b"1" + b")" * 2047, "ok 0"),
+    # 42 functions are 127 deep, and of 43 the name of the last function that is called is the first part at 129.
+    (chain(42, "0 + x", "0 + @ x", 1), "ok 0"),
+    (chain(43, "0 + x", "0 + @ x", 1), "no 35 65 67"),
+    (chain(45, "0 + x", "0 + @ x", 1), "no 35 179 181"),
+    (chain(16, "x", "@ (@ x)", 1), "no 36 61 63"),
+    (unions(6), "ok 64"),
+    (unions(7), "no 37 161 172 128"),
+]
+
+
+# Programs with their values on the rows 20, 30, 40, or on those that stand beside.
+KNOWN_VALUES = [
+    (b"2 * size people", 6),
+    (b"let !y = ![2] (size people) in y", 3),
+    (b"(fun (x : ![3/2] num) => let !y = x in y) (![3/2] (size people))", 3),
+    (b"case inl[unit] (size people) of inl x => 5 | inr y => 7", 5),
+    (b"sum[0,100] people", 140, (-5, 40, 1000)),
+    (b"let (a, b) = split (fn (x : num) => x <= 30) people in size a + size b", 3),
+    (b"size people + size people", 6),
+    (b" + ".join([b"1"] * 64), 64),
+    (unions(6), 192),
+    (b"size (filter (fn (x : num) => x <= 30) (map (fn (y : num) => y + 1) people))", 1),
+    (b"clip[0,10] (- 5)", 0),
+    (b"clip[0,10] 11", 10),
+    (b"clip[10,0] 5", 10),
+    (b"1125899906842624 + 1 - 1", 2**50 - 1),
+    (b"-1125899906842624 - 1 + 1", 1 - 2**50),
+    (b"4294967295 * (4294967295 * 1)", 2**50),
+    (b"sum[5,3] people", 15),
 ]
 
 
@@ -241,14 +290,14 @@ def check():
     draws = key_draws(bytes(32), 2**25, 0)
     assert [next(draws) for _ in range(2)] == [0x3736D58C374DC6C2, 0xCD3F93EFB904E24A]
     # Samples worked by hand.
-    for words, value, taken in [
+    for words, sample, taken in [
         ([7, 7, 7, 1, 1], 0, 5),
         ([0, 0, 0, 0, 1, 0, 1, 0], -1, 8),
         ([7, 7, 7, 1, 0, 7, 7, 7, 1, 1], 0, 10),
         ([int(word, 16) for word in KNOWN_DRAWS], 2, 13),
     ]:
         sampler = Sampler(followed(words))
-        assert (sampler.laplace(1, 1), sampler.taken) == (value, taken)
+        assert (sampler.laplace(1, 1), sampler.taken) == (sample, taken)
     sampler = Sampler([2**64 - 1, 5])
     assert (sampler.uniform(3), sampler.taken) == (2, 2)
     # Scripts worked by hand.
@@ -257,19 +306,22 @@ def check():
     assert transcript(b"") == ""
     assert transcript(hello + 11 * one).splitlines()[-1] == "no 40 10000000 11000000 10000000 20"
     assert transcript(hello + one, draws=lambda _: followed([])) == "hello ann\nno 50 0\n"
-    assert transcript(hello + one, rows=0, draws=lambda _: followed([0, 0, 0, 0, 1, 0, 1, 0])).endswith(
+    assert transcript(hello + one, rows=(), draws=lambda _: followed([0, 0, 0, 0, 1, 0, 1, 0])).endswith(
         "answer 0 -1 1000000\n"
     )
     # Programs worked by hand.
     for program, said in KNOWN_PROGRAMS:
         assert judgement(program) == said, (program, judgement(program), said)
+    for program, exact, *rows in KNOWN_VALUES:
+        found = value(asked(program)[0], {"people": list(rows[0] if rows else ROWS)})
+        assert found == exact, (program, found, exact)
     print("all as known")
 
 
 def main():
     words = argparse.ArgumentParser()
     words.add_argument("--key")
-    words.add_argument("--rows", type=int, default=3)
+    words.add_argument("--table")
     words.add_argument("--program", action="store_true")
     words.add_argument("--check", action="store_true")
     given = words.parse_args()
@@ -280,7 +332,8 @@ def main():
         check()
         return
     key = open(given.key, "rb").read() if given.key else bytes(32)
-    text = transcript(sys.stdin.buffer.read(), given.rows, lambda number: key_draws(key, 0, number))
+    rows = [int(line) for line in open(given.table).read().split()[1:]] if given.table else ROWS
+    text = transcript(sys.stdin.buffer.read(), rows, lambda number: key_draws(key, 0, number))
     sys.stdout.write(text)
 
 

@@ -1,0 +1,163 @@
+#!/usr/bin/env bash
+# Asks over a table of 2^20 rows, beside sqlite3's query for the same number on the same rows, in turn; and runs that are long or deep.
+# usage: bench/bags.sh [ROUNDS]    (PROGRAM=FILE measures another build)
+# Bars: each ask takes less processor time than sqlite3's query (1.6 times as much where rows are filtered), those with a function
+# under 120 ns a row, and each at most 64 bytes a row above the table; a program of 20,000 turns without bags is read, checked and run
+# in under 10 ms; a map that makes 50 values of a row ends in its answer or in `no 51` within 2 GB of address space, and the deepest values and
+# runs end well on a stack of 1 MiB. It ends with status 1 where one isn't met.
+# A cost is that of a script with many asks of a program, less that of one with one, by ask: the least of the rounds.
+. "$(dirname "$0")/common.sh"
+rounds=${1:-5}
+need_program
+need_tool /usr/bin/time time
+need_tool sqlite3 sqlite3
+need_tool python3 python3
+make_room
+
+rows=$((1 << 20))
+asks=41
+TIMEFORMAT='%U %S'
+passed=0
+awk -v rows="$rows" 'BEGIN { print "age"; for (i = 0; i < rows; i++) print 20 + (i * 7919) % 80 }' >people.csv
+printf 'age\n20\n30\n40\n' >three.csv
+
+# script NAME COUNT EPSILON PROGRAM: the script NAME, of so many asks of this program.
+script() { { echo "hello ann"; for ((ask = 0; ask < $2; ask++)); do echo "ask census $3 $4"; done; } >"$1"; }
+# spend TABLE NAME: runs the script NAME and keeps its seconds.
+spend() { { time "$program" run "$1" key <"$2" >"$2.output"; } 2>>"$2.times"; }
+# least NAME: the seconds that the script NAME took, the least of the rounds.
+least() { awk '{ used = $1 + $2; if (NR == 1 || used < least) least = used } END { print least }' "$1.times"; }
+# query TEXT: keeps the processor time that sqlite3 takes for the query, by query, and what it answers.
+query() {
+    {
+        printf 'create table t(age integer);\n.mode csv\n.import --skip 1 people.csv t\n.mode list\n.timer on\n'
+        for ((ask = 0; ask < 10; ask++)); do echo "$1;"; done
+    } | sqlite3 :memory: >sqlite.output
+    awk '/^Run Time/ { used += $6 + $8; many++ } END { print used / many }' sqlite.output >>sqlite.times
+    head -n 1 sqlite.output >sqlite.answer
+}
+# exact EPSILON ANSWER: the value in a first answer, by the second implementation's noise.
+exact() {
+    python3 - "$top/tools" "$1" "$2" <<'END'
+import sys
+sys.path.insert(0, sys.argv[1])
+from reference import key_draws, millionths, noise
+print(int(sys.argv[3]) - noise(millionths(sys.argv[2].encode()), key_draws(bytes(32), 0, 0)))
+END
+}
+# peak NAME: the script NAME run once, the most memory it takes in KiB.
+peak() { /usr/bin/time -f %M "$program" run people.csv key <"$1" 2>&1 >/dev/null | tail -n 1; }
+# bar NAME FIGURE BAR VERDICT: a row.
+bar() {
+    printf '%-34s %22s %22s   %s\n' "$1" "$2" "$3" "$4"
+    [[ $4 == met* ]] || passed=1
+}
+
+# row NAME EPSILON PROGRAM QUERY TIMES NANOSECONDS: a program beside a query, of which it may take so many times the time, and at
+# most so many nanoseconds a row.
+row() {
+    local round answer ours theirs above
+    rm -f ./*.times
+    script one 1 "$2" "$3"
+    script many "$asks" "$2" "$3"
+    echo "hello ann" >none
+    for ((round = 0; round < rounds; round++)); do
+        spend people.csv one
+        spend people.csv many
+        query "$4"
+    done
+    answer=$(awk '$1 == "answer" { print $3 }' one.output)
+    if [ -z "$answer" ] || [ "$(grep -c '^answer ' many.output)" != "$asks" ]; then
+        bar "$1" "$(tail -n 1 one.output)" "answers" "MISSED"
+        return
+    fi
+    [ "$(exact "$2" "$answer")" = "$(cat sqlite.answer)" ] || bar "$1" "$(exact "$2" "$answer")" "$(cat sqlite.answer)" "ANOTHER NUMBER"
+    ours=$(awk -v many="$(least many)" -v one="$(least one)" -v asks="$asks" 'BEGIN { printf "%.6f", (many - one) / (asks - 1) }')
+    theirs=$(sort -g sqlite.times | head -n 1)
+    bar "$1" "$(awk -v s="$ours" 'BEGIN { printf "%.3f ms", s * 1000 }')" \
+        "$(awk -v s="$theirs" -v times="$5" 'BEGIN { printf "%.3f ms * %s", s * 1000, times }')" \
+        "$(awk -v ours="$ours" -v theirs="$theirs" -v times="$5" 'BEGIN { print ours < times * theirs ? "met, of sqlite3" : "MISSED: sqlite3 is faster" }')"
+    if [ "$6" != 0 ]; then
+        bar "" "$(awk -v s="$ours" -v rows="$rows" 'BEGIN { printf "%.1f ns a row", s * 1e9 / rows }')" "$6 ns a row" \
+            "$(awk -v s="$ours" -v rows="$rows" -v most="$6" 'BEGIN { print s * 1e9 / rows < most ? "met" : "MISSED" }')"
+    fi
+    above=$(($(peak one) - $(peak none)))
+    bar "" "$above KiB above" "$((rows * 64 / 1024)) KiB above" "$([ "$above" -le $((rows * 64 / 1024)) ] && echo met || echo MISSED)"
+}
+
+# turns: a program of 20,000 turns and without bags, in which functions call the one before twice.
+turns() {
+    python3 - "$top/bench" <<'END'
+import random
+import sys
+sys.path.insert(0, sys.argv[1])
+from random_programs import turning
+print(turning(random.Random(1), 12, "x", 20_000, "7"))
+END
+}
+long_run() {
+    local each verdict round
+    rm -f ./*.times
+    script one 1 1000 "$1"
+    script many "$asks" 1000 "$1"
+    for ((round = 0; round < 2 * rounds; round++)); do
+        spend three.csv one
+        spend three.csv many
+    done
+    each=$(awk -v many="$(least many)" -v one="$(least one)" -v asks="$asks" 'BEGIN { printf "%.3f", (many - one) * 1000 / (asks - 1) }')
+    verdict="MISSED: $(tail -n 1 many.output)"
+    if [ "$(grep -c '^answer ' many.output)" = "$asks" ] && awk -v each="$each" 'BEGIN { exit !(each < 10) }'; then verdict=met; fi
+    bar "20,000 turns without bags" "$each ms" "10 ms" "$verdict"
+}
+
+# ends NAME TABLE LIMIT KIB PROGRAM: an ask of this program under a `ulimit`, and one of a size. The first is answered, or has no
+# memory once it is reserved; the second is answered, with the next number.
+ends() {
+    local status said verdict=MISSED
+    { echo "hello ann"; echo "ask census 0.01 $5"; echo "ask census 1 size people"; } >limited
+    (ulimit "$3" "$4" && exec "$program" run "$2" key <limited >limited.output 2>&1)
+    status=$?
+    said=$(sed -n 2p limited.output | cut -c1-20)
+    if [ "$status" = 0 ] && [[ $said == "no 51 0" || $said == "answer 0 "* ]] && [[ $(sed -n 3p limited.output) == "answer 1 "* ]]; then verdict=met; fi
+    bar "$1" "$said, status $status" "answer or no 51" "$verdict"
+}
+# of TEXT COUNT: that text, so many times.
+of() { printf "%0$2d" 0 | sed "s/0/$1/g"; }
+# pairs COUNT: a row in pairs of pairs, so deep.
+pairs() { printf '%s' "$(of '(x, ' "$1")x$(of ')' "$1")"; }
+# doubled COUNT: a row in pairs of pairs, so deep, each of one value twice.
+doubled() {
+    local made="let x1 = <x, x> in " at
+    for ((at = 2; at <= $1; at++)); do made+="let x$at = <x$((at - 1)), x$((at - 1))> in "; done
+    printf '%s' "${made}x$1"
+}
+# deep_value: pairs some 900 deep, made by nested lets of which each adds to the value before.
+deep_value() {
+    local made="" before=1 at deep
+    for ((at = 1; at <= 17; at++)); do
+        deep=$((61 - at))
+        made+="let a$at = $(of '(' "$deep")$before$(of ',1)' "$deep") in "
+        before=a$at
+    done
+    printf '%slet (x, y) = a17 in 3 * y' "$made"
+}
+# deep_run: functions that call the one before, 128 deep.
+deep_run() {
+    local made="let f0 = fun (x : num) => 0 + (0 + x) in " at
+    for ((at = 1; at < 42; at++)); do made+="let f$at = fun (x : num) => 0 + f$((at - 1)) x in "; done
+    printf '%sf41 1' "$made"
+}
+
+echo "$rows rows, $(nproc) processors, load $(cut -d' ' -f1 /proc/loadavg), sqlite3 $(sqlite3 --version | cut -d' ' -f1)"
+printf '%-34s %22s %22s\n' what figure bar
+row "size people" 0.1 "size people" "select count(*) from t" 1 0
+row "sum[0,100] people" 0.001 "sum[0,100] people" "select sum(min(max(age, 0), 100)) from t" 1 0
+row "size of a filter" 0.1 "size (filter (fn (x : num) => x <= 30) people)" "select count(*) from t where age <= 30" 1.6 120
+row "sum of a map" 0.001 "sum[0,100] (map (fn (x : num) => x + 1) people)" "select sum(min(max(age + 1, 0), 100)) from t" 1 120
+long_run "$(turns)"
+ends "map to pairs 50 deep, 2 GB" people.csv -v 2097152 "size (map (fn (x : num) => $(pairs 50)) people)"
+ends "map that doubles 50 times, 2 GB" people.csv -v 2097152 "size (map (fn (x : num) => $(doubled 50)) people)"
+ends "pairs 900 deep, 1 MiB of stack" three.csv -s 1024 "$(deep_value)"
+ends "the same of each row" three.csv -s 1024 "size (map (fn (x : num) => $(pairs 55)) people)"
+ends "a run 128 deep, 1 MiB of stack" three.csv -s 1024 "$(deep_run)"
+exit $passed

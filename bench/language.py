@@ -1,0 +1,128 @@
+#!/usr/bin/env python3
+"""Tries each program of docs/language.md, and examples/programs: what they say beside a second implementation, and beside the program.
+
+usage: bench/language.py [--alone]     (PROGRAM=FILE tries another build than tools/build's; --alone tries none)
+The page's programs stand in tables (Program, `check`, Value; or Program, Reply) and in blocks named `program`, each with a line
+behind it. It ends with status 1 where one differs, where a form of terms is in no program that has a value, or a code in none.
+"""
+import os
+import re
+import subprocess
+import sys
+import tempfile
+
+TOP = os.path.dirname(os.path.dirname(os.path.abspath(__file__)))
+PROGRAM = os.path.abspath(os.environ.get("PROGRAM", f"{TOP}/out/hitchseason"))
+sys.path.insert(0, f"{TOP}/tools")
+from programs import RULES  # noqa: E402
+from reference import transcript  # noqa: E402
+from runs import Run, asked, judgement  # noqa: E402
+
+CODES = "20 21 22 30 31 32 33 34 35 36 37".split()
+ROWS = [20, 30, 40]
+
+
+def cells_of(line):
+    return [cell.strip().replace("\\|", "|") for cell in re.split(r"(?<!\\)\|", line)[1:-1]]
+
+
+def bare(cell):
+    return cell.removeprefix("`").removesuffix("`")
+
+
+def in_tables(text):
+    """The rows of the tables that begin with a program: program, what is said, value."""
+    kind = None
+    for line in text.splitlines():
+        if not line.startswith("|"):
+            kind = None
+            continue
+        cells = cells_of(line)
+        if kind is None:
+            kind = cells
+        elif kind[0] == "Program" and not set(cells[0]) <= set("-"):
+            value = int(cells[2]) if kind[2] == "Value" else None
+            yield bare(cells[0]), bare(cells[1]), value
+
+
+def in_blocks(text):
+    for program, said, value in re.findall(r"```program\n(.*?)\n```\n\n`check` says `(.*?)`(?:, and the value is (-?\d+))?\.\n", text, re.S):
+        yield program, said, int(value) if value else None
+
+
+class Trial:
+    def __init__(self):
+        self.differences, self.forms, self.codes = 0, set(), set()
+
+    def differ(self, by, program, found, want):
+        self.differences += 1
+        print(f"{by}: {found}, and the page says {want}, of {program[:200]}")
+
+    def by_reference(self, program, said, value):
+        found = judgement(program.encode())
+        self.codes.add(found.split()[1])
+        # Of a block the code alone is said where the refusal has a span that nobody would count.
+        if found != said and not (found.startswith(said + " ") and "\n" in program):
+            self.differ("the second implementation", program, found, said)
+        elif value is not None:
+            run = Run()
+            number = run.value(asked(program.encode())[0], {"people": ROWS})
+            self.forms |= run.forms
+            if number != value:
+                self.differ("the second implementation", program, number, value)
+        elif said.startswith("ok"):
+            self.differ("the page", program, "no value", said)
+
+    def by_program(self, room, program):
+        words = program.replace("\n", " ").encode()
+        with open(f"{room}/program", "wb") as file:
+            file.write(program.encode())
+        ran = subprocess.run([PROGRAM, "check", "people.csv", "census", "program"], capture_output=True, cwd=room)
+        if ran.stdout.decode().strip() != judgement(program.encode()):
+            self.differ("check", program, ran.stdout.decode().strip(), judgement(program.encode()))
+        script = b"hello ann\nask census 0.01 " + words + b"\n"
+        ran = subprocess.run([PROGRAM, "run", "people.csv", "key"], input=script, capture_output=True, cwd=room)
+        if ran.stdout.decode() != transcript(script, ROWS):
+            self.differ("ask", program, ran.stdout.decode().splitlines()[1:], transcript(script, ROWS).splitlines()[1:])
+
+
+    def by_example(self, alone):
+        """The script of examples/programs, and the replies that stand beside it."""
+        folder = f"{TOP}/examples/programs"
+        script, replies = open(f"{folder}/script", "rb").read(), open(f"{folder}/replies").read()
+        if transcript(script, ROWS) != replies:
+            self.differ("the second implementation", "examples/programs", transcript(script, ROWS), replies)
+        if not alone:
+            ran = subprocess.run([PROGRAM, "run", "people.csv", "key"], input=script, capture_output=True, cwd=folder)
+            if ran.stdout.decode() != replies:
+                self.differ("run", "examples/programs", ran.stdout.decode(), replies)
+
+
+def main():
+    alone = sys.argv[1:] == ["--alone"]
+    if not alone and "PROGRAM" not in os.environ:
+        subprocess.run([f"{TOP}/tools/build"], check=True)
+    text = open(f"{TOP}/docs/language.md").read()
+    found = [*in_tables(text), *in_blocks(text)]
+    trial = Trial()
+    with tempfile.TemporaryDirectory() as room:
+        with open(f"{room}/key", "wb") as file:
+            file.write(bytes(32))
+        with open(f"{room}/people.csv", "w") as file:
+            file.write("age\n20\n30\n40\n")
+        for program, said, value in found:
+            trial.by_reference(program, said, value)
+            if not alone:
+                trial.by_program(room, program)
+    trial.by_example(alone)
+    lacking = [form for form in RULES if form not in trial.forms] + [code for code in CODES if code not in trial.codes]
+    if text.count("```program") != len(list(in_blocks(text))):
+        lacking.append("what is said of a block")
+    print(f"{len(found)} programs, {sum(value is not None for _, _, value in found)} with a value, {trial.differences} differences")
+    print(f"{len(trial.forms)} forms of terms were evaluated, {len(trial.codes & set(CODES))} codes of {len(CODES)} came")
+    if lacking:
+        print("no program for", ", ".join(lacking))
+    sys.exit(1 if trial.differences or lacking else 0)
+
+
+main()

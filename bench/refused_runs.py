@@ -1,0 +1,125 @@
+#!/usr/bin/env python3
+"""Refuses allocation 1, 2, 3, .. of the proved program while it answers asks of programs over bags, alone and with all later ones.
+
+usage: bench/refused_runs.py     (PROGRAM=FILE tries another build). Needs cc. `bench/refused_memory.sh --runs` calls it.
+Each run must end with status 7 and the line 'memory' (or no line), before any ask was answered, or with status 0 and a reply to
+each line, as the second implementation (tools/reference.py) gives it, but that an ask may be told 'no 90', and then took no
+number and no charge, or, where it was granted number N, 'no 51 N', and then is charged and has both its records. The last ask
+is over the budget, so that its reply shows what was spent and how many records there are. It ends with status 1 at a wrong
+run, and where an ask of a program over bags was never told 'no 51'.
+"""
+import os
+import subprocess
+import sys
+import tempfile
+from collections import Counter
+from math import ceil
+
+TOP = os.path.dirname(os.path.dirname(os.path.abspath(__file__)))
+PROGRAM = os.path.abspath(os.environ.get("PROGRAM", f"{TOP}/crates/hitchseason/out/hitchseason"))
+sys.path.insert(0, f"{TOP}/tools")
+from programs import Refused  # noqa: E402
+from reference import BUDGET, ROWS, Server, key_draws, millionths  # noqa: E402
+from runs import asked  # noqa: E402
+
+DOUBLED = "let a = union people people in let b = union a a in let c = union b b in sum[0,100] c"
+OF_PAIRS = "map (fn (x : num) => (x, <x, inl[unit] x>)) people"
+PROGRAMS = [
+    "sum[0,100] people",
+    "size (filter (fn (x : num) => x <= 30) people)",
+    "sum[0,100] (map (fn (x : num) => x + 1) people)",
+    "let (a, b) = split (fn (x : num) => x <= 30) people in size a + 2 * size b",
+    "size (union people people)",
+    DOUBLED,
+    f"size ({OF_PAIRS})",
+    "let f = fun (x : num) => 1 + x in let g = fun (x : num) => f (f x) in g (size people)",
+    "sum[0,9] (map (fn (t : text) => if t == \"a\" then 3 else 4) (map (fn (x : num) => if x <= 30 then \"a\" else \"b\") people))",
+    "let !y = ![2] (size people) in case inl[text] y of inl n => n + 1 | inr t => 0",
+    "7",
+]
+
+
+class Wrong(Exception):
+    pass
+
+
+def ask_is(server, line, found):
+    """Judges the reply to an ask, and moves the server by it: 'right', 'no 90' or 'no 51'."""
+    if found == "no 90":
+        return "no 90"
+    _, _, epsilon, program = line.split(b" ", 3)
+    if found == f"no 51 {server.number}":
+        try:
+            cost = ceil(asked(program)[1] * millionths(epsilon))
+        except Refused:
+            raise Wrong("no 51 of a refused program") from None
+        if server.spent + cost > BUDGET:
+            raise Wrong("no 51 over the budget")
+        server.spent, server.records, server.number = server.spent + cost, server.records + 2, server.number + 1
+        return "no 51"
+    want = server.reply(line)
+    if found != want:
+        raise Wrong(f"{found}, wanted {want}")
+    return "right"
+
+
+def judge(script, status, said):
+    """What a run came to: 'memory', or what each ask was told."""
+    if status == 7 and said in ("memory\n", ""):
+        return ["memory"]
+    lines, replies = script.splitlines(), said.splitlines()
+    if status != 0 or len(lines) != len(replies):
+        raise Wrong(f"status {status} and {said!r}")
+    server, told = Server(ROWS, lambda number: key_draws(bytes(32), 0, number)), []
+    for line, found in zip(lines, replies):
+        if line.startswith(b"ask "):
+            told.append(ask_is(server, line, found))
+        elif found != server.reply(line):
+            raise Wrong(f"{found} to {line.decode()}")
+    return told
+
+
+class Room:
+    def __init__(self, folder):
+        self.folder = folder
+        for name, data in (("key", bytes(32)), ("people.csv", b"age\n20\n30\n40\n")):
+            with open(f"{folder}/{name}", "wb") as file:
+                file.write(data)
+        words = ["cc", "-O1", "-shared", "-fPIC", "-o", f"{folder}/refuse.so", f"{TOP}/bench/refuse_allocation.c", "-ldl"]
+        subprocess.run(words, check=True)
+
+    def run(self, script, **refusals):
+        given = {**os.environ, "LD_PRELOAD": f"{self.folder}/refuse.so", **refusals}
+        ran = subprocess.run([PROGRAM, "run", "people.csv", "key"], input=script, capture_output=True, cwd=self.folder, env=given)
+        return ran.returncode, ran.stdout.decode("latin-1"), ran.stderr.decode("latin-1")
+
+
+def turns(room, program):
+    """Each allocation of a script with this program refused in turn. Gives how many runs were wrong, and prints a row."""
+    script = f"hello ann\nask census 0.01 {program}\nask census 0.01 {program}\nask census 1000 size people\nbye\n".encode()
+    count, wrong, came = int(room.run(script, TELL="1")[2]), 0, Counter()
+    for later in ({}, {"REFUSE_ALL": "1"}):
+        for number in range(1, count + 1):
+            status, said, _ = room.run(script, REFUSE=str(number), **later)
+            try:
+                told = judge(script, status, said)
+            except Wrong as fault:
+                wrong += 1
+                print(f"allocation {number} {'and all later' if later else ''}: {fault}")
+                continue
+            came["right" if set(told) == {"right"} else "memory" if told == ["memory"] else "no 51" if "no 51" in told else "no 90"] += 1
+    parts = ", ".join(f"{came[what]} {what}" for what in ("memory", "no 90", "no 51", "right"))
+    print(f"{program[:44]:44} {count:5} allocations, of {2 * count:5} runs {parts}, {wrong} wrong", flush=True)
+    return wrong + (came["no 51"] == 0 and "people" in program)
+
+
+def main():
+    if not os.access(PROGRAM, os.X_OK):
+        print(f"there is no {PROGRAM}: run 'rt run' in crates/hitchseason first, which proves and builds it")
+        sys.exit(2)
+    with tempfile.TemporaryDirectory() as folder:
+        room = Room(folder)
+        sys.exit(1 if sum(turns(room, program) for program in PROGRAMS) else 0)
+
+
+main()

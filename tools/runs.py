@@ -1,0 +1,309 @@
+"""Programs run once more: the run without data with its limits, and the values of terms.
+
+    judgement(PROGRAM)          what `check` says of a program's bytes: the sensitivity, or the words of the refusal
+    asked(PROGRAM)              the term and the sensitivity of a program that `ask` answers; Refused where it refuses it
+    plan(TERM)                  the turns, depth and width of a term that the typing rules accept; Refused at a limit
+    value(TERM, {TABLE: ROWS})  its number on these tables
+
+It shares nothing with the server but the rules, and stands on programs.py, which reads and checks.
+
+A value is an int (a number), bytes (a text), () (unit), a tuple of two (a pair of either kind), an Injection, a Bang, a list
+(a bag, in the order of its elements), or a Closure. A shape is an int, the greatest width of a ground value's bags, a tuple
+of two, a Bang or a Closure. Both are shared wherever a name is used twice, so they stay as small as the run is long.
+"""
+from programs import PEOPLE, Node, Refused, checked, sensitivity_text
+
+NUMBER_LIMIT = 2**50
+DEPTH_LIMIT = 128
+TURN_LIMIT = 20_000
+WIDTH_LIMIT = 64
+
+
+class Closure:
+    """A function with the values, or the shapes, of its names."""
+
+    def __init__(self, node, scope):
+        self.node, self.scope = node, scope
+
+    def entered(self, argument):
+        """The body and its scope. An `fn` takes what its argument's bang holds."""
+        name, _, body = self.node.parts
+        if self.node.form == "fn":
+            argument = argument.inside if isinstance(argument, Bang) else argument
+        return body, {**self.scope, name: argument}
+
+
+class Bang:
+    def __init__(self, inside):
+        self.inside = inside
+
+
+class Injection:
+    """The left side, or else the right one, of a sum."""
+
+    def __init__(self, left, inside):
+        self.left, self.inside = left, inside
+
+
+# The run without data.
+
+
+class Plan:
+    def __init__(self):
+        self.turns = self.depth = self.width = 0
+
+    def visit(self, node, scope, depth):
+        """The shape of a term that is visited at this depth."""
+        if depth > DEPTH_LIMIT:
+            raise Refused(f"35 {node.span()}")
+        if self.turns == TURN_LIMIT:
+            raise Refused(f"36 {node.span()}")
+        self.turns += 1
+        self.depth = max(self.depth, depth)
+        shape = getattr(self, SHAPES.get(node.form, "number"))(node, scope, depth + 1, *node.parts)
+        self.width = max(self.width, width_of(shape))
+        return shape
+
+    def name(self, node, scope, depth, name):
+        return scope[name]
+
+    def number(self, node, scope, depth, *parts):
+        """Whatever gives a number, a text, unit or a truth value: its parts are visited, and no bag is left."""
+        for part in parts:
+            if isinstance(part, Node):
+                self.visit(part, scope, depth)
+        return 0
+
+    def pair(self, node, scope, depth, a, b):
+        left, right = self.visit(a, scope, depth), self.visit(b, scope, depth)
+        both_ground = isinstance(left, int) and isinstance(right, int)
+        return max(left, right) if both_ground else (left, right)
+
+    def half(self, node, scope, depth, e):
+        return halves(self.visit(e, scope, depth))[0 if node.form == "fst" else 1]
+
+    def let_pair(self, node, scope, depth, x, y, e, b):
+        left, right = halves(self.visit(e, scope, depth))
+        return self.visit(b, {**scope, x: left, y: right}, depth)
+
+    def injection(self, node, scope, depth, written, e):
+        return self.visit(e, scope, depth)
+
+    def case(self, node, scope, depth, e, x, a, y, b):
+        condition = self.visit(e, scope, depth)
+        left = self.visit(a, {**scope, x: condition}, depth)
+        right = self.visit(b, {**scope, y: condition}, depth)
+        return max(left, right)
+
+    def choice(self, node, scope, depth, e, a, b):
+        self.visit(e, scope, depth)
+        left = self.visit(a, scope, depth)
+        right = self.visit(b, scope, depth)
+        return max(left, right)
+
+    def function(self, node, scope, depth, *_):
+        return Closure(node, scope)
+
+    def apply(self, node, scope, depth, f, a):
+        function = self.visit(f, scope, depth)
+        argument = self.visit(a, scope, depth)
+        return self.visit(*function.entered(argument), depth)
+
+    def bang(self, node, scope, depth, r, e):
+        inside = self.visit(e, scope, depth)
+        return inside if isinstance(inside, int) else Bang(inside)
+
+    def let_bang(self, node, scope, depth, x, e, b):
+        shape = self.visit(e, scope, depth)
+        inside = shape if isinstance(shape, int) else shape.inside
+        return self.visit(b, {**scope, x: inside}, depth)
+
+    def let(self, node, scope, depth, x, e, b):
+        return self.visit(b, {**scope, x: self.visit(e, scope, depth)}, depth)
+
+    def union(self, node, scope, depth, a, b):
+        width = self.visit(a, scope, depth) + self.visit(b, scope, depth)
+        if width > WIDTH_LIMIT:
+            raise Refused(f"37 {node.span()} {width}")
+        return width
+
+    def over_bag(self, node, scope, depth, f, b):
+        function = self.visit(f, scope, depth)
+        bag = self.visit(b, scope, depth)
+        self.visit(*function.entered(0), depth)
+        return bag
+
+
+SHAPES = {
+    "name": "name", "pair": "pair", "with": "pair", "fst": "half", "snd": "half", "let,": "let_pair", "inl": "injection",
+    "inr": "injection", "case": "case", "if": "choice", "fun": "function", "fn": "function", "apply": "apply", "!": "bang",
+    "let!": "let_bang", "let": "let", "union": "union", "map": "over_bag", "filter": "over_bag", "split": "over_bag",
+}  # fmt: skip
+
+
+def width_of(shape):
+    return shape if isinstance(shape, int) else 0
+
+
+def halves(shape):
+    return (shape, shape) if isinstance(shape, int) else shape
+
+
+def plan(term, tables=PEOPLE):
+    found = Plan()
+    found.visit(term, {name: 1 for name, _ in tables}, 1)
+    return found
+
+
+# Values.
+
+
+def clamp(number):
+    return max(-NUMBER_LIMIT, min(NUMBER_LIMIT, number))
+
+
+def clipped(low, high, number):
+    return max(low, min(high, number))
+
+
+class TooManySteps(Exception):
+    pass
+
+
+class Run:
+    """Evaluates terms. It keeps the forms that were met, and ends with TooManySteps after so many nodes, if it is told how many."""
+
+    def __init__(self, steps=None):
+        self.forms, self.steps = set(), steps
+
+    def value(self, node, scope):
+        if self.steps is not None:
+            self.steps -= 1
+            if self.steps < 0:
+                raise TooManySteps
+        self.forms.add(node.form)
+        return getattr(self, MEANINGS[node.form])(node, scope, *node.parts)
+
+    def name(self, node, scope, name):
+        return scope[name]
+
+    def itself(self, node, scope, written=()):
+        return written
+
+    def pair(self, node, scope, a, b):
+        left = self.value(a, scope)
+        return (left, self.value(b, scope))
+
+    def half(self, node, scope, e):
+        return self.value(e, scope)[0 if node.form == "fst" else 1]
+
+    def let_pair(self, node, scope, x, y, e, b):
+        left, right = self.value(e, scope)
+        return self.value(b, {**scope, x: left, y: right})
+
+    def injection(self, node, scope, written, e):
+        return Injection(node.form == "inl", self.value(e, scope))
+
+    def case(self, node, scope, e, x, a, y, b):
+        chosen = self.value(e, scope)
+        name, branch = (x, a) if chosen.left else (y, b)
+        return self.value(branch, {**scope, name: chosen.inside})
+
+    def choice(self, node, scope, e, a, b):
+        return self.value(a if self.value(e, scope).left else b, scope)
+
+    def function(self, node, scope, *_):
+        return Closure(node, scope)
+
+    def apply(self, node, scope, f, a):
+        function = self.value(f, scope)
+        argument = self.value(a, scope)
+        return self.value(*function.entered(argument))
+
+    def bang(self, node, scope, r, e):
+        return Bang(self.value(e, scope))
+
+    def let_bang(self, node, scope, x, e, b):
+        return self.value(b, {**scope, x: self.value(e, scope).inside})
+
+    def let(self, node, scope, x, e, b):
+        return self.value(b, {**scope, x: self.value(e, scope)})
+
+    def plus(self, node, scope, a, b):
+        left = self.value(a, scope)
+        return clamp(left + self.value(b, scope))
+
+    def minus(self, node, scope, a, b):
+        left = self.value(a, scope)
+        return clamp(left - self.value(b, scope))
+
+    def multiple(self, node, scope, k, e):
+        return clamp(k * self.value(e, scope))
+
+    def at_most(self, node, scope, a, b):
+        left = self.value(a, scope)
+        return Injection(left <= self.value(b, scope), ())
+
+    def equal(self, node, scope, a, b):
+        left = self.value(a, scope)
+        return Injection(left == self.value(b, scope), ())
+
+    def clip(self, node, scope, low, high, e):
+        return clipped(low, high, self.value(e, scope))
+
+    def least(self, node, scope, e):
+        return min(self.value(e, scope))
+
+    def greatest(self, node, scope, e):
+        return max(self.value(e, scope))
+
+    def size(self, node, scope, e):
+        return clamp(len(self.value(e, scope)))
+
+    def clipped_sum(self, node, scope, low, high, e):
+        return clamp(sum(clipped(low, high, element) for element in self.value(e, scope)))
+
+    def union(self, node, scope, a, b):
+        left = self.value(a, scope)
+        return left + self.value(b, scope)
+
+    def over_bag(self, node, scope, f, b):
+        function = self.value(f, scope)
+        bag = self.value(b, scope)
+        images = [self.value(*function.entered(Bang(element))) for element in bag]
+        if node.form == "map":
+            return images
+        kept = [element for element, image in zip(bag, images) if image.left]
+        if node.form == "filter":
+            return kept
+        return (kept, [element for element, image in zip(bag, images) if not image.left])
+
+
+MEANINGS = {
+    "name": "name", "number": "itself", "text": "itself", "unit": "itself", "pair": "pair", "with": "pair", "fst": "half",
+    "snd": "half", "let,": "let_pair", "inl": "injection", "inr": "injection", "case": "case", "if": "choice",
+    "fun": "function", "fn": "function", "apply": "apply", "!": "bang", "let!": "let_bang", "let": "let", "+": "plus",
+    "-": "minus", "*": "multiple", "<=": "at_most", "==": "equal", "clip": "clip", "least": "least",
+    "greatest": "greatest", "size": "size", "sum": "clipped_sum", "union": "union", "map": "over_bag",
+    "filter": "over_bag", "split": "over_bag",
+}  # fmt: skip
+
+
+def value(term, rows):
+    return Run().value(term, dict(rows))
+
+
+# Programs.
+
+
+def asked(text, tables=PEOPLE):
+    term, r = checked(text, tables)
+    plan(term, tables)
+    return term, r
+
+
+def judgement(text, tables=PEOPLE):
+    try:
+        return "ok " + sensitivity_text(asked(text, tables)[1])
+    except Refused as refusal:
+        return f"no {refusal}"
