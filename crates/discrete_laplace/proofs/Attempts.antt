@@ -1,17 +1,10 @@
 -- An attempt, part by part.
 use Rattle.std.proofs.Common.{◌≡◌, ◌∙◌, sym, ap, ℕ, ◌+◌, ◌*◌, ◌/◌, Bool, true, false, List, Option, Some, None}
-use Rattle.std.specs.Prelude.{ℤ, nat_lt}
+use Rattle.std.specs.Prelude.{ℤ}
 use Rattle.discrete_laplace.specs.DiscreteLaplace.{signed_size}
-use Rattle.discrete_laplace.specs.Readers.{Reader, give, then_read, read_uniform, read_bernoulli, read_bernoulli_exp, read_geometric, read_attempt}
-use Rattle.discrete_laplace.proofs.Exact.{then_complete, then_none}
-
-pub bernoulli_found : (n d number : ℕ) (before behind : List ℕ) → read_uniform d before ≡ Some (number, behind) → read_bernoulli n d before ≡ Some (nat_lt number n, behind)
-unfolding read_bernoulli
-bernoulli_found n d number before behind e = then_complete (read_uniform d) (λ number. give (nat_lt number n)) before behind number e
-
-pub bernoulli_none : (n d : ℕ) (before : List ℕ) → read_uniform d before ≡ None → read_bernoulli n d before ≡ None
-unfolding read_bernoulli
-bernoulli_none n d before e = then_none (read_uniform d) (λ number. give (nat_lt number n)) before e
+use Rattle.exact_bernoulli.specs.Readers.{Reader, give, then_read, read_uniform, read_bernoulli, read_bernoulli_exp}
+use Rattle.discrete_laplace.specs.Readers.{read_geometric, read_attempt}
+use Rattle.exact_bernoulli.proofs.Exact.{then_complete, then_none}
 
 module _ (t s : ℕ) (before : List ℕ) where
   last : ℕ → ℕ → Reader (Option ℤ)

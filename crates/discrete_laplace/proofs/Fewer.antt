@@ -4,7 +4,7 @@ use Rattle.std.specs.Prelude.{ℤ}
 use Rattle.std.proofs.lemmas.List.{take_all}
 use Rattle.fz_outside.specs.Draws.{first_draws, draws_after}
 use Rattle.fz_outside.proofs.Drawn.{length-first, first-+}
-use Rattle.discrete_laplace.specs.DiscreteLaplace.{draw_limit}
+use Rattle.exact_bernoulli.specs.Meter.{draw_limit}
 use Rattle.discrete_laplace.specs.Noise.{noise_of, draws_taken}
 use Rattle.discrete_laplace.proofs.Law.{noise_found, noise_complete}
 use Rattle.discrete_laplace.proofs.Samples.{all_of_them}

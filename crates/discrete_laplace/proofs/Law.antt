@@ -1,7 +1,8 @@
 -- The noise that is read is the noise of the segments, and there is at most one.
 use Rattle.std.proofs.Common.{◌≡◌, ◌∙◌, sym, ap, subst, refl, ℕ, ◌-◌, List, length, take, Option, Some, None, arith, length-append}
 use Rattle.std.specs.Prelude.{ℤ}
-use Rattle.discrete_laplace.specs.DiscreteLaplace.{draw_limit, IsSample, IsNoise}
+use Rattle.exact_bernoulli.specs.Meter.{draw_limit}
+use Rattle.discrete_laplace.specs.DiscreteLaplace.{IsSample, IsNoise}
 use Rattle.discrete_laplace.specs.Readers.{read_sample}
 use Rattle.discrete_laplace.specs.Noise.{noise_of, draws_taken, noise_in, left_in}
 use Rattle.discrete_laplace.proofs.Exact.{sample_reads}

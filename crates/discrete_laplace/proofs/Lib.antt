@@ -1,9 +1,7 @@
 pub mod Examples
 pub mod Exact
-pub mod Law
-pub mod Metered
-pub mod Runs
-pub mod Trials
+pub mod Ones
 pub mod Attempts
+pub mod Law
 pub mod Samples
 pub mod Fewer

@@ -6,14 +6,16 @@ use Rattle.std.proofs.Math.Dec.{lit<}
 use Rattle.std.proofs.lemmas.List.{take_all}
 use Rattle.fz_outside.specs.Draws.{first_draws, HasDrawn}
 use Rattle.fz_outside.proofs.Drawn.{length-first}
-use Rattle.discrete_laplace.specs.DiscreteLaplace.{draw_limit, IsSample, IsNoise}
-use Rattle.discrete_laplace.specs.Readers.{Reader, read_attempt, read_run, given, read_sample}
+use Rattle.exact_bernoulli.specs.Meter.{draw_limit, Took, Takes}
+use Rattle.exact_bernoulli.specs.Readers.{Reader, read_run}
+use Rattle.discrete_laplace.specs.DiscreteLaplace.{IsSample, IsNoise}
+use Rattle.discrete_laplace.specs.Readers.{read_attempt, given, read_sample}
 use Rattle.discrete_laplace.specs.Noise.{noise_of, draws_taken}
-use Rattle.discrete_laplace.specs.Meter.{Took, Takes}
-use Rattle.discrete_laplace.proofs.Exact.{then_complete, then_none, attempt_reads, attempt_takes, sample_reads}
+use Rattle.exact_bernoulli.proofs.Exact.{then_complete, then_none}
+use Rattle.discrete_laplace.proofs.Exact.{attempt_reads, attempt_takes, sample_reads}
 use Rattle.discrete_laplace.proofs.Law.{noise_complete, noise_none}
-use Rattle.discrete_laplace.proofs.Metered.{none_from_segments}
-use Rattle.discrete_laplace.proofs.Runs.{Shrinks, shrinks_from, run_again, run_last, run_none}
+use Rattle.exact_bernoulli.proofs.Metered.{none_from_segments}
+use Rattle.exact_bernoulli.proofs.Runs.{Shrinks, shrinks_from, run_again, run_last, run_none}
 
 -- the attempts from number k on
 pub attempts_from : ℕ → ℕ → ℕ → Reader (ℕ × Option ℤ)

@@ -1,10 +1,7 @@
 -- The sampler of discrete Laplace noise of scale t/s, as segments of a list of draws.
 use Rattle.std.specs.Prelude.{◌≡◌, ℕ, zero, suc, ◌+◌, ◌*◌, ◌/◌, Bool, true, false, List, ◌++◌, take, length, Option, Some, None, ℤ, pos, neg_ℤ, ◌⊎◌}
-use Rattle.discrete_laplace.specs.ExactBernoulli.{IsUniform, IsBernoulli, IsSegmentRun, IsBernoulliExp}
-
--- At most so many draws are taken for one number.
-unfoldable pub draw_limit : ℕ
-draw_limit = 4096
+use Rattle.exact_bernoulli.specs.Meter.{draw_limit}
+use Rattle.exact_bernoulli.specs.ExactBernoulli.{IsUniform, IsBernoulli, IsSegmentRun, IsBernoulliExp}
 
 -- A size with its sign. Minus zero is rejected, since zero would come twice as often otherwise.
 abbrev pub signed_size : (negative : Bool) → ℕ → Option ℤ

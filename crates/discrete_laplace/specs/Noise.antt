@@ -1,6 +1,6 @@
 -- The noise out of a list of draws. It is computed by the readers, and proved to be that of the segments.
 use Rattle.std.specs.Prelude.{ℕ, ◌-◌, List, [], take, length, Option, Some, None, ℤ}
-use Rattle.discrete_laplace.specs.DiscreteLaplace.{draw_limit}
+use Rattle.exact_bernoulli.specs.Meter.{draw_limit}
 use Rattle.discrete_laplace.specs.Readers.{read_sample}
 
 abbrev pub noise_in : Option (ℤ × List ℕ) → Option ℤ

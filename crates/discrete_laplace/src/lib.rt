@@ -7,16 +7,13 @@
 ghost use Rattle.std.specs.Prelude.{◌≡◌, ◌<◌, ◌≤◌, ◌^◌, ℕ, ℤ, List, Some, OnOk, OnErr, IfOk, IfSome, unsigned_abs};
 ghost use Rattle.std.specs.Result.{result_ok};
 ghost use Rattle.fz_outside.specs.Draws.{first_draws, HasDrawn};
-ghost use Rattle.discrete_laplace.specs.DiscreteLaplace.{draw_limit, signed_size, IsGeometric, IsAttempt, IsSample, IsNoise};
+ghost use Rattle.exact_bernoulli.specs.Meter.{draw_limit, allowed, Took, Takes};
+ghost use Rattle.discrete_laplace.specs.DiscreteLaplace.{signed_size, IsGeometric, IsAttempt, IsSample, IsNoise};
 ghost use Rattle.discrete_laplace.specs.Noise.{noise_of, draws_taken};
-ghost use Rattle.discrete_laplace.specs.Meter.{allowed, Took, Takes};
-
-use fz_outside::words::Words;
-
-mod exact_bernoulli;
 
 pub use exact_bernoulli::Exhausted;
 use exact_bernoulli::{Meter, bernoulli, bernoulli_exp, uniform};
+use fz_outside::words::Words;
 
 /// How many ones of probability `exp(-1)` come before the first zero.
 fn geometric<W: Words>(meter: &mut Meter<W>) -> Result<u64, Exhausted>

@@ -32,5 +32,8 @@ first_stream = refl
 last_of_an_owner : stream_of 2 4294967295 ≡ 12884901887
 last_of_an_owner = refl
 
+second_owner : stream_of 1 0 ≡ 4294967296
+second_owner = refl
+
 next_owner : stream_of 3 0 ≡ 12884901888
 next_owner = refl

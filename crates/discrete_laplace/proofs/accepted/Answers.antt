@@ -2,7 +2,7 @@ use Rattle.std.proofs.Common.{rules, sym, ap, w64, Some, ◌∙◌}
 use Rattle.std.specs.Prelude.{is_none, FitsSigned}
 use Rattle.std.proofs.lemmas.Int.{to_z-of_z}
 use Rattle.discrete_laplace.proofs.Exact.{attempt_reads, sample_reads}
-use Rattle.discrete_laplace.proofs.Metered.{Took-more, Takes-err, found_from_segment, none_from_segments}
+use Rattle.exact_bernoulli.proofs.Metered.{Took-more, Takes-err, found_from_segment, none_from_segments}
 use Rattle.discrete_laplace.proofs.Samples.{attempts_more, attempts_end, attempts_none}
 use Rattle.discrete_laplace.proofs.accepted.Goals as goal
 

@@ -1,5 +1,5 @@
 use Rattle.std.proofs.Common.{◌≡◌, ℕ}
-use Rattle.discrete_laplace.specs.Meter.{allowed, Took}
+use Rattle.exact_bernoulli.specs.Meter.{allowed, Took}
 use Rattle.discrete_laplace.proofs.Samples.{attempts_from}
 use Rattle.discrete_laplace.proofs.accepted.Given as goal
 

@@ -1,5 +1,6 @@
-use Rattle.discrete_laplace.proofs.Exact.{uniform_reads, bernoulli_reads, bernoulli_exp_reads, geometric_reads, attempt_reads}
-use Rattle.discrete_laplace.proofs.Metered.{Takes-err, found_from_segment, none_from_segments}
+use Rattle.exact_bernoulli.proofs.Exact.{uniform_reads, bernoulli_reads, bernoulli_exp_reads}
+use Rattle.discrete_laplace.proofs.Exact.{geometric_reads, attempt_reads}
+use Rattle.exact_bernoulli.proofs.Metered.{Takes-err, found_from_segment, none_from_segments}
 use Rattle.discrete_laplace.proofs.Attempts.{attempt_none_first, attempt_none_second, attempt_stopped, attempt_none_third, attempt_none_fourth, attempt_whole}
 use Rattle.discrete_laplace.proofs.attempt.Goals as goal
 

@@ -1,7 +1,8 @@
 use Rattle.std.proofs.Common.{arith, ◌∙◌}
-use Rattle.discrete_laplace.proofs.Exact.{bernoulli_exp_reads, geometric_reads}
-use Rattle.discrete_laplace.proofs.Metered.{Took-more, Takes-err, found_from_segment, none_from_segments}
-use Rattle.discrete_laplace.proofs.Trials.{ones_more, ones_end, ones_none}
+use Rattle.exact_bernoulli.proofs.Exact.{bernoulli_exp_reads}
+use Rattle.discrete_laplace.proofs.Exact.{geometric_reads}
+use Rattle.exact_bernoulli.proofs.Metered.{Took-more, Takes-err, found_from_segment, none_from_segments}
+use Rattle.discrete_laplace.proofs.Ones.{ones_more, ones_end, ones_none}
 use Rattle.discrete_laplace.proofs.geometric.Goals as goal
 
 pub returns-in_err-bernoulli_exp-clause-segment : goal.returns-in_err-bernoulli_exp-clause-segment

@@ -1,6 +1,6 @@
 use Rattle.std.proofs.Common.{◌≡◌, ◌≤◌, ◌+◌}
-use Rattle.discrete_laplace.specs.Meter.{allowed, Took}
-use Rattle.discrete_laplace.proofs.Trials.{ones_from}
+use Rattle.exact_bernoulli.specs.Meter.{allowed, Took}
+use Rattle.discrete_laplace.proofs.Ones.{ones_from}
 use Rattle.discrete_laplace.proofs.geometric.Given as goal
 
 -- what is read from this number on is what is read from the first

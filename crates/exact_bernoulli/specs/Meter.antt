@@ -2,6 +2,10 @@
 use Rattle.std.specs.Prelude.{◌≡◌, ℕ, ◌-◌, ◌<◌, ◌⊎◌, List, [], ◌++◌, Result, Ok, Err}
 use Rattle.fz_outside.specs.Draws.{first_draws, HasDrawn}
 
+-- A meter allows so many draws when it is made.
+unfoldable pub draw_limit : ℕ
+draw_limit = 4096
+
 -- the draws that it still allows
 abbrev pub allowed : {W : Type 0} → (W → ℕ → ℕ) → ℕ → W → List ℕ
 allowed draws left words = first_draws left (draws words)

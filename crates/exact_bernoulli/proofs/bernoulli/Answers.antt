@@ -1,7 +1,7 @@
-use Rattle.discrete_laplace.proofs.Exact.{uniform_reads, bernoulli_reads}
-use Rattle.discrete_laplace.proofs.Metered.{Takes-err, found_from_segment, none_from_segments}
-use Rattle.discrete_laplace.proofs.Attempts.{bernoulli_found, bernoulli_none}
-use Rattle.discrete_laplace.proofs.exact_bernoulli.bernoulli.Goals as goal
+use Rattle.exact_bernoulli.proofs.Exact.{uniform_reads, bernoulli_reads}
+use Rattle.exact_bernoulli.proofs.Metered.{Takes-err, found_from_segment, none_from_segments}
+use Rattle.exact_bernoulli.proofs.Trials.{bernoulli_found, bernoulli_none}
+use Rattle.exact_bernoulli.proofs.bernoulli.Goals as goal
 
 pub returns-in_err-uniform-clause-segment : goal.returns-in_err-uniform-clause-segment
 returns-in_err-uniform-clause-segment g c =

@@ -1,7 +1,7 @@
 use Rattle.std.proofs.Common.{◌≡◌, ◌<◌, ◌≤◌, ◌+◌, ◌*◌}
-use Rattle.discrete_laplace.specs.Meter.{allowed, Took}
-use Rattle.discrete_laplace.specs.Readers.{read_run, read_bernoulli}
-use Rattle.discrete_laplace.proofs.exact_bernoulli.bernoulli_exp.Given as goal
+use Rattle.exact_bernoulli.specs.Meter.{allowed, Took}
+use Rattle.exact_bernoulli.specs.Readers.{read_run, read_bernoulli}
+use Rattle.exact_bernoulli.proofs.bernoulli_exp.Given as goal
 
 -- what is read from this trial on is what is read from the first
 abbrev pub invariant-loop-trials : goal.invariant-loop-trials

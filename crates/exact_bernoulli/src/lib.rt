@@ -1,13 +1,12 @@
-//! Uniform and Bernoulli numbers from draws, with no rounding.
+//! Uniform and Bernoulli numbers from at most 4,096 draws, with whole numbers alone and no memory.
 //!
 //! The algorithms are those of "The Discrete Gaussian for Differential Privacy" by Canonne, Kamath and Steinke.
 #![tactic(auto)]
 
 ghost use Rattle.std.specs.Prelude.{◌≡◌, ◌<◌, ◌≤◌, ◌*◌, [], ◌∷◌, OnOk, OnErr, IfOk, MatchResult};
 ghost use Rattle.fz_outside.specs.Draws.{HasDrawn};
-ghost use Rattle.discrete_laplace.specs.DiscreteLaplace.{draw_limit};
-ghost use Rattle.discrete_laplace.specs.ExactBernoulli.{IsUniform, IsBernoulli, IsBernoulliExp};
-ghost use Rattle.discrete_laplace.specs.Meter.{allowed, Took, Takes};
+ghost use Rattle.exact_bernoulli.specs.ExactBernoulli.{IsUniform, IsBernoulli, IsBernoulliExp};
+ghost use Rattle.exact_bernoulli.specs.Meter.{draw_limit, allowed, Took, Takes};
 
 use fz_outside::words::Words;
 
@@ -115,13 +114,33 @@ pub fn bernoulli_exp<W: Words>(u: u32, t: u32, meter: &mut Meter<W>) -> Result<b
 
 #[cfg(test)]
 mod tests {
-    use super::{Meter, uniform};
+    use super::{Exhausted, Meter, bernoulli, bernoulli_exp, uniform};
     use fz_outside::words::{ListWords, Words};
 
+    // Behind the draws that a call takes stands a 99.
     #[test]
-    fn rejected_draw(rt: HostRuntime) {
+    fn worked_numbers(rt: HostRuntime) {
         let mut words = ListWords::new(&[u64::MAX, 5, 99]);
         assert!(rt; uniform(3, &mut Meter::new(&mut words)) == Ok(2));
+        assert_eq!(rt; words.draw(), 99);
+        let mut words = ListWords::new(&[4, 99]);
+        assert!(rt; bernoulli(1, 3, &mut Meter::new(&mut words)) == Ok(false));
+        assert_eq!(rt; words.draw(), 99);
+        let mut words = ListWords::new(&[2, 4, 4, 99]);
+        assert!(rt; bernoulli_exp(1, 2, &mut Meter::new(&mut words)) == Ok(true));
+        assert_eq!(rt; words.draw(), 99);
+    }
+
+    #[test]
+    fn last_draw(rt: HostRuntime) {
+        let mut draws = [u64::MAX; 4097];
+        draws[4096] = 99;
+        let mut words = ListWords::new(&draws);
+        let mut meter = Meter::new(&mut words);
+        for _ in 0..4096_u32 {
+            assert!(rt; uniform(1, &mut meter) == Ok(0));
+        }
+        assert!(rt; bernoulli(1, 1, &mut meter) == Err(Exhausted));
         assert_eq!(rt; words.draw(), 99);
     }
 }

@@ -1,8 +1,8 @@
 -- Runs of segments, one segment at a time.
 use Rattle.std.proofs.Common.{◌≡◌, ◌∙◌, sym, ap, refl, ℕ, zero, suc, ◌<◌, ◌≤◌, Bool, true, false, List, [], ◌∷◌, length, Option, Some, None, arith, inl, inr, length-append}
 use Rattle.std.proofs.lemmas.Bool.{cases_Bool}
-use Rattle.discrete_laplace.specs.Readers.{Reader, give, read_run_within, read_run}
-use Rattle.discrete_laplace.proofs.Exact.{IsReader, then_complete, then_none}
+use Rattle.exact_bernoulli.specs.Readers.{Reader, give, read_run_within, read_run}
+use Rattle.exact_bernoulli.proofs.Exact.{IsReader, then_complete, then_none}
 
 -- each segment takes a draw
 pub Shrinks : {A : Type 0} → Reader A → Type 0

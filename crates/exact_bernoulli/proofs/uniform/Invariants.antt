@@ -1,7 +1,7 @@
 use Rattle.std.proofs.Common.{◌≡◌}
-use Rattle.discrete_laplace.specs.Meter.{allowed, Took}
-use Rattle.discrete_laplace.specs.Readers.{read_uniform}
-use Rattle.discrete_laplace.proofs.exact_bernoulli.uniform.Given as goal
+use Rattle.exact_bernoulli.specs.Meter.{allowed, Took}
+use Rattle.exact_bernoulli.specs.Readers.{read_uniform}
+use Rattle.exact_bernoulli.proofs.uniform.Given as goal
 
 -- what is read from here is what is read from the start
 abbrev pub invariant-loop-draw : goal.invariant-loop-draw

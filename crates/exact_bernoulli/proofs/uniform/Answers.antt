@@ -1,8 +1,8 @@
 use Rattle.std.proofs.Common.{arith, ◌<◌, ◌∙◌}
-use Rattle.discrete_laplace.specs.ExactBernoulli.{uniform_limit}
-use Rattle.discrete_laplace.proofs.Exact.{uniform_reads}
-use Rattle.discrete_laplace.proofs.Metered.{Took-more, Takes-err, kept_below, above_kept, uniform_stands, uniform_goes_on, uniform_none}
-use Rattle.discrete_laplace.proofs.exact_bernoulli.uniform.Goals as goal
+use Rattle.exact_bernoulli.specs.ExactBernoulli.{uniform_limit}
+use Rattle.exact_bernoulli.proofs.Exact.{uniform_reads}
+use Rattle.exact_bernoulli.proofs.Metered.{Took-more, Takes-err, kept_below, above_kept, uniform_stands, uniform_goes_on, uniform_none}
+use Rattle.exact_bernoulli.proofs.uniform.Goals as goal
 
 pub returns-in_err-draw-clause-segment : goal.returns-in_err-draw-clause-segment
 returns-in_err-draw-clause-segment g c =

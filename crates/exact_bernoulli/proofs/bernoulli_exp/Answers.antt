@@ -1,8 +1,8 @@
 use Rattle.std.proofs.Common.{arith, ◌*◌, ◌∙◌}
-use Rattle.discrete_laplace.proofs.Exact.{bernoulli_reads, bernoulli_exp_reads}
-use Rattle.discrete_laplace.proofs.Metered.{Took-more, Takes-err, found_from_segment, none_from_segments}
-use Rattle.discrete_laplace.proofs.Trials.{trials_more, trials_end, trials_none}
-use Rattle.discrete_laplace.proofs.exact_bernoulli.bernoulli_exp.Goals as goal
+use Rattle.exact_bernoulli.proofs.Exact.{bernoulli_reads, bernoulli_exp_reads}
+use Rattle.exact_bernoulli.proofs.Metered.{Took-more, Takes-err, found_from_segment, none_from_segments}
+use Rattle.exact_bernoulli.proofs.Trials.{trials_more, trials_end, trials_none}
+use Rattle.exact_bernoulli.proofs.bernoulli_exp.Goals as goal
 
 pub returns-in_err-bernoulli-clause-segment : goal.returns-in_err-bernoulli-clause-segment
 returns-in_err-bernoulli-clause-segment g c =

@@ -4,10 +4,10 @@ use Rattle.std.specs.Prelude.{Result, Ok, Err, IsErr}
 use Rattle.std.proofs.Math.Nat.{mod-add-mod}
 use Rattle.fz_outside.specs.Draws.{HasDrawn}
 use Rattle.fz_outside.proofs.Drawn.{HasDrawn-+}
-use Rattle.discrete_laplace.specs.ExactBernoulli.{uniform_limit}
-use Rattle.discrete_laplace.specs.Readers.{Reader, read_uniform}
-use Rattle.discrete_laplace.specs.Meter.{Took, Takes}
-use Rattle.discrete_laplace.proofs.Exact.{IsReader, uniform_kept, uniform_again}
+use Rattle.exact_bernoulli.specs.ExactBernoulli.{uniform_limit}
+use Rattle.exact_bernoulli.specs.Readers.{Reader, read_uniform}
+use Rattle.exact_bernoulli.specs.Meter.{Took, Takes}
+use Rattle.exact_bernoulli.proofs.Exact.{IsReader, uniform_kept, uniform_again}
 
 -- what was taken in two calls
 pub Took-more : {W : Type 0} {draws : W → ℕ → ℕ} {place : W → ℕ} (a b c : ℕ) (x y z : W) → Took draws place a x b y → Took draws place b y c z → Took draws place a x c z

@@ -1,0 +1,5 @@
+pub mod Examples
+pub mod Exact
+pub mod Metered
+pub mod Runs
+pub mod Trials

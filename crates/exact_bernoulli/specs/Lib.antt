@@ -1,0 +1,3 @@
+pub mod ExactBernoulli
+pub mod Readers
+pub mod Meter
