@@ -8,7 +8,8 @@ use Rattle.std.proofs.lemmas.Fmt.{IsAscii-from_digits}
 use Rattle.std.proofs.lemmas.Str.{IsUtf8-from_ascii}
 use Rattle.std.proofs.lemmas.Str.Ascii.{IsAscii-cons}
 use Rattle.std.proofs.lemmas.Str.Parse.{IsNumeralModel, numerals_by_weight, parse_signed_minus, parse_signed_plain, tells_all_ascii_digits}
-use Rattle.table_store.specs.Cell.{IsCellNumber, decimal_value, greatest_number, magnitude_of, cell_number}
+use Rattle.fz_ast.specs.Limits.{IsNumber}
+use Rattle.table_store.specs.Cell.{decimal_value, greatest_number, magnitude_of, cell_number}
 
 -- our words for digits and their value are std's
 own : IsNumeralModel (λ digits. all_ascii_digits digits ≡ true) decimal_value
@@ -84,16 +85,16 @@ cell_number-not_utf8 cell bad = no_number cell (λ z h. bad (IsUtf8-from_ascii c
     ascii z (inl h) = rw h.2 (IsAscii-cons 45 h.0 (omega arith) (IsAscii-from_digits h.0 (own.to h.0 h.3.all)))
     ascii z (inr h) = IsAscii-from_digits cell (own.to cell h.2.all)
 
-pub in_range_minus : (n : ℕ) → n ≤ greatest_number → IsCellNumber (neg_ℤ (pos n))
+pub in_range_minus : (n : ℕ) → n ≤ greatest_number → IsNumber (neg_ℤ (pos n))
 in_range_minus n h = (omega (arith, ints), omega (arith, ints))
 
-pub in_range_plain : (n : ℕ) → n ≤ greatest_number → IsCellNumber (pos n)
+pub in_range_plain : (n : ℕ) → n ≤ greatest_number → IsNumber (pos n)
 in_range_plain n h = (omega (arith, ints), omega (arith, ints))
 
-pub cell_number-in_range : (cell : List ℕ) (z : ℤ) → cell_number cell ≡ Some z → IsCellNumber z
+pub cell_number-in_range : (cell : List ℕ) (z : ℤ) → cell_number cell ≡ Some z → IsNumber z
 cell_number-in_range cell z e = ranged (has_number cell z e)
   where
-    ranged : IsNumberText cell z → IsCellNumber z
+    ranged : IsNumberText cell z → IsNumber z
     ranged (inl h) = rw h.4 (in_range_minus h.1 h.3.small)
     ranged (inr h) = rw h.3 (in_range_plain h.0 h.2.small)
 
@@ -110,14 +111,14 @@ cell_number-unparsed cell plus h = no_number cell (λ z t. refused z t)
     refused z (inr t) =
         parse_signed_plain own {E = ℕ} w64 cell (Err 0) h plus t.1 (t.2.all, t.2.some, omega (arith, t.2.small, t.2.value))
 
-small_minus : (n : ℕ) → IsCellNumber (neg_ℤ (pos n)) → n ≤ greatest_number
+small_minus : (n : ℕ) → IsNumber (neg_ℤ (pos n)) → n ≤ greatest_number
 small_minus n h = omega (arith, ints, h.0)
 
-small_plain : (n : ℕ) → IsCellNumber (pos n) → n ≤ greatest_number
+small_plain : (n : ℕ) → IsNumber (pos n) → n ≤ greatest_number
 small_plain n h = omega (arith, ints, h.1)
 
 -- the number that a cell's text parses to is the cell's, if it is in range
-pub cell_number-parsed : (cell : List ℕ) (z : ℤ) → get_or cell 0 0 ≢ 43 → ParsesSigned {E = ℕ} w64 10 cell (Ok z) → IsCellNumber z → cell_number cell ≡ Some z
+pub cell_number-parsed : (cell : List ℕ) (z : ℤ) → get_or cell 0 0 ≢ 43 → ParsesSigned {E = ℕ} w64 10 cell (Ok z) → IsNumber z → cell_number cell ≡ Some z
 unfolding cell_number
 cell_number-parsed [] z plus h range =
     let f = parse_signed_plain own {E = ℕ} w64 [] (Ok z) h plus (λ e. cc e) in
@@ -138,7 +139,7 @@ cell_number-parsed (byte ∷ rest) z plus h range = by_minus (byte == 45) refl
         rw (m, f.1) refl
 
 -- and if it isn't, the cell has none
-pub cell_number-too_great : (cell : List ℕ) (z : ℤ) → get_or cell 0 0 ≢ 43 → ParsesSigned {E = ℕ} w64 10 cell (Ok z) → ¬ (IsCellNumber z) → cell_number cell ≡ None
+pub cell_number-too_great : (cell : List ℕ) (z : ℤ) → get_or cell 0 0 ≢ 43 → ParsesSigned {E = ℕ} w64 10 cell (Ok z) → ¬ (IsNumber z) → cell_number cell ≡ None
 cell_number-too_great cell z plus h far = no_number cell refused
   where
     refused : (y : ℤ) → IsNumberText cell y → ⊥

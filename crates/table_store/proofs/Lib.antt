@@ -1,6 +1,10 @@
 mod CellLemmas
 mod RecordLemmas
 mod ReaderLemmas
+mod GrowthLemmas
+mod HeaderLemmas
 mod RowLemmas
+mod GroupLemmas
 pub mod TableLaws
+pub mod GroupLaws
 mod TableExamples

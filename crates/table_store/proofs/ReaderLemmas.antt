@@ -1,5 +1,5 @@
 -- What a read of a record takes of the records that a reader has left.
-use Rattle.std.proofs.Common.{◌≡◌, ◌+◌, ◌∙◌, ℕ, true, false, List, [], ◌∷◌, length, Option, Some, None, Bor, refl, sym, ap, inl}
+use Rattle.std.proofs.Common.{◌≡◌, ◌≢◌, ◌+◌, ◌∙◌, ℕ, Bool, true, false, List, [], ◌∷◌, length, Option, Some, None, Bor, refl, sym, ap, inl}
 use Rattle.std.specs.Prelude.{IfSome, IsSome}
 use Rattle.std.specs.Option.{option_map_or}
 use Rattle.csv.specs.Machine.{Read, next_record}
@@ -8,7 +8,7 @@ use Rattle.csv.specs.declared.parser.Config.{Config}
 use Rattle.csv.specs.declared.parser.State.{State}
 use Rattle.csv.specs.declared.reader.Reader.{Reader}
 use Rattle.csv.proofs.ReadFacts.{rows-end}
-use Rattle.table_store.specs.Reader.{IsBetweenRecords, bytes_left, records_left}
+use Rattle.table_store.specs.Reader.{HasRead, IsBetweenRecords, IsUneven, TakesRecord, bytes_left, records_left}
 use Rattle.table_store.proofs.RecordLemmas.{next_record-behind, records_from-more, records_from-none}
 
 -- the text that a reader has left
@@ -31,25 +31,22 @@ next_of cfg s t text None f r = absurd r
 next_of cfg s t text (Some rest) f r = (rest, refl, next_some _ f t rest r)
 
 -- a record is the first that a reader has left
-pub took_record : (a b : Reader (Bor (List ℕ))) (f : List (List ℕ)) → IsBetweenRecords a → TookRecord bytes_left a b f
+took_record : (a b : Reader (Bor (List ℕ))) (f : List (List ℕ)) → IsBetweenRecords a → TookRecord bytes_left a b f
     → (rest : List (List (List ℕ))) × (records_left a ≡ f ∷ rest)
 took_record a b f h r =
     let known = the_text (source_of bytes_left a) h.known in
-    let next = next_of default_config a.state b.state known.0 (pending_of (bytes_left b.rdr) b) f (rw (h.defaults, known.1) at r) in
-    (records_from default_config (length next.0 + 1) b.state next.0, left_of default_config a.state _ known.0 known.1 ∙ records_from-more default_config a.state known.0 (f, b.state, next.0) h.between next.2)
-
--- what a read that found a record does
-pub record TakesRecord (a b : Reader (Bor (List ℕ))) (f : List (List ℕ)) : Type 0 where
-  pub left : records_left a ≡ f ∷ records_left b
-  pub stands : IsBetweenRecords b
-  pub even : IfSome (expected_len a) (λ n. length f ≡ n)
-  pub expects : expected_len b ≡ Some (length f)
+    let next = next_of default_config a.state b.state known.0 (pending_of (bytes_left b.rdr) b) f (rw (h.defaults, known.1) at r) in (
+      records_from default_config (length next.0 + 1) b.state next.0,
+      left_of default_config a.state _ known.0 known.1
+          ∙ records_from-more default_config a.state known.0 (f, b.state, next.0) h.between next.2,
+    )
 
 even_as : (o : Option ℕ) (now : Option ℕ) (n : ℕ) → IfSome o (λ e. now ≡ Some e) → now ≡ Some n → IfSome o (λ e. n ≡ e)
 even_as None now n h e = h
 even_as (Some m) now n h e = let same : Some n ≡ Some m = sym e ∙ h in cc
 
-pub takes_record : (a b : Reader (Bor (List ℕ))) (f : List (List ℕ)) → IsBetweenRecords a → ReadRecord bytes_left a b true f → is_flexible b ≡ is_flexible a → took_first b ≡ true
+takes_record : (a b : Reader (Bor (List ℕ))) (f : List (List ℕ)) → IsBetweenRecords a → ReadRecord bytes_left a b true f → is_flexible b ≡ is_flexible a
+    → took_first b ≡ true
     → TakesRecord a b f
 takes_record a b f h r flexible first =
     let known = the_text (source_of bytes_left a) h.known in
@@ -72,8 +69,23 @@ takes_record a b f h r flexible first =
     }
 
 -- a read that found no record had none left
-pub takes_none : (a b : Reader (Bor (List ℕ))) (f : List (List ℕ)) → IsBetweenRecords a → ReadRecord bytes_left a b false f → records_left a ≡ []
+takes_none : (a b : Reader (Bor (List ℕ))) (f : List (List ℕ)) → IsBetweenRecords a → ReadRecord bytes_left a b false f → records_left a ≡ []
 takes_none a b f h r =
     let known = the_text (source_of bytes_left a) h.known in
     left_of default_config a.state _ known.0 known.1
     ∙ records_from-none default_config a.state known.0 (rows-end bytes_left a b f default_config known.0 h.defaults known.1 r)
+
+-- what a read of the next record found
+pub has_read : (found : Bool) (a b : Reader (Bor (List ℕ))) (f : List (List ℕ)) → IsBetweenRecords a → ReadRecord bytes_left a b found f
+    → is_flexible b ≡ is_flexible a
+    → took_first b ≡ true → HasRead found a b f
+has_read true a b f h r flexible first = takes_record a b f h r flexible first
+has_read false a b f h r flexible first = takes_none a b f h r
+
+-- a record that was refused for its length
+pub is_uneven : (a b : Reader (Bor (List ℕ))) (f : List (List ℕ)) (n len : ℕ) → IsBetweenRecords a → expected_len a ≡ Some n → n ≢ len
+    → TookRecord bytes_left a b f → length f ≡ len
+    → IsUneven a
+is_uneven a b f n len h expected differs took is =
+    let t = took_record a b f h took in
+    record { fields = f; rest = t.0; next = t.1; expected = n; expects = expected; uneven = λ e. differs (e ∙ is) }

@@ -71,16 +71,19 @@ unfolding next_record
 next_record-behind cfg s fields field [] p e = at_end (ends_at_end s) e
   where
     at_end : (b : Bool) → (if b then Some (fields ++ (field ∷ []), st.StartRecord, []) else None) ≡ Some p → Behind p []
-    at_end true h = let is : p ≡ (fields ++ (field ∷ []), st.StartRecord, []) = cc in rw is (record { between = refl; shorter = omega arith; less = λ n. absurd (omega arith) })
+    at_end true h = let is : p ≡ (fields ++ (field ∷ []), st.StartRecord, []) = cc in rw is
+        (record { between = refl; shorter = omega arith; less = λ n. absurd (omega arith) })
     at_end false h = cc h
 next_record-behind cfg s fields field (c ∷ rest) p e =
-    at_byte (is_end (step cfg s c).1) refl e (next_record-behind cfg (step cfg s c).0 (fields_after (step cfg s c).1 fields field) (field_after (step cfg s c).1 c field) rest p)
+    at_byte (is_end (step cfg s c).1) refl e (next_record-behind cfg (step cfg s c).0 (fields_after (step cfg s c).1 fields field)
+    (field_after (step cfg s c).1 c field) rest p)
   where
     more : Behind p rest → Behind p (c ∷ rest)
     more h = record { between = h.between; shorter = omega (arith, h.shorter); less = λ n. omega (arith, h.shorter) }
 
     at_byte : (b : Bool) → is_end (step cfg s c).1 ≡ b
-        → (if b then Some (fields_after (step cfg s c).1 fields field, (step cfg s c).0, rest) else next_record cfg (step cfg s c).0 (fields_after (step cfg s c).1 fields field) (field_after (step cfg s c).1 c field) rest) ≡ Some p
+        → (if b then Some (fields_after (step cfg s c).1 fields field, (step cfg s c).0, rest) else next_record cfg (step cfg s c).0
+        (fields_after (step cfg s c).1 fields field) (field_after (step cfg s c).1 c field) rest) ≡ Some p
         → (next_record cfg (step cfg s c).0 (fields_after (step cfg s c).1 fields field) (field_after (step cfg s c).1 c field) rest ≡ Some p → Behind p rest)
         → Behind p (c ∷ rest)
     at_byte true is h next =
@@ -104,7 +107,8 @@ records_from-enough cfg (suc n) zero s text b h k = absurd (omega arith)
 records_from-enough cfg (suc n) (suc m) s text b h k = by_next (next_record cfg s [] [] text) refl (records_from-enough cfg n)
   where
     by_next : (o : Option Read) → next_record cfg s [] [] text ≡ o
-        → ((m : ℕ) (s : State) (text : List ℕ) → ends_at_end s ≡ false → length text < n → length text < m → records_from cfg n s text ≡ records_from cfg m s text)
+        → ((m : ℕ) (s : State) (text : List ℕ) → ends_at_end s ≡ false → length text < n → length text < m
+        → records_from cfg n s text ≡ records_from cfg m s text)
         → records_next (records_from cfg n) o ≡ records_next (records_from cfg m) o
     by_next None e next = refl
     by_next (Some p) e next =

@@ -1,11 +1,18 @@
--- The number that a cell of a table writes.
-use Rattle.std.specs.Prelude.{ℕ, ◌+◌, ◌-◌, ◌*◌, ◌^◌, List, [], ◌∷◌, length, Option, Some, None, ℤ, pos, neg_ℤ, ◌≤ℤ◌}
+-- What a cell of a table writes.
+use Rattle.std.specs.Prelude.{ℕ, ◌+◌, ◌-◌, ◌*◌, ◌^◌, List, [], ◌∷◌, length, Option, Some, None, ℤ, pos, neg_ℤ}
 use Rattle.std.specs.Prelude.{◌&&◌, ◌==◌, nat_lt, nat_le, if◌then◌else◌, option_map}
 use Rattle.std.specs.Str.{all_ascii_digits}
+use Rattle.fz_ast.specs.declared.row.Column.{Column}
+use Rattle.fz_ast.specs.declared.row.Column.TheVariants.{Num, Text}
+use Rattle.metric_values.specs.Values.{Flat, NumF, TextF}
 
 -- how great a number may be, in absolute value
 abbrev pub greatest_number : ℕ
 greatest_number = 2 ^ 50
+
+-- how many bytes a text may have
+abbrev pub longest_text : ℕ
+longest_text = 64
 
 -- the number that decimal digits write: each counts ten to the power of how many stand behind it
 abbrev pub decimal_value : List ℕ → ℕ
@@ -25,6 +32,7 @@ cell_number (byte ∷ rest) =
     if byte == 45 then option_map (λ n. neg_ℤ (pos n)) (magnitude_of rest)
     else option_map pos (magnitude_of (byte ∷ rest))
 
--- a number that a cell may have
-abbrev pub IsCellNumber : ℤ → Type 0
-IsCellNumber number = (neg_ℤ (pos greatest_number) ≤ℤ number) × (number ≤ℤ pos greatest_number)
+-- what a cell of a column of this kind holds: a number, or the bytes themselves where they aren't too many
+abbrev pub cell_value : Column → List ℕ → Option Flat
+cell_value Num cell = option_map NumF (cell_number cell)
+cell_value Text cell = if nat_le (length cell) longest_text then Some (TextF cell) else None

@@ -1,3 +1,6 @@
+pub mod Schema
 pub mod Cell
 pub mod Table
 pub mod Reader
+pub mod Growth
+pub mod Groups

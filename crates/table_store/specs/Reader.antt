@@ -1,11 +1,9 @@
 -- What a reader of csv over a slice has left to read.
-use Rattle.std.specs.Prelude.{◌≡◌, ℕ, ◌+◌, Bool, true, List, [], ◌∷◌, length, Option, Some, None, Result, Ok, ℤ, false, IsSome}
+use Rattle.std.specs.Prelude.{◌≡◌, ◌≢◌, ℕ, ◌+◌, Bool, true, false, List, [], ◌∷◌, length, Option, Some, IsSome, IfSome}
 use Rattle.std.specs.Option.{option_map_or}
 use Rattle.std.specs.Borrow.{Bor}
 use Rattle.csv.specs.Machine.{ends_at_end}
 use Rattle.csv.specs.Reading.{Ready, default_config, expected_len, is_flexible, reader_config, reader_state, reader_trim, records_from, source_of}
-use Rattle.table_store.specs.Table.{before_rest}
-use Rattle.table_store.specs.declared.TableFault.{TableFault}
 use Rattle.csv.specs.declared.reader.Reader.{Reader}
 use Rattle.csv.specs.declared.reader.Trim.TheVariants as trim
 
@@ -26,24 +24,28 @@ pub record IsBetweenRecords (reader : Reader (Bor (List ℕ))) : Type 0 where
   pub known : IsSome (source_of bytes_left reader)
   pub between : ends_at_end (reader_state reader) ≡ false
 
--- the same, where a record with one field was read
-pub record IsUnderHeader (reader : Reader (Bor (List ℕ))) : Type 0 where
+-- the same, where a record of this many fields was read
+pub record IsUnderHeader (width : ℕ) (reader : Reader (Bor (List ℕ))) : Type 0 where
   pub stands : IsBetweenRecords reader
-  pub one : expected_len reader ≡ Some 1
+  pub wide : expected_len reader ≡ Some width
 
--- A reader under a header took a record: it has one cell, and is the first of those that were left.
-pub record TakesCell (old new : Reader (Bor (List ℕ))) (fields : List (List ℕ)) : Type 0 where
-  pub cell : List ℕ
-  pub is : fields ≡ cell ∷ []
-  pub left : records_left old ≡ (cell ∷ []) ∷ records_left new
-  pub stands : IsUnderHeader new
+-- A reader took a record, the first of those that were left: it has as many fields as the reader expects.
+pub record TakesRecord (old new : Reader (Bor (List ℕ))) (fields : List (List ℕ)) : Type 0 where
+  pub left : records_left old ≡ fields ∷ records_left new
+  pub stands : IsBetweenRecords new
+  pub even : IfSome (expected_len old) (λ width. length fields ≡ width)
+  pub expects : expected_len new ≡ Some (length fields)
 
--- what a read of the next record found: one cell, or the end
+-- what a read of the next record found: a record, or the end
 abbrev pub HasRead : (found : Bool) → (old new : Reader (Bor (List ℕ))) → List (List ℕ) → Type 0
-HasRead true old new fields = TakesCell old new fields
+HasRead true old new fields = TakesRecord old new fields
 HasRead false old new fields = records_left old ≡ []
 
--- the rows from one on that may have ended before it
-abbrev pub row_before : Option ℤ → Result (List ℤ) TableFault → Result (List ℤ) TableFault
-row_before None rest = Ok []
-row_before (Some number) rest = before_rest (Ok number) rest
+-- the next record has another number of fields than a reader expects
+pub record IsUneven (reader : Reader (Bor (List ℕ))) : Type 0 where
+  pub fields : List (List ℕ)
+  pub rest : List (List (List ℕ))
+  pub next : records_left reader ≡ fields ∷ rest
+  pub expected : ℕ
+  pub expects : expected_len reader ≡ Some expected
+  pub uneven : expected ≢ length fields

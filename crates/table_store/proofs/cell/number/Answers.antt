@@ -4,7 +4,8 @@ use Rattle.std.specs.Prelude.{int_le, slice_get}
 use Rattle.std.specs.Option.{option_eq}
 use Rattle.std.specs.Str.Parse.{ParsesSigned}
 use Rattle.std.proofs.lemmas.Int.{ints, to_z-of_z}
-use Rattle.table_store.specs.Cell.{IsCellNumber, cell_number}
+use Rattle.fz_ast.specs.Limits.{IsNumber}
+use Rattle.table_store.specs.Cell.{cell_number}
 use Rattle.table_store.proofs.CellLemmas.{cell_number-not_utf8, cell_number-parsed, cell_number-plus, cell_number-too_great, cell_number-unparsed}
 use Rattle.table_store.proofs.cell.number.Goals as goal
 
@@ -21,18 +22,19 @@ begins_otherwise (byte ∷ rest) e = grind arith
 whole : (cell : List ℕ) (z : ℤ) → ParsesSigned {E = ℕ} w64 10 cell (Ok z) → to_z w64 (of_z w64 z) ≡ z
 whole cell z h = to_z-of_z w64 z (rw h.1 h.0.1)
 
-in_range : (z : ℤ) → int_le (negsuc 1125899906842623) z ≡ true → int_le z (pos 1125899906842624) ≡ true → IsCellNumber z
+in_range : (z : ℤ) → int_le (negsuc 1125899906842623) z ≡ true → int_le z (pos 1125899906842624) ≡ true → IsNumber z
 in_range z low high = (grind (arith, ints), grind (arith, ints))
 
-above : (z : ℤ) → int_le z (pos 1125899906842624) ≡ false → ¬ (IsCellNumber z)
+above : (z : ℤ) → int_le z (pos 1125899906842624) ≡ false → ¬ (IsNumber z)
 above z high = λ h. grind (arith, ints, h.1)
 
-below : (z : ℤ) → int_le (negsuc 1125899906842623) z ≡ false → ¬ (IsCellNumber z)
+below : (z : ℤ) → int_le (negsuc 1125899906842623) z ≡ false → ¬ (IsNumber z)
 below z low = λ h. grind (arith, ints, h.0)
 
 pub returns-then-eq : goal.returns-then-eq
 returns-then-eq c =
-    sym (cell_number-plus c.args.cell.now (begins_with_plus c.args.cell.now (rw (c.copied.ensures, c.first.ensures.value) at (sym c.eq.ensures ∙ c.if-eq.true))))
+    sym (cell_number-plus c.args.cell.now (begins_with_plus c.args.cell.now
+    (rw (c.copied.ensures, c.first.ensures.value) at (sym c.eq.ensures ∙ c.if-eq.true))))
 
 pub returns-in_default : goal.returns-in_default
 returns-in_default c = sym (cell_number-not_utf8 c.args.cell.now (rw c.in_default.is at c.from_utf8.ensures.cases).0)
