@@ -1,0 +1,8 @@
+mod ExamplesOfFaults
+pub mod Laws
+pub mod Lists
+pub mod OnLiterals
+mod Pieces
+pub mod Signatures
+pub mod Steps
+pub mod Values

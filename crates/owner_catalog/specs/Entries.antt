@@ -1,0 +1,62 @@
+-- What a catalog holds.
+use Rattle.std.specs.Prelude.{ℕ, List, [], map, get_or}
+use Rattle.fz_ast.specs.Signature.{Signature, TableType}
+use Rattle.table_store.specs.Schema.{NamedColumn, row_of_schema}
+
+-- a table's name, the name of its file, and its columns
+pub record TableEntry : Type 0 where
+  pub name : List ℕ
+  pub file : List ℕ
+  pub columns : List NamedColumn
+
+-- a partition's name, its table and the text column by their numbers, and its keys
+pub record PartitionEntry : Type 0 where
+  pub name : List ℕ
+  pub table : ℕ
+  pub column : ℕ
+  pub keys : List (List ℕ)
+
+-- An owner: the budget in millionths, the capacity in records, and the compact text of the object that it was read from.
+pub record OwnerEntry : Type 0 where
+  pub name : List ℕ
+  pub budget : ℕ
+  pub capacity : ℕ
+  pub tables : List TableEntry
+  pub partitions : List PartitionEntry
+  pub text : List ℕ
+
+-- the names of the analysts, the owners, and the compact text of the list of analysts
+pub record Catalog : Type 0 where
+  pub analysts : List (List ℕ)
+  pub owners : List OwnerEntry
+  pub text : List ℕ
+
+-- the owner of a number, its table of a number, and its partition of a number, where each is there
+abbrev pub owner_at : Catalog → ℕ → OwnerEntry
+owner_at catalog o = get_or catalog.owners o (record { name = []; budget = 0; capacity = 0; tables = []; partitions = []; text = [] })
+
+abbrev pub table_at : Catalog → (owner table : ℕ) → TableEntry
+table_at catalog o t = get_or (owner_at catalog o).tables t (record { name = []; file = []; columns = [] })
+
+abbrev pub partition_at : Catalog → (owner partition : ℕ) → PartitionEntry
+partition_at catalog o p = get_or (owner_at catalog o).partitions p (record { name = []; table = 0; column = 0; keys = [] })
+
+abbrev pub table_name : TableEntry → List ℕ
+table_name table = table.name
+
+abbrev pub table_columns : TableEntry → List NamedColumn
+table_columns table = table.columns
+
+abbrev pub partition_name : PartitionEntry → List ℕ
+partition_name partition = partition.name
+
+abbrev pub owner_name : OwnerEntry → List ℕ
+owner_name owner = owner.name
+
+-- a table as programs see it: its name and the type of its rows
+abbrev pub table_type_of : TableEntry → TableType
+table_type_of table = record { name = table.name; row = row_of_schema table.columns }
+
+-- the tables that programs over an owner may name, in order
+abbrev pub signature_of : OwnerEntry → Signature
+signature_of owner = map table_type_of owner.tables

@@ -1,0 +1,22 @@
+//! Catalogs: the analysts and the owners with their budgets, tables and partitions, read from JSON.
+//!
+//! `specs/Catalog.antt` says which catalog the bytes of a file hold, and `read` reads it.
+#![tactic(auto)]
+
+mod catalog;
+mod fault;
+mod hashing;
+mod list;
+mod member;
+mod named;
+mod parts;
+mod reading;
+mod text;
+
+pub use catalog::Catalog;
+pub use fault::{CatalogFault, FaultKind, Member, Place};
+pub use hashing::digest;
+pub use reading::read;
+
+#[cfg(test)]
+mod tests;
