@@ -24,7 +24,7 @@ use Rattle.metric_values.specs.Values.{NumV}
 use Rattle.wire_lines.specs.Reply.{refused}
 use Rattle.wire_lines.specs.Refusal.{ProgramRefusal, Refusal, by_line, by_program, by_money, by_number, no_memory}
 use Rattle.fz_outside.specs.Draws.{first_draws}
-use Rattle.discrete_laplace.specs.DiscreteLaplace.{draw_limit}
+use Rattle.exact_bernoulli.specs.Meter.{draw_limit}
 use Rattle.discrete_laplace.specs.Noise.{noise_of}
 use Rattle.answer_path.specs.Reading.{read, IsReading}
 use Rattle.answer_path.specs.Judgement.{Judgement, accepted, judgement_of, HasValue}

@@ -15,9 +15,10 @@ use Rattle.fz_ast.specs.Signature.{TableType, row_of}
 use Rattle.fz_ast.specs.Terms.{NumE, VarE, at}
 use Rattle.fz_ast.specs.Types.{NumT, TextT}
 use Rattle.fz_outside.specs.Draws.{first_draws, padded}
-use Rattle.discrete_laplace.specs.DiscreteLaplace.{draw_limit}
+use Rattle.exact_bernoulli.specs.Meter.{draw_limit}
 use Rattle.discrete_laplace.specs.Noise.{noise_of}
-use Rattle.discrete_laplace.specs.Readers.{read_sample, read_attempt, read_geometric, read_bernoulli_exp, read_run, read_bernoulli, read_uniform}
+use Rattle.exact_bernoulli.specs.Readers.{read_bernoulli_exp, read_run, read_bernoulli, read_uniform}
+use Rattle.discrete_laplace.specs.Readers.{read_sample, read_attempt, read_geometric}
 use Rattle.discrete_laplace.proofs.Fewer.{noise_of_first}
 use Rattle.linear_types.specs.Inferred as rules
 use Rattle.shape_law.specs.Walk.{TooDeep, TooLong, TooWide, depth_limit}

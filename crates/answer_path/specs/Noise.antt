@@ -2,7 +2,7 @@
 use Rattle.std.specs.Prelude.{ℕ, ◌/◌, ℤ, Option}
 use Rattle.fz_frac.specs.Lowest.{gcd}
 use Rattle.fz_outside.specs.Draws.{first_draws}
-use Rattle.discrete_laplace.specs.DiscreteLaplace.{draw_limit}
+use Rattle.exact_bernoulli.specs.Meter.{draw_limit}
 use Rattle.discrete_laplace.specs.Noise.{noise_of}
 
 -- one unit of epsilon, in millionths

@@ -21,8 +21,12 @@ use Rattle.wire_lines.specs.Refusal.{by_line, by_money, by_number, no_memory}
 use Rattle.wire_lines.specs.declared.refusal.LineRefusal.TheVariants.{Malformed, Unknown, NoEpsilon, NoHello}
 use Rattle.wire_lines.specs.declared.refusal.MoneyRefusal.TheVariants.{OverBudget as NoBudget, JournalFull}
 use Rattle.wire_lines.specs.declared.refusal.NumberRefusal.TheVariants.{Exhausted as NoNoise, Lost as NoAnswer}
+use Rattle.fz_ast.specs.declared.row.Column.TheVariants.{Num}
+use Rattle.fz_ast.specs.Signature.{TableType}
+use Rattle.fz_ast.specs.Types.{NumT}
 use Rattle.metric_values.specs.Values.{NumF}
-use Rattle.answer_path.specs.Owner.{Owner}
+use Rattle.owner_catalog.specs.Entries.{TableEntry, OwnerEntry}
+use Rattle.answer_path.specs.Owner.{Owner, Holding}
 use Rattle.answer_path.specs.Query.{Query}
 use Rattle.answer_path.specs.Judgement.{judgement_of, HasValue}
 use Rattle.answer_path.specs.Program.{HasValueIn}
@@ -32,7 +36,8 @@ use Rattle.answer_path.specs.Answered.{outcome_reply, grant_records, IsSettledAt
 use Rattle.answer_path.proofs.Answering.{IsAcceptedAt, money_says}
 use Rattle.answer_path.proofs.SizePeople.{size_people, size_term, size_reads}
 use Rattle.owner_history.specs.Granted.{settlement_in}
-use Rattle.session_core.specs.House.{Register, house_of, owner_of, people_table, people_holding}
+use Rattle.session_core.specs.House.{Register, house_of}
+use Rattle.session_core.specs.Code.{owner_at}
 use Rattle.session_core.specs.Meant.{meant_by}
 use Rattle.session_core.specs.Turns.{Turn, turns_of}
 use Rattle.session_core.specs.Exchanges.{Exchange, told_of}
@@ -41,9 +46,29 @@ use Rattle.session_core.specs.Served.{AnswersOn, StandIn, Sources, IsAskedAt, Ar
 use Rattle.session_core.specs.Said.{HadMemory}
 use Rattle.session_core.proofs.Exactly.{answers_on}
 
--- a house of two analysts, with these ages
+-- the table `people` has one column of numbers
+abbrev pub people : TableType
+people = record { name = codes "people"; row = NumT }
+
+abbrev pub ages_held : List ℤ → Holding
+ages_held ages = record { tables = people ∷ []; rows = map (λ z. NumF z) ages ∷ [] }
+
+-- what a catalog says of that table, and of an owner; texts are left out
+abbrev pub people_entry : TableEntry
+people_entry = record { name = codes "people"; file = codes "people.csv"; columns = record { name = codes "age"; kind = Num } ∷ [] }
+
+abbrev pub owner_entry : (name : List ℕ) (budget capacity : ℕ) → List TableEntry → OwnerEntry
+owner_entry name budget capacity tables = record { name = name; budget = budget; capacity = capacity; tables = tables; partitions = []; text = [] }
+
+abbrev pub register_of : List OwnerEntry → List Holding → Register
+register_of owners holdings = record { catalog = record { analysts = codes "ann" ∷ codes "bob" ∷ []; owners = owners; text = [] }; holdings = holdings }
+
+-- a house of two analysts and an owner, with these ages
 abbrev house : (budget capacity : ℕ) → List ℤ → Register
-house budget capacity ages = record { analysts = codes "ann" ∷ codes "bob" ∷ []; owner = codes "census"; budget = budget; capacity = capacity; holding = people_holding ages }
+house budget capacity ages = register_of (owner_entry (codes "clinic") budget capacity (people_entry ∷ []) ∷ []) (ages_held ages ∷ [])
+
+abbrev the_owner : Register → Owner
+the_owner register = owner_at (house_of register) 0
 
 abbrev three_rows : Register
 three_rows = house 10000000 100 (pos 20 ∷ pos 30 ∷ pos 40 ∷ [])
@@ -52,7 +77,7 @@ abbrev no_rows : Register
 no_rows = house 10000000 100 []
 
 -- nothing was found
-abbrev fresh : Journals
+abbrev pub fresh : Journals
 fresh o = []
 
 -- what the one owner adds
@@ -61,32 +86,32 @@ only records zero = records
 only records (suc o) = []
 
 -- the program is judged by the rules, and its value is how many rows there are
-size_asked : IsAcceptedAt (people_table ∷ []) size_people 1 1
+pub size_asked : IsAcceptedAt (people ∷ []) size_people 1 1
 unfolding judgement_of gcd gcd_in depth_limit
 size_asked = (size_term, size_reads, refl)
 
-three_value : HasValueIn (people_table ∷ []) (people_holding (pos 20 ∷ pos 30 ∷ pos 40 ∷ [])).rows Whole size_people (pos 3)
+three_value : HasValueIn (people ∷ []) (ages_held (pos 20 ∷ pos 30 ∷ pos 40 ∷ [])).rows Whole size_people (pos 3)
 unfolding HasValue
 three_value = (size_term, size_reads, (2, (NumF (pos 20) ∷ NumF (pos 30) ∷ NumF (pos 40) ∷ [], refl, refl)))
 
-no_value : HasValueIn (people_table ∷ []) (people_holding []).rows Whole size_people (pos 0)
+no_value : HasValueIn (people ∷ []) (ages_held []).rows Whole size_people (pos 0)
 unfolding HasValue
 no_value = (size_term, size_reads, (2, ([], refl, refl)))
 
 abbrev a_query : Query
 a_query = record { owner = 0; analyst = 0; view = Whole; e = 1000000; program = size_people }
 
-abbrev an_ask : Ask
+abbrev pub an_ask : Ask
 an_ask = record { analyst = 0; view = Whole; e = 1000000; p = 1; q = 1 }
 
-abbrev a_grant : Grant
+abbrev pub a_grant : Grant
 a_grant = record { number = 0; taken = 1000000; seen = 1 }
 
-abbrev made : Outcome → List Record
+abbrev pub made : Outcome → List Record
 made outcome = grant_records an_ask a_grant outcome
 
 -- how the ask is settled where memory suffices
-abbrev outcome_with : (size : ℕ) → Option ℤ → Outcome
+abbrev pub outcome_with : (size : ℕ) → Option ℤ → Outcome
 outcome_with size None = Exhausted
 outcome_with size (Some noise) = Answered (pos size +ℤ noise)
 
@@ -97,25 +122,28 @@ settled_with HasWorth size (Some noise) has = inl (pos size, has, refl)
 abbrev outcome_of_size : (size : ℕ) → (ℕ → ℕ → ℕ → ℕ) → Outcome
 outcome_of_size size draws = outcome_with size (noise_at 1000000 (draws 0 0))
 
-first_answer : (register : Register) (draws : ℕ → ℕ → ℕ → ℕ) (size : ℕ) → register.holding.tables ≡ people_table ∷ [] → IsAcceptedAt (owner_of register).tables size_people 1 1
-    → money_verdict (owner_of register).entry 0 [] (ask_for a_query 1 1) ≡ Ok a_grant → HasValueIn (owner_of register).tables (owner_of register).rows Whole size_people (pos size)
-    → IsAnswered (owner_of register) (draws 0) 0 [] a_query (outcome_reply a_grant (outcome_of_size size draws)) (made (outcome_of_size size draws))
+-- an ask that is granted is answered by its program's value and the noise of its number
+pub grant_answer : (owner : Owner) (draws : ℕ → ℕ → ℕ) (records : List Record) (query : Query) (grant : Grant) (size : ℕ) → IsAcceptedAt owner.tables query.program 1 1
+    → money_verdict owner.entry 0 records (ask_for query 1 1) ≡ Ok grant → HasValueIn owner.tables owner.rows query.view query.program (pos size)
+    → let outcome : Outcome = outcome_with size (noise_at query.e (draws grant.number)) in
+    IsAnswered owner draws 0 records query (outcome_reply grant outcome) (grant_records (ask_for query 1 1) grant outcome)
 unfolding IsAnswered
-first_answer register draws size tables accepts money value =
-    (granted an_ask a_grant, money_says (owner_of register) 0 [] a_query 1 1 _ accepts money, (outcome_of_size size draws, settled_with _ size (noise_at 1000000 (draws 0 0)) value, refl, refl))
+grant_answer owner draws records query grant size accepts money value =
+    let outcome = outcome_with size (noise_at query.e (draws grant.number)) in
+    (granted (ask_for query 1 1) grant, money_says owner 0 records query 1 1 _ accepts money, (outcome, settled_with _ size (noise_at query.e (draws grant.number)) value, refl, refl))
 
 -- a script of one ask: ann greets, asks and ends
 abbrev one_ask_script : List ℕ
-one_ask_script = codes "hello ann\nask census 1 size people\nbye\n"
+one_ask_script = codes "hello ann\nask clinic 1 size people\nbye\n"
 
-abbrev turn : Option ℕ → List ℕ → Turn
+abbrev pub turn : Option ℕ → List ℕ → Turn
 turn who line = record { who = who; line = line }
 
-abbrev quiet : Option ℕ → List ℕ → Replied → Exchange
+abbrev pub quiet : Option ℕ → List ℕ → Replied → Exchange
 quiet who line reply = record { turn = turn who line; reply = reply; told = [] }
 
 abbrev ask_line : List ℕ
-ask_line = codes "ask census 1 size people"
+ask_line = codes "ask clinic 1 size people"
 
 abbrev asked : Outcome → Exchange
 asked outcome = record { turn = turn (Some 0) ask_line; reply = outcome_reply a_grant outcome; told = placed_from 0 (made outcome) }
@@ -128,16 +156,16 @@ one_ask_turns : turns_of (house_of three_rows) one_ask_script ≡ turn None (cod
 unfolding lines_of meant_by request_of
 one_ask_turns = refl
 
-one_owner : (register : Register) (draws : ℕ → ℕ → ℕ → ℕ) (xs : List Exchange) (records : List Record) → LeadExactly (house_of register) draws 0 0 [] xs records
-    → (o : ℕ) (owner : Owner) → slice_get (owner_of register ∷ []) o ≡ Some owner → LeadExactly (house_of register) draws o 0 [] xs (only records o)
-one_owner register draws xs records leads zero owner at = leads
-one_owner register draws xs records leads (suc o) owner at = absurd (cc (at))
+one_owner : (register : Register) → (house_of register).owners ≡ the_owner register ∷ [] → (draws : ℕ → ℕ → ℕ → ℕ) (xs : List Exchange) (records : List Record) → LeadExactly (house_of register) draws 0 0 [] xs records
+    → (o : ℕ) (owner : Owner) → slice_get (house_of register).owners o ≡ Some owner → LeadExactly (house_of register) draws o 0 [] xs (only records o)
+one_owner register one draws xs records leads zero owner at = leads
+one_owner register one draws xs records leads (suc o) owner at = let none : None ≡ Some owner = ap (λ (ws : List Owner). slice_get ws (suc o)) (sym one) ∙ at in absurd (cc (none))
 
 three_leads : (draws : ℕ → ℕ → ℕ → ℕ) → LeadExactly (house_of three_rows) draws 0 0 [] (one_ask (outcome_of_size 3 draws)) (made (outcome_of_size 3 draws))
 unfolding meant_by request_of cost_of partition_cost
 three_leads draws =
     let outcome = outcome_of_size 3 draws in
-    (made outcome, (made outcome, inl (first_answer three_rows draws 3 refl size_asked refl three_value), refl, refl), refl)
+    (made outcome, (made outcome, inl (grant_answer (the_owner three_rows) (draws 0) [] a_query a_grant 3 size_asked refl three_value), refl, refl), refl)
 
 three_run : (draws : ℕ → ℕ → ℕ → ℕ) → let outcome : Outcome = outcome_of_size 3 draws in
     IsScriptRun (house_of three_rows) draws fresh one_ask_script (greeted (codes "ann") ∷ outcome_reply a_grant outcome ∷ ended ∷ []) (only (made outcome))
@@ -148,7 +176,7 @@ three_run draws =
       turns = refl;
       replied = refl;
       plain = ((refl, refl), (tt, ((refl, refl), tt)));
-      owners = one_owner three_rows draws (one_ask outcome) (made outcome) (three_leads draws);
+      owners = one_owner three_rows refl draws (one_ask outcome) (made outcome) (three_leads draws);
     }
 
 -- .. or memory ran out before the reservation ..
@@ -160,15 +188,15 @@ without_memory draws =
       turns = refl;
       replied = refl;
       plain = ((refl, refl), (tt, ((refl, refl), tt)));
-      owners = one_owner three_rows draws xs [] ([], ([], inr (refl, refl), refl, refl), refl);
+      owners = one_owner three_rows refl draws xs [] ([], ([], inr (refl, refl), refl, refl), refl);
     }
 
 -- .. or after it, where the draws suffice: both records are added
 lost_leads : (draws : ℕ → ℕ → ℕ → ℕ) (noise : ℤ) → noise_at 1000000 (draws 0 0) ≡ Some noise → LeadExactly (house_of three_rows) draws 0 0 [] (one_ask Lost) (made Lost)
 unfolding meant_by request_of cost_of partition_cost IsAnswered
 lost_leads draws noise is =
-    let settled = subst (λ (k : Option ℤ). IsSettledAt (λ z. HasValueIn (people_table ∷ []) (owner_of three_rows).rows Whole size_people z) k Lost) (sym is) (inr refl) in
-    (made Lost, (made Lost, inl (granted an_ask a_grant, money_says (owner_of three_rows) 0 [] a_query 1 1 _ size_asked refl, (Lost, settled, refl, refl)), refl, refl), refl)
+    let settled = subst (λ (k : Option ℤ). IsSettledAt (λ z. HasValueIn (people ∷ []) (the_owner three_rows).rows Whole size_people z) k Lost) (sym is) (inr refl) in
+    (made Lost, (made Lost, inl (granted an_ask a_grant, money_says (the_owner three_rows) 0 [] a_query 1 1 _ size_asked refl, (Lost, settled, refl, refl)), refl, refl), refl)
 
 lost_run : (draws : ℕ → ℕ → ℕ → ℕ) (noise : ℤ) → noise_at 1000000 (draws 0 0) ≡ Some noise
     → IsScriptRun (house_of three_rows) draws fresh one_ask_script (greeted (codes "ann") ∷ refused (by_number (NoAnswer 0)) ∷ ended ∷ []) (only (made Lost))
@@ -178,17 +206,17 @@ lost_run draws noise is = record {
   turns = refl;
   replied = refl;
   plain = ((refl, refl), (tt, ((refl, refl), tt)));
-  owners = one_owner three_rows draws (one_ask Lost) (made Lost) (lost_leads draws noise is);
+  owners = one_owner three_rows refl draws (one_ask Lost) (made Lost) (lost_leads draws noise is);
 }
 
 -- a loss is charged, and the next number is one more
-behind_loss : IsVerdict (owner_of three_rows).entry (people_table ∷ []) 0 (made Lost) a_query (granted an_ask (record { number = 1; taken = 1000000; seen = 3 }))
+behind_loss : IsVerdict (the_owner three_rows).entry (people ∷ []) 0 (made Lost) a_query (granted an_ask (record { number = 1; taken = 1000000; seen = 3 }))
 unfolding cost_of partition_cost
-behind_loss = money_says (owner_of three_rows) 0 (made Lost) a_query 1 1 _ size_asked refl
+behind_loss = money_says (the_owner three_rows) 0 (made Lost) a_query 1 1 _ size_asked refl
 
-over_by_loss : IsVerdict (owner_of (house 1000000 100 [])).entry (people_table ∷ []) 0 (made Lost) a_query (money_refused (NoBudget 1000000 2000000 1000000 2))
+over_by_loss : IsVerdict (the_owner (house 1000000 100 [])).entry (people ∷ []) 0 (made Lost) a_query (money_refused (NoBudget 1000000 2000000 1000000 2))
 unfolding cost_of partition_cost
-over_by_loss = money_says (owner_of (house 1000000 100 [])) 0 (made Lost) a_query 1 1 _ size_asked refl
+over_by_loss = money_says (the_owner (house 1000000 100 [])) 0 (made Lost) a_query 1 1 _ size_asked refl
 
 -- Of these replies 90 and 51 say that memory ran out, and 50 doesn't.
 had_memory : HadMemory (refused (by_number (NoNoise 0)))
@@ -201,33 +229,33 @@ had_none_after : HadMemory (refused (by_number (NoAnswer 0))) → ⊥
 had_none_after had = had
 
 -- behind a bye nobody speaks
-behind_bye : (draws : ℕ → ℕ → ℕ → ℕ) → IsScriptRun (house_of three_rows) draws fresh (codes "hello ann\nbye\nask census 1 x\n") (greeted (codes "ann") ∷ ended ∷ refused (by_line NoHello) ∷ []) (only [])
+behind_bye : (draws : ℕ → ℕ → ℕ → ℕ) → IsScriptRun (house_of three_rows) draws fresh (codes "hello ann\nbye\nask clinic 1 x\n") (greeted (codes "ann") ∷ ended ∷ refused (by_line NoHello) ∷ []) (only [])
 unfolding lines_of meant_by request_of
 behind_bye draws =
-    let xs : List Exchange = quiet None (codes "hello ann") (greeted (codes "ann")) ∷ quiet (Some 0) (codes "bye") ended ∷ quiet None (codes "ask census 1 x") (refused (by_line NoHello)) ∷ [] in record {
+    let xs : List Exchange = quiet None (codes "hello ann") (greeted (codes "ann")) ∷ quiet (Some 0) (codes "bye") ended ∷ quiet None (codes "ask clinic 1 x") (refused (by_line NoHello)) ∷ [] in record {
       exchanges = xs;
       turns = refl;
       replied = refl;
       plain = ((refl, refl), ((refl, refl), ((refl, refl), tt)));
-      owners = one_owner three_rows draws xs [] refl;
+      owners = one_owner three_rows refl draws xs [] refl;
     }
 
 -- lines before any hello, in the order of the refusals
 abbrev first_lines : List Exchange
 first_lines =
     quiet None [] (refused (by_line (Malformed 0))) ∷ quiet None (codes "ask nobody 0 x") (refused (by_line (Unknown 1)))
-    ∷ quiet None (codes "ask census 0 size people") (refused (by_line NoEpsilon)) ∷ quiet None ask_line (refused (by_line NoHello))
+    ∷ quiet None (codes "ask clinic 0 size people") (refused (by_line NoEpsilon)) ∷ quiet None ask_line (refused (by_line NoHello))
     ∷ quiet None (codes "hello eve") (refused (by_line (Unknown 1))) ∷ quiet None (codes "hello ann") (greeted (codes "ann")) ∷ []
 
 refusals : (draws : ℕ → ℕ → ℕ → ℕ)
-    → IsScriptRun (house_of three_rows) draws fresh (codes "\nask nobody 0 x\nask census 0 size people\nask census 1 size people\nhello eve\nhello ann\n") (map (λ (x : Exchange). x.reply) first_lines) (only [])
+    → IsScriptRun (house_of three_rows) draws fresh (codes "\nask nobody 0 x\nask clinic 0 size people\nask clinic 1 size people\nhello eve\nhello ann\n") (map (λ (x : Exchange). x.reply) first_lines) (only [])
 unfolding lines_of meant_by request_of
 refusals draws = record {
   exchanges = first_lines;
   turns = refl;
   replied = refl;
   plain = ((refl, refl), ((refl, refl), ((refl, refl), ((refl, refl), ((refl, refl), ((refl, refl), tt))))));
-  owners = one_owner three_rows draws first_lines [] refl;
+  owners = one_owner three_rows refl draws first_lines [] refl;
 }
 
 -- a second ask over the budget, and one without room for two more records
@@ -241,8 +269,8 @@ second_over draws =
     let register = house 1000000 100 [] in
     let outcome = outcome_of_size 0 draws in (
       made outcome,
-      (made outcome, inl (first_answer register draws 0 refl size_asked refl no_value), refl, refl),
-      (made outcome, ([], inl (money_refused (NoBudget 1000000 2000000 1000000 2), money_says (owner_of register) 0 (made outcome) a_query 1 1 _ size_asked refl, (refl, refl)), refl, refl), refl),
+      (made outcome, inl (grant_answer (the_owner register) (draws 0) [] a_query a_grant 0 size_asked refl no_value), refl, refl),
+      (made outcome, ([], inl (money_refused (NoBudget 1000000 2000000 1000000 2), money_says (the_owner register) 0 (made outcome) a_query 1 1 _ size_asked refl, (refl, refl)), refl, refl), refl),
     )
 
 second_full : (draws : ℕ → ℕ → ℕ → ℕ) → let outcome : Outcome = outcome_of_size 0 draws in
@@ -252,8 +280,8 @@ second_full draws =
     let register = house 10000000 3 [] in
     let outcome = outcome_of_size 0 draws in (
       made outcome,
-      (made outcome, inl (first_answer register draws 0 refl size_asked refl no_value), refl, refl),
-      (made outcome, ([], inl (money_refused (JournalFull 2 0 3), money_says (owner_of register) 0 (made outcome) a_query 1 1 _ size_asked refl, (refl, refl)), refl, refl), refl),
+      (made outcome, inl (grant_answer (the_owner register) (draws 0) [] a_query a_grant 0 size_asked refl no_value), refl, refl),
+      (made outcome, ([], inl (money_refused (JournalFull 2 0 3), money_says (the_owner register) 0 (made outcome) a_query 1 1 _ size_asked refl, (refl, refl)), refl, refl), refl),
     )
 
 -- what is written, with the noise -1, with none, and on no rows
@@ -311,26 +339,26 @@ sources place = record { programs = size_people ∷ []; places = place ∷ [] }
 abbrev three_turns : List Turn
 three_turns = turn None (codes "hello ann") ∷ turn (Some 0) ask_line ∷ turn (Some 0) (codes "bye") ∷ []
 
-asked_at : IsAskedAt (house_of three_rows) 0 (owner_of three_rows) three_turns 1 size_people
+asked_at : IsAskedAt (house_of three_rows) 0 (the_owner three_rows) three_turns 1 size_people
 unfolding meant_by request_of
-asked_at = record { turn = turn (Some 0) ask_line; query = a_query; stands = refl; written = (codes "census", 1000000, refl); comes_to = refl; asks = refl }
+asked_at = record { turn = turn (Some 0) ask_line; query = a_query; stands = refl; written = (codes "clinic", 1000000, refl); comes_to = refl; asks = refl }
 
-asked_once : AreAskedBy (house_of three_rows) 0 (owner_of three_rows) three_turns (sources 1)
+asked_once : AreAskedBy (house_of three_rows) 0 (the_owner three_rows) three_turns (sources 1)
 asked_once = record { each_has = refl; once = λ m n below within same. absurd (omega arith); asked = λ n place program placed programmed. one n place program placed programmed }
   where
-    one : (n place : ℕ) (program : List ℕ) → slice_get (1 ∷ []) n ≡ Some place → slice_get (size_people ∷ []) n ≡ Some program → IsAskedAt (house_of three_rows) 0 (owner_of three_rows) three_turns place program
+    one : (n place : ℕ) (program : List ℕ) → slice_get (1 ∷ []) n ≡ Some place → slice_get (size_people ∷ []) n ≡ Some program → IsAskedAt (house_of three_rows) 0 (the_owner three_rows) three_turns place program
     one zero place program placed programmed =
         let there : 1 ≡ place = cc (placed) in
         let same : size_people ≡ program = cc (programmed) in
-        subst (λ (k : ℕ). IsAskedAt (house_of three_rows) 0 (owner_of three_rows) three_turns k program) there
-        (subst (λ (x : List ℕ). IsAskedAt (house_of three_rows) 0 (owner_of three_rows) three_turns 1 x) same asked_at)
+        subst (λ (k : ℕ). IsAskedAt (house_of three_rows) 0 (the_owner three_rows) three_turns k program) there
+        (subst (λ (x : List ℕ). IsAskedAt (house_of three_rows) 0 (the_owner three_rows) three_turns 1 x) same asked_at)
     one (suc n) place program placed programmed = absurd (cc (placed))
 
 -- .. not by one past the end, not twice, and not with another program
-not_asked_past : IsAskedAt (house_of three_rows) 0 (owner_of three_rows) three_turns 3 size_people → ⊥
+not_asked_past : IsAskedAt (house_of three_rows) 0 (the_owner three_rows) three_turns 3 size_people → ⊥
 not_asked_past h = cc (h.stands)
 
-not_asked_twice : AreAskedBy (house_of three_rows) 0 (owner_of three_rows) three_turns (record { programs = size_people ∷ size_people ∷ []; places = 1 ∷ 1 ∷ [] }) → ⊥
+not_asked_twice : AreAskedBy (house_of three_rows) 0 (the_owner three_rows) three_turns (record { programs = size_people ∷ size_people ∷ []; places = 1 ∷ 1 ∷ [] }) → ⊥
 not_asked_twice h = h.once 0 1 (omega arith) (omega arith) refl
 
 -- the reply at the turn's place speaks of the reservation; the greeting doesn't, and a later number isn't spoken of

@@ -7,9 +7,12 @@ pub mod Headlines
 pub mod Once
 pub mod Plain
 pub mod Exists
-pub mod Rows
+pub mod Signed
+pub mod Owners
 pub mod Names
 pub mod Turning
 pub mod Short
 pub mod Serving
+pub mod Others
 pub mod Examples
+pub mod ExamplesOfOwners

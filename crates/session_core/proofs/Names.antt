@@ -1,32 +1,62 @@
--- the place of a name
-use Rattle.std.proofs.Common.{◌≡◌, ℕ, ◌+◌, Bool, true, false, cond, List, [], ◌∷◌, map, Some, refl, sym, ◌∙◌, length, ◌<◌, bytes_eq, get_or, subst}
-use Rattle.std.proofs.lemmas.Iterator.Adapters.{position_from-zero}
-use Rattle.std.specs.List.{position, position_from, All}
-use Rattle.std.specs.Prelude.{IsTrue}
+-- names of a catalog can be said in a reply, and the place of one
+use Rattle.std.proofs.Common.{◌≡◌, ℕ, Bool, true, false, List, [], ◌∷◌, Option, Some, None, length, ◌<◌, ◌==◌, bytes_eq, get_or, refl, sym, subst, eqb-true}
+use Rattle.std.specs.Prelude.{IfSome, IsTrue, not, ◌&&◌, nat_le}
+use Rattle.std.specs.List.{position, list_all, All}
+use Rattle.std.proofs.lemmas.Bool.{and_parts, and_from}
 use Rattle.std.proofs.lemmas.List.Quantifiers.{position-Some}
+use Rattle.fz_lexer.specs.Bytes.{begins, every_byte, is_letter, is_digit, is_name_byte}
+use Rattle.wire_lines.specs.Lines.{lf, space}
 use Rattle.wire_lines.specs.Name.{is_name}
+use Rattle.owner_catalog.specs.Forms.{is_name as is_catalog_name}
+use Rattle.owner_catalog.specs.Lawful.{IsName}
 use Rattle.metric_values.proofs.Elements.{text_is}
 
-position_from-map : {X Y : Type 0} → (f : X → Y) (p : Y → Bool) (k : ℕ) (xs : List X) → position_from (λ x. p (f x)) k xs ≡ position_from p k (map f xs)
-position_from-map f p k [] = refl
-position_from-map f p k (x ∷ xs) = here (position_from-map f p (k + 1) xs) (p (f x))
+-- a byte of a name parts no words and no lines
+abbrev parts_nothing : ℕ → Bool
+parts_nothing b = not (b == space) && not (b == lf)
+
+byte_said : (b : ℕ) → is_name_byte b ≡ true → parts_nothing b ≡ true
+unfolding is_name_byte is_letter is_digit
+byte_said b named = here (b == space) refl (b == lf) refl
   where
-    here : position_from (λ x. p (f x)) (k + 1) xs ≡ position_from p (k + 1) (map f xs) → (b : Bool) → cond b (Some k) (position_from (λ x. p (f x)) (k + 1) xs) ≡ cond b (Some k) (position_from p (k + 1) (map f xs))
-    here ih true = refl
-    here ih false = ih
+    of_space : is_name_byte space ≡ true → ⊥
+    of_space h = cc (h)
 
-pub position-map : {X Y : Type 0} → (f : X → Y) (p : Y → Bool) (xs : List X) → position (λ x. p (f x)) xs ≡ position p (map f xs)
-position-map f p xs = position_from-zero (λ x. p (f x)) xs ∙ position_from-map f p 0 xs ∙ sym (position_from-zero p (map f xs))
+    of_lf : is_name_byte lf ≡ true → ⊥
+    of_lf h = cc (h)
 
-abbrev pub AllNames : List (List ℕ) → Type 0
-AllNames names = All (λ name. IsTrue (is_name name)) names
+    here : (s : Bool) → (b == space) ≡ s → (l : Bool) → (b == lf) ≡ l → (not s && not l) ≡ true
+    here true is l other = absurd (of_space (subst (λ (k : ℕ). is_name_byte k ≡ true) (eqb-true b space is) named))
+    here false other true is = absurd (of_lf (subst (λ (k : ℕ). is_name_byte k ≡ true) (eqb-true b lf is) named))
+    here false other false another = refl
 
-pub found_within : (names : List (List ℕ)) (name : List ℕ) (place : ℕ) → position (λ other. bytes_eq other name) names ≡ Some place → place < length names
-found_within names name place at = (position-Some (λ other. bytes_eq other name) names place [] at).0
+bytes_said : (text : List ℕ) → every_byte is_name_byte text ≡ true → list_all parts_nothing text ≡ true
+bytes_said [] named = refl
+bytes_said (b ∷ text) named =
+    let parts = and_parts (is_name_byte b) (every_byte is_name_byte text) named in
+    and_from (parts_nothing b) (list_all parts_nothing text) (byte_said b parts.0) (bytes_said text parts.1)
+
+-- A catalog's name can be said in a reply.
+pub sayable : (text : List ℕ) → is_catalog_name text ≡ true → IsTrue (is_name text)
+unfolding is_catalog_name
+sayable text named =
+    let begun : Bool = begins is_letter text in
+    let every : Bool = every_byte is_name_byte text in
+    let few : Bool = nat_le (length text) 32 in
+    let parts = and_parts (begun && every) few named in
+    let rest = and_parts begun every parts.0 in
+    and_from few (list_all parts_nothing text) parts.1 (bytes_said text rest.1)
+
+pub found_within : (names : List (List ℕ)) (name : List ℕ) (place : ℕ) → position (λ other. bytes_eq name other) names ≡ Some place → place < length names
+found_within names name place at = (position-Some (λ other. bytes_eq name other) names place [] at).0
 
 -- a name that is found is one of them
-pub found_passes : (names : List (List ℕ)) (name : List ℕ) (place : ℕ) → AllNames names → position (λ other. bytes_eq other name) names ≡ Some place → IsTrue (is_name name)
+pub found_passes : (names : List (List ℕ)) (name : List ℕ) (place : ℕ) → All IsName names → position (λ other. bytes_eq name other) names ≡ Some place → IsTrue (is_name name)
 found_passes names name place all at =
-    let found = position-Some (λ other. bytes_eq other name) names place [] at in
-    let same : get_or names place [] ≡ name = text_is (get_or names place []) name found.1 in
-    subst (λ (bytes : List ℕ). IsTrue (is_name bytes)) same (all place [] found.0)
+    let found = position-Some (λ other. bytes_eq name other) names place [] at in
+    let same : name ≡ get_or names place [] = text_is name (get_or names place []) found.1 in
+    subst (λ (bytes : List ℕ). IsTrue (is_name bytes)) (sym same) (sayable (get_or names place []) (all place [] found.0))
+
+pub found_said : (names : List (List ℕ)) (name : List ℕ) (found : Option ℕ) → All IsName names → found ≡ position (λ other. bytes_eq name other) names → IfSome found (λ place. IsTrue (is_name name))
+found_said names name None all is = tt
+found_said names name (Some place) all is = found_passes names name place all (sym is)

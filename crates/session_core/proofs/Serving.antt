@@ -1,7 +1,9 @@
 -- lines that are served one after another
-use Rattle.std.proofs.Common.{◌≡◌, ℕ, zero, suc, ◌+◌, ◌-◌, ◌^◌, ◌<◌, ◌≤◌, Bool, true, false, List, [], ◌∷◌, ◌++◌, length, map, slice_get, Option, Some, None, refl, sym, ◌∙◌, ap, subst, arith, append-nil, append_assoc, length-append}
-use Rattle.std.specs.Prelude.{if◌then◌else◌, min}
+use Rattle.std.proofs.Common.{◌≡◌, ℕ, ◌+◌, ◌-◌, ◌^◌, ◌<◌, ◌≤◌, ◌==◌, Bool, true, false, List, [], ◌∷◌, ◌++◌, length, get_or, map, set, slice_get, Option, Some, None, refl, sym, ◌∙◌, ap, subst, arith, append-nil, append_assoc, length-append}
+use Rattle.std.proofs.Common.{eq-eqb, eqb-true, length-set, get_or-set_same, get_or-set_other}
+use Rattle.std.specs.Prelude.{if◌then◌else◌, min, MatchBool}
 use Rattle.std.proofs.lemmas.List.Sums.{sum_by-cons}
+use Rattle.std.proofs.lemmas.Option.{get_or_from_slice_get, slice_get-get_or}
 use Rattle.std.specs.List.{flat_map}
 use Rattle.std.proofs.lemmas.List.{map-append}
 use Rattle.std.proofs.lemmas.List.Concat.{flat_map-append}
@@ -17,13 +19,13 @@ use Rattle.answer_path.specs.Verdict.{program_refused, money_refused, granted}
 use Rattle.answer_path.specs.Answered.{granted_record, Told, IsAsked}
 use Rattle.answer_path.specs.Pass.{Pass, first_of_run, records_told}
 use Rattle.answer_path.proofs.Alone.{alone_is_answered}
-use Rattle.session_core.specs.House.{Register, House, house_of, owner_of}
-use Rattle.session_core.specs.Meant.{asks, Meant, says, wants}
+use Rattle.session_core.specs.House.{House}
+use Rattle.session_core.specs.Meant.{Demand, asks, Meant, says, wants}
 use Rattle.session_core.specs.Turns.{Turn, meant_at, turns_of}
-use Rattle.session_core.specs.Exchanges.{Exchange, IsPlain, TurnLeads, is_of, told_of}
+use Rattle.session_core.specs.Exchanges.{Exchange, IsPlain, TurnLeads, Lead, is_of, told_of}
 use Rattle.session_core.specs.Transcript.{placed_from, MeetsExactly, LeadExactly, IsScriptWritten}
 use Rattle.session_core.specs.Served.{MeetsOnSome, AnswersOn}
-use Rattle.session_core.specs.Code.{turns_left, who_behind, pass_at, seen_by, found_by, ArePasses, GoesOn, AreServed, AreAlone, AreFresh, HasServed, room_for_line, room_for_lines}
+use Rattle.session_core.specs.Code.{turns_left, who_behind, no_pass, pass_at, seen_by, found_by, ArePasses, GoesOn, AreServed, AreAlone, AreFresh, HasServed, room_for_line, room_for_lines}
 use Rattle.session_core.proofs.Exchanges.{all_append, lead_append}
 use Rattle.session_core.proofs.Turning.{turns_first, turns_next}
 
@@ -38,6 +40,13 @@ room_taken room taken is small = omega (arith, is, small)
 -- passes that served lines are still those of the house
 pub passes_kept : (house : House) (draws : ℕ → ℕ → ℕ → ℕ) (xs : List Exchange) (before after : List Pass) → AreServed house draws xs before after → ArePasses house before → ArePasses house after
 passes_kept house draws xs before after served of = record { each_has = served.each_has ∙ of.each_has; entries = λ o owner at. (served.owners o owner at).entry ∙ of.entries o owner at }
+
+-- there is a pass of each owner
+pub pass_within : (house : House) (passes : List Pass) (o : ℕ) → length passes ≡ length house.owners → o < length house.owners → o < length passes
+pass_within house passes o each within = omega (arith, each, within)
+
+pub pass_there : (passes : List Pass) (o : ℕ) (pass : Pass) → o < length passes → pass ≡ get_or passes o pass → pass ≡ pass_at passes o
+pass_there passes o pass within is = is ∙ get_or_from_slice_get passes o (get_or passes o no_pass) pass (slice_get-get_or passes o no_pass within)
 
 -- where nothing came in between, what a line was told stands right behind what it saw
 told_placed : (owner : Owner) (draws : ℕ → ℕ → ℕ) (start : ℕ) (query : Query) (seen : List Record) (reply : Replied) (told : List Told) (after : List Record) → IsAsked owner draws start query seen reply told after
@@ -118,44 +127,98 @@ module _ (house : House) (draws : ℕ → ℕ → ℕ → ℕ) where
   alone_plain x reply next a is = λ o owner at.
       subst (λ (m : Meant). TurnLeads house o (MeetsExactly (draws o) (first_of_run (pass_at a o))) m (pass_at a o).seen x (λ after. (pass_at a o).seen ≡ after)) (sym is) refl
 
--- a line that asks the one owner
-module _ (register : Register) (draws : ℕ → ℕ → ℕ → ℕ) (x : Exchange) (query : Query) (p q : Pass) (is : meant_at (house_of register) x.turn ≡ wants 0 (owner_of register) (asks query)) where
-  told_asks : told_of (house_of register) 0 (x ∷ []) ≡ x.told
-  told_asks = ap (λ (m : Meant). (if is_of 0 m then x.told else []) ++ []) is ∙ append-nil x.told
+-- a line that asks an owner, whose pass goes on
+module _ (house : House) (draws : ℕ → ℕ → ℕ → ℕ) (x : Exchange) (query : Query) (n : ℕ) (owner : Owner) (before : List Pass) (p q : Pass)
+    (is : meant_at house x.turn ≡ wants n owner (asks query)) (within : n < length before) (old : p ≡ pass_at before n) where
+  same_number : (n == n) ≡ true
+  same_number = eq-eqb n n refl
 
-  pub served_asks : IsAsked (owner_of register) (draws 0) (first_of_run p) query p.seen x.reply x.told q.seen → q.own ≡ p.own ++ x.told → q.entry ≡ p.entry → q.found ≡ p.found
-      → AreServed (house_of register) draws (x ∷ []) (p ∷ []) (q ∷ [])
+  told_asks : told_of house n (x ∷ []) ≡ x.told
+  told_asks = ap (λ (m : Meant). (if is_of n m then x.told else []) ++ []) is ∙ ap (λ (b : Bool). (if b then x.told else []) ++ []) same_number ∙ append-nil x.told
+
+  told_others : (o : ℕ) → (n == o) ≡ false → told_of house o (x ∷ []) ≡ []
+  told_others o other = ap (λ (m : Meant). (if is_of o m then x.told else []) ++ []) is ∙ ap (λ (b : Bool). (if b then x.told else []) ++ []) other
+
+  -- what the turn leads to, of the owner that it asks and of another
+  leads_asked : (M : Owner → Demand → List Record → Exchange → List Record → Type 0) (seen last : List Record) → ((after : List Record) × M owner (asks query) seen x after × (last ≡ after)) → Lead house n M seen (x ∷ []) last
+  leads_asked M seen last h =
+      subst (λ (m : Meant). TurnLeads house n M m seen x (λ after. last ≡ after)) (sym is)
+      (subst (λ (b : Bool). MatchBool b ((after : List Record) × M owner (asks query) seen x after × (last ≡ after)) (last ≡ seen)) (sym same_number) h)
+
+  asked_led : (M : Owner → Demand → List Record → Exchange → List Record → Type 0) (seen last : List Record) → Lead house n M seen (x ∷ []) last → (after : List Record) × M owner (asks query) seen x after × (last ≡ after)
+  asked_led M seen last h =
+      subst (λ (b : Bool). MatchBool b ((after : List Record) × M owner (asks query) seen x after × (last ≡ after)) (last ≡ seen)) same_number
+      (subst (λ (m : Meant). TurnLeads house n M m seen x (λ after. last ≡ after)) is h)
+
+  leads_others : (M : Owner → Demand → List Record → Exchange → List Record → Type 0) (o : ℕ) (seen : List Record) → (n == o) ≡ false → Lead house o M seen (x ∷ []) seen
+  leads_others M o seen other =
+      subst (λ (m : Meant). TurnLeads house o M m seen x (λ after. seen ≡ after)) (sym is)
+      (subst (λ (b : Bool). MatchBool b ((after : List Record) × M owner (asks query) seen x after × (seen ≡ after)) (seen ≡ seen)) (sym other) refl)
+
+  -- the passes afterwards: the one of the owner that is asked, and the others as they were
+  pass_asked : pass_at (set before n q) n ≡ q
+  pass_asked = get_or-set_same before n q no_pass within
+
+  pass_others : (o : ℕ) → (n == o) ≡ false → pass_at (set before n q) o ≡ pass_at before o
+  pass_others o other = get_or-set_other before n o q no_pass (λ same. absurd (cc (other, eq-eqb n o (sym same))))
+
+  -- Another owner's pass stays as it was.
+  goes_others : (o : ℕ) (a : Pass) → (n == o) ≡ false → GoesOn house draws o (x ∷ []) a a
+  goes_others o a other = record {
+    entry = refl;
+    found = refl;
+    own = sym (ap (λ ts. a.own ++ ts) (told_others o other) ∙ append-nil a.own);
+    answers = leads_others (MeetsOnSome (draws o) (first_of_run a)) o a.seen other;
+  }
+
+  pub served_asks : IsAsked owner (draws n) (first_of_run p) query p.seen x.reply x.told q.seen → q.own ≡ p.own ++ x.told → q.entry ≡ p.entry → q.found ≡ p.found
+      → AreServed house draws (x ∷ []) before (set before n q)
   served_asks asked own entry found = record {
-    each_has = refl;
+    each_has = length-set before n q;
     plain = (subst (λ (m : Meant). IsPlain m x) (sym is) tt, tt);
-    owners = one;
+    owners = λ o other at. each o (n == o) refl;
   }
     where
-      one : (o : ℕ) (owner : Owner) → slice_get (owner_of register ∷ []) o ≡ Some owner → GoesOn (house_of register) draws o (x ∷ []) (pass_at (p ∷ []) o) (pass_at (q ∷ []) o)
-      one (suc o) owner at = absurd (cc (at))
-      one zero owner at = record {
+      goes_asked : GoesOn house draws n (x ∷ []) p q
+      goes_asked = record {
         entry = entry;
         found = found;
         own = own ∙ ap (λ ts. p.own ++ ts) (sym told_asks);
-        answers = subst (λ (m : Meant). TurnLeads (house_of register) 0 (MeetsOnSome (draws 0) (first_of_run p)) m p.seen x (λ after. q.seen ≡ after)) (sym is) (q.seen, asked, refl);
+        answers = leads_asked (MeetsOnSome (draws n) (first_of_run p)) p.seen q.seen (q.seen, asked, refl);
       }
 
-  pub alone_asks : AreServed (house_of register) draws (x ∷ []) (p ∷ []) (q ∷ []) → ((told : List Told) → q.own ≡ p.own ++ told → q.seen ≡ p.seen ++ records_told told)
-      → AreAlone (house_of register) draws (x ∷ []) (p ∷ []) (q ∷ [])
-  alone_asks served whole = one
-    where
-      goes : GoesOn (house_of register) draws 0 (x ∷ []) p q
-      goes = served.owners 0 (owner_of register) refl
+      each : (o : ℕ) (b : Bool) → (n == o) ≡ b → GoesOn house draws o (x ∷ []) (pass_at before o) (pass_at (set before n q) o)
+      each o true hit =
+          let same : n ≡ o = eqb-true n o hit in
+          subst (λ (k : ℕ). GoesOn house draws k (x ∷ []) (pass_at before k) (pass_at (set before n q) k)) same
+          (subst (λ (r : Pass). GoesOn house draws n (x ∷ []) r (pass_at (set before n q) n)) old
+          (subst (λ (r : Pass). GoesOn house draws n (x ∷ []) p r) (sym pass_asked) goes_asked))
+      each o false miss = subst (λ (r : Pass). GoesOn house draws o (x ∷ []) (pass_at before o) r) (sym (pass_others o miss)) (goes_others o (pass_at before o) miss)
 
-      one : (o : ℕ) (owner : Owner) → slice_get (owner_of register ∷ []) o ≡ Some owner
-          → LeadExactly (house_of register) draws o (first_of_run (pass_at (p ∷ []) o)) (pass_at (p ∷ []) o).seen (x ∷ []) (pass_at (q ∷ []) o).seen
-      one (suc o) owner at = absurd (cc (at))
-      one zero owner at =
-          let hit : (after : List Record) × MeetsOnSome (draws 0) (first_of_run p) (owner_of register) (asks query) p.seen x after × (q.seen ≡ after)
-          = subst (λ (m : Meant). TurnLeads (house_of register) 0 (MeetsOnSome (draws 0) (first_of_run p)) m p.seen x (λ after. q.seen ≡ after)) is goes.answers in
+  pub alone_asks : slice_get house.owners n ≡ Some owner → AreServed house draws (x ∷ []) before (set before n q)
+      → ((told : List Told) → q.own ≡ p.own ++ told → q.seen ≡ p.seen ++ records_told told) → AreAlone house draws (x ∷ []) before (set before n q)
+  alone_asks stands served whole = λ o other at. each o (n == o) refl
+    where
+      goes : GoesOn house draws n (x ∷ []) p q
+      goes =
+          subst (λ (r : Pass). GoesOn house draws n (x ∷ []) p r) pass_asked
+          (subst (λ (r : Pass). GoesOn house draws n (x ∷ []) r (pass_at (set before n q) n)) (sym old) (served.owners n owner stands))
+
+      leads : LeadExactly house draws n (first_of_run p) p.seen (x ∷ []) q.seen
+      leads =
+          let hit = asked_led (MeetsOnSome (draws n) (first_of_run p)) p.seen q.seen goes.answers in
           let ends : hit.0 ≡ p.seen ++ records_told x.told = sym hit.2 ∙ whole x.told (goes.own ∙ ap (λ ts. p.own ++ ts) told_asks) in
-          subst (λ (m : Meant). TurnLeads (house_of register) 0 (MeetsExactly (draws 0) (first_of_run p)) m p.seen x (λ after. q.seen ≡ after)) (sym is)
-          (hit.0, met_alone (draws 0) (first_of_run p) (owner_of register) query p.seen x hit.0 hit.1 ends, hit.2)
+          leads_asked (MeetsExactly (draws n) (first_of_run p)) p.seen q.seen (hit.0, met_alone (draws n) (first_of_run p) owner query p.seen x hit.0 hit.1 ends, hit.2)
+
+      each : (o : ℕ) (b : Bool) → (n == o) ≡ b → LeadExactly house draws o (first_of_run (pass_at before o)) (pass_at before o).seen (x ∷ []) (pass_at (set before n q) o).seen
+      each o true hit =
+          let same : n ≡ o = eqb-true n o hit in
+          subst (λ (k : ℕ). LeadExactly house draws k (first_of_run (pass_at before k)) (pass_at before k).seen (x ∷ []) (pass_at (set before n q) k).seen) same
+          (subst (λ (r : Pass). LeadExactly house draws n (first_of_run r) r.seen (x ∷ []) (pass_at (set before n q) n).seen) old
+          (subst (λ (r : Pass). LeadExactly house draws n (first_of_run p) p.seen (x ∷ []) r.seen) (sym pass_asked) leads))
+      each o false miss =
+          subst (λ (r : Pass). LeadExactly house draws o (first_of_run (pass_at before o)) (pass_at before o).seen (x ∷ []) r.seen) (sym (pass_others o miss))
+          (leads_others (MeetsExactly (draws o) (first_of_run (pass_at before o))) o (pass_at before o).seen miss)
 
 -- a script that is answered up to a line
 pub record IsUpTo (house : House) (draws : ℕ → ℕ → ℕ → ℕ) (script : List ℕ) (who : Option ℕ) (lines : List (List ℕ)) (out : List ℕ) (before now : List Pass) : Type 0 where

@@ -1,7 +1,7 @@
 -- the turns of a script: whose lines they are, and who may speak
-use Rattle.std.proofs.Common.{◌≡◌, ℕ, ◌<◌, Bool, true, false, cond, List, [], ◌∷◌, ◌++◌, length, map, Option, Some, None, refl, ◌∙◌, ap, bytes_eq}
+use Rattle.std.proofs.Common.{◌≡◌, ℕ, Bool, true, false, cond, List, [], ◌∷◌, ◌++◌, map, Option, Some, None, refl, ◌∙◌, ap, bytes_eq}
 use Rattle.std.specs.List.{flat_map, onto_first, AllByRecursion}
-use Rattle.std.specs.Prelude.{Result, Ok, Err, ⊤}
+use Rattle.std.specs.Prelude.{Result, Ok, Err}
 use Rattle.std.proofs.lemmas.List.{map-append}
 use Rattle.std.proofs.lemmas.List.Quantifiers.{position-Some}
 use Rattle.wire_lines.specs.Lines.{lines_of}
@@ -11,6 +11,7 @@ use Rattle.answer_path.specs.Owner.{Owner}
 use Rattle.session_core.specs.House.{House, analyst_named, owner_named}
 use Rattle.session_core.specs.Meant.{meant_by, meant_by_request, meant_by_hello, meant_by_ask, next_who}
 use Rattle.session_core.specs.Turns.{Turn, session_turns, blocks_of, turns_of, is_bye}
+use Rattle.session_core.specs.Code.{IsAnalyst}
 use Rattle.session_core.proofs.Exchanges.{all_append}
 
 -- the lines of a session's turns
@@ -45,44 +46,39 @@ blocks_lines house (block ∷ blocks) =
 pub turns_lines : (house : House) (script : List ℕ) → map (λ (t : Turn). t.line) (turns_of house script) ≡ lines_of script
 turns_lines house script = blocks_lines house (blocks_of (lines_of script)) ∙ block_lines (lines_of script)
 
--- who speaks is an analyst of the house
-abbrev pub IsKnown : House → Option ℕ → Type 0
-IsKnown house None = ⊤
-IsKnown house (Some analyst) = analyst < length house.analysts
-
-greeted_known : (house : House) (who : Option ℕ) (name : List ℕ) (found : Option ℕ) → analyst_named house name ≡ found → IsKnown house who
-    → IsKnown house (next_who who (meant_by_hello house who name found))
+greeted_known : (house : House) (who : Option ℕ) (name : List ℕ) (found : Option ℕ) → analyst_named house name ≡ found → IsAnalyst house who
+    → IsAnalyst house (next_who who (meant_by_hello house who name found))
 greeted_known house who name None at known = known
-greeted_known house who name (Some analyst) at known = (position-Some (λ a. bytes_eq a name) house.analysts analyst [] at).0
+greeted_known house who name (Some analyst) at known = (position-Some (λ a. bytes_eq name a) house.analysts analyst [] at).0
 
-ask_known : (house : House) (who : Option ℕ) (found : Option (ℕ × Owner)) (epsilon : Option ℕ) (program : List ℕ) → IsKnown house who
-    → IsKnown house (next_who who (meant_by_ask who found epsilon program))
+ask_known : (house : House) (who : Option ℕ) (found : Option (ℕ × Owner)) (epsilon : Option ℕ) (program : List ℕ) → IsAnalyst house who
+    → IsAnalyst house (next_who who (meant_by_ask who found epsilon program))
 ask_known house who None epsilon program known = known
 ask_known house who (Some found) None program known = known
 ask_known house None (Some found) (Some e) program known = known
 ask_known house (Some analyst) (Some found) (Some e) program known = known
 
-request_known : (house : House) (who : Option ℕ) (request : Result Asked LineRefusal) → IsKnown house who
-    → IsKnown house (next_who who (meant_by_request house who request))
+request_known : (house : House) (who : Option ℕ) (request : Result Asked LineRefusal) → IsAnalyst house who
+    → IsAnalyst house (next_who who (meant_by_request house who request))
 request_known house who (Err refusal) known = known
 request_known house who (Ok (hello name)) known = greeted_known house who name (analyst_named house name) refl known
 request_known house who (Ok (ask name epsilon program)) known = ask_known house who (owner_named house name) epsilon program known
 request_known house who (Ok bye) known = known
 
-pub next_known : (house : House) (who : Option ℕ) (line : List ℕ) → IsKnown house who → IsKnown house (next_who who (meant_by house who line))
+pub next_known : (house : House) (who : Option ℕ) (line : List ℕ) → IsAnalyst house who → IsAnalyst house (next_who who (meant_by house who line))
 unfolding meant_by
 next_known house who line known = request_known house who (request_of line) known
 
 abbrev pub AreKnown : House → List Turn → Type 0
-AreKnown house turns = AllByRecursion (λ (t : Turn). IsKnown house t.who) turns
+AreKnown house turns = AllByRecursion (λ (t : Turn). IsAnalyst house t.who) turns
 
-session_known : (house : House) (who : Option ℕ) (lines : List (List ℕ)) → IsKnown house who → AreKnown house (session_turns house who lines)
+session_known : (house : House) (who : Option ℕ) (lines : List (List ℕ)) → IsAnalyst house who → AreKnown house (session_turns house who lines)
 session_known house who [] known = tt
 session_known house who (line ∷ lines) known = (known, session_known house (next_who who (meant_by house who line)) lines (next_known house who line known))
 
 blocks_known : (house : House) (blocks : List (List (List ℕ))) → AreKnown house (flat_map (session_turns house None) blocks)
 blocks_known house [] = tt
-blocks_known house (block ∷ blocks) = all_append (λ (t : Turn). IsKnown house t.who) (session_turns house None block) (flat_map (session_turns house None) blocks) (session_known house None block tt) (blocks_known house blocks)
+blocks_known house (block ∷ blocks) = all_append (λ (t : Turn). IsAnalyst house t.who) (session_turns house None block) (flat_map (session_turns house None) blocks) (session_known house None block tt) (blocks_known house blocks)
 
 -- Who speaks is an analyst of the house, at each turn.
 pub turns_known : (house : House) (script : List ℕ) → AreKnown house (turns_of house script)

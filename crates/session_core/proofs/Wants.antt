@@ -10,7 +10,7 @@ use Rattle.answer_path.specs.Owner.{Owner}
 use Rattle.answer_path.specs.Query.{Query}
 use Rattle.session_core.specs.House.{House, analyst_named, owner_named, owner_from}
 use Rattle.session_core.specs.Meant.{Demand, asks, Meant, says, wants, meant_by, meant_by_request, meant_by_hello, meant_by_ask}
-use Rattle.session_core.proofs.Turns.{IsKnown}
+use Rattle.session_core.specs.Code.{IsAnalyst}
 
 -- A demand that a line makes is of one of the house's owners. It asks the whole view, by an analyst of the house, for the
 -- line's program.
@@ -27,21 +27,21 @@ AsksOnly house line (wants n owner (asks query)) = IsAskOf house line n owner qu
 
 found_from : (k : ℕ) (owners : List Owner) (name : List ℕ) (found : ℕ × Owner) → owner_from k owners name ≡ Some found → (i : ℕ) × (found.0 ≡ k + i) × (slice_get owners i ≡ Some found.1)
 found_from k [] name found is = absurd (cc (is))
-found_from k (owner ∷ owners) name found is = here (found_from (k + 1) owners name found) (bytes_eq owner.name name) is
+found_from k (owner ∷ owners) name found is = here (found_from (k + 1) owners name found) (bytes_eq name owner.name) is
   where
     here : (owner_from (k + 1) owners name ≡ Some found → (i : ℕ) × (found.0 ≡ (k + 1) + i) × (slice_get owners i ≡ Some found.1))
         → (b : Bool) → cond b (Some (k, owner)) (owner_from (k + 1) owners name) ≡ Some found → (i : ℕ) × (found.0 ≡ k + i) × (slice_get (owner ∷ owners) i ≡ Some found.1)
     here more true is = let first : k ≡ found.0 = cc in let same : owner ≡ found.1 = cc in (0, omega (arith, first), ap (λ (w : Owner). Some w) same)
     here more false is = let rest = more is in (suc rest.0, omega (arith, rest.1), rest.2)
 
-owner_stands : (house : House) (name : List ℕ) (found : ℕ × Owner) → owner_named house name ≡ Some found → slice_get house.owners found.0 ≡ Some found.1
+pub owner_stands : (house : House) (name : List ℕ) (found : ℕ × Owner) → owner_named house name ≡ Some found → slice_get house.owners found.0 ≡ Some found.1
 owner_stands house name found is =
     let f = found_from 0 house.owners name found is in
     let same : f.0 ≡ found.0 = omega (arith, f.1) in
     ap (λ k. slice_get house.owners k) (sym same) ∙ f.2
 
 asked_only : (house : House) (line : List ℕ) (who : Option ℕ) (name : List ℕ) (found : Option (ℕ × Owner)) (epsilon : Option ℕ) (program : List ℕ)
-    → IsKnown house who → request_of line ≡ Ok (ask name epsilon program) → owner_named house name ≡ found
+    → IsAnalyst house who → request_of line ≡ Ok (ask name epsilon program) → owner_named house name ≡ found
     → AsksOnly house line (meant_by_ask who found epsilon program)
 asked_only house line who name None epsilon program known reads named = tt
 asked_only house line who name (Some found) None program known reads named = tt
@@ -53,13 +53,13 @@ hello_only : (house : House) (line : List ℕ) (who : Option ℕ) (name : List �
 hello_only house line who name None = tt
 hello_only house line who name (Some analyst) = tt
 
-request_only : (house : House) (line : List ℕ) (who : Option ℕ) (request : Result Asked LineRefusal) → IsKnown house who → request_of line ≡ request → AsksOnly house line (meant_by_request house who request)
+request_only : (house : House) (line : List ℕ) (who : Option ℕ) (request : Result Asked LineRefusal) → IsAnalyst house who → request_of line ≡ request → AsksOnly house line (meant_by_request house who request)
 request_only house line who (Err refusal) known reads = tt
 request_only house line who (Ok (hello name)) known reads = hello_only house line who name (analyst_named house name)
 request_only house line who (Ok (ask name epsilon program)) known reads = asked_only house line who name (owner_named house name) epsilon program known reads refl
 request_only house line who (Ok bye) known reads = tt
 
-pub asks_only : (house : House) (line : List ℕ) (who : Option ℕ) → IsKnown house who → AsksOnly house line (meant_by house who line)
+pub asks_only : (house : House) (line : List ℕ) (who : Option ℕ) → IsAnalyst house who → AsksOnly house line (meant_by house who line)
 unfolding meant_by
 asks_only house line who known = request_only house line who (request_of line) known refl
 

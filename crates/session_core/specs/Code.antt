@@ -1,13 +1,14 @@
 -- what the code's values mean
 use Rattle.std.specs.Prelude.{◌≡◌, ℕ, ◌<◌, ◌≤◌, nat_lt, List, [], ◌∷◌, length, ◌++◌, Option, Some, None, ⊤, Bool, true, false}
-use Rattle.std.specs.Prelude.{if◌then◌else◌, get_or, map, slice_get, sum_by}
+use Rattle.std.specs.Prelude.{if◌then◌else◌, get_or, map, option_map, slice_get, sum_by}
 use Rattle.std.specs.List.{flat_map}
+use Rattle.budget_core.specs.Entries.{Entry}
 use Rattle.wire_lines.specs.Reply.{Replied, greeted, answered, ended, refused, replied, reply_text}
 use Rattle.answer_path.specs.Owner.{Owner}
 use Rattle.answer_path.specs.Answered.{Told}
 use Rattle.answer_path.specs.Pass.{Pass, first_of_run}
 use Rattle.answer_path.specs.Code.{query_of, IsQueryOf}
-use Rattle.session_core.specs.House.{Register, House, owner_of, entry_of}
+use Rattle.session_core.specs.House.{House}
 use Rattle.session_core.specs.Meant.{Meant, says, wants, asks, meant_by, next_who}
 use Rattle.session_core.specs.Turns.{Turn, session_turns, blocks_of, is_bye, turns_of}
 use Rattle.session_core.specs.Exchanges.{Exchange, ArePlain, told_of}
@@ -16,20 +17,34 @@ use Rattle.session_core.specs.Transcript.{Journals, LeadExactly}
 use Rattle.session_core.specs.declared.line.Meaning.{Meaning}
 use Rattle.session_core.specs.declared.line.Meaning.TheVariants.{Says, Asks}
 
--- what a line comes to, in a house of one owner
-abbrev pub meaning_of : Register → Meaning → Meant
-meaning_of register (Says reply who) = says (replied reply) who
-meaning_of register (Asks query) = wants 0 (owner_of register) (asks (query_of query))
+abbrev pub no_entry : Entry
+no_entry = record { budget = 0; capacity = 0; analysts = 0; keys = [] }
+
+abbrev pub no_owner : Owner
+no_owner = record { name = []; entry = no_entry; tables = []; rows = [] }
+
+-- the owner of this number
+abbrev pub owner_at : House → ℕ → Owner
+owner_at house o = get_or house.owners o no_owner
+
+-- a number that was found, with its owner
+abbrev pub numbered : House → Option ℕ → Option (ℕ × Owner)
+numbered house found = option_map (λ o. (o, owner_at house o)) found
+
+-- what a line comes to, in a house
+abbrev pub meaning_of : House → Meaning → Meant
+meaning_of house (Says reply who) = says (replied reply) who
+meaning_of house (Asks query) = wants query.owner (owner_at house query.owner) (asks (query_of query))
 
 -- who speaks is an analyst of the house
-abbrev pub IsAnalyst : Register → Option ℕ → Type 0
-IsAnalyst register None = ⊤
-IsAnalyst register (Some analyst) = analyst < length register.analysts
+abbrev pub IsAnalyst : House → Option ℕ → Type 0
+IsAnalyst house None = ⊤
+IsAnalyst house (Some analyst) = analyst < length house.analysts
 
--- a query is of the owner's entry, and of the house's one owner
-abbrev pub IsMeaningIn : Register → Meaning → Type 0
-IsMeaningIn register (Says reply who) = IsAnalyst register who
-IsMeaningIn register (Asks query) = (query.owner ≡ 0) × IsQueryOf (entry_of register) (query_of query)
+-- a query is of one of the house's owners, and of that owner's entry
+abbrev pub IsMeaningIn : House → Meaning → Type 0
+IsMeaningIn house (Says reply who) = IsAnalyst house who
+IsMeaningIn house (Asks query) = (query.owner < length house.owners) × IsQueryOf (owner_at house query.owner).entry (query_of query)
 
 -- as short a reply as any line may have, and no query
 abbrev pub IsShort : Meaning → Type 0
@@ -59,7 +74,7 @@ abbrev pub one_line : (who : Option ℕ) → (line : List ℕ) → Replied → L
 one_line who line reply told = record { turn = record { who = who; line = line }; reply = reply; told = told } ∷ []
 
 abbrev pub no_pass : Pass
-no_pass = record { entry = record { budget = 0; capacity = 0; analysts = 0; keys = [] }; found = []; seen = []; own = [] }
+no_pass = record { entry = no_entry; found = []; seen = []; own = [] }
 
 -- the pass of the owner of this number, among one pass for each owner
 abbrev pub pass_at : List Pass → ℕ → Pass

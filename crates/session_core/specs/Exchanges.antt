@@ -28,6 +28,10 @@ abbrev pub is_of : ℕ → Meant → Bool
 is_of o (says reply next) = false
 is_of o (wants n owner demand) = n == o
 
+-- none of these turns asks the owner of this number
+abbrev pub AskOthers : House → ℕ → List Exchange → Type 0
+AskOthers house o xs = AllByRecursion (λ x. is_of o (meant_at house x.turn) ≡ false) xs
+
 -- all that these turns added to this owner's records
 abbrev pub told_of : House → ℕ → List Exchange → List Told
 told_of house o xs = flat_map (λ x. if is_of o (meant_at house x.turn) then x.told else []) xs

@@ -4,7 +4,10 @@ ghost use Rattle.std.specs.Prelude.{ℕ, List, ◌≡◌, slice_get, Some};
 ghost use Rattle.std.specs.List.{AllByRecursion};
 ghost use Rattle.wire_lines.specs.Reply.{Replied};
 ghost use Rattle.answer_path.specs.Owner.{Owner};
+ghost use Rattle.answer_path.specs.Pass.{Pass};
 ghost use Rattle.session_core.specs.House.{Register, IsRegister, House, AreOwners, house_of};
+ghost use Rattle.session_core.specs.Exchanges.{Exchange, AskOthers};
+ghost use Rattle.session_core.specs.Code.{AreServed, pass_at};
 ghost use Rattle.session_core.specs.Transcript.{Journals, IsScriptRun};
 ghost use Rattle.session_core.specs.Headline.{Programs, AreFound, AreOwed, Headline};
 ghost use Rattle.session_core.specs.Said.{HadMemory};
@@ -44,7 +47,15 @@ pub fn scripts_have_transcripts()
         (replies : List Replied) × (last : Journals) × IsScriptRun house draws found script replies last × AllByRecursion HadMemory replies }
 {}
 
-/// A register's owner has rows of its tables, and counts its analysts. (It is proved, and there is nothing to do.)
+/// Lines that ask other owners leave an owner's pass as it was: the records seen and added stay, so its budget and its numbers do.
+/// (It is proved, and there is nothing to do.)
+pub fn lines_leave_other_owners()
+    ensures { (house : House) (draws : ℕ → ℕ → ℕ → ℕ) (exchanges : List Exchange) (before after : List Pass) (o : ℕ) (owner : Owner) →
+        AreServed house draws exchanges before after → slice_get house.owners o ≡ Some owner →
+        AskOthers house o exchanges → pass_at after o ≡ pass_at before o }
+{}
+
+/// A register's owners have rows of their tables, and count its analysts. (It is proved, and there is nothing to do.)
 pub fn registers_are_houses()
     ensures { (register : Register) → IsRegister register → AreOwners (house_of register) }
 {}

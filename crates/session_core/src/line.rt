@@ -22,9 +22,9 @@ pub enum Meaning<'a> {
 
 /// What a line comes to, where this analyst speaks.
 pub fn read_line<'a>(house: &House, who: Option<u16>, line: &'a [u8]) -> Meaning<'a>
-    requires { IsAnalyst house.now who }
-    ensures meaning { meaning_of house.now result ≡ meant_by (house_of house.now) who line.now }
-    ensures proper { IsMeaningIn house.now result }
+    requires { IsAnalyst (house_of house.now) who }
+    ensures meaning { meaning_of (house_of house.now) result ≡ meant_by (house_of house.now) who line.now }
+    ensures proper { IsMeaningIn (house_of house.now) result }
     ensures short { length line.now < 6 → IsShort result }
 {
     match read_request(line) {
@@ -56,10 +56,10 @@ fn refuse<'a>(refusal: LineRefusal, who: Option<u16>) -> Meaning<'a>
 
 // A later hello replaces the analyst, and one with an unknown name doesn't.
 fn greet<'a>(house: &House, who: Option<u16>, name: &'a [u8]) -> Meaning<'a>
-    requires { IsAnalyst house.now who }
-    ensures meaning { meaning_of house.now result
+    requires { IsAnalyst (house_of house.now) who }
+    ensures meaning { meaning_of (house_of house.now) result
         ≡ meant_by_hello (house_of house.now) who name.now (analyst_named (house_of house.now) name.now) }
-    ensures proper { IsMeaningIn house.now result }
+    ensures proper { IsMeaningIn (house_of house.now) result }
 {
     match house.analyst(name) {
         None => refuse(LineRefusal::Unknown { word: 1 }, who),
@@ -80,20 +80,18 @@ fn read_ask<'a>(
     epsilon: Option<u32>,
     program: &'a [u8],
 ) -> Meaning<'a>
-    requires known { IsAnalyst house.now who }
+    requires known { IsAnalyst (house_of house.now) who }
     requires range { IfSome epsilon (λ e. IsEpsilon e) }
-    ensures meaning { meaning_of house.now result
+    ensures meaning { meaning_of (house_of house.now) result
         ≡ meant_by_ask who (owner_named (house_of house.now) owner.now) epsilon program.now }
-    ensures proper { IsMeaningIn house.now result }
+    ensures proper { IsMeaningIn (house_of house.now) result }
 {
-    if !house.is_owner(owner) {
-        return refuse(LineRefusal::Unknown { word: 1 }, who);
-    }
-    match (epsilon, who) {
-        (None, _) => refuse(LineRefusal::NoEpsilon, who),
-        (Some(_), None) => refuse(LineRefusal::NoHello, who),
-        (Some(epsilon), Some(analyst)) => Meaning::Asks(Query {
-            owner: 0,
+    match (house.owner(owner), epsilon, who) {
+        (None, _, _) => refuse(LineRefusal::Unknown { word: 1 }, who),
+        (Some(_), None, _) => refuse(LineRefusal::NoEpsilon, who),
+        (Some(_), Some(_), None) => refuse(LineRefusal::NoHello, who),
+        (Some(number), Some(epsilon), Some(analyst)) => Meaning::Asks(Query {
+            owner: number,
             analyst,
             view: View::Whole,
             epsilon,

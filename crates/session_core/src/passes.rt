@@ -1,30 +1,30 @@
 //! A pass for each owner.
 
-ghost use Rattle.std.specs.Prelude.{◌≡◌, [], ◌∷◌};
+ghost use Rattle.std.specs.Prelude.{◌≡◌};
 
 use answer_path::Pass;
 use std::marker::Model;
 
-/// One pass for each owner. There is one owner now.
+/// One worker's passes: one for each owner, in the order of the catalog.
 #[derive(Drop)]
 pub struct Passes {
-    pub(crate) pass: Pass,
+    pub(crate) each: Vec<Pass>,
 }
 
 impl Model for Passes {
-    ghost use Rattle.std.specs.Prelude.{List, [], ◌∷◌};
+    ghost use Rattle.std.specs.Prelude.{List};
     ghost use Rattle.answer_path.specs.Pass.{Pass as Seen};
 
     ghost Value = { List Seen };
 
-    ghost view = { λ p. p.pass ∷ [] };
+    ghost view = { λ p. p.each.items };
 }
 
 impl Passes {
-    /// The pass of a house's one owner.
-    pub fn new(pass: Pass) -> Passes
-        ensures { result ≡ pass ∷ [] }
+    /// The passes of a house's owners.
+    pub fn new(passes: Vec<Pass>) -> Passes
+        ensures { result ≡ passes.items }
     {
-        Passes { pass }
+        Passes { each: passes }
     }
 }

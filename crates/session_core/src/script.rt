@@ -90,7 +90,7 @@ fn answer_line<'a, S: Streams>(
     line: &'a [u8],
 ) -> Answer<'a>
     requires passes { ArePasses (house_of house.now) passes.old }
-    requires known { IsAnalyst house.now who }
+    requires known { IsAnalyst (house_of house.now) who }
     ensures served { (told : List Told) ×
         AreServed (house_of house.now) (S.given streams.now) (one_line who line.now (replied result.reply) told) passes.old passes.new }
     // No other line added records meanwhile.
@@ -98,7 +98,7 @@ fn answer_line<'a, S: Streams>(
         AreServed (house_of house.now) (S.given streams.now) (one_line who line.now (replied result.reply) told) passes.old passes.new →
         AreAlone (house_of house.now) (S.given streams.now) (one_line who line.now (replied result.reply) told) passes.old passes.new }
     ensures who { result.who ≡ who_behind (house_of house.now) who line.now }
-    ensures known { IsAnalyst house.now result.who }
+    ensures known { IsAnalyst (house_of house.now) result.who }
     ensures short { length line.now < 6 → length (reply_text (replied result.reply)) ≤ 8 }
 {
     match read_line(house, who, line) {
@@ -106,8 +106,8 @@ fn answer_line<'a, S: Streams>(
             reply: ask(
                 alloc,
                 desk,
-                &mut passes.pass,
-                house.dataset(),
+                &mut passes.each[query.owner as usize],
+                house.dataset(query.owner),
                 streams,
                 &query,
             ),

@@ -36,7 +36,7 @@ returns-in-Ok-Bye-clause-short c = λ few. ended_short
 pub returns-in-Err-clause-meaning : goal.returns-in-Err-clause-meaning
 returns-in-Err-clause-meaning c =
     let reads : request_of c.args.line.now ≡ Err c.in-Err.refusal = sym c.read_request.ensures.exact ∙ ap reading c.in-Err.is in
-    ap (meaning_of c.args.house.now) c.refuse.ensures ∙ meant_of (house_of c.args.house.now) c.args.who c.args.line.now (Err c.in-Err.refusal) reads
+    ap (meaning_of (house_of c.args.house.now)) c.refuse.ensures ∙ meant_of (house_of c.args.house.now) c.args.who c.args.line.now (Err c.in-Err.refusal) reads
 
 pub returns-in-Err-clause-short : goal.returns-in-Err-clause-short
 returns-in-Err-clause-short c = λ few. subst (λ (m : Meaning). IsShort m) (sym c.refuse.ensures) (refusal_short c.in-Err.refusal c.in-Err.ensures.form)

@@ -9,7 +9,7 @@ use Rattle.session_core.proofs.script.answer_script.Given as goal
 abbrev pub invariant-loop-line : goal.invariant-loop-line
 invariant-loop-line g l = record {
   passes : ArePasses (house_of l.house) l.passes;
-  known : IsAnalyst l.house l.who;
+  known : IsAnalyst (house_of l.house) l.who;
   room : length l.out.items + room_for_lines (lines_of l.rest) ≤ vec_capacity l.out;
   told : IsUpTo (house_of l.house) (g.S.Streams.given l.streams) l.fn.script l.who (lines_of l.rest) l.out.items l.fn.passes l.passes;
 }
