@@ -1,47 +1,69 @@
 -- what stops a command, and what it ends with
 use Rattle.std.proofs.Common.{◌≡◌, ℕ, ◌<◌, List, [], ◌++◌, length, Option, Some, None, refl, sym, ap, subst, ◌∙◌, arith, string_bytes, length-append, append-nil}
-use Rattle.std.specs.Prelude.{Result, Ok, Err, MatchResult, ℤ}
+use Rattle.std.specs.Prelude.{Result, Ok, Err, MatchResult, IsErrAnd}
 use Rattle.std.specs.Io.KnownBytes.{prepend_known, IsAtEnd}
 use mathlib.Core.Logic.{inl, inr}
-use Rattle.session_core.specs.House.{people_holding}
-use Rattle.query_server.specs.Ending.{Ending, refused, to_answer, to_check, to_compare}
-use Rattle.query_server.specs.Files.{IsLeft}
+use Rattle.session_core.specs.House.{Register}
+use Rattle.query_server.specs.Ending.{Ending, ended, to_answer}
+use Rattle.query_server.specs.Files.{Contents, IsLeft}
+use Rattle.query_server.specs.Steps.{Outcome, Step}
 use Rattle.query_server.specs.Run.{IsScriptDue, script_limit}
-use Rattle.query_server.specs.Due.{IsDue}
-use Rattle.query_server.specs.Status.{refused_text, usage_text}
-use Rattle.query_server.specs.Ends.{IsStopFor, IsStopAt, IsRefusalOf, IsFailing, IsEndOf, IsGapOn, IsVerdictOn, stop_status, run_status, run_text, program_status, program_text, end_by}
+use Rattle.query_server.specs.Due.{AreRead, ForContents, IsDue}
+use Rattle.query_server.specs.Status.{refused_text}
+use Rattle.query_server.specs.Ends.{IsEndOf, IsFailing, IsStepEnd, IsStopAt, end_by, run_status, run_text, stop_status}
 use Rattle.query_server.specs.Taken.{IsTaken}
 use Rattle.query_server.specs.declared.end.Status.TheVariants as code
 use Rattle.query_server.specs.declared.end.Stop.{Stop}
 use Rattle.query_server.specs.declared.end.Stop.TheVariants.{Usage, Refused, Fault, NoMemory}
-use Rattle.query_server.specs.declared.end.End.TheVariants.{Stopped, Run, Check, Gap}
+use Rattle.query_server.specs.declared.end.End.{End}
+use Rattle.query_server.specs.declared.end.End.TheVariants.{Stopped, Run}
 use Rattle.query_server.specs.declared.running.RunEnd.{RunEnd}
-use Rattle.query_server.specs.declared.programs.ProgramEnd.{ProgramEnd}
+use Rattle.query_server.proofs.Reached.{IsDone, IsStopped, any_reads}
+use Rattle.query_server.proofs.Contents.{any_left}
 
--- a name that is refused, with its cause
-pub stop_at : (name : List ℕ) (Cause : Type 0) (stop : Stop) → Cause → IsRefusalOf name stop → IsStopAt name Cause stop
-stop_at name Cause Usage cause is = absurd is
-stop_at name Cause (Refused other) cause is = (is, cause)
-stop_at name Cause Fault cause is = absurd is
-stop_at name Cause NoMemory cause is = tt
+-- What stops a command is due, and its files were read.
+stop_end : (o : Outcome Ending) (old new : List (List ℕ)) (script : List ℕ) (stop : Stop) → IsStopAt o old new stop → IsEndOf (ended o.given) script (Stopped stop) × AreRead (stop_status stop) o.names old new
+stop_end o old new script Usage is = absurd is
+stop_end o old new script (Refused name) (given, read) = (
+  inl (subst (λ (e : Ending). IsDue e script code.Refused (refused_text (string_bytes name))) (sym (ap ended given)) (refl, refl)),
+  record { names = o.names; is = read; some = ([], sym (append-nil o.names)); all = inr (inr refl) },
+)
+stop_end o old new script Fault (some, more, is, both) = (inr (inl refl), record { names = some; is = is; some = (more, both); all = inl refl })
+stop_end o old new script NoMemory (some, more, is, both) = (inr (inr refl), record { names = some; is = is; some = (more, both); all = inr (inl refl) })
 
--- the cause gives the ending
-pub stop_by : (ending : Ending) (name : List ℕ) (Cause : Type 0) (stop : Stop) → (Cause → ending ≡ refused name) → IsStopAt name Cause stop → IsStopFor ending stop
-stop_by ending name Cause Usage f is = absurd is
-stop_by ending name Cause (Refused other) f (same, cause) = f cause ∙ ap refused (sym same)
-stop_by ending name Cause Fault f is = tt
-stop_by ending name Cause NoMemory f is = tt
+pub stopped_end : (held : Option Contents) (left : Option (List ℕ)) (old new : List (List ℕ)) (steps : Step Ending) (stop : Stop) → IsStopped held old new steps stop → ForContents held left (IsStepEnd old new steps (Stopped stop))
+stopped_end held left old new steps stop is =
+    let some = any_reads held in
+    let one = is some.0 some.1 in
+    let script = any_left left in
+    (one.0, script.0, one.1, script.1, stop_end (steps one.0) old new script.0 stop one.2)
 
--- What stops a command is due, whatever the script is.
-pub stop_end : (ending : Ending) (script : List ℕ) (stop : Stop) → IsStopFor ending stop → IsEndOf ending script (Stopped stop)
-stop_end ending script Usage is = inl (subst (λ (e : Ending). IsDue e script code.Usage usage_text) (sym is) (refl, refl))
-stop_end ending script (Refused name) is = inl (subst (λ (e : Ending). IsDue e script code.Refused (refused_text (string_bytes name))) (sym is) (refl, refl))
-stop_end ending script Fault is = inr (inl refl)
-stop_end ending script NoMemory is = inr (inr refl)
+-- a stop that is passed on
+pub passed_end : {T : Type 0} (held : Option Contents) (left : Option (List ℕ)) (old new : List (List ℕ)) (steps : Step Ending) (make : T → End) (stop : Stop) (result : Result T Stop)
+    → IsStopped held old new steps stop → IsErrAnd result (λ e. e ≡ stop) → ForContents held left (IsStepEnd old new steps (end_by make result))
+passed_end held left old new steps make stop (Ok x) is wrong = absurd wrong
+passed_end held left old new steps make stop (Err other) is same = subst (λ (s : Stop). ForContents held left (IsStepEnd old new steps (Stopped s))) (sym same) (stopped_end held left old new steps stop is)
 
-pub failing_end : (ending : Ending) (script : List ℕ) (stop : Stop) → IsFailing stop → IsEndOf ending script (Stopped stop)
-failing_end ending script stop (inl is) = inr (inl (ap Stopped is))
-failing_end ending script stop (inr is) = inr (inr (ap Stopped is))
+-- What ends the work that the steps gave ends the command.
+pub done_end : (held : Option Contents) (left : Option (List ℕ)) (old new : List (List ℕ)) (steps : Step Ending) (ending : Ending) (script : List ℕ) (end : End) → IsDone held old new steps ending
+    → IsLeft left script → IsEndOf ending script end → ForContents held left (IsStepEnd old new steps end)
+done_end held left old new steps ending script end is told due =
+    let some = any_reads held in
+    let one = is some.0 some.1 in (
+      one.0,
+      script,
+      one.1,
+      told,
+      (
+        subst (λ (e : Ending). IsEndOf e script end) (sym (ap ended one.2.given)) due,
+        record { names = (steps one.0).names; is = one.2.names; some = ([], sym (append-nil (steps one.0).names)); all = inr (inr refl) },
+      ),
+    )
+
+-- Work that fails is no end of its own.
+pub failed_end : (held : Option Contents) (left : Option (List ℕ)) (old new : List (List ℕ)) (steps : Step Ending) (ending : Ending) (end : End) → IsDone held old new steps ending
+    → ((script : List ℕ) → IsEndOf ending script end) → ForContents held left (IsStepEnd old new steps end)
+failed_end held left old new steps ending end is due = let script = any_left left in done_end held left old new steps ending script.0 end is script.1 (due script.0)
 
 pub prepend_nothing : (left : Option (List ℕ)) → left ≡ prepend_known [] left
 prepend_nothing None = refl
@@ -66,25 +88,9 @@ left_too_long before None taken is long = (taken, subst (λ (left : Option (List
 left_too_long before (Some rest) taken is long =
     (taken ++ rest, subst (λ (left : Option (List ℕ)). IsLeft left (taken ++ rest)) (sym is) refl, omega (arith, long, length-append taken rest))
 
--- the end of a script that was to be answered
-pub script_end : (ending : Ending) (ages : List ℤ) (key script : List ℕ) (result : Result RunEnd Stop) → ending ≡ to_answer ages key
-    → MatchResult result (λ end. IsScriptDue ages key script (run_status end) (run_text end)) IsFailing → IsEndOf ending script (end_by Run result)
-script_end ending ages key script (Ok end) is due = inl (subst (λ (e : Ending). IsDue e script (run_status end) (run_text end)) (sym is) due)
-script_end ending ages key script (Err stop) is failing = failing_end ending script stop failing
-
--- and of a program that was to be checked
-pub program_end : (ending : Ending) (program script : List ℕ) (end : ProgramEnd) → ending ≡ to_check program → IsVerdictOn program end → IsEndOf ending script (Check end)
-program_end ending program script end is verdict = inl (subst (λ (e : Ending). IsDue e script (program_status end) (program_text end)) (sym is) verdict)
-
--- and of one that was to be compared
-pub gap_end : (ending : Ending) (ages second_ages : List ℤ) (program script : List ℕ) (end : ProgramEnd) → ending ≡ to_compare ages second_ages program
-    → IsGapOn (people_holding ages).rows (people_holding second_ages).rows program end → IsEndOf ending script (Gap end)
-gap_end ending ages second_ages program script end is due = inl (subst (λ (e : Ending). IsDue e script (program_status end) (program_text end)) (sym is) due)
-
--- a stop that is passed on
-pub passed_on : {T : Type 0} (r : Result T Stop) (x y : Stop) (P : T → Type 0) (Q : Stop → Type 0) → r ≡ Err x → x ≡ y → Q y → MatchResult r P Q
-passed_on r x y P Q e f h = rw (e, f) h
-
--- a `run` that is stopped
-pub passed_end : (ending : Ending) (script : List ℕ) (r : Result RunEnd Stop) (x y : Stop) → r ≡ Err x → x ≡ y → IsStopFor ending y → IsEndOf ending script (end_by Run r)
-passed_end ending script r x y e f h = rw (e, f) (stop_end ending script y h)
+-- A script that was to be answered ends so.
+pub script_end : (register : Register) (key script : List ℕ) (result : Result RunEnd Stop) → MatchResult result (λ end. IsScriptDue register key script (run_status end) (run_text end)) IsFailing
+    → IsEndOf (to_answer register key) script (end_by Run result)
+script_end register key script (Ok end) due = inl due
+script_end register key script (Err stop) (inl is) = inr (inl (ap Stopped is))
+script_end register key script (Err stop) (inr is) = inr (inr (ap Stopped is))

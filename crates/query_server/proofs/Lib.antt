@@ -1,9 +1,22 @@
 pub mod Prefixes
+pub mod Reached
+pub mod Pairs
+pub mod FileReads
+pub mod Places
+pub mod Owners
 pub mod Judged
 pub mod Bounded
+pub mod Told
+pub mod Loaded
+pub mod Holdings
 pub mod Endings
 pub mod Contents
 pub mod Ends
 pub mod Passes
 pub mod Outcomes
-mod Examples
+pub mod Taking
+pub mod Fits
+pub mod Compared
+pub mod Examples
+pub mod ExamplesOfFit
+pub mod ExamplesOfOrder

@@ -1,48 +1,69 @@
--- the one pass of the house's one owner
-use Rattle.std.proofs.Common.{◌≡◌, ℕ, zero, suc, List, [], ◌∷◌, slice_get, Some, refl, ◌∙◌, ap, subst, sym}
-use Rattle.std.specs.Prelude.{ℤ}
+-- a pass for each owner of a house, on which nothing was found or done
+use Rattle.std.proofs.Common.{◌≡◌, ℕ, ◌+◌, ◌<◌, ◌≤◌, Bool, true, false, List, [], ◌∷◌, ◌++◌, length, slice_get, Some, refl, sym, ◌∙◌, ap, subst, arith, length-append}
+use mathlib.Core.Logic.{◌⊎◌, inl, inr}
+use Rattle.std.specs.Prelude.{nat_lt}
+use Rattle.std.proofs.Math.Seq.{get_or-append_seam}
+use Rattle.std.proofs.lemmas.Option.{slice_get_within}
+use Rattle.std.proofs.lemmas.Bool.{ltb-false, ltb-true}
 use Rattle.answer_path.specs.Owner.{Owner}
 use Rattle.answer_path.specs.Pass.{Pass}
-use Rattle.session_core.specs.House.{Register, House, entry_of, house_of, owner_of}
-use Rattle.session_core.specs.Code.{ArePasses, AreFresh, found_by, pass_at}
+use Rattle.session_core.specs.House.{House, Register, house_of}
+use Rattle.session_core.specs.Code.{ArePasses, AreFresh, found_by, no_pass, pass_at}
 use Rattle.session_core.specs.Transcript.{Journals, IsScriptWritten, IsTranscript}
-use Rattle.query_server.specs.House.{census}
 use Rattle.query_server.specs.Run.{none_found}
+use Rattle.query_server.specs.Ends.{AreNew}
 use Rattle.query_server.proofs.Endings.{found_as}
+use Rattle.query_server.proofs.Places.{earlier, with_last}
 
-pub one_pass : (register : Register) (pass : Pass) → pass.entry ≡ entry_of register → ArePasses (house_of register) (pass ∷ [])
-one_pass register pass is = record { each_has = refl; entries = here }
+-- passes for the first owners of a house
+pub record AreFirst (house : House) (passes : List Pass) (n : ℕ) : Type 0 where
+  pub count : length passes ≡ n
+  pub entries : (o : ℕ) (owner : Owner) → o < n → slice_get house.owners o ≡ Some owner → (pass_at passes o).entry ≡ owner.entry
+  pub news : AreNew passes
+
+pub no_passes : (house : House) → AreFirst house [] 0
+no_passes house = record { count = refl; entries = λ o owner less at. absurd (omega (arith, less)); news = λ o. (refl, refl) }
+
+-- What holds of the pass at a place among these, and of one more where that is the last.
+at_place : (P : Pass → Type 0) (passes : List Pass) (pass : Pass) (o : ℕ) → P (pass_at passes o) → (o ≡ length passes → P pass) → P (pass_at (passes ++ pass ∷ []) o)
+at_place P passes pass o before last = here (with_last passes pass no_pass o)
   where
-    here : (o : ℕ) (owner : Owner) → slice_get (owner_of register ∷ []) o ≡ Some owner → (pass_at (pass ∷ []) o).entry ≡ owner.entry
-    here zero owner at = let same : owner_of register ≡ owner = cc in is ∙ ap (λ (w : Owner). w.entry) same
-    here (suc o) owner at = cc
+    here : (pass_at (passes ++ pass ∷ []) o ≡ pass_at passes o) ⊎ ((o ≡ length passes) × (pass_at (passes ++ pass ∷ []) o ≡ pass)) → P (pass_at (passes ++ pass ∷ []) o)
+    here (inl same) = subst P (sym same) before
+    here (inr (is, same)) = subst P (sym same) (last is)
 
-pub fresh_pass : (house : House) (pass : Pass) → pass.seen ≡ pass.found → AreFresh house (pass ∷ [])
-fresh_pass house pass is = here
+one_entry : (house : House) (passes : List Pass) (n : ℕ) (pass : Pass) → AreFirst house passes n → ((owner : Owner) → slice_get house.owners n ≡ Some owner → pass.entry ≡ owner.entry)
+    → (o : ℕ) (owner : Owner) → o < n + 1 → slice_get house.owners o ≡ Some owner → (pass_at (passes ++ pass ∷ []) o).entry ≡ owner.entry
+one_entry house passes n pass are entry o owner less at = here (nat_lt o n) refl
   where
-    here : (o : ℕ) (owner : Owner) → slice_get house.owners o ≡ Some owner → (pass_at (pass ∷ []) o).seen ≡ (pass_at (pass ∷ []) o).found
-    here zero owner at = is
-    here (suc o) owner at = refl
+    last : o ≡ n → (pass_at (passes ++ pass ∷ []) o).entry ≡ owner.entry
+    last is = ap (λ k. (pass_at (passes ++ pass ∷ []) k).entry) (is ∙ sym are.count) ∙ ap (λ (p : Pass). p.entry) (get_or-append_seam passes pass [] no_pass)
+        ∙ entry owner (subst (λ k. slice_get house.owners k ≡ Some owner) is at)
 
-pub found_nothing : (pass : Pass) → pass.found ≡ [] → (o : ℕ) → found_by (pass ∷ []) o ≡ none_found o
-found_nothing pass is zero = is
-found_nothing pass is (suc o) = refl
+    here : (b : Bool) → nat_lt o n ≡ b → (pass_at (passes ++ pass ∷ []) o).entry ≡ owner.entry
+    here true is =
+        let first : o < n = ltb-true o n is in
+        ap (λ (p : Pass). p.entry) (earlier passes pass no_pass o (omega (arith, first, are.count))) ∙ are.entries o owner first at
+    here false is = let past : n ≤ o = ltb-false o n is in last (omega (arith, past, less))
 
--- what is written by a pass that found nothing is a transcript in the house of these ages
-pub transcript_from : (register : Register) (ages : List ℤ) (given draws : ℕ → ℕ → ℕ → ℕ) (pass : Pass) (script text : List ℕ) (last : Journals)
-    → register ≡ census ages → given ≡ draws → pass.found ≡ []
-    → IsScriptWritten (house_of register) given (found_by (pass ∷ [])) script text last → IsTranscript (house_of (census ages)) draws none_found script text
-transcript_from register ages given draws pass script text last same drawn none written =
-    subst (λ (r : Register). IsTranscript (house_of r) draws none_found script text) same
-    (subst (λ (d : ℕ → ℕ → ℕ → ℕ). IsTranscript (house_of register) d none_found script text) drawn
-    (found_as (house_of register) given (found_by (pass ∷ [])) none_found script text last (found_nothing pass none) written))
+pub one_pass_more : (house : House) (passes : List Pass) (n : ℕ) (pass : Pass) → AreFirst house passes n → ((owner : Owner) → slice_get house.owners n ≡ Some owner → pass.entry ≡ owner.entry)
+    → pass.found ≡ [] → pass.seen ≡ [] → AreFirst house (passes ++ pass ∷ []) (n + 1)
+one_pass_more house passes n pass are entry found seen = record {
+  count = length-append passes (pass ∷ []) ∙ ap (λ k. k + 1) are.count;
+  entries = λ o owner less at. one_entry house passes n pass are entry o owner less at;
+  news = λ o. at_place (λ (p : Pass). (p.found ≡ []) × (p.seen ≡ [])) passes pass o (are.news o) (λ last. (found, seen));
+}
 
--- the same of the passes that a script is given
-pub answered_in : (register : Register) (ages : List ℤ) (given draws : ℕ → ℕ → ℕ → ℕ) (passes : List Pass) (pass : Pass) (script text : List ℕ) (last : Journals)
-    → register ≡ census ages → given ≡ draws → passes ≡ pass ∷ [] → pass.found ≡ [] → pass.seen ≡ pass.found
-    → (AreFresh (house_of register) passes → IsScriptWritten (house_of register) given (found_by passes) script text last)
-    → IsTranscript (house_of (census ages)) draws none_found script text
-answered_in register ages given draws passes pass script text last same drawn all none fresh written =
-    transcript_from register ages given draws pass script text last same drawn none
-    (subst (λ (ps : List Pass). IsScriptWritten (house_of register) given (found_by ps) script text last) all
-    (written (subst (λ (ps : List Pass). AreFresh (house_of register) ps) (sym all) (fresh_pass (house_of register) pass fresh))))
+-- passes for all owners
+pub are_all : (house : House) (passes : List Pass) (n : ℕ) → AreFirst house passes n → n ≡ length house.owners → ArePasses house passes
+are_all house passes n are is = record {
+  each_has = are.count ∙ is;
+  entries = λ o owner at. (let within : o < length house.owners = slice_get_within house.owners o owner at in are.entries o owner (omega (arith, within, is)) at);
+}
+
+-- What is written by new passes is a transcript.
+pub answered_in : (register : Register) (given draws : ℕ → ℕ → ℕ → ℕ) (passes : List Pass) (script text : List ℕ) (last : Journals) → given ≡ draws → AreNew passes
+    → (AreFresh (house_of register) passes → IsScriptWritten (house_of register) given (found_by passes) script text last) → IsTranscript (house_of register) draws none_found script text
+answered_in register given draws passes script text last drawn news written =
+    subst (λ (d : ℕ → ℕ → ℕ → ℕ). IsTranscript (house_of register) d none_found script text) drawn
+    (found_as (house_of register) given (found_by passes) none_found script text last (λ o. (news o).0) (written (λ o owner at. (news o).1 ∙ sym (news o).0)))

@@ -1,35 +1,39 @@
 -- what is due, and what is written
 use Rattle.std.specs.Prelude.{◌≡◌, ◌⊎◌, ℕ, List, ◌++◌, Option, Some, None, ⊤}
+use Rattle.fz_ast.specs.Signature.{Signature}
 use Rattle.command_words.specs.Command.{Command, run, check, gap, command_of}
-use Rattle.query_server.specs.Ending.{Ending, usage, refused, to_answer, to_check, to_compare}
-use Rattle.query_server.specs.Files.{readable, IsHeldFile, IsLeft}
-use Rattle.query_server.specs.Run.{run_ending, IsScriptDue}
-use Rattle.query_server.specs.Check.{check_ending, IsProgramDue}
-use Rattle.query_server.specs.Gap.{gap_ending, IsGapDue}
-use Rattle.session_core.specs.House.{people_holding}
+use Rattle.query_server.specs.Ending.{Ending, ended, usage, refused, to_answer, to_check, to_compare}
+use Rattle.query_server.specs.Files.{Contents, Reads, AreTold, IsLeft}
+use Rattle.query_server.specs.Steps.{Step, done}
+use Rattle.query_server.specs.Run.{run_steps, IsScriptDue}
+use Rattle.query_server.specs.Check.{check_steps, IsProgramDue}
+use Rattle.query_server.specs.Gap.{gap_steps, IsGapDue}
 use Rattle.query_server.specs.Status.{usage_text, refused_text, memory_text}
 use Rattle.query_server.specs.declared.end.Status.{Status}
 use Rattle.query_server.specs.declared.end.Status.TheVariants.{Usage, Refused, Fault, NoMemory}
 
-abbrev pub command_ending : Option Command → (held : List ℕ → Option (List ℕ)) → Ending
-command_ending None held = usage
-command_ending (Some (run catalog key workers)) held = run_ending catalog key (readable (held catalog)) (readable (held key))
-command_ending (Some (check catalog owner file)) held = check_ending catalog owner file (readable (held catalog)) (readable (held file))
-command_ending (Some (gap catalog owner second_catalog file)) held =
-    gap_ending catalog owner second_catalog file (readable (held catalog)) (readable (held second_catalog)) (readable (held file))
+-- The steps of a command: the words decide first.
+abbrev pub steps_of : Option Command → Step Ending
+steps_of None = done usage
+steps_of (Some (run catalog key workers)) = run_steps catalog key
+steps_of (Some (check catalog owner file)) = check_steps catalog owner file
+steps_of (Some (gap catalog owner second_catalog file)) = gap_steps catalog owner second_catalog file
 
--- What words come to over files that hold this, by each file's name: the words decide first.
-unfoldable pub ending_of : (words : List (List ℕ)) → (held : List ℕ → Option (List ℕ)) → Ending
-ending_of words held = command_ending (command_of words) held
+-- What words come to over what files hold when they are read.
+unfoldable pub ending_of : (words : List (List ℕ)) → Reads → Ending
+ending_of words reads = ended (steps_of (command_of words) reads).given
+
+-- the files that are read for it, in order: those that the words name, and those that the catalogs of these name
+unfoldable pub files_of : (words : List (List ℕ)) → Reads → List (List ℕ)
+files_of words reads = (steps_of (command_of words) reads).names
 
 -- Where nothing fails and memory suffices, this status and this text may be due.
 abbrev pub IsDue : Ending → (script : List ℕ) → (status : Status) → (text : List ℕ) → Type 0
 IsDue usage script status text = (status ≡ Usage) × (text ≡ usage_text)
 IsDue (refused name) script status text = (status ≡ Refused) × (text ≡ refused_text name)
-IsDue (to_answer ages key) script status text = IsScriptDue ages key script status text
-IsDue (to_check program) script status text = IsProgramDue program status text
-IsDue (to_compare ages second_ages program) script status text =
-    IsGapDue (people_holding ages).rows (people_holding second_ages).rows program status text
+IsDue (to_answer register key) script status text = IsScriptDue register key script status text
+IsDue (to_check tables program) script status text = IsProgramDue tables program status text
+IsDue (to_compare tables X Y program) script status text = IsGapDue tables X Y program status text
 
 -- something failed, or memory ran out, or else this holds
 abbrev pub IfFinished : Status → Type 0 → Type 0
@@ -57,21 +61,17 @@ IsFaultyWordsEnd status text SinkFailed =
     ⊎ ((status ≡ NoMemory) × (text ≡ memory_text))
     ⊎ ((status ≡ Fault) × (IsPrefix text usage_text ⊎ IsPrefix text memory_text) × SinkFailed)
 
--- It comes so at some contents of the files that the command names, and of the source: those that are told, where they are.
--- But for a `run` it comes so whatever the source holds.
-abbrev pub ForContents : Option Command → (held : Option (List ℕ → Option (List ℕ))) → (left : Option (List ℕ))
-    → (Comes : Ending → (script : List ℕ) → Type 0) → Type 0
-ForContents None held left Comes = (script : List ℕ) → Comes usage script
-ForContents (Some (run catalog key workers)) held left Comes = (table : Option (List ℕ)) × (given : Option (List ℕ)) × (script : List ℕ)
-    × IsHeldFile held catalog table × IsHeldFile held key given × IsLeft left script
-    × Comes (run_ending catalog key (readable table) (readable given)) script
-ForContents (Some (check catalog owner file)) held left Comes = (table : Option (List ℕ)) × (program : Option (List ℕ))
-    × IsHeldFile held catalog table × IsHeldFile held file program
-    × ((script : List ℕ) → Comes (check_ending catalog owner file (readable table) (readable program)) script)
-ForContents (Some (gap catalog owner second_catalog file)) held left Comes =
-    (table : Option (List ℕ)) × (second_table : Option (List ℕ)) × (program : Option (List ℕ))
-    × IsHeldFile held catalog table × IsHeldFile held second_catalog second_table × IsHeldFile held file program
-    × ((script : List ℕ) → Comes (gap_ending catalog owner second_catalog file (readable table) (readable second_table) (readable program)) script)
+-- The names of files that were read went on by some of these, in order: by all of them, unless something failed or memory ran
+-- out.
+pub record AreRead (status : Status) (files old new : List (List ℕ)) : Type 0 where
+  pub names : List (List ℕ)
+  pub is : new ≡ old ++ names
+  pub some : (rest : List (List ℕ)) × (files ≡ names ++ rest)
+  pub all : IfFinished status (names ≡ files)
+
+-- It comes so at some contents of the files, at each read, and of the source: those that are told, where they are.
+abbrev pub ForContents : (held : Option Contents) → (left : Option (List ℕ)) → (Comes : Reads → (script : List ℕ) → Type 0) → Type 0
+ForContents held left Comes = (reads : Reads) × (script : List ℕ) × AreTold held reads × IsLeft left script × Comes reads script
 
 abbrev pub IsOfRun : Option Command → Type 0
 IsOfRun None = ⊥
@@ -86,10 +86,10 @@ IsOfProgram (Some (run catalog key workers)) = ⊥
 IsOfProgram (Some (check catalog owner file)) = ⊤
 IsOfProgram (Some (gap catalog owner second_catalog file)) = ⊤
 
--- this program is to be checked or compared
-abbrev pub IsForProgram : (program : List ℕ) → Ending → Type 0
-IsForProgram program usage = ⊥
-IsForProgram program (refused name) = ⊥
-IsForProgram program (to_answer ages key) = ⊥
-IsForProgram program (to_check other) = other ≡ program
-IsForProgram program (to_compare ages second_ages other) = other ≡ program
+-- this program is to be checked or compared over these tables
+abbrev pub IsForProgram : (tables : Signature) → (program : List ℕ) → Ending → Type 0
+IsForProgram tables program usage = ⊥
+IsForProgram tables program (refused name) = ⊥
+IsForProgram tables program (to_answer register key) = ⊥
+IsForProgram tables program (to_check over other) = (over ≡ tables) × (other ≡ program)
+IsForProgram tables program (to_compare over X Y other) = (over ≡ tables) × (other ≡ program)

@@ -1,11 +1,18 @@
 -- what the code's ends mean
-use Rattle.std.specs.Prelude.{◌≡◌, ◌⊎◌, ℕ, List, [], Result, Ok, Err, ⊤, string_bytes}
+use Rattle.std.specs.Prelude.{◌≡◌, ◌⊎◌, ℕ, List, [], ◌++◌, Option, Some, MatchResult, Result, Ok, Err, ⊤, string_bytes, bytes_eq, position, length, ◌<◌}
+use Rattle.fz_ast.specs.Signature.{Signature}
 use Rattle.metric_values.specs.Tables.{Dataset}
+use Rattle.answer_path.specs.Pass.{Pass}
 use Rattle.query_server.specs.Check.{IsProgramDue}
 use Rattle.query_server.specs.Gap.{IsGapDue}
-use Rattle.query_server.specs.Ending.{Ending, usage, refused}
+use Rattle.session_core.specs.Code.{found_by, seen_by}
+use Rattle.query_server.specs.Files.{Contents, Reads, AreTold}
+use Rattle.owner_catalog.specs.Entries.{Catalog, owner_at}
+use Rattle.query_server.specs.Loaded.{entry_named}
+use Rattle.query_server.specs.Steps.{Outcome, Step}
+use Rattle.query_server.specs.Ending.{Ending, ended}
 use Rattle.query_server.specs.Status.{usage_text, refused_text, memory_text, too_long_text}
-use Rattle.query_server.specs.Due.{IsDue, IsPrefix}
+use Rattle.query_server.specs.Due.{AreRead, IsDue, IsPrefix}
 use Rattle.query_server.specs.declared.end.Status.{Status}
 use Rattle.query_server.specs.declared.end.Status.TheVariants as code
 use Rattle.query_server.specs.declared.end.Stop.{Stop}
@@ -63,23 +70,48 @@ abbrev pub end_by : {T : Type 0} → (T → End) → Result T Stop → End
 end_by end_of (Ok end) = end_of end
 end_by end_of (Err stop) = Stopped stop
 
--- what stops a command at this ending before its work is begun
-abbrev pub IsStopFor : Ending → Stop → Type 0
-IsStopFor ending Usage = ending ≡ usage
-IsStopFor ending (Refused name) = ending ≡ refused (string_bytes name)
-IsStopFor ending Fault = ⊤
-IsStopFor ending NoMemory = ⊤
+-- What a step that is done comes to: it gives this, and leaves these reads to come; the names read so far went on by its files.
+pub record IsGiven {A : Type 0} (o : Outcome A) (rest : Reads) (old new : List (List ℕ)) (a : A) : Type 0 where
+  pub given : o.given ≡ Ok a
+  pub rests : o.rest ≡ rest
+  pub names : new ≡ old ++ o.names
+
+-- some of its files were read
+abbrev pub AreBegun : {A : Type 0} → Outcome A → (old new : List (List ℕ)) → Type 0
+AreBegun o old new = (names : List (List ℕ)) × (rest : List (List ℕ)) × (new ≡ old ++ names) × (o.names ≡ names ++ rest)
+
+-- What stops a command at a step: the name that it refuses; or something failed, or memory ran out, when some of its files were read.
+abbrev pub IsStopAt : {A : Type 0} → Outcome A → (old new : List (List ℕ)) → Stop → Type 0
+IsStopAt o old new Usage = ⊥
+IsStopAt o old new (Refused name) = (o.given ≡ Err (string_bytes name)) × (new ≡ old ++ o.names)
+IsStopAt o old new Fault = AreBegun o old new
+IsStopAt o old new NoMemory = AreBegun o old new
+
+-- A step that was done or stopped: whatever is read after it, it comes to this at some reads, the ones that are told.
+abbrev pub IsStep : {A T : Type 0} → (held : Option Contents) → (old new : List (List ℕ)) → Step A → (T → A) → Result T Stop → Type 0
+IsStep held old new step value result = (rest : Reads) → AreTold held rest
+    → (reads : Reads) × AreTold held reads
+    × MatchResult result (λ x. IsGiven (step reads) rest old new (value x)) (IsStopAt (step reads) old new)
+
+-- The same of what is decided without a read.
+abbrev pub IsRefusedBy : {A : Type 0} → Result A (List ℕ) → Stop → Type 0
+IsRefusedBy given Usage = ⊥
+IsRefusedBy given (Refused name) = given ≡ Err (string_bytes name)
+IsRefusedBy given Fault = ⊥
+IsRefusedBy given NoMemory = ⊤
+
+abbrev pub IsDecided : {A T : Type 0} → Result A (List ℕ) → (T → A) → Result T Stop → Type 0
+IsDecided given value result = MatchResult result (λ x. given ≡ Ok (value x)) (IsRefusedBy given)
+
+-- the owner of this name has this number
+pub record IsOwnerAt (catalog : Catalog) (name : List ℕ) (o : ℕ) : Type 0 where
+  pub place : position (λ owner. bytes_eq name owner.name) catalog.owners ≡ Some o
+  pub within : o < length catalog.owners
+  pub is : entry_named catalog name ≡ Ok (owner_at catalog o)
 
 -- something failed, or memory ran out
 abbrev pub IsCut : End → Type 0
 IsCut end = (end ≡ Stopped Fault) ⊎ (end ≡ Stopped NoMemory)
-
--- This name is refused, for this cause; or something failed, or memory ran out.
-abbrev pub IsStopAt : (name : List ℕ) → (Cause : Type 0) → Stop → Type 0
-IsStopAt name Cause Usage = ⊥
-IsStopAt name Cause (Refused other) = (string_bytes other ≡ name) × Cause
-IsStopAt name Cause Fault = ⊤
-IsStopAt name Cause NoMemory = ⊤
 
 -- this name is refused, or memory ran out
 abbrev pub IsRefusalOf : (name : List ℕ) → Stop → Type 0
@@ -96,13 +128,22 @@ abbrev pub IsEndOf : Ending → (script : List ℕ) → End → Type 0
 IsEndOf ending script end =
     IsDue ending script (status_at end) (text_at end) ⊎ IsCut end
 
--- a program comes to this end
-abbrev pub IsVerdictOn : (program : List ℕ) → ProgramEnd → Type 0
-IsVerdictOn program end = IsProgramDue program (program_status end) (program_text end)
+-- a program comes to this end over these tables
+abbrev pub IsVerdictOn : (tables : Signature) → (program : List ℕ) → ProgramEnd → Type 0
+IsVerdictOn tables program end = IsProgramDue tables program (program_status end) (program_text end)
 
 -- and to this one on two datasets
-abbrev pub IsGapOn : (X Y : Dataset) → (program : List ℕ) → ProgramEnd → Type 0
-IsGapOn X Y program end = IsGapDue X Y program (program_status end) (program_text end)
+abbrev pub IsGapOn : (tables : Signature) → (X Y : Dataset) → (program : List ℕ) → ProgramEnd → Type 0
+IsGapOn tables X Y program end = IsGapDue tables X Y program (program_status end) (program_text end)
+
+-- A command that reads by these steps ends so, where files and source held this.
+abbrev pub IsStepEnd : (old new : List (List ℕ)) → Step Ending → End → Reads → (script : List ℕ) → Type 0
+IsStepEnd old new steps end reads script =
+    IsEndOf (ended (steps reads).given) script end × AreRead (status_at end) (steps reads).names old new
+
+-- passes on which nothing was found, and nothing done
+abbrev pub AreNew : List Pass → Type 0
+AreNew passes = (o : ℕ) → (found_by passes o ≡ []) × (seen_by passes o ≡ [])
 
 -- The end's text is written with its status; or a prefix of it, and something failed.
 pub record IsEndingWith (end : End) (status : Status) (text : List ℕ) : Type 0 where

@@ -1,12 +1,14 @@
 pub mod Status
-pub mod Ending
 pub mod Files
-pub mod House
+pub mod Steps
+pub mod Loaded
+pub mod Fit
+pub mod Ending
 pub mod Run
 pub mod Check
 pub mod Gap
 pub mod Due
 pub mod Promise
 pub mod Ends
-pub mod Opened
 pub mod Taken
+pub mod Laws

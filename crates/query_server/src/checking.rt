@@ -1,19 +1,16 @@
 //! A program is checked.
 
-ghost use Rattle.std.specs.Prelude.{◌≡◌, ℕ, List, Option, Some, IfOk, IsErrOf};
+ghost use Rattle.std.specs.Prelude.{◌≡◌, ℕ, List, Option, IfOk, IsErrOf};
 ghost use Rattle.fz_frac.specs.Sens.{distance_of};
 ghost use Rattle.fz_outside.specs.Faults.{HasCause};
-ghost use Rattle.command_words.specs.Command.{check};
-ghost use Rattle.query_server.specs.House.{census_tables};
-ghost use Rattle.query_server.specs.Check.{accepted_text};
+ghost use Rattle.query_server.specs.Check.{accepted_text, check_steps};
 ghost use Rattle.query_server.specs.Due.{ForContents};
-ghost use Rattle.query_server.specs.Ends.{IsEndOf, IsVerdictOn, end_by};
+ghost use Rattle.query_server.specs.Ends.{IsStepEnd, IsVerdictOn, end_by};
 
 use crate::end::{End, Stop};
-use crate::opening::{read_program, signature};
+use crate::opening::read_candidate;
 use crate::programs::{ProgramEnd, refuse};
-use answer_path::check_program;
-use fz_ast::Sig;
+use answer_path::{Dataset, check_program};
 use fz_frac::Sens;
 use fz_outside::files::Files;
 use std::alloc::{AllocError, Global};
@@ -32,23 +29,14 @@ fn accepted_line(alloc: Global, sens: Sens) -> Result<Vec<u8>, AllocError>
     Ok(line)
 }
 
-/// What a program comes to over the tables of a house.
-fn judge(alloc: Global, sig: &Sig, program: &[u8]) -> Result<ProgramEnd, AllocError>
-    requires { sig.now ≡ census_tables }
-    ensures { IfOk result (IsVerdictOn program.now) }
+/// What a program comes to over the tables of a dataset.
+fn judge(alloc: Global, dataset: &Dataset, program: &[u8]) -> Result<ProgramEnd, AllocError>
+    ensures { IfOk result (IsVerdictOn dataset.now.tables program.now) }
 {
-    match check_program(alloc, sig, program) {
+    match check_program(alloc, dataset.sig(), program) {
         Ok(accepted) => Ok(ProgramEnd::Accepted(accepted_line(alloc, accepted.sens)?)),
         Err(refusal) => refuse(alloc, &refusal),
     }
-}
-
-/// Checks a program over the tables of the house.
-fn check_bytes(alloc: Global, program: &[u8]) -> Result<ProgramEnd, AllocError>
-    ensures { IfOk result (IsVerdictOn program.now) }
-{
-    let sig = signature(alloc)?;
-    judge(alloc, &sig, program)
 }
 
 /// Reads the files of a `check`, and checks its program.
@@ -59,13 +47,13 @@ pub(crate) fn check_file<F: Files>(
     owner: &str,
     file: &str,
 ) -> Result<ProgramEnd, Stop>
-    ensures end { (left : Option (List ℕ)) → ForContents (Some (check catalog.now owner.now file.now)) (F.held files.old) left
-        (λ ending script. IsEndOf ending script (end_by End.Check result)) }
+    ensures end { (left : Option (List ℕ)) → ForContents (F.held files.old) left
+        (IsStepEnd (F.names files.old) (F.names files.new) (check_steps catalog.now owner.now file.now) (end_by End.Check result)) }
     ensures same { F.held files.new ≡ F.held files.old }
     ensures cause { HasCause (F.faults files.old) (F.faults files.new) (IsErrOf result Stop.Fault) }
 {
-    let program = read_program(alloc, files, catalog, owner, file)?;
-    match check_bytes(alloc, &program) {
+    let candidate = read_candidate(alloc, files, catalog, owner, file)?;
+    match judge(alloc, &candidate.dataset, &candidate.program) {
         Ok(end) => Ok(end),
         Err(_) => Err(Stop::NoMemory),
     }

@@ -16,7 +16,8 @@ pub enum Status {
     ProgramRefused,
     /// 2: the words are no command.
     Usage,
-    /// 3: a file that the command names is absent, too long or outside its definition, or its owner is unknown.
+    /// 3: a file that the command or its catalog names is absent, too long or outside its definition, or the owner is unknown in
+    /// a catalog, or its entries in the two catalogs of a `gap` don't fit.
     Refused,
     /// 5: files, source or sink have failed.
     Fault,
@@ -45,13 +46,14 @@ impl Status {
 
 /// What stops a command before its work is done.
 #[derive(Drop)]
-pub(crate) enum Stop {
+pub enum Stop {
     /// The words are no command.
     Usage,
     /// The file or the owner of this name is refused.
     Refused(String),
     /// Files or the source have failed.
     Fault,
+    /// Memory ran out.
     NoMemory,
 }
 

@@ -4,13 +4,16 @@
 mod checking;
 mod comparing;
 mod end;
+mod fitting;
 mod laws;
-mod opening;
+mod loading;
+pub mod opening;
 mod programs;
+mod reading;
 mod running;
 mod server;
 mod writing;
 
-pub use crate::end::Status;
-pub use crate::laws::gaps_are_bounded;
+pub use crate::end::{Status, Stop};
+pub use crate::laws::{gaps_are_bounded, gaps_are_of_datasets};
 pub use crate::server::run_server;

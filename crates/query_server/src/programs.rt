@@ -1,11 +1,11 @@
 //! How a command that reads a program ends.
 
 ghost use Rattle.std.specs.Prelude.{◌≡◌, ℕ, List, IfOk};
+ghost use Rattle.fz_ast.specs.Signature.{Signature};
 ghost use Rattle.metric_values.specs.Tables.{Dataset};
 ghost use Rattle.wire_lines.specs.Refusal.{refusal_at};
 ghost use Rattle.wire_lines.specs.Reply.{refused, reply_text};
 ghost use Rattle.answer_path.specs.Code.{IsProgramRefusal};
-ghost use Rattle.query_server.specs.House.{census_tables};
 ghost use Rattle.query_server.specs.Ends.{IsGapOn, IsVerdictOn};
 
 use crate::end::Status;
@@ -55,9 +55,10 @@ fn refusal_line(alloc: Global, refusal: &Refusal<'_>) -> Result<Vec<u8>, AllocEr
 /// How a program that is refused ends. Want of memory is no refusal of it.
 #[tactic(auto, using(crate::proofs::Judged::program_refused, crate::proofs::Judged::gap_refused))]
 pub(crate) fn refuse(alloc: Global, refusal: &Refusal<'_>) -> Result<ProgramEnd, AllocError>
-    ensures check { (program : List ℕ) → IsProgramRefusal census_tables program (refusal_at refusal.now) → IfOk result (IsVerdictOn program) }
-    ensures gap { (X Y : Dataset) (program : List ℕ) → IsProgramRefusal census_tables program (refusal_at refusal.now) →
-        IfOk result (IsGapOn X Y program) }
+    ensures check { (tables : Signature) (program : List ℕ) → IsProgramRefusal tables program (refusal_at refusal.now) →
+        IfOk result (IsVerdictOn tables program) }
+    ensures gap { (tables : Signature) (X Y : Dataset) (program : List ℕ) → IsProgramRefusal tables program (refusal_at refusal.now) →
+        IfOk result (IsGapOn tables X Y program) }
 {
     if let Refusal::NoMemory = refusal {
         return Err(AllocError);

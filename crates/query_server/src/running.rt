@@ -1,14 +1,13 @@
 //! A script is read and answered.
 
-ghost use Rattle.std.specs.Prelude.{◌≡◌, ◌⊎◌, ℕ, ℤ, List, Option, Some, length, ◌≤◌, ◌+◌, ◌<◌, MatchResult, IsErrOf};
-ghost use Rattle.std.specs.Io.KnownBytes.{prepend_known, IsAtEnd};
+ghost use Rattle.std.specs.Prelude.{◌≡◌, ◌⊎◌, ℕ, List, ◌≤◌, IfOk, MatchResult, IsErrOf};
 ghost use Rattle.fz_outside.specs.Faults.{HasCause, HasRisen};
-ghost use Rattle.command_words.specs.Command.{run};
+ghost use Rattle.session_core.specs.House.{house_of};
+ghost use Rattle.session_core.specs.Code.{ArePasses};
 ghost use Rattle.query_server.specs.Files.{IsLeft};
-ghost use Rattle.query_server.specs.House.{census};
-ghost use Rattle.query_server.specs.Run.{IsScriptDue};
+ghost use Rattle.query_server.specs.Run.{IsScriptDue, run_steps};
 ghost use Rattle.query_server.specs.Due.{ForContents};
-ghost use Rattle.query_server.specs.Ends.{IsEndOf, IsFailing, end_by, run_status, run_text, status_at};
+ghost use Rattle.query_server.specs.Ends.{AreNew, IsFailing, IsStepEnd, end_by, run_status, run_text, status_at};
 ghost use Rattle.query_server.specs.Taken.{IsTaken};
 
 use crate::end::{End, Status, Stop};
@@ -18,9 +17,10 @@ use budget_core::book::Book;
 use fz_outside::FileFault;
 use fz_outside::files::Files;
 use fz_outside::source::{Source, read_up_to};
+use session_core::house::House;
 use session_core::passes::Passes;
 use session_core::script::answer_script;
-use std::alloc::Global;
+use std::alloc::{AllocError, Global};
 use word_streams::KeyStreams;
 
 /// The most bytes of a script.
@@ -57,20 +57,30 @@ impl RunEnd {
     }
 }
 
+/// A pass for each owner of a house, in order. Room for the records of all is taken.
+fn open_passes(alloc: Global, house: &House) -> Result<Passes, AllocError>
+    ensures passes { IfOk result (ArePasses (house_of house.now)) }
+    ensures empty { IfOk result AreNew }
+{
+    let mut passes = Vec::with_capacity(alloc, house.owners())?;
+    for owner in 0..house.owners() as u32 {
+        let book = Book::new(alloc, house.entry(owner))?;
+        passes.push(Pass::new(book))?;
+    }
+    Ok(Passes::new(passes))
+}
+
 /// Reads a script to its end, or to one byte more than it may have, and answers it. Room for the records comes first.
-#[tactic(auto, using(crate::proofs::Passes::one_pass))]
 fn answer<S: Source>(alloc: Global, opened: &Opened, source: &mut S) -> Result<RunEnd, Stop>
-    ensures end { (ages : List ℤ) → opened.now.house ≡ census ages →
-        (script : List ℕ) × IsLeft (S.left source.old) script
-        × MatchResult result (λ end. IsScriptDue ages opened.now.key script (run_status end) (run_text end)) IsFailing }
+    ensures end { (script : List ℕ) × IsLeft (S.left source.old) script
+        × MatchResult result (λ end. IsScriptDue opened.now.house opened.now.key script (run_status end) (run_text end)) IsFailing }
     ensures taken { IsTaken (S.left source.old) (S.left source.new) (status_at (end_by End.Run result)) }
     ensures cause { HasCause (S.faults source.old) (S.faults source.new) (IsErrOf result Stop.Fault) }
 {
-    let Ok(book) = Book::new(alloc, opened.house.entry()) else {
+    let Ok(mut passes) = open_passes(alloc, &opened.house) else {
         return Err(Stop::NoMemory);
     };
     let desk = Desk::new();
-    let mut passes = Passes::new(Pass::new(book));
     let script = match read_up_to(alloc, source, SCRIPT_LIMIT + 1) {
         Ok(script) => script,
         Err(FileFault::Failed) => return Err(Stop::Fault),
@@ -86,7 +96,7 @@ fn answer<S: Source>(alloc: Global, opened: &Opened, source: &mut S) -> Result<R
     }
 }
 
-/// Opens the house of two files, and answers a script.
+/// Opens the house of a catalog and a key, and answers a script.
 pub(crate) fn run_script<F: Files, S: Source>(
     alloc: Global,
     files: &mut F,
@@ -94,8 +104,8 @@ pub(crate) fn run_script<F: Files, S: Source>(
     catalog: &str,
     key: &str,
 ) -> Result<RunEnd, Stop>
-    ensures end { (workers : ℕ) → ForContents (Some (run catalog.now key.now workers)) (F.held files.old) (S.left source.old)
-        (λ ending script. IsEndOf ending script (end_by End.Run result)) }
+    ensures end { ForContents (F.held files.old) (S.left source.old)
+        (IsStepEnd (F.names files.old) (F.names files.new) (run_steps catalog.now key.now) (end_by End.Run result)) }
     ensures taken { IsTaken (S.left source.old) (S.left source.new) (status_at (end_by End.Run result)) }
     ensures same { F.held files.new ≡ F.held files.old }
     ensures files { F.faults files.old ≤ F.faults files.new }

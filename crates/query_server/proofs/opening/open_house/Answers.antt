@@ -1,24 +1,29 @@
-use Rattle.std.proofs.Common.{◌≡◌, None, ap}
-use Rattle.std.proofs.lemmas.Result.{err_from_is_err_and}
-use Rattle.query_server.specs.Files.{readable}
-use Rattle.query_server.specs.Run.{run_ending}
-use Rattle.query_server.proofs.Contents.{any_held}
-use Rattle.query_server.proofs.Ends.{passed_on, stop_by}
+use Rattle.std.proofs.Common.{◌∙◌, refl, sym, subst}
+use Rattle.session_core.specs.House.{Register}
+use Rattle.query_server.specs.Ending.{to_answer}
+use Rattle.query_server.specs.Run.{run_steps}
+use Rattle.query_server.proofs.Reached.{IsDone, all_done, begun, one_more, passed, stopped}
 use Rattle.query_server.proofs.opening.open_house.Goals as goal
 
-pub returns-in_err-table_bytes-clause-opened : goal.returns-in_err-table_bytes-clause-opened
-returns-in_err-table_bytes-clause-opened g c =
-    let held = g.F.Files.held c.args.files.now in
-    let catalog = c.args.catalog.now in
-    let key = c.args.key.now in
-    let stop = c.in_err-table_bytes.field-0.0 in
-    let read = c.in_err-table_bytes.ensures.read in
-    let some = any_held held key in
-    let q = err_from_is_err_and c.from_residual.result c.from_residual.ensures.1 in (
-      read.0,
-      some.0,
-      read.1,
-      some.1,
-      passed_on c.from_residual.result q.0 stop _ _ q.1 q.2
-          (stop_by (run_ending catalog key (readable read.0) (readable some.0)) catalog (readable read.0 ≡ None) stop (λ none. ap (λ table. run_ending catalog key table (readable some.0)) none) read.2),
-    )
+pub returns-in_err-catalog-clause-step : goal.returns-in_err-catalog-clause-step
+returns-in_err-catalog-clause-step g c =
+    passed _ _ _ _ _ _ c.from_residual.result (stopped _ _ _ _ _ _ _ _ _ (begun _ _ (run_steps c.args.catalog.now c.args.key.now)) refl c.in_err-catalog.ensures.step) c.from_residual.ensures.1
+
+pub returns-in_err-key-clause-step : goal.returns-in_err-key-clause-step
+returns-in_err-key-clause-step g c =
+    let catalog = one_more _ _ _ _ _ _ _ _ _ (begun _ _ (run_steps c.args.catalog.now c.args.key.now)) refl c.in_ok-catalog.ensures.step in
+    passed _ _ _ _ _ _ c.from_residual-in_err-key.result (stopped _ _ _ _ _ _ _ _ _ catalog c.in_ok-catalog.ensures.same c.in_err-key.ensures.step) c.from_residual-in_err-key.ensures.1
+
+pub returns-in_err-datasets-clause-step : goal.returns-in_err-datasets-clause-step
+returns-in_err-datasets-clause-step g c =
+    let catalog = one_more _ _ _ _ _ _ _ _ _ (begun _ _ (run_steps c.args.catalog.now c.args.key.now)) refl c.in_ok-catalog.ensures.step in
+    let key = one_more _ _ _ _ _ _ _ _ _ catalog c.in_ok-catalog.ensures.same c.in_ok-key.ensures.step in
+    passed _ _ _ _ _ _ c.from_residual-in_err-datasets.result (stopped _ _ _ _ _ _ _ _ _ key (c.in_ok-key.ensures.same ∙ c.in_ok-catalog.ensures.same) c.in_err-datasets.ensures.step) c.from_residual-in_err-datasets.ensures.1
+
+pub returns-clause-step : goal.returns-clause-step
+returns-clause-step g c =
+    let steps = run_steps c.args.catalog.now c.args.key.now in
+    let catalog = one_more _ _ _ _ _ _ _ _ _ (begun _ _ steps) refl c.in_ok-catalog.ensures.step in
+    let key = one_more _ _ _ _ _ _ _ _ _ catalog c.in_ok-catalog.ensures.same c.in_ok-key.ensures.step in
+    subst (λ (register : Register). IsDone (g.F.Files.held c.args.files.now) (g.F.Files.names c.args.files.now) (g.F.Files.names c.load_all.new.files) steps (to_answer register c.in_ok-key.key)) (sym c.new-house.ensures)
+    (all_done _ _ _ steps _ (one_more _ _ _ _ _ _ _ _ _ key (c.in_ok-key.ensures.same ∙ c.in_ok-catalog.ensures.same) c.in_ok-datasets.ensures.step))

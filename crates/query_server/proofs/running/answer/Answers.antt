@@ -1,10 +1,7 @@
-use Rattle.std.proofs.Common.{◌≡◌, ◌∙◌, ◌<◌, ◌≤◌, ℕ, List, [], refl, sym, ap, subst, arith, length}
-use Rattle.budget_core.specs.Ledger.{Ledger}
+use Rattle.std.proofs.Common.{◌<◌, ◌≤◌, ℕ, List, refl, subst, arith, length}
 use Rattle.word_streams.specs.Draws.{draws_of}
-use Rattle.answer_path.specs.Pass.{Pass}
 use Rattle.session_core.specs.House.{house_of}
 use Rattle.session_core.specs.Transcript.{IsTranscript}
-use Rattle.query_server.specs.House.{census}
 use Rattle.query_server.specs.Run.{none_found, script_limit}
 use mathlib.Core.Logic.{inl, inr}
 use Rattle.query_server.proofs.Contents.{any_left}
@@ -13,28 +10,26 @@ use Rattle.query_server.proofs.Passes.{answered_in}
 use Rattle.query_server.proofs.running.answer.Goals as goal
 
 pub returns-in_default-clause-end : goal.returns-in_default-clause-end
-returns-in_default-clause-end g c = λ ages house. (let some = any_left (g.S.Source.left c.args.source.now) in (some.0, some.1, inr refl))
+returns-in_default-clause-end g c = let some = any_left (g.S.Source.left c.args.source.now) in (some.0, some.1, inr refl)
 
 pub returns-in-Err-Failed-clause-end : goal.returns-in-Err-Failed-clause-end
-returns-in-Err-Failed-clause-end g c = λ ages house. (let some = any_left (g.S.Source.left c.args.source.now) in (some.0, some.1, inl refl))
+returns-in-Err-Failed-clause-end g c = let some = any_left (g.S.Source.left c.args.source.now) in (some.0, some.1, inl refl)
 
 pub returns-in-Err-NoMemory-clause-end : goal.returns-in-Err-NoMemory-clause-end
-returns-in-Err-NoMemory-clause-end g c = λ ages house. (let some = any_left (g.S.Source.left c.args.source.now) in (some.0, some.1, inr refl))
+returns-in-Err-NoMemory-clause-end g c = let some = any_left (g.S.Source.left c.args.source.now) in (some.0, some.1, inr refl)
 
 pub returns-then-len-gt-SCRIPT_LIMIT-clause-end : goal.returns-then-len-gt-SCRIPT_LIMIT-clause-end
-returns-then-len-gt-SCRIPT_LIMIT-clause-end g c = λ ages house.
+returns-then-len-gt-SCRIPT_LIMIT-clause-end g c =
     let long : script_limit < length c.in-Ok-read_up_to.script.items = omega (arith, c.if-len-gt-SCRIPT_LIMIT.true, c.len.ensures) in
     let some = left_too_long _ _ c.in-Ok-read_up_to.script.items c.in-Ok-read_up_to.ensures.bytes long in (some.0, some.1, inr (refl, some.2, refl))
 
 pub returns-in-Ok-answer_script-clause-end : goal.returns-in-Ok-answer_script-clause-end
-returns-in-Ok-answer_script-clause-end g c = λ ages house.
+returns-in-Ok-answer_script-clause-end g c =
     let script = c.in-Ok-read_up_to.script.items in
     let text = c.in-Ok-answer_script.replies.items in
+    let register = c.args.opened.now.house in
     let draws = draws_of c.args.opened.now.key in
     let short : length script ≤ script_limit = omega (arith, c.if-len-gt-SCRIPT_LIMIT.false, c.len.ensures) in
     let at_end = c.in-Ok-read_up_to.ensures.end (omega (arith, short, c.len.ensures)) in
-    let pass : Pass = c.new-2.result in
-    let none : pass.found ≡ [] = ap (λ (p : Pass). p.found) c.new-2.ensures ∙ ap (λ (b : Ledger). b.found) c.in-Ok.ensures.empty in
-    let fresh : pass.seen ≡ pass.found = ap (λ (p : Pass). p.seen) c.new-2.ensures ∙ sym (ap (λ (p : Pass). p.found) c.new-2.ensures) in
-    let transcript = answered_in c.args.opened.now.house ages _ draws c.new-passes.result pass c.deref.result.now text _ house c.new-streams.ensures.given c.new-passes.ensures none fresh c.in-Ok-answer_script.ensures.written in
-    (script, left_at_end _ _ script c.in-Ok-read_up_to.ensures.bytes at_end, inl (refl, short, subst (λ (s : List ℕ). IsTranscript (house_of (census ages)) draws none_found s text) c.deref.ensures.value transcript))
+    let transcript = answered_in register _ draws c.in-Ok.passes c.deref.result.now text _ c.new-streams.ensures.given c.in-Ok.ensures.empty c.in-Ok-answer_script.ensures.written in
+    (script, left_at_end _ _ script c.in-Ok-read_up_to.ensures.bytes at_end, inl (refl, short, subst (λ (s : List ℕ). IsTranscript (house_of register) draws none_found s text) c.deref.ensures.value transcript))

@@ -1,0 +1,253 @@
+-- worked examples of steps, and of the order of work of each command with the names that it reads
+use Rattle.std.proofs.Common.{◌≡◌, ℕ, zero, suc, List, [], ◌∷◌, ◌++◌, Option, Some, None, refl, ap, ◌∙◌}
+use Rattle.std.specs.Prelude.{Result, Ok, Err, codes, pos, ok_or}
+use Rattle.fz_ast.specs.declared.row.Column.TheVariants.{Num}
+use Rattle.owner_catalog.specs.Catalog.{OwnerEntry, TableEntry, Catalog, signature_of}
+use Rattle.session_core.specs.House.{Register}
+use Rattle.query_server.specs.Ending.{usage, Ending, to_answer, to_check, to_compare}
+use Rattle.query_server.specs.Files.{Reads, always, readable, Contents}
+use Rattle.query_server.specs.Steps.{Outcome, ◌>>=◌, behind, each, file_read, Step, continued}
+use Rattle.query_server.specs.Loaded.{key_read, catalog_read, holding_read, loaded, rows_read}
+use Rattle.query_server.specs.Run.{run_steps}
+use Rattle.query_server.specs.Check.{check_steps}
+use Rattle.query_server.specs.Gap.{gap_steps}
+use Rattle.query_server.specs.Due.{files_of, steps_of}
+use Rattle.metric_values.specs.Values.{Flat, NumF}
+use Rattle.answer_path.specs.Owner.{Holding}
+use Rattle.command_words.specs.Command.{Command, check, command_of}
+use Rattle.command_words.proofs.Plain.{plain_is_tabled}
+
+abbrev a : List ℕ
+a = codes "a"
+
+abbrev b : List ℕ
+b = codes "b"
+
+-- what each of two reads finds in a file: first these bytes, and then no such file
+once : List ℕ → Reads
+once bytes zero name = Some bytes
+once bytes (suc n) name = None
+
+abbrev came_to : {A : Type 0} → A → (names : List (List ℕ)) → Reads → Outcome A
+came_to x names reads = record { given = Ok x; names = names; rest = reads }
+
+abbrev stopped_at : {A : Type 0} → (name : List ℕ) → (names : List (List ℕ)) → Reads → Outcome A
+stopped_at name names reads = record { given = Err name; names = names; rest = reads }
+
+-- a file that is read twice is read by its name twice, and may have changed
+read_twice : (file_read a >>= (λ first. file_read a)) (once (1 ∷ [])) ≡ stopped_at a (a ∷ a ∷ []) (λ n name. None)
+unfolding ◌>>=◌ once
+read_twice = refl
+
+-- nothing is read behind a step that refuses a name
+one_refused : each file_read (a ∷ b ∷ a ∷ []) (once (1 ∷ [])) ≡ stopped_at b (a ∷ b ∷ []) (λ n name. None)
+unfolding ◌>>=◌ each once
+one_refused = refl
+
+all_given : (each file_read (a ∷ b ∷ []) (always (λ name. Some name))) ≡ came_to (a ∷ b ∷ []) (a ∷ b ∷ []) (always (λ name. Some name))
+unfolding ◌>>=◌ each
+all_given = refl
+
+-- ---- the order of work: each step is refused where all before it are done
+
+-- over these files a step comes to this, and reads these names
+abbrev Comes : {A : Type 0} → Step A → Contents → Result A (List ℕ) → (names : List (List ℕ)) → Type 0
+Comes step held given names = step (always held) ≡ record { given = given; names = names; rest = always held }
+
+goes_on : {A B : Type 0} → (step : Step A) (next : A → Step B) (held : Contents) (x : A) (given : Result B (List ℕ)) (names more : List (List ℕ))
+    → Comes step held (Ok x) names → Comes (next x) held given more → Comes (step >>= next) held given (names ++ more)
+unfolding ◌>>=◌
+goes_on {A = A} {B = B} step next held x given names more is comes =
+    ap (λ (o : Outcome A). continued o.given o.names o.rest next) is ∙ ap (λ (o : Outcome B). behind names o) comes
+
+stops : {A B : Type 0} → (step : Step A) (next : A → Step B) (held : Contents) (name : List ℕ) (names : List (List ℕ))
+    → Comes step held (Err name) names → Comes (step >>= next) held (Err name) names
+unfolding ◌>>=◌
+stops {A = A} step next held name names is = ap (λ (o : Outcome A). continued o.given o.names o.rest next) is
+
+abbrev cat : List ℕ
+cat = codes "cat.json"
+
+abbrev second : List ℕ
+second = codes "cat2.json"
+
+abbrev key : List ℕ
+key = codes "key"
+
+abbrev program : List ℕ
+program = codes "program"
+
+abbrev a_csv : List ℕ
+a_csv = codes "a.csv"
+
+abbrev b_csv : List ℕ
+b_csv = codes "b.csv"
+
+abbrev c_csv : List ℕ
+c_csv = codes "c.csv"
+
+abbrev nobody : List ℕ
+nobody = codes "nobody"
+
+-- an owner of one table in a file, and a catalog of two owners
+abbrev table_in : (file : List ℕ) → TableEntry
+table_in file = record { name = a; file = file; columns = record { name = a; kind = Num } ∷ [] }
+
+abbrev with_table : (name file : List ℕ) → OwnerEntry
+with_table name file = record { name = name; budget = 1; capacity = 2; tables = table_in file ∷ []; partitions = []; text = [] }
+
+abbrev house_with : List OwnerEntry → Catalog
+house_with owners = record { analysts = a ∷ []; owners = owners; text = [] }
+
+abbrev both : Catalog
+both = house_with (with_table a a_csv ∷ with_table b b_csv ∷ [])
+
+abbrev one : Catalog
+one = house_with (with_table a c_csv ∷ [])
+
+abbrev rows : List Flat
+rows = NumF (pos 1) ∷ []
+
+abbrev holding : (name file : List ℕ) → Holding
+holding name file = record { tables = signature_of (with_table name file); rows = rows ∷ [] }
+
+abbrev register : Register
+register = record { catalog = both; holdings = holding a a_csv ∷ holding b b_csv ∷ [] }
+
+abbrev HasCatalog : Contents → Type 0
+HasCatalog held = Comes (catalog_read cat) held (Ok both) (cat ∷ [])
+
+abbrev HasSecond : Contents → Type 0
+HasSecond held = Comes (catalog_read second) held (Ok one) (second ∷ [])
+
+-- a file as a table of these owners: it holds rows, or is refused
+abbrev rows_in : (file : List ℕ) → Step (List Flat)
+rows_in file = rows_read (table_in file)
+
+abbrev HasRows : Contents → (file : List ℕ) → Type 0
+HasRows held file = Comes (rows_in file) held (Ok rows) (file ∷ [])
+
+abbrev HasNone : Contents → (file : List ℕ) → Type 0
+HasNone held file = Comes (rows_in file) held (Err file) (file ∷ [])
+
+-- what an owner of one table holds
+held_by : (held : Contents) (name file : List ℕ) → HasRows held file → Comes (holding_read (with_table name file)) held (Ok (holding name file)) (file ∷ [])
+unfolding each
+held_by held name csv has = goes_on _ _ held _ _ _ _ (goes_on _ _ held _ _ _ _ has (goes_on _ _ held _ _ _ _ refl refl)) refl
+
+unheld_by : (held : Contents) (name file : List ℕ) → HasNone held file → Comes (holding_read (with_table name file)) held (Err file) (file ∷ [])
+unfolding each
+unheld_by held name csv has = stops _ _ held _ _ (stops _ _ held _ _ has)
+
+-- the tables of all owners, in order
+all_loaded : (held : Contents) → HasRows held a_csv → HasRows held b_csv
+    → Comes (loaded both) held (Ok register) (a_csv ∷ b_csv ∷ [])
+unfolding each
+all_loaded held first second =
+    goes_on _ _ held _ _ _ _ (goes_on _ _ held _ _ _ _ (held_by held a a_csv first)
+    (goes_on _ _ held _ _ _ _ (goes_on _ _ held _ _ _ _ (held_by held b b_csv second) (goes_on _ _ held _ _ _ _ refl refl)) refl)) refl
+
+first_table_refused : (held : Contents) → HasNone held a_csv → Comes (loaded both) held (Err a_csv) (a_csv ∷ [])
+unfolding each
+first_table_refused held first = stops _ _ held _ _ (stops _ _ held _ _ (unheld_by held a a_csv first))
+
+second_table_refused : (held : Contents) → HasRows held a_csv → HasNone held b_csv
+    → Comes (loaded both) held (Err b_csv) (a_csv ∷ b_csv ∷ [])
+unfolding each
+second_table_refused held first second =
+    stops _ _ held _ _ (goes_on _ _ held _ _ _ _ (held_by held a a_csv first) (stops _ _ held _ _ (stops _ _ held _ _ (unheld_by held b b_csv second))))
+
+all_of_second : (held : Contents) → HasRows held c_csv → Comes (loaded one) held (Ok (record { catalog = one; holdings = holding a c_csv ∷ [] })) (c_csv ∷ [])
+unfolding each
+all_of_second held has = goes_on _ _ held _ _ _ _ (goes_on _ _ held _ _ _ _ (held_by held a c_csv has) (goes_on _ _ held _ _ _ _ refl refl)) refl
+
+none_of_second : (held : Contents) → HasNone held c_csv → Comes (loaded one) held (Err c_csv) (c_csv ∷ [])
+unfolding each
+none_of_second held none = stops _ _ held _ _ (stops _ _ held _ _ (unheld_by held a c_csv none))
+
+-- a program's file
+program_read : (held : Contents) (found : Option (List ℕ)) → held program ≡ found
+    → Comes (file_read program) held (ok_or (readable found) program) (program ∷ [])
+program_read held found is = ap (λ found. record { given = ok_or (readable found) program; names = program ∷ []; rest = always held }) is
+
+-- `run`: CATALOG, KEY, the tables
+run_catalog : (held : Contents) → Comes (catalog_read cat) held (Err cat) (cat ∷ []) → Comes (run_steps cat key) held (Err cat) (cat ∷ [])
+run_catalog held none = stops _ _ held _ _ none
+
+run_key : (held : Contents) → HasCatalog held → Comes (key_read key) held (Err key) (key ∷ []) → Comes (run_steps cat key) held (Err key) (cat ∷ key ∷ [])
+run_key held has none = goes_on _ _ held _ _ _ _ has (stops _ _ held _ _ none)
+
+run_table : (held : Contents) (bytes : List ℕ) → HasCatalog held → Comes (key_read key) held (Ok bytes) (key ∷ []) → HasRows held a_csv → HasNone held b_csv
+    → Comes (run_steps cat key) held (Err b_csv) (cat ∷ key ∷ a_csv ∷ b_csv ∷ [])
+run_table held bytes has has_key first none =
+    goes_on _ _ held _ _ _ _ has (goes_on _ _ held _ _ _ _ has_key (stops _ _ held _ _ (second_table_refused held first none)))
+
+run_whole : (held : Contents) (bytes : List ℕ) → HasCatalog held → Comes (key_read key) held (Ok bytes) (key ∷ []) → HasRows held a_csv → HasRows held b_csv
+    → Comes (run_steps cat key) held (Ok (to_answer register bytes)) (cat ∷ key ∷ a_csv ∷ b_csv ∷ [])
+run_whole held bytes has has_key first second =
+    goes_on _ _ held _ _ _ _ has (goes_on _ _ held _ _ _ _ has_key (goes_on _ _ held _ _ _ _ (all_loaded held first second) refl))
+
+-- `check`: CATALOG, OWNER, the tables of all owners, FILE
+check_owner : (held : Contents) → HasCatalog held → Comes (check_steps cat nobody program) held (Err nobody) (cat ∷ [])
+check_owner held has = goes_on _ _ held _ _ _ _ has (stops _ _ held _ _ refl)
+
+check_table : (held : Contents) → HasCatalog held → HasRows held a_csv → HasNone held b_csv
+    → Comes (check_steps cat a program) held (Err b_csv) (cat ∷ a_csv ∷ b_csv ∷ [])
+check_table held has first none =
+    goes_on _ _ held _ _ _ _ has (goes_on _ _ held _ _ _ _ refl (stops _ _ held _ _ (stops _ _ held _ _ (second_table_refused held first none))))
+
+check_file : (held : Contents) → HasCatalog held → HasRows held a_csv → HasRows held b_csv → held program ≡ None
+    → Comes (check_steps cat a program) held (Err program) (cat ∷ a_csv ∷ b_csv ∷ program ∷ [])
+check_file held has first second none =
+    goes_on _ _ held _ _ _ _ has (goes_on _ _ held _ _ _ _ refl (goes_on _ _ held _ _ _ _ (goes_on _ _ held _ _ _ _ (all_loaded held first second) refl)
+    (stops _ _ held _ _ (program_read held None none))))
+
+check_whole : (held : Contents) → HasCatalog held → HasRows held a_csv → HasRows held b_csv → held program ≡ Some (codes "1")
+    → Comes (check_steps cat b program) held (Ok (to_check (signature_of (with_table b b_csv)) (codes "1"))) (cat ∷ a_csv ∷ b_csv ∷ program ∷ [])
+check_whole held has first second file =
+    goes_on _ _ held _ _ _ _ has (goes_on _ _ held _ _ _ _ refl (goes_on _ _ held _ _ _ _ (goes_on _ _ held _ _ _ _ (all_loaded held first second) refl)
+    (goes_on _ _ held _ _ _ _ (program_read held (Some (codes "1")) file) refl)))
+
+-- `gap`: CATALOG, OWNER, CATALOG2, OWNER in it, the tables of CATALOG, those of CATALOG2, FILE
+gap_owner : (held : Contents) → HasCatalog held → Comes (gap_steps cat nobody second program) held (Err nobody) (cat ∷ [])
+gap_owner held has = goes_on _ _ held _ _ _ _ has (stops _ _ held _ _ refl)
+
+gap_second_catalog : (held : Contents) → HasCatalog held → Comes (catalog_read second) held (Err second) (second ∷ [])
+    → Comes (gap_steps cat a second program) held (Err second) (cat ∷ second ∷ [])
+gap_second_catalog held has none = goes_on _ _ held _ _ _ _ has (goes_on _ _ held _ _ _ _ refl (stops _ _ held _ _ none))
+
+-- the owner is unknown in the second catalog alone
+gap_second_owner : (held : Contents) → HasCatalog held → HasSecond held → Comes (gap_steps cat b second program) held (Err b) (cat ∷ second ∷ [])
+gap_second_owner held has has_second =
+    goes_on _ _ held _ _ _ _ has (goes_on _ _ held _ _ _ _ refl (goes_on _ _ held _ _ _ _ has_second (stops _ _ held _ _ refl)))
+
+gap_second_table : (held : Contents) → HasCatalog held → HasSecond held → HasRows held a_csv → HasRows held b_csv → HasNone held c_csv
+    → Comes (gap_steps cat a second program) held (Err c_csv) (cat ∷ second ∷ a_csv ∷ b_csv ∷ c_csv ∷ [])
+gap_second_table held has has_second first other none =
+    goes_on _ _ held _ _ _ _ has (goes_on _ _ held _ _ _ _ refl (goes_on _ _ held _ _ _ _ has_second (goes_on _ _ held _ _ _ _ refl
+    (goes_on _ _ held _ _ _ _ (goes_on _ _ held _ _ _ _ (all_loaded held first other) refl)
+    (stops _ _ held _ _ (stops _ _ held _ _ (none_of_second held none)))))))
+
+gap_whole : (held : Contents) → HasCatalog held → HasSecond held → HasRows held a_csv → HasRows held b_csv → HasRows held c_csv
+    → held program ≡ Some (codes "1")
+    → Comes (gap_steps cat a second program) held (Ok (to_compare (signature_of (with_table a a_csv)) (rows ∷ []) (rows ∷ []) (codes "1")))
+    (cat ∷ second ∷ a_csv ∷ b_csv ∷ c_csv ∷ program ∷ [])
+gap_whole held has has_second first other third file =
+    goes_on _ _ held _ _ _ _ has (goes_on _ _ held _ _ _ _ refl (goes_on _ _ held _ _ _ _ has_second (goes_on _ _ held _ _ _ _ refl
+    (goes_on _ _ held _ _ _ _ (goes_on _ _ held _ _ _ _ (all_loaded held first other) refl)
+    (goes_on _ _ held _ _ _ _ (goes_on _ _ held _ _ _ _ (all_of_second held third) refl)
+    (goes_on _ _ held _ _ _ _ (program_read held (Some (codes "1")) file) refl))))))
+
+-- faulty words read nothing, and the names of the others are those of their steps
+no_words : (held : Contents) → Comes (steps_of None) held (Ok usage) []
+no_words held = refl
+
+is_check : command_of (codes "check" ∷ cat ∷ a ∷ program ∷ []) ≡ Some (check cat a program)
+is_check = plain_is_tabled (codes "check" ∷ cat ∷ a ∷ program ∷ []) (refl, (refl, (refl, (refl, tt))))
+
+check_words : (held : Contents) → HasCatalog held → HasRows held a_csv → HasRows held b_csv → held program ≡ None
+    → files_of (codes "check" ∷ cat ∷ a ∷ program ∷ []) (always held) ≡ cat ∷ a_csv ∷ b_csv ∷ program ∷ []
+unfolding files_of
+check_words held has first second none =
+    ap (λ (command : Option Command). (steps_of command (always held)).names) is_check
+    ∙ ap (λ (o : Outcome Ending). o.names) (check_file held has first second none)

@@ -1,0 +1,41 @@
+-- files that tell what they hold, hold it at each read
+use Rattle.std.proofs.Common.{◌≡◌, ℕ, List, [], ◌∷◌, refl, sym, subst}
+use Rattle.std.specs.Prelude.{Result, Ok, Err}
+use Rattle.owner_catalog.specs.Catalog.{Catalog, OwnerEntry, TableEntry}
+use Rattle.query_server.specs.Files.{Contents, Reads, always}
+use Rattle.query_server.specs.Steps.{Step, ◌>>=◌, continued, done, each}
+use Rattle.query_server.specs.Loaded.{catalog_read, holding_read, key_read, loaded, rows_read}
+
+-- the reads to come find what the earlier ones found
+abbrev pub Keeps : {A : Type 0} → Contents → Step A → Type 0
+Keeps held step = (step (always held)).rest ≡ always held
+
+keeps_then : {A B : Type 0} (held : Contents) (step : Step A) (next : A → Step B) → Keeps held step → ((a : A) → Keeps held (next a)) → Keeps held (step >>= next)
+unfolding ◌>>=◌
+keeps_then {A} {B} held step next first second = here (step (always held)).given
+  where
+    here : (given : Result A (List ℕ)) → (continued given (step (always held)).names (step (always held)).rest next).rest ≡ always held
+    here (Ok a) = subst (λ (rest : Reads). (next a rest).rest ≡ always held) (sym first) (second a)
+    here (Err name) = first
+
+keeps_each : {A B : Type 0} (held : Contents) (step : A → Step B) → ((x : A) → Keeps held (step x)) → (xs : List A) → Keeps held (each step xs)
+unfolding each
+keeps_each held step keeps [] = refl
+keeps_each held step keeps (x ∷ xs) =
+    keeps_then held (step x) (λ y. each step xs >>= (λ ys. done (y ∷ ys))) (keeps x)
+    (λ y. keeps_then held (each step xs) (λ ys. done (y ∷ ys)) (keeps_each held step keeps xs) (λ ys. refl))
+
+pub keeps_catalog : (held : Contents) (name : List ℕ) → Keeps held (catalog_read name)
+keeps_catalog held name = keeps_then held _ _ refl (λ bytes. refl)
+
+pub keeps_key : (held : Contents) (name : List ℕ) → Keeps held (key_read name)
+keeps_key held name = keeps_then held _ _ refl (λ bytes. refl)
+
+keeps_rows : (held : Contents) (table : TableEntry) → Keeps held (rows_read table)
+keeps_rows held table = keeps_then held _ _ refl (λ bytes. refl)
+
+keeps_holding : (held : Contents) (owner : OwnerEntry) → Keeps held (holding_read owner)
+keeps_holding held owner = keeps_then held _ _ (keeps_each held rows_read (keeps_rows held) owner.tables) (λ rows. refl)
+
+pub keeps_loaded : (held : Contents) (catalog : Catalog) → Keeps held (loaded catalog)
+keeps_loaded held catalog = keeps_then held _ _ (keeps_each held holding_read (keeps_holding held) catalog.owners) (λ holdings. refl)
