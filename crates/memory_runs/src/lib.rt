@@ -10,6 +10,11 @@ use std::alloc::{AllocError, Global};
 /// The most bytes that a run in memory writes.
 pub const ROOM: usize = 65_536;
 
+/// The catalog of the analysts ann and bob and the owner census, whose one table `people` is the file people.csv.
+pub const CATALOG: &[u8] =
+    b"{\"analysts\":[\"ann\",\"bob\"],\"owners\":[{\"name\":\"census\",\"budget\":10000000,\"capacity\":100,\"tables\":[\
+    {\"name\":\"people\",\"file\":\"people.csv\",\"columns\":[{\"name\":\"age\",\"type\":\"num\"}]}],\"partitions\":[]}]}";
+
 /// A table of three people.
 pub const TABLE: &[u8] = b"age\n20\n30\n40\n";
 
@@ -38,14 +43,58 @@ pub fn words_of(alloc: Global, texts: &[&str]) -> Result<Vec<String>, AllocError
     Ok(words)
 }
 
-/// Two files: `people.csv`, and one of this name.
-pub fn two_files<'a>(table: &'a [u8], name: &'a str, bytes: &'a [u8]) -> [MemFile<'a>; 2] {
+/// A table's name, its file, and its columns, as JSON.
+pub type TableText<'a> = (&'a str, &'a str, &'a str);
+
+/// A column of numbers.
+pub const AGE: &str = "{\"name\":\"age\",\"type\":\"num\"}";
+
+// Puts the objects of some tables at the end.
+fn push_tables(text: &mut String, tables: &[TableText<'_>]) -> Result<(), AllocError> {
+    let mut comma = "";
+    for (name, file, columns) in tables {
+        write!(
+            text,
+            "{comma}{{\"name\":\"{name}\",\"file\":\"{file}\",\"columns\":[{columns}]}}"
+        )?;
+        comma = ",";
+    }
+    Ok(())
+}
+
+/// An owner of these tables, as JSON.
+pub fn owner_text(
+    alloc: Global,
+    name: &str,
+    budget: u64,
+    capacity: u32,
+    tables: &[TableText<'_>],
+) -> Result<String, AllocError> {
+    let mut text = format!(in alloc;
+        "{{\"name\":\"{name}\",\"budget\":{budget},\"capacity\":{capacity},\"partitions\":[],\"tables\":["
+    )?;
+    push_tables(&mut text, tables)?;
+    text.push_str("]}")?;
+    Ok(text)
+}
+
+/// A catalog of the analysts ann and bob and the owner census, with these tables.
+pub fn census_with(alloc: Global, tables: &[TableText<'_>]) -> Result<String, AllocError> {
+    let owner = owner_text(alloc, "census", 10_000_000, 100, tables)?;
+    format!(in alloc; "{{\"analysts\":[\"ann\",\"bob\"],\"owners\":[{owner}]}}")
+}
+
+/// A file.
+pub fn file<'a>(name: &'a str, bytes: &'a [u8]) -> MemFile<'a> {
+    MemFile { name, bytes }
+}
+
+/// Three files: the catalog, its table, and one of this name.
+pub fn census_files<'a>(table: &'a [u8], name: &'a str, bytes: &'a [u8]) -> [MemFile<'a>; 3] {
     [
-        MemFile {
-            name: "people.csv",
-            bytes: table,
-        },
-        MemFile { name, bytes },
+        file("cat.json", CATALOG),
+        file("people.csv", table),
+        file(name, bytes),
     ]
 }
 

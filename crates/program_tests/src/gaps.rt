@@ -1,35 +1,32 @@
 //! Two datasets, by the command `gap`.
 
-use fz_outside::files::{MemFile, MemFiles};
+use fz_outside::files::MemFiles;
 use fz_outside::sink::MemSink;
 use fz_outside::source::{MemSource, Source};
-use memory_runs::{ended, words_of};
+use memory_runs::{AGE, CATALOG, TableText, census_with, ended, file, owner_text, words_of};
 use query_server::{Status, run_server};
 use std::alloc::{AllocError, Global};
 use std::test::Fail;
 
-// How `gap` ends over the tables `first.csv` and `second.csv` and a program, and what it writes.
-fn gap_of(
+// A table of one column of numbers in the file second.csv.
+const SECOND: TableText<'static> = ("people", "second.csv", AGE);
+
+// How `gap` ends over two tables, each of its own catalog, and a program, and what it writes.
+fn gap_of<'a>(
     alloc: Global,
-    first: &[u8],
-    second: &[u8],
-    program: &[u8],
+    first: &'a [u8],
+    second: &'a [u8],
+    program: &'a [u8],
 ) -> Result<(Status, Vec<u8>), AllocError> {
+    let other = census_with(alloc, &[SECOND])?;
     let held = [
-        MemFile {
-            name: "first.csv",
-            bytes: first,
-        },
-        MemFile {
-            name: "second.csv",
-            bytes: second,
-        },
-        MemFile {
-            name: "program",
-            bytes: program,
-        },
+        file("first.json", CATALOG),
+        file("people.csv", first),
+        file("second.json", other.as_bytes()),
+        file("second.csv", second),
+        file("program", program),
     ];
-    let words = ["gap", "first.csv", "census", "second.csv", "program"];
+    let words = ["gap", "first.json", "census", "second.json", "program"];
     ended(alloc, &words, &held, b"hello ann\n")
 }
 
@@ -109,64 +106,93 @@ fn each_program(rt: HostRuntime) -> Result<(), Fail> {
 }
 
 // Names that are refused, the first in the order of work.
+#[rattlefmt::skip]
+const REFUSALS: [(&[&str], &[u8]); 9] = [
+    (&["gap", "none", "nobody", "absent", "missing"], b"refused none\n"),
+    (&["gap", "program", "nobody", "absent", "missing"], b"refused program\n"),
+    (&["gap", "bad.json", "nobody", "absent", "missing"], b"refused nobody\n"),
+    (&["gap", "bad.json", "census", "absent", "missing"], b"refused absent\n"),
+    (&["gap", "bad.json", "census", "program", "missing"], b"refused program\n"),
+    (&["gap", "bad.json", "census", "cat.json", "missing"], b"refused second.csv\n"),
+    (&["gap", "cat.json", "census", "bad.json", "missing"], b"refused second.csv\n"),
+    (&["gap", "cat.json", "census", "cat.json", "missing"], b"refused missing\n"),
+    (&["gap", "cat.json", "nobody", "cat.json", "program"], b"refused nobody\n"),
+];
+
 #[test]
 fn each_refusal(rt: HostRuntime) -> Result<(), Fail> {
-    let good = b"age\n1\n".as_slice();
-    let bad = b"age\nx\n".as_slice();
+    let alloc = rt.alloc();
+    let other = census_with(alloc, &[SECOND])?;
     let held = [
-        MemFile {
-            name: "good",
-            bytes: good,
-        },
-        MemFile {
-            name: "bad",
-            bytes: bad,
-        },
-        MemFile {
-            name: "program",
-            bytes: b"size people",
-        },
+        file("cat.json", CATALOG),
+        file("people.csv", b"age\n1\n"),
+        file("bad.json", other.as_bytes()),
+        file("second.csv", b"age\nx\n"),
+        file("program", b"size people"),
     ];
-    let rows: [(&[&str], &str); 9] = [
-        (
-            &["gap", "none", "nobody", "absent", "missing"],
-            "refused none\n",
-        ),
-        (
-            &["gap", "bad", "nobody", "absent", "missing"],
-            "refused nobody\n",
-        ),
-        (
-            &["gap", "bad", "census", "absent", "missing"],
-            "refused absent\n",
-        ),
-        (
-            &["gap", "good", "census", "absent", "missing"],
-            "refused absent\n",
-        ),
-        (&["gap", "bad", "census", "bad", "missing"], "refused bad\n"),
-        (
-            &["gap", "program", "census", "bad", "missing"],
-            "refused program\n",
-        ),
-        (
-            &["gap", "good", "census", "bad", "missing"],
-            "refused bad\n",
-        ),
-        (
-            &["gap", "good", "census", "good", "missing"],
-            "refused missing\n",
-        ),
-        (
-            &["gap", "good", "nobody", "good", "program"],
-            "refused nobody\n",
-        ),
-    ];
-    for (words, wanted) in rows {
-        let (status, out) = ended(rt.alloc(), words, &held, b"")?;
-        assert_eq!(rt; status, Status::Refused, "{wanted}");
-        assert_eq!(rt; out.as_slice(), wanted.as_bytes(), "{wanted}");
+    for (words, wanted) in REFUSALS {
+        let (status, out) = ended(alloc, words, &held, b"")?;
+        assert_eq!(rt; status, Status::Refused, "{words:?}");
+        assert_eq!(rt; out.as_slice(), wanted, "{words:?}");
     }
+    Ok(())
+}
+
+// The tables of the second catalog, and whether they fit those of the first, which are `people` and then `wards`.
+#[rattlefmt::skip]
+const FITS: [(&[TableText<'static>], bool); 9] = [
+    (&[("people", "n", AGE), ("wards", "n", AGE)], true),
+    (&[("people", "more", AGE), ("wards", "none", AGE)], true),
+    (&[("wards", "n", AGE), ("people", "n", AGE)], false),
+    (&[("people", "n", AGE)], false),
+    (&[("people", "n", AGE), ("wards", "n", AGE), ("more", "n", AGE)], false),
+    (&[("people", "n", AGE), ("ward", "n", AGE)], false),
+    (&[("people", "n", AGE), ("wards", "n", "{\"name\":\"age\",\"type\":\"text\"}")], false),
+    (&[("people", "n", AGE), ("wards", "n", "{\"name\":\"ages\",\"type\":\"num\"}")], false),
+    (&[("people", "n", AGE), ("wards", "n", "{\"name\":\"age\",\"type\":\"num\"},{\"name\":\"town\",\"type\":\"text\"}")], false),
+];
+
+// Entries fit where they have the same tables in the same order, with the same columns; the names of files are free.
+#[test]
+fn entries_fit(rt: HostRuntime) -> Result<(), Fail> {
+    let alloc = rt.alloc();
+    let first = census_with(alloc, FITS[0].0)?;
+    for (tables, fits) in FITS {
+        let second = census_with(alloc, tables)?;
+        let held = [
+            file("first.json", first.as_bytes()),
+            file("second.json", second.as_bytes()),
+            file("n", b"age\n1\n2\n"),
+            file("more", b"age\n1\n2\n3\n"),
+            file("none", b"age\n"),
+            file("program", b"size people + 2 * size wards"),
+        ];
+        let words = ["gap", "first.json", "census", "second.json", "program"];
+        let (status, out) = ended(alloc, &words, &held, b"")?;
+        assert_eq!(rt; status == Status::Done, fits, "{tables:?}");
+        assert_eq!(rt;
+            out.as_slice() == b"refused census\n".as_slice(),
+            !fits,
+            "{tables:?}"
+        );
+    }
+    Ok(())
+}
+
+// The second catalog has no owner of this name; neither table is looked at.
+#[test]
+fn owner_of_the_first_alone(rt: HostRuntime) -> Result<(), Fail> {
+    let alloc = rt.alloc();
+    let owner = owner_text(alloc, "other", 1, 2, &[("people", "none", AGE)])?;
+    let second = format!(in alloc; "{{\"analysts\":[\"ann\"],\"owners\":[{owner}]}}")?;
+    let held = [
+        file("first.json", CATALOG),
+        file("second.json", second.as_bytes()),
+    ];
+    let words = ["gap", "first.json", "census", "second.json", "program"];
+    let (status, out) = ended(alloc, &words, &held, b"")?;
+    assert_eq!(rt; status, Status::Refused);
+    assert_eq!(rt; out.as_slice(), b"refused census\n".as_slice());
     Ok(())
 }
 
@@ -176,28 +202,28 @@ fn faulty_words(rt: HostRuntime) -> Result<(), Fail> {
     let rows: [&[&str]; 12] = [
         &[],
         &["gap"],
-        &["gap", "first.csv", "census", "second.csv"],
+        &["gap", "first.json", "census", "second.json"],
         &[
             "gap",
-            "first.csv",
+            "first.json",
             "census",
-            "second.csv",
+            "second.json",
             "program",
             "more",
         ],
         &[
             "gap",
-            "first.csv",
+            "first.json",
             "census",
-            "second.csv",
+            "second.json",
             "program",
             "--workers",
             "1",
         ],
-        &["Gap", "first.csv", "census", "second.csv", "program"],
-        &["run", "first.csv"],
-        &["run", "first.csv", "key", "--workers", "2"],
-        &["check", "first.csv", "census"],
+        &["Gap", "first.json", "census", "second.json", "program"],
+        &["run", "first.json"],
+        &["run", "first.json", "key", "--workers", "2"],
+        &["check", "first.json", "census"],
         &["help"],
         &["--help"],
         &["--version"],
@@ -214,16 +240,11 @@ fn faulty_words(rt: HostRuntime) -> Result<(), Fail> {
 #[test]
 fn source_is_left(rt: HostRuntime) -> Result<(), Fail> {
     let alloc = rt.alloc();
-    let words = words_of(alloc, &["gap", "t", "census", "t", "p"])?;
+    let words = words_of(alloc, &["gap", "cat.json", "census", "cat.json", "program"])?;
     let held = [
-        MemFile {
-            name: "t",
-            bytes: b"age\n1\n",
-        },
-        MemFile {
-            name: "p",
-            bytes: b"size people",
-        },
+        file("cat.json", CATALOG),
+        file("people.csv", b"age\n1\n"),
+        file("program", b"size people"),
     ];
     let mut files = MemFiles::new(&held);
     let mut source = MemSource::new(b"hello ann\n");

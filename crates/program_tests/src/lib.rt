@@ -6,6 +6,8 @@ mod chains;
 #[cfg(test)]
 mod close_rules;
 #[cfg(test)]
+mod columns;
+#[cfg(test)]
 mod gaps;
 #[cfg(test)]
 mod limits;

@@ -1,43 +1,46 @@
 //! Programs, by the command `check` and by `ask`.
 
 use crate::chains::Chain;
-use crate::wanted::{EPSILON, Row, Wanted};
-use crate::{chains, close_rules, limits, rules};
-use fz_outside::files::MemFiles;
+use crate::wanted::{EPSILON, House, Row, Wanted};
+use crate::{chains, close_rules, columns, limits, rules};
+use fz_outside::files::{MemFile, MemFiles};
 use fz_outside::sink::MemSink;
 use fz_outside::source::{MemSource, Source};
-use memory_runs::{KEY, TABLE, ended, joined, two_files, words_of};
+use memory_runs::{CATALOG, KEY, TABLE, census_files, ended, file, joined, words_of};
 use query_server::{Status, run_server};
 use std::alloc::{AllocError, Global};
 use std::test::Fail;
 
-// How `check` of these words ends over a table and a program, and what it writes.
-fn ended_at(
-    alloc: Global,
-    texts: &[&str],
-    table: &[u8],
-    program: &[u8],
-) -> Result<(Status, Vec<u8>), AllocError> {
-    ended(
-        alloc,
-        texts,
-        &two_files(table, "program", program),
-        b"hello ann\n",
-    )
+const PEOPLE: House<'static> = House {
+    catalog: CATALOG,
+    people: TABLE,
+    stays: b"",
+};
+
+// The files of a house, a program and a key.
+fn files_of<'a>(house: &House<'a>, program: &'a [u8]) -> [MemFile<'a>; 5] {
+    [
+        file("cat.json", house.catalog),
+        file("people.csv", house.people),
+        file("stays.csv", house.stays),
+        file("program", program),
+        file("key", &KEY),
+    ]
 }
 
-// What `check` ends with and writes for a program, over a table of three people.
-fn checked(alloc: Global, program: &[u8]) -> Result<(Status, Vec<u8>), AllocError> {
-    ended_at(
-        alloc,
-        &["check", "people.csv", "census", "program"],
-        TABLE,
-        program,
-    )
+// What `check` ends with and writes for a program.
+fn checked(
+    alloc: Global,
+    house: &House<'_>,
+    program: &[u8],
+) -> Result<(Status, Vec<u8>), AllocError> {
+    let held = files_of(house, program);
+    let words = ["check", "cat.json", "census", "program"];
+    ended(alloc, &words, &held, b"hello ann\n")
 }
 
 // What is written for the program where it is asked.
-fn asked(alloc: Global, program: &[u8]) -> Result<Vec<u8>, AllocError> {
+fn asked(alloc: Global, house: &House<'_>, program: &[u8]) -> Result<Vec<u8>, AllocError> {
     let script = joined(
         alloc,
         &[
@@ -48,19 +51,20 @@ fn asked(alloc: Global, program: &[u8]) -> Result<Vec<u8>, AllocError> {
             (b"\n", 1),
         ],
     )?;
-    let (_, out) = ended(
-        alloc,
-        &["run", "people.csv", "key"],
-        &two_files(TABLE, "key", &KEY),
-        &script,
-    )?;
+    let held = files_of(house, b"");
+    let (_, out) = ended(alloc, &["run", "cat.json", "key"], &held, &script)?;
     Ok(out)
 }
 
 // Whether `check` and `ask` say of a program what is wanted.
-fn says(alloc: Global, program: &[u8], wanted: &Wanted<'_>) -> Result<bool, AllocError> {
-    let (status, out) = checked(alloc, program)?;
-    let reply = asked(alloc, program)?;
+fn says(
+    alloc: Global,
+    house: &House<'_>,
+    program: &[u8],
+    wanted: &Wanted<'_>,
+) -> Result<bool, AllocError> {
+    let (status, out) = checked(alloc, house, program)?;
+    let reply = asked(alloc, house, program)?;
     let line = wanted.checked(alloc)?;
     let due = wanted.asked(alloc)?;
     Ok(
@@ -70,16 +74,25 @@ fn says(alloc: Global, program: &[u8], wanted: &Wanted<'_>) -> Result<bool, Allo
     )
 }
 
-// The first program of which something else is said.
-fn first_other<'a>(alloc: Global, tables: &[&'a [Row<'a>]]) -> Result<Option<&'a str>, AllocError> {
+// The first program of which something else is said, over a house.
+fn first_other_over<'a>(
+    alloc: Global,
+    house: &House<'_>,
+    tables: &[&'a [Row<'a>]],
+) -> Result<Option<&'a str>, AllocError> {
     for table in tables {
         for (program, wanted) in *table {
-            if !says(alloc, program.as_bytes(), wanted)? {
+            if !says(alloc, house, program.as_bytes(), wanted)? {
                 return Ok(Some(program));
             }
         }
     }
     Ok(None)
+}
+
+// The same over a table of three people.
+fn first_other<'a>(alloc: Global, tables: &[&'a [Row<'a>]]) -> Result<Option<&'a str>, AllocError> {
+    first_other_over(alloc, &PEOPLE, tables)
 }
 
 // The typing rules, their conditions and each kind of fault, and the faults of tokens and terms.
@@ -111,6 +124,18 @@ fn rules_of_numbers(rt: HostRuntime) -> Result<(), Fail> {
     let other = first_other(
         rt.alloc(),
         &[&rules::ARITHMETIC, &rules::COMPARISONS_AND_BOUNDS],
+    )?;
+    assert_eq!(rt; other, None);
+    Ok(())
+}
+
+// Rows of several columns, texts among them, and the greatest of two tables' sensitivities.
+#[test]
+fn rows_of_columns(rt: HostRuntime) -> Result<(), Fail> {
+    let other = first_other_over(
+        rt.alloc(),
+        &columns::STAYS,
+        &[&columns::TEXTS, &columns::ROWS],
     )?;
     assert_eq!(rt; other, None);
     Ok(())
@@ -166,7 +191,7 @@ fn first_other_chain<'a>(
     for table in tables {
         for row in *table {
             let program = chains::text_of(alloc, row)?;
-            if !says(alloc, program.as_bytes(), &row.4)? {
+            if !says(alloc, &PEOPLE, program.as_bytes(), &row.4)? {
                 return Ok(Some(row.2));
             }
         }
@@ -196,7 +221,7 @@ fn long_programs(rt: HostRuntime) -> Result<(), Fail> {
     let alloc = rt.alloc();
     for (pieces, wanted) in &limits::LONG_PROGRAMS {
         let program = joined(alloc, pieces)?;
-        let held = says(alloc, &program, wanted)?;
+        let held = says(alloc, &PEOPLE, &program, wanted)?;
         assert!(rt; held, "{} bytes", program.len());
     }
     Ok(())
@@ -212,27 +237,29 @@ fn other_bytes_of_one_term(rt: HostRuntime) -> Result<(), Fail> {
 
 // Words, the table's file, how `check` ends over them and the program `size people`, and what it writes.
 #[rattlefmt::skip]
-const STATUSES: [(&[&str], &[u8], Status, &[u8]); 12] = [
-    (&["check", "people.csv", "census"], TABLE, Status::Usage, b"usage\n"),
-    (&["check", "people.csv", "census", "program", "x"], TABLE, Status::Usage, b"usage\n"),
-    (&["Check", "people.csv", "census", "program"], TABLE, Status::Usage, b"usage\n"),
-    (&["run", "people.csv", "census", "program"], TABLE, Status::Usage, b"usage\n"),
-    (&["check", "people.csv", "program"], TABLE, Status::Usage, b"usage\n"),
+const STATUSES: [(&[&str], &[u8], Status, &[u8]); 13] = [
+    (&["check", "cat.json", "census"], TABLE, Status::Usage, b"usage\n"),
+    (&["check", "cat.json", "census", "program", "x"], TABLE, Status::Usage, b"usage\n"),
+    (&["Check", "cat.json", "census", "program"], TABLE, Status::Usage, b"usage\n"),
+    (&["run", "cat.json", "census", "program"], TABLE, Status::Usage, b"usage\n"),
+    (&["check", "cat.json", "program"], TABLE, Status::Usage, b"usage\n"),
     (&["check", "none", "nobody", "nothing"], b"age\n1.5\n", Status::Refused, b"refused none\n"),
-    (&["check", "people.csv", "nobody", "nothing"], b"age\n1.5\n", Status::Refused, b"refused nobody\n"),
-    (&["check", "people.csv", "", "nothing"], TABLE, Status::Refused, b"refused \n"),
-    (&["check", "people.csv", "census", "nothing"], b"age\n1.5\n", Status::Refused, b"refused people.csv\n"),
-    (&["check", "people.csv", "census", "nothing"], TABLE, Status::Refused, b"refused nothing\n"),
-    (&["check", "people.csv", "census", "people.csv"], TABLE, Status::ProgramRefused, b"no 30 unbound 0 3\n"),
-    (&["check", "people.csv", "census", "program"], b"age\n", Status::Done, b"ok 1\n"),
+    (&["check", "program", "nobody", "nothing"], b"age\n1.5\n", Status::Refused, b"refused program\n"),
+    (&["check", "cat.json", "nobody", "nothing"], b"age\n1.5\n", Status::Refused, b"refused nobody\n"),
+    (&["check", "cat.json", "", "nothing"], TABLE, Status::Refused, b"refused \n"),
+    (&["check", "cat.json", "census", "nothing"], b"age\n1.5\n", Status::Refused, b"refused people.csv\n"),
+    (&["check", "cat.json", "census", "nothing"], TABLE, Status::Refused, b"refused nothing\n"),
+    (&["check", "cat.json", "census", "people.csv"], TABLE, Status::ProgramRefused, b"no 30 unbound 0 3\n"),
+    (&["check", "cat.json", "census", "program"], b"age\n", Status::Done, b"ok 1\n"),
 ];
 
-// The table's file is looked at before the owner, the owner before the rows, and the rows before the program's file.
+// The catalog is looked at before the owner, the owner before the rows, and the rows before the program's file.
 #[test]
 fn statuses_of_checks(rt: HostRuntime) -> Result<(), Fail> {
     let alloc = rt.alloc();
     for (words, table, status, want) in STATUSES {
-        let (end, out) = ended_at(alloc, words, table, b"size people")?;
+        let held = census_files(table, "program", b"size people");
+        let (end, out) = ended(alloc, words, &held, b"hello ann\n")?;
         assert_eq!(rt; end, status, "{words:?}");
         assert!(rt; out.as_slice() == want, "{words:?}");
     }
@@ -243,8 +270,8 @@ fn statuses_of_checks(rt: HostRuntime) -> Result<(), Fail> {
 #[test]
 fn checks_take_nothing(rt: HostRuntime) -> Result<(), Fail> {
     let alloc = rt.alloc();
-    let words = words_of(alloc, &["check", "people.csv", "census", "program"])?;
-    let held = two_files(TABLE, "program", b"size people\n");
+    let words = words_of(alloc, &["check", "cat.json", "census", "program"])?;
+    let held = census_files(TABLE, "program", b"size people\n");
     let mut files = MemFiles::new(&held);
     let mut source = MemSource::new(b"bye\n");
     let mut sink = MemSink::<64>::new(alloc)?;

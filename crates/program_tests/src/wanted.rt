@@ -14,6 +14,13 @@ pub(crate) enum Wanted<'a> {
     Refused(&'a str),
 }
 
+/// A catalog, and the files of its tables.
+pub(crate) struct House<'a> {
+    pub(crate) catalog: &'a [u8],
+    pub(crate) people: &'a [u8],
+    pub(crate) stays: &'a [u8],
+}
+
 /// A program, and what is wanted of it.
 pub(crate) type Row<'a> = (&'a str, Wanted<'a>);
 

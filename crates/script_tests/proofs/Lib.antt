@@ -1,1 +1,1 @@
-pub mod Registers
+pub mod OnePass

@@ -1,57 +1,67 @@
 //! Scripts over other budgets and capacities, with draws out of a list; and the worked row.
 
-ghost use Rattle.std.specs.Prelude.{◌≤◌, ◌<◌, ◌^◌, IfOk};
-ghost use Rattle.answer_path.specs.Owner.{IsHolding};
-ghost use Rattle.session_core.specs.House.{people_holding};
+ghost use Rattle.std.specs.Prelude.{IfOk};
+ghost use Rattle.session_core.specs.House.{house_of};
+ghost use Rattle.session_core.specs.Code.{ArePasses};
 
 use answer_path::{Desk, Pass};
 use budget_core::book::Book;
-use fz_ast::NoMemory;
+use fz_outside::files::MemFiles;
 use fz_outside::words::ListStreams;
-use memory_runs::{KEY, Piece, joined};
+use memory_runs::{AGE, KEY, Piece, file, joined, owner_text};
 use query_server::Status;
-use session_core::house::{House, people_dataset};
+use query_server::opening::open_house;
+use session_core::house::House;
 use session_core::passes::Passes;
 use session_core::script::answer_script;
 use std::alloc::{AllocError, Global};
 use std::test::Fail;
-use table_store::{Table, load};
 use word_streams::KeyStreams;
 use worked_row::row_one;
 
-// The rows of a table's file.
-#[tactic(auto, using(crate::proofs::Registers::table_holds))]
-fn table_of(alloc: Global, bytes: &[u8]) -> Result<Table, AllocError>
-    ensures { IfOk result (λ table. IsHolding (people_holding table)) }
-{
-    match load(alloc, bytes, "age") {
-        Ok(table) => Ok(table),
+// A house of one analyst over a table's file.
+fn small_house(
+    alloc: Global,
+    budget: u64,
+    capacity: u32,
+    table: &[u8],
+) -> Result<House, AllocError> {
+    let owner = owner_text(
+        alloc,
+        "census",
+        budget,
+        capacity,
+        &[("people", "people.csv", AGE)],
+    )?;
+    let catalog = format!(in alloc; "{{\"analysts\":[\"ann\"],\"owners\":[{owner}]}}")?;
+    let held = [
+        file("cat.json", catalog.as_bytes()),
+        file("people.csv", table),
+        file("key", &KEY),
+    ];
+    let mut files = MemFiles::new(&held);
+    match open_house(alloc, &mut files, "cat.json", "key") {
+        Ok(opened) => Ok(opened.house),
         Err(_) => Err(AllocError),
     }
 }
 
-// A house of one analyst over a table's file.
-#[tactic(auto, using(crate::proofs::Registers::small_register))]
-fn small_house(alloc: Global, budget: u64, capacity: u32, bytes: &[u8]) -> Result<House, AllocError>
-    requires some { 0 < budget }
-    requires most { budget ≤ 10 ^ 18 }
-    requires room { 2 ≤ capacity }
-    requires most_room { capacity ≤ 262144 }
+// The pass of a house's one owner.
+#[tactic(auto, using(crate::proofs::OnePass::one_pass))]
+fn passes_of(alloc: Global, house: &House) -> Result<Passes, AllocError>
+    ensures { IfOk result (ArePasses (house_of house.now)) }
 {
-    let name = String::from_str(alloc, "ann")?;
-    let owner = String::from_str(alloc, "census")?;
-    let mut analysts = Vec::with_capacity(alloc, 1)?;
-    analysts.push(name)?;
-    let table = table_of(alloc, bytes)?;
-    match people_dataset(alloc, table.into_numbers()) {
-        Ok(dataset) => Ok(House::new(analysts, owner, budget, capacity, dataset)),
-        Err(NoMemory) => Err(AllocError),
+    if house.owners() != 1 {
+        return Err(AllocError);
     }
+    let book = Book::new(alloc, house.entry(0))?;
+    let mut passes = Vec::with_capacity(alloc, 1)?;
+    passes.push(Pass::new(book))?;
+    Ok(Passes::new(passes))
 }
 
 // Other budgets, other capacities, and draws that are listed: -1 comes of the first list, and no number of zeros for ever. A
 // number that is exhausted is charged.
-#[tactic(auto, using(query_server::proofs::Passes::one_pass))]
 #[test]
 fn listed_draws(rt: HostRuntime) -> Result<(), Fail> {
     let alloc = rt.alloc();
@@ -78,11 +88,9 @@ fn listed_draws(rt: HostRuntime) -> Result<(), Fail> {
         ),
     ];
     for (budget, capacity, draws, want) in cases {
-        assert!(rt; budget > 0 && budget <= 1_000_000_000_000_000_000);
-        assert!(rt; capacity >= 2 && capacity <= 262_144);
         let house = small_house(alloc, budget, capacity, b"age\n")?;
         let desk = Desk::new();
-        let mut passes = Passes::new(Pass::new(Book::new(alloc, house.entry())?));
+        let mut passes = passes_of(alloc, &house)?;
         let streams = ListStreams::new(draws);
         let out = answer_script(alloc, &house, &desk, &mut passes, &streams, script)?;
         assert!(rt; out.as_slice() == want, "{budget} {capacity}");
@@ -100,7 +108,6 @@ const SUMS: [(usize, &[u8], usize, &[u8], &[u8]); 4] = [
 ];
 
 // A sum is held at 2^50 once, behind its last element: tables of over 262,144 rows tell it from one that is held at each.
-#[tactic(auto, using(query_server::proofs::Passes::one_pass))]
 #[test]
 fn sums_of_many_rows(rt: HostRuntime) -> Result<(), Fail> {
     let alloc = rt.alloc();
@@ -116,7 +123,7 @@ fn sums_of_many_rows(rt: HostRuntime) -> Result<(), Fail> {
         let due = joined(alloc, &[(b"hello ann\n", 1), (want, 1)])?;
         let house = small_house(alloc, 1_000_000_000_000, 100, &table)?;
         let desk = Desk::new();
-        let mut passes = Passes::new(Pass::new(Book::new(alloc, house.entry())?));
+        let mut passes = passes_of(alloc, &house)?;
         let streams = KeyStreams::new(KEY);
         let out = answer_script(alloc, &house, &desk, &mut passes, &streams, &script)?;
         assert!(rt; out.as_slice() == due.as_slice(), "{times} rows");

@@ -5,7 +5,7 @@ use fz_outside::files::MemFiles;
 use fz_outside::flaky::{Flaky, Schedule};
 use fz_outside::sink::MemSink;
 use fz_outside::source::MemSource;
-use memory_runs::{KEY, Piece, TABLE, ended, joined, two_files, words_of};
+use memory_runs::{KEY, Piece, TABLE, census_files, ended, joined, words_of};
 use query_server::{Status, run_server};
 use std::alloc::{AllocError, Global};
 use std::test::Fail;
@@ -17,7 +17,7 @@ struct Case<'a> {
     want: &'a [u8],
 }
 
-// How the command of these words ends over a table and a key, and what it writes.
+// How the command of these words ends over the catalog, its table and a key, and what it writes.
 fn written(
     alloc: Global,
     texts: &[&str],
@@ -25,7 +25,7 @@ fn written(
     key: &[u8],
     script: &[u8],
 ) -> Result<(Status, Vec<u8>), AllocError> {
-    ended(alloc, texts, &two_files(table, "key", key), script)
+    ended(alloc, texts, &census_files(table, "key", key), script)
 }
 
 // Whether a transcript is the plain one, which has `?` for the refusal of a program that it doesn't read.
@@ -194,7 +194,7 @@ fn transcripts(rt: HostRuntime) -> Result<(), Fail> {
     let alloc = rt.alloc();
     for case in &cases {
         let script = joined(alloc, case.pieces)?;
-        let (status, out) = written(alloc, &["run", "people.csv", "key"], TABLE, &KEY, &script)?;
+        let (status, out) = written(alloc, &["run", "cat.json", "key"], TABLE, &KEY, &script)?;
         assert_eq!(rt; status, Status::Done, "{}", case.name);
         assert!(rt; out.as_slice() == case.want, "{}", case.name);
         let plain = plain::transcript(alloc, 3, KEY, &script)?;
@@ -207,27 +207,29 @@ fn transcripts(rt: HostRuntime) -> Result<(), Fail> {
     Ok(())
 }
 
-const RUN: &[&str] = &["run", "people.csv", "key"];
+const RUN: &[&str] = &["run", "cat.json", "key"];
 
 const ASK: &[u8] = b"hello ann\nask census 1 size people\n";
 
 // Words, the table's file, the key's and the script; how the run ends, and what it writes.
 #[rattlefmt::skip]
-const STATUSES: [(&[&str], &[u8], &[u8], &[u8], Status, &[u8]); 11] = [
+const STATUSES: [(&[&str], &[u8], &[u8], &[u8], Status, &[u8]); 13] = [
     (&[], TABLE, &KEY, b"", Status::Usage, b"usage\n"),
-    (&["run", "people.csv"], TABLE, &KEY, b"", Status::Usage, b"usage\n"),
-    (&["run", "people.csv", "key", "x"], TABLE, &KEY, b"", Status::Usage, b"usage\n"),
-    (&["Run", "people.csv", "key"], TABLE, &KEY, b"", Status::Usage, b"usage\n"),
+    (&["run", "cat.json"], TABLE, &KEY, b"", Status::Usage, b"usage\n"),
+    (&["run", "cat.json", "key", "x"], TABLE, &KEY, b"", Status::Usage, b"usage\n"),
+    (&["Run", "cat.json", "key"], TABLE, &KEY, b"", Status::Usage, b"usage\n"),
     (&["run", "none", "nokey"], TABLE, &KEY, b"", Status::Refused, b"refused none\n"),
-    (&["run", "people.csv", "nokey"], b"age\n1.5\n", &KEY, b"", Status::Refused, b"refused nokey\n"),
+    (&["run", "people.csv", "nokey"], TABLE, &KEY, b"", Status::Refused, b"refused people.csv\n"),
+    (&["run", "cat.json", "nokey"], b"age\n1.5\n", &KEY, b"", Status::Refused, b"refused nokey\n"),
     (RUN, b"age\n1.5\n", &[0; 31], b"", Status::Refused, b"refused key\n"),
+    (RUN, b"age\n1.5\n", &KEY, b"", Status::Refused, b"refused people.csv\n"),
     (RUN, TABLE, &[0; 33], b"", Status::Refused, b"refused key\n"),
     (RUN, TABLE, b"", b"", Status::Refused, b"refused key\n"),
     (RUN, b"age\n", &KEY, ASK, Status::Done, b"hello ann\nanswer 0 2 1000000\n"),
     (RUN, b"\xEF\xBB\xBFage\r\n-5", &KEY, ASK, Status::Done, b"hello ann\nanswer 0 3 1000000\n"),
 ];
 
-// The table's file is looked at before the key, and the key before the rows.
+// The catalog is looked at before the key, and the key before the rows.
 #[test]
 fn statuses(rt: HostRuntime) -> Result<(), Fail> {
     let alloc = rt.alloc();
@@ -275,8 +277,8 @@ fn scripts_too_long(rt: HostRuntime) -> Result<(), Fail> {
 fn longest_script(rt: HostRuntime) -> Result<(), Fail> {
     let alloc = rt.alloc();
     let script = joined(alloc, &[(b"\n", 16_777_216)])?;
-    let words = words_of(alloc, &["run", "people.csv", "key"])?;
-    let held = two_files(TABLE, "key", &KEY);
+    let words = words_of(alloc, &["run", "cat.json", "key"])?;
+    let held = census_files(TABLE, "key", &KEY);
     let mut files = MemFiles::new(&held);
     let mut source = MemSource::new(&script);
     let mut sink = MemSink::<134_217_728>::new(alloc)?;
@@ -304,8 +306,8 @@ fn on_schedule<T>(inner: T, failing: &[u64]) -> Flaky<'_, T> {
 #[test]
 fn faults(rt: HostRuntime) -> Result<(), Fail> {
     let alloc = rt.alloc();
-    let words = words_of(alloc, &["run", "people.csv", "key"])?;
-    let held = two_files(TABLE, "key", &KEY);
+    let words = words_of(alloc, &["run", "cat.json", "key"])?;
+    let held = census_files(TABLE, "key", &KEY);
     let script = b"hello ann\nask census 1 size people\nbye\n";
     let want = b"hello ann\nanswer 0 5 1000000\nbye\n";
     for place in 0..3_usize {
@@ -317,7 +319,7 @@ fn faults(rt: HostRuntime) -> Result<(), Fail> {
             let mut sink = on_schedule(MemSink::<64>::new(alloc)?, &failing[2..]);
             let status = run_server(alloc, &words, &mut files, &mut source, &mut sink);
             let out = sink.inner.bytes();
-            let met = call < [2, 4, 3][place];
+            let met = call < [3, 4, 3][place];
             assert_eq!(rt; status == Status::Fault, met, "call {call} at {place}");
             assert_eq!(rt; status == Status::Done, !met, "call {call} at {place}");
             let length = match (met, place) {
@@ -363,7 +365,7 @@ fn plain_transcripts_agree(rt: HostRuntime) -> Result<(), Fail> {
                 let script = joined(alloc, &[(first, 1), (second, 1), (third, 1)])?;
                 let (status, out) = written(
                     alloc,
-                    &["run", "people.csv", "key"],
+                    &["run", "cat.json", "key"],
                     TABLE,
                     &key,
                     &script,

@@ -1,7 +1,7 @@
 //! Worked rows: scripts with their replies, byte for byte, under a key of zeros. What is wanted was worked out by hand from the rules,
 //! with the noise that tools/reference.py draws.
 
-use memory_runs::{KEY, Piece, TABLE, ended, joined, two_files};
+use memory_runs::{KEY, Piece, TABLE, census_files, ended, joined};
 use query_server::Status;
 use std::test::Fail;
 
@@ -41,8 +41,8 @@ fn worked_rows(rt: HostRuntime) -> Result<(), Fail> {
         let asks = joined(alloc, asked)?;
         let script = joined(alloc, &[(b"hello ann\n", 1), (&asks, 1), (b"bye\n", 1)])?;
         let due = joined(alloc, &[(b"hello ann\n", 1), (want, 1), (b"bye\n", 1)])?;
-        let held = two_files(table, "key", &KEY);
-        let (status, out) = ended(alloc, &["run", "people.csv", "key"], &held, &script)?;
+        let held = census_files(table, "key", &KEY);
+        let (status, out) = ended(alloc, &["run", "cat.json", "key"], &held, &script)?;
         assert_eq!(rt; status, Status::Done, "{asked:?}");
         assert!(rt; out.as_slice() == due.as_slice(), "{asked:?}");
     }

@@ -6,8 +6,9 @@ use Rattle.rand_chacha.specs.Block.{block_word, column_round, diagonal_round, do
 use Rattle.fz_outside.specs.Draws.{first_draws}
 use Rattle.fz_frac.specs.Lowest.{gcd, gcd_in}
 use Rattle.word_streams.specs.Draws.{draws_of}
-use Rattle.discrete_laplace.specs.DiscreteLaplace.{draw_limit}
-use Rattle.discrete_laplace.specs.Readers.{read_sample, read_attempt, read_geometric, read_bernoulli_exp, read_run, read_bernoulli, read_uniform}
+use Rattle.exact_bernoulli.specs.Meter.{draw_limit}
+use Rattle.exact_bernoulli.specs.Readers.{read_bernoulli_exp, read_run, read_bernoulli, read_uniform}
+use Rattle.discrete_laplace.specs.Readers.{read_sample, read_attempt, read_geometric}
 use Rattle.discrete_laplace.specs.Noise.{noise_of}
 use Rattle.discrete_laplace.proofs.Fewer.{noise_of_first}
 use Rattle.answer_path.specs.Noise.{noise_at, scale_numerator, scale_denominator}

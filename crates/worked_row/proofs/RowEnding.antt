@@ -1,32 +1,26 @@
--- What the command comes to over files that hold the table and the key of zeros.
+-- What the command comes to over files that hold the catalog, its table and the key of zeros.
 use Rattle.std.proofs.Common.{◌≡◌, ℕ, List, [], ◌∷◌, Option, Some, refl, ◌∙◌, ap, codes}
-use Rattle.table_store.specs.Table.{table_in_file}
-use Rattle.query_server.specs.Ending.{to_answer}
-use Rattle.query_server.specs.Files.{readable}
-use Rattle.query_server.specs.Run.{run_ending, rows_ending}
-use Rattle.command_words.specs.Command.{run}
+use Rattle.command_words.specs.Command.{Command, command_of, run}
 use Rattle.command_words.proofs.Plain.{plain_is_tabled}
-use Rattle.query_server.specs.Due.{ending_of}
-use Rattle.query_server.proofs.Endings.{ending_by}
+use Rattle.query_server.specs.Due.{ending_of, steps_of}
+use Rattle.query_server.specs.Ending.{Ending, ended, to_answer}
+use Rattle.query_server.specs.Files.{Contents, always}
+use Rattle.query_server.specs.Steps.{Outcome}
+use Rattle.worked_row.specs.Row.{catalog_text, table_text}
 use Rattle.worked_row.proofs.RowDraws.{zeros}
-use Rattle.worked_row.proofs.RowTable.{ages, table, has_ages}
+use Rattle.worked_row.proofs.RowSteps.{register, run_given}
 
 abbrev pub words : List (List ℕ)
-words = codes "run" ∷ codes "people.csv" ∷ codes "key" ∷ []
+words = codes "run" ∷ codes "cat.json" ∷ codes "key" ∷ []
 
-by_files : (held : List ℕ → Option (List ℕ)) → ending_of words held ≡ run_ending (codes "people.csv") (codes "key") (readable (held (codes "people.csv"))) (readable (held (codes "key")))
-by_files held = ending_by words held (Some (run (codes "people.csv") (codes "key") 1)) (plain_is_tabled words (refl, (refl, (refl, tt))))
-
-by_rows : run_ending (codes "people.csv") (codes "key") (readable (Some table)) (readable (Some zeros)) ≡ rows_ending (codes "people.csv") (table_in_file (codes "age") table) zeros
-by_rows = refl
+is_run : command_of words ≡ Some (run (codes "cat.json") (codes "key") 1)
+is_run = plain_is_tabled words (refl, (refl, (refl, tt)))
 
 -- A script is to be answered over the three rows, whatever else the files hold.
-pub row_ending : (given : List (List ℕ)) (held : List ℕ → Option (List ℕ)) → given ≡ words → held (codes "people.csv") ≡ Some table → held (codes "key") ≡ Some zeros
-    → ending_of given held ≡ to_answer ages zeros
-row_ending given held are_words has_table has_key =
-    ap (λ given. ending_of given held) are_words
-    ∙ by_files held
-    ∙ ap (λ (file : Option (List ℕ)). run_ending (codes "people.csv") (codes "key") (readable file) (readable (held (codes "key")))) has_table
-    ∙ ap (λ (file : Option (List ℕ)). run_ending (codes "people.csv") (codes "key") (readable (Some table)) (readable file)) has_key
-    ∙ by_rows
-    ∙ ap (λ rows. rows_ending (codes "people.csv") rows zeros) has_ages
+pub row_ending : (given : List (List ℕ)) (held : Contents) → given ≡ words → held (codes "cat.json") ≡ Some catalog_text → held (codes "key") ≡ Some zeros
+    → held (codes "people.csv") ≡ Some table_text → ending_of given (always held) ≡ to_answer register zeros
+unfolding ending_of
+row_ending given held are_words has_catalog has_key has_table =
+    ap (λ given. ended (steps_of (command_of given) (always held)).given) are_words
+    ∙ ap (λ (command : Option Command). ended (steps_of command (always held)).given) is_run
+    ∙ ap (λ (o : Outcome Ending). ended o.given) (run_given held has_catalog has_key has_table).1

@@ -1,5 +1,5 @@
 -- What the program `size people` comes to over the table of three rows.
-use Rattle.std.proofs.Common.{◌≡◌, refl}
+use Rattle.std.proofs.Common.{◌≡◌, [], ◌∷◌, refl}
 use Rattle.std.specs.Prelude.{ℤ, pos}
 use Rattle.fz_frac.specs.Distance.{Fin}
 use Rattle.fz_frac.specs.Lowest.{gcd, gcd_in}
@@ -8,19 +8,28 @@ use Rattle.answer_path.specs.Reading.{read}
 use Rattle.answer_path.specs.Judgement.{accepted, judgement_of, HasValue}
 use Rattle.answer_path.proofs.Programs.{one_value}
 use Rattle.answer_path.proofs.SizePeople.{size_people, size_term, size_reads}
-use Rattle.query_server.specs.House.{census_tables}
-use Rattle.worked_row.proofs.RowTable.{rows, row_list}
+use Rattle.fz_ast.specs.Signature.{Signature}
+use Rattle.metric_values.specs.Tables.{Dataset}
+use Rattle.owner_catalog.specs.Catalog.{signature_of}
+use Rattle.worked_row.proofs.RowCatalog.{census}
+use Rattle.worked_row.proofs.RowTable.{rows}
+
+abbrev pub tables : Signature
+tables = signature_of census
+
+abbrev pub dataset : Dataset
+dataset = rows ∷ []
 
 -- it is accepted at 1, and its run without data is within the limits
-pub judgement : judgement_of census_tables (read size_term) ≡ accepted size_term (Fin 1 1)
+pub judgement : judgement_of tables (read size_term) ≡ accepted size_term (Fin 1 1)
 unfolding judgement_of gcd gcd_in depth_limit
 judgement = refl
 
 -- it means how many rows there are ..
-is_three : HasValue census_tables rows size_people (pos 3)
+is_three : HasValue tables dataset size_people (pos 3)
 unfolding HasValue
-is_three = (size_term, size_reads, (2, (row_list, refl, refl)))
+is_three = (size_term, size_reads, (2, (rows, refl, refl)))
 
 -- .. and nothing else
-pub size_is_three : (z : ℤ) → HasValue census_tables rows size_people z → z ≡ pos 3
-size_is_three z has = one_value census_tables rows size_people z (pos 3) has is_three
+pub size_is_three : (z : ℤ) → HasValue tables dataset size_people z → z ≡ pos 3
+size_is_three z has = one_value tables dataset size_people z (pos 3) has is_three

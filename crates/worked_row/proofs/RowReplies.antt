@@ -32,30 +32,17 @@ use Rattle.session_core.specs.Meant.{Meant, says, wants, asks, meant_by}
 use Rattle.session_core.specs.Turns.{Turn, turns_of, meant_at}
 use Rattle.session_core.specs.Exchanges.{Exchange, IsPlain, ArePlain, TurnLeads, Lead}
 use Rattle.session_core.specs.Transcript.{Journals, MeetsExactly, LeadExactly, IsScriptRun, IsScriptWritten, IsTranscript}
-use Rattle.query_server.specs.House.{census, census_tables}
 use Rattle.query_server.specs.Run.{none_found}
-use Rattle.worked_row.proofs.RowTable.{ages}
-use Rattle.worked_row.proofs.RowProgram.{judgement, size_is_three}
-
-abbrev pub script : List ℕ
-script = codes "hello ann\nask census 1 size people\nbye\n"
-
-abbrev pub row : List ℕ
-row = codes "hello ann\nanswer 0 5 1000000\nbye\n"
-
--- the same where memory ran out before the reservation
-abbrev pub row_without : List ℕ
-row_without = codes "hello ann\nno 90\nbye\n"
-
--- and where it ran out after it
-abbrev pub row_lost : List ℕ
-row_lost = codes "hello ann\nno 51 0\nbye\n"
+use Rattle.worked_row.specs.Row.{script, row, row_without, row_lost, IsRowText}
+use Rattle.worked_row.proofs.RowCatalog.{catalog, census}
+use Rattle.worked_row.proofs.RowSteps.{holding, register}
+use Rattle.worked_row.proofs.RowProgram.{judgement, size_is_three, tables}
 
 abbrev house : House
-house = house_of (census ages)
+house = house_of register
 
 abbrev owner : Owner
-owner = owner_of (census ages)
+owner = owner_of catalog (census, holding)
 
 abbrev query : Query
 query = record { owner = 0; analyst = 0; view = Whole; e = 1000000; program = size_people }
@@ -92,10 +79,10 @@ unfolding request_of meant_by
 third_meant = refl
 
 -- the verdict, whose program has one reading
-granted_by : (found : Reading) (verdict : Verdict) → found ≡ read size_term → IsVerdictBy owner.entry 0 [] query (judgement_of census_tables found) verdict → verdict ≡ granted asking grant
+granted_by : (found : Reading) (verdict : Verdict) → found ≡ read size_term → IsVerdictBy owner.entry 0 [] query (judgement_of tables found) verdict → verdict ≡ granted asking grant
 unfolding cost_of partition_cost
 granted_by found verdict same is =
-    here (subst (λ (j : Judgement). IsVerdictBy owner.entry 0 [] query j verdict) (ap (λ (r : Reading). judgement_of census_tables r) same ∙ judgement) is)
+    here (subst (λ (j : Judgement). IsVerdictBy owner.entry 0 [] query j verdict) (ap (λ (r : Reading). judgement_of tables r) same ∙ judgement) is)
   where
     here : IsVerdictBy owner.entry 0 [] query (accepted size_term (Fin 1 1)) verdict → verdict ≡ granted asking grant
     here is = is
@@ -174,10 +161,6 @@ replies_from draws noise (x ∷ y ∷ z ∷ []) last turns (px, (py, (pz, nothin
     three x.reply y.reply z.reply (plain_by x first_turn (greeted (codes "ann")) (Some 0) first first_meant px)
     (asked_then draws x y z last noise (ap (meant_at house) first ∙ first_meant) (ap (meant_at house) second ∙ second_meant) lead)
     (plain_by z third_turn ended (Some 0) third third_meant pz)
-
--- what may be written
-abbrev pub IsRowText : List ℕ → Type 0
-IsRowText text = (text ≡ row) ⊎ (text ≡ row_without) ⊎ (text ≡ row_lost)
 
 answered_text : flat_map reply_text (replies_with (answered 0 (pos 5) 1000000)) ≡ row
 unfolding reply_text digits

@@ -10,8 +10,9 @@ use Rattle.query_server.specs.Status.{memory_text, too_long_text}
 use Rattle.query_server.specs.declared.end.Status.{Status}
 use Rattle.query_server.specs.declared.end.Status.TheVariants.{Done, Fault, NoMemory}
 use Rattle.worked_row.proofs.RowDraws.{zeros, noise_is_two}
-use Rattle.worked_row.proofs.RowTable.{ages}
-use Rattle.worked_row.proofs.RowReplies.{script, row, row_without, row_lost, IsRowText, transcript_is}
+use Rattle.worked_row.specs.Row.{script, row, row_without, row_lost, IsRowText}
+use Rattle.worked_row.proofs.RowSteps.{register}
+use Rattle.worked_row.proofs.RowReplies.{transcript_is}
 
 row_length : length row ≡ 33
 row_length = refl
@@ -38,19 +39,19 @@ prefix_short text whole (rest, is) short =
     let e : length whole ≡ length (text ++ rest) = ap length is in
     omega (arith, length-append text rest)
 
-due_short : (status : Status) (text : List ℕ) → IsScriptDue ages zeros script status text → length text < 64
+due_short : (status : Status) (text : List ℕ) → IsScriptDue register zeros script status text → length text < 64
 due_short status text (inl (done, few, is)) = row_short text (transcript_is (draws_of zeros) noise_is_two text is)
 due_short status text (inr (over, many, is)) = let e : length text ≡ length too_long_text = ap length is in omega (arith, long_length)
 
 -- At any status fewer bytes are written than there is room for.
-pub short : (status : Status) (text : List ℕ) → IsWrittenAt (to_answer ages zeros) script status text → length text < 64
+pub short : (status : Status) (text : List ℕ) → IsWrittenAt (to_answer register zeros) script status text → length text < 64
 short status text (inl due) = due_short status text due
 short status text (inr (inl (memory, is))) = let e : length text ≡ length memory_text = ap length is in omega (arith, memory_length)
 short status text (inr (inr (fault, inl (other, due, is, prefix)))) = prefix_short text due prefix (due_short other due is)
 short status text (inr (inr (fault, inr prefix))) = prefix_short text memory_text prefix (omega (arith, memory_length))
 
 -- So a sink that fails only where it is full hasn't failed.
-pub none_failed : (ending : Ending) (status : Status) (text written : List ℕ) (faults : ℕ) → ending ≡ to_answer ages zeros → IsWrittenAt ending script status text
+pub none_failed : (ending : Ending) (status : Status) (text written : List ℕ) (faults : ℕ) → ending ≡ to_answer register zeros → IsWrittenAt ending script status text
     → Some written ≡ Some ([] ++ text) → (0 < faults → length written ≡ 64) → faults ≡ 0
 none_failed ending status text written faults due is whole full =
     let few : length text < 64 = short status text (subst (λ (e : Ending). IsWrittenAt e script status text) due is) in
@@ -62,7 +63,7 @@ script_length : length script ≡ 39
 script_length = refl
 
 -- where nothing fails
-finished_row : (status : Status) (text : List ℕ) → IsWrittenAt (to_answer ages zeros) script status text → (status ≡ Fault → ⊥)
+finished_row : (status : Status) (text : List ℕ) → IsWrittenAt (to_answer register zeros) script status text → (status ≡ Fault → ⊥)
     → (status ≡ NoMemory) ⊎ ((status ≡ Done) × IsRowText text)
 finished_row status text (inl (inl (done, few, is))) sound = inr (done, transcript_is (draws_of zeros) noise_is_two text is)
 finished_row status text (inl (inr (over, many, is))) sound = absurd (omega (arith, many, script_length))
@@ -79,7 +80,7 @@ written_row text written whole (inr (inl is)) = inr (inl (whole ∙ ap Some is))
 written_row text written whole (inr (inr is)) = inr (inr (whole ∙ ap Some is))
 
 -- Where nothing fails, the row is written or memory is wanting.
-pub finished : (ending : Ending) (status : Status) (text written : List ℕ) → ending ≡ to_answer ages zeros → IsWrittenAt ending script status text
+pub finished : (ending : Ending) (status : Status) (text written : List ℕ) → ending ≡ to_answer register zeros → IsWrittenAt ending script status text
     → Some written ≡ Some ([] ++ text) → (status ≡ Fault → ⊥)
     → (status ≡ NoMemory) ⊎ ((status ≡ Done) × IsRowWritten written)
 finished ending status text written due is whole sound = here (finished_row status text (subst (λ (e : Ending). IsWrittenAt e script status text) due is) sound)

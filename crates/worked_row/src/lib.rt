@@ -3,6 +3,7 @@
 
 ghost use Rattle.std.specs.Prelude.{◌≡◌, ◌⊎◌, Some, [], ◌∷◌, codes, map, string_bytes, replicate, IfOk};
 ghost use Rattle.fz_outside.specs.Files.{bytes_of};
+ghost use Rattle.worked_row.specs.Row.{catalog_text, table_text, row, row_without, row_lost};
 
 use fz_outside::files::{MemFile, MemFiles};
 use fz_outside::sink::{MemSink, Sink};
@@ -22,20 +23,26 @@ pub struct Ran {
 
 /// The words of the command.
 fn words_of_row(alloc: Global) -> Result<Vec<String>, AllocError>
-    ensures { IfOk result (λ words. map string_bytes words.items ≡ codes "run" ∷ codes "people.csv" ∷ codes "key" ∷ []) }
+    ensures { IfOk result (λ words. map string_bytes words.items ≡ codes "run" ∷ codes "cat.json" ∷ codes "key" ∷ []) }
 {
     let run = String::from_str(alloc, "run")?;
-    let catalog = String::from_str(alloc, "people.csv")?;
+    let catalog = String::from_str(alloc, "cat.json")?;
     let key = String::from_str(alloc, "key")?;
     Ok(vec![in alloc; run, catalog, key]?)
 }
 
-/// The files that the command names: a table of three rows, and a key of zeros.
-fn files_of_row() -> [MemFile<'static>; 2]
-    ensures catalog { bytes_of result (codes "people.csv") ≡ Some (codes "age\n20\n30\n40\n") }
+/// The files that are read: a catalog, its table of three rows, and a key of zeros.
+fn files_of_row() -> [MemFile<'static>; 3]
+    ensures catalog { bytes_of result (codes "cat.json") ≡ Some catalog_text }
+    ensures table { bytes_of result (codes "people.csv") ≡ Some table_text }
     ensures key { bytes_of result (codes "key") ≡ Some (replicate 32 0) }
 {
     [
+        MemFile {
+            name: "cat.json",
+            bytes: b"{\"analysts\":[\"ann\",\"bob\"],\"owners\":[{\"name\":\"census\",\"budget\":10000000,\"capacity\":100,\"tables\":[\
+                {\"name\":\"people\",\"file\":\"people.csv\",\"columns\":[{\"name\":\"age\",\"type\":\"num\"}]}],\"partitions\":[]}]}",
+        },
         MemFile {
             name: "people.csv",
             bytes: b"age\n20\n30\n40\n",
@@ -52,9 +59,9 @@ fn files_of_row() -> [MemFile<'static>; 2]
 pub fn row_one(alloc: Global) -> Result<Ran, AllocError>
     ensures { IfOk result (λ ran. (ran.status ≡ Status.NoMemory)
         ⊎ ((ran.status ≡ Status.Done)
-        × ((⟦<MemSink<ROOM> as Sink>⟧.contents ran.sink ≡ Some (codes "hello ann\nanswer 0 5 1000000\nbye\n"))
-        ⊎ (⟦<MemSink<ROOM> as Sink>⟧.contents ran.sink ≡ Some (codes "hello ann\nno 90\nbye\n"))
-        ⊎ (⟦<MemSink<ROOM> as Sink>⟧.contents ran.sink ≡ Some (codes "hello ann\nno 51 0\nbye\n"))))) }
+        × ((⟦<MemSink<ROOM> as Sink>⟧.contents ran.sink ≡ Some row)
+        ⊎ (⟦<MemSink<ROOM> as Sink>⟧.contents ran.sink ≡ Some row_without)
+        ⊎ (⟦<MemSink<ROOM> as Sink>⟧.contents ran.sink ≡ Some row_lost)))) }
 {
     let words = words_of_row(alloc)?;
     let listed = files_of_row();

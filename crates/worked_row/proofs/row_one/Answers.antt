@@ -1,7 +1,7 @@
 use Rattle.std.proofs.Common.{◌≡◌, ◌∙◌, ap, map, string_bytes, [], List, ℕ, Option, sym}
 use Rattle.fz_outside.specs.Files.{bytes_of}
 use Rattle.query_server.specs.declared.end.Status.TheVariants.{Fault}
-use Rattle.worked_row.proofs.RowReplies.{script}
+use Rattle.worked_row.specs.Row.{script}
 use Rattle.worked_row.proofs.RowEnding.{row_ending}
 use Rattle.worked_row.proofs.RowStatus.{none_failed, finished, none_risen}
 use Rattle.worked_row.proofs.row_one.Goals as goal
@@ -11,7 +11,7 @@ pub prove-unreachable-requires : goal.prove-unreachable-requires
 prove-unreachable-requires c =
     let held : List ℕ → Option (List ℕ) = bytes_of c.files_of_row-listed.result in
     let named = ap (map string_bytes) c.deref.ensures.value ∙ c.in_ok-words.ensures in
-    let due = row_ending (map string_bytes c.deref.result.now) held named c.files_of_row-listed.ensures.catalog c.files_of_row-listed.ensures.key in
+    let due = row_ending (map string_bytes c.deref.result.now) held named c.files_of_row-listed.ensures.catalog c.files_of_row-listed.ensures.key c.files_of_row-listed.ensures.table in
     let exact = c.run_server-status.ensures.exact held script [] c.new-files.ensures.held c.new-source.ensures c.in_ok-sink.ensures.contents in
     c.if-prove.true (none_failed _ _ exact.0 c.run_server-status.new.sink.bytes.items c.faults-faults.result due exact.2 exact.1 c.faults-faults.ensures.full)
 
@@ -20,7 +20,7 @@ pub returns : goal.returns
 returns c =
     let held : List ℕ → Option (List ℕ) = bytes_of c.files_of_row-listed.result in
     let named = ap (map string_bytes) c.deref.ensures.value ∙ c.in_ok-words.ensures in
-    let due = row_ending (map string_bytes c.deref.result.now) held named c.files_of_row-listed.ensures.catalog c.files_of_row-listed.ensures.key in
+    let due = row_ending (map string_bytes c.deref.result.now) held named c.files_of_row-listed.ensures.catalog c.files_of_row-listed.ensures.key c.files_of_row-listed.ensures.table in
     let exact = c.run_server-status.ensures.exact held script [] c.new-files.ensures.held c.new-source.ensures c.in_ok-sink.ensures.contents in
     let zero : c.run_server-status.new.sink.faults ≡ 0 = sym c.faults-faults.ensures.count ∙ c.if-prove.false in
     let sound = λ (is : c.run_server-status.result ≡ Fault). none_risen _ _ c.in_ok-sink.ensures.faults zero (c.run_server-status.ensures.fault is) in

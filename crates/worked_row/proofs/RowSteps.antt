@@ -1,0 +1,95 @@
+-- What steps come to over files that tell what they hold: a script is to be answered in the house of the row.
+use Rattle.std.proofs.Common.{◌≡◌, ℕ, List, [], ◌∷◌, ◌++◌, Option, Some, refl, ap, ◌∙◌}
+use Rattle.std.specs.Prelude.{Result, Ok, Err, ok_or, codes, length, nat_eq, if◌then◌else◌}
+use Rattle.table_store.specs.Table.{table_in_file}
+use Rattle.owner_catalog.specs.Catalog.{catalog_in_file, signature_of}
+use Rattle.answer_path.specs.Owner.{Holding}
+use Rattle.session_core.specs.House.{Register}
+use Rattle.query_server.specs.Files.{Contents, always, readable}
+use Rattle.query_server.specs.Steps.{Step, Outcome, from, done, file_read, behind, continued, each, ◌>>=◌}
+use Rattle.query_server.specs.Loaded.{catalog_read, key_read, rows_read, holding_read, loaded, or_refused}
+use Rattle.query_server.specs.Ending.{Ending, to_answer}
+use Rattle.query_server.specs.Run.{run_steps}
+use Rattle.worked_row.specs.Row.{catalog_text, table_text}
+use Rattle.worked_row.proofs.RowCatalog.{catalog, census, people, has_catalog}
+use Rattle.worked_row.proofs.RowDraws.{zeros}
+use Rattle.worked_row.proofs.RowTable.{rows, has_rows}
+
+-- a step gives this, and the files tell the same as before
+abbrev pub Gives : {A : Type 0} → Step A → Contents → A → Type 0
+Gives step held a = (names : List (List ℕ)) × (step (always held) ≡ record { given = Ok a; names = names; rest = always held })
+
+gives : {A : Type 0} → (held : Contents) (r : Result A (List ℕ)) (a : A) → r ≡ Ok a → Gives (from r) held a
+gives {A = A} held r a is = ([], ap (λ (given : Result A (List ℕ)). record { given = given; names = []; rest = always held }) is)
+
+reads : (held : Contents) (name bytes : List ℕ) → held name ≡ Some bytes → readable (Some bytes) ≡ Some bytes → Gives (file_read name) held bytes
+reads held name bytes has short = (
+  name ∷ [],
+  ap (λ (found : Option (List ℕ)). record { given = ok_or (readable found) name; names = name ∷ []; rest = always held }) has
+      ∙ ap (λ (found : Option (List ℕ)). record { given = ok_or found name; names = name ∷ []; rest = always held }) short,
+)
+
+goes_on : {A B : Type 0} → (step : Step A) (next : A → Step B) (held : Contents) (a : A) (b : B) → Gives step held a → Gives (next a) held b → Gives (step >>= next) held b
+unfolding ◌>>=◌
+goes_on {A = A} {B = B} step next held a b (names, is) (more, comes) =
+    (names ++ more, ap (λ (o : Outcome A). continued o.given o.names o.rest next) is ∙ ap (λ (o : Outcome B). behind names o) comes)
+
+none : {A B : Type 0} → (step : A → Step B) (held : Contents) → Gives (each step []) held []
+unfolding each
+none step held = ([], refl)
+
+one : {A B : Type 0} → (step : A → Step B) (held : Contents) (x : A) (y : B) → Gives (step x) held y → Gives (each step (x ∷ [])) held (y ∷ [])
+unfolding each
+one step held x y is =
+    goes_on (step x) (λ y. each step [] >>= (λ ys. done (y ∷ ys))) held y (y ∷ []) is
+    (goes_on (each step []) (λ ys. done (y ∷ ys)) held [] (y ∷ []) (none step held) (gives held (Ok (y ∷ [])) (y ∷ []) refl))
+
+abbrev pub holding : Holding
+holding = record { tables = signature_of census; rows = rows ∷ [] }
+
+abbrev pub register : Register
+register = record { catalog = catalog; holdings = holding ∷ [] }
+
+abbrev ending : Ending
+ending = to_answer register zeros
+
+catalog_given : (held : Contents) → held (codes "cat.json") ≡ Some catalog_text → Gives (catalog_read (codes "cat.json")) held catalog
+catalog_given held has =
+    goes_on (file_read (codes "cat.json")) (λ bytes. from (or_refused (codes "cat.json") (catalog_in_file bytes))) held catalog_text catalog
+    (reads held (codes "cat.json") catalog_text has refl)
+    (gives held (or_refused (codes "cat.json") (catalog_in_file catalog_text)) catalog (ap (λ read. or_refused (codes "cat.json") read) has_catalog))
+
+rows_given : (held : Contents) → held (codes "people.csv") ≡ Some table_text → Gives (rows_read people) held rows
+rows_given held has =
+    goes_on (file_read (codes "people.csv")) (λ bytes. from (or_refused (codes "people.csv") (table_in_file people.columns bytes))) held table_text rows
+    (reads held (codes "people.csv") table_text has refl)
+    (gives held (or_refused (codes "people.csv") (table_in_file people.columns table_text)) rows (ap (λ read. or_refused (codes "people.csv") read) has_rows))
+
+holding_given : (held : Contents) → held (codes "people.csv") ≡ Some table_text → Gives (holding_read census) held holding
+holding_given held has =
+    goes_on (each rows_read census.tables) (λ rows. done (record { tables = signature_of census; rows = rows })) held (rows ∷ []) holding
+    (one rows_read held people rows (rows_given held has))
+    (gives held (Ok holding) holding refl)
+
+loaded_given : (held : Contents) → held (codes "people.csv") ≡ Some table_text → Gives (loaded catalog) held register
+loaded_given held has =
+    goes_on (each holding_read catalog.owners) (λ holdings. done (record { catalog = catalog; holdings = holdings })) held (holding ∷ []) register
+    (one holding_read held census holding (holding_given held has))
+    (gives held (Ok register) register refl)
+
+key_given : (held : Contents) → held (codes "key") ≡ Some zeros → Gives (key_read (codes "key")) held zeros
+key_given held has =
+    goes_on (file_read (codes "key")) (λ key. from (if nat_eq (length key) 32 then Ok key else Err (codes "key"))) held zeros zeros
+    (reads held (codes "key") zeros has refl)
+    (gives held (Ok zeros) zeros refl)
+
+pub run_given : (held : Contents) → held (codes "cat.json") ≡ Some catalog_text → held (codes "key") ≡ Some zeros → held (codes "people.csv") ≡ Some table_text
+    → Gives (run_steps (codes "cat.json") (codes "key")) held (to_answer register zeros)
+run_given held has_catalog has_key has_table =
+    goes_on (catalog_read (codes "cat.json")) (λ house. key_read (codes "key") >>= (λ bytes. loaded house >>= (λ register. done (to_answer register bytes)))) held catalog ending
+    (catalog_given held has_catalog)
+    (goes_on (key_read (codes "key")) (λ bytes. loaded catalog >>= (λ register. done (to_answer register bytes))) held zeros ending
+    (key_given held has_key)
+    (goes_on (loaded catalog) (λ register. done (to_answer register zeros)) held register ending
+    (loaded_given held has_table)
+    (gives held (Ok ending) ending refl)))
