@@ -1,0 +1,6 @@
+mod Examples
+pub mod Filled
+pub mod Made
+pub mod One
+pub mod Scans
+pub mod Slots

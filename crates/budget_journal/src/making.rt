@@ -1,0 +1,69 @@
+//! Making a journal on an empty disk.
+
+ghost use Rattle.std.specs.Prelude.{◌≡◌, ◌≢◌, ◌+◌, ◌*◌, Some, ℕ, [], ◌<◌, ◌^◌, length, IsErr, IsErrOf, IfErr, OnOk};
+ghost use Rattle.fz_outside.specs.Faults.{HasCause};
+ghost use Rattle.outside_disks.specs.Disks.{Trace, seen_of};
+ghost use Rattle.journal_records.specs.Encoding.{IsHeader};
+ghost use Rattle.budget_journal.specs.Journals.{IsAtRest, IsZeroed, TellsSome};
+ghost use Rattle.budget_journal.specs.declared.making.InitFault.TheVariants.{DiskFault, AlreadyThere};
+
+use crate::journal::{Journal, put_stable};
+use fz_outside::Failed;
+use journal_records::coding::{GATE, encode_header};
+use journal_records::records::Header;
+use outside_disks::disk::Disk;
+
+/// Why no journal was made.
+#[derive(Clone, Copy, Debug, Drop, PartialEq, Eq)]
+pub enum InitFault {
+    /// The disk has failed in this call: give it up.
+    DiskFault,
+    /// The disk isn't empty.
+    AlreadyThere { length: u64 },
+}
+
+impl From<Failed> for InitFault {
+    ghost from_gives = { λ _ fault. fault ≡ DiskFault };
+
+    fn from(_failed: Failed) -> InitFault {
+        InitFault::DiskFault
+    }
+}
+
+// Writes zeros over so many pieces of 64 bytes, on an empty disk.
+fn put_zeros<D: Disk>(disk: &mut D, pieces: u64) -> Result<(), Failed>
+    requires { pieces < 2 ^ 33 }
+    ensures zeroed { OnOk result ((t : Trace) → D.trace disk.old ≡ Some t → seen_of t ≡ [] → TellsSome (IsZeroed (64 * pieces)) (D.trace disk.new)) }
+    ensures cause { HasCause (D.faults disk.old) (D.faults disk.new) (IsErr result) }
+    ensures passed { OnOk result (D.faults disk.new ≡ D.faults disk.old) }
+{
+    let zeros = [0u8; 64];
+    for piece in 0..pieces {
+        disk.write_at(64 * piece, &zeros)?;
+    }
+    Ok(())
+}
+
+impl<D: Disk> Journal<D> {
+    /// Makes a journal of no records on an empty disk. After Ok a stop leaves it and nothing else.
+    pub fn init(disk: &mut D, header: &Header) -> Result<(), InitFault>
+        requires { IsHeader header.now }
+        ensures made { OnOk result ((t : Trace) → D.trace disk.old ≡ Some t → (seen_of t ≡ []) × TellsSome (IsAtRest header.now []) (D.trace disk.new)) }
+        ensures there { IfErr result (λ fault. (n : ℕ) → fault ≡ AlreadyThere n
+            → (n ≢ 0) × (D.trace disk.new ≡ D.trace disk.old) × ((t : Trace) → D.trace disk.old ≡ Some t → n ≡ length (seen_of t))) }
+        ensures cause { HasCause (D.faults disk.old) (D.faults disk.new) (IsErrOf result DiskFault) }
+        ensures passed { OnOk result (D.faults disk.new ≡ D.faults disk.old) }
+    {
+        let length = disk.len()?;
+        if length != 0 {
+            return Err(InitFault::AlreadyThere { length });
+        }
+        put_zeros(disk, 2 + u64::from(header.capacity))?;
+        disk.sync()?;
+        let mut bytes = [0u8; 128];
+        encode_header(header, &mut bytes);
+        put_stable(disk, 1, &bytes[1..])?;
+        put_stable(disk, 0, &[GATE])?;
+        Ok(())
+    }
+}

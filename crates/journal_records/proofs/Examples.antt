@@ -1,0 +1,148 @@
+-- Encodings, worked out byte by byte.
+use Rattle.std.proofs.Common.{◌≡◌, ◌<◌, pos, negsuc, [], ◌∷◌, ◌++◌, take, drop, replicate, refl, arith}
+use Rattle.std.specs.Int.{IsGcd}
+use Rattle.std.proofs.lemmas.Nat.Gcd.{IsGcd-from_zero, IsGcd-from_mod, same_from_IsGcd}
+use Rattle.partition_charge.specs.declared.view.View.TheVariants.{Whole, Part}
+use Rattle.journal_records.specs.declared.records.Outcome.TheVariants.{Answered, Exhausted, Lost}
+use Rattle.journal_records.specs.declared.records.Reservation.{Reservation}
+use Rattle.journal_records.specs.declared.records.Record.TheVariants.{Reserve, Settle}
+use Rattle.journal_records.specs.Encoding.{encoded, encoded_header, AreTerms, IsReservation, IsSettlement, IsHeader}
+use Rattle.journal_records.proofs.Shapes.{digest-replicate}
+
+-- ---- reservations
+
+-- the first one, of the whole view at epsilon 1 and sensitivity 1
+abbrev first : Reservation
+first = record { number = 0; view = Whole; e = 1000000; p = 1; q = 1; taken = 1000000; analyst = 0; program = replicate 32 9 }
+
+first_bytes : take 32 (encoded (Reserve first)) ≡
+    165 ∷ 1 ∷ 255 ∷ 0 ∷ 0 ∷ 0 ∷ 0 ∷ 0 ∷ 0 ∷ 15 ∷ 66 ∷ 64 ∷ 0 ∷ 0 ∷ 0 ∷ 1 ∷ 0 ∷ 0 ∷ 0 ∷ 1 ∷ 0 ∷ 0 ∷ 0 ∷ 0 ∷ 0 ∷ 15 ∷ 66 ∷ 64 ∷ 0 ∷ 0 ∷ 0 ∷ 0 ∷ []
+first_bytes = refl
+
+first_program : drop 32 (encoded (Reserve first)) ≡ replicate 32 9
+first_program = refl
+
+-- each field at its greatest
+abbrev greatest : Reservation
+greatest = record {
+  number = 4294967295;
+  view = Part 7 249;
+  e = 1000000000;
+  p = 4294967295;
+  q = 4294967294;
+  taken = 18446744073709551615;
+  analyst = 65535;
+  program = replicate 32 255;
+}
+
+greatest_bytes : encoded (Reserve greatest) ≡
+    (165 ∷ 1 ∷ 7 ∷ 249 ∷ []) ++ replicate 4 255 ++ (59 ∷ 154 ∷ 202 ∷ 0 ∷ []) ++ replicate 4 255 ++ (255 ∷ 255 ∷ 255 ∷ 254 ∷ [])
+    ++ replicate 8 255 ++ (255 ∷ 255 ∷ 0 ∷ 0 ∷ []) ++ replicate 32 255
+greatest_bytes = refl
+
+-- bytes in order: each field has its place
+abbrev placed : Reservation
+placed = record { number = 16909060; view = Part 3 4; e = 84281096; p = 9; q = 10; taken = 72623859790382856; analyst = 4386; program = replicate 32 5 }
+
+placed_bytes : take 32 (encoded (Reserve placed)) ≡
+    165 ∷ 1 ∷ 3 ∷ 4 ∷ 1 ∷ 2 ∷ 3 ∷ 4 ∷ 5 ∷ 6 ∷ 7 ∷ 8 ∷ 0 ∷ 0 ∷ 0 ∷ 9 ∷ 0 ∷ 0 ∷ 0 ∷ 10 ∷ 1 ∷ 2 ∷ 3 ∷ 4 ∷ 5 ∷ 6 ∷ 7 ∷ 8 ∷ 17 ∷ 34 ∷ 0 ∷ 0 ∷ []
+placed_bytes = refl
+
+-- ---- settlements
+
+settled_bytes : encoded (Settle 0 (Answered (pos 5))) ≡ (165 ∷ 2 ∷ 1 ∷ 0 ∷ []) ++ replicate 4 0 ++ (0 ∷ 0 ∷ 0 ∷ 0 ∷ 0 ∷ 0 ∷ 0 ∷ 5 ∷ []) ++ replicate 48 0
+settled_bytes = refl
+
+-- two's complement
+minus_one : encoded (Settle 1 (Answered (negsuc 0))) ≡ (165 ∷ 2 ∷ 1 ∷ 0 ∷ 0 ∷ 0 ∷ 0 ∷ 1 ∷ []) ++ replicate 8 255 ++ replicate 48 0
+minus_one = refl
+
+least_answer : encoded (Settle 1 (Answered (negsuc 9223372036854775807))) ≡ (165 ∷ 2 ∷ 1 ∷ 0 ∷ 0 ∷ 0 ∷ 0 ∷ 1 ∷ []) ++ (128 ∷ []) ++ replicate 55 0
+least_answer = refl
+
+greatest_answer : encoded (Settle 1 (Answered (pos 9223372036854775807))) ≡
+    (165 ∷ 2 ∷ 1 ∷ 0 ∷ 0 ∷ 0 ∷ 0 ∷ 1 ∷ []) ++ (127 ∷ []) ++ replicate 7 255 ++ replicate 48 0
+greatest_answer = refl
+
+exhausted_bytes : encoded (Settle 258 Exhausted) ≡ (165 ∷ 2 ∷ 2 ∷ 0 ∷ 0 ∷ 0 ∷ 1 ∷ 2 ∷ []) ++ replicate 56 0
+exhausted_bytes = refl
+
+lost_bytes : encoded (Settle 4294967295 Lost) ≡ (165 ∷ 2 ∷ 3 ∷ 0 ∷ []) ++ replicate 4 255 ++ replicate 56 0
+lost_bytes = refl
+
+-- ---- headers
+
+header_bytes : encoded_header (record { owner = 1; budget = 10000000; capacity = 100; digest = replicate 32 7 }) ≡
+    (165 ∷ 70 ∷ 85 ∷ 90 ∷ 90 ∷ 66 ∷ 85 ∷ 68 ∷ 71 ∷ 1 ∷ []) ++ (0 ∷ 0 ∷ 0 ∷ 1 ∷ []) ++ (0 ∷ 0 ∷ 0 ∷ 0 ∷ 0 ∷ 152 ∷ 150 ∷ 128 ∷ []) ++ (0 ∷ 0 ∷ 0 ∷ 100 ∷ [])
+    ++ replicate 38 0 ++ replicate 32 7 ++ replicate 32 0
+header_bytes = refl
+
+-- ---- what is valid
+
+-- epsilon 1 to 10^9 millionths, and lowest terms, of which 0 is 0/1
+nothing_asked : AreTerms 1 0 1
+nothing_asked = record { above = omega arith; most = omega arith; positive = omega arith; lowest = IsGcd-from_mod 0 1 1 (IsGcd-from_zero 1 0 refl) }
+
+lowest_terms : AreTerms 1000000000 3 2
+lowest_terms = record {
+  above = omega arith;
+  most = omega arith;
+  positive = omega arith;
+  lowest = IsGcd-from_mod 3 2 1 (IsGcd-from_mod 2 1 1 (IsGcd-from_zero 1 0 refl));
+}
+
+two_of_four : IsGcd 2 4 2
+two_of_four = IsGcd-from_mod 2 4 2 (IsGcd-from_mod 4 2 2 (IsGcd-from_zero 2 0 refl))
+
+not_lowest : AreTerms 1 2 4 → ⊥
+not_lowest terms = let h : 1 ≡ 2 = same_from_IsGcd 2 4 1 2 terms.lowest two_of_four in omega (arith, h)
+
+two_for_nothing : AreTerms 1 0 2 → ⊥
+two_for_nothing terms = let h : 1 ≡ 2 = same_from_IsGcd 0 2 1 2 terms.lowest (IsGcd-from_mod 0 2 2 (IsGcd-from_zero 2 0 refl)) in omega (arith, h)
+
+no_epsilon : AreTerms 0 1 1 → ⊥
+no_epsilon terms = let h = terms.above in omega (arith, h)
+
+too_much_epsilon : AreTerms 1000000001 1 1 → ⊥
+too_much_epsilon terms = let h = terms.most in omega (arith, h)
+
+no_denominator : AreTerms 1 1 0 → ⊥
+no_denominator terms = let h = terms.positive in omega (arith, h)
+
+first_valid : IsReservation first
+first_valid = record {
+  numbered = omega arith;
+  viewed = tt;
+  terms = record { above = omega arith; most = omega arith; positive = omega arith; lowest = IsGcd-from_mod 1 1 1 (IsGcd-from_zero 1 0 refl) };
+  narrow = (omega arith, omega arith);
+  charged = omega arith;
+  asked = omega arith;
+  hashed = digest-replicate 9 (omega arith);
+}
+
+number_too_high : IsReservation (record first { number = 4294967296 }) → ⊥
+number_too_high valid = let h = valid.numbered in omega (arith, h)
+
+no_such_part : IsReservation (record first { view = Part 0 250 }) → ⊥
+no_such_part valid = let h = valid.viewed.1 in omega (arith, h)
+
+no_such_partition : IsReservation (record first { view = Part 8 0 }) → ⊥
+no_such_partition valid = let h = valid.viewed.0 in omega (arith, h)
+
+no_such_analyst : IsReservation (record first { analyst = 65536 }) → ⊥
+no_such_analyst valid = let h = valid.asked in omega (arith, h)
+
+short_digest : IsReservation (record first { program = replicate 31 9 }) → ⊥
+short_digest valid = let h : 31 ≡ 32 = valid.hashed.0 in omega (arith, h)
+
+no_byte : IsReservation (record first { program = 256 ∷ replicate 31 9 }) → ⊥
+no_byte valid = let h : 256 < 256 = valid.hashed.1 0 in omega (arith, h)
+
+least_settled : IsSettlement 4294967295 (Answered (negsuc 9223372036854775807))
+least_settled = record { numbered = omega arith; settled = omega arith }
+
+too_great_an_answer : IsSettlement 0 (Answered (pos 9223372036854775808)) → ⊥
+too_great_an_answer valid = let h = valid.settled in omega (arith, h)
+
+full_header : IsHeader (record { owner = 4294967295; budget = 18446744073709551615; capacity = 4294967295; digest = replicate 32 255 })
+full_header = record { owner = omega arith; budget = omega arith; capacity = omega arith; digest = digest-replicate 255 (omega arith) }

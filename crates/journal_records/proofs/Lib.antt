@@ -1,0 +1,4 @@
+mod Examples
+pub mod One
+pub mod Puts
+pub mod Shapes

@@ -1,0 +1,71 @@
+-- An encoding has one record.
+use Rattle.std.proofs.Common.{◌≡◌, ℕ, ◌<◌, ◌^◌, ℤ, pos, negsuc, FitsSigned, List, take, drop, slice_index, refl, sym, ◌∙◌, ap, arith}
+use Rattle.std.specs.Int.{w16, w32, w64, to_be_bytes, from_be_bytes, cast_unsigned, cast_signed}
+use Rattle.std.proofs.lemmas.Int.{ints, to_z-of_z}
+use Rattle.std.proofs.lemmas.Nat.{from_be_bytes-to_be_bytes_2, from_be_bytes-to_be_bytes_4, from_be_bytes-to_be_bytes_8}
+use Rattle.journal_records.specs.Encoding.{encoded, partition_byte, part_byte, outcome_byte, answer_number, IsOutcome, IsValid}
+use Rattle.partition_charge.specs.declared.view.View.{View}
+use Rattle.partition_charge.specs.declared.view.View.TheVariants.{Whole, Part}
+use Rattle.partition_charge.specs.Views.{IsView}
+use Rattle.journal_records.specs.declared.records.Outcome.{Outcome}
+use Rattle.journal_records.specs.declared.records.Outcome.TheVariants.{Answered, Exhausted, Lost}
+use Rattle.journal_records.specs.declared.records.Record.{Record}
+use Rattle.journal_records.specs.declared.records.Record.TheVariants.{Reserve, Settle}
+
+view-one : (v w : View) → IsView v → IsView w → partition_byte v ≡ partition_byte w → part_byte v ≡ part_byte w → v ≡ w
+view-one Whole Whole a b p q = refl
+view-one Whole (Part n k) a b p q = let most = b.0 in absurd (omega arith)
+view-one (Part n k) Whole a b p q = let most = a.0 in absurd (omega arith)
+view-one (Part n k) (Part m l) a b p q = λ i. Part (p i) (q i)
+
+bits-one : (y z : ℤ) → FitsSigned w64 y → FitsSigned w64 z → cast_unsigned w64 y ≡ cast_unsigned w64 z → y ≡ z
+bits-one y z a b is = sym (to_z-of_z w64 y a) ∙ ap (cast_signed w64) is ∙ to_z-of_z w64 z b
+
+bits-fit : (z : ℤ) → FitsSigned w64 z → cast_unsigned w64 z < 2 ^ 64
+bits-fit (pos n) h = omega (arith, ints)
+bits-fit (negsuc n) h = omega (arith, ints)
+
+answer-fits : (o : Outcome) → IsOutcome o → answer_number o < 2 ^ 64
+answer-fits (Answered z) valid = bits-fit z valid
+answer-fits Exhausted valid = omega arith
+answer-fits Lost valid = omega arith
+
+outcome-one : (o u : Outcome) → IsOutcome o → IsOutcome u → outcome_byte o ≡ outcome_byte u → answer_number o ≡ answer_number u → o ≡ u
+outcome-one (Answered y) (Answered z) a b p q = ap Answered (bits-one y z a b q)
+outcome-one Exhausted Exhausted a b p q = refl
+outcome-one Lost Lost a b p q = refl
+outcome-one (Answered y) Exhausted a b p q = absurd (omega arith)
+outcome-one (Answered y) Lost a b p q = absurd (omega arith)
+outcome-one Exhausted (Answered z) a b p q = absurd (omega arith)
+outcome-one Exhausted Lost a b p q = absurd (omega arith)
+outcome-one Lost (Answered z) a b p q = absurd (omega arith)
+outcome-one Lost Exhausted a b p q = absurd (omega arith)
+
+four : (m n : ℕ) → m < 2 ^ 32 → n < 2 ^ 32 → to_be_bytes w32 m ≡ to_be_bytes w32 n → m ≡ n
+four m n fits fits' same = sym (from_be_bytes-to_be_bytes_4 m fits) ∙ ap (from_be_bytes w32) same ∙ from_be_bytes-to_be_bytes_4 n fits'
+
+kinds : (m n : ℕ) → m ≡ n → m ≡ 1 → n ≡ 2 → ⊥
+kinds m n same one two = omega arith
+
+pub record-one : (r s : Record) → IsValid r → IsValid s → encoded r ≡ encoded s → r ≡ s
+record-one (Reserve r) (Reserve s) x y is =
+    let i1 = four r.number s.number x.numbered y.numbered (ap (λ (b : List ℕ). take 4 (drop 4 b)) is) in
+    let i2 = view-one r.view s.view x.viewed y.viewed (ap (λ (b : List ℕ). slice_index b 2) is) (ap (λ (b : List ℕ). slice_index b 3) is) in
+    let i3 = four r.e s.e (omega (arith, x.terms.most)) (omega (arith, y.terms.most)) (ap (λ (b : List ℕ). take 4 (drop 8 b)) is) in
+    let i4 = four r.p s.p x.narrow.0 y.narrow.0 (ap (λ (b : List ℕ). take 4 (drop 12 b)) is) in
+    let i5 = four r.q s.q x.narrow.1 y.narrow.1 (ap (λ (b : List ℕ). take 4 (drop 16 b)) is) in
+    let i6 : r.taken ≡ s.taken = sym (from_be_bytes-to_be_bytes_8 r.taken x.charged) ∙ ap (λ (b : List ℕ). from_be_bytes w64 (take 8 (drop 20 b))) is
+    ∙ from_be_bytes-to_be_bytes_8 s.taken y.charged in
+    let i7 : r.analyst ≡ s.analyst = sym (from_be_bytes-to_be_bytes_2 r.analyst x.asked) ∙ ap (λ (b : List ℕ). from_be_bytes w16 (take 2 (drop 28 b))) is
+    ∙ from_be_bytes-to_be_bytes_2 s.analyst y.asked in
+    let i8 : r.program ≡ s.program = ap (λ (b : List ℕ). drop 32 b) is in
+    λ i. Reserve (record { number = i1 i; view = i2 i; e = i3 i; p = i4 i; q = i5 i; taken = i6 i; analyst = i7 i; program = i8 i })
+record-one (Settle n o) (Settle n' o') x y is =
+    let i1 : n ≡ n' = sym (from_be_bytes-to_be_bytes_4 n x.numbered) ∙ ap (λ (b : List ℕ). from_be_bytes w32 (take 4 (drop 4 b))) is
+    ∙ from_be_bytes-to_be_bytes_4 n' y.numbered in
+    let i2 : answer_number o ≡ answer_number o' = sym (from_be_bytes-to_be_bytes_8 (answer_number o) (answer-fits o x.settled))
+    ∙ ap (λ (b : List ℕ). from_be_bytes w64 (take 8 (drop 8 b))) is ∙ from_be_bytes-to_be_bytes_8 (answer_number o') (answer-fits o' y.settled) in
+    let i3 = outcome-one o o' x.settled y.settled (ap (λ (b : List ℕ). slice_index b 2) is) i2 in
+    λ i. Settle (i1 i) (i3 i)
+record-one (Reserve r) (Settle n' o') x y is = absurd (kinds _ _ (ap (λ (b : List ℕ). slice_index b 1) is) refl refl)
+record-one (Settle n' o') (Reserve r) x y is = absurd (kinds _ _ (ap (λ (b : List ℕ). slice_index b 1) (sym is)) refl refl)

@@ -1,0 +1,90 @@
+-- The bytes of a record and of a header. Numbers are big-endian.
+use Rattle.std.specs.Prelude.{◌≡◌, ℕ, ◌<◌, ◌≤◌, ◌^◌, List, [], ◌∷◌, ◌++◌, length, replicate, slice_index, ⊤, FitsSigned}
+use Rattle.std.specs.Int.{w16, w32, w64, to_be_bytes, cast_unsigned, IsGcd}
+use Rattle.partition_charge.specs.declared.view.View.{View}
+use Rattle.partition_charge.specs.declared.view.View.TheVariants.{Whole, Part}
+use Rattle.partition_charge.specs.Views.{IsView}
+use Rattle.journal_records.specs.declared.records.Outcome.{Outcome}
+use Rattle.journal_records.specs.declared.records.Outcome.TheVariants.{Answered, Exhausted, Lost}
+use Rattle.journal_records.specs.declared.records.Reservation.{Reservation}
+use Rattle.journal_records.specs.declared.records.Record.{Record}
+use Rattle.journal_records.specs.declared.records.Record.TheVariants.{Reserve, Settle}
+use Rattle.journal_records.specs.declared.records.Header.{Header}
+
+-- the byte that opens a header or a slot
+abbrev pub gate : ℕ
+gate = 165
+
+abbrev pub IsByteList : ℕ → List ℕ → Type 0
+IsByteList n bytes = (length bytes ≡ n) × ((i : ℕ) → slice_index bytes i < 256)
+
+-- ---- records
+
+abbrev pub partition_byte : View → ℕ
+partition_byte Whole = 255
+partition_byte (Part partition part) = partition
+
+abbrev pub part_byte : View → ℕ
+part_byte Whole = 0
+part_byte (Part partition part) = part
+
+abbrev pub outcome_byte : Outcome → ℕ
+outcome_byte (Answered z) = 1
+outcome_byte Exhausted = 2
+outcome_byte Lost = 3
+
+-- the answer as a number of 64 bits, and 0 where there is none
+abbrev pub answer_number : Outcome → ℕ
+answer_number (Answered z) = cast_unsigned w64 z
+answer_number Exhausted = 0
+answer_number Lost = 0
+
+abbrev pub encoded : Record → List ℕ
+encoded (Reserve r) =
+    (gate ∷ 1 ∷ partition_byte r.view ∷ part_byte r.view ∷ []) ++ to_be_bytes w32 r.number ++ to_be_bytes w32 r.e ++ to_be_bytes w32 r.p ++ to_be_bytes w32 r.q
+    ++ to_be_bytes w64 r.taken ++ to_be_bytes w16 r.analyst ++ (0 ∷ 0 ∷ []) ++ r.program
+encoded (Settle number outcome) =
+    (gate ∷ 2 ∷ outcome_byte outcome ∷ 0 ∷ []) ++ to_be_bytes w32 number ++ to_be_bytes w64 (answer_number outcome) ++ replicate 48 0
+
+abbrev pub IsOutcome : Outcome → Type 0
+IsOutcome (Answered z) = FitsSigned w64 z
+IsOutcome Exhausted = ⊤
+IsOutcome Lost = ⊤
+
+-- an epsilon in millionths, and a sensitivity p/q in lowest terms
+pub record AreTerms (e p q : ℕ) : Type 0 where
+  pub above : 1 ≤ e
+  pub most : e ≤ 1000000000
+  pub positive : 1 ≤ q
+  pub lowest : IsGcd p q 1
+
+-- what a reservation's fields may be
+pub record IsReservation (r : Reservation) : Type 0 where
+  pub numbered : r.number < 2 ^ 32
+  pub viewed : IsView r.view
+  pub terms : AreTerms r.e r.p r.q
+  pub narrow : (r.p < 2 ^ 32) × (r.q < 2 ^ 32)
+  pub charged : r.taken < 2 ^ 64
+  pub asked : r.analyst < 2 ^ 16
+  pub hashed : IsByteList 32 r.program
+
+pub record IsSettlement (number : ℕ) (outcome : Outcome) : Type 0 where
+  pub numbered : number < 2 ^ 32
+  pub settled : IsOutcome outcome
+
+abbrev pub IsValid : Record → Type 0
+IsValid (Reserve r) = IsReservation r
+IsValid (Settle number outcome) = IsSettlement number outcome
+
+-- ---- headers
+
+abbrev pub encoded_header : Header → List ℕ
+encoded_header h =
+    (gate ∷ 70 ∷ 85 ∷ 90 ∷ 90 ∷ 66 ∷ 85 ∷ 68 ∷ 71 ∷ 1 ∷ []) ++ to_be_bytes w32 h.owner ++ to_be_bytes w64 h.budget ++ to_be_bytes w32 h.capacity
+    ++ replicate 38 0 ++ h.digest ++ replicate 32 0
+
+pub record IsHeader (h : Header) : Type 0 where
+  pub owner : h.owner < 2 ^ 32
+  pub budget : h.budget < 2 ^ 64
+  pub capacity : h.capacity < 2 ^ 32
+  pub digest : IsByteList 32 h.digest

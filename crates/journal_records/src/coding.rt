@@ -1,0 +1,93 @@
+//! Encoding and decoding.
+
+ghost use Rattle.std.specs.Prelude.{◌≡◌};
+ghost use Rattle.journal_records.specs.declared.records.Record.TheVariants.{Reserve, Settle};
+ghost use Rattle.journal_records.specs.Encoding.{encoded, encoded_header, partition_byte, part_byte, outcome_byte, answer_number};
+
+use crate::fields::put;
+use crate::records::{Header, Outcome, Record, Reservation};
+use partition_charge::view::View;
+
+/// The length of a record.
+pub const RECORD_LENGTH: usize = 64;
+
+/// The length of a header.
+pub const HEADER_LENGTH: usize = 128;
+
+/// What opens a header or a slot.
+pub const GATE: u8 = 0xA5;
+
+fn view_bytes(view: View) -> (u8, u8)
+    ensures partition { result.0 ≡ partition_byte view }
+    ensures part { result.1 ≡ part_byte view }
+{
+    match view {
+        View::Whole => (255, 0),
+        View::Part { partition, part } => (partition, part),
+    }
+}
+
+fn outcome_parts(outcome: Outcome) -> (u8, u64)
+    ensures byte { result.0 ≡ outcome_byte outcome }
+    ensures number { result.1 ≡ answer_number outcome }
+{
+    match outcome {
+        Outcome::Answered(z) => (1, z.cast_unsigned()),
+        Outcome::Exhausted => (2, 0),
+        Outcome::Lost => (3, 0),
+    }
+}
+
+// The encoding of a reservation.
+fn encode_reservation(reservation: &Reservation, out: &mut [u8; 64])
+    ensures { out.new ≡ encoded (Reserve reservation.now) }
+{
+    let (partition, part) = view_bytes(reservation.view);
+    put(out, 0, &[GATE, 1, partition, part]);
+    put(out, 4, &reservation.number.to_be_bytes());
+    put(out, 8, &reservation.e.to_be_bytes());
+    put(out, 12, &reservation.p.to_be_bytes());
+    put(out, 16, &reservation.q.to_be_bytes());
+    put(out, 20, &reservation.taken.to_be_bytes());
+    put(out, 28, &reservation.analyst.to_be_bytes());
+    put(out, 30, &[0, 0]);
+    put(out, 32, &reservation.program);
+}
+
+// The encoding of a settlement.
+fn encode_settlement(number: u32, outcome: Outcome, out: &mut [u8; 64])
+    ensures { out.new ≡ encoded (Settle number outcome) }
+{
+    let (kind, answer) = outcome_parts(outcome);
+    put(out, 0, &[GATE, 2, kind, 0]);
+    put(out, 4, &number.to_be_bytes());
+    put(out, 8, &answer.to_be_bytes());
+    put(out, 16, &[0; 48]);
+}
+
+/// Writes the encoding of a record.
+pub fn encode(record_in: &Record, out: &mut [u8; 64])
+    ensures { out.new ≡ encoded record_in.now }
+{
+    match record_in {
+        Record::Reserve(reservation) => encode_reservation(reservation, out),
+        Record::Settle { number, outcome } => encode_settlement(*number, *outcome, out),
+    }
+}
+
+/// Writes the encoding of a header.
+pub fn encode_header(header: &Header, out: &mut [u8; 128])
+    ensures { out.new ≡ encoded_header header.now }
+{
+    put(
+        out,
+        0,
+        &[GATE, b'F', b'U', b'Z', b'Z', b'B', b'U', b'D', b'G', 1],
+    );
+    put(out, 10, &header.owner.to_be_bytes());
+    put(out, 14, &header.budget.to_be_bytes());
+    put(out, 22, &header.capacity.to_be_bytes());
+    put(out, 26, &[0; 38]);
+    put(out, 64, &header.digest);
+    put(out, 96, &[0; 32]);
+}

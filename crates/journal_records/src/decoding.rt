@@ -1,0 +1,150 @@
+//! What an encoding says.
+
+ghost use Rattle.std.specs.Prelude.{◌≡◌, ℕ, List, Some, IfSome, IsTrue, ◌↔◌};
+ghost use Rattle.partition_charge.specs.declared.view.View.{View as Views};
+ghost use Rattle.partition_charge.specs.Views.{IsView};
+ghost use Rattle.journal_records.specs.declared.records.Outcome.{Outcome as Outcomes};
+ghost use Rattle.journal_records.specs.declared.records.Record.{Record as Records};
+ghost use Rattle.journal_records.specs.declared.records.Reservation.{Reservation as Reservations};
+ghost use Rattle.journal_records.specs.declared.records.Header.{Header as Headers};
+ghost use Rattle.journal_records.specs.declared.records.Record.TheVariants.{Reserve, Settle};
+ghost use Rattle.journal_records.specs.Encoding.{encoded, encoded_header, IsHeader, partition_byte, part_byte, outcome_byte, answer_number, IsOutcome, AreTerms, IsReservation, IsSettlement, IsValid};
+
+use crate::coding::{encode, encode_header};
+use crate::fields::{common_divisor, digest_at, u16_at, u32_at, u64_at};
+use crate::records::{Header, Outcome, Record, Reservation};
+use partition_charge::view::View;
+
+// The view of these two bytes.
+fn view_of(partition: u8, part: u8) -> Option<View>
+    ensures valid { IfSome result IsView }
+    ensures only { (view : Views) → IsView view → partition ≡ partition_byte view → part ≡ part_byte view → result ≡ Some view }
+{
+    if partition == 255 && part == 0 {
+        Some(View::Whole)
+    } else if partition < 8 && part < 250 {
+        Some(View::Part { partition, part })
+    } else {
+        None
+    }
+}
+
+// The outcome of this byte and this number.
+fn outcome_of(kind: u8, answer: u64) -> Option<Outcome>
+    ensures valid { IfSome result IsOutcome }
+    ensures only { (outcome : Outcomes) → IsOutcome outcome → kind ≡ outcome_byte outcome → answer ≡ answer_number outcome → result ≡ Some outcome }
+{
+    match kind {
+        1 => Some(Outcome::Answered(answer.cast_signed())),
+        2 => Some(Outcome::Exhausted),
+        3 => Some(Outcome::Lost),
+        _ => None,
+    }
+}
+
+// Whether these are an epsilon in millionths and a sensitivity in lowest terms.
+fn are_terms(e: u32, p: u32, q: u32) -> bool
+    ensures { IsTrue result ↔ AreTerms e p q }
+{
+    if e == 0 || e > 1_000_000_000 || q == 0 {
+        return false;
+    }
+    common_divisor(p, q) == 1
+}
+
+// The reservation that these bytes would be.
+fn reservation_of(bytes: &[u8; 64]) -> Option<Record>
+    ensures valid { IfSome result IsValid }
+    ensures only { (r : Reservations) → IsReservation r → bytes.now ≡ encoded (Reserve r) → result ≡ Some (Reserve r) }
+{
+    let view = view_of(bytes[2], bytes[3])?;
+    let number = u32_at(bytes, 4);
+    let e = u32_at(bytes, 8);
+    let p = u32_at(bytes, 12);
+    let q = u32_at(bytes, 16);
+    let taken = u64_at(bytes, 20);
+    let analyst = u16_at(bytes, 28);
+    let program = digest_at(bytes, 32);
+    if !are_terms(e, p, q) {
+        return None;
+    }
+    Some(Record::Reserve(Reservation {
+        number,
+        view,
+        e,
+        p,
+        q,
+        taken,
+        analyst,
+        program,
+    }))
+}
+
+// The settlement that these bytes would be.
+fn settlement_of(bytes: &[u8; 64]) -> Option<Record>
+    ensures valid { IfSome result IsValid }
+    ensures only { (number : ℕ) (outcome : Outcomes) → IsSettlement number outcome
+        → bytes.now ≡ encoded (Settle number outcome) → result ≡ Some (Settle number outcome) }
+{
+    let outcome = outcome_of(bytes[2], u64_at(bytes, 8))?;
+    let number = u32_at(bytes, 4);
+    Some(Record::Settle { number, outcome })
+}
+
+// What the bytes would be.
+fn record_of(bytes: &[u8; 64]) -> Option<Record>
+    ensures valid { IfSome result IsValid }
+    ensures only { (r : Records) → IsValid r → bytes.now ≡ encoded r → result ≡ Some r }
+{
+    match bytes[1] {
+        1 => reservation_of(bytes),
+        2 => settlement_of(bytes),
+        _ => None,
+    }
+}
+
+// Whether these bytes are the encoding of this record.
+fn is_encoding(bytes: &[u8; 64], record_in: &Record) -> bool
+    ensures { IsTrue result ↔ (bytes.now ≡ encoded record_in.now) }
+{
+    let mut again = [0u8; 64];
+    encode(record_in, &mut again);
+    again == *bytes
+}
+
+/// The record that the bytes are the encoding of, if they are one.
+pub fn decode(bytes: &[u8; 64]) -> Option<Record>
+    ensures found { IfSome result (λ r. IsValid r × (bytes.now ≡ encoded r)) }
+    ensures only { (r : Records) → IsValid r → bytes.now ≡ encoded r → result ≡ Some r }
+{
+    let found = record_of(bytes)?;
+    if is_encoding(bytes, &found) {
+        Some(found)
+    } else {
+        None
+    }
+}
+
+// The header that these bytes would be.
+fn fields_of(bytes: &[u8; 128]) -> Header
+    ensures valid { IsHeader result }
+    ensures only { (h : Headers) → IsHeader h → bytes.now ≡ encoded_header h → result ≡ h }
+{
+    Header {
+        owner: u32_at(bytes, 10),
+        budget: u64_at(bytes, 14),
+        capacity: u32_at(bytes, 22),
+        digest: digest_at(bytes, 64),
+    }
+}
+
+/// The header that the bytes are the encoding of, if they are one.
+pub fn decode_header(bytes: &[u8; 128]) -> Option<Header>
+    ensures found { IfSome result (λ h. IsHeader h × (bytes.now ≡ encoded_header h)) }
+    ensures only { (h : Headers) → IsHeader h → bytes.now ≡ encoded_header h → result ≡ Some h }
+{
+    let found = fields_of(bytes);
+    let mut again = [0u8; 128];
+    encode_header(&found, &mut again);
+    if again == *bytes { Some(found) } else { None }
+}

@@ -1,0 +1,54 @@
+//! What a journal holds.
+
+use partition_charge::view::View;
+
+/// How a reservation was settled.
+#[derive(Clone, Copy, Debug, Drop, PartialEq, Eq)]
+pub enum Outcome {
+    /// With this noised answer.
+    Answered(i64),
+    /// The sampler ran out of draws.
+    Exhausted,
+    /// The answer was lost after the reservation.
+    Lost,
+}
+
+/// Budget that is set aside for a query.
+#[derive(Clone, Copy, Debug, Drop, PartialEq, Eq)]
+pub struct Reservation {
+    /// How many reservations came before.
+    pub number: u32,
+    pub view: View,
+    /// Epsilon in millionths, 1 to 10^9.
+    pub e: u32,
+    /// The query's sensitivity is p/q in lowest terms.
+    pub p: u32,
+    pub q: u32,
+    /// By how much the cost rose, in millionths.
+    pub taken: u64,
+    /// The number of the analyst who asked.
+    pub analyst: u16,
+    /// The SHA-256 of the program's bytes.
+    pub program: [u8; 32],
+}
+
+/// One record.
+#[derive(Clone, Copy, Debug, Drop, PartialEq, Eq)]
+pub enum Record {
+    Reserve(Reservation),
+    /// The reservation of that number is settled.
+    Settle { number: u32, outcome: Outcome },
+}
+
+/// What a journal begins with.
+#[derive(Clone, Copy, Debug, Drop, PartialEq, Eq)]
+pub struct Header {
+    /// The owner's number.
+    pub owner: u32,
+    /// The budget in millionths of epsilon.
+    pub budget: u64,
+    /// How many records there is room for.
+    pub capacity: u32,
+    /// The digest of the owner's entry, the key and the tables.
+    pub digest: [u8; 32],
+}

@@ -1,0 +1,5 @@
+mod Examples
+pub mod Images
+pub mod Overlaid
+pub mod Pools
+pub mod Told

@@ -1,0 +1,5 @@
+pub mod Disks
+pub mod Failing
+pub mod Laws
+pub mod Memory
+pub mod Shown

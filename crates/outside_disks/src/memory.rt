@@ -1,0 +1,234 @@
+//! A disk in memory. It tells what was done to it: it keeps its first bytes, and each write and sync since.
+
+ghost use Rattle.std.specs.Prelude.{◌≡◌, ◌+◌, ◌-◌, ◌<◌, ◌≤◌, ◌^◌, ◌++◌, [], ◌∷◌, Some, length, slice_index, take, drop, replicate, vec_len, IfOk, OnOk, OnErr};
+ghost use Rattle.outside_disks.specs.Disks.{seen, overlaid, Gives};
+ghost use Rattle.outside_disks.specs.Memory.{steps_of, sizes};
+ghost use Rattle.outside_disks.specs.declared.memory.Kept.TheVariants.{Wrote, Synced};
+
+use crate::disk::Disk;
+use crate::fault;
+use fz_outside::Failed;
+use std::alloc::{AllocError, Global};
+
+/// A step that is kept. The bytes of the writes stand one after another in `written`.
+#[derive(Clone, Copy, Debug, Drop, PartialEq, Eq)]
+enum Kept {
+    Wrote { place: u64, size: usize },
+    Synced,
+}
+
+/// How much a disk in memory takes.
+#[derive(Clone, Copy, Debug, Drop, PartialEq, Eq)]
+pub struct Limits {
+    /// The greatest length.
+    pub length: u32,
+    /// The greatest number of calls.
+    pub calls: u32,
+    /// The greatest sum of bytes written.
+    pub written: u32,
+}
+
+/// A disk in memory. It fails the calls that are listed, by their numbers from 0, and those past its limits.
+#[derive(Drop)]
+pub struct MemDisk<'a> {
+    start: Vec<u8>,
+    bytes: Vec<u8>,
+    written: Vec<u8>,
+    steps: Vec<Kept>,
+    limits: Limits,
+    failing: &'a [u64],
+    calls: u64,
+    faults: u64,
+    ghost pooled: { length written.items ≡ sizes steps.items },
+    ghost current: { bytes.items ≡ seen start.items (steps_of steps.items written.items) },
+}
+
+impl<'a> MemDisk<'a> {
+    ghost use Rattle.std.specs.Prelude.{[]};
+    ghost use Rattle.outside_disks.specs.Shown.{bytes_in};
+
+    /// A disk with these bytes, all of them stable.
+    pub fn new(
+        alloc: Global,
+        start: &[u8],
+        limits: Limits,
+        failing: &'a [u64],
+    ) -> Result<Self, AllocError>
+        ensures told { IfOk result (λ disk. ⟦<MemDisk<'a> as Disk>⟧.trace disk ≡ Some (record { start = start.now; steps = [] })) }
+        ensures faults { IfOk result (λ disk. ⟦<MemDisk<'a> as Disk>⟧.faults disk ≡ 0) }
+    {
+        let mut bytes = Vec::with_capacity(alloc, limits.length as usize)?;
+        bytes.extend_from_slice(start)?;
+        Ok(MemDisk {
+            start: start.to_vec(alloc)?,
+            bytes,
+            written: Vec::with_capacity(alloc, limits.written as usize)?,
+            steps: Vec::with_capacity(alloc, limits.calls as usize)?,
+            limits,
+            failing,
+            calls: 0,
+            faults: 0,
+        })
+    }
+
+    /// The bytes that reads give.
+    pub fn bytes(&self) -> &[u8]
+        ensures { result.now ≡ bytes_in self.now }
+    {
+        &self.bytes
+    }
+}
+
+// Begins a call: whether it may go on.
+fn begin(calls: &mut u64, limits: &Limits, failing: &[u64]) -> bool {
+    let call = *calls;
+    *calls = calls.saturating_add(1);
+    call < u64::from(limits.calls) && !failing.contains(&call)
+}
+
+// Puts zeros behind the end, up to a place.
+fn grow(bytes: &mut Vec<u8>, end: usize) -> Result<(), AllocError>
+    ensures ok { OnOk result (bytes.new.items ≡ bytes.old.items ++ replicate (end - vec_len bytes.old) 0) }
+    ensures err { OnErr result (bytes.new.items ≡ bytes.old.items) }
+{
+    if bytes.len() < end {
+        bytes.resize(end, 0)?;
+    }
+    Ok(())
+}
+
+// Puts a piece over the bytes at a place.
+fn paste(bytes: &mut [u8], place: usize, piece: &[u8])
+    requires { place + length piece.now ≤ length bytes.old }
+    ensures { bytes.new ≡ take place bytes.old ++ piece.now ++ drop (place + length piece.now) bytes.old }
+{
+    bytes[place..place + piece.len()].copy_from_slice(piece);
+}
+
+fn overwrite(bytes: &mut Vec<u8>, place: usize, piece: &[u8]) -> Result<(), AllocError>
+    requires { place + length piece.now < 2 ^ 63 }
+    ensures ok { OnOk result (bytes.new.items ≡ overlaid bytes.old.items place piece.now) }
+    ensures err { OnErr result (bytes.new.items ≡ bytes.old.items) }
+{
+    grow(bytes, place + piece.len())?;
+    paste(bytes, place, piece);
+    Ok(())
+}
+
+// Keeps a write.
+fn keep(
+    steps: &mut Vec<Kept>,
+    written: &mut Vec<u8>,
+    place: u64,
+    piece: &[u8],
+) -> Result<(), AllocError>
+    ensures ok { OnOk result ((steps.new.items ≡ steps.old.items ++ Wrote place (length piece.now) ∷ []) ×
+        (written.new.items ≡ written.old.items ++ piece.now)) }
+    ensures err { OnErr result ((steps.new.items ≡ steps.old.items) × (written.new.items ≡ written.old.items)) }
+{
+    let kept = written.len();
+    written.extend_from_slice(piece)?;
+    let step = Kept::Wrote {
+        place,
+        size: piece.len(),
+    };
+    if steps.push(step).is_err() {
+        written.truncate(kept);
+        return Err(AllocError);
+    }
+    Ok(())
+}
+
+// Writes and keeps the write, or changes nothing.
+fn write_down(
+    bytes: &mut Vec<u8>,
+    steps: &mut Vec<Kept>,
+    written: &mut Vec<u8>,
+    place: u64,
+    piece: &[u8],
+) -> Result<(), AllocError>
+    requires { place + length piece.now < 2 ^ 63 }
+    ensures bytes { OnOk result (bytes.new.items ≡ overlaid bytes.old.items place piece.now) }
+    ensures kept { OnOk result ((steps.new.items ≡ steps.old.items ++ Wrote place (length piece.now) ∷ []) ×
+        (written.new.items ≡ written.old.items ++ piece.now)) }
+    ensures err { OnErr result ((bytes.new.items ≡ bytes.old.items) × (steps.new.items ≡ steps.old.items) × (written.new.items ≡ written.old.items)) }
+{
+    let (before, pooled) = (steps.len(), written.len());
+    keep(steps, written, place, piece)?;
+    if overwrite(bytes, place as usize, piece).is_err() {
+        steps.truncate(before);
+        written.truncate(pooled);
+        return Err(AllocError);
+    }
+    Ok(())
+}
+
+// What is read behind a place.
+fn byte_at(bytes: &[u8], place: u64, behind: usize) -> u8
+    ensures { result ≡ slice_index bytes.now (place + behind) }
+{
+    match place.checked_add(behind as u64) {
+        Some(at) if at < bytes.len() as u64 => bytes[at as usize],
+        _ => 0,
+    }
+}
+
+// Fills a buffer with what stands from a place on, and zeros past the end.
+fn fill(bytes: &[u8], place: u64, buf: &mut [u8])
+    ensures { Gives bytes.now place buf.new }
+{
+    for i in 0..buf.len() {
+        buf[i] = byte_at(bytes, place, i);
+    }
+}
+
+impl Disk for MemDisk<'_> {
+    ghost trace = { λ disk. Some (record { start = disk.start.items; steps = steps_of disk.steps.items disk.written.items }) };
+
+    ghost faults = { λ disk. disk.faults };
+
+    fn len(&mut self) -> Result<u64, Failed> {
+        if !begin(&mut self.calls, &self.limits, self.failing) {
+            return Err(fault(&mut self.faults));
+        }
+        Ok(self.bytes.len() as u64)
+    }
+
+    fn read_at(&mut self, place: u64, buf: &mut [u8]) -> Result<(), Failed> {
+        if !begin(&mut self.calls, &self.limits, self.failing) {
+            return Err(fault(&mut self.faults));
+        }
+        fill(&self.bytes, place, buf);
+        Ok(())
+    }
+
+    fn write_at(&mut self, place: u64, bytes: &[u8]) -> Result<(), Failed> {
+        if !begin(&mut self.calls, &self.limits, self.failing)
+            || place > u64::from(self.limits.length)
+            || bytes.len() as u64 > u64::from(self.limits.length) - place
+            || self.written.len() + bytes.len() > self.limits.written as usize
+        {
+            return Err(fault(&mut self.faults));
+        }
+        match write_down(
+            &mut self.bytes,
+            &mut self.steps,
+            &mut self.written,
+            place,
+            bytes,
+        ) {
+            Ok(()) => Ok(()),
+            Err(_) => Err(fault(&mut self.faults)),
+        }
+    }
+
+    fn sync(&mut self) -> Result<(), Failed> {
+        if !begin(&mut self.calls, &self.limits, self.failing) {
+            return Err(fault(&mut self.faults));
+        }
+        match self.steps.push(Kept::Synced) {
+            Ok(()) => Ok(()),
+            Err(_) => Err(fault(&mut self.faults)),
+        }
+    }
+}

@@ -1,0 +1,233 @@
+-- What one more charge costs.
+use Rattle.std.proofs.Common.{◌≡◌, ℕ, zero, suc, ◌+◌, ◌-◌, ◌≤◌, ◌<◌, max, Bool, true, false, ◌&&◌, List, [], ◌∷◌, ◌++◌, sum_by, refl, sym, subst, ◌∙◌, ap, arith, add-zero, if◌then◌else◌, ⊎_elim, All, eqb}
+use Rattle.std.proofs.lemmas.Bool.{cases_eq, eqb-true, eq-eqb}
+use Rattle.std.proofs.lemmas.List.Sums.{sum_by-cons, sum_by_push}
+use Rattle.std.proofs.lemmas.List.Elements.{All-head, All-tail}
+use Rattle.partition_charge.specs.declared.view.View.{View}
+use Rattle.partition_charge.specs.declared.view.View.TheVariants.{Whole, Part}
+use Rattle.partition_charge.specs.Views.{IsView, same_view, partition_limit, part_limit}
+use Rattle.partition_charge.specs.Cost.{Charge, charged_to, charges_of, greatest_below, total_below, partition_cost, cost_of}
+
+-- ---- sums and greatest ones
+
+total-same : (n : ℕ) (f g : ℕ → ℕ) → ((k : ℕ) → k < n → g k ≡ f k) → total_below n g ≡ total_below n f
+total-same zero f g same = refl
+total-same (suc n) f g same = cc (total-same n f g (λ k lt. same k (omega arith)), same n (omega arith))
+
+total-le : (n : ℕ) (f g : ℕ → ℕ) → ((k : ℕ) → f k ≤ g k) → total_below n f ≤ total_below n g
+total-le zero f g below = omega arith
+total-le (suc n) f g below = omega (arith, total-le n f g below, below n)
+
+greatest-same : (n : ℕ) (f g : ℕ → ℕ) → ((k : ℕ) → k < n → g k ≡ f k) → greatest_below n g ≡ greatest_below n f
+greatest-same zero f g same = refl
+greatest-same (suc n) f g same = cc (greatest-same n f g (λ k lt. same k (omega arith)), same n (omega arith))
+
+greatest-le : (n : ℕ) (f g : ℕ → ℕ) → ((k : ℕ) → f k ≤ g k) → greatest_below n f ≤ greatest_below n g
+greatest-le zero f g below = omega arith
+greatest-le (suc n) f g below = omega (arith, greatest-le n f g below, below n)
+
+pub greatest-at : (n : ℕ) (f : ℕ → ℕ) (k : ℕ) → k < n → f k ≤ greatest_below n f
+greatest-at zero f k lt = absurd (omega arith)
+greatest-at (suc n) f k lt = ⊎_elim
+    (λ is. let here : f k ≡ f n = ap f is in omega arith)
+    (λ isnt. omega (arith, greatest-at n f k (omega arith)))
+    (cases_eq k n)
+
+total-at : (n : ℕ) (f : ℕ → ℕ) (k : ℕ) → k < n → f k ≤ total_below n f
+total-at zero f k lt = absurd (omega arith)
+total-at (suc n) f k lt = ⊎_elim
+    (λ is. let here : f k ≡ f n = ap f is in omega arith)
+    (λ isnt. omega (arith, total-at n f k (omega arith)))
+    (cases_eq k n)
+
+total-zero : (n : ℕ) (f : ℕ → ℕ) → ((k : ℕ) → f k ≡ 0) → total_below n f ≡ 0
+total-zero zero f none = refl
+total-zero (suc n) f none = omega (arith, total-zero n f none, none n)
+
+greatest-zero : (n : ℕ) (f : ℕ → ℕ) → ((k : ℕ) → f k ≡ 0) → greatest_below n f ≡ 0
+greatest-zero zero f none = refl
+greatest-zero (suc n) f none = omega (arith, greatest-zero n f none, none n)
+
+-- one of them rises
+greatest-raised : (n : ℕ) (f g : ℕ → ℕ) (j : ℕ) → j < n → f j ≤ g j → ((k : ℕ) → (k ≡ j → ⊥) → g k ≡ f k) → greatest_below n g ≡ max (greatest_below n f) (g j)
+greatest-raised zero f g j lt up others = absurd (omega arith)
+greatest-raised (suc n) f g j lt up others = ⊎_elim
+    (λ is. let below : greatest_below n g ≡ greatest_below n f = greatest-same n f g (λ k less. others k (λ same. omega arith)) in
+    let here : g j ≡ g n = ap g is in let there : f j ≡ f n = ap f is in omega arith)
+    (λ isnt. let last : g n ≡ f n = others n (λ same. isnt (sym same)) in omega (arith, greatest-raised n f g j (omega arith) up others))
+    (cases_eq j n)
+
+-- one of them changes
+total-changed : (n : ℕ) (f g : ℕ → ℕ) (j : ℕ) → j < n → ((k : ℕ) → (k ≡ j → ⊥) → g k ≡ f k) → total_below n g + f j ≡ total_below n f + g j
+total-changed zero f g j lt others = absurd (omega arith)
+total-changed (suc n) f g j lt others = ⊎_elim
+    (λ is. let below : total_below n g ≡ total_below n f = total-same n f g (λ k less. others k (λ same. omega arith)) in
+    let here : g j ≡ g n = ap g is in let there : f j ≡ f n = ap f is in omega arith)
+    (λ isnt. let last : g n ≡ f n = others n (λ same. isnt (sym same)) in omega (arith, total-changed n f g j (omega arith) others))
+    (cases_eq j n)
+
+-- ---- views
+
+not-true : (b : Bool) → (b ≡ true → ⊥) → b ≡ false
+not-true true isnt = absurd (isnt refl)
+not-true false isnt = refl
+
+both-true : (a b : Bool) → (a && b) ≡ true → (a ≡ true) × (b ≡ true)
+both-true true true is = (refl, refl)
+both-true true false is = absurd cc
+both-true false b is = absurd cc
+
+same-part : (p j : ℕ) → same_view (Part p j) (Part p j) ≡ true
+same-part p j = cc (eq-eqb p p refl, eq-eqb j j refl)
+
+other-partition : (p q i j : ℕ) → (q ≡ p → ⊥) → same_view (Part q i) (Part p j) ≡ false
+other-partition p q i j isnt = not-true (same_view (Part q i) (Part p j)) (λ yes. isnt (eqb-true q p (both-true (eqb q p) (eqb i j) yes).0))
+
+other-part : (p i j : ℕ) → (i ≡ j → ⊥) → same_view (Part p i) (Part p j) ≡ false
+other-part p i j isnt = not-true (same_view (Part p i) (Part p j)) (λ yes. isnt (eqb-true i j (both-true (eqb p p) (eqb i j) yes).1))
+
+-- ---- one charge more
+
+pub charges-append : (view : View) (charges : List Charge) (next : Charge)
+    → charges_of view (charges ++ next ∷ []) ≡ charges_of view charges + charged_to view next
+charges-append view charges next = sum_by_push (charged_to view) charges next
+
+module _ (charges : List Charge) (amount : ℕ) where
+  -- ---- to the whole
+
+  abbrev with_whole : List Charge
+  with_whole = charges ++ record { view = Whole; amount = amount } ∷ []
+
+  pub whole-part : (p j : ℕ) → charges_of (Part p j) (charges ++ record { view = Whole; amount = amount } ∷ []) ≡ charges_of (Part p j) charges
+  whole-part p j = charges-append (Part p j) charges (record { view = Whole; amount = amount }) ∙ add-zero (charges_of (Part p j) charges)
+
+  pub whole-partition : (p : ℕ) → partition_cost (charges ++ record { view = Whole; amount = amount } ∷ []) p ≡ partition_cost charges p
+  unfolding partition_cost
+  whole-partition p = greatest-same part_limit (λ j. charges_of (Part p j) charges) (λ j. charges_of (Part p j) with_whole) (λ j lt. whole-part p j)
+
+  pub whole-cost : cost_of (charges ++ record { view = Whole; amount = amount } ∷ []) ≡ cost_of charges + amount
+  unfolding cost_of
+  whole-cost =
+      let whole : charges_of Whole with_whole ≡ charges_of Whole charges + amount = charges-append Whole charges (record { view = Whole; amount = amount }) in
+      let parts : total_below partition_limit (partition_cost with_whole) ≡ total_below partition_limit (partition_cost charges)
+      = total-same partition_limit (partition_cost charges) (partition_cost with_whole) (λ p lt. whole-partition p) in
+      omega arith
+
+  -- ---- to a part
+
+  module _ (p j : ℕ) where
+    abbrev with_part : List Charge
+    with_part = charges ++ record { view = Part p j; amount = amount } ∷ []
+
+    abbrev charge : Charge
+    charge = record { view = Part p j; amount = amount }
+
+    pub part-at : charges_of (Part p j) (charges ++ record { view = Part p j; amount = amount } ∷ []) ≡ charges_of (Part p j) charges + amount
+    part-at = charges-append (Part p j) charges charge ∙ ap (λ (b : Bool). charges_of (Part p j) charges + (if b then amount else 0)) (same-part p j)
+
+    pub part-other : (i : ℕ) → (i ≡ j → ⊥) → charges_of (Part p i) (charges ++ record { view = Part p j; amount = amount } ∷ []) ≡ charges_of (Part p i) charges
+    part-other i isnt = charges-append (Part p i) charges charge ∙ ap (λ (b : Bool). charges_of (Part p i) charges + (if b then amount else 0))
+        (other-part p i j isnt) ∙ add-zero (charges_of (Part p i) charges)
+
+    pub part-elsewhere : (q i : ℕ) → (q ≡ p → ⊥) → charges_of (Part q i) (charges ++ record { view = Part p j; amount = amount } ∷ []) ≡ charges_of
+        (Part q i) charges
+    part-elsewhere q i isnt = charges-append (Part q i) charges charge
+        ∙ ap (λ (b : Bool). charges_of (Part q i) charges + (if b then amount else 0)) (other-partition p q i j isnt) ∙ add-zero (charges_of (Part q i) charges)
+
+    pub elsewhere-partition : (q : ℕ) → (q ≡ p → ⊥) → partition_cost (charges ++ record { view = Part p j; amount = amount } ∷ []) q ≡ partition_cost charges q
+    unfolding partition_cost
+    elsewhere-partition q isnt = greatest-same part_limit (λ i. charges_of (Part q i) charges) (λ i. charges_of (Part q i) with_part)
+        (λ i lt. part-elsewhere q i isnt)
+
+    pub part-partition : j < part_limit → partition_cost (charges ++ record { view = Part p j; amount = amount } ∷ []) p ≡ max (partition_cost charges p)
+        (charges_of (Part p j) charges + amount)
+    unfolding partition_cost
+    part-partition lt =
+        greatest-raised part_limit (λ i. charges_of (Part p i) charges) (λ i. charges_of (Part p i) with_part) j lt (omega (arith, part-at)) part-other
+        ∙ ap (λ (n : ℕ). max (greatest_below part_limit (λ i. charges_of (Part p i) charges)) n) part-at
+
+    part-whole : charges_of Whole with_part ≡ charges_of Whole charges
+    part-whole = charges-append Whole charges charge ∙ add-zero (charges_of Whole charges)
+
+    pub part-cost : p < partition_limit → j < part_limit
+        → cost_of (charges ++ record { view = Part p j; amount = amount } ∷ []) ≡ cost_of charges +
+        (charges_of (Part p j) charges + amount - partition_cost charges p)
+    unfolding cost_of
+    part-cost lt within =
+        let parts : total_below partition_limit (partition_cost with_part) + partition_cost charges p ≡ total_below partition_limit
+        (partition_cost charges) + partition_cost with_part p
+        = total-changed partition_limit (partition_cost charges) (partition_cost with_part) p lt elsewhere-partition in
+        omega (arith, parts, part-whole, part-partition within)
+
+    -- a part's sum is at most the cost
+    pub part-le : p < partition_limit → j < part_limit → charges_of (Part p j) charges + amount ≤ cost_of
+        (charges ++ record { view = Part p j; amount = amount } ∷ [])
+    unfolding cost_of
+    part-le lt within = omega (arith, part-partition within, total-at partition_limit (partition_cost with_part) p lt)
+
+-- ---- laws
+
+pub cost-nil : cost_of [] ≡ 0
+unfolding cost_of partition_cost
+cost-nil = refl
+
+pub partition-nil : (p : ℕ) → partition_cost [] p ≡ 0
+unfolding partition_cost
+partition-nil p = refl
+
+parts-le : (xs ys : List Charge) → ((p j : ℕ) → charges_of (Part p j) xs ≤ charges_of (Part p j) ys)
+    → total_below partition_limit (partition_cost xs) ≤ total_below partition_limit (partition_cost ys)
+unfolding partition_cost
+parts-le xs ys below = total-le partition_limit (partition_cost xs) (partition_cost ys)
+    (λ p. greatest-le part_limit (λ j. charges_of (Part p j) xs) (λ j. charges_of (Part p j) ys) (below p))
+
+pub never-falls : (charges : List Charge) (next : Charge) → cost_of charges ≤ cost_of (charges ++ next ∷ [])
+unfolding cost_of
+never-falls charges next =
+    omega (arith, charges-append Whole charges next, parts-le charges (charges ++ next ∷ []) (λ p j. omega (arith, charges-append (Part p j) charges next)))
+
+abbrev is_whole : Charge → Type 0
+is_whole charge = charge.view ≡ Whole
+
+sum-whole : (charges : List Charge) → All is_whole charges → charges_of Whole charges ≡ sum_by (λ (charge : Charge). charge.amount) charges
+sum-whole [] all = refl
+sum-whole (c ∷ charges) all =
+    let here : charged_to Whole c ≡ c.amount = ap (λ (v : View). if same_view Whole v then c.amount else 0) (All-head is_whole c charges all) in
+    let rest : charges_of Whole charges ≡ sum_by (λ (charge : Charge). charge.amount) charges = sum-whole charges (All-tail is_whole c charges all) in
+    sum_by-cons (charged_to Whole) c charges ∙ (λ i. here i + rest i) ∙ sym (sum_by-cons (λ (charge : Charge). charge.amount) c charges)
+
+sum-parts : (p j : ℕ) (charges : List Charge) → All is_whole charges → charges_of (Part p j) charges ≡ 0
+sum-parts p j [] all = refl
+sum-parts p j (c ∷ charges) all =
+    let here : charged_to (Part p j) c ≡ 0 = ap (λ (v : View). if same_view (Part p j) v then c.amount else 0) (All-head is_whole c charges all) in
+    let rest : charges_of (Part p j) charges ≡ 0 = sum-parts p j charges (All-tail is_whole c charges all) in
+    sum_by-cons (charged_to (Part p j)) c charges ∙ (λ i. here i + rest i)
+
+whole-partitions : (charges : List Charge) → All is_whole charges → (p : ℕ) → partition_cost charges p ≡ 0
+unfolding partition_cost
+whole-partitions charges all p = greatest-zero part_limit (λ j. charges_of (Part p j) charges) (λ j. sum-parts p j charges all)
+
+pub adds-up-whole : (charges : List Charge) → All is_whole charges → cost_of charges ≡ sum_by (λ (charge : Charge). charge.amount) charges
+unfolding cost_of
+adds-up-whole charges all =
+    ap (λ (n : ℕ). charges_of Whole charges + n) (total-zero partition_limit (partition_cost charges) (whole-partitions charges all))
+    ∙ add-zero (charges_of Whole charges) ∙ sum-whole charges all
+
+-- ---- where the view is given
+
+module _ (charges : List Charge) (view : View) (amount : ℕ) where
+  pub cost-with-whole : view ≡ Whole → cost_of (charges ++ record { view = view; amount = amount } ∷ []) ≡ cost_of charges + amount
+  cost-with-whole is = ap (λ (v : View). cost_of (charges ++ record { view = v; amount = amount } ∷ [])) is ∙ whole-cost charges amount
+
+  module _ (p j : ℕ) (valid : IsView view) (is : view ≡ Part p j) where
+    pub view-within : (p < 8) × (j < 250)
+    view-within = subst IsView is valid
+
+    pub cost-with-part : cost_of (charges ++ record { view = view; amount = amount } ∷ []) ≡ cost_of charges +
+        (charges_of (Part p j) charges + amount - partition_cost charges p)
+    cost-with-part = ap (λ (v : View). cost_of (charges ++ record { view = v; amount = amount } ∷ [])) is
+        ∙ part-cost charges amount p j view-within.0 view-within.1
+
+    pub part-within : charges_of (Part p j) charges + amount ≤ cost_of (charges ++ record { view = view; amount = amount } ∷ [])
+    part-within = subst (λ (v : View). charges_of (Part p j) charges + amount ≤ cost_of (charges ++ record { view = v; amount = amount } ∷ [])) (sym is)
+        (part-le charges amount p j view-within.0 view-within.1)

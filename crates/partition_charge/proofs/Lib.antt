@@ -1,0 +1,3 @@
+pub mod Charges
+mod Examples
+pub mod Standing

@@ -1,0 +1,4 @@
+pub mod Cost
+pub mod Laws
+pub mod Totals
+pub mod Views

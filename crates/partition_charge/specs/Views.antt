@@ -1,0 +1,22 @@
+-- what a charge is for
+use Rattle.std.specs.Prelude.{ℕ, ◌<◌, Bool, true, false, ◌==◌, ◌&&◌, ⊤}
+use Rattle.partition_charge.specs.declared.view.View.{View}
+use Rattle.partition_charge.specs.declared.view.View.TheVariants.{Whole, Part}
+
+-- An owner has at most so many partitions, and a partition so many parts.
+abbrev pub partition_limit : ℕ
+partition_limit = 8
+
+abbrev pub part_limit : ℕ
+part_limit = 250
+
+-- the numbers of a view are within the limits
+abbrev pub IsView : View → Type 0
+IsView Whole = ⊤
+IsView (Part partition part) = (partition < partition_limit) × (part < part_limit)
+
+abbrev pub same_view : View → View → Bool
+same_view Whole Whole = true
+same_view (Part p j) (Part r k) = (p == r) && (j == k)
+same_view Whole (Part p j) = false
+same_view (Part p j) Whole = false

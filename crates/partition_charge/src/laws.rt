@@ -1,0 +1,13 @@
+//! The laws of costs. Each function does nothing: its contract is the law.
+
+ghost use Rattle.partition_charge.specs.Laws.{NeverFalls, AddsUpWhole};
+
+/// A charge never lowers the cost.
+pub fn never_falls()
+    ensures { NeverFalls }
+{}
+
+/// Where the whole view alone is charged, the cost is the sum of the amounts.
+pub fn adds_up_whole()
+    ensures { AddsUpWhole }
+{}

@@ -1,0 +1,10 @@
+//! What a charge is for.
+
+/// What a query looks at: the owner's whole dataset, or one part of one of its partitions.
+///
+/// A partition is numbered 0 to 7, its part 0 to 249.
+#[derive(Clone, Copy, Debug, Drop, PartialEq, Eq)]
+pub enum View {
+    Whole,
+    Part { partition: u8, part: u8 },
+}
