@@ -25,7 +25,9 @@ INF = "inf"
 
 
 class Refused(Exception):
-    """The words of a refusal."""
+    """The words of a refusal. Of a mismatch it has the types too; the wanted one is a type, or the form of one."""
+
+    found = wanted = None
 
 
 # Tokens: (kind, value, from, to), the kinds being name, number, quoted (a text), and each word and sign by itself.
@@ -446,25 +448,27 @@ def added(a, b):
     return pointwise(plus, a, b)
 
 
-def mismatch(node):
-    return Refused(f"30 mismatch {node.span()}")
+def mismatch(node, found, wanted):
+    refusal = Refused(f"30 mismatch {node.span()}")
+    refusal.found, refusal.wanted = found, wanted
+    return refusal
 
 
 def want(node, found, wanted):
     if found != wanted:
-        raise mismatch(node)
+        raise mismatch(node, found, wanted)
 
 
 def want_form(node, found, form):
     if found[0] != form:
-        raise mismatch(node)
+        raise mismatch(node, found, form)
     return found[1:]
 
 
 # The function of a bag primitive: the element's type and the result's.
 def want_unlimited(node, found):
     if found[0] != "-o" or found[1][0] != "!" or found[1][1] != INF:
-        raise mismatch(node)
+        raise mismatch(node, found, "->")
     return found[1][2], found[2]
 
 
@@ -594,7 +598,7 @@ class Checker:
     def equal(self, node, scope, a, b):
         (A, Da), (B, Db) = self.check(a, scope), self.check(b, scope)
         if A not in (NUM, TEXT):
-            raise mismatch(a)
+            raise mismatch(a, A, "number or text")
         want(b, B, A)
         r = INF if A == NUM else Fraction(1)
         return BOOL, added(scaled(r, Da), scaled(r, Db))
@@ -632,7 +636,7 @@ class Checker:
             if not flat(T):
                 raise Refused(f"30 notflat {f.span()}")
         else:
-            want(f, T, BOOL)
+            want(f, F, unlimited(element, BOOL))
         want(b, B, ("bag", element))
         result = {"map": ("bag", T), "filter": B, "split": ("*", B, B)}[node.form]
         return result, added(scaled(INF, Df), Db)

@@ -1,13 +1,13 @@
 #!/usr/bin/env python3
 """What the server must write for a script, worked out apart from it.
 
-    reference.py [--key FILE] [--table FILE] < SCRIPT  the transcript of a script
-    reference.py --program < PROGRAM                   what is said of a program
-    reference.py --check                               the values that are known from outside
+    reference.py [--key FILE] [--catalog FILE] < SCRIPT          the transcript of a script
+    reference.py --program [--catalog FILE] [OWNER] < PROGRAM    what is said of a program
+    reference.py --check                                         the values that are known from outside
 
-The house is the one the server has: the analysts ann and bob, the owner census with a budget of 10 (in millionths
-10000000) and room for 100 records, and a table `people` with the rows of FILE (20, 30, 40, unless said), whose first line is
-its header. The key is 32 zero bytes, unless said.
+The house is that of a catalog and its tables. Unless one is named it has the analysts ann and bob and the owner census with a
+budget of 10 (in millionths 10000000), room for 100 records, and a table `people` with one column of numbers, 20, 30 and 40. The
+key is 32 zero bytes, unless said.
 The test values of crates/hitchseason are written by this program. It shares nothing with the server but the rules:
 
 - Draw i of the number n of owner o is 8 bytes, lowest first, of ChaCha20 with a 64-bit counter and a 64-bit nonce. The
@@ -15,7 +15,7 @@ The test values of crates/hitchseason are written by this program. It shares not
   counter and 96 to the nonce: test vectors 1, 2 and 5 of its appendix A.1 hold for both.)
 - The noise is discrete Laplace by the sampler of "The Discrete Gaussian for Differential Privacy" by Canonne, Kamath and
   Steinke, from at most 4096 draws.
-- A program is read and checked by programs.py, and run by runs.py.
+- A program is read and checked by programs.py, and run by runs.py; catalogs are read by catalog.py, and tables by tables.py.
 """
 import argparse
 import sys
@@ -24,13 +24,13 @@ from math import ceil
 
 from cryptography.hazmat.primitives.ciphers import Cipher, algorithms
 
+from catalog import census, read
 from programs import Refused
 from runs import asked, judgement, value
+from tables import held, signature
 
 BUDGET = 10_000_000
 CAPACITY = 100
-ANALYSTS = (b"ann", b"bob")
-OWNER = b"census"
 LINE_LIMIT = 16_384
 SCRIPT_LIMIT = 2**24
 DRAW_LIMIT = 4096
@@ -114,14 +114,46 @@ def millionths(text):
     return int(value * 10**6) if 0 < value <= 1000 else None
 
 
+class Owner:
+    """An owner's entry, tables and rows, and what was charged and recorded."""
+
+    def __init__(self, entry, rows):
+        self.entry, self.rows, self.tables = entry, rows, signature(entry)
+        self.spent = self.records = self.number = 0
+
+
+class House:
+    """A catalog, and each owner's rows by the name of a table."""
+
+    def __init__(self, catalog, rows):
+        self.catalog, self.rows = catalog, rows
+
+    def owners(self):
+        return {entry["name"].encode(): Owner(entry, rows) for entry, rows in zip(self.catalog["owners"], self.rows)}
+
+    def analysts(self):
+        return [name.encode() for name in self.catalog["analysts"]]
+
+
+def house_of(data, file):
+    """The house of a catalog's bytes, FILE giving a file's bytes by its name."""
+    catalog = read(data)
+    return House(catalog, [held(owner, file) for owner in catalog["owners"]])
+
+
+def with_rows(rows):
+    """The house of one owner whose table has these numbers."""
+    return House(read(census()), [{"people": list(rows)}])
+
+
+def key_words(key):
+    return lambda owner, number: key_draws(key, owner, number)
+
+
 class Server:
-    def __init__(self, rows, draws):
-        self.rows = list(rows)
-        self.draws = draws
+    def __init__(self, house, draws):
+        self.analysts, self.owners, self.draws = house.analysts(), house.owners(), draws
         self.who = None
-        self.spent = 0
-        self.records = 0
-        self.number = 0
 
     def reply(self, line):
         if len(line) > LINE_LIMIT:
@@ -144,7 +176,7 @@ class Server:
             return "no 10 1"
         if len(words) > 2:
             return "no 10 2"
-        if words[1] not in ANALYSTS:
+        if words[1] not in self.analysts:
             return "no 12 1"
         self.who = words[1]
         return "hello " + words[1].decode()
@@ -155,40 +187,41 @@ class Server:
                 return f"no 10 {place}"
         if len(words) < 4:
             return "no 10 3"
-        _, owner, epsilon, program = words
-        if owner != OWNER:
+        _, name, epsilon, program = words
+        if name not in self.owners:
             return "no 12 1"
         e = millionths(epsilon)
         if e is None:
             return "no 13"
         if self.who is None:
             return "no 14"
+        owner = self.owners[name]
         try:
-            return self.query(e, *asked(program))
+            return self.query(owner, list(self.owners).index(name), e, *asked(program, owner.tables))
         except Refused as refusal:
             return f"no {refusal}"
 
-    def query(self, e, term, sensitivity):
-        cost = ceil(sensitivity * e)
-        if self.spent + cost > BUDGET:
-            return f"no 40 {self.spent} {self.spent + cost} {BUDGET} {self.records}"
-        if self.records + 2 > CAPACITY:
-            return f"no 41 {self.records} 0 {CAPACITY}"
-        number = self.number
-        self.number += 1
-        self.spent += cost
-        self.records += 2
+    def query(self, owner, order, e, term, sensitivity):
+        cost, budget, capacity = ceil(sensitivity * e), owner.entry["budget"], owner.entry["capacity"]
+        if owner.spent + cost > budget:
+            return f"no 40 {owner.spent} {owner.spent + cost} {budget} {owner.records}"
+        if owner.records + 2 > capacity:
+            return f"no 41 {owner.records} 0 {capacity}"
+        number = owner.number
+        owner.number += 1
+        owner.spent += cost
+        owner.records += 2
         try:
-            exact = value(term, {"people": self.rows})
-            return f"answer {number} {exact + noise(e, self.draws(number))} {cost}"
+            exact = value(term, owner.rows)
+            return f"answer {number} {exact + noise(e, self.draws(order, number))} {cost}"
         except Exhausted:
             return f"no 50 {number}"
 
 
-def transcript(script, rows=ROWS, draws=lambda number: key_draws(bytes(32), 0, number)):
+def transcript(script, house=with_rows(ROWS), draws=key_words(bytes(32))):
     if len(script) > SCRIPT_LIMIT:
         return "script too long\n"
-    server = Server(rows, draws)
+    server = Server(house, draws)
     return "".join(server.reply(line) + "\n" for line in lines_of(script))
 
 
@@ -305,8 +338,8 @@ def check():
     assert transcript(hello + one + b"bye\n") == "hello ann\nanswer 0 5 1000000\nbye\n"
     assert transcript(b"") == ""
     assert transcript(hello + 11 * one).splitlines()[-1] == "no 40 10000000 11000000 10000000 20"
-    assert transcript(hello + one, draws=lambda _: followed([])) == "hello ann\nno 50 0\n"
-    assert transcript(hello + one, rows=(), draws=lambda _: followed([0, 0, 0, 0, 1, 0, 1, 0])).endswith(
+    assert transcript(hello + one, draws=lambda *_: followed([])) == "hello ann\nno 50 0\n"
+    assert transcript(hello + one, with_rows([]), lambda *_: followed([0, 0, 0, 0, 1, 0, 1, 0])).endswith(
         "answer 0 -1 1000000\n"
     )
     # Programs worked by hand.
@@ -318,23 +351,28 @@ def check():
     print("all as known")
 
 
+def contents(name):
+    with open(name, "rb") as file:
+        return file.read()
+
+
 def main():
     words = argparse.ArgumentParser()
     words.add_argument("--key")
-    words.add_argument("--table")
+    words.add_argument("--catalog")
     words.add_argument("--program", action="store_true")
     words.add_argument("--check", action="store_true")
+    words.add_argument("owner", nargs="?", default="census")
     given = words.parse_args()
-    if given.program:
-        print(judgement(sys.stdin.buffer.read()))
-        return
     if given.check:
         check()
         return
-    key = open(given.key, "rb").read() if given.key else bytes(32)
-    rows = [int(line) for line in open(given.table).read().split()[1:]] if given.table else ROWS
-    text = transcript(sys.stdin.buffer.read(), rows, lambda number: key_draws(key, 0, number))
-    sys.stdout.write(text)
+    house = house_of(contents(given.catalog), contents) if given.catalog else with_rows(ROWS)
+    if given.program:
+        print(judgement(sys.stdin.buffer.read(), house.owners()[given.owner.encode()].tables))
+        return
+    key = contents(given.key) if given.key else bytes(32)
+    sys.stdout.write(transcript(sys.stdin.buffer.read(), house, key_words(key)))
 
 
 if __name__ == "__main__":
