@@ -1,8 +1,8 @@
 #!/usr/bin/env bash
 # Asks over a table of 2^20 rows, beside sqlite3's query for the same number on the same rows, in turn; and runs that are long or deep.
 # usage: bench/bags.sh [ROUNDS]    (PROGRAM=FILE measures another build)
-# Bars: each ask takes less processor time than sqlite3's query (1.6 times as much where rows are filtered), those with a function
-# under 120 ns a row, and each at most 64 bytes a row above the table; a program of 20,000 turns without bags is read, checked and run
+# Bars: each ask takes less processor time than sqlite3's query (1.6 times as much where rows are filtered, by a number or by a text), those
+# with a function of numbers under 120 ns a row, and each at most 64 bytes a row above the table; a program of 20,000 turns without bags is read, checked and run
 # in under 10 ms; a map that makes 50 values of a row ends in its answer or in `no 51` within 2 GB of address space, and the deepest values and
 # runs end well on a stack of 1 MiB. It ends with status 1 where one isn't met.
 # A cost is that of a script with many asks of a program, less that of one with one, by ask: the least of the rounds.
@@ -20,17 +20,28 @@ TIMEFORMAT='%U %S'
 passed=0
 awk -v rows="$rows" 'BEGIN { print "age"; for (i = 0; i < rows; i++) print 20 + (i * 7919) % 80 }' >people.csv
 printf 'age\n20\n30\n40\n' >three.csv
+catalog three.json three.csv
+awk -v rows="$rows" 'BEGIN { print "town"; for (i = 0; i < rows; i++) print "town " (i * 7919) % 50 }' >towns.csv
+catalog towns.json towns.csv town text
+paste -d, towns.csv people.csv >both.csv
+catalog both.json both.csv town text age num
+# over CATALOG FILE COLUMNS: the table of the rows that follow, and its columns for sqlite3.
+over() {
+    held=$1
+    file=$2
+    columns=$3
+}
 
 # script NAME COUNT EPSILON PROGRAM: the script NAME, of so many asks of this program.
 script() { { echo "hello ann"; for ((ask = 0; ask < $2; ask++)); do echo "ask census $3 $4"; done; } >"$1"; }
-# spend TABLE NAME: runs the script NAME and keeps its seconds.
+# spend CATALOG NAME: runs the script NAME and keeps its seconds.
 spend() { { time "$program" run "$1" key <"$2" >"$2.output"; } 2>>"$2.times"; }
 # least NAME: the seconds that the script NAME took, the least of the rounds.
 least() { awk '{ used = $1 + $2; if (NR == 1 || used < least) least = used } END { print least }' "$1.times"; }
 # query TEXT: keeps the processor time that sqlite3 takes for the query, by query, and what it answers.
 query() {
     {
-        printf 'create table t(age integer);\n.mode csv\n.import --skip 1 people.csv t\n.mode list\n.timer on\n'
+        printf 'create table t(%s);\n.mode csv\n.import --skip 1 %s t\n.mode list\n.timer on\n' "$columns" "$file"
         for ((ask = 0; ask < 10; ask++)); do echo "$1;"; done
     } | sqlite3 :memory: >sqlite.output
     awk '/^Run Time/ { used += $6 + $8; many++ } END { print used / many }' sqlite.output >>sqlite.times
@@ -46,7 +57,7 @@ print(int(sys.argv[3]) - noise(millionths(sys.argv[2].encode()), key_draws(bytes
 END
 }
 # peak NAME: the script NAME run once, the most memory it takes in KiB.
-peak() { /usr/bin/time -f %M "$program" run people.csv key <"$1" 2>&1 >/dev/null | tail -n 1; }
+peak() { /usr/bin/time -f %M "$program" run "$held" key <"$1" 2>&1 >/dev/null | tail -n 1; }
 # bar NAME FIGURE BAR VERDICT: a row.
 bar() {
     printf '%-34s %22s %22s   %s\n' "$1" "$2" "$3" "$4"
@@ -62,8 +73,8 @@ row() {
     script many "$asks" "$2" "$3"
     echo "hello ann" >none
     for ((round = 0; round < rounds; round++)); do
-        spend people.csv one
-        spend people.csv many
+        spend "$held" one
+        spend "$held" many
         query "$4"
     done
     answer=$(awk '$1 == "answer" { print $3 }' one.output)
@@ -101,8 +112,8 @@ long_run() {
     script one 1 1000 "$1"
     script many "$asks" 1000 "$1"
     for ((round = 0; round < 2 * rounds; round++)); do
-        spend three.csv one
-        spend three.csv many
+        spend three.json one
+        spend three.json many
     done
     each=$(awk -v many="$(least many)" -v one="$(least one)" -v asks="$asks" 'BEGIN { printf "%.3f", (many - one) * 1000 / (asks - 1) }')
     verdict="MISSED: $(tail -n 1 many.output)"
@@ -110,7 +121,7 @@ long_run() {
     bar "20,000 turns without bags" "$each ms" "10 ms" "$verdict"
 }
 
-# ends NAME TABLE LIMIT KIB PROGRAM: an ask of this program under a `ulimit`, and one of a size. The first is answered, or has no
+# ends NAME CATALOG LIMIT KIB PROGRAM: an ask of this program under a `ulimit`, and one of a size. The first is answered, or has no
 # memory once it is reserved; the second is answered, with the next number.
 ends() {
     local status said verdict=MISSED
@@ -150,14 +161,20 @@ deep_run() {
 
 echo "$rows rows, $(nproc) processors, load $(cut -d' ' -f1 /proc/loadavg), sqlite3 $(sqlite3 --version | cut -d' ' -f1)"
 printf '%-34s %22s %22s\n' what figure bar
+over cat.json people.csv "age integer"
 row "size people" 0.1 "size people" "select count(*) from t" 1 0
 row "sum[0,100] people" 0.001 "sum[0,100] people" "select sum(min(max(age, 0), 100)) from t" 1 0
 row "size of a filter" 0.1 "size (filter (fn (x : num) => x <= 30) people)" "select count(*) from t where age <= 30" 1.6 120
 row "sum of a map" 0.001 "sum[0,100] (map (fn (x : num) => x + 1) people)" "select sum(min(max(age + 1, 0), 100)) from t" 1 120
+over towns.json towns.csv "town text"
+row "size of a filter of texts" 0.1 'size (filter (fn (t : text) => t == "town 7") people)' "select count(*) from t where town = 'town 7'" 1.6 0
+over both.json both.csv "town text, age integer"
+row "the same, beside a number" 0.1 'size (filter (fn (r : text * num) => let (t, n) = r in t == "town 7") people)' \
+    "select count(*) from t where town = 'town 7'" 1.6 0
 long_run "$(turns)"
-ends "map to pairs 50 deep, 2 GB" people.csv -v 2097152 "size (map (fn (x : num) => $(pairs 50)) people)"
-ends "map that doubles 50 times, 2 GB" people.csv -v 2097152 "size (map (fn (x : num) => $(doubled 50)) people)"
-ends "pairs 900 deep, 1 MiB of stack" three.csv -s 1024 "$(deep_value)"
-ends "the same of each row" three.csv -s 1024 "size (map (fn (x : num) => $(pairs 55)) people)"
-ends "a run 128 deep, 1 MiB of stack" three.csv -s 1024 "$(deep_run)"
+ends "map to pairs 50 deep, 2 GB" cat.json -v 2097152 "size (map (fn (x : num) => $(pairs 50)) people)"
+ends "map that doubles 50 times, 2 GB" cat.json -v 2097152 "size (map (fn (x : num) => $(doubled 50)) people)"
+ends "pairs 900 deep, 1 MiB of stack" three.json -s 1024 "$(deep_value)"
+ends "the same of each row" three.json -s 1024 "size (map (fn (x : num) => $(pairs 55)) people)"
+ends "a run 128 deep, 1 MiB of stack" three.json -s 1024 "$(deep_run)"
 exit $passed

@@ -52,7 +52,7 @@ spend() {
     shift
     for ((round = 0; round < rounds; round++)); do
         for name in "$@"; do
-            { time for ((run = 0; run < runs; run++)); do "$program" run people.csv key <"$name" >"$name.output"; done; } 2>>"$name.times"
+            { time for ((run = 0; run < runs; run++)); do "$program" run cat.json key <"$name" >"$name.output"; done; } 2>>"$name.times"
             [ "$(wc -l <"$name.output")" = $((lines + 1)) ] || { echo "another number of replies than of lines" >&2; exit 1; }
         done
     done
@@ -62,7 +62,7 @@ least() { awk -v each="$((runs * $2))" '{ used = ($1 + $2) * 1000000 / each; if 
 # said PROGRAM: what `check` says of a program.
 said() {
     printf '%s' "$1" >checked
-    "$program" check people.csv census checked
+    "$program" check cat.json census checked
 }
 
 # wide NAME PROGRAM UNREAD: a row of the first part. UNREAD is the program with a name in front that nothing binds.
@@ -106,7 +106,7 @@ nested() {
 doubling() {
     local verdict="at most 256 KiB more" found
     printf '%s' "$2" >checked
-    measure "$1" "$program" check people.csv census checked
+    measure "$1" "$program" check cat.json census checked
     found=$(cut -d' ' -f1,2 output)
     [ "$found" = "$3" ] || { verdict="WRONG: $found, wanted $3"; passed=1; }
     [ "$memory" -le $((short_memory + 256)) ] || { verdict="OVER: $short_memory KiB and 256"; passed=1; }
@@ -142,7 +142,7 @@ nested "of a sum of two" "size people" "@+a1" sum 7 14 28 56
 ulimit -t 20
 print_head
 printf 'size people' >checked
-measure "size people" "$program" check people.csv census checked
+measure "size people" "$program" check cat.json census checked
 short_memory=$memory
 echo "    11 bytes, $(cat output)"
 doubling "58 lets that double a number" "$(lets 58 1 "(@,@)" 7)" "ok 0"

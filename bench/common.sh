@@ -26,12 +26,46 @@ need_tool() {
     fi
 }
 
-# Makes a new folder for the files of one run, which goes with the run.
+# catalog NAME FILE [COLUMN TYPE]..: the catalog NAME, of the analysts ann and bob and the owner census, whose one table `people` is
+# the file FILE. It has one column of numbers, `age`, where no other columns are named.
+catalog() {
+    local name=$1 file=$2 columns=
+    shift 2
+    [ $# -gt 0 ] || set -- age num
+    for (( ; $# > 1; )); do
+        columns+="${columns:+, }{\"name\": \"$1\", \"type\": \"$2\"}"
+        shift 2
+    done
+    cat >"$name" <<END
+{"analysts": ["ann", "bob"],
+ "owners": [{"name": "census", "budget": 10000000, "capacity": 100, "partitions": [],
+   "tables": [{"name": "people", "file": "$file", "columns": [$columns]}]}]}
+END
+}
+
+# many_owners NAME OWNERS TABLES: the catalog NAME, of so many owners, `o1`, `o2`, .. and last `census`, each with so many tables,
+# `people`, `t1`, `t2`, .., which are all the file people.csv.
+many_owners() {
+    local owner table columns='"file": "people.csv", "columns": [{"name": "age", "type": "num"}]' tables
+    tables="{\"name\": \"people\", $columns}"
+    for ((table = 1; table < $3; table++)); do tables+=", {\"name\": \"t$table\", $columns}"; done
+    {
+        echo '{"analysts": ["ann", "bob"], "owners": ['
+        for ((owner = 1; owner <= $2; owner++)); do
+            printf '{"name": "%s", "budget": 10000000, "capacity": 100, "partitions": [], "tables": [%s]}%s\n' \
+                "$([ "$owner" = "$2" ] && echo census || echo "o$owner")" "$tables" "$([ "$owner" = "$2" ] || echo ,)"
+        done
+        echo ']}'
+    } >"$1"
+}
+
+# Makes a new folder for the files of one run, which goes with the run: a key, and the catalog of a table people.csv.
 make_room() {
     room=$(mktemp -d)
     trap 'rm -rf "$room"' EXIT
     cd "$room" || exit 2
     head -c 32 /dev/zero >key
+    catalog cat.json people.csv
 }
 
 # measure NAME COMMAND..: runs the command on this script's standard input, and prints a row.
@@ -47,4 +81,18 @@ measure() {
 
 print_head() {
     printf '%-24s %8s %8s %8s %10s   %s\n' "what" "wall s" "user s" "system s" "peak KiB" "load"
+}
+
+# judge NAME STATUS OUTPUT: the last run's status and the file output, lines parted by '/', are these.
+judge() {
+    local found verdict=
+    found=$(head -c 300 output | tr '\n' '/')
+    [ "$status" = "$2" ] && [ "$found" = "$3" ] && [ ! -s errors ] || { verdict="WRONG, wanted $2 $3"; passed=1; }
+    printf '%-40s %3s  %s  %s\n' "$1" "$status" "${found:0:60}" "$verdict"
+}
+# words NAME STATUS OUTPUT WORD..: the example's script under these words.
+words() {
+    "$program" "${@:4}" <script >output 2>errors
+    status=$?
+    judge "$1" "$2" "$3"
 }

@@ -15,6 +15,9 @@ from fractions import Fraction
 
 TOP = os.path.dirname(os.path.dirname(os.path.abspath(__file__)))
 PROGRAM = os.path.abspath(os.environ.get("PROGRAM", f"{TOP}/out/hitchseason"))
+sys.path.insert(0, f"{TOP}/tools")
+from catalog import census  # noqa: E402
+
 BUDGET, CAPACITY, MOST_DRAWS = 10_000_000, 100, 4096
 
 
@@ -123,6 +126,8 @@ def main():
     rng = random.Random(int(sys.argv[2]) if len(sys.argv) > 2 else 1)
     compared = 0
     with tempfile.TemporaryDirectory() as room:
+        with open(f"{room}/cat.json", "wb") as file:
+            file.write(census())
         for run in range(runs):
             key, rows = rng.randbytes(32), rng.choice([0, 1, 3, 1000])
             most = rng.choice([20, 10**3, 10**5, 10**6, 3 * 10**6])
@@ -134,7 +139,7 @@ def main():
             with open(f"{room}/people.csv", "w") as file:
                 file.write("age\n" + "".join(f"{rng.randint(-(2**50), 2**50)}\n" for _ in range(rows)))
             script = "hello ann\n" + "".join(f"ask census {written(it, rng)} size people\n" for it in epsilons)
-            ran = subprocess.run([PROGRAM, "run", "people.csv", "key"], input=script.encode(), capture_output=True, cwd=room)
+            ran = subprocess.run([PROGRAM, "run", "cat.json", "key"], input=script.encode(), capture_output=True, cwd=room)
             wanted = list(replies(key, rows, epsilons))
             if ran.returncode != 0 or ran.stdout.decode().splitlines() != wanted:
                 print(f"run {run}: key {key.hex()}, {rows} rows, status {ran.returncode}")

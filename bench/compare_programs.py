@@ -20,10 +20,11 @@ TOP = os.path.dirname(os.path.dirname(os.path.abspath(__file__)))
 PROGRAM = os.path.abspath(os.environ.get("PROGRAM", f"{TOP}/out/hitchseason"))
 sys.path.insert(0, f"{TOP}/tools")
 from programs import Node, Refused, sensitivity_text  # noqa: E402
-from random_programs import program_of  # noqa: E402
+from random_programs import CATALOG, TABLES, program_of  # noqa: E402
 from runs import asked  # noqa: E402
 
 BUDGET = 10_000_000
+FILES = [("people.csv", b"age\n20\n30\n40\n"), ("stays.csv", b"ward,nights\nA,3\n")]
 EPSILON = 10**9
 LINE_LIMIT = 16_384
 WANTED = "20 21 22 30-unbound 30-mismatch 30-notground 30-notflat 31 32 33 34 35 36 37 40".split()
@@ -41,7 +42,7 @@ def wanted_of(program):
 
     An ask that the budget allows is None: bench/compare_runs.py compares those."""
     try:
-        term, r = asked(program)
+        term, r = asked(program, TABLES)
     except Refused as refusal:
         return f"no {refusal}", f"no {refusal}", None, None
     cost = ceil(r * EPSILON)
@@ -71,7 +72,7 @@ class Comparison:
         name = f"{self.room}/program{number}"
         with open(name, "wb") as file:
             file.write(program)
-        ran = subprocess.run([PROGRAM, "check", "people.csv", "census", name], capture_output=True, cwd=self.room)
+        ran = subprocess.run([PROGRAM, "check", "cat.json", "census", name], capture_output=True, cwd=self.room)
         os.remove(name)
         return ran.returncode, ran.stdout.decode().removesuffix("\n")
 
@@ -83,7 +84,7 @@ class Comparison:
             self.count(want, term, r)
         fits = [it for it, program in enumerate(programs) if wanted[it][1] and fits_a_line(program)]
         script = b"hello ann\n" + b"".join(b"ask census 1000 " + programs[it] + b"\n" for it in fits)
-        ran = subprocess.run([PROGRAM, "run", "people.csv", "key"], input=script, capture_output=True, cwd=self.room)
+        ran = subprocess.run([PROGRAM, "run", "cat.json", "key"], input=script, capture_output=True, cwd=self.room)
         lines = ran.stdout.decode().splitlines()[1:]
         if ran.returncode or len(lines) != len(fits):
             self.differ(f"run, status {ran.returncode}", b"", f"{len(lines)} replies", len(fits))
@@ -108,10 +109,9 @@ def main():
     count = int(sys.argv[1]) if len(sys.argv) > 1 else 20_000
     rng = random.Random(int(sys.argv[2]) if len(sys.argv) > 2 else 1)
     with tempfile.TemporaryDirectory() as room, ThreadPoolExecutor(3) as pool:
-        with open(f"{room}/key", "wb") as file:
-            file.write(bytes(32))
-        with open(f"{room}/people.csv", "w") as file:
-            file.write("age\n20\n30\n40\n")
+        for name, data in (("key", bytes(32)), ("cat.json", CATALOG), *FILES):
+            with open(f"{room}/{name}", "wb") as file:
+                file.write(data)
         comparison = Comparison(room)
         for first in range(0, count, 500):
             comparison.compare([program_of(rng) for _ in range(min(500, count - first))], pool)

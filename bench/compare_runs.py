@@ -3,11 +3,11 @@
 
 usage: bench/compare_runs.py [COUNT [SEED]]            (PROGRAM=FILE compares another build than tools/build's)
        bench/compare_runs.py --alone [COUNT [SEED]]    without the program: the second implementation beside the typing rules
-COUNT random programs that the typing rules accept (50,000 where none is said), some 50 to a script, each script with a key and a
-table of its own. Each is asked: the reply is compared whole, that is code, number, value with the noise of that number, charge,
+COUNT random programs that the typing rules accept (50,000 where none is said), some 50 to a script, each script with a key and two
+tables of its own, one of numbers, and one of texts with numbers. Each is asked: the reply is compared whole, that is code, number, value with the noise of that number, charge,
 span and width. A part of them is given to `check`. It ends with status 1 at the first difference, and where one of the forms of
 terms was evaluated in fewer programs than a fivehundredth of them.
---alone evaluates each program on a table and on one with some rows more or less: the values are whole numbers within their ends,
+--alone evaluates each program on two tables and on others with some rows more or less: the values are whole numbers within their ends,
 and differ by at most the sensitivity times the rows that differ.
 """
 import os
@@ -23,7 +23,7 @@ TOP = os.path.dirname(os.path.dirname(os.path.abspath(__file__)))
 PROGRAM = os.path.abspath(os.environ.get("PROGRAM", f"{TOP}/out/hitchseason"))
 sys.path.insert(0, f"{TOP}/tools")
 from programs import RULES, Refused, sensitivity_text  # noqa: E402
-from random_programs import accepted_of  # noqa: E402
+from random_programs import CATALOG, TABLES, accepted_of  # noqa: E402
 from reference import BUDGET, CAPACITY, Exhausted, key_draws, noise  # noqa: E402
 from runs import NUMBER_LIMIT, Run, TooManySteps, asked  # noqa: E402
 
@@ -42,8 +42,8 @@ class Case:
     def is_made(self, program, rows):
         self.program, self.refusal, run = program, None, Run(STEPS)
         try:
-            self.term, self.r = asked(program)
-            self.exact = run.value(self.term, {"people": rows})
+            self.term, self.r = asked(program, TABLES)
+            self.exact = run.value(self.term, rows)
         except Refused as refusal:
             self.refusal = f"no {refusal}"
         except TooManySteps:
@@ -59,7 +59,7 @@ class Script:
     """Asks with the replies that are due."""
 
     def __init__(self, rng, count):
-        self.rng, self.rows, self.key = rng, rows_of(rng), rng.randbytes(32)
+        self.rng, self.rows, self.key = rng, dataset_of(rng), rng.randbytes(32)
         self.spent = self.granted = 0
         self.cases, self.lines, self.replies = [], [b"hello ann"], ["hello ann"]
         while len(self.cases) < count and 2 * self.granted + 2 <= CAPACITY:
@@ -98,15 +98,33 @@ def rows_of(rng):
     return [row() for _ in range(60 if rng.random() < 0.03 else rng.choice([0, 1, 2, 3, 3, 4, 5, 8]))]
 
 
+WARDS = [b"", b"a", b"it is", b"\xff", b"t" * 64, b'a "b", c', b"line\nend", b"\r\x00", "ward".encode("utf-16")]
+
+
+def ward_of(rng):
+    return rng.choice(WARDS[:4] if rng.random() < 0.7 else WARDS)
+
+
+def dataset_of(rng):
+    """The rows of each table."""
+    return {"people": rows_of(rng), "stays": [(ward_of(rng), number) for number in rows_of(rng)]}
+
+
 def neighbour(rng, rows):
-    """A table with some rows more or less, and how many."""
-    other, apart = list(rows), rng.choice([1, 1, 2, 3])
+    """A dataset with some rows more or less, and how many."""
+    other, apart = {name: list(table) for name, table in rows.items()}, rng.choice([1, 1, 2, 3])
     for _ in range(apart):
-        if other and rng.random() < 0.5:
-            other.pop(rng.randrange(len(other)))
+        name, table = rng.choice(list(other.items()))
+        if table and rng.random() < 0.5:
+            table.pop(rng.randrange(len(table)))
         else:
-            other.insert(rng.randrange(len(other) + 1), rng.choice([0, 1, 30, 99, -5, 2**50, -(2**50)]))
+            number = rng.choice([0, 1, 30, 99, -5, 2**50, -(2**50)])
+            table.insert(rng.randrange(len(table) + 1), number if name == "people" else (ward_of(rng), number))
     return other, apart
+
+
+def quoted(cell):
+    return b'"' + cell.replace(b'"', b'""') + b'"'
 
 
 class Counts:
@@ -139,14 +157,14 @@ def differ(what, found, want, case, script=None):
 def alone(rng, count):
     counts = Counts()
     for _ in range(count):
-        rows = rows_of(rng)
+        rows = dataset_of(rng)
         case = Case(rng, rows)
         counts.add(case, case.judged().split()[1] if case.refusal else "evaluated")
         if case.refusal:
             continue
         other, apart = neighbour(rng, rows)
         try:
-            moved = Run(4 * STEPS).value(case.term, {"people": other})
+            moved = Run(4 * STEPS).value(case.term, other)
         except TooManySteps:
             continue
         for value in (case.exact, moved):
@@ -171,8 +189,9 @@ class Room:
 
     def compare_script(self, script, counts):
         self.file("key", script.key)
-        self.file("people.csv", b"age\n" + b"".join(b"%d\n" % row for row in script.rows))
-        status, lines = self.run(["run", "people.csv", "key"], b"\n".join(script.lines) + b"\n")
+        self.file("people.csv", b"age\n" + b"".join(b"%d\n" % row for row in script.rows["people"]))
+        self.file("stays.csv", b"ward,nights\n" + b"".join(quoted(ward) + b",%d\n" % nights for ward, nights in script.rows["stays"]))
+        status, lines = self.run(["run", "cat.json", "key"], b"\n".join(script.lines) + b"\n")
         for case, found, want in zip(script.cases, lines[1:], script.replies[1:]):
             if found != want:
                 differ("ask", found, want, case, script)
@@ -183,7 +202,7 @@ class Room:
     def compare_check(self, number, case):
         name = f"program{number}"
         self.file(name, case.program)
-        found, want = self.run(["check", "people.csv", "census", name]), (1 if case.refusal else 0, [case.judged()])
+        found, want = self.run(["check", "cat.json", "census", name]), (1 if case.refusal else 0, [case.judged()])
         os.remove(f"{self.folder}/{name}")
         return case, found, want
 
@@ -192,6 +211,7 @@ def beside_the_program(rng, count):
     counts = Counts()
     with tempfile.TemporaryDirectory() as folder, ThreadPoolExecutor(2) as pool:
         room = Room(folder)
+        room.file("cat.json", CATALOG)
         while counts.programs < count:
             script = Script(rng, count - counts.programs)
             room.compare_script(script, counts)

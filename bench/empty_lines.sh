@@ -24,9 +24,9 @@ check() {
 }
 print_head
 for ((round = 1; round <= rounds; round++)); do
-    measure "2^24 empty lines" "$program" run people.csv key <longest
+    measure "2^24 empty lines" "$program" run cat.json key <longest
     check 0 wanted
-    measure "2^24 + 1" "$program" run people.csv key <longer
+    measure "2^24 + 1" "$program" run cat.json key <longer
     check 8 wanted_longer
 done
 exit $passed

@@ -1,5 +1,5 @@
 #!/usr/bin/env python3
-"""Tries each program of docs/language.md, and examples/programs: what they say beside a second implementation, and beside the program.
+"""Tries each program of docs/language.md, and the examples of scripts: what they say beside a second implementation, and beside the program.
 
 usage: bench/language.py [--alone]     (PROGRAM=FILE tries another build than tools/build's; --alone tries none)
 The page's programs stand in tables (Program, `check`, Value; or Program, Reply) and in blocks named `program`, each with a line
@@ -15,11 +15,12 @@ TOP = os.path.dirname(os.path.dirname(os.path.abspath(__file__)))
 PROGRAM = os.path.abspath(os.environ.get("PROGRAM", f"{TOP}/out/hitchseason"))
 sys.path.insert(0, f"{TOP}/tools")
 from programs import RULES  # noqa: E402
-from reference import transcript  # noqa: E402
+from reference import house_of, transcript  # noqa: E402
 from runs import Run, asked, judgement  # noqa: E402
+from tables import signature  # noqa: E402
 
 CODES = "20 21 22 30 31 32 33 34 35 36 37".split()
-ROWS = [20, 30, 40]
+CATALOG, KEY = "examples/language/catalog.json", "examples/first-run/key"
 
 
 def cells_of(line):
@@ -50,52 +51,63 @@ def in_blocks(text):
         yield program, said, int(value) if value else None
 
 
+def bytes_of(name):
+    with open(f"{TOP}/{name}", "rb") as file:
+        return file.read()
+
+
 class Trial:
     def __init__(self):
         self.differences, self.forms, self.codes = 0, set(), set()
+        self.house = house_of(bytes_of(CATALOG), bytes_of)
+        self.tables, self.rows = signature(self.house.catalog["owners"][0]), self.house.rows[0]
 
     def differ(self, by, program, found, want):
         self.differences += 1
         print(f"{by}: {found}, and the page says {want}, of {program[:200]}")
 
+    def judged(self, program):
+        return judgement(program.encode(), self.tables)
+
     def by_reference(self, program, said, value):
-        found = judgement(program.encode())
+        found = self.judged(program)
         self.codes.add(found.split()[1])
         # Of a block the code alone is said where the refusal has a span that nobody would count.
         if found != said and not (found.startswith(said + " ") and "\n" in program):
             self.differ("the second implementation", program, found, said)
         elif value is not None:
             run = Run()
-            number = run.value(asked(program.encode())[0], {"people": ROWS})
+            number = run.value(asked(program.encode(), self.tables)[0], self.rows)
             self.forms |= run.forms
             if number != value:
                 self.differ("the second implementation", program, number, value)
         elif said.startswith("ok"):
             self.differ("the page", program, "no value", said)
 
-    def by_program(self, room, program):
-        words = program.replace("\n", " ").encode()
-        with open(f"{room}/program", "wb") as file:
+    def by_program(self, program):
+        with tempfile.NamedTemporaryFile() as file:
             file.write(program.encode())
-        ran = subprocess.run([PROGRAM, "check", "people.csv", "census", "program"], capture_output=True, cwd=room)
-        if ran.stdout.decode().strip() != judgement(program.encode()):
-            self.differ("check", program, ran.stdout.decode().strip(), judgement(program.encode()))
-        script = b"hello ann\nask census 0.01 " + words + b"\n"
-        ran = subprocess.run([PROGRAM, "run", "people.csv", "key"], input=script, capture_output=True, cwd=room)
-        if ran.stdout.decode() != transcript(script, ROWS):
-            self.differ("ask", program, ran.stdout.decode().splitlines()[1:], transcript(script, ROWS).splitlines()[1:])
+            file.flush()
+            ran = subprocess.run([PROGRAM, "check", CATALOG, "census", file.name], capture_output=True, cwd=TOP)
+        if ran.stdout.decode().strip() != self.judged(program):
+            self.differ("check", program, ran.stdout.decode().strip(), self.judged(program))
+        script = b"hello ann\nask census 0.01 " + program.replace("\n", " ").encode() + b"\n"
+        self.ask("ask", script, CATALOG, transcript(script, self.house))
 
+    def ask(self, what, script, catalog, want):
+        ran = subprocess.run([PROGRAM, "run", catalog, KEY], input=script, capture_output=True, cwd=TOP)
+        if ran.stdout.decode() != want:
+            self.differ(what, script.decode(), ran.stdout.decode().splitlines(), want.splitlines())
 
-    def by_example(self, alone):
-        """The script of examples/programs, and the replies that stand beside it."""
-        folder = f"{TOP}/examples/programs"
-        script, replies = open(f"{folder}/script", "rb").read(), open(f"{folder}/replies").read()
-        if transcript(script, ROWS) != replies:
-            self.differ("the second implementation", "examples/programs", transcript(script, ROWS), replies)
+    def by_example(self, name, alone):
+        """The script of an example, and the replies that stand beside it."""
+        catalog = f"examples/{name}/catalog.json"
+        script, replies = bytes_of(f"examples/{name}/script"), bytes_of(f"examples/{name}/replies").decode()
+        found = transcript(script, house_of(bytes_of(catalog), bytes_of))
+        if found != replies:
+            self.differ("the second implementation", f"examples/{name}", found, replies)
         if not alone:
-            ran = subprocess.run([PROGRAM, "run", "people.csv", "key"], input=script, capture_output=True, cwd=folder)
-            if ran.stdout.decode() != replies:
-                self.differ("run", "examples/programs", ran.stdout.decode(), replies)
+            self.ask("run", script, catalog, replies)
 
 
 def main():
@@ -105,16 +117,12 @@ def main():
     text = open(f"{TOP}/docs/language.md").read()
     found = [*in_tables(text), *in_blocks(text)]
     trial = Trial()
-    with tempfile.TemporaryDirectory() as room:
-        with open(f"{room}/key", "wb") as file:
-            file.write(bytes(32))
-        with open(f"{room}/people.csv", "w") as file:
-            file.write("age\n20\n30\n40\n")
-        for program, said, value in found:
-            trial.by_reference(program, said, value)
-            if not alone:
-                trial.by_program(room, program)
-    trial.by_example(alone)
+    for program, said, value in found:
+        trial.by_reference(program, said, value)
+        if not alone:
+            trial.by_program(program)
+    for example in ("first-run", "programs"):
+        trial.by_example(example, alone)
     lacking = [form for form in RULES if form not in trial.forms] + [code for code in CODES if code not in trial.codes]
     if text.count("```program") != len(list(in_blocks(text))):
         lacking.append("what is said of a block")

@@ -8,19 +8,26 @@ import re
 import sys
 
 sys.path.insert(0, f"{os.path.dirname(os.path.dirname(os.path.abspath(__file__)))}/tools")
+from catalog import catalog, owner  # noqa: E402
 from programs import Refused, checked  # noqa: E402
 
 NUM, TEXT, UNIT, BOOL = ("num",), ("text",), ("unit",), ("bool",)
 BASES = (NUM, NUM, NUM, TEXT, UNIT, BOOL)
-NAMES = "x y z a b c people size2 _ x1 inn Age".split() + ["n" * 32]
+NAMES = "x y z a b c people stays size2 _ x1 inn Age".split() + ["n" * 32]
 FACTORS = "1 1 2 2 3 1/2 3/2 2/3 4/6 5/3 7/4 10 inf inf 1/3 100 65536 65537/65536 4294967295 1/4294967295 0 4294967296".split()
 NUMBERS = "0 1 2 3 5 7 10 100 007 1000 65535 65536 4294967295 4294967296 1125899906842624 1125899906842625".split()
 TEXTS = ['""', '"a"', '"it is"', '"\xff"', '"' + "t" * 64 + '"', '"' + "t" * 65 + '"', '"a\tb"']
 WORDS = (
     "fun fn let in case of inl inr if then else fst snd true false num text unit bool bag inf size sum clip least greatest"
-    " map filter split union do release at ( ) < > [ ] , : = ! | + - * & / => -> -o <= == () x y people 1 2 0 \"a\" $ #"
+    " map filter split union do release at ( ) < > [ ] , : = ! | + - * & / => -> -o <= == () x y people stays 1 2 0 \"a\" $ #"
 ).split()
 PEOPLE = ("people", ("bag", NUM))
+STAYS = ("stays", ("bag", ("*", TEXT, NUM)))
+TABLES = [PEOPLE, STAYS]
+# Their catalog, in files of their names.
+CATALOG = catalog(
+    owner(tables=(("people", "people.csv", (("age", "num"),)), ("stays", "stays.csv", (("ward", "text"), ("nights", "num")))))
+)
 TERM, COMPARISON, SUM, PRODUCT, CALL, ATOM = range(6)
 
 
@@ -154,11 +161,15 @@ class Writer:
         return COMPARISON, f"{self.term(t, scope, deep, SUM)} {sign} {self.term(t, scope, deep, SUM)}"
 
     def made_bag(self, t, scope, deep):
-        if t == PEOPLE[1] and PEOPLE in scope and (deep <= 0 or self.chance(0.6)):
-            return ATOM, "people"
+        tables = [table for table in TABLES if table in scope]
+        for name, u in tables:
+            if u == t and (deep <= 0 or self.chance(0.6)):
+                return ATOM, name
         way = self.rng.randrange(5) if deep > 0 else 0
-        if way == 0 and PEOPLE in scope and t[1] != NUM:
-            return CALL, f"map {self.term(('->', NUM, t[1]), scope, deep, ATOM)} people"
+        others = [table for table in tables if table[1] != t]
+        if way == 0 and others:
+            name, (_, row) = self.rng.choice(others)
+            return CALL, f"map {self.term(('->', row, t[1]), scope, deep, ATOM)} {name}"
         if way <= 1:
             u = self.rng.choice([NUM, self.type(1, flat=self.chance(0.95))])
             if deep <= -3:
@@ -329,7 +340,7 @@ def numbers_out_of_range(rng):
 def program_of(rng):
     """One program's bytes."""
     way = rng.random()
-    scope = [PEOPLE]
+    scope = TABLES
     if rng.random() < 0.01:
         return near_limit(rng).encode()
     writer = Writer(rng, rng.choice([0.006, 0.006, 0.006, 0.006, 0.15]))
@@ -469,12 +480,15 @@ def of_large_numbers(rng):
 
 
 def over_elements(rng):
-    """Maps, filters and splits of the table, whose functions have values."""
-    scope = [PEOPLE]
+    """Maps, filters and splits of a table, whose functions have values."""
+    scope = TABLES
     writer = Writer(rng, 0)
     u = writer.type(2, flat=True)
-    image = f"( fn ( x : num ) => {writer.term(u, [('x', NUM)], rng.randint(1, 4))} )"
-    bag = f"( map {image} people )"
+    table, (_, row) = rng.choice(TABLES)
+    parts = [("x", row)] if row == NUM else [("t", TEXT), ("n", NUM), ("x", row)]
+    apart = "" if row == NUM else "let ( t , n ) = x in "
+    image = f"( fn ( x : {writer.written(row)} ) => {apart}{writer.term(u, parts, rng.randint(1, 4))} )"
+    bag = f"( map {image} {table} )"
     test = f"( fn ( y : {writer.written(u)} ) => {writer.term(BOOL, [('y', u)], rng.randint(1, 4))} )"
     number = f"( fn ( z : {writer.written(u)} ) => {writer.term(NUM, [('z', u)], rng.randint(1, 4))} )"
     low, high = rng.randint(-99, 99), rng.randint(-99, 99)
@@ -491,7 +505,7 @@ def over_elements(rng):
 def candidate(rng):
     way = rng.random()
     if way < 0.66:
-        return Writer(rng, 0).term(NUM, [PEOPLE], rng.randint(2, 7))
+        return Writer(rng, 0).term(NUM, TABLES, rng.randint(2, 7))
     if way < 0.84:
         return over_elements(rng)
     if way < 0.95:
@@ -504,7 +518,7 @@ def accepted_of(rng):
     while True:
         program = spaced(candidate(rng), rng).replace("\n", " ").strip().encode("latin-1")
         try:
-            checked(program)
+            checked(program, TABLES)
         except Refused:
             continue
         return program

@@ -31,7 +31,7 @@ spend() {
     local round run name
     for ((round = 0; round < rounds; round++)); do
         for name in "$@"; do
-            { time for ((run = 0; run < runs; run++)); do "$program" run people.csv key <"$name" >"$name.output"; done; } 2>>"$name.times"
+            { time for ((run = 0; run < runs; run++)); do "$program" run cat.json key <"$name" >"$name.output"; done; } 2>>"$name.times"
             [ "$(wc -l <"$name.output")" = $((lines + 1)) ] || { echo "another number of replies than of lines" >&2; exit 1; }
         done
     done

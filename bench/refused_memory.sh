@@ -34,8 +34,8 @@ by_try() {
     local first=$1 last=$2 in_a_row=0 output number status
     cd "$top/crates/hitchseason" || exit 2
     for ((number = first; number <= last && in_a_row < 5; number++)); do
-        output=$(rt try --fail-alloc "$number" --data people.csv="$example/people.csv" --data key="$example/key" \
-            -- run people.csv key <"$example/script" 2>/dev/null)
+        output=$(rt try --fail-alloc "$number" --data cat.json=data/cat.json --data people.csv=data/people.csv --data key="$example/key" \
+            -- run cat.json key <"$example/script" 2>/dev/null)
         status=$?
         judge "$number" "$status" "$output"
         if [ "$status" = 0 ]; then in_a_row=$((in_a_row + 1)); else in_a_row=0; fi
@@ -43,7 +43,7 @@ by_try() {
 }
 
 # A run of the proved program with the refusals that the environment names.
-refuse() { env "$@" LD_PRELOAD="$room/refuse.so" "$program" run people.csv key <"$example/script"; }
+refuse() { env "$@" LD_PRELOAD="$room/refuse.so" "$program" run cat.json key <"$example/script"; }
 
 by_malloc() {
     local count number
@@ -109,15 +109,25 @@ by_malloc_more() {
     done >long
     printf 'hello ann\nask census 1000 size people\nask census 1 size people\n' >>long
     printf 'age\n1.5\n' >bad.csv
+    for name in long bad nobody; do catalog "$name.json" "$name.csv"; done
+    printf 'town,age\nA,20\n"B ""C""\303\251",30\n' >towns.csv
+    catalog towns.json towns.csv town text age num
+    many_owners many.json 3 3
+    sed 's/"census"/"o1"/' many.json >twice.json
     head -c 31 /dev/zero >key31
-    turns "5,000 rows" script run long.csv key
-    turns "2,000 lines" long run people.csv key
-    turns "both" long run long.csv key
-    turns "an empty script" /dev/null run people.csv key
-    turns "an absent table" script run nobody key
-    turns "an absent key" script run people.csv nokey
-    turns "a key of 31 bytes" script run people.csv key31
-    turns "a cell that is no number" script run bad.csv key
+    turns "5,000 rows" script run long.json key
+    turns "2,000 lines" long run cat.json key
+    turns "both" long run long.json key
+    turns "an empty script" /dev/null run cat.json key
+    turns "an absent table" script run nobody.json key
+    turns "an absent catalog" script run nobody key
+    turns "a catalog that is none" script run script key
+    turns "an absent key" script run cat.json nokey
+    turns "a key of 31 bytes" script run cat.json key31
+    turns "a table of texts and numbers" script run towns.json key
+    turns "3 owners of 3 tables" script run many.json key
+    turns "an owner twice, at the end" script run twice.json key
+    turns "a cell that is no number" script run bad.json key
     turns "no words" script
     turns "five words" script a b c d e
     turns "a word not UTF-8" script run $'\xff' key
@@ -126,7 +136,7 @@ by_malloc_more() {
 # checks NAME PROGRAM: the turns of this program under `check`.
 checks() {
     printf '%s' "$2" >text
-    turns "check: $1" /dev/null check people.csv census text
+    turns "check: $1" /dev/null check cat.json census text
 }
 
 by_malloc_programs() {
@@ -150,23 +160,23 @@ by_malloc_programs() {
     )
     for text in "${programs[@]}"; do checks "${text:0:20}" "$text"; done
     printf '%16001s' size >text
-    turns "check: 16,001 bytes" /dev/null check people.csv census text
-    turns "check: an absent file" /dev/null check people.csv census nothing
-    turns "check: no such owner" /dev/null check people.csv nobody program
-    turns "check: two words" /dev/null check people.csv census
+    turns "check: 16,001 bytes" /dev/null check cat.json census text
+    turns "check: an absent file" /dev/null check cat.json census nothing
+    turns "check: no such owner" /dev/null check cat.json nobody program
+    turns "check: two words" /dev/null check cat.json census
     # One grant, the last of the asks, so that its number doesn't hang on what was refused before: the others are over the budget.
     {
         echo "hello ann"
         for text in "${programs[@]}"; do [ "$text" = "size people" ] || echo "ask census 1000 ${text//$'\n'/ }"; done
         printf 'ask census 1 size people\nbye\n'
     } >asks
-    turns "asks of all of these" asks run people.csv key
+    turns "asks of all of these" asks run cat.json key
 }
 
 # gaps NAME PROGRAM: the turns of this program under `gap`.
 gaps() {
     printf '%s' "$2" >text
-    turns "gap: $1" /dev/null gap first.csv census second.csv text
+    turns "gap: $1" /dev/null gap first.json census second.json text
 }
 
 by_malloc_gaps() {
@@ -177,6 +187,8 @@ by_malloc_gaps() {
     { echo age; seq 1000; } >first.csv
     { echo age; seq 3 1005; } >second.csv
     printf 'age\n1.5\n' >bad.csv
+    for name in first second bad; do catalog "$name.json" "$name.csv"; done
+    catalog years.json first.csv years num
     gaps "a count" "size people"
     gaps "a filter" "size (filter (fn (x : num) => x <= 30) people)"
     gaps "a sum of a map" "sum[0,100] (map (fn (x : num) => x + 1) people)"
@@ -184,10 +196,12 @@ by_malloc_gaps() {
     gaps "unbounded" "if size people <= 3 then 0 else 100"
     gaps "no token" "size people $"
     printf 'size people' >text
-    turns "gap: a bad table" /dev/null gap bad.csv census second.csv text
-    turns "gap: a bad second table" /dev/null gap first.csv census bad.csv text
-    turns "gap: no such owner" /dev/null gap first.csv nobody second.csv text
-    turns "gap: an absent program" /dev/null gap first.csv census second.csv nothing
+    turns "gap: a bad table" /dev/null gap bad.json census second.json text
+    turns "gap: entries that don't fit" /dev/null gap first.json census years.json text
+    turns "gap: an absent catalog" /dev/null gap first.json census nobody text
+    turns "gap: a bad second table" /dev/null gap first.json census bad.json text
+    turns "gap: no such owner" /dev/null gap first.json nobody second.json text
+    turns "gap: an absent program" /dev/null gap first.json census second.json nothing
 }
 
 head_of_rows() { printf '%8s %7s   %-40s %s\n' "refused" "status" "output" "verdict"; }

@@ -18,8 +18,9 @@ from math import ceil
 TOP = os.path.dirname(os.path.dirname(os.path.abspath(__file__)))
 PROGRAM = os.path.abspath(os.environ.get("PROGRAM", f"{TOP}/crates/hitchseason/out/hitchseason"))
 sys.path.insert(0, f"{TOP}/tools")
+from catalog import census  # noqa: E402
 from programs import Refused  # noqa: E402
-from reference import BUDGET, ROWS, Server, key_draws, millionths  # noqa: E402
+from reference import BUDGET, ROWS, Server, key_words, millionths, with_rows  # noqa: E402
 from runs import asked  # noqa: E402
 
 DOUBLED = "let a = union people people in let b = union a a in let c = union b b in sum[0,100] c"
@@ -48,14 +49,15 @@ def ask_is(server, line, found):
     if found == "no 90":
         return "no 90"
     _, _, epsilon, program = line.split(b" ", 3)
-    if found == f"no 51 {server.number}":
+    owner = server.owners[b"census"]
+    if found == f"no 51 {owner.number}":
         try:
             cost = ceil(asked(program)[1] * millionths(epsilon))
         except Refused:
             raise Wrong("no 51 of a refused program") from None
-        if server.spent + cost > BUDGET:
+        if owner.spent + cost > BUDGET:
             raise Wrong("no 51 over the budget")
-        server.spent, server.records, server.number = server.spent + cost, server.records + 2, server.number + 1
+        owner.spent, owner.records, owner.number = owner.spent + cost, owner.records + 2, owner.number + 1
         return "no 51"
     want = server.reply(line)
     if found != want:
@@ -70,7 +72,7 @@ def judge(script, status, said):
     lines, replies = script.splitlines(), said.splitlines()
     if status != 0 or len(lines) != len(replies):
         raise Wrong(f"status {status} and {said!r}")
-    server, told = Server(ROWS, lambda number: key_draws(bytes(32), 0, number)), []
+    server, told = Server(with_rows(ROWS), key_words(bytes(32))), []
     for line, found in zip(lines, replies):
         if line.startswith(b"ask "):
             told.append(ask_is(server, line, found))
@@ -82,7 +84,7 @@ def judge(script, status, said):
 class Room:
     def __init__(self, folder):
         self.folder = folder
-        for name, data in (("key", bytes(32)), ("people.csv", b"age\n20\n30\n40\n")):
+        for name, data in (("key", bytes(32)), ("cat.json", census()), ("people.csv", b"age\n20\n30\n40\n")):
             with open(f"{folder}/{name}", "wb") as file:
                 file.write(data)
         words = ["cc", "-O1", "-shared", "-fPIC", "-o", f"{folder}/refuse.so", f"{TOP}/bench/refuse_allocation.c", "-ldl"]
@@ -90,7 +92,7 @@ class Room:
 
     def run(self, script, **refusals):
         given = {**os.environ, "LD_PRELOAD": f"{self.folder}/refuse.so", **refusals}
-        ran = subprocess.run([PROGRAM, "run", "people.csv", "key"], input=script, capture_output=True, cwd=self.folder, env=given)
+        ran = subprocess.run([PROGRAM, "run", "cat.json", "key"], input=script, capture_output=True, cwd=self.folder, env=given)
         return ran.returncode, ran.stdout.decode("latin-1"), ran.stderr.decode("latin-1")
 
 
