@@ -1,10 +1,10 @@
 #!/usr/bin/env bash
 # Asks over a table of 2^20 rows, beside sqlite3's query for the same number on the same rows, in turn; and runs that are long or deep.
 # usage: bench/bags.sh [ROUNDS]    (PROGRAM=FILE measures another build)
-# Bars: each ask takes less processor time than sqlite3's query (1.6 times as much where rows are filtered, by a number or by a text), those
-# with a function of numbers under 120 ns a row, and each at most 64 bytes a row above the table; a program of 20,000 turns without bags is read, checked and run
-# in under 10 ms; a map that makes 50 values of a row ends in its answer or in `no 51` within 2 GB of address space, and the deepest values and
-# runs end well on a stack of 1 MiB. It ends with status 1 where one isn't met.
+# Bars: each ask takes less processor time than sqlite3's query (1.6 times as much where rows are filtered, by a number or by a text),
+# those with a function of numbers under 120 ns a row, and each at most 64 bytes a row above the table; a program of 20,000 turns without
+# bags is read, checked and run in under 10 ms; a map that makes 50 values of a row ends in its answer or in `no 51` within 2 GB of
+# address space, and the deepest values and runs end well on a stack of 1 MiB. It ends with status 1 where one isn't met.
 # A cost is that of a script with many asks of a program, less that of one with one, by ask: the least of the rounds.
 . "$(dirname "$0")/common.sh"
 rounds=${1:-5}

@@ -4,9 +4,9 @@
 usage: bench/compare_runs.py [COUNT [SEED]]            (PROGRAM=FILE compares another build than tools/build's)
        bench/compare_runs.py --alone [COUNT [SEED]]    without the program: the second implementation beside the typing rules
 COUNT random programs that the typing rules accept (50,000 where none is said), some 50 to a script, each script with a key and two
-tables of its own, one of numbers, and one of texts with numbers. Each is asked: the reply is compared whole, that is code, number, value with the noise of that number, charge,
-span and width. A part of them is given to `check`. It ends with status 1 at the first difference, and where one of the forms of
-terms was evaluated in fewer programs than a fivehundredth of them.
+tables of its own, one of numbers, and one of texts with numbers. Each is asked: the reply is compared whole, that is code, number,
+value with the noise of that number, charge, span and width. A part of them is given to `check`. It ends with status 1 at the first
+difference, and where one of the forms of terms was evaluated in fewer programs than a fivehundredth of them.
 --alone evaluates each program on two tables and on others with some rows more or less: the values are whole numbers within their ends,
 and differ by at most the sensitivity times the rows that differ.
 """
