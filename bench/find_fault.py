@@ -4,7 +4,6 @@
 usage: bench/find_fault.py [--alone]    (PROGRAM=FILE tries another build than tools/build's; --alone tries none)
 The file that is refused is compared with the line of the program's `run`. It ends with status 1 where one differs.
 """
-import json
 import os
 import subprocess
 import sys
@@ -12,33 +11,10 @@ import tempfile
 
 TOP = os.path.dirname(os.path.dirname(os.path.abspath(__file__)))
 PROGRAM = os.path.abspath(os.environ.get("PROGRAM", f"{TOP}/out/hitchseason"))
-TABLE = "town,age\nA,20\nB,30\n"
+sys.path.insert(0, f"{TOP}/tools")
+from catalog import OWNER, PARTITION, TABLE, changed  # noqa: E402
 
-
-def catalog():
-    columns = [{"name": "town", "type": "text"}, {"name": "age", "type": "num"}]
-    people = {"name": "people", "file": "people.csv", "columns": columns}
-    area = {"name": "area", "table": "people", "column": "town", "keys": ["A", "B"]}
-    owner = {"name": "census", "budget": 10, "capacity": 100, "tables": [people], "partitions": [area]}
-    return {"analysts": ["ann", "bob"], "owners": [owner]}
-
-
-def changed(path, value):
-    """The catalog with another value at a place, or without what is there."""
-    made = catalog()
-    inside = made
-    for step in path[:-1]:
-        inside = inside[step]
-    if value is None:
-        del inside[path[-1]]
-    else:
-        inside[path[-1]] = value
-    return json.dumps(made).encode()
-
-
-OWNER = ("owners", 0)
-PEOPLE = (*OWNER, "tables", 0)
-AREA = (*OWNER, "partitions", 0)
+GOOD_TABLE = "town,age\nA,20\nB,30\n"
 # Where another value stands in the catalog, the value, and what is said.
 CATALOGS = [
     (("owners",), [], "owners: 0 stand here, and 1 to 16 may"),
@@ -52,14 +28,14 @@ CATALOGS = [
     ((*OWNER, "budget"), 1.5, "owners[0].budget: a whole number from 0"),
     ((*OWNER, "capacity"), 262145, "owners[0].capacity: 262145 isn't from 2 to 262144"),
     ((*OWNER, "partitions"), None, "owners[0].partitions: this member is missing"),
-    ((*PEOPLE, "name"), "sum", "owners[0].tables[0].name: `sum` is a word of the language"),
-    ((*PEOPLE, "file"), "", "owners[0].tables[0].file: ``: a file's name has 1 to 255 bytes"),
-    ((*PEOPLE, "colums"), [], "owners[0].tables[0]: `colums` is no member; here stand name, file, columns"),
-    ((*PEOPLE, "columns", 1, "type"), "number", "owners[0].tables[0].columns[1].type: `number`: a type is `num` or `text`"),
-    ((*PEOPLE, "columns", 1, "name"), "town", "owners[0].tables[0].columns[1]: a second one of the name town"),
-    ((*AREA, "table"), "persons", "owners[0].partitions[0].table: the owner has no table `persons`"),
-    ((*AREA, "column"), "age", "owners[0].partitions[0].column: `people` has no text column `age`"),
-    ((*AREA, "keys", 1), "a b", "owners[0].partitions[0].keys[1]: `a b`: a key has 1 to 64 bytes"),
+    ((*TABLE, "name"), "sum", "owners[0].tables[0].name: `sum` is a word of the language"),
+    ((*TABLE, "file"), "", "owners[0].tables[0].file: ``: a file's name has 1 to 255 bytes"),
+    ((*TABLE, "colums"), [], "owners[0].tables[0]: `colums` is no member; here stand name, file, columns"),
+    ((*TABLE, "columns", 1, "type"), "number", "owners[0].tables[0].columns[1].type: `number`: a type is `num` or `text`"),
+    ((*TABLE, "columns", 1, "name"), "town", "owners[0].tables[0].columns[1]: a second one of the name town"),
+    ((*PARTITION, "table"), "persons", "owners[0].partitions[0].table: the owner has no table `persons`"),
+    ((*PARTITION, "column"), "age", "owners[0].partitions[0].column: `people` has no text column `age`"),
+    ((*PARTITION, "keys", 1), "a b", "owners[0].partitions[0].keys[1]: `a b`: a key has 1 to 64 bytes"),
 ]
 # A catalog's bytes, and what is said.
 TEXTS = [
@@ -127,7 +103,7 @@ def main():
     alone = sys.argv[1:] == ["--alone"]
     if not alone and "PROGRAM" not in os.environ:
         subprocess.run([f"{TOP}/tools/build"], check=True)
-    good, table, key = json.dumps(catalog()).encode(), TABLE.encode(), bytes(32)
+    good, table, key = changed((*OWNER, "budget"), 10), GOOD_TABLE.encode(), bytes(32)
     with tempfile.TemporaryDirectory() as room:
         trial = Trial(room, alone)
         trial.one(good, table, key, "")
