@@ -8,4 +8,6 @@ mod houses;
 #[cfg(test)]
 mod large;
 #[cfg(test)]
+mod reading;
+#[cfg(test)]
 mod tables;

@@ -18,10 +18,10 @@ use Rattle.owner_catalog.specs.declared.reading.Labels.TheVariants.{Analysts, Ke
 use Rattle.serde_json.specs.Find.{as_array, as_number, as_str, as_u64}
 use Rattle.owner_catalog.specs.Members.{catalog_members, owner_members, table_members, column_members, partition_members}
 use Rattle.owner_catalog.specs.Entries.{TableEntry, PartitionEntry, OwnerEntry, Catalog, table_name, table_columns, partition_name, owner_name}
-use Rattle.owner_catalog.specs.Forms.{is_name, is_table_name, is_file_name, is_key}
-use Rattle.owner_catalog.specs.Fault.{◌>>=◌, bad, or_bad, text_in, number_in, object_in, data_of, counted_in, items_from, list_in, place, the}
+use Rattle.owner_catalog.specs.Forms.{is_catalog_name, is_table_name, is_file_name, is_key}
+use Rattle.owner_catalog.specs.Fault.{◌>>=◌, bad, or_bad, formed_text_in, bounded_number_in, object_in, data_of, counted_in, items_from, list_in, place, the}
 use Rattle.owner_catalog.specs.Catalog.{catalog_in_file, catalog_in, json_in, owner_in, partition_in, table_in, column_in, kind_in, label_in, label_place, one_in, is_text_column}
-use Rattle.owner_catalog.specs.Lawful.{HasName, IsName, IsKey, IsTable, IsPartition, IsOwner, IsCatalog}
+use Rattle.owner_catalog.specs.Lawful.{HasName, IsCatalogName, IsKey, IsTableEntry, IsPartition, IsOwner, IsCatalog}
 use Rattle.owner_catalog.proofs.Lists.{distinct_none, distinct_more}
 
 -- both parts of a chain went well
@@ -40,8 +40,8 @@ chosen : {A : Type 0} (b : Bool) (x y : A) (fault : CatalogFault) → (if b then
 chosen true x y fault is = (refl, cc)
 chosen false x y fault is = absurd cc
 
-text_ok : (form : List ℕ → Bool) (at : Place) (d : Data) (s : List ℕ) → text_in form at d ≡ Ok s → form s ≡ true
-unfolding text_in
+text_ok : (form : List ℕ → Bool) (at : Place) (d : Data) (s : List ℕ) → formed_text_in form at d ≡ Ok s → form s ≡ true
+unfolding formed_text_in
 text_ok form at d s is = went_well (or_bad Kind at (as_str d)) _ s is
     (λ text found next. let h = chosen (form text) text s (Bad Form at) next in subst (λ t. form t ≡ true) h.1 h.0)
 
@@ -52,8 +52,8 @@ both_true false b h = absurd (true≢false (sym h))
 within : (least most n : ℕ) → (nat_le least n && nat_le n most) ≡ true → (least ≤ n) × (n ≤ most)
 within least most n h = let b = both_true _ _ h in (leb-true _ _ b.0, leb-true _ _ b.1)
 
-number_ok : (least most : ℕ) (at : Place) (d : Data) (n : ℕ) → number_in least most at d ≡ Ok n → (least ≤ n) × (n ≤ most)
-unfolding number_in
+number_ok : (least most : ℕ) (at : Place) (d : Data) (n : ℕ) → bounded_number_in least most at d ≡ Ok n → (least ≤ n) × (n ≤ most)
+unfolding bounded_number_in
 number_ok least most at d n is = went_well (or_bad Kind at (option_and_then as_u64 (as_number d))) _ n is
     (λ m found next. let h = chosen (nat_le least m && nat_le m most) m n (Bad Range at) next in
     subst (λ k. (least ≤ k) × (k ≤ most)) h.1 (within least most m h.0))
@@ -113,19 +113,19 @@ column_ok : (o t c : ℕ) (d : Data) (x : NamedColumn) → column_in o t c d ≡
 unfolding column_in
 column_ok o t c d x is =
     went_well (object_in column_members at.Column (λ m. place m o t c) d) _ x is (λ _ _ is.
-    went_well (text_in is_name (place at.ColumnName o t c) (the at.ColumnName d)) _ x is (λ name named is.
+    went_well (formed_text_in is_catalog_name (place at.ColumnName o t c) (the at.ColumnName d)) _ x is (λ name named is.
     went_well (kind_in (place at.ColumnType o t c) (the at.ColumnType d)) _ x is (λ kind _ is.
-    subst HasName (same_ok _ x is) (text_ok is_name _ _ name named))))
+    subst HasName (same_ok _ x is) (text_ok is_catalog_name _ _ name named))))
 
-table_ok : (o t : ℕ) (d : Data) (x : TableEntry) → table_in o t d ≡ Ok x → IsTable x
+table_ok : (o t : ℕ) (d : Data) (x : TableEntry) → table_in o t d ≡ Ok x → IsTableEntry x
 unfolding table_in
 table_ok o t d x is =
     went_well (object_in table_members at.Table (λ m. place m o t 0) d) _ x is (λ _ _ is.
-    went_well (text_in is_table_name (place at.TableName o t 0) (the at.TableName d)) _ x is (λ name named is.
-    went_well (text_in is_file_name (place at.File o t 0) (the at.File d)) _ x is (λ file filed is.
+    went_well (formed_text_in is_table_name (place at.TableName o t 0) (the at.TableName d)) _ x is (λ name named is.
+    went_well (formed_text_in is_file_name (place at.File o t 0) (the at.File d)) _ x is (λ file filed is.
     went_well (list_in 1 16 (place at.Columns o t 0) column_name (λ c. place at.Column o t c) (column_in o t) (the at.Columns d)) _ x is (λ columns listed is.
     let all = list_ok column_name _ _ HasName (column_ok o t) _ _ _ _ columns listed in
-    subst IsTable (same_ok _ x is) (record {
+    subst IsTableEntry (same_ok _ x is) (record {
       name = text_ok is_table_name _ _ name named;
       file = text_ok is_file_name _ _ file filed;
       columns = record { some = all.0; few = all.1; distinct = all.3 };
@@ -176,7 +176,7 @@ partition_ok : (o : ℕ) (tables : List TableEntry) (p : ℕ) (d : Data) (x : Pa
 unfolding partition_in
 partition_ok o tables p d x is =
     went_well (object_in partition_members at.Partition (λ m. place m o p 0) d) _ x is (λ _ _ is.
-    went_well (text_in is_name (place at.PartitionName o p 0) (the at.PartitionName d)) _ x is (λ name named is.
+    went_well (formed_text_in is_catalog_name (place at.PartitionName o p 0) (the at.PartitionName d)) _ x is (λ name named is.
     went_well (one_in (λ text t. bytes_eq text t.name) tables (place at.PartitionTable o p 0) (the at.PartitionTable d)) _ x is (λ table tabled is.
     went_well (one_in (λ text c. bytes_eq text c.name && is_text_column c.kind) (get_or (map table_columns tables) table [])
     (place at.PartitionColumn o p 0) (the at.PartitionColumn d)) _ x is (λ column columned is.
@@ -186,7 +186,7 @@ partition_ok o tables p d x is =
     let found = one_ok (λ text t. bytes_eq text t.name) tables _ _ table no_table tabled in
     let there = one_ok (λ text c. bytes_eq text c.name && is_text_column c.kind) (get_or (map table_columns tables) table []) _ _ column no_column columned in
     subst (IsPartition tables) (same_ok _ x is) (record {
-      name = text_ok is_name _ _ name named;
+      name = text_ok is_catalog_name _ _ name named;
       table = found.0;
       column = get_or (get_or (map table_columns tables) table []) column no_column;
       there = slice_get-get_or _ column no_column there.0;
@@ -201,18 +201,18 @@ owner_ok : (o : ℕ) (d : Data) (x : OwnerEntry) → owner_in o d ≡ Ok x → I
 unfolding owner_in
 owner_ok o d x is =
     went_well (object_in owner_members at.Owner (λ m. place m o 0 0) d) _ x is (λ _ _ is.
-    went_well (text_in is_name (place at.OwnerName o 0 0) (the at.OwnerName d)) _ x is (λ name named is.
-    went_well (number_in 1 (10 ^ 18) (place at.Budget o 0 0) (the at.Budget d)) _ x is (λ budget budgeted is.
-    went_well (number_in 2 262144 (place at.Capacity o 0 0) (the at.Capacity d)) _ x is (λ capacity sized is.
+    went_well (formed_text_in is_catalog_name (place at.OwnerName o 0 0) (the at.OwnerName d)) _ x is (λ name named is.
+    went_well (bounded_number_in 1 (10 ^ 18) (place at.Budget o 0 0) (the at.Budget d)) _ x is (λ budget budgeted is.
+    went_well (bounded_number_in 2 262144 (place at.Capacity o 0 0) (the at.Capacity d)) _ x is (λ capacity sized is.
     went_well (list_in 1 8 (place at.Tables o 0 0) table_name (λ t. place at.Table o t 0) (table_in o) (the at.Tables d)) _ x is (λ tables listed is.
     went_well (list_in 0 8 (place at.Partitions o 0 0) partition_name
     (λ p. place at.Partition o p 0) (partition_in o tables) (the at.Partitions d)) _ x is (λ partitions parted is.
-    let all = list_ok table_name _ _ IsTable (table_ok o) _ _ _ _ tables listed in
+    let all = list_ok table_name _ _ IsTableEntry (table_ok o) _ _ _ _ tables listed in
     let parts = list_ok partition_name _ _ (IsPartition tables) (partition_ok o tables) _ _ _ _ partitions parted in
     let money = number_ok _ _ _ _ budget budgeted in
     let room = number_ok _ _ _ _ capacity sized in
     subst IsOwner (same_ok _ x is) (record {
-      name = text_ok is_name _ _ name named;
+      name = text_ok is_catalog_name _ _ name named;
       least_budget = money.0;
       most_budget = money.1;
       least_capacity = room.0;
@@ -232,7 +232,7 @@ pub parts_ok : (analysts : List (List ℕ)) (owners : List OwnerEntry) (text : L
     → list_in 1 16 (place at.Owners 0 0 0) owner_name (λ o. place at.Owner o 0 0) owner_in (the at.Owners d) ≡ Ok owners
     → IsCatalog (record { analysts = analysts; owners = owners; text = text })
 parts_ok analysts owners text d listed owned =
-    let all = list_ok (λ name. name) (label_place Analysts) (label_in Analysts) IsName (λ a d s reads. text_ok is_name
+    let all = list_ok (λ name. name) (label_place Analysts) (label_in Analysts) IsCatalogName (λ a d s reads. text_ok is_catalog_name
     (place at.Analyst 0 a 0) d s reads) _ _ _ _ analysts listed in
     let each = list_ok owner_name _ _ IsOwner owner_ok _ _ _ _ owners owned in
     record {

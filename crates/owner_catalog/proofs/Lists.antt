@@ -8,7 +8,7 @@ use Rattle.std.specs.List.{AllByRecursion, list_any, IsDistinct}
 use Rattle.serde_json.specs.Data.{Data}
 use Rattle.serde_json.specs.View.{view}
 use Rattle.serde_json.specs.declared.value.Value.{Value}
-use Rattle.owner_catalog.specs.Plain.{IsPlain}
+use Rattle.owner_catalog.specs.Plain.{HasNoFloat}
 use Rattle.owner_catalog.specs.Fault.{counted_in, items_from, list_in}
 use Rattle.owner_catalog.specs.declared.fault.CatalogFault.{CatalogFault}
 use Rattle.owner_catalog.specs.declared.fault.CatalogFault.TheVariants.{Bad, NoMemory}
@@ -46,9 +46,9 @@ list_start least most whole name at read d ds is = rw is refl
 next_value : (vs : List Value) (i : ℕ) (v : Value) → i < length vs → v ≡ get_or vs i v → drop i vs ≡ v ∷ drop (i + 1) vs
 next_value vs i v low is = rw (drop-cons vs i v low) (rw (sym is) (rw (add-one i) refl))
 
-pub plain_rest : (vs : List Value) (i : ℕ) (v : Value) → i < length vs → v ≡ get_or vs i v → (AllByRecursion IsPlain (drop i vs)
-    → AllByRecursion IsPlain vs) → IsPlain v
-    → AllByRecursion IsPlain (drop (i + 1) vs) → AllByRecursion IsPlain vs
+pub plain_rest : (vs : List Value) (i : ℕ) (v : Value) → i < length vs → v ≡ get_or vs i v → (AllByRecursion HasNoFloat (drop i vs)
+    → AllByRecursion HasNoFloat vs) → HasNoFloat v
+    → AllByRecursion HasNoFloat (drop (i + 1) vs) → AllByRecursion HasNoFloat vs
 plain_rest vs i v low is all plain rest = all (rw (next_value vs i v low is) (plain, rest))
 
 pub distinct_none : {A : Type 0} (e : A → A → Bool) → IsDistinct e []

@@ -6,17 +6,17 @@ use Rattle.std.proofs.lemmas.List.{get_or-map, map-append, take_more, length-map
 use Rattle.std.proofs.lemmas.List.Elements.{All-from_recursion}
 use Rattle.std.proofs.lemmas.Map.Keys.{IsDistinct-head, IsDistinct-tail}
 use Rattle.fz_ast.specs.Signature.{IsFresh}
-use Rattle.owner_catalog.specs.Forms.{is_name, is_reserved, is_table_name}
+use Rattle.owner_catalog.specs.Forms.{is_catalog_name, is_reserved, is_table_name}
 use Rattle.fz_lexer.specs.Bytes.{begins, every_byte, is_letter, is_name_byte}
 use Rattle.owner_catalog.specs.Entries.{TableEntry, table_name, table_type_of}
-use Rattle.owner_catalog.specs.Lawful.{IsTable}
+use Rattle.owner_catalog.specs.Lawful.{IsTableEntry}
 use Rattle.owner_catalog.proofs.Laws.{both_true}
 
 -- a table's name fits where programs hold names
-pub name_fits : (table : TableEntry) → IsTable table → length table.name ≤ 32
-unfolding is_table_name is_name
+pub name_fits : (table : TableEntry) → IsTableEntry table → length table.name ≤ 32
+unfolding is_table_name is_catalog_name
 name_fits table h =
-    let plain = both_true (is_name table.name) (not (is_reserved table.name)) h.name in
+    let plain = both_true (is_catalog_name table.name) (not (is_reserved table.name)) h.name in
     leb-true _ _ (both_true (begins is_letter table.name && every_byte is_name_byte table.name) (nat_le (length table.name) 32) plain.0).1
 
 -- a table's name is none of those before it

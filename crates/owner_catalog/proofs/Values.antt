@@ -16,7 +16,7 @@ use Rattle.serde_json.specs.View.{view, items_of, items_view, members_view}
 use Rattle.serde_json.specs.Written.{has_float, items_have_float, members_have_float}
 use Rattle.serde_json.specs.declared.value.Value.{Value}
 use Rattle.serde_json.proofs.Views.{Entry, member_here, member_later}
-use Rattle.owner_catalog.specs.Plain.{IsPlain}
+use Rattle.owner_catalog.specs.Plain.{HasNoFloat}
 use Rattle.owner_catalog.specs.Members.{member_name}
 use Rattle.owner_catalog.specs.Fault.{the, bad, data_of, counted_in, first_missing, is_known, has_unknown}
 use Rattle.owner_catalog.specs.declared.fault.FaultKind.TheVariants.{Count}
@@ -34,7 +34,7 @@ unfolding counted_in
 counted_of least most whole d vs is = rw (sym is) (rw (data_of-items_of (map view vs)) (rw (length-map vs view) refl))
 
 -- where the items hold no float, neither does the array
-plain_items : (vs : List Value) → AllByRecursion IsPlain vs → items_have_float (items_view vs) ≡ false
+plain_items : (vs : List Value) → AllByRecursion HasNoFloat vs → items_have_float (items_view vs) ≡ false
 plain_items [] h = refl
 plain_items (v ∷ vs) h = rw h.0 (plain_items vs h.1)
 
@@ -46,7 +46,7 @@ plain_as_array (string s) ds is h = refl
 plain_as_array (array es) ds is h = cc
 plain_as_array (object ms) ds is h = cc
 
-pub plain_array : (d : Data) (vs : List Value) → Some (items_view vs) ≡ as_array d → AllByRecursion IsPlain vs → has_float d ≡ false
+pub plain_array : (d : Data) (vs : List Value) → Some (items_view vs) ≡ as_array d → AllByRecursion HasNoFloat vs → has_float d ≡ false
 plain_array d vs is h = plain_as_array d _ is (plain_items vs h)
 
 -- nothing is missing, so each is there

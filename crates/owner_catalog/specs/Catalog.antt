@@ -1,5 +1,5 @@
 -- The catalog that the bytes of a file hold, or the first fault in them.
-pub use Rattle.owner_catalog.specs.Entries.{TableEntry, PartitionEntry, OwnerEntry, Catalog, table_name, table_columns, partition_name, owner_name, signature_of}
+pub use Rattle.owner_catalog.specs.Entries.{TableEntry, PartitionEntry, OwnerEntry, Catalog, table_name, table_columns, partition_name, owner_name, owner_signature}
 pub use Rattle.owner_catalog.specs.Lawful.{IsCatalog}
 use Rattle.std.specs.Prelude.{ℕ, ◌^◌, List, [], map, get_or, codes, bytes_eq, Bool, false, true, ◌&&◌, position, Option, Some, None, Result, Ok, if◌then◌else◌}
 use Rattle.std.specs.Str.{is_utf8}
@@ -18,9 +18,9 @@ use Rattle.owner_catalog.specs.declared.reading.Labels.{Labels}
 use Rattle.owner_catalog.specs.declared.reading.Labels.TheVariants.{Analysts, Keys}
 use Rattle.owner_catalog.specs.declared.text.Form.{Form}
 use Rattle.owner_catalog.specs.declared.text.Form.TheVariants.{Name, Key}
-use Rattle.owner_catalog.specs.Forms.{has_form, is_name, is_table_name, is_file_name}
+use Rattle.owner_catalog.specs.Forms.{has_form, is_catalog_name, is_table_name, is_file_name}
 use Rattle.owner_catalog.specs.Members.{catalog_members, owner_members, table_members, column_members, partition_members}
-use Rattle.owner_catalog.specs.Fault.{◌>>=◌, bad, or_bad, place, the, object_in, text_in, number_in, list_in}
+use Rattle.owner_catalog.specs.Fault.{◌>>=◌, bad, or_bad, place, the, object_in, formed_text_in, bounded_number_in, list_in}
 
 -- a column's type
 abbrev pub kind_named : List ℕ → Option Column
@@ -41,21 +41,21 @@ label_form Analysts = Name
 label_form (Keys o p) = Key
 
 abbrev pub label_in : Labels → ℕ → Data → Result (List ℕ) CatalogFault
-label_in labels k = text_in (has_form (label_form labels)) (label_place labels k)
+label_in labels k = formed_text_in (has_form (label_form labels)) (label_place labels k)
 
 -- a column of a table of an owner, each by its number
 unfoldable pub column_in : (owner table column : ℕ) → Data → Result NamedColumn CatalogFault
 column_in o t c d = do
   object ← object_in column_members at.Column (λ m. place m o t c) d
-  name ← text_in is_name (place at.ColumnName o t c) (the at.ColumnName d)
+  name ← formed_text_in is_catalog_name (place at.ColumnName o t c) (the at.ColumnName d)
   kind ← kind_in (place at.ColumnType o t c) (the at.ColumnType d)
   Ok (record { name = name; kind = kind })
 
 unfoldable pub table_in : (owner table : ℕ) → Data → Result TableEntry CatalogFault
 table_in o t d = do
   object ← object_in table_members at.Table (λ m. place m o t 0) d
-  name ← text_in is_table_name (place at.TableName o t 0) (the at.TableName d)
-  file ← text_in is_file_name (place at.File o t 0) (the at.File d)
+  name ← formed_text_in is_table_name (place at.TableName o t 0) (the at.TableName d)
+  file ← formed_text_in is_file_name (place at.File o t 0) (the at.File d)
   columns ← list_in 1 16 (place at.Columns o t 0) column_name (λ c. place at.Column o t c) (column_in o t) (the at.Columns d)
   Ok (record { name = name; file = file; columns = columns })
 
@@ -73,7 +73,7 @@ is_text_column Text = true
 unfoldable pub partition_in : (owner : ℕ) → List TableEntry → (partition : ℕ) → Data → Result PartitionEntry CatalogFault
 partition_in o tables p d = do
   object ← object_in partition_members at.Partition (λ m. place m o p 0) d
-  name ← text_in is_name (place at.PartitionName o p 0) (the at.PartitionName d)
+  name ← formed_text_in is_catalog_name (place at.PartitionName o p 0) (the at.PartitionName d)
   table ← one_in (λ text t. bytes_eq text t.name) tables (place at.PartitionTable o p 0) (the at.PartitionTable d)
   column ← one_in (λ text c. bytes_eq text c.name && is_text_column c.kind) (get_or (map table_columns tables) table [])
       (place at.PartitionColumn o p 0) (the at.PartitionColumn d)
@@ -83,9 +83,9 @@ partition_in o tables p d = do
 unfoldable pub owner_in : (owner : ℕ) → Data → Result OwnerEntry CatalogFault
 owner_in o d = do
   object ← object_in owner_members at.Owner (λ m. place m o 0 0) d
-  name ← text_in is_name (place at.OwnerName o 0 0) (the at.OwnerName d)
-  budget ← number_in 1 (10 ^ 18) (place at.Budget o 0 0) (the at.Budget d)
-  capacity ← number_in 2 262144 (place at.Capacity o 0 0) (the at.Capacity d)
+  name ← formed_text_in is_catalog_name (place at.OwnerName o 0 0) (the at.OwnerName d)
+  budget ← bounded_number_in 1 (10 ^ 18) (place at.Budget o 0 0) (the at.Budget d)
+  capacity ← bounded_number_in 2 262144 (place at.Capacity o 0 0) (the at.Capacity d)
   tables ← list_in 1 8 (place at.Tables o 0 0) table_name (λ t. place at.Table o t 0) (table_in o) (the at.Tables d)
   partitions ← list_in 0 8 (place at.Partitions o 0 0) partition_name (λ p. place at.Partition o p 0) (partition_in o tables) (the at.Partitions d)
   Ok (record { name = name; budget = budget; capacity = capacity; tables = tables; partitions = partitions; text = compact_text d })

@@ -32,14 +32,14 @@ pub record Catalog : Type 0 where
   pub text : List ℕ
 
 -- the owner of a number, its table of a number, and its partition of a number, where each is there
-abbrev pub owner_at : Catalog → ℕ → OwnerEntry
-owner_at catalog o = get_or catalog.owners o (record { name = []; budget = 0; capacity = 0; tables = []; partitions = []; text = [] })
+abbrev pub owner_entry_at : Catalog → ℕ → OwnerEntry
+owner_entry_at catalog o = get_or catalog.owners o (record { name = []; budget = 0; capacity = 0; tables = []; partitions = []; text = [] })
 
-abbrev pub table_at : Catalog → (owner table : ℕ) → TableEntry
-table_at catalog o t = get_or (owner_at catalog o).tables t (record { name = []; file = []; columns = [] })
+abbrev pub table_entry_at : Catalog → (owner table : ℕ) → TableEntry
+table_entry_at catalog o t = get_or (owner_entry_at catalog o).tables t (record { name = []; file = []; columns = [] })
 
-abbrev pub partition_at : Catalog → (owner partition : ℕ) → PartitionEntry
-partition_at catalog o p = get_or (owner_at catalog o).partitions p (record { name = []; table = 0; column = 0; keys = [] })
+abbrev pub partition_entry_at : Catalog → (owner partition : ℕ) → PartitionEntry
+partition_entry_at catalog o p = get_or (owner_entry_at catalog o).partitions p (record { name = []; table = 0; column = 0; keys = [] })
 
 abbrev pub table_name : TableEntry → List ℕ
 table_name table = table.name
@@ -58,5 +58,5 @@ abbrev pub table_type_of : TableEntry → TableType
 table_type_of table = record { name = table.name; row = row_of_schema table.columns }
 
 -- the tables that programs over an owner may name, in order
-abbrev pub signature_of : OwnerEntry → Signature
-signature_of owner = map table_type_of owner.tables
+abbrev pub owner_signature : OwnerEntry → Signature
+owner_signature owner = map table_type_of owner.tables

@@ -35,14 +35,14 @@ abbrev pub ◌>>=◌ : {A B : Type 0} → Result A CatalogFault → (A → Resul
 (Ok x) >>= next = next x
 
 -- a text of some form
-unfoldable pub text_in : (List ℕ → Bool) → Place → Data → Result (List ℕ) CatalogFault
-text_in has_form at d = do
+unfoldable pub formed_text_in : (List ℕ → Bool) → Place → Data → Result (List ℕ) CatalogFault
+formed_text_in has_form at d = do
   text ← or_bad Kind at (as_str d)
   if has_form text then Ok text else bad Form at
 
 -- a whole number within limits
-unfoldable pub number_in : (least most : ℕ) → Place → Data → Result ℕ CatalogFault
-number_in least most at d = do
+unfoldable pub bounded_number_in : (least most : ℕ) → Place → Data → Result ℕ CatalogFault
+bounded_number_in least most at d = do
   number ← or_bad Kind at (option_and_then as_u64 (as_number d))
   if nat_le least number && nat_le number most then Ok number else bad Range at
 

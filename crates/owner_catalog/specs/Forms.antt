@@ -17,12 +17,12 @@ unfoldable pub is_reserved : List ℕ → Bool
 is_reserved text = list_any (λ word. bytes_eq text (spelling word)) reserved_words
 
 -- a letter or `_`, then letters, digits and `_`, 32 bytes at most: the form of a name in a program
-unfoldable pub is_name : List ℕ → Bool
-is_name text = begins is_letter text && every_byte is_name_byte text && nat_le (length text) 32
+unfoldable pub is_catalog_name : List ℕ → Bool
+is_catalog_name text = begins is_letter text && every_byte is_name_byte text && nat_le (length text) 32
 
 -- a table's name stands in programs, so it is no reserved word
 unfoldable pub is_table_name : List ℕ → Bool
-is_table_name text = is_name text && not (is_reserved text)
+is_table_name text = is_catalog_name text && not (is_reserved text)
 
 -- from 0x20 on, as each byte of a character beyond ASCII is; 0x7F may stand in a file's name
 unfoldable pub is_file_byte : ℕ → Bool
@@ -39,7 +39,7 @@ unfoldable pub is_key : List ℕ → Bool
 is_key text = every_byte is_key_byte text && nat_le 1 (length text) && nat_le (length text) 64
 
 abbrev pub has_form : Form → List ℕ → Bool
-has_form Name text = is_name text
+has_form Name text = is_catalog_name text
 has_form TableName text = is_table_name text
 has_form FileName text = is_file_name text
 has_form Key text = is_key text

@@ -3,19 +3,19 @@ use Rattle.std.specs.Prelude.{◌≡◌, ℕ, ◌^◌, ◌<◌, ◌≤◌, List,
 use Rattle.std.specs.List.{All, IsDistinct}
 use Rattle.fz_ast.specs.declared.row.Column.TheVariants.{Text}
 use Rattle.table_store.specs.Schema.{NamedColumn, IsSchema}
-use Rattle.owner_catalog.specs.Forms.{is_name, is_table_name, is_file_name, is_key}
+use Rattle.owner_catalog.specs.Forms.{is_catalog_name, is_table_name, is_file_name, is_key}
 use Rattle.owner_catalog.specs.Entries.{TableEntry, PartitionEntry, OwnerEntry, Catalog, table_name, table_columns, partition_name, owner_name}
 
 abbrev pub HasName : NamedColumn → Type 0
-HasName column = is_name column.name ≡ true
+HasName column = is_catalog_name column.name ≡ true
 
-abbrev pub IsName : List ℕ → Type 0
-IsName name = is_name name ≡ true
+abbrev pub IsCatalogName : List ℕ → Type 0
+IsCatalogName name = is_catalog_name name ≡ true
 
 abbrev pub IsKey : List ℕ → Type 0
 IsKey key = is_key key ≡ true
 
-pub record IsTable (table : TableEntry) : Type 0 where
+pub record IsTableEntry (table : TableEntry) : Type 0 where
   pub name : is_table_name table.name ≡ true
   pub file : is_file_name table.file ≡ true
   pub columns : IsSchema table.columns
@@ -23,7 +23,7 @@ pub record IsTable (table : TableEntry) : Type 0 where
 
 -- a partition of some tables by a text column of one of them
 pub record IsPartition (tables : List TableEntry) (partition : PartitionEntry) : Type 0 where
-  pub name : is_name partition.name ≡ true
+  pub name : is_catalog_name partition.name ≡ true
   pub table : partition.table < length tables
   pub column : NamedColumn
   pub there : slice_get (get_or (map table_columns tables) partition.table []) partition.column ≡ Some column
@@ -34,14 +34,14 @@ pub record IsPartition (tables : List TableEntry) (partition : PartitionEntry) :
   pub distinct : IsDistinct bytes_eq partition.keys
 
 pub record IsOwner (owner : OwnerEntry) : Type 0 where
-  pub name : is_name owner.name ≡ true
+  pub name : is_catalog_name owner.name ≡ true
   pub least_budget : 1 ≤ owner.budget
   pub most_budget : owner.budget ≤ 10 ^ 18
   pub least_capacity : 2 ≤ owner.capacity
   pub most_capacity : owner.capacity ≤ 262144
   pub some_tables : 1 ≤ length owner.tables
   pub few_tables : length owner.tables ≤ 8
-  pub tables : All IsTable owner.tables
+  pub tables : All IsTableEntry owner.tables
   pub distinct_tables : IsDistinct bytes_eq (map table_name owner.tables)
   pub few_partitions : length owner.partitions ≤ 8
   pub partitions : All (IsPartition owner.tables) owner.partitions
@@ -50,7 +50,7 @@ pub record IsOwner (owner : OwnerEntry) : Type 0 where
 pub record IsCatalog (catalog : Catalog) : Type 0 where
   pub some_analysts : 1 ≤ length catalog.analysts
   pub few_analysts : length catalog.analysts ≤ 64
-  pub analysts : All IsName catalog.analysts
+  pub analysts : All IsCatalogName catalog.analysts
   pub distinct_analysts : IsDistinct bytes_eq catalog.analysts
   pub some_owners : 1 ≤ length catalog.owners
   pub few_owners : length catalog.owners ≤ 16

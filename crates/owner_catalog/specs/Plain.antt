@@ -4,5 +4,5 @@ use Rattle.serde_json.specs.View.{view}
 use Rattle.serde_json.specs.Written.{has_float}
 use Rattle.serde_json.specs.declared.value.Value.{Value}
 
-abbrev pub IsPlain : Value → Type 0
-IsPlain value = has_float (view value) ≡ false
+abbrev pub HasNoFloat : Value → Type 0
+HasNoFloat value = has_float (view value) ≡ false

@@ -3,8 +3,8 @@ ghost use Rattle.std.specs.Prelude.{◌≡◌, ◌<◌, ◌≤◌, length, map, 
 ghost use Rattle.std.specs.List.{All, IsDistinct};
 ghost use Rattle.fz_ast.specs.Types.{WellFormed, formed, is_flat};
 ghost use Rattle.table_store.specs.Schema.{row_of_schema};
-ghost use Rattle.owner_catalog.specs.Entries.{owner_at, table_at, partition_at, signature_of, table_name, table_type_of};
-ghost use Rattle.owner_catalog.specs.Lawful.{IsCatalog, IsTable};
+ghost use Rattle.owner_catalog.specs.Entries.{owner_entry_at, table_entry_at, partition_entry_at, owner_signature, table_name, table_type_of};
+ghost use Rattle.owner_catalog.specs.Lawful.{IsCatalog, IsTableEntry};
 
 use crate::named::{Label, Named, find};
 use fz_ast::{Name, NoMemory, Sig, Ty, row_type};
@@ -140,7 +140,7 @@ impl Catalog {
     /// The name of an owner.
     pub fn owner_name(&self, o: u32) -> &str
         requires { o < length self.now.owners }
-        ensures { result.now ≡ (owner_at self.now o).name }
+        ensures { result.now ≡ (owner_entry_at self.now o).name }
     {
         self.owners[o as usize].name.as_str()
     }
@@ -148,7 +148,7 @@ impl Catalog {
     /// The budget of an owner, in millionths.
     pub fn budget(&self, o: u32) -> u64
         requires { o < length self.now.owners }
-        ensures { result ≡ (owner_at self.now o).budget }
+        ensures { result ≡ (owner_entry_at self.now o).budget }
     {
         self.owners[o as usize].budget
     }
@@ -156,7 +156,7 @@ impl Catalog {
     /// How many records an owner has room for.
     pub fn capacity(&self, o: u32) -> u32
         requires { o < length self.now.owners }
-        ensures { result ≡ (owner_at self.now o).capacity }
+        ensures { result ≡ (owner_entry_at self.now o).capacity }
     {
         self.owners[o as usize].capacity
     }
@@ -171,7 +171,7 @@ impl Catalog {
     /// The compact JSON text of an owner's object.
     pub fn owner_text(&self, o: u32) -> &str
         requires { o < length self.now.owners }
-        ensures { result.now ≡ (owner_at self.now o).text }
+        ensures { result.now ≡ (owner_entry_at self.now o).text }
     {
         self.owners[o as usize].text.as_str()
     }
@@ -179,7 +179,7 @@ impl Catalog {
     /// How many tables an owner has.
     pub fn tables(&self, o: u32) -> usize
         requires { o < length self.now.owners }
-        ensures tables { result ≡ length (owner_at self.now o).tables }
+        ensures tables { result ≡ length (owner_entry_at self.now o).tables }
         ensures few { result ≤ 8 }
     {
         self.owners[o as usize].tables.len()
@@ -188,17 +188,28 @@ impl Catalog {
     /// How many partitions an owner has.
     pub fn partitions(&self, o: u32) -> usize
         requires { o < length self.now.owners }
-        ensures partitions { result ≡ length (owner_at self.now o).partitions }
+        ensures partitions { result ≡ length (owner_entry_at self.now o).partitions }
         ensures few { result ≤ 8 }
     {
         self.owners[o as usize].partitions.len()
     }
 
+    /// How many keys a partition has.
+    pub fn keys(&self, o: u32, p: u8) -> usize
+        requires owner { o < length self.now.owners }
+        requires partition { p < length (owner_entry_at self.now o).partitions }
+        ensures keys { result ≡ length (partition_entry_at self.now o p).keys }
+        ensures some { 1 ≤ result }
+        ensures few { result ≤ 250 }
+    {
+        self.owners[o as usize].partitions[p as usize].keys.len()
+    }
+
     /// The name of a table.
     pub fn table_name(&self, o: u32, t: u8) -> &str
         requires owner { o < length self.now.owners }
-        requires table { t < length (owner_at self.now o).tables }
-        ensures { result.now ≡ (table_at self.now o t).name }
+        requires table { t < length (owner_entry_at self.now o).tables }
+        ensures { result.now ≡ (table_entry_at self.now o t).name }
     {
         self.owners[o as usize].tables[t as usize].name.as_str()
     }
@@ -206,8 +217,8 @@ impl Catalog {
     /// The name of a table's file.
     pub fn file(&self, o: u32, t: u8) -> &str
         requires owner { o < length self.now.owners }
-        requires table { t < length (owner_at self.now o).tables }
-        ensures { result.now ≡ (table_at self.now o t).file }
+        requires table { t < length (owner_entry_at self.now o).tables }
+        ensures { result.now ≡ (table_entry_at self.now o t).file }
     {
         self.owners[o as usize].tables[t as usize].file.as_str()
     }
@@ -215,8 +226,8 @@ impl Catalog {
     /// The columns of a table.
     pub fn schema(&self, o: u32, t: u8) -> &Schema
         requires owner { o < length self.now.owners }
-        requires table { t < length (owner_at self.now o).tables }
-        ensures { result.now ≡ (table_at self.now o t).columns }
+        requires table { t < length (owner_entry_at self.now o).tables }
+        ensures { result.now ≡ (table_entry_at self.now o t).columns }
     {
         &self.owners[o as usize].tables[t as usize].schema
     }
@@ -238,7 +249,7 @@ impl Catalog {
     /// The number of the owner's table of this name, if there is one.
     pub fn table(&self, o: u32, name: &[u8]) -> Option<u8>
         requires { o < length self.now.owners }
-        ensures { result ≡ position (λ table. bytes_eq name.now table.name) (owner_at self.now o).tables }
+        ensures { result ≡ position (λ table. bytes_eq name.now table.name) (owner_entry_at self.now o).tables }
     {
         find(&self.owners[o as usize].tables, name).map(|t| t as u8)
     }
@@ -246,7 +257,7 @@ impl Catalog {
     /// The number of the owner's partition of this name, if there is one.
     pub fn partition(&self, o: u32, name: &[u8]) -> Option<u8>
         requires { o < length self.now.owners }
-        ensures { result ≡ position (λ partition. bytes_eq name.now partition.name) (owner_at self.now o).partitions }
+        ensures { result ≡ position (λ partition. bytes_eq name.now partition.name) (owner_entry_at self.now o).partitions }
     {
         find(&self.owners[o as usize].partitions, name).map(|p| p as u8)
     }
@@ -254,8 +265,8 @@ impl Catalog {
     /// The number of this key of a partition, if it is one.
     pub fn key(&self, o: u32, p: u8, key: &[u8]) -> Option<u16>
         requires owner { o < length self.now.owners }
-        requires partition { p < length (owner_at self.now o).partitions }
-        ensures { result ≡ position (λ each. bytes_eq key.now each) (partition_at self.now o p).keys }
+        requires partition { p < length (owner_entry_at self.now o).partitions }
+        ensures { result ≡ position (λ each. bytes_eq key.now each) (partition_entry_at self.now o p).keys }
     {
         let partition = &self.owners[o as usize].partitions[p as usize];
         find(&partition.keys, key).map(|k| k as u16)
@@ -264,7 +275,7 @@ impl Catalog {
     /// The tables that programs over an owner may name.
     pub fn signature(&self, alloc: Global, o: u32) -> Result<Sig, NoMemory>
         requires { o < length self.now.owners }
-        ensures { IfOk result (λ tables. tables ≡ signature_of (owner_at self.now o)) }
+        ensures { IfOk result (λ tables. tables ≡ owner_signature (owner_entry_at self.now o)) }
     {
         let owner: &Owner = &self.owners[o as usize];
         signature_of(alloc, &owner.tables)
@@ -272,7 +283,7 @@ impl Catalog {
 }
 
 fn signature_of(alloc: Global, tables: &[Table]) -> Result<Sig, NoMemory>
-    requires tables { All IsTable tables.now }
+    requires tables { All IsTableEntry tables.now }
     requires distinct { IsDistinct bytes_eq (map table_name tables.now) }
     ensures { IfOk result (λ signature. signature ≡ map table_type_of tables.now) }
 {

@@ -1,6 +1,6 @@
 //! The digest of an owner.
 ghost use Rattle.std.specs.Prelude.{◌≡◌, ◌<◌, length, Ok};
-ghost use Rattle.owner_catalog.specs.Entries.{owner_at};
+ghost use Rattle.owner_catalog.specs.Entries.{owner_entry_at};
 ghost use Rattle.owner_catalog.specs.Digest.{digest_of};
 
 use crate::catalog::Catalog;
@@ -16,7 +16,7 @@ pub fn digest(
     tables: &[[u8; 32]],
 ) -> Result<[u8; 32], NoMemory>
     requires owner { owner < length catalog.now.owners }
-    requires tables { length tables.now ≡ length (owner_at catalog.now owner).tables }
+    requires tables { length tables.now ≡ length (owner_entry_at catalog.now owner).tables }
     ensures { result ≡ Ok (digest_of catalog.now owner key.now tables.now) }
 {
     let mut hasher = Sha256::new();

@@ -17,6 +17,3 @@ pub use catalog::Catalog;
 pub use fault::{CatalogFault, FaultKind, Member, Place};
 pub use hashing::digest;
 pub use reading::read;
-
-#[cfg(test)]
-mod tests;

@@ -3,7 +3,7 @@ ghost use Rattle.std.specs.Prelude.{◌≡◌, ◌⊎◌, ◌≤◌, ℕ, List, 
 ghost use Rattle.std.specs.List.{IsDistinct};
 ghost use Rattle.serde_json.specs.Data.{Data};
 ghost use Rattle.serde_json.specs.View.{view};
-ghost use Rattle.owner_catalog.specs.Plain.{IsPlain};
+ghost use Rattle.owner_catalog.specs.Plain.{HasNoFloat};
 ghost use Rattle.serde_json.specs.Find.{get};
 ghost use Rattle.serde_json.specs.Written.{has_float};
 ghost use Rattle.owner_catalog.specs.Members.{member_name};
@@ -33,7 +33,7 @@ pub(crate) trait Item<C>: Named {
     fn read(alloc: Global, value: &Value, context: &C, number: u32) -> Result<Self, CatalogFault>
         ensures item { IfOk result (λ item. read_of context.now number (view value.now) ≡ Ok item) }
         ensures fault { IfErr result (λ fault. (fault ≡ NoMemory) ⊎ (read_of context.now number (view value.now) ≡ Err fault)) }
-        ensures plain { IfOk result (λ _. IsPlain value.now) };
+        ensures plain { IfOk result (λ _. HasNoFloat value.now) };
 }
 
 /// The list that a member is, of so many items, each of another name.

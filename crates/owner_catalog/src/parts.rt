@@ -9,8 +9,8 @@ ghost use Rattle.serde_json.specs.View.{view, members_view};
 ghost use Rattle.serde_json.specs.Written.{has_float};
 ghost use Rattle.owner_catalog.specs.Members.{member_name};
 ghost use Rattle.owner_catalog.specs.Forms.{has_form};
-ghost use Rattle.owner_catalog.specs.Plain.{IsPlain};
-ghost use Rattle.owner_catalog.specs.Fault.{here, the, text_in, number_in, object_in, counted_in, first_missing, is_known, has_unknown};
+ghost use Rattle.owner_catalog.specs.Plain.{HasNoFloat};
+ghost use Rattle.owner_catalog.specs.Fault.{here, the, formed_text_in, bounded_number_in, object_in, counted_in, first_missing, is_known, has_unknown};
 
 use crate::fault::{CatalogFault, FaultKind, Member, Place};
 use crate::member::member_name;
@@ -19,16 +19,16 @@ use serde_json::{Map, Value};
 use std::alloc::Global;
 
 /// A text of this form.
-#[tactic(auto, unfolding(crate::specs::Fault::text_in))]
+#[tactic(auto, unfolding(crate::specs::Fault::formed_text_in))]
 pub(crate) fn text(
     alloc: Global,
     value: &Value,
     form: Form,
     at: Place,
 ) -> Result<String, CatalogFault>
-    ensures text { IfOk result (λ s. text_in (has_form form) at (view value.now) ≡ Ok (string_bytes s)) }
-    ensures fault { IfErr result (λ f. (f ≡ CatalogFault.NoMemory) ⊎ (text_in (has_form form) at (view value.now) ≡ Err f)) }
-    ensures plain { IfOk result (λ _. IsPlain value.now) }
+    ensures text { IfOk result (λ s. formed_text_in (has_form form) at (view value.now) ≡ Ok (string_bytes s)) }
+    ensures fault { IfErr result (λ f. (f ≡ CatalogFault.NoMemory) ⊎ (formed_text_in (has_form form) at (view value.now) ≡ Err f)) }
+    ensures plain { IfOk result (λ _. HasNoFloat value.now) }
 {
     let Some(text) = value.as_str() else {
         return Err(CatalogFault::Bad {
@@ -46,12 +46,12 @@ pub(crate) fn text(
 }
 
 /// A whole number within these limits.
-#[tactic(auto, unfolding(crate::specs::Fault::number_in))]
+#[tactic(auto, unfolding(crate::specs::Fault::bounded_number_in))]
 pub(crate) fn number(value: &Value, least: u64, most: u64, at: Place) -> Result<u64, CatalogFault>
-    ensures number { IfOk result (λ n. number_in least most at (view value.now) ≡ Ok n) }
-    ensures fault { IfErr result (λ f. number_in least most at (view value.now) ≡ Err f) }
+    ensures number { IfOk result (λ n. bounded_number_in least most at (view value.now) ≡ Ok n) }
+    ensures fault { IfErr result (λ f. bounded_number_in least most at (view value.now) ≡ Err f) }
     ensures few { IfOk result (λ n. n ≤ most) }
-    ensures plain { IfOk result (λ _. IsPlain value.now) }
+    ensures plain { IfOk result (λ _. HasNoFloat value.now) }
 {
     match value.as_u64() {
         Some(number) if least <= number && number <= most => Ok(number),
@@ -83,9 +83,9 @@ pub(crate) fn member_text(
     at: Place,
 ) -> Result<String, CatalogFault>
     requires { IsSome (get (member_name member) (view value.now)) }
-    ensures text { IfOk result (λ s. text_in (has_form form) (here at member) (the member (view value.now)) ≡ Ok (string_bytes s)) }
+    ensures text { IfOk result (λ s. formed_text_in (has_form form) (here at member) (the member (view value.now)) ≡ Ok (string_bytes s)) }
     ensures fault { IfErr result (λ f. (f ≡ CatalogFault.NoMemory)
-        ⊎ (text_in (has_form form) (here at member) (the member (view value.now)) ≡ Err f)) }
+        ⊎ (formed_text_in (has_form form) (here at member) (the member (view value.now)) ≡ Err f)) }
     ensures plain { IfOk result (λ _. has_float (the member (view value.now)) ≡ false) }
 {
     text(alloc, the(member, value), form, at.of(member))
@@ -100,8 +100,8 @@ pub(crate) fn member_number(
     at: Place,
 ) -> Result<u64, CatalogFault>
     requires { IsSome (get (member_name member) (view value.now)) }
-    ensures number { IfOk result (λ n. number_in least most (here at member) (the member (view value.now)) ≡ Ok n) }
-    ensures fault { IfErr result (λ f. number_in least most (here at member) (the member (view value.now)) ≡ Err f) }
+    ensures number { IfOk result (λ n. bounded_number_in least most (here at member) (the member (view value.now)) ≡ Ok n) }
+    ensures fault { IfErr result (λ f. bounded_number_in least most (here at member) (the member (view value.now)) ≡ Err f) }
     ensures few { IfOk result (λ n. n ≤ most) }
     ensures plain { IfOk result (λ _. has_float (the member (view value.now)) ≡ false) }
 {
@@ -138,7 +138,7 @@ pub(crate) fn object(expected: &[Member], value: &Value, at: Place) -> Result<()
     ensures object { IfOk result (λ done. object_in expected.now at.member (here at) (view value.now) ≡ Ok done) }
     ensures fault { IfErr result (λ f. object_in expected.now at.member (here at) (view value.now) ≡ Err f) }
     ensures there { IfOk result (λ _. AllByRecursion (λ m. IsSome (get (member_name m) (view value.now))) expected.now) }
-    ensures plain { IfOk result (λ _. AllByRecursion (λ m. has_float (the m (view value.now)) ≡ false) expected.now → IsPlain value.now) }
+    ensures plain { IfOk result (λ _. AllByRecursion (λ m. has_float (the m (view value.now)) ≡ false) expected.now → HasNoFloat value.now) }
 {
     let Some(members) = value.as_object() else {
         return Err(CatalogFault::Bad {
@@ -173,7 +173,7 @@ pub(crate) fn counted(
     ensures fault { IfErr result (λ f. counted_in least most whole (view value.now) ≡ Err f) }
     ensures few { IfOk result (λ items. length items.now ≤ most) }
     ensures some { IfOk result (λ items. least ≤ length items.now) }
-    ensures plain { IfOk result (λ items. AllByRecursion IsPlain items.now → IsPlain value.now) }
+    ensures plain { IfOk result (λ items. AllByRecursion HasNoFloat items.now → HasNoFloat value.now) }
 {
     match value.as_array() {
         Some(items) if least as usize <= items.len() && items.len() <= most as usize => Ok(

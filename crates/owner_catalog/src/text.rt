@@ -1,7 +1,7 @@
 //! The forms of names, file names and keys.
 ghost use Rattle.std.specs.Prelude.{◌≡◌, ◌&&◌, not};
 ghost use Rattle.fz_lexer.specs.Bytes.{is_letter, is_name_byte, begins, every_byte};
-ghost use Rattle.owner_catalog.specs.Forms.{has_form, is_name, is_reserved, is_table_name, is_file_name, is_key, is_file_byte, is_key_byte, is_byte_of};
+ghost use Rattle.owner_catalog.specs.Forms.{has_form, is_catalog_name, is_reserved, is_table_name, is_file_name, is_key, is_file_byte, is_key_byte, is_byte_of};
 
 /// What a text is to be.
 #[derive(Clone, Copy, Debug, PartialEq, Eq)]
@@ -19,8 +19,8 @@ pub(crate) fn has_form(form: Form, text: &str) -> bool
 {
     let bytes = text.as_bytes();
     match form {
-        Form::Name => is_name(bytes),
-        Form::TableName => is_name(bytes) && !is_reserved(text),
+        Form::Name => is_catalog_name(bytes),
+        Form::TableName => is_catalog_name(bytes) && !is_reserved(text),
         Form::FileName => is_file_name(bytes),
         Form::Key => is_key(bytes),
     }
@@ -108,9 +108,9 @@ fn every_byte(form: Form, text: &[u8]) -> bool
     text.iter().all(|byte| is_byte_of(form, *byte))
 }
 
-#[tactic(auto, unfolding(crate::specs::Forms::is_name))]
-fn is_name(text: &[u8]) -> bool
-    ensures { result ≡ is_name text.now }
+#[tactic(auto, unfolding(crate::specs::Forms::is_catalog_name))]
+fn is_catalog_name(text: &[u8]) -> bool
+    ensures { result ≡ is_catalog_name text.now }
 {
     begins_with_letter(text) && every_byte(Form::Name, text) && text.len() <= 32
 }

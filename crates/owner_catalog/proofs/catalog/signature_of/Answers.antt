@@ -2,14 +2,14 @@
 use Rattle.std.proofs.Common.{◌∙◌, ◌<◌, ◌++◌, ◌∷◌, [], length, arith, sym, ap, subst}
 use Rattle.table_store.specs.Schema.{row_of_schema}
 use Rattle.owner_catalog.specs.Entries.{table_name}
-use Rattle.owner_catalog.specs.Lawful.{IsTable}
+use Rattle.owner_catalog.specs.Lawful.{IsTableEntry}
 use Rattle.owner_catalog.proofs.Signatures.{name_fits, fresh_at, signature_more}
 use Rattle.owner_catalog.proofs.catalog.signature_of.Goals as goal
 
 pub new-requires : goal.new-requires
 new-requires c =
     let low : c.loop-table.table-index < length c.args.tables.now = omega arith in
-    let lawful = subst IsTable (sym c.table-item.is) (c.requires.tables c.loop-table.table-index c.table-item.result low) in
+    let lawful = subst IsTableEntry (sym c.table-item.is) (c.requires.tables c.loop-table.table-index c.table-item.result low) in
     rw c.as_bytes.ensures.value (rw (ap table_name c.table.view_is) (name_fits c.table-item.result lawful))
 
 pub push-requires-clause-fresh : goal.push-requires-clause-fresh

@@ -2,7 +2,7 @@ use Rattle.std.proofs.Common.{◌≡◌, bytes_eq, drop, length, map}
 use Rattle.std.specs.List.{AllByRecursion, IsDistinct}
 use Rattle.serde_json.specs.View.{view}
 use Rattle.owner_catalog.specs.Fault.{here, items_from, list_in, the}
-use Rattle.owner_catalog.specs.Plain.{IsPlain}
+use Rattle.owner_catalog.specs.Plain.{HasNoFloat}
 use Rattle.owner_catalog.proofs.list.list.Given as goal
 
 abbrev pub invariant-loop-item : goal.invariant-loop-item
@@ -12,5 +12,5 @@ invariant-loop-item g l = record {
       ≡ items_from g.T.Named.name_of (g.T.Item.place_of l.fn.context) (g.T.Item.read_of l.fn.context) l.found.items (map view (drop l.item-index l.items));
   count : length l.found.items ≡ l.item-index;
   distinct : IsDistinct bytes_eq (map g.T.Named.name_of l.found.items);
-  plain : AllByRecursion IsPlain (drop l.item-index l.items) → AllByRecursion IsPlain l.items;
+  plain : AllByRecursion HasNoFloat (drop l.item-index l.items) → AllByRecursion HasNoFloat l.items;
 }

@@ -1,0 +1,213 @@
+//! Catalogs that are read: each fault with its kind and place, and the calls on a catalog.
+
+use owner_catalog::{CatalogFault, digest, read};
+use std::alloc::Global;
+use std::test::Fail;
+
+const FIRST: &str = "{\"analysts\":[\"ann\"],\"owners\":[";
+
+#[rattlefmt::skip]
+const OWNER: &str =
+    "{\"name\":\"o\",\"budget\":1,\"capacity\":2,\"tables\":[{\"name\":\"t\",\"file\":\"f\",\"columns\":[{\"name\":\"a\",\"type\":\"num\"}]}],\"partitions\":[]}";
+
+const SECOND: &str = ",{\"name\":\"p\",\"budget\":1,\"capacity\":2,";
+
+const TABLE: &str =
+    "{\"name\":\"t\",\"file\":\"f\",\"columns\":[{\"name\":\"a\",\"type\":\"text\"}]}";
+
+const PARTITION: &str = "{\"name\":\"q\",\"table\":\"t\",\"column\":\"a\",\"keys\":[\"A\"]}";
+
+// What stands in the place of a part; and the kind of the fault, the member, and the numbers of the owner, the item and the sub-item.
+type Case = (&'static str, &'static str);
+
+// What stands before a part, the texts that stand in its place, and what stands behind it.
+#[rattlefmt::skip]
+const PARTS: [(&[&str], &[Case], &str); 7] = [
+    // the file
+    (&[], &[
+        ("{\"owners\":", "Syntax Catalog 0 0 0"),
+        ("[]", "Kind Catalog 0 0 0"),
+        ("{\"owners\":0,\"a\":0}", "Missing Analysts 0 0 0"),
+        ("{\"owners\":0,\"analysts\":0,\"z\":0}", "Unknown Catalog 0 0 0"),
+        ("{\"owners\":0,\"analysts\":0}", "Kind Analysts 0 0 0"),
+        ("{\"owners\":0,\"analysts\":[]}", "Count Analysts 0 0 0"),
+        ("{\"owners\":0,\"analysts\":[\"ann\",1]}", "Kind Analyst 0 1 0"),
+        ("{\"owners\":0,\"analysts\":[\"ann\",\"b b\"]}", "Form Analyst 0 1 0"),
+        ("{\"owners\":0,\"analysts\":[\"ann\",\"bob\",\"ann\"]}", "Double Analyst 0 2 0"),
+        ("{\"owners\":0,\"analysts\":[\"ann\"]}", "Kind Owners 0 0 0"),
+        ("{\"owners\":[],\"analysts\":[\"ann\"]}", "Count Owners 0 0 0"),
+    ], ""),
+    // members of the second owner
+    (&[FIRST, OWNER, ",{"], &[
+        ("\"name\":7,\"z\":7}", "Missing Budget 1 0 0"),
+        ("\"name\":\"p\",\"budget\":1,\"capacity\":2,\"tables\":7,\"partitions\":7,\"z\":7}", "Unknown Owner 1 0 0"),
+        ("\"name\":7,\"budget\":1,\"capacity\":2,\"tables\":7,\"partitions\":7}", "Kind OwnerName 1 0 0"),
+        ("\"name\":\"1\",\"budget\":1,\"capacity\":2,\"tables\":7,\"partitions\":7}", "Form OwnerName 1 0 0"),
+        ("\"name\":\"p\",\"budget\":1.0,\"capacity\":2,\"tables\":7,\"partitions\":7}", "Kind Budget 1 0 0"),
+        ("\"name\":\"p\",\"budget\":0,\"capacity\":2,\"tables\":7,\"partitions\":7}", "Range Budget 1 0 0"),
+        ("\"name\":\"p\",\"budget\":1,\"capacity\":-0,\"tables\":7,\"partitions\":7}", "Kind Capacity 1 0 0"),
+        ("\"name\":\"p\",\"budget\":1,\"capacity\":262145,\"tables\":7,\"partitions\":7}", "Range Capacity 1 0 0"),
+        ("\"name\":\"p\",\"budget\":1,\"capacity\":2,\"tables\":7,\"partitions\":7}", "Kind Tables 1 0 0"),
+        ("\"name\":\"p\",\"budget\":1,\"capacity\":2,\"tables\":[],\"partitions\":7}", "Count Tables 1 0 0"),
+    ], "]}"),
+    // the second owner
+    (&[FIRST, OWNER, ","], &[
+        ("7", "Kind Owner 1 0 0"),
+        (OWNER, "Double Owner 1 0 0"),
+    ], "]}"),
+    // the second table of the second owner
+    (&[FIRST, OWNER, SECOND, "\"partitions\":7,\"tables\":[", TABLE, ","], &[
+        ("7", "Kind Table 1 1 0"),
+        ("{\"name\":7,\"columns\":7,\"z\":7}", "Missing File 1 1 0"),
+        ("{\"name\":7,\"columns\":7,\"file\":7,\"z\":7}", "Unknown Table 1 1 0"),
+        ("{\"name\":7,\"columns\":7,\"file\":7}", "Kind TableName 1 1 0"),
+        ("{\"name\":\"union\",\"columns\":7,\"file\":7}", "Form TableName 1 1 0"),
+        ("{\"name\":\"u\",\"columns\":7,\"file\":7}", "Kind File 1 1 0"),
+        ("{\"name\":\"u\",\"columns\":7,\"file\":\"a\\u001fb\"}", "Form File 1 1 0"),
+        ("{\"name\":\"u\",\"columns\":7,\"file\":\"g\"}", "Kind Columns 1 1 0"),
+        ("{\"name\":\"u\",\"columns\":[],\"file\":\"g\"}", "Count Columns 1 1 0"),
+        ("{\"name\":\"t\",\"file\":\"f\",\"columns\":[{\"name\":\"a\",\"type\":\"num\"}]}", "Double Table 1 1 0"),
+        ("{\"name\":\"u\",\"file\":\"f\",\"columns\":[{\"name\":\"a\",\"type\":\"num\"}]}", "Kind Partitions 1 0 0"),
+    ], "]}]}"),
+    // the second column of that table
+    (&[FIRST, OWNER, SECOND, "\"partitions\":7,\"tables\":[", TABLE, ",{\"name\":\"u\",\"file\":\"g\",\"columns\":[{\"name\":\"a\",\"type\":\"num\"},"], &[
+        ("7", "Kind Column 1 1 1"),
+        ("{\"z\":7}", "Missing ColumnName 1 1 1"),
+        ("{\"name\":7,\"type\":7,\"z\":7}", "Unknown Column 1 1 1"),
+        ("{\"name\":7,\"type\":7}", "Kind ColumnName 1 1 1"),
+        ("{\"name\":\"\",\"type\":7}", "Form ColumnName 1 1 1"),
+        ("{\"name\":\"b\",\"type\":7}", "Kind ColumnType 1 1 1"),
+        ("{\"name\":\"b\",\"type\":\"number\"}", "Form ColumnType 1 1 1"),
+        ("{\"name\":\"a\",\"type\":\"text\"}", "Double Column 1 1 1"),
+    ], "]}]}]}"),
+    // members of the second partition of the second owner
+    (&[FIRST, OWNER, SECOND, "\"tables\":[", TABLE, "],\"partitions\":[", PARTITION, ",{"], &[
+        ("\"name\":7,\"column\":7,\"keys\":7,\"z\":7}", "Missing PartitionTable 1 1 0"),
+        ("\"name\":\"r\",\"table\":\"t\",\"column\":\"a\",\"keys\":7,\"z\":7}", "Unknown Partition 1 1 0"),
+        ("\"name\":7,\"table\":\"t\",\"column\":\"a\",\"keys\":7}", "Kind PartitionName 1 1 0"),
+        ("\"name\":\"r s\",\"table\":\"t\",\"column\":\"a\",\"keys\":7}", "Form PartitionName 1 1 0"),
+        ("\"name\":\"r\",\"table\":7,\"column\":\"a\",\"keys\":7}", "Kind PartitionTable 1 1 0"),
+        ("\"name\":\"r\",\"table\":\"u\",\"column\":\"a\",\"keys\":7}", "NoSuch PartitionTable 1 1 0"),
+        ("\"name\":\"r\",\"table\":\"t\",\"column\":7,\"keys\":7}", "Kind PartitionColumn 1 1 0"),
+        ("\"name\":\"r\",\"table\":\"t\",\"column\":\"n\",\"keys\":7}", "NoSuch PartitionColumn 1 1 0"),
+        ("\"name\":\"r\",\"table\":\"t\",\"column\":\"a\",\"keys\":7}", "Kind Keys 1 1 0"),
+        ("\"name\":\"r\",\"table\":\"t\",\"column\":\"a\",\"keys\":[]}", "Count Keys 1 1 0"),
+        ("\"name\":\"r\",\"table\":\"t\",\"column\":\"a\",\"keys\":[7]}", "Kind Key 1 1 0"),
+        ("\"name\":\"r\",\"table\":\"t\",\"column\":\"a\",\"keys\":[\"A\",\"a b\"]}", "Form Key 1 1 1"),
+        ("\"name\":\"r\",\"table\":\"t\",\"column\":\"a\",\"keys\":[\"A\",\"B\",\"A\"]}", "Double Key 1 1 2"),
+        ("\"name\":\"q\",\"table\":\"t\",\"column\":\"a\",\"keys\":[\"A\"]}", "Double Partition 1 1 0"),
+    ], "]}]}"),
+    // the partitions of the second owner
+    (&[FIRST, OWNER, SECOND, "\"tables\":[", TABLE, "],\"partitions\":"], &[
+        ("[7]", "Kind Partition 1 0 0"),
+        ("[7,7,7,7,7,7,7,7,7]", "Count Partitions 1 0 0"),
+        ("[]", "ok"),
+    ], "}]}"),
+];
+
+// What is wrong with a catalog's text.
+fn said(alloc: Global, text: &str) -> Result<String, Fail> {
+    match read(alloc, text.as_bytes()) {
+        Ok(_) => Ok(String::from_str(alloc, "ok")?),
+        Err(CatalogFault::NoMemory) => Ok(String::from_str(alloc, "no memory")?),
+        Err(CatalogFault::Bad { kind, at }) => {
+            let (member, owner, item, sub_item) = (at.member, at.owner, at.item, at.sub_item);
+            Ok(format!(in alloc; "{kind:?} {member:?} {owner} {item} {sub_item}")?)
+        }
+    }
+}
+
+#[test]
+fn each_fault(rt: HostRuntime) -> Result<(), Fail> {
+    let alloc = rt.alloc();
+    for (before, cases, after) in PARTS {
+        for (inside, wanted) in cases {
+            let mut text = String::new(alloc);
+            for piece in before {
+                text.push_str(piece)?;
+            }
+            text.push_str(inside)?;
+            text.push_str(after)?;
+            assert_eq!(rt;
+                said(alloc, text.as_str())?.as_str(),
+                *wanted,
+                "of {inside}"
+            );
+        }
+    }
+    Ok(())
+}
+
+const CATALOG: &str =
+    "{\"owners\":[{\"name\":\"census\",\"budget\":10000000,\"capacity\":100,\"partitions\":[{\"keys\":[\"A\",\"B\"],\"name\":\"area\",\
+    \"table\":\"people\",\"column\":\"town\"}],\"tables\":[{\"file\":\"people.csv\",\"name\":\"people\",\"columns\":[{\"type\":\"num\",\"name\":\"age\"},\
+    {\"name\":\"town\",\"type\":\"text\"}]},{\"name\":\"visits\",\"file\":\"visits.csv\",\"columns\":[{\"name\":\"day\",\"type\":\"num\"}]}]},\
+    {\"name\":\"clinic\",\"budget\":1000000000000000000,\"capacity\":262144,\"tables\":[{\"name\":\"a\",\"file\":\"a\",\"columns\":[{\"name\":\"n\",\
+    \"type\":\"num\"}]}],\"partitions\":[]}],\"analysts\":[\"ann\",\"bob\"]}";
+
+// The SHA-256 of a key of 32 bytes 7, the analysts' text, the second owner's, and a table's digest of 32 bytes 9, by Python's hashlib.
+const DIGEST: [u8; 32] = [
+    0xb0, 0xc1, 0xc3, 0x84, 0xd5, 0x88, 0x66, 0x21, 0x94, 0x78, 0x80, 0x23, 0x2a, 0xb4, 0x0d, 0xea,
+    0xfe, 0x16, 0x9c, 0x31, 0xc1, 0x14, 0x20, 0xfe, 0xf9, 0xb9, 0x11, 0x74, 0x47, 0x89, 0xb8, 0xc4,
+];
+
+#[test]
+fn calls(rt: HostRuntime) -> Result<(), Fail> {
+    let catalog = read(rt.alloc(), CATALOG.as_bytes())?;
+    assert_eq!(rt; (catalog.analysts(), catalog.owners()), (2, 2));
+    assert_eq!(rt;
+        (catalog.analyst(b"bob"), catalog.analyst(b"census")),
+        (Some(1), None)
+    );
+    assert_eq!(rt;
+        (catalog.owner(b"clinic"), catalog.owner(b"Clinic")),
+        (Some(1), None)
+    );
+    assert_eq!(rt;
+        (
+            catalog.owner_name(1),
+            catalog.budget(1),
+            catalog.capacity(1)
+        ),
+        ("clinic", 1_000_000_000_000_000_000, 262_144)
+    );
+    assert_eq!(rt;
+        (
+            catalog.tables(0),
+            catalog.tables(1),
+            catalog.partitions(0),
+            catalog.partitions(1)
+        ),
+        (2, 1, 1, 0)
+    );
+    assert_eq!(rt;
+        (catalog.table(0, b"visits"), catalog.table(1, b"visits")),
+        (Some(1), None)
+    );
+    assert_eq!(rt;
+        (catalog.partition(0, b"area"), catalog.partition(1, b"area")),
+        (Some(0), None)
+    );
+    assert_eq!(rt;
+        (
+            catalog.keys(0, 0),
+            catalog.key(0, 0, b"B"),
+            catalog.key(0, 0, b"AB")
+        ),
+        (2, Some(1), None)
+    );
+    assert_eq!(rt; catalog.text(), "[\"ann\",\"bob\"]");
+    assert_eq!(rt;
+        (catalog.table_name(0, 1), catalog.file(0, 0)),
+        ("visits", "people.csv")
+    );
+    assert_eq!(rt;
+        (
+            catalog.schema(0, 0).columns().len(),
+            catalog.signature(rt.alloc(), 0)?.len()
+        ),
+        (2, 2)
+    );
+    assert_eq!(rt; digest(&catalog, 1, &[7; 32], &[[9; 32]])?, DIGEST);
+    Ok(())
+}
