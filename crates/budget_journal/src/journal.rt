@@ -95,6 +95,13 @@ impl<D: Disk> Journal<D> {
         }
     }
 
+    /// How many calls of the disk have failed.
+    pub fn fault_count(&self) -> u64
+        ensures { result ≡ D.faults (disk_of self.now) }
+    {
+        self.disk.fault_count()
+    }
+
     /// Gives the disk back.
     pub fn into_disk(self) -> D
         ensures { result ≡ disk_of self }

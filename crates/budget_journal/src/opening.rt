@@ -1,9 +1,11 @@
 //! Opening a journal that a stop may have left.
 
-ghost use Rattle.std.specs.Prelude.{◌≡◌, ◌≢◌, ◌⊎◌, ℕ, ◌+◌, ◌*◌, ◌^◌, ◌<◌, ◌≤◌, Some, List, length, take, drop, IsErrOf, IfOk, IfErr, OnOk, false};
+ghost use Rattle.std.specs.Prelude.{◌≡◌, ◌≢◌, ◌⊎◌, ℕ, ◌+◌, ◌*◌, ◌^◌, ◌<◌, ◌≤◌, Some, List, length, take, drop, IsErrOf, IfOk, IfErr, IfSome, OnOk, false};
+ghost use Rattle.std.specs.List.{All};
 ghost use Rattle.fz_outside.specs.Faults.{HasCause};
 ghost use Rattle.outside_disks.specs.Disks.{Trace, seen_of, noted, WhereTold};
 ghost use Rattle.outside_disks.specs.Disks.Step.{Synced};
+ghost use Rattle.journal_records.specs.Encoding.{IsValid};
 ghost use Rattle.budget_journal.specs.Journals.{slot_place, Scanned, IsSlotFault, SlotRead, SlotsRead, HeaderRead, JournalRead, Found, IsOpenFault, MayHaveSynced, disk_of, used, is_closed, capacity_of};
 ghost use Rattle.budget_journal.specs.declared.opening.OpenFault.TheVariants.{DiskFault, NoMemory};
 
@@ -95,6 +97,7 @@ fn read_header<D: Disk>(disk: &mut D, header: &Header) -> Result<u64, OpenFault>
 fn judge_slot(slot: u32, bytes: &[u8; 64], closed: bool) -> Result<Option<Record>, OpenFault>
     ensures judged { (file : List ℕ) → slot_place slot + 64 ≤ length file → bytes.now ≡ take 64 (drop (slot_place slot) file)
         → SlotRead file slot closed result }
+    ensures valid { IfOk result (λ found. IfSome found IsValid) }
     ensures sound { IsErrOf result DiskFault → ⊥ }
 {
     if bytes[0] != GATE {
@@ -112,6 +115,7 @@ fn judge_slot(slot: u32, bytes: &[u8; 64], closed: bool) -> Result<Option<Record
 // Reads a slot that is wholly there.
 fn read_slot<D: Disk>(disk: &mut D, slot: u32, closed: bool) -> Result<Option<Record>, OpenFault>
     ensures judged { (t : Trace) → D.trace disk.old ≡ Some t → slot_place slot + 64 ≤ length (seen_of t) → SlotRead (seen_of t) slot closed result }
+    ensures valid { IfOk result (λ found. IfSome found IsValid) }
     ensures same { D.trace disk.new ≡ D.trace disk.old }
     ensures cause { HasCause (D.faults disk.old) (D.faults disk.new) (IsErrOf result DiskFault) }
     ensures passed { OnOk result (D.faults disk.new ≡ D.faults disk.old) }
@@ -132,6 +136,7 @@ fn add_slot<D: Disk>(
         → Scanned (seen_of t) slot records.old.items
         → OnOk result (Scanned (seen_of t) (slot + 1) records.new.items) × IfErr result (IsSlotFault capacity (seen_of t)) }
     ensures bounded { length records.new.items ≤ length records.old.items + 1 }
+    ensures valid { All IsValid records.old.items → All IsValid records.new.items }
     ensures same { D.trace disk.new ≡ D.trace disk.old }
     ensures cause { HasCause (D.faults disk.old) (D.faults disk.new) (IsErrOf result DiskFault) }
     ensures passed { OnOk result (D.faults disk.new ≡ D.faults disk.old) }
@@ -156,7 +161,9 @@ fn read_slots<D: Disk>(
 ) -> Result<Vec<Record>, OpenFault>
     requires { 128 ≤ size }
     ensures judged { (t : Trace) → D.trace disk.old ≡ Some t → size ≡ length (seen_of t) → SlotsRead capacity (seen_of t) result }
-    ensures bounded { IfOk result (λ records. length records.items < 2 ^ 32) }
+    ensures bounded { IfOk result (λ records. length records.items ≤ capacity) }
+    ensures small { IfOk result (λ records. length records.items < 2 ^ 32) }
+    ensures valid { IfOk result (λ records. All IsValid records.items) }
     ensures same { D.trace disk.new ≡ D.trace disk.old }
     ensures cause { HasCause (D.faults disk.old) (D.faults disk.new) (IsErrOf result DiskFault) }
     ensures passed { OnOk result (D.faults disk.new ≡ D.faults disk.old) }
@@ -180,7 +187,9 @@ fn read_journal<D: Disk>(
     header: &Header,
 ) -> Result<Vec<Record>, OpenFault>
     ensures judged { (t : Trace) → D.trace disk.old ≡ Some t → JournalRead header.now (seen_of t) result }
-    ensures bounded { IfOk result (λ records. length records.items < 2 ^ 32) }
+    ensures bounded { IfOk result (λ records. length records.items ≤ header.now.capacity) }
+    ensures small { IfOk result (λ records. length records.items < 2 ^ 32) }
+    ensures valid { IfOk result (λ records. All IsValid records.items) }
     ensures synced { OnOk result (D.trace disk.new ≡ noted Synced (D.trace disk.old)) }
     ensures kept { MayHaveSynced (D.trace disk.old) (D.trace disk.new) }
     ensures cause { HasCause (D.faults disk.old) (D.faults disk.new) (IsErrOf result DiskFault) }
@@ -203,6 +212,8 @@ impl<D: Disk> Journal<D> {
         ensures open { IfOk result (λ opened. is_closed opened.0 ≡ false) }
         ensures counted { IfOk result (λ opened. used opened.0 ≡ length opened.1.items) }
         ensures capacity { IfOk result (λ opened. capacity_of opened.0 ≡ header.now.capacity) }
+        ensures room { IfOk result (λ opened. length opened.1.items ≤ header.now.capacity) }
+        ensures valid { IfOk result (λ opened. All IsValid opened.1.items) }
         ensures passed { IfOk result (λ opened. D.faults (disk_of opened.0) ≡ D.faults disk) }
 
         ensures refused { IfErr result (λ refused. (t : Trace) → D.trace disk ≡ Some t → IsOpenFault header.now (seen_of t) refused.1) }

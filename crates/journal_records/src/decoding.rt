@@ -42,8 +42,8 @@ fn outcome_of(kind: u8, answer: u64) -> Option<Outcome>
     }
 }
 
-// Whether these are an epsilon in millionths and a sensitivity in lowest terms.
-fn are_terms(e: u32, p: u32, q: u32) -> bool
+/// Whether these are an epsilon in millionths and a sensitivity in lowest terms.
+pub fn are_terms(e: u32, p: u32, q: u32) -> bool
     ensures { IsTrue result ↔ AreTerms e p q }
 {
     if e == 0 || e > 1_000_000_000 || q == 0 {

@@ -1,8 +1,9 @@
 -- One append more in a run.
-use Rattle.std.proofs.Common.{◌≡◌, ℕ, ◌+◌, ◌<◌, ◌≤◌, List, [], ◌∷◌, ◌++◌, length, get_or, take, sym, ◌∙◌, ap, subst, arith, inl, inr, length-append, append_assoc, Option, None, Some}
+use Rattle.std.proofs.Common.{◌≡◌, ℕ, ◌+◌, ◌<◌, ◌≤◌, List, [], ◌∷◌, ◌++◌, length, get_or, take, sym, ◌∙◌, ap, subst, arith, inl, inr, length-append, append_assoc, Option}
 use Rattle.std.proofs.lemmas.List.{take_more, append-nil, length-take-le, get_or_default}
 use Rattle.outside_disks.specs.Disks.{Trace, Passes, WhereTold}
 use Rattle.outside_disks.proofs.Images.{passes-none, passes-both, passes-weaker}
+use Rattle.outside_disks.proofs.Told.{told-both}
 use Rattle.journal_records.specs.declared.records.Record.{Record}
 use Rattle.journal_records.specs.declared.records.Header.{Header}
 use Rattle.budget_journal.specs.Journals.{Stands, IsAtRest, IsBeforeOrAfter, Appended, Refused}
@@ -64,19 +65,6 @@ module _ (slots capacity : ℕ) (records : List Record) (n : ℕ) (next : Record
       further header found records n next lt is t u v so_far (refused header (found ++ take n records) so_far.rest (reached found here) (omega (arith, of)))
 
 -- ---- told or not
-
-pub told-both : (R S Q : Trace → Trace → Type 0) → ((t u v : Trace) → R t u → S u v → Q t v) → (old mid new : Option Trace) → WhereTold R old mid
-    → WhereTold S mid new → WhereTold Q old new
-told-both R S Q join None None None r s = tt
-told-both R S Q join None None (Some v) r s = s
-told-both R S Q join None (Some u) new r s = absurd r
-told-both R S Q join (Some t) None new r s = absurd r
-told-both R S Q join (Some t) (Some u) None r s = s
-told-both R S Q join (Some t) (Some u) (Some v) r s = join t u v r s
-
-pub told-none : (R : Trace → Trace → Type 0) → ((t : Trace) → R t t) → (told : Option Trace) → WhereTold R told told
-told-none R each None = tt
-told-none R each (Some t) = each t
 
 module _ (slots capacity : ℕ) (records : List Record) (n k : ℕ) (d : Record) (lt : n < length records) (room : slots + length records ≤ capacity)
     (at : k ≡ slots + n) (old mid new : Option Trace) (run : WhereTold (RunOf slots capacity records n) old mid) where

@@ -1,6 +1,7 @@
 -- What a bay shows, worked out on disks that are numbers: how often they have failed.
 use Rattle.std.proofs.Common.{◌≡◌, ℕ, zero, suc, List, [], ◌∷◌, refl, sym, ap, arith, Bool, if◌then◌else◌, Option, None, Some}
-use Rattle.outside_bays.specs.Bays.{Shown, Changes, Same, shelf_of}
+use Rattle.outside_disks.specs.Disks.{Shown}
+use Rattle.outside_bays.specs.Bays.{Changes, Same, shelf_of}
 use Rattle.outside_bays.proofs.Shelves.{not-equal}
 
 abbrev show : ℕ → Shown

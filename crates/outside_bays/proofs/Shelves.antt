@@ -1,10 +1,11 @@
 -- What a list of disks shows where one was put or taken.
-use Rattle.std.proofs.Common.{◌≡◌, ℕ, ◌<◌, Bool, true, false, List, length, get_or, set, refl, sym, ◌∙◌, ap, arith, ⊎_elim, Option, None, Some, if◌then◌else◌}
+use Rattle.std.proofs.Common.{◌≡◌, ℕ, zero, suc, ◌+◌, ◌<◌, Bool, true, false, List, [], ◌∷◌, ◌++◌, length, get_or, set, refl, sym, ◌∙◌, ap, arith, ⊎_elim, Option, None, Some, if◌then◌else◌}
 use Rattle.std.specs.Prelude.{IsSome, ◌==◌}
 use Rattle.std.proofs.lemmas.Bool.{cases_eq, cases_lt, eq-eqb, eqb-true}
 use Rattle.std.proofs.lemmas.List.{get_or-set_same, get_or-set_other, length-set}
 use Rattle.std.proofs.lemmas.Option.{slice_get-get_or, slice_get_past}
-use Rattle.outside_bays.specs.Bays.{Shown, shown_at, shelf_of, Changes}
+use Rattle.outside_disks.specs.Disks.{Shown}
+use Rattle.outside_bays.specs.Bays.{shown_at, shelf_of, Changes}
 
 pub not-equal : (a b : ℕ) → (a ≡ b → ⊥) → (a == b) ≡ false
 not-equal a b isnt = by_cases (a == b) (λ is. isnt (eqb-true a b is))
@@ -38,3 +39,11 @@ module _ {A : Type 0} (show : A → Shown) (disks : List (Option A)) (n : ℕ) (
       (cases_lt k (length disks))
       ∙ ap (λ (b : Bool). if b then shown_at show (Some x) else shelf_of show disks k) (sym (not-equal k n isnt)))
       (cases_eq k n)
+
+-- one was added
+pub shelf-push : {A : Type 0} (show : A → Shown) (disks : List (Option A)) (x : A) (want : Option Shown) → ((n : ℕ) → n < length disks → shelf_of show disks n ≡ want)
+    → Some (show x) ≡ want → (n : ℕ) → n < length disks + 1 → shelf_of show (disks ++ Some x ∷ []) n ≡ want
+shelf-push show [] x want all is zero lt = is
+shelf-push show [] x want all is (suc n) lt = absurd (omega (arith, lt))
+shelf-push show (y ∷ ys) x want all is zero lt = all 0 (omega arith)
+shelf-push show (y ∷ ys) x want all is (suc n) lt = shelf-push show ys x want (λ k le. all (suc k) (omega (arith, le))) is n (omega (arith, lt))

@@ -1,11 +1,6 @@
 -- What a bay shows of its disks.
 use Rattle.std.specs.Prelude.{◌≡◌, ℕ, List, Option, None, Some, slice_get, ◌==◌, if◌then◌else◌}
-use Rattle.outside_disks.specs.Disks.{Trace}
-
--- what a disk shows: what was done to it, where that is told, and how many calls have failed
-pub record Shown : Type 0 where
-  pub trace : Option Trace
-  pub faults : ℕ
+use Rattle.outside_disks.specs.Disks.{Shown}
 
 -- At this number there is this now, and all else is as it was.
 abbrev pub Changes : ℕ → Option Shown → (old new : ℕ → Option Shown) → Type 0

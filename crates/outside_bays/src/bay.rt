@@ -2,7 +2,8 @@
 
 ghost use Rattle.std.specs.Prelude.{◌≡◌, ℕ, ◌<◌, Option, Some, None, IsSome, IsErr, IfOk, OnOk, OnErr};
 ghost use Rattle.fz_outside.specs.Faults.{HasCause};
-ghost use Rattle.outside_bays.specs.Bays.{Shown, Changes, Same};
+ghost use Rattle.outside_disks.specs.Disks.{Shown};
+ghost use Rattle.outside_bays.specs.Bays.{Changes, Same};
 
 use fz_outside::Failed;
 use outside_disks::disk::Disk;
@@ -11,7 +12,7 @@ use outside_disks::disk::Disk;
 ///
 /// A taken disk isn't taken again before it is put back. A disk that wasn't made yet is an empty one.
 pub trait Bay {
-    type D: Disk;
+    type D: Disk + Drop;
 
     // How many owners there are.
     ghost owners: { Self → ℕ };

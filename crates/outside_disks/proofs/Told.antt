@@ -34,3 +34,18 @@ told-tried R f place size old mid new is (inr wrote) same some =
     told-is R (λ t. after (Wrote place wrote.0) (f t)) old new
     (wrote.2 ∙ subst (λ (o : Option Trace). noted (Wrote place wrote.0) mid ≡ noted (Wrote place wrote.0) o) is refl ∙ noted-both f (Wrote place wrote.0) old)
     (λ t. some t wrote.0 wrote.1)
+
+-- one relation after another
+pub told-both : (R S Q : Trace → Trace → Type 0) → ((t u v : Trace) → R t u → S u v → Q t v) → (old mid new : Option Trace) → WhereTold R old mid
+    → WhereTold S mid new → WhereTold Q old new
+told-both R S Q join None None None r s = tt
+told-both R S Q join None None (Some v) r s = s
+told-both R S Q join None (Some u) new r s = absurd r
+told-both R S Q join (Some t) None new r s = absurd r
+told-both R S Q join (Some t) (Some u) None r s = s
+told-both R S Q join (Some t) (Some u) (Some v) r s = join t u v r s
+
+-- nothing was done
+pub told-none : (R : Trace → Trace → Type 0) → ((t : Trace) → R t t) → (told : Option Trace) → WhereTold R told told
+told-none R each None = tt
+told-none R each (Some t) = each t

@@ -51,4 +51,8 @@ pub trait Disk {
 
         ensures cause { HasCause (faults self.old) (faults self.new) (IsErr result) }
         ensures passed { OnOk result (faults self.new ≡ faults self.old) };
+
+    /// How many calls have failed.
+    fn fault_count(&self) -> u64
+        ensures { result ≡ faults self.now };
 }

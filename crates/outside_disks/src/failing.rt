@@ -73,6 +73,10 @@ impl<D: Disk> Disk for FuseDisk<D> {
         spend(&mut self.left, &mut self.refused)?;
         self.inner.sync()
     }
+
+    fn fault_count(&self) -> u64 {
+        self.inner.fault_count().saturating_add(self.refused)
+    }
 }
 
 /// Fails one call alone, by its number from 0.
@@ -141,5 +145,9 @@ impl<D: Disk> Disk for BlipDisk<D> {
     fn sync(&mut self) -> Result<(), Failed> {
         pass(self.failing, &mut self.calls, &mut self.refused)?;
         self.inner.sync()
+    }
+
+    fn fault_count(&self) -> u64 {
+        self.inner.fault_count().saturating_add(self.refused)
     }
 }

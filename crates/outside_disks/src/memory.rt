@@ -231,4 +231,8 @@ impl Disk for MemDisk<'_> {
             Err(_) => Err(fault(&mut self.faults)),
         }
     }
+
+    fn fault_count(&self) -> u64 {
+        self.faults
+    }
 }

@@ -1,46 +1,85 @@
 //! A file of the system as a disk. It tells nothing of what it holds, and counts each error of the system.
 
-ghost use Rattle.std.specs.Prelude.{◌≡◌, None, IsErr, OnOk};
+ghost use Rattle.std.specs.Prelude.{◌≡◌, None, IsErr, IfOk, OnOk};
 ghost use Rattle.fz_outside.specs.Faults.{HasCause};
 
 use crate::disk::Disk;
 use crate::fault;
 use fz_outside::Failed;
+use std::alloc::{AllocError, Global};
+use std::io::ErrorKind;
 use std::os::unix::fs::FileExt;
-use std::{fs, io};
+use std::{fs, io, rt};
 
-/// A file that is open for reading and writing.
-#[derive(Drop)]
-pub struct FileDisk {
-    file: fs::File,
+/// Where a file belongs, and how often it has failed as a disk.
+#[derive(Debug, Drop)]
+pub struct FilePlace {
+    path: String,
+    folder: String,
+    // the folder that the folder is in
+    above: String,
     faults: u64,
 }
 
-impl FileDisk {
-    /// A disk that has not failed yet.
-    pub fn new(file: fs::File) -> FileDisk
-        ensures { ⟦<FileDisk as Disk>⟧.faults result ≡ 0 }
+impl FilePlace {
+    /// The place of a file of this name in a folder, whose own folder is there. It has not failed yet.
+    pub fn new(alloc: Global, folder: &str, name: &str) -> Result<FilePlace, AllocError>
+        ensures { IfOk result (λ place. place.faults ≡ 0) }
     {
-        FileDisk { file, faults: 0 }
-    }
-
-    /// A disk that has failed so often: one that was closed and is opened again.
-    pub fn with_faults(file: fs::File, faults: u64) -> FileDisk
-        ensures { ⟦<FileDisk as Disk>⟧.faults result ≡ faults }
-    {
-        FileDisk { file, faults }
-    }
-
-    /// How many calls have failed.
-    pub fn faults(&self) -> u64
-        ensures { result ≡ ⟦<FileDisk as Disk>⟧.faults self.now }
-    {
-        self.faults
+        Ok(FilePlace {
+            path: format!(in alloc; "{folder}/{name}")?,
+            folder: format!(in alloc; "{folder}")?,
+            above: format!(in alloc; "{folder}/..")?,
+            faults: 0,
+        })
     }
 }
 
-fn length_of(file: &fs::File) -> io::Result<u64> {
-    Ok(file.metadata()?.len())
+/// A file that is read and written. Where it isn't there it is an empty one, and its first write makes it and its folder.
+#[derive(Drop)]
+pub struct FileDisk<'a, R> {
+    rt: &'a R,
+    home: FilePlace,
+    file: Option<fs::File>,
+}
+
+/// Opens the file of this place, if it is there.
+pub fn open_file<R: rt::Files<File = fs::File>>(
+    rt: &R,
+    home: &FilePlace,
+) -> io::Result<Option<fs::File>> {
+    match fs::OpenOptions::new()
+        .read(true)
+        .write(true)
+        .open(rt, home.path.as_str())
+    {
+        Ok(file) => Ok(Some(file)),
+        Err(e) if e.kind() == ErrorKind::NotFound => Ok(None),
+        Err(e) => Err(e),
+    }
+}
+
+impl<'a, R: rt::Files<File = fs::File>> FileDisk<'a, R> {
+    /// The disk of a place whose file was opened, if it was there.
+    pub fn new(rt: &'a R, home: FilePlace, file: Option<fs::File>) -> Self
+        ensures { ⟦<FileDisk<'a, R> as Disk>⟧.faults result ≡ home.faults }
+    {
+        FileDisk { rt, home, file }
+    }
+
+    /// Closes the file.
+    pub fn close(self) -> FilePlace
+        ensures { result.faults ≡ ⟦<FileDisk<'a, R> as Disk>⟧.faults self.entry }
+    {
+        self.home
+    }
+}
+
+fn length_of(file: &Option<fs::File>) -> io::Result<u64> {
+    match file {
+        Some(file) => Ok(file.metadata()?.len()),
+        None => Ok(0),
+    }
 }
 
 // Reads on until the buffer is full or the file ends. What isn't read is zero.
@@ -57,6 +96,32 @@ fn read_whole(file: &fs::File, place: u64, buf: &mut [u8]) -> io::Result<()> {
     Ok(())
 }
 
+fn read_from(file: &Option<fs::File>, place: u64, buf: &mut [u8]) -> io::Result<()> {
+    match file {
+        Some(file) => read_whole(file, place, buf),
+        None => {
+            buf.fill(0);
+            Ok(())
+        }
+    }
+}
+
+// Makes an empty file, and its folder where that isn't there, and syncs what they are in: a stop doesn't lose them.
+fn make<R: rt::Files<File = fs::File>>(rt: &R, home: &FilePlace) -> io::Result<fs::File> {
+    match fs::create_dir(rt, home.folder.as_str()) {
+        Err(e) if e.kind() != ErrorKind::AlreadyExists => return Err(e),
+        _ => (),
+    }
+    fs::open(rt, home.above.as_str())?.sync_all()?;
+    let file = fs::OpenOptions::new()
+        .read(true)
+        .write(true)
+        .create_new(true)
+        .open(rt, home.path.as_str())?;
+    fs::open(rt, home.folder.as_str())?.sync_all()?;
+    Ok(file)
+}
+
 // Writes on until all is written.
 fn write_whole(file: &fs::File, place: u64, bytes: &[u8]) -> io::Result<()> {
     let mut done = 0;
@@ -70,6 +135,30 @@ fn write_whole(file: &fs::File, place: u64, bytes: &[u8]) -> io::Result<()> {
     Ok(())
 }
 
+// Writes to the file, which is made first where it isn't there.
+fn write_to<R: rt::Files<File = fs::File>>(
+    rt: &R,
+    home: &FilePlace,
+    file: &mut Option<fs::File>,
+    place: u64,
+    bytes: &[u8],
+) -> io::Result<()> {
+    if file.is_none() {
+        *file = Some(make(rt, home)?);
+    }
+    match file {
+        Some(file) => write_whole(file, place, bytes),
+        None => Err(ErrorKind::NotFound.into()),
+    }
+}
+
+fn sync_whole(file: &Option<fs::File>) -> io::Result<()> {
+    match file {
+        Some(file) => file.sync_data(),
+        None => Ok(()),
+    }
+}
+
 fn count<T>(answer: io::Result<T>, faults: &mut u64) -> Result<T, Failed>
     ensures cause { HasCause faults.old faults.new (IsErr result) }
     ensures passed { OnOk result (faults.new ≡ faults.old) }
@@ -80,24 +169,29 @@ fn count<T>(answer: io::Result<T>, faults: &mut u64) -> Result<T, Failed>
     }
 }
 
-impl Disk for FileDisk {
+impl<R: rt::Files<File = fs::File>> Disk for FileDisk<'_, R> {
     ghost trace = { λ _. None };
 
-    ghost faults = { λ disk. disk.faults };
+    ghost faults = { λ disk. disk.home.faults };
 
     fn len(&mut self) -> Result<u64, Failed> {
-        count(length_of(&self.file), &mut self.faults)
+        count(length_of(&self.file), &mut self.home.faults)
     }
 
     fn read_at(&mut self, place: u64, buf: &mut [u8]) -> Result<(), Failed> {
-        count(read_whole(&self.file, place, buf), &mut self.faults)
+        count(read_from(&self.file, place, buf), &mut self.home.faults)
     }
 
     fn write_at(&mut self, place: u64, bytes: &[u8]) -> Result<(), Failed> {
-        count(write_whole(&self.file, place, bytes), &mut self.faults)
+        let written = write_to(self.rt, &self.home, &mut self.file, place, bytes);
+        count(written, &mut self.home.faults)
     }
 
     fn sync(&mut self) -> Result<(), Failed> {
-        count(self.file.sync_all(), &mut self.faults)
+        count(sync_whole(&self.file), &mut self.home.faults)
+    }
+
+    fn fault_count(&self) -> u64 {
+        self.home.faults
     }
 }

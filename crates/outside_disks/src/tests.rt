@@ -3,11 +3,11 @@
 use crate::disk::Disk;
 use crate::failing::{BlipDisk, FuseDisk};
 use crate::memory::{Limits, MemDisk};
-use crate::real::FileDisk;
+use crate::real::{FileDisk, FilePlace, open_file};
 use fz_outside::Failed;
 use std::alloc::Global;
-use std::fs;
 use std::test::Fail;
+use std::{fs, rt};
 
 const LIMITS: Limits = Limits {
     length: 8,
@@ -66,25 +66,43 @@ fn fuse_and_blip(rt: HostRuntime) -> Result<(), Fail> {
     Ok(())
 }
 
-// A file as a disk: zeros past the end, and faults of a file that is open for reading alone.
+// The disk of a file that is opened where it is there.
+fn disk_of<'a, R: rt::Files<File = fs::File>>(
+    alloc: Global,
+    rt: &'a R,
+    name: &str,
+) -> Result<FileDisk<'a, R>, Fail> {
+    let home = FilePlace::new(alloc, "outside_disks_test", name)?;
+    let file = open_file(rt, &home)?;
+    Ok(FileDisk::new(rt, home, file))
+}
+
+// A file as a disk: nothing is made before the first write, and zeros stand past the end.
 #[test]
 fn a_file_of_the_system(rt: HostRuntime) -> Result<(), Fail> {
-    let path = "outside_disks_test";
-    fs::create(&rt, path)?;
-    let file = fs::OpenOptions::new()
-        .read(true)
-        .write(true)
-        .open(&rt, path)?;
-    let mut disk = FileDisk::new(file);
+    let alloc = rt.alloc();
+    let mut disk = disk_of(alloc, &rt, "file")?;
+    let mut buf = [9; 6];
     assert_eq!(rt; disk.len(), Ok(0));
+    assert_eq!(rt; disk.read_at(0, &mut buf), Ok(()));
+    assert_eq!(rt; disk.sync(), Ok(()));
+    assert_eq!(rt; &buf, b"\0\0\0\0\0\0");
+    assert!(rt; fs::metadata(&rt, "outside_disks_test").is_err());
     assert_eq!(rt; write_and_read(&mut disk, 3, b"x"), Ok(*b"x\0"));
     assert_eq!(rt; disk.sync(), Ok(()));
     assert_eq!(rt; disk.len(), Ok(4));
-    let mut kept = FileDisk::new(fs::open(&rt, path)?);
-    assert_eq!(rt; write_and_read(&mut kept, 0, b"x"), Err(Failed));
-    let mut buf = [9; 6];
-    assert_eq!(rt; kept.read_at(0, &mut buf), Ok(()));
+
+    let mut found = disk_of(alloc, &rt, "file")?;
+    assert_eq!(rt; found.read_at(0, &mut buf), Ok(()));
     assert_eq!(rt; &buf, b"\0\0\0x\0\0");
-    fs::remove_file(&rt, path)?;
+    assert_eq!(rt; found.fault_count(), 0);
+
+    // What is there and can't be opened is a fault, and so is a first write that can't make its file.
+    let folder = FilePlace::new(alloc, "outside_disks_test", "")?;
+    assert!(rt; open_file(&rt, &folder).is_err());
+    let mut nowhere = disk_of(alloc, &rt, "none/file")?;
+    assert_eq!(rt; write_and_read(&mut nowhere, 0, b"x"), Err(Failed));
+    assert_eq!(rt; nowhere.fault_count(), 1);
+    fs::remove_dir_all(&rt, "outside_disks_test")?;
     Ok(())
 }

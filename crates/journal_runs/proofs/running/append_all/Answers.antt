@@ -1,7 +1,8 @@
 use Rattle.std.proofs.Common.{◌≡◌, ℕ, length, refl, ◌∙◌, subst, arith}
 use Rattle.outside_disks.specs.Disks.{WhereTold}
 use Rattle.budget_journal.specs.Journals.{disk_of, used, capacity_of}
-use Rattle.journal_runs.proofs.Steps.{RunOf, run-none, told-none, told-more, told-stopped}
+use Rattle.outside_disks.proofs.Told.{told-none}
+use Rattle.journal_runs.proofs.Steps.{RunOf, run-none, told-more, told-stopped}
 use Rattle.journal_runs.proofs.running.append_all.Goals as goal
 
 pub loop-done-init : goal.loop-done-init
