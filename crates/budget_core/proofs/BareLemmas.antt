@@ -1,39 +1,38 @@
 -- A verdict doesn't depend on answers, nor the cost on what is settled.
-use Rattle.std.proofs.Common.{◌≡◌, ℕ, ◌+◌, Bool, true, false, cond, not, ◌&&◌, ◌==◌, nat_le, List, [], ◌∷◌, ◌++◌, length, map, sum_by, Option, Some, is_some, refl, sym, ◌∙◌, ap, arith}
+use Rattle.std.proofs.Common.{◌≡◌, ℕ, Bool, true, false, cond, not, ◌&&◌, ◌==◌, nat_le, List, [], ◌∷◌, ◌++◌, length, map, sum_by, Option, Some, is_some, refl, sym, ◌∙◌, ap, arith}
 use Rattle.std.proofs.lemmas.List.Sums.{sum_by-cons}
 use Rattle.std.proofs.Math.ListN.{length-map}
-use Rattle.budget_core.specs.declared.records.View.{View}
-use Rattle.budget_core.specs.declared.records.Record.{Record}
-use Rattle.budget_core.specs.declared.records.Record.TheVariants.{Reserve, Settle}
+use Rattle.partition_charge.specs.Cost.{Charge, cost_of_charges}
+use Rattle.journal_records.specs.declared.records.Reservation.{Reservation}
+use Rattle.journal_records.specs.declared.records.Record.{Record}
+use Rattle.journal_records.specs.declared.records.Record.TheVariants.{Reserve, Settle}
 use Rattle.budget_core.specs.declared.entry.Ask.{Ask}
 use Rattle.budget_core.specs.Bare.{bare_outcome, bare_record, without_answers}
-use Rattle.budget_core.specs.Cost.{charged_to, charges_of, cost_of}
+use Rattle.budget_core.specs.Cost.{charges_in, cost_of}
 use Rattle.budget_core.specs.Counts.{reservations_of, outcome_of, is_open_in, open_from}
 use Rattle.budget_core.specs.Entries.{Entry}
-use Rattle.budget_core.specs.Ledger.{reservation_for, cost_with, money_verdict}
+use Rattle.budget_core.specs.Ledger.{next_number, reservation_numbered, cost_with, money_verdict}
 use Rattle.budget_core.proofs.Numbers.{one_if}
-use Rattle.budget_core.proofs.Costs.{charges_of-append, cost_of-same}
+use Rattle.budget_core.proofs.Costs.{charge_by, cost_of-same, cost_of-append-Reserve}
 
 sum_by-mapped : {X : Type 0} → (f g : X → ℕ) (h : X → X) → ((x : X) → f (h x) ≡ g x) → (xs : List X) → sum_by f (map h xs) ≡ sum_by g xs
 sum_by-mapped f g h same [] = refl
 sum_by-mapped f g h same (x ∷ xs) = omega (arith, sum_by-mapped f g h same xs, same x, sum_by-cons f (h x) (map h xs), sum_by-cons g x xs)
 
-charges_of-without_answers : (view : View) (records : List Record) → charges_of view (without_answers records) ≡ charges_of view records
-charges_of-without_answers view records = sum_by-mapped (charged_to view) (charged_to view) bare_record same records
-  where
-    same : (r : Record) → charged_to view (bare_record r) ≡ charged_to view r
-    same (Reserve reservation) = refl
-    same (Settle number outcome) = refl
+charges_in-without_answers : (records : List Record) → charges_in (without_answers records) ≡ charges_in records
+charges_in-without_answers [] = refl
+charges_in-without_answers (Reserve reservation ∷ records) = ap (λ (rest : List Charge). charge_by reservation ∷ rest) (charges_in-without_answers records)
+charges_in-without_answers (Settle number outcome ∷ records) = charges_in-without_answers records
 
 pub cost_of-without_answers : (records : List Record) → cost_of (without_answers records) ≡ cost_of records
-cost_of-without_answers records = cost_of-same (without_answers records) records (λ view. charges_of-without_answers view records)
+cost_of-without_answers records = cost_of-same (without_answers records) records (charges_in-without_answers records)
 
 pub cost_with-without_answers : (records : List Record) (ask : Ask) → cost_with (without_answers records) ask ≡ cost_with records ask
 cost_with-without_answers records ask =
-    let before : Record = reservation_for (without_answers records) ask 0 in
-    let after : Record = reservation_for records ask 0 in
-    cost_of-same (without_answers records ++ before ∷ []) (records ++ after ∷ [])
-    (λ view. charges_of-append view (without_answers records) before ∙ ap (λ k. k + charged_to view after) (charges_of-without_answers view records) ∙ sym (charges_of-append view records after))
+    let before : Reservation = reservation_numbered (next_number (without_answers records)) ask 0 in
+    let after : Reservation = reservation_numbered (next_number records) ask 0 in
+    cost_of-append-Reserve (without_answers records) before ∙ ap (λ (charges : List Charge). cost_of_charges (charges ++ charge_by after ∷ [])) (charges_in-without_answers records)
+    ∙ sym (cost_of-append-Reserve records after)
 
 pub reservations_of-without_answers : (records : List Record) → length (reservations_of (without_answers records)) ≡ length (reservations_of records)
 reservations_of-without_answers [] = refl

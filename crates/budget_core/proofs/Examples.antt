@@ -1,16 +1,16 @@
 -- worked examples, by computation
-use Rattle.std.proofs.Common.{◌≡◌, ℕ, zero, suc, pos, negsuc, true, false, List, [], ◌∷◌, ◌++◌, map, Some, None, Ok, Err, refl}
-use Rattle.budget_core.specs.declared.records.View.{View}
-use Rattle.budget_core.specs.declared.records.View.TheVariants.{Whole, Part}
-use Rattle.budget_core.specs.declared.records.Outcome.TheVariants.{Answered, Exhausted, Lost}
-use Rattle.budget_core.specs.declared.records.Record.{Record}
-use Rattle.budget_core.specs.declared.records.Record.TheVariants.{Reserve, Settle}
+use Rattle.std.proofs.Common.{◌≡◌, ℕ, zero, suc, pos, negsuc, true, false, List, [], ◌∷◌, ◌++◌, map, replicate, Some, None, Ok, Err, refl}
+use Rattle.partition_charge.specs.declared.view.View.{View}
+use Rattle.partition_charge.specs.declared.view.View.TheVariants.{Whole, Part}
+use Rattle.journal_records.specs.declared.records.Outcome.TheVariants.{Answered, Exhausted, Lost}
+use Rattle.journal_records.specs.declared.records.Record.{Record}
+use Rattle.journal_records.specs.declared.records.Record.TheVariants.{Reserve, Settle}
 use Rattle.budget_core.specs.declared.entry.Ask.{Ask}
 use Rattle.budget_core.specs.declared.entry.ReserveFault.TheVariants.{OverBudget, Full}
-use Rattle.budget_core.specs.Cost.{charge_of, partition_cost, cost_of}
-use Rattle.budget_core.specs.Views.{same_view}
+use Rattle.partition_charge.specs.Cost.{cost_of_charges, partition_cost}
+use Rattle.budget_core.specs.Cost.{charge_of, charges_in, cost_of}
 use Rattle.budget_core.specs.Bare.{without_answers}
-use Rattle.budget_core.specs.Counts.{reservations_of, reservation_of, outcome_of, settles, number_of, taken_of, open_from}
+use Rattle.budget_core.specs.Counts.{reservations_of, reservation_of, outcome_of, asker_of, settles, number_of, taken_of, open_from}
 use Rattle.budget_core.specs.Entries.{Entry}
 use Rattle.budget_core.specs.Ledger.{start_of, money_verdict, records_after}
 
@@ -42,12 +42,15 @@ greatest = refl
 abbrev entry_of : ℕ → ℕ → Entry
 entry_of budget capacity = record { budget = budget; capacity = capacity; analysts = 2; keys = 2 ∷ [] }
 
+abbrev digest : List ℕ
+digest = replicate 32 9
+
 abbrev ask_of : View → ℕ → Ask
-ask_of view e = record { analyst = 0; view = view; e = e; p = 1; q = 1 }
+ask_of view e = record { analyst = 0; view = view; e = e; p = 1; q = 1; program = digest }
 
 -- a reservation of sensitivity 1 by analyst 0
 abbrev made : ℕ → View → ℕ → ℕ → Record
-made number view e taken = Reserve (record { number = number; view = view; e = e; p = 1; q = 1; taken = taken; analyst = 0 })
+made number view e taken = Reserve (record { number = number; view = view; e = e; p = 1; q = 1; taken = taken; analyst = 0; program = digest })
 
 -- n asks of the whole view at epsilon 1, each answered
 abbrev answered : ℕ → List Record
@@ -56,20 +59,20 @@ answered (suc n) = answered n ++ made n Whole 1000000 1000000 ∷ Settle n (Answ
 
 -- Ten fit into a budget of 10; the eleventh would make it 11.
 first_ask : money_verdict (entry_of 10000000 100) 0 (answered 0) (ask_of Whole 1000000) ≡ Ok (record { number = 0; taken = 1000000; seen = 1 })
-unfolding cost_of partition_cost
+unfolding cost_of cost_of_charges partition_cost
 first_ask = refl
 
 tenth_ask : money_verdict (entry_of 10000000 100) 0 (answered 9) (ask_of Whole 1000000) ≡ Ok (record { number = 9; taken = 1000000; seen = 19 })
-unfolding cost_of partition_cost
+unfolding cost_of cost_of_charges partition_cost
 tenth_ask = refl
 
 eleventh_ask : money_verdict (entry_of 10000000 100) 0 (answered 10) (ask_of Whole 1000000) ≡ Err (OverBudget 10000000 11000000 10000000 20)
-unfolding cost_of partition_cost
+unfolding cost_of cost_of_charges partition_cost
 eleventh_ask = refl
 
 -- With a capacity of 3 one ask is answered, and the second finds two records and no room for two more.
 no_room : money_verdict (entry_of 10000000 3) 0 (answered 1) (ask_of Whole 1000000) ≡ Err (Full 2 0 3)
-unfolding cost_of partition_cost
+unfolding cost_of cost_of_charges partition_cost
 no_room = refl
 
 -- Parts of one partition cost as much as the dearest one.
@@ -83,92 +86,84 @@ abbrev parts_aba : List Record
 parts_aba = parts_ab ++ made 2 (Part 0 0) 4 4 ∷ Settle 2 (Answered (pos 1)) ∷ []
 
 costs_a : cost_of part_a ≡ 6
-unfolding cost_of partition_cost
+unfolding cost_of cost_of_charges partition_cost
 costs_a = refl
 
 costs_ab : cost_of parts_ab ≡ 6
-unfolding cost_of partition_cost
+unfolding cost_of cost_of_charges partition_cost
 costs_ab = refl
 
 costs_aba : cost_of parts_aba ≡ 10
-unfolding cost_of partition_cost
+unfolding cost_of cost_of_charges partition_cost
 costs_aba = refl
 
 free_part : money_verdict (entry_of 10 100) 0 part_a (ask_of (Part 0 1) 6) ≡ Ok (record { number = 1; taken = 0; seen = 3 })
-unfolding cost_of partition_cost
+unfolding cost_of cost_of_charges partition_cost
 free_part = refl
 
 dearer_part : money_verdict (entry_of 10 100) 0 parts_ab (ask_of (Part 0 0) 4) ≡ Ok (record { number = 2; taken = 4; seen = 5 })
-unfolding cost_of partition_cost
+unfolding cost_of cost_of_charges partition_cost
 dearer_part = refl
 
 whole_after_parts : money_verdict (entry_of 10 100) 0 parts_aba (ask_of Whole 1) ≡ Err (OverBudget 10 11 10 6)
-unfolding cost_of partition_cost
+unfolding cost_of cost_of_charges partition_cost
 whole_after_parts = refl
 
 -- Two partitions each cost as much as their dearest part, beside the whole.
 abbrev two_partitions : List Record
 two_partitions = parts_aba ++ made 3 (Part 1 0) 3 3 ∷ made 4 (Part 1 1) 2 0 ∷ made 5 Whole 5 5 ∷ []
 
-of_area : partition_cost two_partitions 0 ≡ 10
-unfolding partition_cost
-of_area = refl
-
-of_the_other : partition_cost two_partitions 1 ≡ 3
-unfolding partition_cost
-of_the_other = refl
-
-of_none : partition_cost two_partitions 2 ≡ 0
-unfolding partition_cost
-of_none = refl
-
 costs_both : cost_of two_partitions ≡ 18
-unfolding cost_of partition_cost
+unfolding cost_of cost_of_charges partition_cost
 costs_both = refl
 
 -- The last part of the last partition costs as well.
 last_of_all : cost_of (made 0 (Part 7 249) 6 6 ∷ made 1 Whole 1 1 ∷ []) ≡ 7
-unfolding cost_of partition_cost
+unfolding cost_of cost_of_charges partition_cost
 last_of_all = refl
 
 no_records : cost_of [] ≡ 0
-unfolding cost_of partition_cost
+unfolding cost_of cost_of_charges partition_cost
 no_records = refl
 
 -- An ask of sensitivity 0 costs nothing, and is granted on a budget that is spent.
-for_nothing : money_verdict (entry_of 10 100) 0 parts_aba (record { analyst = 0; view = Whole; e = 1000000000; p = 0; q = 1 }) ≡ Ok (record { number = 3; taken = 0; seen = 7 })
-unfolding cost_of partition_cost
+for_nothing : money_verdict (entry_of 10 100) 0 parts_aba (record { analyst = 0; view = Whole; e = 1000000000; p = 0; q = 1; program = digest }) ≡ Ok (record { number = 3; taken = 0; seen = 7 })
+unfolding cost_of cost_of_charges partition_cost
 for_nothing = refl
 
 -- A sensitivity of 3/2 at one millionth takes 2: granted where 2 are left, and over by one where 1 is.
 abbrev three_halves : Ask
-three_halves = record { analyst = 1; view = Whole; e = 1; p = 3; q = 2 }
+three_halves = record { analyst = 1; view = Whole; e = 1; p = 3; q = 2; program = digest }
 
 exactly_the_budget : money_verdict (entry_of 12 100) 0 parts_aba three_halves ≡ Ok (record { number = 3; taken = 2; seen = 7 })
-unfolding cost_of partition_cost
+unfolding cost_of cost_of_charges partition_cost
 exactly_the_budget = refl
 
 one_over : money_verdict (entry_of 11 100) 0 parts_aba three_halves ≡ Err (OverBudget 10 12 11 6)
-unfolding cost_of partition_cost
+unfolding cost_of cost_of_charges partition_cost
 one_over = refl
 
 -- A part that costs nothing more is granted where the whole is over budget.
 part_at_the_end : money_verdict (entry_of 10 100) 0 parts_aba (ask_of (Part 0 1) 4) ≡ Ok (record { number = 3; taken = 0; seen = 7 })
-unfolding cost_of partition_cost
+unfolding cost_of cost_of_charges partition_cost
 part_at_the_end = refl
 
 -- Six records and two more fill a capacity of 8 exactly. One place less is too little, and over budget comes first.
 exactly_full : money_verdict (entry_of 100 8) 0 parts_aba (ask_of Whole 1) ≡ Ok (record { number = 3; taken = 1; seen = 7 })
-unfolding cost_of partition_cost
+unfolding cost_of cost_of_charges partition_cost
 exactly_full = refl
 
 one_too_many : money_verdict (entry_of 100 7) 0 parts_aba (ask_of Whole 1) ≡ Err (Full 6 0 7)
-unfolding cost_of partition_cost
+unfolding cost_of cost_of_charges partition_cost
 one_too_many = refl
 
 over_before_full : money_verdict (entry_of 10 7) 0 parts_aba (ask_of Whole 1) ≡ Err (OverBudget 10 11 10 6)
-unfolding cost_of partition_cost
+unfolding cost_of cost_of_charges partition_cost
 over_before_full = refl
+
+-- Each reservation charges its view, and a settlement nothing.
+charged : charges_in parts_ab ≡ record { view = Part 0 0; amount = 6 } ∷ record { view = Part 0 1; amount = 6 } ∷ []
+charged = refl
 
 -- a reservation that was left open
 abbrev left_open : List Record
@@ -176,16 +171,16 @@ left_open = made 0 Whole 4 4 ∷ []
 
 -- A reservation that this run left open keeps a place.
 place_kept : money_verdict (entry_of 10 4) 0 left_open (ask_of Whole 1) ≡ Ok (record { number = 1; taken = 1; seen = 2 })
-unfolding cost_of partition_cost
+unfolding cost_of cost_of_charges partition_cost
 place_kept = refl
 
 no_place_beside : money_verdict (entry_of 10 3) 0 left_open (ask_of Whole 1) ≡ Err (Full 1 1 3)
-unfolding cost_of partition_cost
+unfolding cost_of cost_of_charges partition_cost
 no_place_beside = refl
 
 -- What a grant adds has the ask's fields; a refusal adds nothing.
 granted : records_after left_open three_halves (Ok (record { number = 1; taken = 2; seen = 2 }))
-    ≡ made 0 Whole 4 4 ∷ Reserve (record { number = 1; view = Whole; e = 1; p = 3; q = 2; taken = 2; analyst = 1 }) ∷ []
+    ≡ made 0 Whole 4 4 ∷ Reserve (record { number = 1; view = Whole; e = 1; p = 3; q = 2; taken = 2; analyst = 1; program = digest }) ∷ []
 granted = refl
 
 refused : records_after left_open three_halves (Err (Full 1 1 3)) ≡ left_open
@@ -206,6 +201,12 @@ took = refl
 
 reserved : reservation_of records 1 ≡ Some (made 1 Whole 4 4)
 reserved = refl
+
+asked_by : asker_of records 1 ≡ Some 0
+asked_by = refl
+
+asked_by_none : asker_of records 3 ≡ None
+asked_by_none = refl
 
 not_reserved : reservation_of records 3 ≡ None
 not_reserved = refl
@@ -233,25 +234,9 @@ answers_are_gone : without_answers (made 0 Whole 4 4 ∷ Settle 0 (Answered (neg
     ≡ made 0 Whole 4 4 ∷ Settle 0 (Answered (pos 0)) ∷ Settle 1 Exhausted ∷ Settle 2 Lost ∷ []
 answers_are_gone = refl
 
--- Views are the same by partition and part.
-same_part : same_view (Part 1 2) (Part 1 2) ≡ true
-same_part = refl
-
-other_part : same_view (Part 1 2) (Part 1 3) ≡ false
-other_part = refl
-
-other_partition : same_view (Part 0 2) (Part 1 2) ≡ false
-other_partition = refl
-
-part_of_the_whole : same_view Whole (Part 0 0) ≡ false
-part_of_the_whole = refl
-
-whole_of_a_part : same_view (Part 0 0) Whole ≡ false
-whole_of_a_part = refl
-
 -- A reservation that an earlier run left open keeps its cost, and no room.
 still_costs : cost_of left_open ≡ 4
-unfolding cost_of partition_cost
+unfolding cost_of cost_of_charges partition_cost
 still_costs = refl
 
 still_open : open_from 0 left_open ≡ 1
@@ -261,5 +246,5 @@ not_ours : open_from 1 left_open ≡ 0
 not_ours = refl
 
 next_after_open : money_verdict (entry_of 10 3) 1 left_open (ask_of Whole 6) ≡ Ok (record { number = 1; taken = 6; seen = 2 })
-unfolding cost_of partition_cost
+unfolding cost_of cost_of_charges partition_cost
 next_after_open = refl

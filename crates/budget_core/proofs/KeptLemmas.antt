@@ -1,142 +1,125 @@
--- what a book keeps, over its calls
-use Rattle.std.proofs.Common.{◌≡◌, ℕ, ◌+◌, ◌-◌, ◌≤◌, ◌<◌, ◌∙◌, List, [], ◌∷◌, ◌++◌, length, slice_get, Vec, Global, vec_capacity, Ok, Err, IsSomeAnd, if◌then◌else◌, nat_lt, refl, sym, ap, subst, arith}
-use Rattle.std.proofs.lemmas.Bool.{cond-true, cond-false, lt-ltb, le-ltb}
-use Rattle.std.proofs.lemmas.List.Sums.{length-filter, count_by-le-length}
-use Rattle.budget_core.specs.declared.records.Record.{Record}
-use Rattle.budget_core.specs.declared.records.Record.TheVariants.{Reserve, Settle}
-use Rattle.budget_core.specs.declared.records.View.{View}
-use Rattle.budget_core.specs.declared.records.View.TheVariants.{Whole, Part}
-use Rattle.budget_core.specs.declared.records.Outcome.{Outcome}
-use Rattle.budget_core.specs.declared.records.Outcome.TheVariants.{Lost}
-use Rattle.budget_core.specs.declared.entry.Ask.{Ask}
-use Rattle.budget_core.specs.declared.entry.Grant.{Grant}
-use Rattle.budget_core.specs.declared.entry.ReserveFault.TheVariants.{OverBudget, Full}
-use Rattle.budget_core.specs.declared.book.Book.TheInside.{Inside}
-use Rattle.budget_core.specs.Cost.{cost_of, charge_of}
-use Rattle.budget_core.specs.Counts.{is_reservation, reservations_of, open_from}
+-- what a history keeps
+use Rattle.std.proofs.Common.{◌≡◌, ℕ, ◌+◌, ◌-◌, ◌≤◌, ◌<◌, ◌^◌, ◌∙◌, List, [], ◌∷◌, ◌++◌, length, length-append, add-zero, count_by, Vec, Global, vec_capacity, IsTrue, nat_eq, ◌↔◌, sym, ap, subst, arith}
+use Rattle.partition_charge.specs.declared.costs.Costs.{Costs}
+use Rattle.partition_charge.specs.declared.view.View.{View}
+use Rattle.partition_charge.specs.Cost.{Charge, cost_of_charges}
+use Rattle.partition_charge.specs.Totals.{Stands, HasRoom}
+use Rattle.partition_charge.proofs.Charges.{never-falls}
+use Rattle.std.proofs.lemmas.Bool.{eqb-true, eq-eqb, ltb-true}
+use Rattle.std.proofs.lemmas.List.Sums.{sum_by_push}
+use Rattle.journal_records.specs.declared.records.Outcome.{Outcome}
+use Rattle.journal_records.specs.declared.records.Reservation.{Reservation}
+use Rattle.journal_records.specs.declared.records.Record.{Record}
+use Rattle.journal_records.specs.declared.records.Record.TheVariants.{Reserve, Settle}
+use Rattle.budget_core.specs.declared.history.Row.{Row}
+use Rattle.budget_core.specs.declared.history.History.TheInside.{Inside}
+use Rattle.budget_core.specs.Cost.{charge_of, charges_in, cost_of}
+use Rattle.budget_core.specs.Legal.{IsHistory, IsReservationAfter, IsSettlementAfter}
+use Rattle.budget_core.specs.Answers.{is_answered, is_exhausted}
+use Rattle.budget_core.specs.Counts.{reservations_of}
 use Rattle.budget_core.specs.Entries.{Entry, HasView}
-use Rattle.budget_core.specs.Legal.{IsHistory, IsLegal}
-use Rattle.budget_core.specs.Ledger.{Ledger, IsAskOf, IsUnsettled, next_number, reservation_numbered, reservation_for, cost_with, rise_of, money_verdict}
-use Rattle.budget_core.specs.Kept.{HoldsTotals}
-use Rattle.budget_core.proofs.Costs.{cost_of-append-Settle, cost_of-append-Whole, cost_of-append-taken}
-use Rattle.budget_core.proofs.Histories.{history-nil, legal-history}
-use Rattle.budget_core.proofs.Numbers.{open_from-Settle, open_from-append-Reserve, reservations_of-append-Settle, reservations_of-append-Reserve, outcome_past}
-use Rattle.budget_core.proofs.LegalLemmas.{legal-room, legal-Settle, legal-Reserve, unsettled-Reserve}
+use Rattle.budget_core.specs.Kept.{HasRows, HoldsTotals}
+use Rattle.budget_core.specs.Past.{Past}
+use Rattle.budget_core.proofs.Charging.{rises, view-valid}
+use Rattle.budget_core.proofs.Costs.{cost_of-charges, cost_of-append-Reserve, cost_of-append-Settle, charges_in-append-Reserve, charges_in-append-Settle}
+use Rattle.budget_core.proofs.Histories.{history-append}
+use Rattle.budget_core.proofs.Numbers.{one_if, reserved_below}
+use Rattle.budget_core.proofs.Standings.{reservations-within, new-row, rows-Reserve}
 
--- what contracts see of a book
-abbrev pub ledger_of : Inside → Ledger
-ledger_of b = record { entry = b.entry; found = []; records = b.records.items }
+-- what contracts see of a history
+abbrev pub past_of : Inside → Past
+past_of h = record { entry = h.entry; records = h.records.items }
 
--- Its records are a history.
-pub kept-history : (b : Inside) → HoldsTotals b → IsHistory b.entry b.records.items
-kept-history b k = legal-history b.entry [] b.records.items (history-nil b.entry) k.legal
+-- There are fewer rows than a u32 has numbers.
+pub kept-count : (h : Inside) → HoldsTotals h → length h.rows.items ≤ 262144
+kept-count h k = omega (arith, k.rows.count, reservations-within h.records.items, k.fits, k.entry.capacity)
 
--- There is room for what is open.
-pub kept-room : (b : Inside) → HoldsTotals b → length b.records.items + b.unsettled ≤ vec_capacity b.records
-kept-room b k = omega (arith, legal-room b.entry b.records.items k.legal, k.unsettled, k.room)
+-- The totals have room for one charge more.
+pub kept-charging : (h : Inside) (view : View) (amount : ℕ) → HoldsTotals h → HasView h.entry view → amount ≤ 2 ^ 62 → HasRoom h.costs view amount
+kept-charging h view amount k has bounded =
+    let charges : List Charge = charges_in h.records.items in
+    (charges, k.costs, omega (arith, rises charges view amount (view-valid h.entry view k.entry has), cost_of-charges h.records.items, k.within, k.entry.budget))
 
--- One settlement closes one reservation.
-kept-open : (b : Inside) (number : ℕ) (outcome : Outcome) → HoldsTotals b → IsUnsettled (ledger_of b) number → open_from 0 (b.records.items ++ Settle number outcome ∷ []) + 1 ≡ b.unsettled
-kept-open b number outcome k u = open_from-Settle b.entry 0 b.records.items number outcome (kept-history b k) u.ours u.reserved u.unsettled ∙ sym k.unsettled
+pub kept-grows : (h : Inside) (view : View) (amount : ℕ) → cost_of h.records.items ≤ cost_of_charges (charges_in h.records.items ++ record { view = view; amount = amount } ∷ [])
+kept-grows h view amount = omega (arith, cost_of-charges h.records.items, never-falls (charges_in h.records.items) (record { view = view; amount = amount }))
 
--- Where a reservation is unsettled, the count of those is not 0.
-pub kept-some : (b : Inside) (number : ℕ) → HoldsTotals b → IsUnsettled (ledger_of b) number → 1 ≤ b.unsettled
-kept-some b number k u = omega (arith, kept-open b number Lost k u)
+-- Whether a reservation within its budget may follow goes by what it says of the cost.
+pub may-reserve : (entry : Entry) (records : List Record) (r : Reservation) (charge after spent : ℕ) → r.number ≡ length (reservations_of records) → r.analyst < entry.analysts → HasView entry r.view
+    → charge ≡ charge_of r.e r.p r.q → after ≡ cost_of_charges (charges_in records ++ record { view = r.view; amount = charge } ∷ [])
+    → cost_of records ≤ after → spent ≡ cost_of records → after ≤ entry.budget → IsTrue (nat_eq (after - spent) r.taken) ↔ IsReservationAfter entry records r
+may-reserve entry records r charge after spent numbered asked viewed is cost grows was within =
+    let now : cost_of (records ++ Reserve r ∷ []) ≡ after = with-one records r charge after is cost in (
+      λ yes. record {
+        numbered = numbered;
+        asked_by = asked;
+        looks_at = viewed;
+        rise = omega (arith, now, eqb-true (after - spent) r.taken yes);
+        within = omega (arith, now);
+      },
+      λ may. eq-eqb (after - spent) r.taken (omega (arith, now, may.rise)),
+    )
+  where
+    with-one : (records : List Record) (r : Reservation) (charge after : ℕ) → charge ≡ charge_of r.e r.p r.q
+        → after ≡ cost_of_charges (charges_in records ++ record { view = r.view; amount = charge } ∷ []) → cost_of (records ++ Reserve r ∷ []) ≡ after
+    with-one records r charge after is cost =
+        cost_of-append-Reserve records r ∙ ap (λ (n : ℕ). cost_of_charges (charges_in records ++ record { view = r.view; amount = n } ∷ [])) (sym is) ∙ sym cost
 
--- after a settlement
-pub kept-Settle : (b : Inside) (records : Vec Record Global) (number : ℕ) (outcome : Outcome) → HoldsTotals b → IsUnsettled (ledger_of b) number
-    → records.items ≡ b.records.items ++ Settle number outcome ∷ [] → vec_capacity records ≡ vec_capacity b.records → HoldsTotals (record b { records = records; unsettled = b.unsettled - 1 })
-kept-Settle b records number outcome k u items room = record {
-  entry = k.entry;
-  unparted = k.unparted;
-  legal = subst (IsLegal b.entry []) (sym items) (legal-Settle (ledger_of b) number outcome (kept-history b k) k.legal u);
-  spent = k.spent ∙ sym (cost_of-append-Settle b.records.items number outcome) ∙ ap cost_of (sym items);
-  within = k.within;
-  reservations = k.reservations ∙ sym (reservations_of-append-Settle b.records.items number outcome) ∙ ap (λ (all : List Record). length (reservations_of all)) (sym items);
-  unsettled = omega (arith, kept-open b number outcome k u, ap (open_from 0) items);
-  room = omega (arith, k.room, room);
-}
-
--- An ask of an entry without partitions is of the whole view.
-view_is_whole : (entry : Entry) (view : View) → entry.keys ≡ [] → HasView entry view → view ≡ Whole
-view_is_whole entry Whole none has = refl
-view_is_whole entry (Part partition part) none has = absurd (subst (λ (keys : List ℕ). IsSomeAnd (slice_get keys partition) (λ n. part < n)) none has)
-
--- the cost with an ask
-kept-with : (b : Inside) (ask : Ask) → HoldsTotals b → IsAskOf b.entry ask → cost_with b.records.items ask ≡ b.spent + charge_of ask.e ask.p ask.q
-kept-with b ask k asked =
-    let records : List Record = b.records.items in
-    cost_of-append-Whole records (reservation_numbered (next_number records) ask 0) (view_is_whole b.entry ask.view k.unparted asked.view) ∙ ap (λ spent. spent + charge_of ask.e ask.p ask.q) (sym k.spent)
-
--- No more reservations than records are made.
-pub kept-count : (b : Inside) → HoldsTotals b → b.reservations ≤ length b.records.items
-kept-count b k = omega (arith, k.reservations, length-filter is_reservation b.records.items, count_by-le-length is_reservation b.records.items)
-
--- what a book's numbers say of a verdict
-money_verdict-kept : (b : Inside) (ask : Ask) → HoldsTotals b → IsAskOf b.entry ask → money_verdict b.entry 0 b.records.items ask
-    ≡ (if nat_lt b.entry.budget (b.spent + charge_of ask.e ask.p ask.q)
-    then Err (OverBudget b.spent (b.spent + charge_of ask.e ask.p ask.q) b.entry.budget (length b.records.items))
-    else if nat_lt b.entry.capacity (length b.records.items + b.unsettled + 2)
-    then Err (Full (length b.records.items) b.unsettled b.entry.capacity)
-    else Ok (record { number = b.reservations; taken = charge_of ask.e ask.p ask.q; seen = length b.records.items + 1 }))
-money_verdict-kept b ask k asked =
-    let cost : cost_of b.records.items ≡ b.spent = sym k.spent in
-    let after : cost_with b.records.items ask ≡ b.spent + charge_of ask.e ask.p ask.q = kept-with b ask k asked in
-    let rise : rise_of b.records.items ask ≡ charge_of ask.e ask.p ask.q = omega arith in
-    let used : open_from 0 b.records.items ≡ b.unsettled = sym k.unsettled in
-    let number : next_number b.records.items ≡ b.reservations = sym k.reservations in
-    cc
-
-pub verdict-over : (b : Inside) (ask : Ask) → HoldsTotals b → IsAskOf b.entry ask → b.entry.budget < b.spent + charge_of ask.e ask.p ask.q
-    → money_verdict b.entry 0 b.records.items ask ≡ Err (OverBudget b.spent (b.spent + charge_of ask.e ask.p ask.q) b.entry.budget (length b.records.items))
-verdict-over b ask k asked over = money_verdict-kept b ask k asked ∙ cond-true (nat_lt b.entry.budget (b.spent + charge_of ask.e ask.p ask.q)) _ _ (lt-ltb b.entry.budget (b.spent + charge_of ask.e ask.p ask.q) over)
-
-pub verdict-full : (b : Inside) (ask : Ask) → HoldsTotals b → IsAskOf b.entry ask → b.spent + charge_of ask.e ask.p ask.q ≤ b.entry.budget → b.entry.capacity < length b.records.items + b.unsettled + 2
-    → money_verdict b.entry 0 b.records.items ask ≡ Err (Full (length b.records.items) b.unsettled b.entry.capacity)
-verdict-full b ask k asked within over =
-    money_verdict-kept b ask k asked ∙ cond-false (nat_lt b.entry.budget (b.spent + charge_of ask.e ask.p ask.q)) _ _ (le-ltb b.entry.budget (b.spent + charge_of ask.e ask.p ask.q) within)
-    ∙ cond-true (nat_lt b.entry.capacity (length b.records.items + b.unsettled + 2)) _ _ (lt-ltb b.entry.capacity (length b.records.items + b.unsettled + 2) over)
-
-pub verdict-grant : (b : Inside) (ask : Ask) → HoldsTotals b → IsAskOf b.entry ask → b.spent + charge_of ask.e ask.p ask.q ≤ b.entry.budget → length b.records.items + b.unsettled + 2 ≤ b.entry.capacity
-    → money_verdict b.entry 0 b.records.items ask ≡ Ok (record { number = b.reservations; taken = charge_of ask.e ask.p ask.q; seen = length b.records.items + 1 })
-verdict-grant b ask k asked within fits =
-    money_verdict-kept b ask k asked ∙ cond-false (nat_lt b.entry.budget (b.spent + charge_of ask.e ask.p ask.q)) _ _ (le-ltb b.entry.budget (b.spent + charge_of ask.e ask.p ask.q) within)
-    ∙ cond-false (nat_lt b.entry.capacity (length b.records.items + b.unsettled + 2)) _ _ (le-ltb b.entry.capacity (length b.records.items + b.unsettled + 2) fits)
-
-kept-granted : (b : Inside) (records : Vec Record Global) (ask : Ask) → HoldsTotals b → IsAskOf b.entry ask → b.spent + charge_of ask.e ask.p ask.q ≤ b.entry.budget → length b.records.items + b.unsettled + 2 ≤ b.entry.capacity
-    → records.items ≡ b.records.items ++ Reserve (reservation_numbered b.reservations ask (charge_of ask.e ask.p ask.q)) ∷ [] → vec_capacity records ≡ vec_capacity b.records
-    → HoldsTotals (record b { records = records; spent = b.spent + charge_of ask.e ask.p ask.q; reservations = b.reservations + 1; unsettled = b.unsettled + 1 })
-kept-granted b records ask k asked within fits items room =
-    let charge : ℕ = charge_of ask.e ask.p ask.q in
-    let count : ℕ = next_number b.records.items in
-    let made : records.items ≡ b.records.items ++ reservation_for b.records.items ask charge ∷ []
-    = items ∙ ap (λ n. b.records.items ++ Reserve (reservation_numbered n ask charge) ∷ []) k.reservations in
-    let grant : Grant = record { number = b.reservations; taken = charge; seen = length b.records.items + 1 } in
-    let cost : cost_of (b.records.items ++ reservation_for b.records.items ask charge ∷ []) ≡ b.spent + charge
-    = cost_of-append-taken b.records.items (reservation_numbered count ask charge) 0 ∙ kept-with b ask k asked in
-    record {
-      entry = k.entry;
-      unparted = k.unparted;
-      legal = subst (IsLegal b.entry []) (sym made) (legal-Reserve (ledger_of b) ask grant (kept-history b k) k.legal asked (verdict-grant b ask k asked within fits));
-      spent = sym cost ∙ ap cost_of (sym made);
-      within = within;
-      reservations = omega (arith, k.reservations, reservations_of-append-Reserve b.records.items (reservation_numbered count ask charge), ap (λ (all : List Record). length (reservations_of all)) made);
-      unsettled = omega (arith, k.unsettled, open_from-append-Reserve 0 b.records.items (reservation_numbered count ask charge) (omega arith) (outcome_past b.entry b.records.items (kept-history b k) count (omega arith)), ap (open_from 0) made);
-      room = omega (arith, k.room, room);
-    }
+-- Past the budget none may.
+pub may-not-reserve : (entry : Entry) (records : List Record) (r : Reservation) (charge after : ℕ) → charge ≡ charge_of r.e r.p r.q
+    → after ≡ cost_of_charges (charges_in records ++ record { view = r.view; amount = charge } ∷ []) → entry.budget < after → IsReservationAfter entry records r → ⊥
+may-not-reserve entry records r charge after is cost over may =
+    let now : cost_of (records ++ Reserve r ∷ []) ≡ after
+    = cost_of-append-Reserve records r ∙ ap (λ (n : ℕ). cost_of_charges (charges_in records ++ record { view = r.view; amount = n } ∷ [])) (sym is) ∙ sym cost in
+    omega (arith, now, may.within)
 
 -- after a reservation
-pub kept-Reserve : (b : Inside) (records : Vec Record Global) (ask : Ask) (charge : ℕ) → charge ≡ charge_of ask.e ask.p ask.q → HoldsTotals b → IsAskOf b.entry ask
-    → b.spent + charge ≤ b.entry.budget → length b.records.items + b.unsettled + 2 ≤ b.entry.capacity
-    → records.items ≡ b.records.items ++ Reserve (reservation_numbered b.reservations ask charge) ∷ [] → vec_capacity records ≡ vec_capacity b.records
-    → HoldsTotals (record b { records = records; spent = b.spent + charge; reservations = b.reservations + 1; unsettled = b.unsettled + 1 })
-kept-Reserve b records ask charge is k asked within fits items room =
-    subst (λ (n : ℕ). HoldsTotals (record b { records = records; spent = b.spent + n; reservations = b.reservations + 1; unsettled = b.unsettled + 1 })) (sym is)
-    (kept-granted b records ask k asked (omega (arith, is, within)) fits (items ∙ ap (λ n. b.records.items ++ Reserve (reservation_numbered b.reservations ask n) ∷ []) is) room)
+pub kept-Reserve : (h : Inside) (r : Reservation) (charge : ℕ) (costs : Costs) (records : Vec Record Global) (rows : Vec Row Global) → HoldsTotals h → IsReservationAfter h.entry h.records.items r
+    → charge ≡ charge_of r.e r.p r.q → length h.records.items < h.entry.capacity → Stands costs (charges_in h.records.items ++ record { view = r.view; amount = charge } ∷ [])
+    → records.items ≡ h.records.items ++ Reserve r ∷ [] → vec_capacity records ≡ vec_capacity h.records → rows.items ≡ h.rows.items ++ new-row r ∷ [] → vec_capacity rows ≡ vec_capacity h.rows
+    → HoldsTotals (record h { records = records; costs = costs; rows = rows })
+kept-Reserve h r charge costs records rows k may is short stand items wide lines broad =
+    let all : List Record = h.records.items ++ Reserve r ∷ [] in
+    let made : all ≡ records.items = sym items in
+    let charged : charges_in h.records.items ++ record { view = r.view; amount = charge } ∷ [] ≡ charges_in all
+    = ap (λ (n : ℕ). charges_in h.records.items ++ record { view = r.view; amount = n } ∷ []) is ∙ sym (charges_in-append-Reserve h.records.items r) in
+    record {
+      entry = k.entry;
+      history = subst (IsHistory h.entry) made (history-append h.entry h.records.items (Reserve r) k.history may);
+      within = subst (λ (xs : List Record). cost_of xs ≤ h.entry.budget) made may.within;
+      costs = subst (λ (xs : List Record). Stands costs (charges_in xs)) made (subst (Stands costs) charged stand);
+      rows = subst (λ (xs : List Record). HasRows rows.items xs) made (subst (λ (ys : List Row). HasRows ys all) (sym lines) (rows-Reserve h.entry h.records.items h.rows.items r k.history may k.rows));
+      answered = k.answered ∙ sym (sum_by_push (λ x. one_if (is_answered x)) h.records.items (Reserve r) ∙ add-zero (count_by is_answered h.records.items)) ∙ ap (count_by is_answered) made;
+      exhausted = k.exhausted ∙ sym (sum_by_push (λ x. one_if (is_exhausted x)) h.records.items (Reserve r) ∙ add-zero (count_by is_exhausted h.records.items)) ∙ ap (count_by is_exhausted) made;
+      fits = omega (arith, ap length made, length-append h.records.items (Reserve r ∷ []), short);
+      record_room = omega (arith, k.record_room, wide);
+      row_room = omega (arith, k.row_room, broad);
+    }
 
--- The new reservation is unsettled.
-pub kept-unsettled : (b : Inside) (records : List Record) (ask : Ask) (taken : ℕ) → HoldsTotals b → records ≡ b.records.items ++ Reserve (reservation_numbered b.reservations ask taken) ∷ []
-    → IsUnsettled (record { entry = b.entry; found = []; records = records }) b.reservations
-kept-unsettled b records ask taken k made =
-    let u = unsettled-Reserve (ledger_of b) (reservation_numbered b.reservations ask taken) (kept-history b k) (omega (arith, k.reservations)) (omega arith) in
-    rw made u
+-- after a settlement
+pub kept-Settle : (h : Inside) (number : ℕ) (outcome : Outcome) (records : Vec Record Global) (rows : Vec Row Global) (one other : ℕ) → HoldsTotals h → IsSettlementAfter h.records.items number
+    → length h.records.items < h.entry.capacity → records.items ≡ h.records.items ++ Settle number outcome ∷ [] → vec_capacity records ≡ vec_capacity h.records
+    → HasRows rows.items (h.records.items ++ Settle number outcome ∷ []) → vec_capacity rows ≡ vec_capacity h.rows
+    → one ≡ one_if (is_answered (Settle number outcome)) → other ≡ one_if (is_exhausted (Settle number outcome))
+    → HoldsTotals (record h { records = records; rows = rows; answered = h.answered + one; exhausted = h.exhausted + other })
+kept-Settle h number outcome records rows one other k may short items wide has broad answers exhausts =
+    let all : List Record = h.records.items ++ Settle number outcome ∷ [] in
+    let made : all ≡ records.items = sym items in
+    record {
+      entry = k.entry;
+      history = subst (IsHistory h.entry) made (history-append h.entry h.records.items (Settle number outcome) k.history may);
+      within = omega (arith, k.within, cost_of-append-Settle h.records.items number outcome, ap cost_of made);
+      costs = subst (λ (xs : List Record). Stands h.costs (charges_in xs)) made (subst (Stands h.costs) (sym (charges_in-append-Settle h.records.items number outcome)) k.costs);
+      rows = subst (HasRows rows.items) made has;
+      answered = omega (arith, k.answered, answers, sum_by_push (λ x. one_if (is_answered x)) h.records.items (Settle number outcome), ap (count_by is_answered) made);
+      exhausted = omega (arith, k.exhausted, exhausts, sum_by_push (λ x. one_if (is_exhausted x)) h.records.items (Settle number outcome), ap (count_by is_exhausted) made);
+      fits = omega (arith, ap length made, length-append h.records.items (Settle number outcome ∷ []), short);
+      record_room = omega (arith, k.record_room, wide);
+      row_room = omega (arith, k.row_room, broad);
+    }
+
+-- A number that may be settled has a row.
+pub kept-row : (h : Inside) (number : ℕ) → HoldsTotals h → IsSettlementAfter h.records.items number → number < length h.rows.items
+kept-row h number k may =
+    let below : number < length (reservations_of h.records.items)
+    = ltb-true number (length (reservations_of h.records.items)) (sym (reserved_below h.entry h.records.items k.history number) ∙ may.reserved) in
+    omega (arith, below, k.rows.count)

@@ -1,16 +1,18 @@
 -- worked examples of entries, asks, and which records may follow which
-use Rattle.std.proofs.Common.{◌≡◌, ℕ, zero, suc, ◌+◌, ◌*◌, ◌^◌, ◌≤◌, pos, List, [], ◌∷◌, ◌++◌, All, Some, None, true, false, refl, arith}
+use Rattle.std.proofs.Common.{◌≡◌, ℕ, zero, suc, ◌+◌, ◌^◌, ◌≤◌, pos, List, [], ◌∷◌, ◌++◌, replicate, All, Some, None, true, false, refl, arith}
 use Rattle.std.proofs.lemmas.List.Elements.{All-cons, All-nil}
-use Rattle.budget_core.specs.declared.records.View.{View}
-use Rattle.budget_core.specs.declared.records.View.TheVariants.{Whole, Part}
-use Rattle.budget_core.specs.declared.records.Outcome.TheVariants.{Answered, Exhausted, Lost}
-use Rattle.budget_core.specs.declared.records.Record.{Record}
-use Rattle.budget_core.specs.declared.records.Record.TheVariants.{Reserve, Settle}
+use Rattle.partition_charge.specs.declared.view.View.{View}
+use Rattle.partition_charge.specs.declared.view.View.TheVariants.{Whole, Part}
+use Rattle.journal_records.specs.declared.records.Outcome.TheVariants.{Answered, Exhausted, Lost}
+use Rattle.journal_records.specs.declared.records.Record.{Record}
+use Rattle.journal_records.specs.declared.records.Record.TheVariants.{Reserve, Settle}
 use Rattle.budget_core.specs.declared.entry.Ask.{Ask}
-use Rattle.budget_core.specs.Cost.{partition_cost, cost_of}
-use Rattle.budget_core.specs.Entries.{Entry, IsEntry, HasView, IsLowest, IsEpsilon}
+use Rattle.partition_charge.specs.Cost.{cost_of_charges, partition_cost}
+use Rattle.budget_core.specs.Cost.{cost_of}
+use Rattle.budget_core.specs.Entries.{Entry, IsEntry, HasView, IsEpsilon}
 use Rattle.budget_core.specs.Ledger.{Ledger, IsAskOf, IsUnsettled}
-use Rattle.budget_core.specs.Legal.{MayFollow, IsLegal, IsValid}
+use Rattle.budget_core.specs.Legal.{MayFollow, IsLegal, HasTerms}
+use Rattle.budget_core.proofs.Asks.{ask-from}
 use Rattle.budget_core.proofs.LegalLemmas.{legal-nil, legal-append}
 
 -- An entry at the least and at the greatest of its numbers, and just past each of them.
@@ -98,35 +100,6 @@ part_past_the_last has = omega (arith, has)
 no_such_partition : HasView (entry_of 1 2 1 (2 ∷ [])) (Part 1 0) → ⊥
 no_such_partition has = has
 
--- 3/2 and 0/1 are in lowest terms; 2/4 and 0/2 aren't, and nothing over 0 is.
-three_halves : IsLowest 3 2
-three_halves = record { positive = omega arith; coprime = coprime }
-  where
-    coprime : (d a b : ℕ) → 3 ≡ d * a → 2 ≡ d * b → d ≡ 1
-    coprime zero a b three two = absurd (omega (arith, three))
-    coprime (suc zero) a b three two = refl
-    coprime (suc (suc zero)) a b three two = absurd (omega (arith, three))
-    coprime (suc (suc (suc d))) a zero three two = absurd (omega (arith, two))
-    coprime (suc (suc (suc d))) a (suc b) three two = absurd (omega (arith, two))
-
-nothing_lowest : IsLowest 0 1
-nothing_lowest = record { positive = omega arith; coprime = coprime }
-  where
-    coprime : (d a b : ℕ) → 0 ≡ d * a → 1 ≡ d * b → d ≡ 1
-    coprime zero a b none one = absurd (omega (arith, one))
-    coprime (suc zero) a b none one = refl
-    coprime (suc (suc d)) a zero none one = absurd (omega (arith, one))
-    coprime (suc (suc d)) a (suc b) none one = absurd (omega (arith, one))
-
-two_quarters : IsLowest 2 4 → ⊥
-two_quarters lowest = omega (arith, lowest.coprime 2 1 2 refl refl)
-
-nothing_over_two : IsLowest 0 2 → ⊥
-nothing_over_two lowest = omega (arith, lowest.coprime 2 0 1 refl refl)
-
-over_nothing : IsLowest 1 0 → ⊥
-over_nothing lowest = omega (arith, lowest.positive)
-
 -- Epsilon is 1 to 10^9 millionths.
 least_epsilon : IsEpsilon 1
 least_epsilon = record { least = omega arith; most = omega arith }
@@ -144,8 +117,11 @@ too_great_an_epsilon epsilon = omega (arith, epsilon.most)
 abbrev small : Entry
 small = entry_of 10 3 2 (2 ∷ [])
 
+abbrev digest : List ℕ
+digest = replicate 32 9
+
 abbrev made : ℕ → View → ℕ → ℕ → ℕ → Record
-made number view e taken analyst = Reserve (record { number = number; view = view; e = e; p = 1; q = 1; taken = taken; analyst = analyst })
+made number view e taken analyst = Reserve (record { number = number; view = view; e = e; p = 1; q = 1; taken = taken; analyst = analyst; program = digest })
 
 -- one reservation that is open, and the same settled
 abbrev left_open : List Record
@@ -156,11 +132,11 @@ settled = left_open ++ Settle 0 Exhausted ∷ []
 
 -- The first reservation has number 0, the second number 1.
 first_may : MayFollow small [] (made 0 Whole 10 10 1)
-unfolding cost_of partition_cost
+unfolding cost_of cost_of_charges partition_cost
 first_may = record { numbered = refl; asked_by = omega arith; looks_at = tt; rise = refl; within = omega arith }
 
 second_may : MayFollow small settled (made 1 (Part 0 1) 6 0 0)
-unfolding cost_of partition_cost
+unfolding cost_of cost_of_charges partition_cost
 second_may = record { numbered = refl; asked_by = omega arith; looks_at = omega arith; rise = refl; within = omega arith }
 
 number_again : MayFollow small settled (made 0 Whole 1 1 0) → ⊥
@@ -173,11 +149,11 @@ no_such_part : MayFollow small [] (made 0 (Part 0 2) 1 1 0) → ⊥
 no_such_part may = omega (arith, may.looks_at)
 
 wrong_rise : MayFollow small settled (made 1 (Part 0 1) 6 6 0) → ⊥
-unfolding cost_of partition_cost
+unfolding cost_of cost_of_charges partition_cost
 wrong_rise may = let rise : 6 ≡ 12 = may.rise in omega (arith, rise)
 
 over_budget : MayFollow small [] (made 0 Whole 11 11 0) → ⊥
-unfolding cost_of partition_cost
+unfolding cost_of cost_of_charges partition_cost
 over_budget may = let within : 11 ≤ 10 = may.within in omega (arith, within)
 
 -- An open reservation may be settled; one that isn't there, or is settled, may not.
@@ -190,23 +166,17 @@ settles_unknown may = let no : false ≡ true = may.reserved in cc
 settles_settled : MayFollow small settled (Settle 0 Lost) → ⊥
 settles_settled may = let no : Some Exhausted ≡ None = may.unsettled in cc
 
--- The numbers of a record are within their ranges.
-no_epsilon_reserved : IsValid (made 0 Whole 0 0 0) → ⊥
-no_epsilon_reserved valid = omega (arith, valid.0.least)
+-- A reservation has an epsilon of at least a millionth.
+no_epsilon_reserved : HasTerms (made 0 Whole 0 0 0) → ⊥
+no_epsilon_reserved terms = omega (arith, terms.above)
 
 -- With room for two records one reservation and its settlement are legal; with room for one they aren't.
 fits : IsLegal (entry_of 10 2 2 (2 ∷ [])) [] left_open
-unfolding cost_of partition_cost
+unfolding cost_of cost_of_charges partition_cost
 fits = legal-append (entry_of 10 2 2 (2 ∷ [])) [] [] (made 0 (Part 0 0) 6 6 0) (legal-nil (entry_of 10 2 2 (2 ∷ [])))
     (record { numbered = refl; asked_by = omega arith; looks_at = omega arith; rise = refl; within = omega arith })
-    (record { least = omega arith; most = omega arith }, record { positive = omega arith; coprime = λ d a b p q. one d b q })
+    (ask-from (entry_of 10 2 2 (2 ∷ [])) (record { analyst = 0; view = Whole; e = 6; p = 1; q = 1; program = digest }) refl).terms
     (λ number outcome other. cc) (λ within. omega arith)
-  where
-    one : (d b : ℕ) → 1 ≡ d * b → d ≡ 1
-    one zero b is = absurd (omega (arith, is))
-    one (suc zero) b is = refl
-    one (suc (suc d)) zero is = absurd (omega (arith, is))
-    one (suc (suc d)) (suc b) is = absurd (omega (arith, is))
 
 no_room : IsLegal (entry_of 10 1 2 (2 ∷ [])) [] left_open → ⊥
 no_room legal = let room : 2 ≤ 1 = legal.room (omega arith) 1 (omega arith) (omega arith) in omega (arith, room)
@@ -220,26 +190,26 @@ found_is_settled legal = omega (arith, legal.settles 1 0 Exhausted (omega arith)
 
 -- An ask is of the entry by its analyst, view, epsilon and sensitivity.
 abbrev ask_of : ℕ → View → ℕ → Ask
-ask_of analyst view e = record { analyst = analyst; view = view; e = e; p = 3; q = 2 }
+ask_of analyst view e = record { analyst = analyst; view = view; e = e; p = 3; q = 2; program = digest }
 
 an_ask : IsAskOf small (ask_of 1 (Part 0 1) 1)
-an_ask = record { analyst = omega arith; view = omega arith; epsilon = least_epsilon; lowest = three_halves }
+an_ask = ask-from small (ask_of 1 (Part 0 1) 1) refl
 
 ask_of_a_third : IsAskOf small (ask_of 2 Whole 1) → ⊥
 ask_of_a_third ask = omega (arith, ask.analyst)
 
 -- A reservation of this run is unsettled until it is settled; an unknown number and one of an earlier run aren't.
-abbrev ledger_of : List Record → List Record → Ledger
-ledger_of found records = record { entry = small; found = found; records = records }
+abbrev ledger_in : List Record → List Record → Ledger
+ledger_in found records = record { entry = small; found = found; records = records }
 
-is_unsettled : IsUnsettled (ledger_of [] left_open) 0
+is_unsettled : IsUnsettled (ledger_in [] left_open) 0
 is_unsettled = record { ours = omega arith; reserved = refl; unsettled = refl }
 
-not_when_settled : IsUnsettled (ledger_of [] settled) 0 → ⊥
+not_when_settled : IsUnsettled (ledger_in [] settled) 0 → ⊥
 not_when_settled is = let no : Some Exhausted ≡ None = is.unsettled in cc
 
-not_when_unknown : IsUnsettled (ledger_of [] left_open) 1 → ⊥
+not_when_unknown : IsUnsettled (ledger_in [] left_open) 1 → ⊥
 not_when_unknown is = let no : false ≡ true = is.reserved in cc
 
-not_when_found : IsUnsettled (ledger_of left_open left_open) 0 → ⊥
+not_when_found : IsUnsettled (ledger_in left_open left_open) 0 → ⊥
 not_when_found is = omega (arith, is.ours)

@@ -6,17 +6,17 @@ use Rattle.std.specs.Option.{option_or}
 use Rattle.std.proofs.lemmas.List.Elements.{filter-append}
 use Rattle.std.proofs.Math.Seq.{take-length}
 use mathlib.Core.Logic.{inl, inr}
-use Rattle.budget_core.specs.declared.records.Outcome.{Outcome}
-use Rattle.budget_core.specs.declared.records.Reservation.{Reservation}
-use Rattle.budget_core.specs.declared.records.Record.{Record}
-use Rattle.budget_core.specs.declared.records.Record.TheVariants.{Reserve, Settle}
+use Rattle.journal_records.specs.declared.records.Outcome.{Outcome}
+use Rattle.journal_records.specs.declared.records.Reservation.{Reservation}
+use Rattle.journal_records.specs.declared.records.Record.{Record}
+use Rattle.journal_records.specs.declared.records.Record.TheVariants.{Reserve, Settle}
 use Rattle.budget_core.specs.declared.entry.Ask.{Ask}
 use Rattle.budget_core.specs.declared.entry.Grant.{Grant}
 use Rattle.budget_core.specs.declared.entry.ReserveFault.TheVariants.{OverBudget, Full}
 use Rattle.budget_core.specs.Cost.{cost_of}
 use Rattle.budget_core.specs.Counts.{is_reservation, reservations_of, open_from}
 use Rattle.budget_core.specs.Entries.{Entry}
-use Rattle.budget_core.specs.Legal.{MayFollow, IsValid, IsHistory, IsLegal}
+use Rattle.budget_core.specs.Legal.{MayFollow, HasTerms, IsReservationAfter, IsHistory, IsLegal}
 use Rattle.budget_core.specs.Ledger.{Ledger, start_of, next_number, reservation_numbered, reservation_for, cost_with, rise_of, money_verdict, IsAskOf, IsUnsettled}
 use Rattle.budget_core.proofs.Costs.{cost_of-append-Settle, cost_of-append-taken, cost_of-le-append}
 use Rattle.budget_core.proofs.Histories.{push_cases, follows-push, prefix_split, legal-induction}
@@ -35,17 +35,17 @@ found_within : (found records : List Record) → take (length found) records ≡
 found_within found records begins = omega (arith, ap length begins, length-take (length found) records)
 
 -- nor has it more reservations
-reservations_within : (found records : List Record) → take (length found) records ≡ found → length (reservations_of found) ≤ length (reservations_of records)
+pub reservations_within : (found records : List Record) → take (length found) records ≡ found → length (reservations_of found) ≤ length (reservations_of records)
 reservations_within found records begins =
     let rest : List Record = drop (length found) records in
     omega (arith, ap (λ (xs : List Record). length (reservations_of xs)) (prefix_split found records begins), ap length (filter-append is_reservation found rest), length-append (reservations_of found) (reservations_of rest))
 
--- One record more is legal where it may follow, is valid, settles nothing that was found, and leaves room.
-pub legal-append : (entry : Entry) (found records : List Record) (next : Record) → IsLegal entry found records → MayFollow entry records next → IsValid next
+-- One record more is legal where it may follow, has terms, settles nothing that was found, and leaves room.
+pub legal-append : (entry : Entry) (found records : List Record) (next : Record) → IsLegal entry found records → MayFollow entry records next → HasTerms next
     → ((number : ℕ) (outcome : Outcome) → next ≡ Settle number outcome → length (reservations_of found) ≤ number)
     → (length found ≤ entry.capacity → length records + 1 + open_from (length (reservations_of found)) (records ++ next ∷ []) ≤ entry.capacity)
     → IsLegal entry found (records ++ next ∷ [])
-legal-append entry found records next l may valid ours room = record {
+legal-append entry found records next l may terms ours room = record {
   begins = take-append-le (length found) records (next ∷ []) (found_within found records l.begins) ∙ l.begins;
   follows = λ k other past at. follows-push entry records next k other may (l.follows k other past) at;
   settles = λ k number outcome past at. elim (push_cases records next k (Settle number outcome) at) [ inl before ↦ l.settles k number outcome past before.1 | inr seam ↦ ours number outcome seam.1 ];
@@ -58,7 +58,7 @@ legal-append entry found records next l may valid ours room = record {
         let same : take k (records ++ next ∷ []) ≡ take k records = take-append-le k records (next ∷ []) within in
         subst (λ (all : List Record). k + open_from (length (reservations_of found)) all ≤ entry.capacity) (sym same) (l.room fits k more within)
   ];
-  valid = λ k other past at. elim (push_cases records next k other at) [ inl before ↦ l.valid k other past before.1 | inr seam ↦ subst IsValid seam.1 valid ];
+  terms = λ k other past at. elim (push_cases records next k other at) [ inl before ↦ l.terms k other past before.1 | inr seam ↦ subst HasTerms seam.1 terms ];
 }
 
 -- which way two tests went
@@ -80,20 +80,34 @@ granted ledger ask grant is =
     let parts = chosen (nat_lt ledger.entry.budget (cost_with records ask)) (nat_lt ledger.entry.capacity (length records + used + 2)) (OverBudget (cost_of records) (cost_with records ask) ledger.entry.budget (length records)) (Full (length records) used ledger.entry.capacity) (record { number = next_number records; taken = rise_of records ask; seen = length records + 1 }) grant is in
     record { within = ltb-false ledger.entry.budget (cost_with records ask) parts.0; fits = ltb-false ledger.entry.capacity (length records + used + 2) parts.1; is = parts.2 }
 
+-- what a granted reservation costs
+pub cost-granted : (ledger : Ledger) (ask : Ask) (taken : ℕ) → cost_of (ledger.records ++ reservation_for ledger.records ask taken ∷ []) ≡ cost_with ledger.records ask
+cost-granted ledger ask taken = cost_of-append-taken ledger.records (reservation_numbered (next_number ledger.records) ask taken) 0
+
+-- A granted reservation may follow.
+pub may-grant : (ledger : Ledger) (ask : Ask) (grant : Grant) → IsAskOf ledger.entry ask → money_verdict ledger.entry (start_of ledger) ledger.records ask ≡ Ok grant
+    → IsReservationAfter ledger.entry ledger.records (reservation_numbered (next_number ledger.records) ask grant.taken)
+may-grant ledger ask grant asked is =
+    let g : IsGranted ledger ask grant = granted ledger ask grant is in
+    let cost = cost-granted ledger ask grant.taken in
+    let grows : cost_of ledger.records ≤ cost_with ledger.records ask = cost_of-le-append ledger.records (reservation_for ledger.records ask 0) in
+    let taken : grant.taken ≡ rise_of ledger.records ask = ap (λ (x : Grant). x.taken) g.is in
+    record { numbered = refl; asked_by = asked.analyst; looks_at = asked.view; rise = omega arith; within = omega (arith, g.within) }
+
+-- one reservation more is open
+pub open-granted : (ledger : Ledger) (ask : Ask) (taken : ℕ) → IsHistory ledger.entry ledger.records → IsLegal ledger.entry ledger.found ledger.records
+    → open_from (start_of ledger) (ledger.records ++ reservation_for ledger.records ask taken ∷ []) ≡ open_from (start_of ledger) ledger.records + 1
+open-granted ledger ask taken h l =
+    open_from-append-Reserve (start_of ledger) ledger.records (reservation_numbered (next_number ledger.records) ask taken) (reservations_within ledger.found ledger.records l.begins)
+    (outcome_past ledger.entry ledger.records h (next_number ledger.records) (omega arith))
+
 -- A granted reservation is legal.
 pub legal-Reserve : (ledger : Ledger) (ask : Ask) (grant : Grant) → IsHistory ledger.entry ledger.records → IsLegal ledger.entry ledger.found ledger.records → IsAskOf ledger.entry ask
     → money_verdict ledger.entry (start_of ledger) ledger.records ask ≡ Ok grant → IsLegal ledger.entry ledger.found (ledger.records ++ reservation_for ledger.records ask grant.taken ∷ [])
 legal-Reserve ledger ask grant h l asked is =
     let g : IsGranted ledger ask grant = granted ledger ask grant is in
-    let records : List Record = ledger.records in
-    let next : Record = reservation_for records ask grant.taken in
-    let cost : cost_of (records ++ next ∷ []) ≡ cost_with records ask = cost_of-append-taken records (reservation_numbered (next_number records) ask grant.taken) 0 in
-    let grows : cost_of records ≤ cost_with records ask = cost_of-le-append records (reservation_for records ask 0) in
-    let taken : grant.taken ≡ rise_of records ask = ap (λ (x : Grant). x.taken) g.is in
-    let may : MayFollow ledger.entry records next = record { numbered = refl; asked_by = asked.analyst; looks_at = asked.view; rise = omega arith; within = omega (arith, g.within) } in
-    let new : open_from (start_of ledger) (records ++ next ∷ []) ≡ open_from (start_of ledger) records + 1
-    = open_from-append-Reserve (start_of ledger) records (reservation_numbered (next_number records) ask grant.taken) (reservations_within ledger.found records l.begins) (outcome_past ledger.entry records h (next_number records) (omega arith)) in
-    legal-append ledger.entry ledger.found records next l may (asked.epsilon, asked.lowest) (λ number outcome other. cc) (λ fits. omega (arith, new, g.fits))
+    legal-append ledger.entry ledger.found ledger.records (reservation_for ledger.records ask grant.taken) l (may-grant ledger ask grant asked is) asked.terms
+    (λ number outcome other. cc) (λ fits. omega (arith, open-granted ledger ask grant.taken h l, g.fits))
 
 -- The reservation that a history makes next is of this run and unsettled.
 pub unsettled-Reserve : (ledger : Ledger) (reservation : Reservation) → IsHistory ledger.entry ledger.records → reservation.number ≡ next_number ledger.records
@@ -159,5 +173,5 @@ legal-nil entry = record {
   follows = λ k next past at. cc;
   settles = λ k number outcome past at. cc;
   room = λ fits k more upto. absurd (omega arith);
-  valid = λ k next past at. cc;
+  terms = λ k next past at. cc;
 }

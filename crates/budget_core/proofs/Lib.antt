@@ -1,8 +1,16 @@
 pub mod Costs
+pub mod Charging
 pub mod Histories
 pub mod Numbers
+pub mod Standings
 pub mod BareLemmas
 pub mod LegalLemmas
 pub mod KeptLemmas
+pub mod SoundLemmas
+pub mod RunLemmas
+pub mod Asks
+pub mod EventLemmas
 mod Examples
 mod LegalExamples
+mod EventExamples
+mod AnswerExamples

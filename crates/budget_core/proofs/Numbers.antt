@@ -1,17 +1,17 @@
 -- reservations, settlements and what is open, one record more at a time
-use Rattle.std.proofs.Common.{◌≡◌, ℕ, zero, suc, ◌+◌, ◌≤◌, ◌<◌, Bool, true, false, cond, ◌&&◌, ◌||◌, ◌==◌, nat_le, nat_lt, List, [], ◌∷◌, ◌++◌, length, map, sum_by, count_by, Option, Some, None, IsSome, is_some, is_none, refl, sym, ◌∙◌, ap, arith, add-zero, length-append, append-nil, zero-add}
+use Rattle.std.proofs.Common.{◌≡◌, ℕ, zero, suc, ◌+◌, ◌≤◌, ◌<◌, Bool, true, false, cond, ◌&&◌, ◌||◌, ◌==◌, nat_le, nat_lt, List, [], ◌∷◌, ◌++◌, length, map, sum_by, count_by, Option, Some, None, IsSome, is_some, is_none, refl, sym, ◌∙◌, ap, subst, arith, add-zero, length-append, append-nil, zero-add}
 use Rattle.std.specs.Option.{option_or}
 use Rattle.std.specs.List.{range_with_len}
-use Rattle.std.proofs.lemmas.Bool.{eqb-true, eq-eqb, ne_eqb, ltb-true, le-leb, cond-true, cond-false, and_from, le-ltb, lt-ltb}
+use Rattle.std.proofs.lemmas.Bool.{lt-leb, eqb-true, eq-eqb, ne_eqb, ltb-true, le-leb, cond-true, cond-false, and_from, le-ltb, lt-ltb}
 use Rattle.std.proofs.lemmas.Bool.Decides.{nat_tests}
 use Rattle.std.proofs.lemmas.List.Elements.{filter-append}
 use Rattle.std.proofs.lemmas.List.Folds.{find-append}
 use Rattle.std.proofs.lemmas.List.Sums.{sum_by_push, sum_by-cons}
 use Rattle.std.proofs.lemmas.List.{map-append}
-use Rattle.budget_core.specs.declared.records.Outcome.{Outcome}
-use Rattle.budget_core.specs.declared.records.Reservation.{Reservation}
-use Rattle.budget_core.specs.declared.records.Record.{Record}
-use Rattle.budget_core.specs.declared.records.Record.TheVariants.{Reserve, Settle}
+use Rattle.journal_records.specs.declared.records.Outcome.{Outcome}
+use Rattle.journal_records.specs.declared.records.Reservation.{Reservation}
+use Rattle.journal_records.specs.declared.records.Record.{Record}
+use Rattle.journal_records.specs.declared.records.Record.TheVariants.{Reserve, Settle}
 use Rattle.budget_core.specs.Counts.{is_reservation, reservations_of, reserves, reservation_of, outcome_of, settles, number_of, is_open_in, open_from}
 use Rattle.budget_core.specs.Entries.{Entry}
 use Rattle.budget_core.specs.Legal.{MayFollow, IsHistory}
@@ -65,7 +65,7 @@ is_some-option_or None true x = refl
 is_some-option_or None false x = refl
 is_some-option_or (Some y) b x = refl
 
-option_or-None : {X : Type 0} → (a : Option X) → option_or a None ≡ a
+pub option_or-None : {X : Type 0} → (a : Option X) → option_or a None ≡ a
 option_or-None None = refl
 option_or-None (Some x) = refl
 
@@ -165,6 +165,48 @@ open_from-append-Reserve start records reservation ours fresh =
     same : (r : Record) → one_if (is_open_in (records ++ Reserve reservation ∷ []) start r) ≡ one_if (is_open_in records start r)
     same (Reserve other) = ap (λ o. one_if (nat_le start other.number && is_none o)) (outcome_of-append-Reserve records reservation other.number)
     same (Settle m other) = refl
+
+-- A reservation numbered below start isn't counted.
+pub open_from-early : (start : ℕ) (records : List Record) (reservation : Reservation) → reservation.number < start
+    → open_from start (records ++ Reserve reservation ∷ []) ≡ open_from start records
+open_from-early start records reservation early =
+    let number : ℕ = reservation.number in
+    let next : Record = Reserve reservation in
+    let all : List Record = records ++ next ∷ [] in
+    let closed : is_open_in all start next ≡ false = ap (λ b. b && is_none (outcome_of all number)) (lt-leb start number early) in
+    sum_by_push (λ r. one_if (is_open_in all start r)) records next ∙ ap (λ b. count_by (is_open_in all start) records + one_if b) closed
+    ∙ add-zero (count_by (is_open_in all start) records) ∙ sum_by-same (λ r. one_if (is_open_in all start r)) (λ r. one_if (is_open_in records start r)) same records
+  where
+    same : (r : Record) → one_if (is_open_in (records ++ Reserve reservation ∷ []) start r) ≡ one_if (is_open_in records start r)
+    same (Reserve other) = ap (λ o. one_if (nat_le start other.number && is_none o)) (outcome_of-append-Reserve records reservation other.number)
+    same (Settle m other) = refl
+
+sum_by-le : {X : Type 0} → (f g : X → ℕ) → ((x : X) → f x ≤ g x) → (xs : List X) → sum_by f xs ≤ sum_by g xs
+sum_by-le f g below [] = omega arith
+sum_by-le f g below (x ∷ xs) = omega (arith, sum_by-le f g below xs, below x, sum_by-cons f x xs, sum_by-cons g x xs)
+
+-- A settlement opens none.
+pub open_from-le-Settle : (start : ℕ) (records : List Record) (number : ℕ) (outcome : Outcome) → open_from start (records ++ Settle number outcome ∷ []) ≤ open_from start records
+open_from-le-Settle start records number outcome =
+    let next : Record = Settle number outcome in
+    let all : List Record = records ++ next ∷ [] in
+    omega (arith, sum_by_push (λ r. one_if (is_open_in all start r)) records next, sum_by-le (λ r. one_if (is_open_in all start r)) (λ r. one_if (is_open_in records start r)) fewer records)
+  where
+    still : (mine : Bool) (old : Option Outcome) (more : Option Outcome) → one_if (mine && is_none (option_or old more)) ≤ one_if (mine && is_none old)
+    still true None more = at_most (is_none more)
+      where
+        at_most : (b : Bool) → one_if b ≤ 1
+        at_most true = omega arith
+        at_most false = omega arith
+    still true (Some x) more = omega arith
+    still false old more = omega arith
+
+    fewer : (r : Record) → one_if (is_open_in (records ++ Settle number outcome ∷ []) start r) ≤ one_if (is_open_in records start r)
+    fewer (Reserve reservation) =
+        subst (λ (o : Option Outcome). one_if (nat_le start reservation.number && is_none o) ≤ one_if (nat_le start reservation.number && is_none (outcome_of records reservation.number)))
+        (sym (outcome_of-append-Settle records number outcome reservation.number))
+        (still (nat_le start reservation.number) (outcome_of records reservation.number) (cond (reservation.number == number) (Some outcome) None))
+    fewer (Settle m other) = omega arith
 
 eqb_turned : (n m : ℕ) → (n == m) ≡ (m == n)
 eqb_turned n m = grind (arith, nat_tests)

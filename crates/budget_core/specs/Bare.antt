@@ -1,9 +1,9 @@
 -- records without their answers
 use Rattle.std.specs.Prelude.{pos, List, map}
-use Rattle.budget_core.specs.declared.records.Outcome.{Outcome}
-use Rattle.budget_core.specs.declared.records.Outcome.TheVariants.{Answered, Exhausted, Lost}
-use Rattle.budget_core.specs.declared.records.Record.{Record}
-use Rattle.budget_core.specs.declared.records.Record.TheVariants.{Reserve, Settle}
+use Rattle.journal_records.specs.declared.records.Outcome.{Outcome}
+use Rattle.journal_records.specs.declared.records.Outcome.TheVariants.{Answered, Exhausted, Lost}
+use Rattle.journal_records.specs.declared.records.Record.{Record}
+use Rattle.journal_records.specs.declared.records.Record.TheVariants.{Reserve, Settle}
 
 abbrev pub bare_outcome : Outcome → Outcome
 bare_outcome (Answered answer) = Answered (pos 0)

@@ -1,8 +1,8 @@
 -- what is counted and found in records
-use Rattle.std.specs.Prelude.{ℕ, Bool, true, false, ◌==◌, ◌&&◌, nat_le, List, [], ◌∷◌, filter, find, count_by, Option, Some, None, is_none, cond}
-use Rattle.budget_core.specs.declared.records.Record.{Record}
-use Rattle.budget_core.specs.declared.records.Record.TheVariants.{Reserve, Settle}
-use Rattle.budget_core.specs.declared.records.Outcome.{Outcome}
+use Rattle.std.specs.Prelude.{ℕ, Bool, true, false, ◌==◌, ◌&&◌, nat_le, List, [], ◌∷◌, filter, find, count_by, Option, Some, None, is_none, option_map, cond}
+use Rattle.journal_records.specs.declared.records.Record.{Record}
+use Rattle.journal_records.specs.declared.records.Record.TheVariants.{Reserve, Settle}
+use Rattle.journal_records.specs.declared.records.Outcome.{Outcome}
 
 abbrev pub is_reservation : Record → Bool
 is_reservation (Reserve reservation) = true
@@ -36,6 +36,15 @@ settles n (Settle number outcome) = n == number
 abbrev pub number_of : Record → ℕ
 number_of (Reserve reservation) = reservation.number
 number_of (Settle number outcome) = number
+
+-- the analyst who asked for what a record reserves
+abbrev pub analyst_of : Record → ℕ
+analyst_of (Reserve reservation) = reservation.analyst
+analyst_of (Settle number outcome) = 0
+
+-- who reserved this number, if anyone did
+abbrev pub asker_of : List Record → ℕ → Option ℕ
+asker_of records n = option_map analyst_of (reservation_of records n)
 
 -- by how much a record says that the cost rose
 abbrev pub taken_of : Record → ℕ

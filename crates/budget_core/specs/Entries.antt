@@ -1,7 +1,7 @@
 -- what the catalog says of an owner's budget
-use Rattle.std.specs.Prelude.{◌≡◌, ℕ, ◌*◌, ◌^◌, ◌≤◌, ◌<◌, List, length, All, slice_get, IsSomeAnd}
-use Rattle.budget_core.specs.declared.records.View.{View}
-use Rattle.budget_core.specs.declared.records.View.TheVariants.{Whole, Part}
+use Rattle.std.specs.Prelude.{ℕ, ◌^◌, ◌≤◌, ◌<◌, List, length, All, slice_get, IsSomeAnd, ⊤}
+use Rattle.partition_charge.specs.declared.view.View.{View}
+use Rattle.partition_charge.specs.declared.view.View.TheVariants.{Whole, Part}
 
 -- an owner's budget in millionths of epsilon, the greatest number of records, how many analysts may ask,
 -- and how many keys each partition has
@@ -24,13 +24,8 @@ pub record IsEntry (entry : Entry) : Type 0 where
 
 -- the entry has this view: the whole, or a part of one of its partitions
 abbrev pub HasView : Entry → View → Type 0
-HasView entry Whole = Unit {0}
+HasView entry Whole = ⊤
 HasView entry (Part partition part) = IsSomeAnd (slice_get entry.keys partition) (λ keys. part < keys)
-
--- p/q has no smaller form; zero is 0/1
-pub record IsLowest (p q : ℕ) : Type 0 where
-  pub positive : 1 ≤ q
-  pub coprime : (d a b : ℕ) → p ≡ d * a → q ≡ d * b → d ≡ 1
 
 -- epsilon in millionths
 pub record IsEpsilon (e : ℕ) : Type 0 where

@@ -1,14 +1,17 @@
 -- the laws of legal records
-use Rattle.std.specs.Prelude.{◌≡◌, ℕ, ◌+◌, ◌≤◌, List, [], length, map, count_by, sum_by}
+use Rattle.std.specs.Prelude.{◌≡◌, ℕ, ◌+◌, ◌≤◌, List, [], length, map, count_by, sum_by, IsTrue, ◌↔◌}
 use Rattle.std.specs.List.{range_with_len}
-use Rattle.budget_core.specs.declared.records.Record.{Record}
+use Rattle.journal_records.specs.declared.records.Record.{Record}
 use Rattle.budget_core.specs.declared.entry.Ask.{Ask}
 use Rattle.budget_core.specs.Bare.{without_answers}
 use Rattle.budget_core.specs.Cost.{cost_of}
 use Rattle.budget_core.specs.Counts.{reservations_of, settles, number_of, taken_of, open_from}
-use Rattle.budget_core.specs.Entries.{Entry}
+use Rattle.budget_core.specs.Entries.{Entry, IsEntry}
+use Rattle.budget_core.specs.declared.events.Event.{Event}
+use Rattle.budget_core.specs.Events.{is_ask_of, ran}
+use Rattle.budget_core.specs.Safe.{IsSafe}
 use Rattle.budget_core.specs.Legal.{IsHistory, IsLegal}
-use Rattle.budget_core.specs.Ledger.{money_verdict}
+use Rattle.budget_core.specs.Ledger.{money_verdict, IsAskOf}
 
 -- Legal records cost at most the budget, where the found ones do.
 abbrev pub StaysWithinBudget : Type 0
@@ -43,3 +46,11 @@ KeepsRoom = (entry : Entry) (records : List Record) → IsLegal entry [] records
 abbrev pub IgnoresAnswers : Type 0
 IgnoresAnswers = (entry : Entry) (start : ℕ) (records : List Record) (ask : Ask)
     → money_verdict entry start (without_answers records) ask ≡ money_verdict entry start records ask
+
+-- The test of an ask says exactly whether it is of the entry.
+abbrev pub AsksAreTested : Type 0
+AsksAreTested = (entry : Entry) (ask : Ask) → IsTrue (is_ask_of entry ask) ↔ IsAskOf entry ask
+
+-- After every list of events the world is safe.
+abbrev pub EventsAreSafe : Type 0
+EventsAreSafe = (entry : Entry) (events : List Event) → IsEntry entry → IsSafe entry (ran entry events)

@@ -1,15 +1,16 @@
 -- what a book of records answers
 use Rattle.std.specs.Prelude.{◌≡◌, ℕ, ◌+◌, ◌-◌, ◌<◌, ◌≤◌, nat_lt, List, [], ◌∷◌, ◌++◌, length, Result, Ok, Err, if◌then◌else◌, None, IsSome}
-use Rattle.budget_core.specs.declared.records.Reservation.{Reservation}
-use Rattle.budget_core.specs.declared.records.Record.{Record}
-use Rattle.budget_core.specs.declared.records.Record.TheVariants.{Reserve}
+use Rattle.journal_records.specs.declared.records.Reservation.{Reservation}
+use Rattle.journal_records.specs.declared.records.Record.{Record}
+use Rattle.journal_records.specs.declared.records.Record.TheVariants.{Reserve}
 use Rattle.budget_core.specs.declared.entry.Ask.{Ask}
 use Rattle.budget_core.specs.declared.entry.Grant.{Grant}
 use Rattle.budget_core.specs.declared.entry.ReserveFault.{ReserveFault}
 use Rattle.budget_core.specs.declared.entry.ReserveFault.TheVariants.{OverBudget, Full}
 use Rattle.budget_core.specs.Cost.{cost_of}
 use Rattle.budget_core.specs.Counts.{reservations_of, reservation_of, outcome_of, open_from}
-use Rattle.budget_core.specs.Entries.{Entry, HasView, IsLowest, IsEpsilon}
+use Rattle.budget_core.specs.Entries.{Entry, HasView}
+use Rattle.journal_records.specs.Encoding.{IsByteList, AreTerms}
 
 -- an owner's entry, the records found when the book was opened, and all records
 pub record Ledger : Type 0 where
@@ -28,7 +29,7 @@ next_number records = length (reservations_of records)
 -- the reservation of an ask under a number, by how much it raises the cost aside
 abbrev pub reservation_numbered : ℕ → Ask → ℕ → Reservation
 reservation_numbered number ask taken
-    = record { number = number; view = ask.view; e = ask.e; p = ask.p; q = ask.q; taken = taken; analyst = ask.analyst }
+    = record { number = number; view = ask.view; e = ask.e; p = ask.p; q = ask.q; taken = taken; analyst = ask.analyst; program = ask.program }
 
 -- the record that an ask would make, by how much it raises the cost aside
 abbrev pub reservation_for : List Record → Ask → ℕ → Record
@@ -56,8 +57,8 @@ money_verdict entry start records ask =
 pub record IsAskOf (entry : Entry) (ask : Ask) : Type 0 where
   pub analyst : ask.analyst < entry.analysts
   pub view : HasView entry ask.view
-  pub epsilon : IsEpsilon ask.e
-  pub lowest : IsLowest ask.p ask.q
+  pub terms : AreTerms ask.e ask.p ask.q
+  pub digest : IsByteList 32 ask.program
 
 -- the records after an ask was answered
 abbrev pub records_after : List Record → Ask → Result Grant ReserveFault → List Record

@@ -1,12 +1,13 @@
 -- which records may follow which
-use Rattle.std.specs.Prelude.{◌≡◌, ℕ, ◌+◌, ◌≤◌, ◌<◌, List, [], ◌∷◌, ◌++◌, length, take, slice_get, Some, None, IsSome}
-use Rattle.budget_core.specs.declared.records.Outcome.{Outcome}
-use Rattle.budget_core.specs.declared.records.Reservation.{Reservation}
-use Rattle.budget_core.specs.declared.records.Record.{Record}
-use Rattle.budget_core.specs.declared.records.Record.TheVariants.{Reserve, Settle}
+use Rattle.std.specs.Prelude.{◌≡◌, ℕ, ◌+◌, ◌≤◌, ◌<◌, List, [], ◌∷◌, ◌++◌, length, take, slice_get, Some, None, IsSome, ⊤}
+use Rattle.journal_records.specs.declared.records.Outcome.{Outcome}
+use Rattle.journal_records.specs.declared.records.Reservation.{Reservation}
+use Rattle.journal_records.specs.declared.records.Record.{Record}
+use Rattle.journal_records.specs.declared.records.Record.TheVariants.{Reserve, Settle}
 use Rattle.budget_core.specs.Cost.{cost_of}
 use Rattle.budget_core.specs.Counts.{reservations_of, reservation_of, outcome_of, open_from}
-use Rattle.budget_core.specs.Entries.{Entry, HasView, IsLowest, IsEpsilon}
+use Rattle.budget_core.specs.Entries.{Entry, HasView}
+use Rattle.journal_records.specs.Encoding.{AreTerms}
 
 -- A reservation is numbered by those before it, names an analyst and a view of the entry, says by how much
 -- the cost rose, and keeps to the budget.
@@ -31,10 +32,10 @@ MayFollow entry records (Settle number outcome) = IsSettlementAfter records numb
 pub record IsHistory (entry : Entry) (records : List Record) : Type 0 where
   pub follows : (k : ℕ) (next : Record) → slice_get records k ≡ Some next → MayFollow entry (take k records) next
 
--- the numbers in a record are within their ranges
-abbrev pub IsValid : Record → Type 0
-IsValid (Reserve reservation) = IsEpsilon reservation.e × IsLowest reservation.p reservation.q
-IsValid (Settle number outcome) = Unit {0}
+-- a reservation's numbers are an epsilon in millionths and a sensitivity in lowest terms
+abbrev pub HasTerms : Record → Type 0
+HasTerms (Reserve reservation) = AreTerms reservation.e reservation.p reservation.q
+HasTerms (Settle number outcome) = ⊤
 
 -- Records are legal after those found at the start: they begin with the found ones; each later record may follow
 -- those before it; a later settlement is of a reservation that wasn't found; and there is always room to settle
@@ -46,4 +47,4 @@ pub record IsLegal (entry : Entry) (found records : List Record) : Type 0 where
       → length (reservations_of found) ≤ number
   pub room : length found ≤ entry.capacity → (k : ℕ) → length found < k → k ≤ length records
       → k + open_from (length (reservations_of found)) (take k records) ≤ entry.capacity
-  pub valid : (k : ℕ) (next : Record) → length found ≤ k → slice_get records k ≡ Some next → IsValid next
+  pub terms : (k : ℕ) (next : Record) → length found ≤ k → slice_get records k ≡ Some next → HasTerms next

@@ -1,9 +1,15 @@
-pub mod Views
 pub mod Cost
 pub mod Entries
 pub mod Counts
 pub mod Legal
 pub mod Ledger
+pub mod Answers
+pub mod Sound
+pub mod Past
 pub mod Kept
+pub mod Run
+pub mod Events
+pub mod Safe
+pub mod Machine
 pub mod Bare
 pub mod Laws

@@ -1,29 +1,33 @@
 //! What the catalog says of an owner's budget, and what is asked of it.
 
-ghost use Rattle.std.specs.Prelude.{◌≡◌, []};
-ghost use Rattle.budget_core.specs.Entries.{IsEntry};
+ghost use Rattle.std.specs.Prelude.{◌≡◌, ◌↔◌, IsTrue};
+ghost use Rattle.journal_records.specs.Encoding.{IsByteList};
+ghost use Rattle.budget_core.specs.Entries.{IsEntry, HasView};
+ghost use Rattle.budget_core.specs.Ledger.{IsAskOf};
 
-use crate::records::View;
+use journal_records::decoding::are_terms;
+use partition_charge::view::View;
 use std::marker::Model;
 
 /// An owner's entry: the budget in millionths of epsilon (1 to 10^18), the greatest number of
-/// records (2 to 262,144), and how many analysts may ask (1 to 64).
+/// records (2 to 262,144), how many analysts may ask (1 to 64), and how many keys each of its
+/// partitions has (up to 8 partitions, 1 to 250 keys).
 #[derive(Drop)]
 pub struct Entry {
     budget: u64,
     capacity: u32,
     analysts: u16,
+    keys: Vec<u16>,
 }
 
 impl Model for Entry {
-    ghost use Rattle.std.specs.Prelude.{ℕ, []};
     ghost use Rattle.budget_core.specs.Entries.{Entry as Terms, IsEntry};
 
     ghost Value = { Terms };
 
-    ghost view = { λ a. record { budget = a.budget; capacity = a.capacity; analysts = a.analysts; keys = [] } };
+    ghost view = { λ a. record { budget = a.budget; capacity = a.capacity; analysts = a.analysts; keys = a.keys.items } };
 
-    ghost invariant = { λ a. IsEntry (record { budget = a.budget; capacity = a.capacity; analysts = a.analysts; keys = [] }) };
+    ghost invariant = { λ a. IsEntry (record { budget = a.budget; capacity = a.capacity; analysts = a.analysts; keys = a.keys.items }) };
 }
 
 /// What a query asks of the budget.
@@ -37,6 +41,8 @@ pub struct Ask {
     /// The query's sensitivity is p/q in lowest terms.
     pub p: u32,
     pub q: u32,
+    /// The SHA-256 of the program's bytes.
+    pub program: [u8; 32],
 }
 
 /// A reservation that was made.
@@ -68,16 +74,24 @@ pub enum ReserveFault {
     },
 }
 
+// Thirty-two bytes are a digest.
+fn are_bytes(digest: [u8; 32])
+    ensures { IsByteList 32 digest }
+{
+    let _digest = digest;
+}
+
 impl Entry {
-    /// An entry without partitions.
-    pub fn new(budget: u64, capacity: u32, analysts: u16) -> Entry
-        requires { IsEntry (record { budget = budget; capacity = capacity; analysts = analysts; keys = [] }) }
-        ensures { result ≡ record { budget = budget; capacity = capacity; analysts = analysts; keys = [] } }
+    /// An owner's entry.
+    pub fn new(budget: u64, capacity: u32, analysts: u16, keys: Vec<u16>) -> Entry
+        requires { IsEntry (record { budget = budget; capacity = capacity; analysts = analysts; keys = keys.items }) }
+        ensures { result ≡ record { budget = budget; capacity = capacity; analysts = analysts; keys = keys.items } }
     {
         Entry {
             budget,
             capacity,
             analysts,
+            keys,
         }
     }
 
@@ -88,11 +102,10 @@ impl Entry {
         self.budget
     }
 
-    /// The greatest number of records, of an entry within its limits and without partitions.
+    /// The greatest number of records. An entry is within its limits.
     pub fn capacity(&self) -> u32
         ensures capacity { result ≡ self.now.capacity }
         ensures valid { IsEntry self.now }
-        ensures unparted { self.now.keys ≡ [] }
     {
         self.capacity
     }
@@ -102,5 +115,36 @@ impl Entry {
         ensures { result ≡ self.now.analysts }
     {
         self.analysts
+    }
+
+    /// How many keys each partition has.
+    pub fn keys(&self) -> &[u16]
+        ensures { result.now ≡ self.now.keys }
+    {
+        &self.keys
+    }
+
+    /// Whether the entry has this view.
+    pub fn has_view(&self, view: View) -> bool
+        ensures { IsTrue result ↔ HasView self.now view }
+    {
+        match view {
+            View::Whole => true,
+            View::Part { partition, part } => match self.keys.get(partition as usize) {
+                Some(keys) => u16::from(part) < *keys,
+                None => false,
+            },
+        }
+    }
+
+    /// Whether an ask is of the entry.
+    pub fn has_ask(&self, ask: &Ask) -> bool
+        ensures { IsTrue result ↔ IsAskOf self.now ask.now }
+    {
+        are_bytes(ask.program);
+        if ask.analyst >= self.analysts || !self.has_view(ask.view) {
+            return false;
+        }
+        are_terms(ask.e, ask.p, ask.q)
     }
 }

@@ -1,6 +1,6 @@
 //! The laws of legal records. Each function does nothing: its contract is the law.
 
-ghost use Rattle.budget_core.specs.Laws.{StaysWithinBudget, StaysHistory, NumbersInOrder, SettlesOnce, AddsUp, KeepsRoom, IgnoresAnswers};
+ghost use Rattle.budget_core.specs.Laws.{StaysWithinBudget, StaysHistory, NumbersInOrder, SettlesOnce, AddsUp, KeepsRoom, IgnoresAnswers, AsksAreTested, EventsAreSafe};
 
 /// Legal records cost at most the budget, where those found at the start do.
 pub fn stays_within_budget()
@@ -35,4 +35,15 @@ pub fn keeps_room()
 /// A verdict doesn't depend on any answer.
 pub fn ignores_answers()
     ensures { IgnoresAnswers }
+{}
+
+/// The test of an ask says exactly whether it is of the entry.
+pub fn asks_are_tested()
+    ensures { AsksAreTested }
+{}
+
+/// After every list of events the cost is within the budget, reservations are numbered in order, each is settled
+/// at most once, what was sent is answered, and there is room for what is open.
+pub fn events_are_safe()
+    ensures { EventsAreSafe }
 {}

@@ -1,7 +1,11 @@
-//! The pure machine of an owner's budget: records, what they cost, which may follow, and a book of them in memory.
+//! The pure machine of an owner's budget: what records cost, which may follow, and a ledger of them in memory.
 #![tactic(auto)]
 
-pub mod book;
+pub mod answers;
 pub mod entry;
+pub mod events;
+mod history;
 pub mod laws;
-pub mod records;
+pub mod ledger;
+#[cfg(test)]
+mod tests;

@@ -6,7 +6,7 @@ use Rattle.std.proofs.lemmas.List.Elements.{All-head, All-tail}
 use Rattle.partition_charge.specs.declared.view.View.{View}
 use Rattle.partition_charge.specs.declared.view.View.TheVariants.{Whole, Part}
 use Rattle.partition_charge.specs.Views.{IsView, same_view, partition_limit, part_limit}
-use Rattle.partition_charge.specs.Cost.{Charge, charged_to, charges_of, greatest_below, total_below, partition_cost, cost_of}
+use Rattle.partition_charge.specs.Cost.{Charge, charged_to, charges_of, greatest_below, total_below, partition_cost, cost_of_charges}
 
 -- ---- sums and greatest ones
 
@@ -105,8 +105,8 @@ module _ (charges : List Charge) (amount : ℕ) where
   unfolding partition_cost
   whole-partition p = greatest-same part_limit (λ j. charges_of (Part p j) charges) (λ j. charges_of (Part p j) with_whole) (λ j lt. whole-part p j)
 
-  pub whole-cost : cost_of (charges ++ record { view = Whole; amount = amount } ∷ []) ≡ cost_of charges + amount
-  unfolding cost_of
+  pub whole-cost : cost_of_charges (charges ++ record { view = Whole; amount = amount } ∷ []) ≡ cost_of_charges charges + amount
+  unfolding cost_of_charges
   whole-cost =
       let whole : charges_of Whole with_whole ≡ charges_of Whole charges + amount = charges-append Whole charges (record { view = Whole; amount = amount }) in
       let parts : total_below partition_limit (partition_cost with_whole) ≡ total_below partition_limit (partition_cost charges)
@@ -150,9 +150,9 @@ module _ (charges : List Charge) (amount : ℕ) where
     part-whole = charges-append Whole charges charge ∙ add-zero (charges_of Whole charges)
 
     pub part-cost : p < partition_limit → j < part_limit
-        → cost_of (charges ++ record { view = Part p j; amount = amount } ∷ []) ≡ cost_of charges +
+        → cost_of_charges (charges ++ record { view = Part p j; amount = amount } ∷ []) ≡ cost_of_charges charges +
         (charges_of (Part p j) charges + amount - partition_cost charges p)
-    unfolding cost_of
+    unfolding cost_of_charges
     part-cost lt within =
         let parts : total_below partition_limit (partition_cost with_part) + partition_cost charges p ≡ total_below partition_limit
         (partition_cost charges) + partition_cost with_part p
@@ -160,15 +160,15 @@ module _ (charges : List Charge) (amount : ℕ) where
         omega (arith, parts, part-whole, part-partition within)
 
     -- a part's sum is at most the cost
-    pub part-le : p < partition_limit → j < part_limit → charges_of (Part p j) charges + amount ≤ cost_of
+    pub part-le : p < partition_limit → j < part_limit → charges_of (Part p j) charges + amount ≤ cost_of_charges
         (charges ++ record { view = Part p j; amount = amount } ∷ [])
-    unfolding cost_of
+    unfolding cost_of_charges
     part-le lt within = omega (arith, part-partition within, total-at partition_limit (partition_cost with_part) p lt)
 
 -- ---- laws
 
-pub cost-nil : cost_of [] ≡ 0
-unfolding cost_of partition_cost
+pub cost-nil : cost_of_charges [] ≡ 0
+unfolding cost_of_charges partition_cost
 cost-nil = refl
 
 pub partition-nil : (p : ℕ) → partition_cost [] p ≡ 0
@@ -181,8 +181,8 @@ unfolding partition_cost
 parts-le xs ys below = total-le partition_limit (partition_cost xs) (partition_cost ys)
     (λ p. greatest-le part_limit (λ j. charges_of (Part p j) xs) (λ j. charges_of (Part p j) ys) (below p))
 
-pub never-falls : (charges : List Charge) (next : Charge) → cost_of charges ≤ cost_of (charges ++ next ∷ [])
-unfolding cost_of
+pub never-falls : (charges : List Charge) (next : Charge) → cost_of_charges charges ≤ cost_of_charges (charges ++ next ∷ [])
+unfolding cost_of_charges
 never-falls charges next =
     omega (arith, charges-append Whole charges next, parts-le charges (charges ++ next ∷ []) (λ p j. omega (arith, charges-append (Part p j) charges next)))
 
@@ -207,8 +207,8 @@ whole-partitions : (charges : List Charge) → All is_whole charges → (p : ℕ
 unfolding partition_cost
 whole-partitions charges all p = greatest-zero part_limit (λ j. charges_of (Part p j) charges) (λ j. sum-parts p j charges all)
 
-pub adds-up-whole : (charges : List Charge) → All is_whole charges → cost_of charges ≡ sum_by (λ (charge : Charge). charge.amount) charges
-unfolding cost_of
+pub adds-up-whole : (charges : List Charge) → All is_whole charges → cost_of_charges charges ≡ sum_by (λ (charge : Charge). charge.amount) charges
+unfolding cost_of_charges
 adds-up-whole charges all =
     ap (λ (n : ℕ). charges_of Whole charges + n) (total-zero partition_limit (partition_cost charges) (whole-partitions charges all))
     ∙ add-zero (charges_of Whole charges) ∙ sum-whole charges all
@@ -216,18 +216,18 @@ adds-up-whole charges all =
 -- ---- where the view is given
 
 module _ (charges : List Charge) (view : View) (amount : ℕ) where
-  pub cost-with-whole : view ≡ Whole → cost_of (charges ++ record { view = view; amount = amount } ∷ []) ≡ cost_of charges + amount
-  cost-with-whole is = ap (λ (v : View). cost_of (charges ++ record { view = v; amount = amount } ∷ [])) is ∙ whole-cost charges amount
+  pub cost-with-whole : view ≡ Whole → cost_of_charges (charges ++ record { view = view; amount = amount } ∷ []) ≡ cost_of_charges charges + amount
+  cost-with-whole is = ap (λ (v : View). cost_of_charges (charges ++ record { view = v; amount = amount } ∷ [])) is ∙ whole-cost charges amount
 
   module _ (p j : ℕ) (valid : IsView view) (is : view ≡ Part p j) where
     pub view-within : (p < 8) × (j < 250)
     view-within = subst IsView is valid
 
-    pub cost-with-part : cost_of (charges ++ record { view = view; amount = amount } ∷ []) ≡ cost_of charges +
+    pub cost-with-part : cost_of_charges (charges ++ record { view = view; amount = amount } ∷ []) ≡ cost_of_charges charges +
         (charges_of (Part p j) charges + amount - partition_cost charges p)
-    cost-with-part = ap (λ (v : View). cost_of (charges ++ record { view = v; amount = amount } ∷ [])) is
+    cost-with-part = ap (λ (v : View). cost_of_charges (charges ++ record { view = v; amount = amount } ∷ [])) is
         ∙ part-cost charges amount p j view-within.0 view-within.1
 
-    pub part-within : charges_of (Part p j) charges + amount ≤ cost_of (charges ++ record { view = view; amount = amount } ∷ [])
-    part-within = subst (λ (v : View). charges_of (Part p j) charges + amount ≤ cost_of (charges ++ record { view = v; amount = amount } ∷ [])) (sym is)
+    pub part-within : charges_of (Part p j) charges + amount ≤ cost_of_charges (charges ++ record { view = view; amount = amount } ∷ [])
+    part-within = subst (λ (v : View). charges_of (Part p j) charges + amount ≤ cost_of_charges (charges ++ record { view = v; amount = amount } ∷ [])) (sym is)
         (part-le charges amount p j view-within.0 view-within.1)

@@ -2,7 +2,7 @@
 use Rattle.std.proofs.Common.{◌≡◌, ℕ, true, false, [], ◌∷◌, refl, arith}
 use Rattle.partition_charge.specs.declared.view.View.TheVariants.{Whole, Part}
 use Rattle.partition_charge.specs.Views.{IsView, same_view}
-use Rattle.partition_charge.specs.Cost.{Charge, charges_of, partition_cost, cost_of}
+use Rattle.partition_charge.specs.Cost.{Charge, charges_of, partition_cost, cost_of_charges}
 
 abbrev whole : ℕ → Charge
 whole amount = record { view = Whole; amount = amount }
@@ -10,55 +10,55 @@ whole amount = record { view = Whole; amount = amount }
 abbrev part : (p j amount : ℕ) → Charge
 part p j amount = record { view = Part p j; amount = amount }
 
-no_charge : cost_of [] ≡ 0
-unfolding cost_of partition_cost
+no_charge : cost_of_charges [] ≡ 0
+unfolding cost_of_charges partition_cost
 no_charge = refl
 
 -- the whole view's amounts are added up
-whole_twice : cost_of (whole 3 ∷ whole 4 ∷ []) ≡ 7
-unfolding cost_of partition_cost
+whole_twice : cost_of_charges (whole 3 ∷ whole 4 ∷ []) ≡ 7
+unfolding cost_of_charges partition_cost
 whole_twice = refl
 
 -- of two parts the dearer counts
-dearer_part : cost_of (part 0 0 6 ∷ part 0 1 4 ∷ []) ≡ 6
-unfolding cost_of partition_cost
+dearer_part : cost_of_charges (part 0 0 6 ∷ part 0 1 4 ∷ []) ≡ 6
+unfolding cost_of_charges partition_cost
 dearer_part = refl
 
 -- as dear as the dearest, and then one dearer
-as_dear : cost_of (part 0 0 6 ∷ part 0 1 4 ∷ part 0 1 2 ∷ []) ≡ 6
-unfolding cost_of partition_cost
+as_dear : cost_of_charges (part 0 0 6 ∷ part 0 1 4 ∷ part 0 1 2 ∷ []) ≡ 6
+unfolding cost_of_charges partition_cost
 as_dear = refl
 
-one_dearer : cost_of (part 0 0 6 ∷ part 0 1 4 ∷ part 0 1 3 ∷ []) ≡ 7
-unfolding cost_of partition_cost
+one_dearer : cost_of_charges (part 0 0 6 ∷ part 0 1 4 ∷ part 0 1 3 ∷ []) ≡ 7
+unfolding cost_of_charges partition_cost
 one_dearer = refl
 
 -- one part's amounts are added up
-part_twice : cost_of (part 0 0 6 ∷ part 0 0 4 ∷ []) ≡ 10
-unfolding cost_of partition_cost
+part_twice : cost_of_charges (part 0 0 6 ∷ part 0 0 4 ∷ []) ≡ 10
+unfolding cost_of_charges partition_cost
 part_twice = refl
 
 -- and so are partitions
-two_partitions : cost_of (part 0 1 6 ∷ part 1 1 4 ∷ []) ≡ 10
-unfolding cost_of partition_cost
+two_partitions : cost_of_charges (part 0 1 6 ∷ part 1 1 4 ∷ []) ≡ 10
+unfolding cost_of_charges partition_cost
 two_partitions = refl
 
 -- and the whole view beside them
-whole_and_parts : cost_of (whole 3 ∷ part 0 0 6 ∷ part 1 0 5 ∷ part 0 1 4 ∷ whole 1 ∷ []) ≡ 15
-unfolding cost_of partition_cost
+whole_and_parts : cost_of_charges (whole 3 ∷ part 0 0 6 ∷ part 1 0 5 ∷ part 0 1 4 ∷ whole 1 ∷ []) ≡ 15
+unfolding cost_of_charges partition_cost
 whole_and_parts = refl
 
 -- the last part of the last partition counts, and what is past it doesn't
-last_part : cost_of (part 7 249 5 ∷ []) ≡ 5
-unfolding cost_of partition_cost
+last_part : cost_of_charges (part 7 249 5 ∷ []) ≡ 5
+unfolding cost_of_charges partition_cost
 last_part = refl
 
-past_the_parts : cost_of (part 0 250 5 ∷ []) ≡ 0
-unfolding cost_of partition_cost
+past_the_parts : cost_of_charges (part 0 250 5 ∷ []) ≡ 0
+unfolding cost_of_charges partition_cost
 past_the_parts = refl
 
-past_the_partitions : cost_of (part 8 0 5 ∷ []) ≡ 0
-unfolding cost_of partition_cost
+past_the_partitions : cost_of_charges (part 8 0 5 ∷ []) ≡ 0
+unfolding cost_of_charges partition_cost
 past_the_partitions = refl
 
 -- which views there are

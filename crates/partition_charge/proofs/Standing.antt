@@ -9,7 +9,7 @@ use Rattle.partition_charge.specs.declared.costs.Costs.{Costs}
 use Rattle.partition_charge.specs.declared.view.View.{View}
 use Rattle.partition_charge.specs.declared.view.View.TheVariants.{Whole, Part}
 use Rattle.partition_charge.specs.Views.{IsView}
-use Rattle.partition_charge.specs.Cost.{Charge, charges_of, cost_of}
+use Rattle.partition_charge.specs.Cost.{Charge, charges_of, cost_of_charges}
 use Rattle.partition_charge.specs.Totals.{Stands, HasSums}
 use Rattle.partition_charge.proofs.Charges.{cost-nil, partition-nil, whole-part, whole-partition, part-at, part-other, part-elsewhere, elsewhere-partition, part-partition, view-within}
 
@@ -74,7 +74,7 @@ set-get xs p k x y is =
     (cases_eq k p)
 
 module _ (costs : Costs) (charges : List Charge) (view : View)
-    (amount spent : ℕ) (stands : Stands costs charges) (now : spent ≡ cost_of (charges ++ record { view = view; amount = amount } ∷ [])) where
+    (amount spent : ℕ) (stands : Stands costs charges) (now : spent ≡ cost_of_charges (charges ++ record { view = view; amount = amount } ∷ [])) where
   pub stands-whole : view ≡ Whole → Stands (record { spent = spent; partitions = costs.partitions }) (charges ++ record { view = view; amount = amount } ∷ [])
   stands-whole is = record {
     spent = now;

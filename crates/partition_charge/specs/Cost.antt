@@ -32,5 +32,5 @@ unfoldable pub partition_cost : List Charge → ℕ → ℕ
 partition_cost charges partition = greatest_below part_limit (λ part. charges_of (Part partition part) charges)
 
 -- The whole view's amounts, and for each partition its dearest part's.
-unfoldable pub cost_of : List Charge → ℕ
-cost_of charges = charges_of Whole charges + total_below partition_limit (partition_cost charges)
+unfoldable pub cost_of_charges : List Charge → ℕ
+cost_of_charges charges = charges_of Whole charges + total_below partition_limit (partition_cost charges)

@@ -5,7 +5,7 @@ use Rattle.partition_charge.specs.declared.view.View.TheVariants.{Part}
 use Rattle.partition_charge.specs.declared.costs.Parts.{Parts}
 use Rattle.partition_charge.specs.declared.costs.Costs.{Costs}
 use Rattle.partition_charge.specs.Views.{part_limit}
-use Rattle.partition_charge.specs.Cost.{Charge, charges_of, partition_cost, cost_of}
+use Rattle.partition_charge.specs.Cost.{Charge, charges_of, partition_cost, cost_of_charges}
 
 -- the sums of a partition's parts, and the greatest
 pub record HasSums (charges : List Charge) (partition : ℕ) (parts : Parts) : Type 0 where
@@ -14,9 +14,9 @@ pub record HasSums (charges : List Charge) (partition : ℕ) (parts : Parts) : T
 
 -- The totals are those of these charges.
 pub record Stands (costs : Costs) (charges : List Charge) : Type 0 where
-  pub spent : costs.spent ≡ cost_of charges
+  pub spent : costs.spent ≡ cost_of_charges charges
   pub partitions : (partition : ℕ) (parts : Parts) → slice_get costs.partitions partition ≡ Some parts → HasSums charges partition parts
 
 -- With this charge the cost is below 2 ^ 63.
 abbrev pub HasRoom : Costs → View → ℕ → Type 0
-HasRoom costs view amount = (charges : List Charge) × Stands costs charges × (cost_of (charges ++ record { view = view; amount = amount } ∷ []) < 2 ^ 63)
+HasRoom costs view amount = (charges : List Charge) × Stands costs charges × (cost_of_charges (charges ++ record { view = view; amount = amount } ∷ []) < 2 ^ 63)

@@ -1,7 +1,7 @@
 //! Running totals of charges.
 
 ghost use Rattle.std.specs.Prelude.{◌≡◌, ℕ, ◌+◌, ◌-◌, ◌^◌, ◌<◌, max, [], ◌∷◌, ◌++◌, List, length, slice_index};
-ghost use Rattle.partition_charge.specs.Cost.{Charge as Charged, cost_of};
+ghost use Rattle.partition_charge.specs.Cost.{Charge as Charged, cost_of_charges};
 ghost use Rattle.partition_charge.specs.Views.{IsView};
 ghost use Rattle.partition_charge.specs.Totals.{Stands, HasRoom};
 
@@ -68,7 +68,7 @@ impl Costs {
 
     /// The cost of the charges so far.
     pub fn spent(&self) -> u64
-        ensures { (charges : List Charged) → Stands self.now charges → result ≡ cost_of charges }
+        ensures { (charges : List Charged) → Stands self.now charges → result ≡ cost_of_charges charges }
     {
         self.spent
     }
@@ -77,7 +77,7 @@ impl Costs {
     pub fn after(&self, view: View, amount: u64) -> u64
         requires view { IsView view }
         requires room { HasRoom self.now view amount }
-        ensures { (charges : List Charged) → Stands self.now charges → result ≡ cost_of (charges ++ record { view = view; amount = amount } ∷ []) }
+        ensures { (charges : List Charged) → Stands self.now charges → result ≡ cost_of_charges (charges ++ record { view = view; amount = amount } ∷ []) }
     {
         match view {
             View::Whole => self.spent + amount,

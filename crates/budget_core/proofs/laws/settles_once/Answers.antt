@@ -1,5 +1,5 @@
 use Rattle.std.proofs.Common.{◌≤◌, Option, Some, None, is_some, cond, arith}
-use Rattle.budget_core.specs.declared.records.Outcome.{Outcome}
+use Rattle.journal_records.specs.declared.records.Outcome.{Outcome}
 use Rattle.budget_core.specs.Counts.{outcome_of}
 use Rattle.budget_core.proofs.Numbers.{settled_once}
 use Rattle.budget_core.proofs.laws.settles_once.Goals as goal

@@ -1,25 +1,25 @@
 use Rattle.std.proofs.Common.{◌≡◌, ℕ, [], ◌∷◌, refl, arith}
 use Rattle.partition_charge.specs.declared.view.View.TheVariants.{Whole, Part}
-use Rattle.partition_charge.specs.Cost.{Charge, cost_of, partition_cost}
+use Rattle.partition_charge.specs.Cost.{Charge, cost_of_charges, partition_cost}
 use Rattle.partition_charge.proofs.tests.parts_and_the_whole.Goals as goal
 
 abbrev of_part : (j amount : ℕ) → Charge
 of_part j amount = record { view = Part 0 j; amount = amount }
 
-one : cost_of (of_part 0 6 ∷ []) ≡ 6
-unfolding cost_of partition_cost
+one : cost_of_charges (of_part 0 6 ∷ []) ≡ 6
+unfolding cost_of_charges partition_cost
 one = refl
 
-two : cost_of (of_part 0 6 ∷ of_part 249 4 ∷ []) ≡ 6
-unfolding cost_of partition_cost
+two : cost_of_charges (of_part 0 6 ∷ of_part 249 4 ∷ []) ≡ 6
+unfolding cost_of_charges partition_cost
 two = refl
 
-three : cost_of (of_part 0 6 ∷ of_part 249 4 ∷ of_part 249 4 ∷ []) ≡ 8
-unfolding cost_of partition_cost
+three : cost_of_charges (of_part 0 6 ∷ of_part 249 4 ∷ of_part 249 4 ∷ []) ≡ 8
+unfolding cost_of_charges partition_cost
 three = refl
 
-and_the_whole : cost_of (of_part 0 6 ∷ of_part 249 4 ∷ record { view = Whole; amount = 3 } ∷ []) ≡ 9
-unfolding cost_of partition_cost
+and_the_whole : cost_of_charges (of_part 0 6 ∷ of_part 249 4 ∷ record { view = Whole; amount = 3 } ∷ []) ≡ 9
+unfolding cost_of_charges partition_cost
 and_the_whole = refl
 
 pub add-requires-clause-room : goal.add-requires-clause-room

@@ -1,0 +1,177 @@
+-- what every list of events keeps
+use Rattle.std.proofs.Common.{◌≡◌, ℕ, zero, suc, ◌+◌, ◌≤◌, ◌<◌, Bool, true, false, cond, ◌==◌, ◌&&◌, not, nat_le, List, [], ◌∷◌, ◌++◌, length, fold, Result, Ok, Err, Option, Some, None, is_some, is_none, IsTrue, true≢false, slice_index_or, if◌then◌else◌, refl, sym, ◌∙◌, ap, subst, arith}
+use Rattle.std.proofs.lemmas.Bool.{leb-true}
+use Rattle.std.specs.List.{list_any}
+use Rattle.journal_records.specs.declared.records.Outcome.{Outcome}
+use Rattle.journal_records.specs.declared.records.Record.{Record}
+use Rattle.journal_records.specs.declared.records.Record.TheVariants.{Settle}
+use Rattle.budget_core.specs.declared.entry.Ask.{Ask}
+use Rattle.budget_core.specs.declared.entry.Grant.{Grant}
+use Rattle.budget_core.specs.declared.entry.ReserveFault.{ReserveFault}
+use Rattle.budget_core.specs.declared.events.Event.{Event}
+use Rattle.budget_core.specs.declared.events.Event.TheVariants.{Reserve as ToReserve, Settle as ToSettle, Send, Stop, Open}
+use Rattle.budget_core.specs.Counts.{reservations_of, reservation_of, outcome_of, open_from}
+use Rattle.budget_core.specs.Entries.{Entry, IsEntry}
+use Rattle.budget_core.specs.Events.{World, first_world, is_ask_of, is_unsettled, is_answer, stepped, ran}
+use Rattle.budget_core.specs.Ledger.{Ledger, start_of, reservation_for, money_verdict, records_after, IsAskOf, IsUnsettled}
+use Rattle.budget_core.specs.Safe.{IsSafe}
+use Rattle.budget_core.specs.Sound.{IsSound}
+use Rattle.budget_core.proofs.Histories.{history-nil}
+use Rattle.budget_core.proofs.Numbers.{numbered_in_order, settled_once, outcome_of-append-old}
+use Rattle.budget_core.proofs.SoundLemmas.{sound-history, sound-Reserve, sound-Settle, sound-found}
+use Rattle.budget_core.proofs.Costs.{cost_of-nil}
+use Rattle.budget_core.proofs.Asks.{ask-from}
+
+-- each of these numbers is settled with an answer
+abbrev AreAnswered : List Record → List ℕ → Type 0
+AreAnswered records [] = Unit {0}
+AreAnswered records (number ∷ sent) = IsTrue (is_answer (outcome_of records number)) × AreAnswered records sent
+
+-- A world is that of a sound ledger, and what was sent is answered.
+record IsGood (entry : Entry) (world : World) : Type 0 where
+  found : List Record
+  sound : IsSound (record { entry = entry; found = found; records = world.records })
+  start : world.start ≡ length (reservations_of found)
+  answered : AreAnswered world.records world.sent
+
+test-both : (a b : Bool) → (a && b) ≡ true → (a ≡ true) × (b ≡ true)
+test-both true true is = (refl, refl)
+test-both true false is = absurd cc
+test-both false b is = absurd cc
+
+-- what is answered stays so with one record more
+answer-stays : (records : List Record) (next : Record) (number : ℕ) → IsTrue (is_answer (outcome_of records number)) → IsTrue (is_answer (outcome_of (records ++ next ∷ []) number))
+answer-stays records next number is = one (outcome_of records number) refl is
+  where
+    one : (old : Option Outcome) → outcome_of records number ≡ old → IsTrue (is_answer old) → IsTrue (is_answer (outcome_of (records ++ next ∷ []) number))
+    one None at was = absurd cc
+    one (Some outcome) at was = ap is_answer (outcome_of-append-old records next number outcome at) ∙ was
+
+answers-stay : (records : List Record) (next : Record) (sent : List ℕ) → AreAnswered records sent → AreAnswered (records ++ next ∷ []) sent
+answers-stay records next [] all = tt
+answers-stay records next (number ∷ sent) all = (answer-stays records next number all.0, answers-stay records next sent all.1)
+
+answers-push : (records : List Record) (sent : List ℕ) (number : ℕ) → AreAnswered records sent → IsTrue (is_answer (outcome_of records number)) → AreAnswered records (sent ++ number ∷ [])
+answers-push records [] number all is = (is, tt)
+answers-push records (first ∷ sent) number all is = (all.0, answers-push records sent number all.1 is)
+
+answers-at : (records : List Record) (sent : List ℕ) → AreAnswered records sent → (k d : ℕ) → k < length sent → IsTrue (is_answer (outcome_of records (slice_index_or sent k d)))
+answers-at records [] all k d short = absurd (omega (arith, short))
+answers-at records (number ∷ sent) all zero d short = all.0
+answers-at records (number ∷ sent) all (suc k) d short = answers-at records sent all.1 k d (omega (arith, short))
+
+good-first : (entry : Entry) → IsEntry entry → IsGood entry first_world
+good-first entry valid = record {
+  found = [];
+  sound = sound-found entry [] valid (history-nil entry) (omega (arith, cost_of-nil)) (omega arith);
+  start = refl;
+  answered = tt;
+}
+
+unsettled-from : (ledger : Ledger) (start number : ℕ) → start ≡ start_of ledger → is_unsettled start ledger.records number ≡ true → IsUnsettled ledger number
+unsettled-from ledger start number is holds =
+    let parts = test-both (nat_le start number && is_some (reservation_of ledger.records number)) (is_none (outcome_of ledger.records number)) holds in
+    let more = test-both (nat_le start number) (is_some (reservation_of ledger.records number)) parts.0 in
+    record { ours = omega (arith, leb-true start number more.0, is); reserved = more.1; unsettled = none (outcome_of ledger.records number) parts.1 }
+  where
+    none : (o : Option Outcome) → is_none o ≡ true → o ≡ None
+    none None holds = refl
+    none (Some x) holds = absurd cc
+
+good-reserve : (entry : Entry) (world : World) (ask : Ask) → IsGood entry world → IsAskOf entry ask → (verdict : Result Grant ReserveFault) → money_verdict entry world.start world.records ask ≡ verdict
+    → IsGood entry (record world { records = records_after world.records ask verdict })
+good-reserve entry world ask good asked (Err fault) is = good
+good-reserve entry world ask good asked (Ok grant) is =
+    let ledger : Ledger = record { entry = entry; found = good.found; records = world.records } in
+    record {
+      found = good.found;
+      sound = sound-Reserve ledger ask grant good.sound asked (ap (λ start. money_verdict entry start world.records ask) (sym good.start) ∙ is);
+      start = good.start;
+      answered = answers-stay world.records (reservation_for world.records ask grant.taken) world.sent good.answered;
+    }
+
+good-settle : (entry : Entry) (world : World) (number : ℕ) (outcome : Outcome) → IsGood entry world → is_unsettled world.start world.records number ≡ true
+    → IsGood entry (record world { records = world.records ++ Settle number outcome ∷ [] })
+good-settle entry world number outcome good holds =
+    let ledger : Ledger = record { entry = entry; found = good.found; records = world.records } in
+    record {
+      found = good.found;
+      sound = sound-Settle ledger number outcome good.sound (unsettled-from ledger world.start number good.start holds);
+      start = good.start;
+      answered = answers-stay world.records (Settle number outcome) world.sent good.answered;
+    }
+
+-- a world that changes where a test holds
+good-if : (entry : Entry) (world after : World) (test : Bool) → IsGood entry world → (test ≡ true → IsGood entry after) → IsGood entry (if test then after else world)
+good-if entry world after true good then_good = then_good refl
+good-if entry world after false good then_good = good
+
+good-stepped : (entry : Entry) (world : World) (event : Event) → IsGood entry world → IsGood entry (stepped entry world event)
+good-stepped entry world (ToReserve ask) good =
+    good-if entry world (record world { records = records_after world.records ask (money_verdict entry world.start world.records ask) }) (world.running && is_ask_of entry ask) good
+    (λ holds. good-reserve entry world ask good (ask-from entry ask (test-both world.running (is_ask_of entry ask) holds).1) (money_verdict entry world.start world.records ask) refl)
+good-stepped entry world (ToSettle number outcome) good =
+    good-if entry world (record world { records = world.records ++ Settle number outcome ∷ [] }) (world.running && is_unsettled world.start world.records number) good
+    (λ holds. good-settle entry world number outcome good (test-both world.running (is_unsettled world.start world.records number) holds).1)
+good-stepped entry world (Send number) good =
+    good-if entry world (record world { sent = world.sent ++ number ∷ [] })
+    (world.running && is_answer (outcome_of world.records number) && not (list_any (λ sent. sent == number) world.sent)) good
+    (λ holds. record {
+      found = good.found;
+      sound = good.sound;
+      start = good.start;
+      answered = answers-push world.records world.sent number good.answered
+          (test-both world.running (is_answer (outcome_of world.records number))
+          (test-both (world.running && is_answer (outcome_of world.records number)) (not (list_any (λ sent. sent == number) world.sent)) holds).0).1;
+    })
+good-stepped entry world Stop good = record { found = good.found; sound = good.sound; start = good.start; answered = good.answered }
+good-stepped entry world Open good =
+    let ledger : Ledger = record { entry = entry; found = good.found; records = world.records } in
+    record {
+      found = world.records;
+      sound = sound-found entry world.records good.sound.entry (sound-history ledger good.sound) good.sound.within (omega (arith, good.sound.room));
+      start = refl;
+      answered = good.answered;
+    }
+
+good-all : (entry : Entry) (world : World) (events : List Event) → IsGood entry world → IsGood entry (fold (stepped entry) world events)
+good-all entry world [] good = good
+good-all entry world (event ∷ events) good = good-all entry (stepped entry world event) events (good-stepped entry world event good)
+
+safe-good : (entry : Entry) (world : World) → IsGood entry world → IsSafe entry world
+safe-good entry world good =
+    let ledger : Ledger = record { entry = entry; found = good.found; records = world.records } in
+    let h = sound-history ledger good.sound in
+    record {
+      within = good.sound.within;
+      numbered = numbered_in_order entry world.records h;
+      once = λ number. omega (arith, settled_once entry world.records h number, at-most (is_some (outcome_of world.records number)));
+      answered = λ number within. subst (λ n. IsTrue (is_answer (outcome_of world.records n))) within.2 (answers-at world.records world.sent good.answered within.0 number within.1);
+      room = subst (λ start. length world.records + open_from start world.records ≤ entry.capacity) (sym good.start) good.sound.room;
+    }
+  where
+    at-most : (b : Bool) → cond b 1 0 ≤ 1
+    at-most true = omega arith
+    at-most false = omega arith
+
+-- After every list of events the world is safe.
+pub events-safe : (entry : Entry) (events : List Event) → IsEntry entry → IsSafe entry (ran entry events)
+events-safe entry events valid = safe-good entry (ran entry events) (good-all entry first_world events (good-first entry valid))
+
+-- a choice by two tests
+pub if-left : {X : Type 0} → (a b : Bool) (x y : X) → a ≡ true → b ≡ true → (if a && b then x else y) ≡ x
+if-left true true x y one other = refl
+if-left true false x y one other = absurd cc
+if-left false b x y one other = absurd cc
+
+pub if-right : {X : Type 0} → (a b : Bool) (x y : X) → (a ≡ true → b ≡ false) → (if a && b then x else y) ≡ y
+if-right true true x y fails = absurd (true≢false (fails refl))
+if-right true false x y fails = refl
+if-right false b x y fails = refl
+
+-- a granted ask's reservation
+pub reserved-step : (entry : Entry) (world : World) (ask : Ask) (grant : Grant) → world.running ≡ true → is_ask_of entry ask ≡ true → money_verdict entry world.start world.records ask ≡ Ok grant
+    → record world { records = world.records ++ reservation_for world.records ask grant.taken ∷ [] } ≡ stepped entry world (ToReserve ask)
+reserved-step entry world ask grant on of is =
+    ap (λ (verdict : Result Grant ReserveFault). record world { records = records_after world.records ask verdict }) (sym is)
+    ∙ sym (if-left world.running (is_ask_of entry ask) (record world { records = records_after world.records ask (money_verdict entry world.start world.records ask) }) world on of)

@@ -1,0 +1,108 @@
+-- what a ledger keeps, over its calls
+use Rattle.std.proofs.Common.{◌≡◌, ℕ, ◌+◌, ◌-◌, ◌<◌, List, [], ◌∷◌, ◌++◌, length, length-append, take, Ok, refl, sym, ◌∙◌, ap, subst, arith}
+use Rattle.std.proofs.lemmas.List.{take-append-le}
+use Rattle.std.proofs.Math.Seq.{take-length}
+use Rattle.journal_records.specs.declared.records.Outcome.{Outcome}
+use Rattle.journal_records.specs.declared.records.Record.{Record}
+use Rattle.journal_records.specs.declared.records.Record.TheVariants.{Settle}
+use Rattle.budget_core.specs.declared.entry.Ask.{Ask}
+use Rattle.budget_core.specs.declared.entry.Grant.{Grant}
+use Rattle.budget_core.specs.declared.ledger.Ledger.TheInside.{Inside}
+use Rattle.budget_core.specs.Counts.{reservations_of, open_from}
+use Rattle.budget_core.specs.Legal.{MayFollow}
+use Rattle.budget_core.specs.Ledger.{Ledger, start_of, next_number, reservation_numbered, reservation_for, money_verdict, IsAskOf, IsUnsettled}
+use Rattle.budget_core.specs.Past.{Past}
+use Rattle.budget_core.specs.Run.{ledger_in, HoldsRun}
+use Rattle.budget_core.specs.Sound.{IsSound}
+use Rattle.budget_core.proofs.Histories.{history-append}
+use Rattle.budget_core.proofs.LegalLemmas.{granted, open-granted, unsettled-Reserve, reservations_within}
+use Rattle.budget_core.proofs.Standings.{open-past}
+use Rattle.budget_core.proofs.SoundLemmas.{sound-history, sound-Reserve, sound-Settle, open-settled, sound-found, follow-within}
+
+-- how many are open
+pub run-open : (l : Inside) → HoldsRun l → l.unsettled ≡ open_from (start_of (ledger_in l)) l.history.records
+run-open l k = k.unsettled ∙ ap (λ (n : ℕ). open_from n l.history.records) k.start
+
+-- one record more of this run
+run-append : (l : Inside) (next : Record) (unsettled : ℕ) → HoldsRun l → IsSound (record (ledger_in l) { records = l.history.records ++ next ∷ [] })
+    → unsettled ≡ open_from (start_of (ledger_in l)) (l.history.records ++ next ∷ [])
+    → HoldsRun (record l { history = record l.history { records = l.history.records ++ next ∷ [] }; unsettled = unsettled })
+run-append l next unsettled k sound count =
+    let all : List Record = l.history.records ++ next ∷ [] in
+    let same : take l.found l.history.records ≡ take l.found all = sym (take-append-le l.found l.history.records (next ∷ []) k.found) in
+    record {
+      found = omega (arith, k.found, length-append l.history.records (next ∷ []));
+      start = k.start ∙ ap (λ (found : List Record). length (reservations_of found)) same;
+      unsettled = count ∙ ap (λ (n : ℕ). open_from n all) (sym k.start);
+      sound = subst (λ (found : List Record). IsSound (record { entry = l.history.entry; found = found; records = all })) same sound;
+    }
+
+-- what a history is with one record more
+abbrev pub Grew : Past → Past → Record → Type 0
+Grew old new next = new ≡ record old { records = old.records ++ next ∷ [] }
+
+pub run-Reserve : (l : Inside) (history : Past) (next : Record) (ask : Ask) (grant : Grant) → HoldsRun l → IsAskOf l.history.entry ask
+    → money_verdict l.history.entry (start_of (ledger_in l)) l.history.records ask ≡ Ok grant → next ≡ reservation_for l.history.records ask grant.taken
+    → Grew l.history history next → HoldsRun (record l { history = history; unsettled = l.unsettled + 1 })
+run-Reserve l history next ask grant k asked is made grew =
+    let sound = sound-Reserve (ledger_in l) ask grant k.sound asked is in
+    let count = open-granted (ledger_in l) ask grant.taken (sound-history (ledger_in l) k.sound) k.sound.legal in
+    let kept = run-append l (reservation_for l.history.records ask grant.taken) (l.unsettled + 1) k sound (omega (arith, run-open l k, count)) in
+    let there = subst (λ (r : Record). HoldsRun (record l { history = record l.history { records = l.history.records ++ r ∷ [] }; unsettled = l.unsettled + 1 })) (sym made) kept in
+    subst (λ (h : Past). HoldsRun (record l { history = h; unsettled = l.unsettled + 1 })) (sym grew) there
+
+pub run-Settle : (l : Inside) (history : Past) (number : ℕ) (outcome : Outcome) → HoldsRun l → IsUnsettled (ledger_in l) number → Grew l.history history (Settle number outcome)
+    → HoldsRun (record l { history = history; unsettled = l.unsettled - 1 })
+run-Settle l history number outcome k u grew =
+    let sound = sound-Settle (ledger_in l) number outcome k.sound u in
+    let count = open-settled (ledger_in l) number outcome k.sound u in
+    let kept = run-append l (Settle number outcome) (l.unsettled - 1) k sound (omega (arith, run-open l k, count)) in
+    subst (λ (h : Past). HoldsRun (record l { history = h; unsettled = l.unsettled - 1 })) (sym grew) kept
+
+-- a ledger all of whose records were found
+pub run-found : (history : Past) (found start : ℕ) → IsSound (record { entry = history.entry; found = history.records; records = history.records })
+    → found ≡ length history.records → start ≡ length (reservations_of history.records)
+    → HoldsRun (record { history = history; found = found; start = start; unsettled = 0 })
+run-found history found start s is count =
+    let whole : history.records ≡ take found history.records = sym (ap (λ (n : ℕ). take n history.records) is ∙ take-length history.records) in
+    record {
+      found = omega (arith, is);
+      start = count ∙ ap (λ (found : List Record). length (reservations_of found)) whole;
+      unsettled = sym (ap (λ (n : ℕ). open_from n history.records) count ∙ open-past history.entry history.records s.found);
+      sound = subst (λ (found : List Record). IsSound (record { entry = history.entry; found = found; records = history.records })) whole s;
+    }
+
+-- after a record more was found
+pub sound-restored : (l : Inside) (history : Past) (next : Record) → HoldsRun l → MayFollow l.history.entry l.history.records next → length l.history.records < l.history.entry.capacity
+    → Grew l.history history next → IsSound (record { entry = history.entry; found = history.records; records = history.records })
+sound-restored l history next k may short grew =
+    let all : List Record = l.history.records ++ next ∷ [] in
+    let h = sound-history (ledger_in l) k.sound in
+    subst (λ (p : Past). IsSound (record { entry = p.entry; found = p.records; records = p.records })) (sym grew)
+    (sound-found l.history.entry all k.sound.entry (history-append l.history.entry l.history.records next h may) (follow-within l.history.entry l.history.records next k.sound.within may)
+    (omega (arith, short, length-append l.history.records (next ∷ []))))
+
+-- what contracts see with one record more
+run-view : (l : Inside) (history : Past) (next : Record) (unsettled : ℕ) → HoldsRun l → Grew l.history history next
+    → record (ledger_in l) { records = l.history.records ++ next ∷ [] } ≡ ledger_in (record l { history = history; unsettled = unsettled })
+run-view l history next unsettled k grew =
+    let same : take l.found l.history.records ≡ take l.found (l.history.records ++ next ∷ []) = sym (take-append-le l.found l.history.records (next ∷ []) k.found) in
+    subst (λ (h : Past). record (ledger_in l) { records = l.history.records ++ next ∷ [] } ≡ ledger_in (record l { history = h; unsettled = unsettled })) (sym grew)
+    (λ i. record { entry = l.history.entry; found = same i; records = l.history.records ++ next ∷ [] })
+
+-- A granted reservation is unsettled.
+pub run-unsettled : (l : Inside) (history : Past) (next : Record) (ask : Ask) (grant : Grant) (unsettled : ℕ) → HoldsRun l
+    → money_verdict l.history.entry (start_of (ledger_in l)) l.history.records ask ≡ Ok grant → next ≡ reservation_for l.history.records ask grant.taken
+    → Grew l.history history next → IsUnsettled (ledger_in (record l { history = history; unsettled = unsettled })) grant.number
+run-unsettled l history next ask grant unsettled k is made grew =
+    let ledger : Ledger = ledger_in l in
+    let records : List Record = l.history.records in
+    let number : next_number records ≡ grant.number = sym (ap (λ (g : Grant). g.number) (granted ledger ask grant is).is) in
+    let u = unsettled-Reserve ledger (reservation_numbered (next_number records) ask grant.taken) (sound-history ledger k.sound) refl (reservations_within ledger.found records k.sound.legal.begins) in
+    let here : IsUnsettled (record ledger { records = records ++ next ∷ [] }) (next_number records)
+    = subst (λ (r : Record). IsUnsettled (record ledger { records = records ++ r ∷ [] }) (next_number records)) (sym made) u in
+    subst (λ (b : Ledger). IsUnsettled b grant.number) (run-view l history next unsettled k grew) (subst (IsUnsettled (record ledger { records = records ++ next ∷ [] })) number here)
+
+-- All records of a ledger may count as found.
+pub sound-reopened : (l : Inside) → HoldsRun l → IsSound (record { entry = l.history.entry; found = l.history.records; records = l.history.records })
+sound-reopened l k = sound-found l.history.entry l.history.records k.sound.entry (sound-history (ledger_in l) k.sound) k.sound.within (omega (arith, k.sound.room))

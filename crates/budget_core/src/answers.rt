@@ -1,0 +1,37 @@
+//! What a ledger answers about its records.
+
+/// How a reservation stands. `seen` is the number of records that show it.
+#[derive(Clone, Copy, Debug, Drop, PartialEq, Eq)]
+pub enum Recall {
+    /// There is no reservation of that number.
+    Unknown { seen: u32 },
+    /// Another analyst reserved it.
+    NotYours { seen: u32 },
+    /// It was answered with this noised value.
+    Answer { value: i64, seen: u32 },
+    /// It is of this run and has no settlement yet.
+    Open { seen: u32 },
+    /// Its answer was lost, or an earlier run left it open.
+    Lost { seen: u32 },
+    /// The sampler ran out of draws.
+    Exhausted { seen: u32 },
+}
+
+/// What is spent of the budget, in millionths of epsilon.
+#[derive(Clone, Copy, Debug, Drop, PartialEq, Eq)]
+pub struct Left {
+    pub spent: u64,
+    pub budget: u64,
+    /// The number of records.
+    pub seen: u32,
+}
+
+/// How many reservations there are, and how they ended.
+#[derive(Clone, Copy, Debug, Drop, PartialEq, Eq)]
+pub struct Counts {
+    pub reservations: u32,
+    pub answered: u32,
+    pub exhausted: u32,
+    /// All others.
+    pub lost: u32,
+}

@@ -1,0 +1,137 @@
+//! The machine of reservations, settlements and stops, without a disk.
+
+ghost use Rattle.std.specs.Prelude.{◌≡◌, IfOk};
+ghost use Rattle.budget_core.specs.declared.events.Event.TheVariants.{Reserve, Settle, Send};
+ghost use Rattle.budget_core.specs.Entries.{IsEntry};
+ghost use Rattle.budget_core.specs.Events.{stepped, ran};
+ghost use Rattle.budget_core.specs.Machine.{world_of};
+ghost use Rattle.budget_core.specs.Safe.{IsSafe};
+
+use crate::entry::{Ask, Entry};
+use crate::ledger::Ledger;
+use journal_records::records::{Outcome, Record};
+use std::alloc::{AllocError, Global};
+use std::marker::Model;
+
+/// What happens to a machine.
+#[derive(Clone, Copy, Debug, Drop, PartialEq, Eq)]
+pub enum Event {
+    /// Budget is set aside for an ask.
+    Reserve(Ask),
+    /// The reservation of that number is settled.
+    Settle(u32, Outcome),
+    /// The answer of that number is sent.
+    Send(u32),
+    /// The machine stops.
+    Stop,
+    /// The machine runs again, on the records that are there.
+    Open,
+}
+
+/// What events lead to.
+#[derive(Drop)]
+pub struct World {
+    pub records: Vec<Record>,
+    /// Reservations from this number on are of this run.
+    pub start: u32,
+    pub running: bool,
+    /// The numbers whose answers were sent.
+    pub sent: Vec<u32>,
+}
+
+impl Model for World {
+    ghost use Rattle.budget_core.specs.Events.{World as Reached};
+
+    ghost Value = { Reached };
+
+    ghost view = { λ w. record { records = w.records.items; start = w.start; running = w.running; sent = w.sent.items } };
+}
+
+#[derive(Drop)]
+struct Machine {
+    ledger: Ledger,
+    running: bool,
+    sent: Vec<u32>,
+}
+
+impl Machine {
+    // Reserves for an ask of the entry that is neither over budget nor full.
+    fn reserve(&mut self, ask: &Ask)
+        ensures stepped { world_of self.new ≡ stepped self.old.ledger.entry (world_of self.old) (Reserve ask.now) }
+        ensures entry { self.new.ledger.entry ≡ self.old.ledger.entry }
+    {
+        if !self.running || !self.ledger.entry().has_ask(ask) {
+            return;
+        }
+        if let Ok(grant) = self.ledger.verdict(ask) {
+            self.ledger.reserve(ask, &grant);
+        }
+    }
+
+    // Settles a number of this run.
+    fn settle(&mut self, number: u32, outcome: Outcome)
+        ensures stepped { world_of self.new ≡ stepped self.old.ledger.entry (world_of self.old) (Settle number outcome) }
+        ensures entry { self.new.ledger.entry ≡ self.old.ledger.entry }
+    {
+        if self.running && self.ledger.is_unsettled(number) {
+            self.ledger.settle(number, outcome);
+        }
+    }
+
+    // Sends an answer, once.
+    fn send(&mut self, number: u32) -> Result<(), AllocError>
+        ensures stepped { IfOk result (λ _. world_of self.new ≡ stepped self.old.ledger.entry (world_of self.old) (Send number)) }
+        ensures entry { IfOk result (λ _. self.new.ledger.entry ≡ self.old.ledger.entry) }
+    {
+        if self.running && self.ledger.is_answered(number) && !self.sent.contains(&number) {
+            self.sent.push(number)?;
+        }
+        Ok(())
+    }
+
+    // What an event does.
+    fn step(&mut self, event: &Event) -> Result<(), AllocError>
+        ensures stepped { IfOk result (λ _. world_of self.new ≡ stepped self.old.ledger.entry (world_of self.old) event.now) }
+        ensures entry { IfOk result (λ _. self.new.ledger.entry ≡ self.old.ledger.entry) }
+    {
+        match event {
+            Event::Reserve(ask) => self.reserve(ask),
+            Event::Settle(number, outcome) => self.settle(*number, *outcome),
+            Event::Send(number) => self.send(*number)?,
+            Event::Stop => self.running = false,
+            Event::Open => {
+                self.ledger.reopen();
+                self.running = true;
+            }
+        }
+        Ok(())
+    }
+
+    fn into_world(self) -> World
+        ensures { result ≡ world_of self }
+    {
+        let start = self.ledger.start();
+        World {
+            records: self.ledger.into_records(),
+            start,
+            running: self.running,
+            sent: self.sent,
+        }
+    }
+}
+
+/// What these events lead to, from no records on.
+pub fn run_events(alloc: Global, entry: Entry, events: &[Event]) -> Result<World, AllocError>
+    ensures world { IfOk result (λ world. world ≡ ran entry events.now) }
+    ensures safe { IfOk result (IsSafe entry) }
+{
+    let mut machine = Machine {
+        ledger: Ledger::new(alloc, entry)?,
+        running: true,
+        sent: Vec::new(alloc),
+    };
+    for event in events {
+        machine.step(event)?;
+    }
+    Ok(machine.into_world())
+}

@@ -1,0 +1,272 @@
+//! One owner's records in memory: what may be reserved and settled, and what is told of it.
+
+ghost use Rattle.std.specs.Prelude.{◌≡◌, ℕ, ◌<◌, ◌∷◌, ◌++◌, [], ◌↔◌, length, IsTrue, IfOk, Ok, if◌then◌else◌};
+ghost use Rattle.journal_records.specs.declared.records.Record.TheVariants.{Settle};
+ghost use Rattle.journal_records.specs.Encoding.{IsValid};
+ghost use Rattle.budget_core.specs.Answers.{standing, recalled, left_of, counts_of};
+ghost use Rattle.budget_core.specs.Cost.{cost_of};
+ghost use Rattle.budget_core.specs.Counts.{outcome_of};
+ghost use Rattle.budget_core.specs.Entries.{IsEntry};
+ghost use Rattle.budget_core.specs.Events.{is_answer};
+ghost use Rattle.budget_core.specs.Legal.{MayFollow};
+ghost use Rattle.budget_core.specs.Ledger.{start_of, money_verdict, reservation_for, IsAskOf, IsUnsettled};
+ghost use Rattle.budget_core.specs.Sound.{IsSound};
+
+use crate::answers::{Counts, Left, Recall};
+use crate::entry::{Ask, Entry, Grant, ReserveFault};
+use crate::history::{History, charge_for};
+use journal_records::records::{Outcome, Record, Reservation};
+use std::alloc::{AllocError, Global};
+use std::marker::Model;
+
+/// One owner's records, those found when it was opened and those added since. No call but `new` takes memory or
+/// goes over the records.
+#[derive(Drop)]
+pub struct Ledger {
+    history: History,
+    /// How many records were found.
+    found: u32,
+    /// Reservations from this number on are of this run.
+    start: u32,
+    /// How many of them have no settlement.
+    unsettled: u32,
+}
+
+impl Model for Ledger {
+    ghost use Rattle.budget_core.specs.Ledger.{Ledger as Book};
+
+    ghost Value = { Book };
+
+    ghost use Rattle.budget_core.specs.Run.{ledger_in, HoldsRun};
+
+    ghost view = { ledger_in };
+
+    ghost invariant = { HoldsRun };
+}
+
+impl Ledger {
+    /// No records, with room for the whole capacity.
+    pub fn new(alloc: Global, entry: Entry) -> Result<Ledger, AllocError>
+        ensures empty { IfOk result (λ ledger. ledger ≡ record { entry = entry; found = []; records = [] }) }
+        ensures sound { IfOk result IsSound }
+        ensures valid { IsEntry entry }
+    {
+        let history = History::new(alloc, entry)?;
+        Ok(Ledger {
+            history,
+            found: 0,
+            start: 0,
+            unsettled: 0,
+        })
+    }
+
+    /// Adds a found record, exactly where it may follow those before it; else nothing changes.
+    pub fn restore(&mut self, next: &Record) -> bool
+        requires found { self.old.records ≡ self.old.found }
+        requires room { length self.old.records < self.old.entry.capacity }
+        requires valid { IsValid next.now }
+        ensures exactly { IsTrue result ↔ MayFollow self.old.entry self.old.records next.now }
+        ensures after { self.new ≡ (if result then record self.old { found = self.old.records ++ next.now ∷ []; records = self.old.records ++ next.now ∷ [] } else self.old) }
+        ensures sound { IsSound self.new }
+    {
+        if !self.history.may_follow(next) {
+            return false;
+        }
+        self.history.add(next);
+        self.found = self.history.len();
+        self.start = self.history.reservations();
+        self.unsettled = 0;
+        true
+    }
+
+    /// Whether an ask is granted: over budget comes first, then full.
+    pub fn verdict(&self, ask: &Ask) -> Result<Grant, ReserveFault>
+        requires { IsAskOf self.now.entry ask.now }
+        ensures verdict { result ≡ money_verdict self.now.entry (start_of self.now) self.now.records ask.now }
+        ensures sound { IsSound self.now }
+    {
+        let spent = self.history.spent();
+        let after = self
+            .history
+            .cost_after(ask.view, charge_for(ask.e, ask.p, ask.q));
+        let seen = self.history.len();
+        let budget = self.history.entry().budget();
+        let capacity = self.history.entry().capacity();
+        if after > budget {
+            return Err(ReserveFault::OverBudget {
+                spent,
+                after,
+                budget,
+                seen,
+            });
+        }
+        if seen + self.unsettled + 2 > capacity {
+            return Err(ReserveFault::Full {
+                used: seen,
+                unsettled: self.unsettled,
+                capacity,
+            });
+        }
+        let number = self.history.reservations();
+        Ok(Grant {
+            number,
+            taken: after - spent,
+            seen: seen + 1,
+        })
+    }
+
+    /// The record of a granted ask.
+    pub fn reservation(&self, ask: &Ask, grant: &Grant) -> Record
+        requires asked { IsAskOf self.now.entry ask.now }
+        requires granted { money_verdict self.now.entry (start_of self.now) self.now.records ask.now ≡ Ok grant.now }
+        ensures reservation { result ≡ reservation_for self.now.records ask.now grant.now.taken }
+        ensures valid { IsValid result }
+        ensures follows { MayFollow self.now.entry self.now.records result }
+    {
+        let (p, q) = (ask.p, ask.q);
+        Record::Reserve(Reservation {
+            number: self.history.reservations(),
+            view: ask.view,
+            e: ask.e,
+            p,
+            q,
+            taken: grant.taken,
+            analyst: ask.analyst,
+            program: ask.program,
+        })
+    }
+
+    /// Adds the reservation of a granted ask.
+    pub fn reserve(&mut self, ask: &Ask, grant: &Grant)
+        requires asked { IsAskOf self.old.entry ask.now }
+        requires granted { money_verdict self.old.entry (start_of self.old) self.old.records ask.now ≡ Ok grant.now }
+        ensures after { self.new ≡ record self.old { records = self.old.records ++ reservation_for self.old.records ask.now grant.now.taken ∷ [] } }
+        ensures unsettled { IsUnsettled self.new grant.now.number }
+        ensures sound { IsSound self.new }
+    {
+        let next = self.reservation(ask, grant);
+        self.history.add(&next);
+        self.unsettled += 1;
+    }
+
+    /// Adds a settlement of a reservation of this run. It is never full: room was kept when the reservation was
+    /// made. Gives the number of records.
+    pub fn settle(&mut self, number: u32, outcome: Outcome) -> u32
+        requires { IsUnsettled self.old number }
+        ensures seen { result ≡ length self.new.records }
+        ensures after { self.new ≡ record self.old { records = self.old.records ++ Settle number outcome ∷ [] } }
+        ensures sound { IsSound self.new }
+    {
+        let settlement = Record::Settle { number, outcome };
+        self.history.add(&settlement);
+        self.unsettled -= 1;
+        self.history.len()
+    }
+
+    /// What an analyst is told of a number.
+    pub fn recall(&self, number: u32, analyst: u16) -> Recall
+        ensures { result ≡ recalled self.now number analyst }
+    {
+        let seen = self.history.len();
+        match self.history.asker(number) {
+            None => Recall::Unknown { seen },
+            Some(asker) if asker != analyst => Recall::NotYours { seen },
+            Some(_) => self.standing(number),
+        }
+    }
+
+    // How a number's reservation stands.
+    fn standing(&self, number: u32) -> Recall
+        ensures { result ≡ standing (start_of self.now) number (length self.now.records) (outcome_of self.now.records number) }
+    {
+        let seen = self.history.len();
+        match self.history.outcome(number) {
+            Some(Outcome::Answered(value)) => Recall::Answer { value, seen },
+            Some(Outcome::Exhausted) => Recall::Exhausted { seen },
+            Some(Outcome::Lost) => Recall::Lost { seen },
+            None if self.start <= number => Recall::Open { seen },
+            None => Recall::Lost { seen },
+        }
+    }
+
+    /// What is spent of the budget.
+    pub fn left(&self) -> Left
+        ensures { result ≡ left_of self.now }
+    {
+        Left {
+            spent: self.history.spent(),
+            budget: self.history.entry().budget(),
+            seen: self.history.len(),
+        }
+    }
+
+    /// How many reservations there are, and how they ended.
+    pub fn counts(&self) -> Counts
+        ensures { result ≡ counts_of self.now.records }
+    {
+        self.history.counts()
+    }
+
+    /// The records.
+    pub fn records(&self) -> &[Record]
+        ensures { result.now ≡ self.now.records }
+    {
+        self.history.records()
+    }
+
+    /// The records' cost, within the budget.
+    pub fn spent(&self) -> u64
+        ensures spent { result ≡ cost_of self.now.records }
+        ensures sound { IsSound self.now }
+    {
+        let _start = self.start;
+        self.history.spent()
+    }
+
+    /// The owner's entry.
+    pub fn entry(&self) -> &Entry
+        ensures { result.now ≡ self.now.entry }
+    {
+        self.history.entry()
+    }
+
+    /// The first number of this run.
+    pub fn start(&self) -> u32
+        ensures { result ≡ start_of self.now }
+    {
+        self.start
+    }
+
+    /// Whether a number of this run is reserved and has no settlement.
+    pub fn is_unsettled(&self, number: u32) -> bool
+        ensures { IsTrue result ↔ IsUnsettled self.now number }
+    {
+        self.start <= number
+            && self.history.asker(number).is_some()
+            && self.history.outcome(number).is_none()
+    }
+
+    /// Whether a number is settled with an answer.
+    pub fn is_answered(&self, number: u32) -> bool
+        ensures { result ≡ is_answer (outcome_of self.now.records number) }
+    {
+        matches!(self.history.outcome(number), Some(Outcome::Answered(_)))
+    }
+
+    /// From here on all records count as found.
+    pub fn reopen(&mut self)
+        ensures after { self.new ≡ record self.old { found = self.old.records } }
+        ensures sound { IsSound self.new }
+    {
+        self.found = self.history.len();
+        self.start = self.history.reservations();
+        self.unsettled = 0;
+    }
+
+    /// The records alone.
+    pub fn into_records(self) -> Vec<Record>
+        ensures { result.items ≡ self.records }
+    {
+        self.history.into_records()
+    }
+}
