@@ -1,0 +1,107 @@
+-- What a book answers and what a stop leaves, on both sides of each choice.
+use Rattle.std.proofs.Common.{◌≡◌, ℕ, ◌++◌, List, [], ◌∷◌, length, refl, ap, arith, inl, inr, Option, Some, None, Ok, Err}
+use Rattle.outside_disks.specs.Disks.{Trace}
+use Rattle.journal_records.specs.declared.records.Outcome.TheVariants.{Lost}
+use Rattle.journal_records.specs.declared.records.Record.{Record}
+use Rattle.journal_records.specs.declared.records.Record.TheVariants.{Settle}
+use Rattle.journal_records.specs.declared.records.Header.{Header}
+use Rattle.budget_journal.specs.Journals.{Stands}
+use Rattle.budget_journal.proofs.One.{stands-one}
+use Rattle.budget_core.specs.Entries.{Entry}
+use Rattle.budget_core.specs.Ledger.{Ledger}
+use Rattle.budget_core.specs.Legal.{MayFollow}
+use Rattle.budget_core.proofs.Histories.{history-nil}
+use Rattle.budget_ledger.specs.Account.{Failure, Storage, Account, IsMoment, Went}
+use Rattle.budget_ledger.specs.Booked.{IsSettlementOf}
+use Rattle.budget_ledger.specs.Opened.{IsFirstAstray}
+use Rattle.budget_ledger.specs.declared.book.AppendFault.TheVariants.{Closed, DiskFault}
+
+abbrev lost : Record
+lost = Settle 0 Lost
+
+abbrev other : Record
+other = Settle 1 Lost
+
+-- ---- closed or not
+
+module _ (ledger : Ledger) (header : Header) (trace : Option Trace) where
+  -- a book on which one append has failed, and one on which none has
+  abbrev shut : Account
+  shut = record { ledger = ledger; storage = record { header = header; trace = trace; faults = 3; closed = Some (record { failed_at = 3; pending = lost }) } }
+
+  abbrev ready : Account
+  ready = record { ledger = ledger; storage = record { header = header; trace = trace; faults = 2; closed = None } }
+
+  -- a closed book answers so with its count, and stays as it is
+  answers_closed : IsSettlementOf shut 0 Lost (Err (Closed 3)) shut
+  answers_closed = (record { failed_at = 3; pending = lost }, refl, refl, refl)
+
+  other_count : IsSettlementOf shut 0 Lost (Err (Closed 2)) shut → ⊥
+  other_count answer = let at : 2 ≡ answer.0.failed_at = answer.2 in
+      let is : 3 ≡ answer.0.failed_at = ap count answer.1 in omega (arith, at, is)
+    where
+      count : Option Failure → ℕ
+      count None = 0
+      count (Some failure) = failure.failed_at
+
+  goes_on : (new : Account) (seen : ℕ) → IsSettlementOf shut 0 Lost (Ok seen) new → ⊥
+  goes_on new seen answer = let none = answer.0.open_before in cc
+
+  fails_again : (new : Account) → IsSettlementOf shut 0 Lost (Err DiskFault) new → ⊥
+  fails_again new answer = let none = answer.open_before in cc
+
+  -- the fault that closes a book is the last one, and names its record
+  closes : IsSettlementOf ready 0 Lost (Err DiskFault) shut
+  closes = record { ledger = refl; open_before = refl; closed = refl }
+
+  closed_too_soon : IsSettlementOf ready 0 Lost (Err (Closed 2)) ready → ⊥
+  closed_too_soon answer = let some = answer.1 in cc
+
+  -- a closed book is the same in each later state, and a fault closes it
+  failed_and_open : (old new : List Record) → Went old new ready.storage (record ready.storage { faults = 3 }) → ⊥
+  failed_and_open old new went = let same : 3 ≡ 2 = went.«open» refl in omega (arith, same)
+
+  opened_by_itself : (old new : List Record) → Went old new shut.storage ready.storage → ⊥
+  opened_by_itself old new went = let same : 2 ≡ 3 = ap (λ (s : Storage). s.faults) (went.shut (record { failed_at = 3; pending = lost }) refl).0 in omega (arith, same)
+
+  -- ---- records
+
+  drops_a_record : Went (lost ∷ []) [] ready.storage ready.storage → ⊥
+  drops_a_record went = let longer = ap (λ (rs : List Record). length rs) went.begins.1 in omega (arith, longer)
+
+  writes_after_closing : Went [] (lost ∷ []) shut.storage shut.storage → ⊥
+  writes_after_closing went =
+      let same : 1 ≡ 0 = ap (λ (rs : List Record). length rs) (went.shut (record { failed_at = 3; pending = lost }) refl).1 in omega (arith, same)
+
+-- ---- what a stop leaves between one record and two
+
+module _ (header : Header) (bytes : List ℕ) where
+  as_before : Stands header (lost ∷ []) bytes → IsMoment header (lost ∷ []) (lost ∷ other ∷ []) None bytes
+  as_before stands = inl (lost ∷ [], ([], refl), (other ∷ [], refl), stands)
+
+  as_after : Stands header (lost ∷ other ∷ []) bytes → IsMoment header (lost ∷ []) (lost ∷ other ∷ []) None bytes
+  as_after stands = inl (lost ∷ other ∷ [], (other ∷ [], refl), ([], refl), stands)
+
+  -- what was there is never missing
+  none_left : IsMoment header (lost ∷ []) (lost ∷ other ∷ []) None bytes → Stands header [] bytes → ⊥
+  none_left (inl (g, first, second, stands)) empty =
+      let none : g ≡ [] = stands-one header g [] bytes stands empty in
+      let some : length ((lost ∷ []) ++ first.0) ≡ length g = ap (λ (rs : List Record). length rs) first.1 in
+      let zero : length g ≡ 0 = ap (λ (rs : List Record). length rs) none in
+      omega (arith, some, zero)
+  none_left (inr (failure, closed, stands)) empty = cc
+
+  -- after a fault its record may be there
+  with_pending : Stands header (lost ∷ other ∷ []) bytes
+      → IsMoment header (lost ∷ []) (lost ∷ []) (Some (record { failed_at = 1; pending = other })) bytes
+  with_pending stands = inr (record { failed_at = 1; pending = other }, refl, stands)
+
+-- ---- the first record that may not follow
+
+module _ (entry : Entry) where
+  -- a settlement of what wasn't reserved
+  first_astray : IsFirstAstray entry (lost ∷ other ∷ []) 0
+  first_astray = record { astray = (lost, refl, λ may. let reserved = may.reserved in cc); first = history-nil entry }
+
+  not_the_second : IsFirstAstray entry (lost ∷ other ∷ []) 1 → ⊥
+  not_the_second second = let may : MayFollow entry [] lost = second.first.follows 0 lost refl in let reserved = may.reserved in cc

@@ -1,0 +1,5 @@
+mod Examples
+pub mod Opens
+pub mod Standing
+pub mod Wents
+pub mod Writes

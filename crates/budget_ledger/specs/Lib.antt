@@ -1,0 +1,5 @@
+pub mod Account
+pub mod Booked
+pub mod Opened
+pub mod Kept
+pub mod Laws

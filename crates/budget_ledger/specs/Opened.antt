@@ -1,0 +1,23 @@
+-- Why a book isn't opened.
+use Rattle.std.specs.Prelude.{◌≡◌, ◌⊎◌, ℕ, List, take, slice_get, Some}
+use Rattle.journal_records.specs.declared.records.Record.{Record}
+use Rattle.journal_records.specs.declared.records.Header.{Header}
+use Rattle.budget_journal.specs.declared.opening.OpenFault.{OpenFault}
+use Rattle.budget_journal.specs.declared.opening.OpenFault.TheVariants.{NotInitialised, Changed, Damaged, DiskFault, NoMemory}
+use Rattle.budget_journal.specs.Journals.{Stands, IsOpenFault}
+use Rattle.budget_core.specs.Entries.{Entry}
+use Rattle.budget_core.specs.Legal.{MayFollow, IsHistory}
+
+-- record k is the first that may not follow those before it
+pub record IsFirstAstray (entry : Entry) (records : List Record) (k : ℕ) : Type 0 where
+  pub astray : (next : Record) × (slice_get records k ≡ Some next) × (MayFollow entry (take k records) next → ⊥)
+  pub first : IsHistory entry (take k records)
+
+-- Why these bytes aren't a book of this entry: as a journal they aren't opened, or they stand for records of which one may not
+-- follow those before it.
+abbrev pub IsBookFault : Entry → Header → List ℕ → OpenFault → Type 0
+IsBookFault entry header bytes (Damaged k) = IsOpenFault header bytes (Damaged k) ⊎ ((records : List Record) × Stands header records bytes × IsFirstAstray entry records k)
+IsBookFault entry header bytes (NotInitialised n) = IsOpenFault header bytes (NotInitialised n)
+IsBookFault entry header bytes (Changed kept found) = IsOpenFault header bytes (Changed kept found)
+IsBookFault entry header bytes DiskFault = IsOpenFault header bytes DiskFault
+IsBookFault entry header bytes NoMemory = IsOpenFault header bytes NoMemory

@@ -1,0 +1,199 @@
+//! A book: an owner's ledger, whose records are kept in a journal.
+
+ghost use Rattle.std.specs.Prelude.{◌≡◌, ◌<◌, None, false, IfOk, IfErr, IfSome, IsTrue, ◌↔◌, IsSome};
+ghost use Rattle.fz_outside.specs.Faults.{HasCause};
+ghost use Rattle.outside_disks.specs.Disks.{Trace, WhereTold, seen_of};
+ghost use Rattle.journal_records.specs.Encoding.{IsValid, IsHeader};
+ghost use Rattle.budget_journal.specs.Journals.{disk_of, used, is_closed, capacity_of, Found, MayHaveSynced};
+ghost use Rattle.budget_journal.specs.declared.opening.OpenFault.TheVariants.{DiskFault};
+ghost use Rattle.budget_core.specs.Answers.{recalled, left_of, counts_of};
+ghost use Rattle.budget_core.specs.Cost.{cost_of};
+ghost use Rattle.budget_core.specs.Ledger.{IsAskOf, IsUnsettled};
+ghost use Rattle.budget_core.specs.Sound.{IsSound};
+ghost use Rattle.budget_ledger.specs.Account.{IsKeptNow, IsBook, Went};
+ghost use Rattle.budget_ledger.specs.Booked.{IsReserved, IsSettlementOf};
+ghost use Rattle.budget_ledger.specs.Kept.{HasWritten, IsUnappended};
+ghost use Rattle.budget_ledger.specs.Opened.{IsBookFault};
+
+use crate::failure::Failure;
+use budget_core::answers::{Counts, Left, Recall};
+use budget_core::entry::{Ask, Entry, Grant, ReserveFault};
+use budget_core::ledger::Ledger;
+use budget_journal::journal::Journal;
+use journal_records::records::{Header, Outcome, Record};
+use outside_disks::disk::Disk;
+use std::marker::Model;
+
+/// Why a record wasn't appended.
+#[derive(Clone, Copy, Debug, Drop, PartialEq, Eq)]
+pub enum AppendFault {
+    /// An earlier append has failed. The disk's count of failed calls was this then.
+    Closed { failed_at: u64 },
+    /// The disk has failed in this call. The record may be there or not.
+    DiskFault,
+}
+
+/// Why no reservation was made.
+#[derive(Clone, Copy, Debug, Drop, PartialEq, Eq)]
+pub enum BookFault {
+    /// The budget or the room doesn't allow it.
+    Refused(ReserveFault),
+    /// It was granted, and its record wasn't appended.
+    Unwritten(AppendFault),
+}
+
+/// An owner's ledger, and the journal that keeps its records.
+#[derive(Drop)]
+pub struct Book<D: Disk> {
+    pub(crate) journal: Journal<D>,
+    pub(crate) ledger: Ledger,
+    pub(crate) header: Header,
+    /// The append that failed, if one has.
+    pub(crate) failure: Option<Failure>,
+}
+
+impl<D: Disk> Model for Book<D> {
+    ghost use Rattle.budget_ledger.specs.Account.{Account};
+    ghost use Rattle.budget_ledger.specs.Kept.{account_in, HoldsBook};
+
+    ghost Value = { Account };
+
+    ghost view = { λ b. account_in D.trace D.faults b.ledger b.header b.journal b.failure };
+
+    ghost invariant = { λ b. HoldsBook D.trace D.faults b.ledger b.header b.journal b.failure };
+}
+
+// Appends a record, if no append has failed.
+fn write_down<D: Disk>(
+    journal: &mut Journal<D>,
+    failure: &mut Option<Failure>,
+    next: &Record,
+) -> Result<(), AppendFault>
+    requires ready { failure.old ≡ None → is_closed journal.old ≡ false }
+    requires room { failure.old ≡ None → used journal.old < capacity_of journal.old }
+    requires valid { IsValid next.now }
+    ensures written { IfOk result (λ _. HasWritten D.trace D.faults next.now journal.old journal.new failure.old failure.new) }
+    ensures stopped { IfErr result (λ fault. IsUnappended D.trace D.faults next.now journal.old journal.new failure.old failure.new fault) }
+    ensures room { capacity_of journal.new ≡ capacity_of journal.old }
+{
+    if let Some(failure) = failure {
+        return Err(AppendFault::Closed {
+            failed_at: failure.failed_at,
+        });
+    }
+    match journal.append(next) {
+        Ok(()) => Ok(()),
+        Err(_) => {
+            *failure = Some(Failure {
+                failed_at: journal.fault_count(),
+                pending: *next,
+            });
+            Err(AppendFault::DiskFault)
+        }
+    }
+}
+
+impl<D: Disk> Book<D> {
+    /// Reserves for an ask, or says why not. After Ok a stop at any moment leaves the reservation.
+    pub fn reserve(&mut self, ask: &Ask) -> Result<Grant, BookFault>
+        requires { IsAskOf self.old.ledger.entry ask.now }
+        ensures answer { IsReserved self.old ask.now result self.new }
+        ensures went { Went self.old.ledger.records self.new.ledger.records self.old.storage self.new.storage }
+        ensures kept { IsBook self.new }
+    {
+        let grant = match self.ledger.verdict(ask) {
+            Ok(grant) => grant,
+            Err(fault) => return Err(BookFault::Refused(fault)),
+        };
+        let next = self.ledger.reservation(ask, &grant);
+        match write_down(&mut self.journal, &mut self.failure, &next) {
+            Ok(()) => {
+                self.ledger.reserve(ask, &grant);
+                Ok(grant)
+            }
+            Err(fault) => Err(BookFault::Unwritten(fault)),
+        }
+    }
+
+    /// Settles a reservation of this run, or says why not. It is never full. Gives the number of records. After Ok a
+    /// stop at any moment leaves the settlement.
+    pub fn settle(&mut self, number: u32, outcome: Outcome) -> Result<u32, AppendFault>
+        requires { IsUnsettled self.old.ledger number }
+        ensures answer { IsSettlementOf self.old number outcome result self.new }
+        ensures went { Went self.old.ledger.records self.new.ledger.records self.old.storage self.new.storage }
+        ensures kept { IsBook self.new }
+    {
+        let next = Record::Settle { number, outcome };
+        match write_down(&mut self.journal, &mut self.failure, &next) {
+            Ok(()) => Ok(self.ledger.settle(number, outcome)),
+            Err(fault) => Err(fault),
+        }
+    }
+
+    /// What an analyst is told of a number, by the records that were acknowledged.
+    pub fn recall(&self, number: u32, analyst: u16) -> Recall
+        ensures { result ≡ recalled self.now.ledger number analyst }
+    {
+        self.ledger.recall(number, analyst)
+    }
+
+    /// What is spent of the budget.
+    pub fn left(&self) -> Left
+        ensures { result ≡ left_of self.now.ledger }
+    {
+        self.ledger.left()
+    }
+
+    /// How many reservations there are, and how they ended.
+    pub fn counts(&self) -> Counts
+        ensures { result ≡ counts_of self.now.ledger.records }
+    {
+        self.ledger.counts()
+    }
+
+    /// The records' cost, within the budget.
+    pub fn spent(&self) -> u64
+        ensures spent { result ≡ cost_of self.now.ledger.records }
+        ensures book { IsBook self.now }
+    {
+        self.ledger.spent()
+    }
+
+    /// Whether an append has failed.
+    pub fn is_closed(&self) -> bool
+        ensures { IsTrue result ↔ IsSome self.now.storage.closed }
+    {
+        self.failure.is_some()
+    }
+
+    /// The records that were acknowledged, those found at the opening among them.
+    pub fn records(&self) -> &[Record]
+        ensures { result.now ≡ self.now.ledger.records }
+    {
+        self.ledger.records()
+    }
+
+    /// The owner's entry.
+    pub fn entry(&self) -> &Entry
+        ensures { result.now ≡ self.now.ledger.entry }
+    {
+        self.ledger.entry()
+    }
+
+    /// How many calls of the disk have failed.
+    pub fn fault_count(&self) -> u64
+        ensures { result ≡ self.now.storage.faults }
+    {
+        self.journal.fault_count()
+    }
+
+    /// Gives the disk back.
+    pub fn into_disk(self) -> D
+        ensures trace { D.trace result ≡ self.storage.trace }
+        ensures faults { D.faults result ≡ self.storage.faults }
+        ensures kept { IfSome (D.trace result) (IsKeptNow self.storage.header self.ledger.records self.storage.closed) }
+        ensures book { IsBook self }
+    {
+        self.journal.into_disk()
+    }
+}

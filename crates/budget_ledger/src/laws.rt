@@ -1,0 +1,23 @@
+//! How a book's states follow one another. Each function does nothing: its contract is the law.
+
+ghost use Rattle.budget_ledger.specs.Laws.{FollowsItself, FollowOn, LeavesMoments, OpensWhatStands};
+
+/// Each state follows itself.
+pub fn a_state_follows_itself()
+    ensures { FollowsItself }
+{}
+
+/// What follows a state that follows another follows that one.
+pub fn states_follow_on()
+    ensures { FollowOn }
+{}
+
+/// Since a book was at rest, each file that a stop may have left stands for records between then and now.
+pub fn since_rest_each_file_is_a_moment()
+    ensures { LeavesMoments }
+{}
+
+/// Bytes that stand for records each of which may follow are refused for the disk or for want of memory alone.
+pub fn what_stands_is_opened()
+    ensures { OpensWhatStands }
+{}

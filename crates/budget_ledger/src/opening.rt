@@ -1,0 +1,78 @@
+//! Opening a book that a stop may have left.
+
+ghost use Rattle.std.specs.Prelude.{◌≡◌, ℕ, ◌≤◌, ◌<◌, [], Some, None, List, length, take, slice_get, IfOk, IfErr};
+ghost use Rattle.std.specs.List.{All};
+ghost use Rattle.fz_outside.specs.Faults.{HasCause};
+ghost use Rattle.outside_disks.specs.Disks.{Trace, WhereTold, seen_of};
+ghost use Rattle.journal_records.specs.Encoding.{IsValid};
+ghost use Rattle.budget_journal.specs.Journals.{Found, MayHaveSynced};
+ghost use Rattle.budget_journal.specs.declared.opening.OpenFault.TheVariants.{DiskFault};
+ghost use Rattle.budget_core.specs.Sound.{IsSound};
+ghost use Rattle.budget_ledger.specs.Account.{IsBook};
+ghost use Rattle.budget_ledger.specs.Opened.{IsBookFault, IsFirstAstray};
+
+use crate::book::Book;
+use budget_core::entry::Entry;
+use budget_core::ledger::Ledger;
+use budget_journal::journal::Journal;
+use budget_journal::opening::OpenFault;
+use journal_records::records::{Header, Record};
+use outside_disks::disk::Disk;
+use std::alloc::Global;
+
+// Takes the found records into an empty ledger, up to the first that may not follow those before it.
+fn restore_all(ledger: &mut Ledger, records: &[Record]) -> Result<(), u32>
+    requires found { ledger.old.found ≡ [] }
+    requires records { ledger.old.records ≡ [] }
+    requires room { length records.now ≤ ledger.old.entry.capacity }
+    requires valid { All IsValid records.now }
+    requires sound { IsSound ledger.old }
+    ensures restored { IfOk result (λ _. ledger.new ≡ record { entry = ledger.old.entry; found = records.now; records = records.now }) }
+    ensures astray { IfErr result (λ k. IsFirstAstray ledger.old.entry records.now k) }
+    ensures sound { IsSound ledger.new }
+{
+    for slot in 0..records.len() {
+        if !ledger.restore(&records[slot]) {
+            return Err(slot as u32);
+        }
+    }
+    Ok(())
+}
+
+impl<D: Disk> Book<D> {
+    /// Opens the book of this entry and header that a stop may have left. The room for the whole capacity is taken here.
+    pub fn open(
+        alloc: Global,
+        disk: D,
+        entry: Entry,
+        header: &Header,
+    ) -> Result<Book<D>, (D, OpenFault)>
+        requires budget { header.now.budget ≡ entry.budget }
+        requires capacity { header.now.capacity ≡ entry.capacity }
+        ensures found { IfOk result (λ book. WhereTold (Found header.now book.ledger.found) (D.trace disk) book.storage.trace) }
+        ensures fresh { IfOk result (λ book. (book.ledger ≡ record { entry = entry; found = book.ledger.found; records = book.ledger.found })
+            × (book.storage ≡ record { header = header.now; trace = book.storage.trace; faults = D.faults disk; closed = None })) }
+        ensures book { IfOk result IsBook }
+
+        ensures refused { IfErr result (λ refused. (t : Trace) → D.trace disk ≡ Some t → IsBookFault entry header.now (seen_of t) refused.1) }
+        ensures kept { IfErr result (λ refused. MayHaveSynced (D.trace disk) (D.trace refused.0)) }
+        ensures cause { IfErr result (λ refused. HasCause (D.faults disk) (D.faults refused.0) (refused.1 ≡ DiskFault)) }
+    {
+        let Ok(mut ledger) = Ledger::new(alloc, entry) else {
+            return Err((disk, OpenFault::NoMemory));
+        };
+        let (journal, records) = match Journal::open(alloc, disk, header) {
+            Ok(opened) => opened,
+            Err(refused) => return Err(refused),
+        };
+        match restore_all(&mut ledger, &records) {
+            Ok(()) => Ok(Book {
+                journal,
+                ledger,
+                header: *header,
+                failure: None,
+            }),
+            Err(slot) => Err((journal.into_disk(), OpenFault::Damaged { slot })),
+        }
+    }
+}
