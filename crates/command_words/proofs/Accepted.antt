@@ -20,8 +20,8 @@ use Rattle.clap.specs.declared.parser.matches.ValueSource.TheVariants.{CommandLi
 use Rattle.clap.specs.declared.error.kind.ErrorKind.TheVariants as kind
 use Rattle.clap.proofs.CallerReads.{signed_reads}
 use Rattle.clap.proofs.ValueTestLemmas.{accepts-Accepts}
-use Rattle.command_words.specs.Program.{check_app, gap_app, greatest_workers, program_app, run_app, required_word, workers_option}
-use Rattle.command_words.specs.Command.{Command, check, run, gap, check_found_in, check_of, command_met, command_of, gap_found_in, gap_of, number_written, run_found_in, run_of}
+use Rattle.command_words.specs.Program.{audit_app, check_app, gap_app, greatest_workers, init_app, program_app, run_app, required_word, workers_option}
+use Rattle.command_words.specs.Command.{Command, check, init, run, audit, gap, audit_found_in, audit_of, check_found_in, check_of, command_met, command_of, gap_found_in, gap_of, init_found_in, init_of, number_written, run_found_in, run_of}
 use Rattle.command_words.proofs.Kept.{both_empty, holds_of_found, AllFine, DefaultKeeps, UseKeeps, level_keeps}
 use Rattle.command_words.proofs.Numbers.{number_reads}
 use Rattle.command_words.proofs.Parses.{command_refused, command_taken}
@@ -214,6 +214,12 @@ IsMet o = (c : Command) × (o ≡ Some c) × InRange c
 check_met : (a b c : Option Text) (x y z : Text) → a ≡ Some x → b ≡ Some y → c ≡ Some z → IsMet (check_of a b c)
 check_met a b c x y z e f g = (check x y z, rw (e, f, g) refl, tt)
 
+init_met : (a b : Option Text) (x y : Text) → a ≡ Some x → b ≡ Some y → IsMet (init_of a b)
+init_met a b x y e f = (init x y, rw (e, f) refl, tt)
+
+audit_met : (a b : Option Text) (x y : Text) → a ≡ Some x → b ≡ Some y → IsMet (audit_of a b)
+audit_met a b x y e f = (audit x y, rw (e, f) refl, tt)
+
 run_met : (a b : Option Text) (c : Option ℕ) (x y : Text) (z : ℕ) → a ≡ Some x → b ≡ Some y → c ≡ Some z → IsCount z → IsMet (run_of a b c)
 run_met a b c x y z e f g count = (run x y z, rw (e, f, g) refl, count)
 
@@ -231,8 +237,14 @@ checked s words e =
 abbrev pub check_shape : Shape
 check_shape = built_leaf (inherited program_app.top check_app.top)
 
+abbrev pub init_shape : Shape
+init_shape = built_leaf (inherited program_app.top init_app.top)
+
 abbrev pub run_shape : Shape
 run_shape = built_leaf (inherited program_app.top run_app.top)
+
+abbrev pub audit_shape : Shape
+audit_shape = built_leaf (inherited program_app.top audit_app.top)
 
 abbrev pub gap_shape : Shape
 gap_shape = built_leaf (inherited program_app.top gap_app.top)
@@ -250,6 +262,17 @@ check_accepted words e =
     let file = given_has (codes "file") rows fine third.0 in
     check_met _ _ _ catalog.0 owner.0 file.0 catalog.1 owner.1 file.1
 
+init_accepted : (words : List Text) → level_fault init_shape [] nothing_held words false [] ≡ [] → IsMet (init_found_in (rows_after init_shape.rules [] words))
+init_accepted words e =
+    let rows = rows_after init_shape.rules [] words in
+    let fine = level_keeps Fine init_shape [] (word_use 1 (codes "catalog") refl, (word_use 2 (codes "key") refl, tt)) (λ x. refl)
+    words false [] (word_default 1 (codes "catalog"), (word_default 2 (codes "key"), tt)) e in
+    let first = given_first (is_given (codes "catalog") rows) _ (none_missing _ (checked init_shape words e)) in
+    let second = given_first (is_given (codes "key") rows) _ first.1 in
+    let catalog = given_has (codes "catalog") rows fine first.0 in
+    let key = given_has (codes "key") rows fine second.0 in
+    init_met _ _ catalog.0 key.0 catalog.1 key.1
+
 run_accepted : (words : List Text) → level_fault run_shape [] nothing_held words false [] ≡ [] → IsMet (run_found_in (rows_after run_shape.rules [] words))
 run_accepted words e =
     let rows = rows_after run_shape.rules [] words in
@@ -262,6 +285,17 @@ run_accepted words e =
     let named = with_default (with_default (settled run_shape.rules (walk run_shape.rules [] nothing_held words).held).rows (word_at 1 (codes "catalog"))) (word_at 2 (codes "key")) in
     let workers = workers_read rows fine (workers_there 3 named) in
     run_met _ _ _ catalog.0 key.0 workers.0 catalog.1 key.1 workers.1 workers.2
+
+audit_accepted : (words : List Text) → level_fault audit_shape [] nothing_held words false [] ≡ [] → IsMet (audit_found_in (rows_after audit_shape.rules [] words))
+audit_accepted words e =
+    let rows = rows_after audit_shape.rules [] words in
+    let fine = level_keeps Fine audit_shape [] (word_use 1 (codes "catalog") refl, (word_use 2 (codes "key") refl, tt)) (λ x. refl)
+    words false [] (word_default 1 (codes "catalog"), (word_default 2 (codes "key"), tt)) e in
+    let first = given_first (is_given (codes "catalog") rows) _ (none_missing _ (checked audit_shape words e)) in
+    let second = given_first (is_given (codes "key") rows) _ first.1 in
+    let catalog = given_has (codes "catalog") rows fine first.0 in
+    let key = given_has (codes "key") rows fine second.0 in
+    audit_met _ _ catalog.0 key.0 catalog.1 key.1
 
 gap_accepted : (words : List Text) → level_fault gap_shape [] nothing_held words false [] ≡ [] → IsMet (gap_found_in (rows_after gap_shape.rules [] words))
 gap_accepted words e =
@@ -285,16 +319,22 @@ stop_accepted : (rows : List Row) (stop : Option (Text × List Text)) → entere
     → check_fault (built program_app).top rows (is_some (entered (built program_app) stop)) ≡ [] → IsMet (command_met (entered (built program_app) stop))
 stop_accepted rows None below e = cc e
 stop_accepted rows (Some (name, words)) below e =
-    go (answers_to name (codes "check", [])) (answers_to name (codes "run", [])) (answers_to name (codes "gap", [])) below e
+    go (answers_to name (codes "check", [])) (answers_to name (codes "init", [])) (answers_to name (codes "run", [])) (answers_to name (codes "audit", []))
+    (answers_to name (codes "gap", [])) below e
   where
-    go : (a b c : Bool)
-        → option_map_or (λ s. level_fault s [] nothing_held words false []) (cond a (Some check_shape) (cond b (Some run_shape) (cond c (Some gap_shape) None))) [] ≡ []
-        → check_fault (built program_app).top rows (is_some (option_map (λ s. rows_at s words) (cond a (Some check_shape) (cond b (Some run_shape) (cond c (Some gap_shape) None))))) ≡ []
-        → IsMet (command_met (option_map (λ s. rows_at s words) (cond a (Some check_shape) (cond b (Some run_shape) (cond c (Some gap_shape) None)))))
-    go true b c below e = check_accepted words below
-    go false true c below e = run_accepted words below
-    go false false true below e = gap_accepted words below
-    go false false false below e = cc e
+    met : (a b c d g : Bool) → Option Shape
+    met a b c d g = cond a (Some check_shape) (cond b (Some init_shape) (cond c (Some run_shape) (cond d (Some audit_shape) (cond g (Some gap_shape) None))))
+
+    go : (a b c d g : Bool)
+        → option_map_or (λ s. level_fault s [] nothing_held words false []) (met a b c d g) [] ≡ []
+        → check_fault (built program_app).top rows (is_some (option_map (λ s. rows_at s words) (met a b c d g))) ≡ []
+        → IsMet (command_met (option_map (λ s. rows_at s words) (met a b c d g)))
+    go true b c d g below e = check_accepted words below
+    go false true c d g below e = init_accepted words below
+    go false false true d g below e = run_accepted words below
+    go false false false true g below e = audit_accepted words below
+    go false false false false true below e = gap_accepted words below
+    go false false false false false below e = cc e
 
 pub accepted : (words : List Text) → fault_of program_app words ≡ [] → IsMet (command_of words)
 accepted words e =

@@ -1,16 +1,24 @@
 -- worked examples of the command that words are, from the written rules
 use Rattle.std.proofs.Common.{◌≡◌, refl, [], ◌∷◌, Some, None, codes}
 use Rattle.clap.proofs.OnLiterals.{clap_on_literals}
-use Rattle.command_words.specs.Command.{check, run, gap, command_of, number_written}
+use Rattle.command_words.specs.Command.{check, init, run, audit, gap, command_of, number_written}
 
 -- each command
 a_check : command_of (codes "check" ∷ codes "c" ∷ codes "o" ∷ codes "f" ∷ []) ≡ Some (check (codes "c") (codes "o") (codes "f"))
 unfolding command_of clap_on_literals
 a_check = refl
 
+an_init : command_of (codes "init" ∷ codes "c" ∷ codes "k" ∷ []) ≡ Some (init (codes "c") (codes "k"))
+unfolding command_of clap_on_literals
+an_init = refl
+
 a_run : command_of (codes "run" ∷ codes "c" ∷ codes "k" ∷ []) ≡ Some (run (codes "c") (codes "k") 1)
 unfolding command_of clap_on_literals
 a_run = refl
+
+an_audit : command_of (codes "audit" ∷ codes "c" ∷ codes "k" ∷ []) ≡ Some (audit (codes "c") (codes "k"))
+unfolding command_of clap_on_literals
+an_audit = refl
 
 a_gap : command_of (codes "gap" ∷ codes "c" ∷ codes "o" ∷ codes "d" ∷ codes "f" ∷ []) ≡ Some (gap (codes "c") (codes "o") (codes "d") (codes "f"))
 unfolding command_of clap_on_literals
@@ -103,6 +111,14 @@ empty_command : command_of (codes "" ∷ []) ≡ None
 unfolding command_of clap_on_literals
 empty_command = refl
 
+begun_init : command_of (codes "ini" ∷ codes "c" ∷ codes "k" ∷ []) ≡ None
+unfolding command_of clap_on_literals
+begun_init = refl
+
+capital_audit : command_of (codes "Audit" ∷ codes "c" ∷ codes "k" ∷ []) ≡ None
+unfolding command_of clap_on_literals
+capital_audit = refl
+
 unknown_command : command_of (codes "serve" ∷ codes "c" ∷ codes "k" ∷ []) ≡ None
 unfolding command_of clap_on_literals
 unknown_command = refl
@@ -144,6 +160,30 @@ run_long : command_of (codes "run" ∷ codes "c" ∷ codes "k" ∷ codes "l" ∷
 unfolding command_of clap_on_literals
 run_long = refl
 
+init_alone : command_of (codes "init" ∷ []) ≡ None
+unfolding command_of clap_on_literals
+init_alone = refl
+
+init_short : command_of (codes "init" ∷ codes "c" ∷ []) ≡ None
+unfolding command_of clap_on_literals
+init_short = refl
+
+init_long : command_of (codes "init" ∷ codes "c" ∷ codes "k" ∷ codes "l" ∷ []) ≡ None
+unfolding command_of clap_on_literals
+init_long = refl
+
+audit_alone : command_of (codes "audit" ∷ []) ≡ None
+unfolding command_of clap_on_literals
+audit_alone = refl
+
+audit_short : command_of (codes "audit" ∷ codes "c" ∷ []) ≡ None
+unfolding command_of clap_on_literals
+audit_short = refl
+
+audit_long : command_of (codes "audit" ∷ codes "c" ∷ codes "k" ∷ codes "l" ∷ []) ≡ None
+unfolding command_of clap_on_literals
+audit_long = refl
+
 gap_alone : command_of (codes "gap" ∷ []) ≡ None
 unfolding command_of clap_on_literals
 gap_alone = refl
@@ -160,6 +200,14 @@ gap_long = refl
 workers_of_check : command_of (codes "check" ∷ codes "c" ∷ codes "o" ∷ codes "f" ∷ codes "--workers" ∷ codes "1" ∷ []) ≡ None
 unfolding command_of clap_on_literals
 workers_of_check = refl
+
+workers_of_init : command_of (codes "init" ∷ codes "c" ∷ codes "k" ∷ codes "--workers" ∷ codes "1" ∷ []) ≡ None
+unfolding command_of clap_on_literals
+workers_of_init = refl
+
+workers_of_audit : command_of (codes "audit" ∷ codes "c" ∷ codes "k" ∷ codes "--workers" ∷ codes "1" ∷ []) ≡ None
+unfolding command_of clap_on_literals
+workers_of_audit = refl
 
 workers_of_gap : command_of (codes "gap" ∷ codes "c" ∷ codes "o" ∷ codes "d" ∷ codes "f" ∷ codes "--workers" ∷ codes "1" ∷ []) ≡ None
 unfolding command_of clap_on_literals
@@ -251,6 +299,10 @@ names_of_commands : command_of (codes "check" ∷ codes "check" ∷ codes "run" 
 unfolding command_of clap_on_literals
 names_of_commands = refl
 
+names_of_other_commands : command_of (codes "init" ∷ codes "audit" ∷ codes "init" ∷ []) ≡ Some (init (codes "audit") (codes "init"))
+unfolding command_of clap_on_literals
+names_of_other_commands = refl
+
 help_as_a_name : command_of (codes "run" ∷ codes "help" ∷ codes "k" ∷ []) ≡ Some (run (codes "help") (codes "k") 1)
 unfolding command_of clap_on_literals
 help_as_a_name = refl
@@ -302,6 +354,30 @@ help_alone_of_check : command_of (codes "check" ∷ codes "--help" ∷ []) ≡ N
 unfolding command_of clap_on_literals
 help_alone_of_check = refl
 
+help_behind_init : command_of (codes "init" ∷ codes "c" ∷ codes "k" ∷ codes "--help" ∷ []) ≡ None
+unfolding command_of clap_on_literals
+help_behind_init = refl
+
+version_behind_init : command_of (codes "init" ∷ codes "c" ∷ codes "k" ∷ codes "--version" ∷ []) ≡ None
+unfolding command_of clap_on_literals
+version_behind_init = refl
+
+help_alone_of_init : command_of (codes "init" ∷ codes "--help" ∷ []) ≡ None
+unfolding command_of clap_on_literals
+help_alone_of_init = refl
+
+help_behind_audit : command_of (codes "audit" ∷ codes "c" ∷ codes "k" ∷ codes "--help" ∷ []) ≡ None
+unfolding command_of clap_on_literals
+help_behind_audit = refl
+
+version_behind_audit : command_of (codes "audit" ∷ codes "c" ∷ codes "k" ∷ codes "--version" ∷ []) ≡ None
+unfolding command_of clap_on_literals
+version_behind_audit = refl
+
+help_alone_of_audit : command_of (codes "audit" ∷ codes "--help" ∷ []) ≡ None
+unfolding command_of clap_on_literals
+help_alone_of_audit = refl
+
 help_behind_gap : command_of (codes "gap" ∷ codes "c" ∷ codes "o" ∷ codes "d" ∷ codes "f" ∷ codes "--help" ∷ []) ≡ None
 unfolding command_of clap_on_literals
 help_behind_gap = refl
@@ -330,6 +406,22 @@ version_flag_as_a_name = refl
 hyphens_of_check : command_of (codes "check" ∷ codes "--" ∷ codes "-c" ∷ codes "-o" ∷ codes "--" ∷ []) ≡ Some (check (codes "-c") (codes "-o") (codes "--"))
 unfolding command_of clap_on_literals
 hyphens_of_check = refl
+
+hyphens_of_init : command_of (codes "init" ∷ codes "--" ∷ codes "-c" ∷ codes "--" ∷ []) ≡ Some (init (codes "-c") (codes "--"))
+unfolding command_of clap_on_literals
+hyphens_of_init = refl
+
+hyphens_bare_of_init : command_of (codes "init" ∷ codes "c" ∷ codes "-k" ∷ []) ≡ None
+unfolding command_of clap_on_literals
+hyphens_bare_of_init = refl
+
+hyphens_of_audit : command_of (codes "audit" ∷ codes "--" ∷ codes "-c" ∷ codes "--" ∷ []) ≡ Some (audit (codes "-c") (codes "--"))
+unfolding command_of clap_on_literals
+hyphens_of_audit = refl
+
+hyphens_bare_of_audit : command_of (codes "audit" ∷ codes "c" ∷ codes "-k" ∷ []) ≡ None
+unfolding command_of clap_on_literals
+hyphens_bare_of_audit = refl
 
 hyphens_of_gap : command_of (codes "gap" ∷ codes "c" ∷ codes "--" ∷ codes "-o" ∷ codes "-d" ∷ codes "-f" ∷ []) ≡ Some (gap (codes "c") (codes "-o") (codes "-d") (codes "-f"))
 unfolding command_of clap_on_literals
@@ -364,6 +456,10 @@ hyphens_are_no_word = refl
 name_of_two_bytes : command_of (codes "run" ∷ (195 ∷ 169 ∷ []) ∷ codes "k" ∷ []) ≡ Some (run (195 ∷ 169 ∷ []) (codes "k") 1)
 unfolding command_of clap_on_literals
 name_of_two_bytes = refl
+
+key_of_a_byte : command_of (codes "init" ∷ codes "c" ∷ (255 ∷ []) ∷ []) ≡ Some (init (codes "c") (255 ∷ []))
+unfolding command_of clap_on_literals
+key_of_a_byte = refl
 
 name_of_a_byte : command_of (codes "check" ∷ codes "c" ∷ (255 ∷ []) ∷ codes "f" ∷ []) ≡ Some (check (codes "c") (255 ∷ []) (codes "f"))
 unfolding command_of clap_on_literals

@@ -15,7 +15,7 @@ use Rattle.command_words.specs.Command.{Command, command_met, command_named, com
 use Rattle.command_words.specs.Table.{begins_with_hyphen, plain_command}
 use Rattle.command_words.proofs.Kept.{both_empty, holds_of_found}
 use Rattle.command_words.proofs.Parses.{command_refused}
-use Rattle.command_words.proofs.Accepted.{check_shape, gap_shape, run_shape}
+use Rattle.command_words.proofs.Accepted.{audit_shape, check_shape, gap_shape, init_shape, run_shape}
 
 abbrev pub IsPlainWord : Text → Type 0
 IsPlainWord word = begins_with_hyphen word ≡ false
@@ -164,6 +164,15 @@ check_leaf (catalog ∷ owner ∷ file ∷ []) = refl
 check_leaf (catalog ∷ owner ∷ file ∷ more ∷ []) = refl
 check_leaf (catalog ∷ owner ∷ file ∷ more ∷ word ∷ words) = refl
 
+init_leaf : (words : List Text) → plain_leaf init_shape words ≡ plain_command (codes "init" ∷ words)
+unfolding defaults_fault
+init_leaf [] = refl
+init_leaf (catalog ∷ []) = refl
+init_leaf (catalog ∷ key ∷ []) = refl
+init_leaf (catalog ∷ key ∷ more ∷ []) = refl
+init_leaf (catalog ∷ key ∷ more ∷ word ∷ []) = refl
+init_leaf (catalog ∷ key ∷ more ∷ word ∷ next ∷ words) = refl
+
 run_leaf : (words : List Text) → plain_leaf run_shape words ≡ plain_command (codes "run" ∷ words)
 unfolding defaults_fault
 run_leaf [] = refl
@@ -172,6 +181,15 @@ run_leaf (catalog ∷ key ∷ []) = refl
 run_leaf (catalog ∷ key ∷ more ∷ []) = refl
 run_leaf (catalog ∷ key ∷ more ∷ word ∷ []) = refl
 run_leaf (catalog ∷ key ∷ more ∷ word ∷ next ∷ words) = refl
+
+audit_leaf : (words : List Text) → plain_leaf audit_shape words ≡ plain_command (codes "audit" ∷ words)
+unfolding defaults_fault
+audit_leaf [] = refl
+audit_leaf (catalog ∷ []) = refl
+audit_leaf (catalog ∷ key ∷ []) = refl
+audit_leaf (catalog ∷ key ∷ more ∷ []) = refl
+audit_leaf (catalog ∷ key ∷ more ∷ word ∷ []) = refl
+audit_leaf (catalog ∷ key ∷ more ∷ word ∷ next ∷ words) = refl
 
 gap_leaf : (words : List Text) → plain_leaf gap_shape words ≡ plain_command (codes "gap" ∷ words)
 unfolding defaults_fault
@@ -231,6 +249,11 @@ unfolding walked defaults_fault
 check_is words plain = named (codes "check") words refl refl ∙ left_to check_shape (level_fault check_shape [] nothing_held words false []) words
     ∙ leaf_is check_shape ((refl, refl), ((refl, refl), ((refl, refl), tt))) words plain ∙ check_leaf words
 
+init_is : (words : List Text) → ArePlain words → command_of (codes "init" ∷ words) ≡ plain_command (codes "init" ∷ words)
+unfolding walked defaults_fault
+init_is words plain = named (codes "init") words refl refl ∙ left_to init_shape (level_fault init_shape [] nothing_held words false []) words
+    ∙ leaf_is init_shape ((refl, refl), ((refl, refl), tt)) words plain ∙ init_leaf words
+
 -- the words after `run` are its own
 pub run_left : (words : List Text) → command_of (codes "run" ∷ words) ≡ leaf run_shape words
 unfolding walked defaults_fault
@@ -239,6 +262,11 @@ run_left words = named (codes "run") words refl refl ∙ left_to run_shape (leve
 run_is : (words : List Text) → ArePlain words → command_of (codes "run" ∷ words) ≡ plain_command (codes "run" ∷ words)
 run_is words plain = run_left words
     ∙ leaf_is run_shape ((refl, refl), ((refl, refl), ((refl, refl), tt))) words plain ∙ run_leaf words
+
+audit_is : (words : List Text) → ArePlain words → command_of (codes "audit" ∷ words) ≡ plain_command (codes "audit" ∷ words)
+unfolding walked defaults_fault
+audit_is words plain = named (codes "audit") words refl refl ∙ left_to audit_shape (level_fault audit_shape [] nothing_held words false []) words
+    ∙ leaf_is audit_shape ((refl, refl), ((refl, refl), tt)) words plain ∙ audit_leaf words
 
 gap_is : (words : List Text) → ArePlain words → command_of (codes "gap" ∷ words) ≡ plain_command (codes "gap" ∷ words)
 unfolding walked defaults_fault
@@ -254,18 +282,9 @@ stray_is name words plain unnamed = command_refused (name ∷ words) (λ well.
     let stray = both_empty (turn_fault top names start name) _ walked_well.0 in
     cc (stray.0, turn_at top names nothing_held 1 name plain unnamed))
 
-untabled : (name : Text) (words : List Text) → bytes_eq name (codes "check") ≡ false → bytes_eq name (codes "run") ≡ false → bytes_eq name (codes "gap") ≡ false
-    → plain_command (name ∷ words) ≡ None
-untabled name [] a b c = refl
-untabled name (x ∷ []) a b c = refl
-untabled name (x ∷ y ∷ []) a b c = rw b refl
-untabled name (x ∷ y ∷ z ∷ []) a b c = rw a refl
-untabled name (x ∷ y ∷ z ∷ w ∷ []) a b c = rw c refl
-untabled name (x ∷ y ∷ z ∷ w ∷ v ∷ words) a b c = refl
-
-unmet : (name : Text) → bytes_eq (codes "check") name ≡ false → bytes_eq (codes "run") name ≡ false → bytes_eq (codes "gap") name ≡ false
-    → subcommand_met names idle name ≡ None
-unmet name a b c = rw (a, b, c) refl
+-- the word is no command's name
+abbrev IsNone : (name : Text) → Type 0
+IsNone name = (bytes_eq (codes "check") name ≡ false) × (bytes_eq (codes "init") name ≡ false) × (bytes_eq (codes "run") name ≡ false) × (bytes_eq (codes "audit") name ≡ false) × (bytes_eq (codes "gap") name ≡ false)
 
 flipped : (a b : Text) → bytes_eq a a ≡ true → bytes_eq a b ≡ false → bytes_eq b a ≡ false
 flipped a b same apart = go (bytes_eq b a) refl
@@ -277,18 +296,39 @@ flipped a b same apart = go (bytes_eq b a) refl
         let both : bytes_eq a a ≡ false = subst (λ (x : Text). bytes_eq a x ≡ false) equal apart in
         cc (same, both)
 
+untabled : (name : Text) (words : List Text) → IsNone name → plain_command (name ∷ words) ≡ None
+untabled name [] none = refl
+untabled name (x ∷ []) none = refl
+untabled name (x ∷ y ∷ []) none =
+    rw (flipped (codes "init") name refl none.1, flipped (codes "run") name refl none.2, flipped (codes "audit") name refl none.3) refl
+untabled name (x ∷ y ∷ z ∷ []) none = rw (flipped (codes "check") name refl none.0) refl
+untabled name (x ∷ y ∷ z ∷ w ∷ []) none = rw (flipped (codes "gap") name refl none.4) refl
+untabled name (x ∷ y ∷ z ∷ w ∷ v ∷ words) none = refl
+
+unmet : (name : Text) → IsNone name → subcommand_met names idle name ≡ None
+unmet name none = rw (none.0, none.1, none.2, none.3, none.4) refl
+
 abbrev IsTabled : List Text → Type 0
 IsTabled words = command_of words ≡ plain_command words
 
 pub plain_is_tabled : (words : List Text) → ArePlain words → IsTabled words
 unfolding command_of walk_fault defaults_fault
 plain_is_tabled [] plain = refl
-plain_is_tabled (name ∷ words) plain = go (bytes_eq (codes "check") name) refl (bytes_eq (codes "run") name) refl (bytes_eq (codes "gap") name) refl
+plain_is_tabled (name ∷ words) plain =
+    go (bytes_eq (codes "check") name) refl (bytes_eq (codes "init") name) refl (bytes_eq (codes "run") name) refl (bytes_eq (codes "audit") name) refl
+    (bytes_eq (codes "gap") name) refl
   where
-    go : (a : Bool) → bytes_eq (codes "check") name ≡ a → (b : Bool) → bytes_eq (codes "run") name ≡ b → (c : Bool) → bytes_eq (codes "gap") name ≡ c
-        → IsTabled (name ∷ words)
-    go true e b f c g = subst (λ (n : Text). IsTabled (n ∷ words)) ((bytes_eq-Decides (codes "check") name).0 e) (check_is words plain.1)
-    go false e true f c g = subst (λ (n : Text). IsTabled (n ∷ words)) ((bytes_eq-Decides (codes "run") name).0 f) (run_is words plain.1)
-    go false e false f true g = subst (λ (n : Text). IsTabled (n ∷ words)) ((bytes_eq-Decides (codes "gap") name).0 g) (gap_is words plain.1)
-    go false e false f false g = stray_is name words plain.0 (unmet name e f g)
-        ∙ sym (untabled name words (flipped (codes "check") name refl e) (flipped (codes "run") name refl f) (flipped (codes "gap") name refl g))
+    -- the word is that name
+    by : (other : Text) → bytes_eq other name ≡ true → IsTabled (other ∷ words) → IsTabled (name ∷ words)
+    by other e tabled = subst (λ (n : Text). IsTabled (n ∷ words)) ((bytes_eq-Decides other name).0 e) tabled
+
+    go : (a : Bool) → bytes_eq (codes "check") name ≡ a → (b : Bool) → bytes_eq (codes "init") name ≡ b → (c : Bool) → bytes_eq (codes "run") name ≡ c
+        → (d : Bool) → bytes_eq (codes "audit") name ≡ d → (g : Bool) → bytes_eq (codes "gap") name ≡ g → IsTabled (name ∷ words)
+    go true e b f c h d i g j = by (codes "check") e (check_is words plain.1)
+    go false e true f c h d i g j = by (codes "init") f (init_is words plain.1)
+    go false e false f true h d i g j = by (codes "run") h (run_is words plain.1)
+    go false e false f false h true i g j = by (codes "audit") i (audit_is words plain.1)
+    go false e false f false h false i true j = by (codes "gap") j (gap_is words plain.1)
+    go false e false f false h false i false j =
+        let none : IsNone name = (e, f, h, i, j) in
+        stray_is name words plain.0 (unmet name none) ∙ sym (untabled name words none)

@@ -9,8 +9,12 @@ use Rattle.command_words.specs.Program.{program_app}
 pub data Command : Type 0 where
   -- `check CATALOG OWNER FILE`: the names of a file, of an owner and of another file
   check : (catalog owner file : List ℕ) → Command
+  -- `init CATALOG KEY`: the names of two files
+  init : (catalog key : List ℕ) → Command
   -- `run CATALOG KEY --workers W`: the names of two files, and a number of workers
   run : (catalog key : List ℕ) (workers : ℕ) → Command
+  -- `audit CATALOG KEY`: the names of two files
+  audit : (catalog key : List ℕ) → Command
   -- `gap CATALOG OWNER CATALOG2 FILE`: the names of a file, of an owner and of two other files
   gap : (catalog owner second_catalog file : List ℕ) → Command
 
@@ -24,9 +28,17 @@ abbrev pub check_of : (catalog owner file : Option Text) → Option Command
 check_of (Some catalog) (Some owner) (Some file) = Some (check catalog owner file)
 check_of _ _ _ = None
 
+abbrev pub init_of : (catalog key : Option Text) → Option Command
+init_of (Some catalog) (Some key) = Some (init catalog key)
+init_of _ _ = None
+
 abbrev pub run_of : (catalog key : Option Text) (workers : Option ℕ) → Option Command
 run_of (Some catalog) (Some key) (Some workers) = Some (run catalog key workers)
 run_of _ _ _ = None
+
+abbrev pub audit_of : (catalog key : Option Text) → Option Command
+audit_of (Some catalog) (Some key) = Some (audit catalog key)
+audit_of _ _ = None
 
 abbrev pub gap_of : (catalog owner second_catalog file : Option Text) → Option Command
 gap_of (Some catalog) (Some owner) (Some second_catalog) (Some file) = Some (gap catalog owner second_catalog file)
@@ -36,9 +48,15 @@ gap_of _ _ _ _ = None
 abbrev pub check_found_in : List Row → Option Command
 check_found_in found = check_of (first_of (codes "catalog") found) (first_of (codes "owner") found) (first_of (codes "file") found)
 
+abbrev pub init_found_in : List Row → Option Command
+init_found_in found = init_of (first_of (codes "catalog") found) (first_of (codes "key") found)
+
 abbrev pub run_found_in : List Row → Option Command
 run_found_in found = run_of (first_of (codes "catalog") found) (first_of (codes "key") found)
     (option_and_then number_written (one_of (codes "workers") found))
+
+abbrev pub audit_found_in : List Row → Option Command
+audit_found_in found = audit_of (first_of (codes "catalog") found) (first_of (codes "key") found)
 
 abbrev pub gap_found_in : List Row → Option Command
 gap_found_in found = gap_of (first_of (codes "catalog") found) (first_of (codes "owner") found)
@@ -48,7 +66,9 @@ gap_found_in found = gap_of (first_of (codes "catalog") found) (first_of (codes 
 abbrev pub command_named : (name : Text) → (found : List Row) → Option Command
 command_named name found =
     if bytes_eq name (codes "check") then check_found_in found
+    else if bytes_eq name (codes "init") then init_found_in found
     else if bytes_eq name (codes "run") then run_found_in found
+    else if bytes_eq name (codes "audit") then audit_found_in found
     else if bytes_eq name (codes "gap") then gap_found_in found
     else None
 

@@ -26,8 +26,18 @@ with_word app name = with_rule app (required_word name)
 abbrev pub check_app : App
 check_app = with_word (with_word (with_word (new_app (codes "check")) (codes "catalog")) (codes "owner")) (codes "file")
 
+-- the command of this name, with the names of a catalog and of a key
+abbrev pub files_app : (name : Text) → App
+files_app name = with_word (with_word (new_app name) (codes "catalog")) (codes "key")
+
+abbrev pub init_app : App
+init_app = files_app (codes "init")
+
 abbrev pub run_app : App
-run_app = with_rule (with_word (with_word (new_app (codes "run")) (codes "catalog")) (codes "key")) workers_option
+run_app = with_rule (files_app (codes "run")) workers_option
+
+abbrev pub audit_app : App
+audit_app = files_app (codes "audit")
 
 abbrev pub gap_app : App
 gap_app = with_word (with_word (with_word (with_word (new_app (codes "gap")) (codes "catalog")) (codes "owner"))
@@ -45,4 +55,5 @@ bare_program = let app = new_app (codes "hitchseason") in record app {
 }
 
 abbrev pub program_app : App
-program_app = with_subcommand (with_subcommand (with_subcommand bare_program check_app.top) run_app.top) gap_app.top
+program_app = with_subcommand (with_subcommand (with_subcommand (with_subcommand (with_subcommand bare_program check_app.top)
+    init_app.top) run_app.top) audit_app.top) gap_app.top

@@ -1,6 +1,6 @@
 -- the commands of words without options, as a table
 use Rattle.std.specs.Prelude.{◌==◌, ◌&&◌, ℕ, Bool, false, List, [], ◌∷◌, Option, Some, None, codes, bytes_eq, if◌then◌else◌, nat_le, option_and_then}
-use Rattle.command_words.specs.Command.{Command, check, run, gap, number_written}
+use Rattle.command_words.specs.Command.{Command, check, init, run, audit, gap, number_written}
 use Rattle.command_words.specs.Program.{greatest_workers}
 
 -- the word begins with `-` (45), as options do
@@ -12,7 +12,11 @@ abbrev pub plain_command : List (List ℕ) → Option Command
 plain_command [] = None
 plain_command (name ∷ []) = None
 plain_command (name ∷ catalog ∷ []) = None
-plain_command (name ∷ catalog ∷ key ∷ []) = if bytes_eq name (codes "run") then Some (run catalog key 1) else None
+plain_command (name ∷ catalog ∷ key ∷ []) =
+    if bytes_eq name (codes "init") then Some (init catalog key)
+    else if bytes_eq name (codes "run") then Some (run catalog key 1)
+    else if bytes_eq name (codes "audit") then Some (audit catalog key)
+    else None
 plain_command (name ∷ catalog ∷ owner ∷ file ∷ []) = if bytes_eq name (codes "check") then Some (check catalog owner file) else None
 plain_command (name ∷ catalog ∷ owner ∷ second_catalog ∷ file ∷ []) =
     if bytes_eq name (codes "gap") then Some (gap catalog owner second_catalog file) else None

@@ -3,7 +3,7 @@
 ghost use Rattle.std.specs.Prelude.{◌≡◌, IfOk, codes, false};
 ghost use Rattle.clap.specs.Words.{app_of, rule_of};
 ghost use Rattle.clap.specs.declared.builder.command.Command.TheViews.{out-Command};
-ghost use Rattle.command_words.specs.Program.{check_app, gap_app, program_app, required_word, run_app};
+ghost use Rattle.command_words.specs.Program.{check_app, files_app, gap_app, program_app, required_word, run_app};
 
 use clap::{Arg, Command, value_parser};
 use std::alloc::{AllocError, Global};
@@ -30,6 +30,16 @@ fn check_command<'a>(alloc: Global) -> Result<Command<'a>, AllocError>
         .arg(word(alloc, "file"))
 }
 
+/// The command of this name, with the names of a catalog and of a key.
+fn files_command<'a>(alloc: Global, name: &'a str) -> Result<Command<'a>, AllocError>
+    ensures shape { IfOk result (λ c. app_of c ≡ files_app name.entry.now) }
+    ensures local { IfOk result (λ c. (out-Command c).has_globals ≡ false) }
+{
+    Command::new(alloc, name)
+        .arg(word(alloc, "catalog"))?
+        .arg(word(alloc, "key"))
+}
+
 /// `run CATALOG KEY --workers W`.
 fn run_command<'a>(alloc: Global) -> Result<Command<'a>, AllocError>
     ensures shape { IfOk result (λ c. app_of c ≡ run_app) }
@@ -39,10 +49,7 @@ fn run_command<'a>(alloc: Global) -> Result<Command<'a>, AllocError>
         .long("workers")
         .value_parser(value_parser!(u32).range(1..WORKERS_END))
         .default_value("1");
-    Command::new(alloc, "run")
-        .arg(word(alloc, "catalog"))?
-        .arg(word(alloc, "key"))?
-        .arg(workers)
+    files_command(alloc, "run")?.arg(workers)
 }
 
 /// `gap CATALOG OWNER CATALOG2 FILE`.
@@ -62,7 +69,9 @@ pub fn program_command<'a>(alloc: Global) -> Result<Command<'a>, AllocError>
     ensures { IfOk result (λ c. app_of c ≡ program_app) }
 {
     let check = check_command(alloc)?;
+    let init = files_command(alloc, "init")?;
     let run = run_command(alloc)?;
+    let audit = files_command(alloc, "audit")?;
     let gap = gap_command(alloc)?;
     Command::new(alloc, "hitchseason")
         .no_binary_name(true)
@@ -70,6 +79,8 @@ pub fn program_command<'a>(alloc: Global) -> Result<Command<'a>, AllocError>
         .disable_help_flag(true)
         .disable_help_subcommand(true)
         .subcommand(check)?
+        .subcommand(init)?
         .subcommand(run)?
+        .subcommand(audit)?
         .subcommand(gap)
 }

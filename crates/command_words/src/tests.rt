@@ -40,10 +40,13 @@ fn reads_words(rt: HostRuntime) -> Result<(), AllocError> {
         file: "f",
     });
     let usage = Err(WordsFault::Usage);
-    let rows: [(&[&str], Result<Command<'_>, WordsFault>); 40] = [
+    let (catalog, key) = ("c", "k");
+    let rows: [(&[&str], Result<Command<'_>, WordsFault>); 46] = [
         // each command
         (&["check", "c", "o", "f"], check("c", "o", "f")),
+        (&["init", "c", "k"], Ok(Command::Init { catalog, key })),
         (&["run", "c", "k"], run("c", "k")),
+        (&["audit", "c", "k"], Ok(Command::Audit { catalog, key })),
         (&["gap", "c", "o", "d", "f"], gap),
         // the option, at each place, in both forms, with each numeral of 1
         (&["run", "c", "k", "--workers", "1"], run("c", "k")),
@@ -73,12 +76,16 @@ fn reads_words(rt: HostRuntime) -> Result<(), AllocError> {
         // a word too few, and one too many
         (&["check", "c", "o"], usage),
         (&["check", "c", "o", "f", "g"], usage),
+        (&["init", "c"], usage),
+        (&["audit", "c", "k", "l"], usage),
         (&["run", "c"], usage),
         (&["run", "c", "k", "l"], usage),
         (&["gap", "c", "o", "d"], usage),
         (&["gap", "c", "o", "d", "f", "g"], usage),
         // options that aren't there
         (&["check", "c", "o", "f", "--workers", "1"], usage),
+        (&["init", "c", "k", "--workers", "1"], usage),
+        (&["audit", "c", "k", "--workers=1"], usage),
         (&["run", "c", "k", "--seed", "1"], usage),
         (&["run", "-w", "1", "c", "k"], usage),
         (&["--workers", "1", "run", "c", "k"], usage),

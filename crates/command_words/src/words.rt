@@ -2,7 +2,7 @@
 
 ghost use Rattle.std.specs.Prelude.{◌≡◌, ◌≢◌, [], IfErr, IfOk, None, Some, map, option_and_then, option_map, string_bytes};
 ghost use Rattle.clap.specs.Words.{fault_of, first_of, found_of, one_of, rows_of, subcommand_of, subcommand_rows_of};
-ghost use Rattle.command_words.specs.Command.{check_found_in, command_met, command_of, gap_found_in, number_written, run_found_in};
+ghost use Rattle.command_words.specs.Command.{audit_found_in, check_found_in, command_met, command_of, gap_found_in, init_found_in, number_written, run_found_in};
 ghost use Rattle.command_words.specs.Program.{program_app};
 ghost use Rattle.command_words.specs.Meant.{command_meant};
 
@@ -19,10 +19,18 @@ pub enum Command<'a> {
         owner: &'a str,
         file: &'a str,
     },
+    Init {
+        catalog: &'a str,
+        key: &'a str,
+    },
     Run {
         catalog: &'a str,
         key: &'a str,
         workers: u32,
+    },
+    Audit {
+        catalog: &'a str,
+        key: &'a str,
     },
     Gap {
         catalog: &'a str,
@@ -83,6 +91,16 @@ fn check_found<'a>(found: &ArgMatches<'a>) -> Option<Command<'a>>
     })
 }
 
+/// `init`, with what was found for it.
+fn init_found<'a>(found: &ArgMatches<'a>) -> Option<Command<'a>>
+    ensures { option_map command_meant result ≡ init_found_in (rows_of (found_of found.now)) }
+{
+    Some(Command::Init {
+        catalog: text_found(found, "catalog")?,
+        key: text_found(found, "key")?,
+    })
+}
+
 /// `run`, with what was found for it.
 fn run_found<'a>(found: &ArgMatches<'a>) -> Option<Command<'a>>
     ensures { option_map command_meant result ≡ run_found_in (rows_of (found_of found.now)) }
@@ -91,6 +109,16 @@ fn run_found<'a>(found: &ArgMatches<'a>) -> Option<Command<'a>>
         catalog: text_found(found, "catalog")?,
         key: text_found(found, "key")?,
         workers: number_found(found, "workers")?,
+    })
+}
+
+/// `audit`, with what was found for it.
+fn audit_found<'a>(found: &ArgMatches<'a>) -> Option<Command<'a>>
+    ensures { option_map command_meant result ≡ audit_found_in (rows_of (found_of found.now)) }
+{
+    Some(Command::Audit {
+        catalog: text_found(found, "catalog")?,
+        key: text_found(found, "key")?,
     })
 }
 
@@ -112,7 +140,9 @@ fn command_found<'a>(matches: &ArgMatches<'a>) -> Option<Command<'a>>
 {
     match matches.subcommand() {
         Some(("check", found)) => check_found(found),
+        Some(("init", found)) => init_found(found),
         Some(("run", found)) => run_found(found),
+        Some(("audit", found)) => audit_found(found),
         Some(("gap", found)) => gap_found(found),
         _ => None,
     }
@@ -121,7 +151,9 @@ fn command_found<'a>(matches: &ArgMatches<'a>) -> Option<Command<'a>>
 /// The command that the words are; they leave out the program's own name.
 ///
 /// - `check CATALOG OWNER FILE`
+/// - `init CATALOG KEY`
 /// - `run CATALOG KEY`, perhaps with `--workers W`: W is 1, also where it isn't given.
+/// - `audit CATALOG KEY`
 /// - `gap CATALOG OWNER CATALOG2 FILE`
 ///
 /// `Usage` comes exactly where clap's parse of the words answers a fault, and `NoMemory` may come at any words.

@@ -1,40 +1,15 @@
 -- An epsilon is read as its grammar says.
-use Rattle.std.proofs.Common.{◌≡◌, ◌≢◌, ℕ, ◌+◌, ◌-◌, ◌*◌, ◌^◌, ◌<◌, ◌≤◌, ◌&&◌, Bool, true, false, cond, eqb, ltb, leb, List, [], ◌∷◌, ◌++◌, length, get_or, take, All, Option, Some, None, ◌⊎◌, inl, inr, refl, sym, ap, ◌∙◌, arith, rules}
-use Rattle.std.specs.List.{list_all, onto_first, slice_split, AllByRecursion}
-use Rattle.std.specs.Char.{is_ascii_digit, digit_value}
-use Rattle.std.specs.Str.Parse.{digits_value}
+use Rattle.std.proofs.Common.{◌≡◌, ◌≢◌, ℕ, ◌^◌, ◌<◌, ◌≤◌, ◌&&◌, Bool, true, false, cond, eqb, ltb, leb, List, [], ◌∷◌, ◌++◌, length, All, Option, Some, None, ◌⊎◌, inl, inr, refl, sym, ap, ◌∙◌, arith}
+use Rattle.std.specs.List.{list_all, onto_first, slice_split}
+use Rattle.std.specs.Char.{is_ascii_digit}
 use Rattle.std.proofs.Math.Nat.{pow-le-pow_right}
-use Rattle.std.proofs.lemmas.Bool.{ne_eqb, cases_Bool, false≢true, ltb-true, leb-true, lt-ltb, le-leb, eqb-true, and_left, and_right, and_from, and_parts, cond-true, cond-false}
+use Rattle.std.proofs.lemmas.Bool.{ne_eqb, cases_Bool, ltb-true, leb-true, lt-ltb, le-leb, eqb-true, and_left, and_right, and_from, and_parts, cond-true, cond-false}
 use Rattle.std.proofs.lemmas.Option.{cond_some, none-some}
-use Rattle.std.proofs.lemmas.List.Elements.{All-from_recursion}
 use Rattle.std.proofs.lemmas.List.Splits.{slice_split_at, slice_split_none, slice_split-cons_yes, slice_split-cons_no}
-use Rattle.std.proofs.lemmas.Str.Parse.{IsNumeralModel, numerals_by_value, IsDigitsTest, digits_value_short, digit_at, digits_value-take-le}
-use Rattle.std.proofs.lemmas.Str.{digit_value_digit}
-use Rattle.std.proofs.lemmas.Int.Digits.{digits_value_more}
 use Rattle.wire_lines.proofs.Cuts.{cut_cases}
-use Rattle.wire_lines.specs.Epsilon.{point, GREATEST, IsNumeral, IsEpsilonText, is_numeral, in_millionths, epsilon_in_range, epsilon_between, epsilon_of}
-
-tells_digits : IsDigitsTest (λ ds. list_all is_ascii_digit ds ≡ true)
-tells_digits = search rules
-
--- the digits as `parse` has them
-pub numerals : IsNumeralModel (λ ds. list_all is_ascii_digit ds ≡ true) (digits_value 10)
-numerals = numerals_by_value _ tells_digits
-
-pub short_value : (digits : List ℕ) → list_all is_ascii_digit digits ≡ true → length digits ≤ 6 → digits_value 10 digits < 1000000
-short_value digits all short = digits_value_short numerals digits 6 all short
-
--- what the digit at i adds to the number of those before it
-pub next_digit : (digits : List ℕ) (i : ℕ) → list_all is_ascii_digit digits ≡ true → length digits ≤ 6 → i < length digits
-    → (48 ≤ get_or digits i 0) × (get_or digits i 0 ≤ 57)
-    × (digits_value 10 (take (i + 1) digits) ≡ digits_value 10 (take i digits) * 10 + (get_or digits i 0 - 48))
-    × (digits_value 10 (take (i + 1) digits) < 1000000)
-next_digit digits i all short within =
-    let (low, high) = digit_at digits i (numerals.to digits all) within in
-    let front : digits_value 10 (take (i + 1) digits) ≤ digits_value 10 digits = digits_value-take-le 10 digits (i + 1) (omega arith) in
-    let bound = short_value digits all short in
-    let value : digit_value (get_or digits i 0) + 48 ≡ get_or digits i 0 = digit_value_digit (get_or digits i 0) (low, high) in
-    (low, high, digits_value_more 10 digits i within ∙ ap (λ d. digits_value 10 (take i digits) * 10 + d) (omega arith), omega arith)
+use Rattle.wire_lines.proofs.Numerals.{numeral_from, numeral_to, digits_apart}
+use Rattle.wire_lines.specs.Number.{IsNumeral, is_numeral}
+use Rattle.wire_lines.specs.Epsilon.{point, GREATEST, IsEpsilonText, in_millionths, epsilon_in_range, epsilon_between, epsilon_of}
 
 pub scale_small : (k : ℕ) → k ≤ 6 → 10 ^ k ≤ 1000000
 scale_small k small = pow-le-pow_right {n = 10} (omega arith) small
@@ -80,16 +55,6 @@ epsilon_cut text whole fraction apart cut =
           (and_right (is_numeral 4 whole) (is_numeral 6 fraction) (and_right (ltb 0 (length fraction) && leb (length fraction) 6) (list_all is_ascii_digit fraction) other)))
     ]
 
--- what a test of digits says
-numeral_from : (n : ℕ) (text : List ℕ) → is_numeral n text ≡ true → IsNumeral n text
-numeral_from n text h =
-    let (sized, digits) = and_parts (ltb 0 (length text) && leb (length text) n) (list_all is_ascii_digit text) h in
-    let (some, short) = and_parts (ltb 0 (length text)) (leb (length text) n) sized in
-    (ltb-true 0 (length text) some, leb-true (length text) n short, digits)
-
-numeral_to : (n : ℕ) (text : List ℕ) → IsNumeral n text → is_numeral n text ≡ true
-numeral_to n text (some, short, digits) = and_from _ _ (and_from _ _ (lt-ltb 0 (length text) some) (le-leb (length text) n short)) digits
-
 range_from : (m n : ℕ) → epsilon_in_range m ≡ Some n → (n ≡ m) × (0 < n) × (n ≤ GREATEST)
 range_from m n h =
     let (inside, same) = cond_some (ltb 0 m && leb m GREATEST) m n h in
@@ -101,15 +66,8 @@ range_from m n h =
 range_to : (m n : ℕ) → n ≡ m → 0 < n → n ≤ GREATEST → epsilon_in_range m ≡ Some n
 range_to m n same low high = cond-true (ltb 0 m && leb m GREATEST) _ _ (and_from _ _ (lt-ltb 0 m (omega arith)) (le-leb m GREATEST (omega arith))) ∙ ap (λ k. Some k) (sym same)
 
--- no digit is a point
-apart_digits : (text : List ℕ) → list_all is_ascii_digit text ≡ true → AllByRecursion (λ b. b ≢ point) text
-apart_digits [] digits = tt
-apart_digits (c ∷ cs) digits =
-    let (one, rest) = and_parts (is_ascii_digit c) (list_all is_ascii_digit cs) digits in
-    (λ (at : c ≡ point). false≢true (sym (ap is_ascii_digit at) ∙ one), apart_digits cs rest)
-
 no_point : (n : ℕ) (text : List ℕ) → IsNumeral n text → All (λ b. b ≢ point) text
-no_point n text (some, short, digits) = All-from_recursion _ text (apart_digits text digits)
+no_point n text (some, short, digits) = digits_apart point refl text digits
 
 chosen : (b : Bool) (o : Option ℕ) (n : ℕ) → cond b o None ≡ Some n → (b ≡ true) × (o ≡ Some n)
 chosen true o n h = (refl, h)

@@ -4,13 +4,16 @@ use Rattle.std.specs.Fmt.{digits}
 use Rattle.fz_frac.specs.Distance.{Fin, Inf}
 use Rattle.wire_lines.specs.Lines.{lines_of, words_of, joined}
 use Rattle.wire_lines.specs.Name.{is_name}
+use Rattle.wire_lines.specs.Number.{number_of}
 use Rattle.wire_lines.specs.Epsilon.{epsilon_of}
-use Rattle.wire_lines.specs.Request.{hello, ask, bye, line_limit, request_of, fault_of}
-use Rattle.wire_lines.specs.Refusal.{by_line, by_program, by_money, by_number, no_memory, no_token, no_term, too_nested, ill_typed, too_sensitive, out_of_range, unbounded, no_number, too_deep, too_long, too_wide}
-use Rattle.wire_lines.specs.Reply.{greeted, answered, ended, refused, reply_text}
+use Rattle.wire_lines.specs.Request.{hello, ask, recall, left, bye, line_limit, request_of, fault_of}
+use Rattle.wire_lines.specs.Refusal.{by_line, by_program, by_money, by_disk, by_number, no_memory, no_token, no_term, too_nested, ill_typed, too_sensitive, out_of_range, unbounded, no_number, too_deep, too_long, too_wide}
+use Rattle.wire_lines.specs.Reply.{greeted, answered, recalled, remaining, ended, refused, reply_text}
 use Rattle.wire_lines.specs.declared.refusal.LineRefusal.TheVariants.{Malformed, TooLong, Unknown, NoEpsilon, NoHello}
 use Rattle.wire_lines.specs.declared.refusal.MoneyRefusal.TheVariants.{OverBudget, JournalFull}
-use Rattle.wire_lines.specs.declared.refusal.NumberRefusal.TheVariants.{Exhausted, Lost}
+use Rattle.wire_lines.specs.declared.refusal.DiskRefusal.TheVariants.{Closed, Fault as DiskFault}
+use Rattle.wire_lines.specs.declared.refusal.NumberRefusal.TheVariants.{Exhausted as NoNoise, Lost as NoAnswer, Unknown as NoSuchNumber, NotYours}
+use Rattle.wire_lines.specs.declared.reply.Standing.TheVariants.{Answered, Open, Lost, Exhausted}
 use Rattle.wire_lines.specs.declared.refusal.TypeFault.TheVariants.{Unbound, Mismatch, NotGround, NotFlat}
 use Rattle.wire_lines.proofs.Requests.{long_from, long_to}
 
@@ -162,6 +165,46 @@ comma = refl
 empty_epsilon : epsilon_of [] ≡ None
 empty_epsilon = refl
 
+-- Numbers: 1 to 10 digits, leading zeros among them, below 2^32.
+number_zero : number_of (codes "0") ≡ Some 0
+number_zero = refl
+
+number_seven : number_of (codes "7") ≡ Some 7
+number_seven = refl
+
+greatest_number : number_of (codes "4294967295") ≡ Some 4294967295
+greatest_number = refl
+
+number_above : number_of (codes "4294967296") ≡ None
+number_above = refl
+
+greatest_of_ten_digits : number_of (codes "9999999999") ≡ None
+greatest_of_ten_digits = refl
+
+ten_digits : number_of (codes "0000000012") ≡ Some 12
+ten_digits = refl
+
+eleven_digits : number_of (codes "00000000012") ≡ None
+eleven_digits = refl
+
+ten_zeros : number_of (codes "0000000000") ≡ Some 0
+ten_zeros = refl
+
+number_with_sign : number_of (codes "+1") ≡ None
+number_with_sign = refl
+
+number_below_zero : number_of (codes "-1") ≡ None
+number_below_zero = refl
+
+number_with_point : number_of (codes "1.0") ≡ None
+number_with_point = refl
+
+number_of_letters : number_of (codes "1a") ≡ None
+number_of_letters = refl
+
+empty_number : number_of [] ≡ None
+empty_number = refl
+
 -- Requests.
 a_hello : request_of (codes "hello ann") ≡ Ok (hello (codes "ann"))
 unfolding request_of
@@ -181,6 +224,22 @@ empty_program = refl
 no_epsilon : request_of (codes "ask census x 1") ≡ Ok (ask (codes "census") None (codes "1"))
 unfolding request_of
 no_epsilon = refl
+
+a_recall : request_of (codes "recall census 0") ≡ Ok (recall (codes "census") 0)
+unfolding request_of
+a_recall = refl
+
+recall_with_zeros : request_of (codes "recall census 0000000012") ≡ Ok (recall (codes "census") 12)
+unfolding request_of
+recall_with_zeros = refl
+
+recall_of_the_greatest : request_of (codes "recall census 4294967295") ≡ Ok (recall (codes "census") 4294967295)
+unfolding request_of
+recall_of_the_greatest = refl
+
+a_left : request_of (codes "left census") ≡ Ok (left (codes "census"))
+unfolding request_of
+a_left = refl
 
 a_bye : request_of (codes "bye") ≡ Ok bye
 unfolding request_of
@@ -247,6 +306,72 @@ no_program : request_of (codes "ask census 1") ≡ Err (Malformed 3)
 unfolding request_of
 no_program = refl
 
+recall_alone : request_of (codes "recall") ≡ Err (Malformed 1)
+unfolding request_of
+recall_alone = refl
+
+recall_two_spaces : request_of (codes "recall  0") ≡ Err (Malformed 1)
+unfolding request_of
+recall_two_spaces = refl
+
+recall_no_number : request_of (codes "recall census") ≡ Err (Malformed 2)
+unfolding request_of
+recall_no_number = refl
+
+recall_and_space : request_of (codes "recall census ") ≡ Err (Malformed 2)
+unfolding request_of
+recall_and_space = refl
+
+recall_two_spaces_behind : request_of (codes "recall census  0") ≡ Err (Malformed 2)
+unfolding request_of
+recall_two_spaces_behind = refl
+
+recall_above : request_of (codes "recall census 4294967296") ≡ Err (Malformed 2)
+unfolding request_of
+recall_above = refl
+
+recall_eleven_digits : request_of (codes "recall census 00000000012") ≡ Err (Malformed 2)
+unfolding request_of
+recall_eleven_digits = refl
+
+recall_of_no_number : request_of (codes "recall census x") ≡ Err (Malformed 2)
+unfolding request_of
+recall_of_no_number = refl
+
+-- the first of two faults is said
+recall_first_fault : request_of (codes "recall census x 2") ≡ Err (Malformed 2)
+unfolding request_of
+recall_first_fault = refl
+
+recall_two_numbers : request_of (codes "recall census 1 2") ≡ Err (Malformed 3)
+unfolding request_of
+recall_two_numbers = refl
+
+recall_space_behind : request_of (codes "recall census 1 ") ≡ Err (Malformed 3)
+unfolding request_of
+recall_space_behind = refl
+
+left_alone : request_of (codes "left") ≡ Err (Malformed 1)
+unfolding request_of
+left_alone = refl
+
+left_two_spaces : request_of (codes "left  census") ≡ Err (Malformed 1)
+unfolding request_of
+left_two_spaces = refl
+
+left_space_behind : request_of (codes "left census ") ≡ Err (Malformed 2)
+unfolding request_of
+left_space_behind = refl
+
+left_two_words : request_of (codes "left census 0") ≡ Err (Malformed 2)
+unfolding request_of
+left_two_words = refl
+
+-- a line that asks of a part is no kind of line
+parts_not_asked : request_of (codes "askpart census area A 1 1") ≡ Err (Malformed 0)
+unfolding request_of
+parts_not_asked = refl
+
 bye_and_space : request_of (codes "bye ") ≡ Err (Malformed 1)
 unfolding request_of
 bye_and_space = refl
@@ -257,6 +382,18 @@ bye_and_word = refl
 
 no_program_word : fault_of (codes "ask census 1") ≡ Some 3
 no_program_word = refl
+
+no_number_word : fault_of (codes "recall census 4294967296") ≡ Some 2
+no_number_word = refl
+
+a_number_word : fault_of (codes "recall census 4294967295") ≡ None
+a_number_word = refl
+
+a_word_too_many : fault_of (codes "recall census 1 2") ≡ Some 3
+a_word_too_many = refl
+
+two_faults : fault_of (codes "recall census x 2") ≡ Some 2
+two_faults = refl
 
 no_fault : fault_of (codes "ask census 1 ") ≡ None
 no_fault = refl
@@ -292,6 +429,36 @@ least_answer = refl
 greatest_answer : reply_text (answered 10 (pos 9223372036854775807) 1000000000000000000) ≡ codes "answer 10 9223372036854775807 1000000000000000000\n"
 unfolding reply_text digits
 greatest_answer = refl
+
+-- number, what became of it, records seen
+recalled_answer : reply_text (recalled 0 (Answered (pos 5)) 2) ≡ codes "recall 0 answer 5 2\n"
+unfolding reply_text digits
+recalled_answer = refl
+
+recalled_least : reply_text (recalled 4294967295 (Answered (negsuc 9223372036854775807)) 262144) ≡ codes "recall 4294967295 answer -9223372036854775808 262144\n"
+unfolding reply_text digits
+recalled_least = refl
+
+recalled_open : reply_text (recalled 3 Open 7) ≡ codes "recall 3 open 7\n"
+unfolding reply_text digits
+recalled_open = refl
+
+recalled_lost : reply_text (recalled 0 Lost 1) ≡ codes "recall 0 lost 1\n"
+unfolding reply_text digits
+recalled_lost = refl
+
+recalled_exhausted : reply_text (recalled 1 Exhausted 4) ≡ codes "recall 1 exhausted 4\n"
+unfolding reply_text digits
+recalled_exhausted = refl
+
+-- spent, budget, records seen
+what_is_left : reply_text (remaining 1000000 10000000 1) ≡ codes "left 1000000 10000000 1\n"
+unfolding reply_text digits
+what_is_left = refl
+
+nothing_spent : reply_text (remaining 0 1000000000000000000 0) ≡ codes "left 0 1000000000000000000 0\n"
+unfolding reply_text digits
+nothing_spent = refl
 
 a_farewell : reply_text ended ≡ codes "bye\n"
 unfolding reply_text digits
@@ -393,13 +560,31 @@ code_41 : reply_text (refused (by_money (JournalFull 100 1 102))) ≡ codes "no 
 unfolding reply_text digits
 code_41 = refl
 
-code_50 : reply_text (refused (by_number (Exhausted 7))) ≡ codes "no 50 7\n"
+-- the count of the disk's faults when the owner was closed
+code_42 : reply_text (refused (by_disk (Closed 1))) ≡ codes "no 42 1\n"
+unfolding reply_text digits
+code_42 = refl
+
+code_50 : reply_text (refused (by_number (NoNoise 7))) ≡ codes "no 50 7\n"
 unfolding reply_text digits
 code_50 = refl
 
-code_51 : reply_text (refused (by_number (Lost 8))) ≡ codes "no 51 8\n"
+code_51 : reply_text (refused (by_number (NoAnswer 8))) ≡ codes "no 51 8\n"
 unfolding reply_text digits
 code_51 = refl
+
+code_52 : reply_text (refused (by_disk DiskFault)) ≡ codes "no 52\n"
+unfolding reply_text digits
+code_52 = refl
+
+-- number, records seen
+code_60 : reply_text (refused (by_number (NoSuchNumber 1 2))) ≡ codes "no 60 1 2\n"
+unfolding reply_text digits
+code_60 = refl
+
+code_61 : reply_text (refused (by_number (NotYours 0 2))) ≡ codes "no 61 0 2\n"
+unfolding reply_text digits
+code_61 = refl
 
 code_90 : reply_text (refused no_memory) ≡ codes "no 90\n"
 unfolding reply_text digits

@@ -13,16 +13,19 @@ use Rattle.std.proofs.lemmas.Fmt.{length-decimal-le, digits_decimal, digits_valu
 use Rattle.std.proofs.lemmas.List.Splits.{length-slice_split, slice_split_none, slice_split_at}
 use Rattle.wire_lines.specs.Lines.{lf, space, words_of, pieces_of}
 use Rattle.fz_frac.specs.Distance.{Distance, Fin, Inf}
-use Rattle.wire_lines.specs.Refusal.{ProgramRefusal, no_token, no_term, too_nested, ill_typed, too_sensitive, out_of_range, unbounded, no_number, too_deep, too_long, too_wide, Refusal, by_line, by_program, by_money, by_number, no_memory}
-use Rattle.wire_lines.specs.Reply.{Replied, greeted, answered, ended, refused, Datum, number, signed, text, ratio, datum_text, sensitivity_text, reply_words, refusal_words, reply_text, HasSize, IsReply, type_fault_text}
+use Rattle.wire_lines.specs.Refusal.{ProgramRefusal, no_token, no_term, too_nested, ill_typed, too_sensitive, out_of_range, unbounded, no_number, too_deep, too_long, too_wide, Refusal, by_line, by_program, by_money, by_disk, by_number, no_memory}
+use Rattle.wire_lines.specs.Reply.{Replied, greeted, answered, recalled, remaining, ended, refused, Datum, number, signed, text, ratio, datum_text, sensitivity_text, reply_words, refusal_words, reply_text, HasSize, IsReply, type_fault_text}
 use Rattle.wire_lines.specs.declared.refusal.LineRefusal.{LineRefusal}
 use Rattle.wire_lines.specs.declared.refusal.LineRefusal.TheVariants.{Malformed, TooLong, Unknown, NoEpsilon, NoHello}
 use Rattle.wire_lines.specs.declared.refusal.MoneyRefusal.TheVariants.{OverBudget, JournalFull}
-use Rattle.wire_lines.specs.declared.refusal.NumberRefusal.TheVariants.{Exhausted, Lost}
+use Rattle.wire_lines.specs.declared.reply.Standing.{Standing}
+use Rattle.wire_lines.specs.declared.reply.Standing.TheVariants.{Answered, Open, Lost, Exhausted}
+use Rattle.wire_lines.specs.declared.refusal.DiskRefusal.TheVariants.{Closed, Fault as DiskFault}
+use Rattle.wire_lines.specs.declared.refusal.NumberRefusal.TheVariants.{Exhausted as NoNoise, Lost as NoAnswer, Unknown as NoSuchNumber, NotYours}
 use Rattle.wire_lines.specs.declared.refusal.TypeFault.{TypeFault}
 use Rattle.wire_lines.specs.declared.refusal.TypeFault.TheVariants.{Unbound, Mismatch, NotGround, NotFlat}
 use Rattle.wire_lines.proofs.Cuts.{pieces_of_at}
-use Rattle.wire_lines.proofs.Epsilons.{numerals}
+use Rattle.wire_lines.proofs.Numerals.{numerals}
 use Rattle.wire_lines.proofs.Requests.{words_one}
 
 pub decimal_short : (n : ℕ) → n < 2 ^ 32 → length (decimal n) ≤ 10
@@ -131,10 +134,22 @@ nth words i = get_or words i []
 abbrev num : List (List ℕ) → ℕ → ℕ
 num words i = value (nth words i)
 
+abbrev standing_value : List ℕ → Standing
+standing_value word = cond (bytes_eq word (codes "open")) Open (cond (bytes_eq word (codes "lost")) Lost Exhausted)
+
+-- an answer has a word more than another standing
+abbrev recalled_value : List (List ℕ) → Replied
+recalled_value ws =
+    cond (bytes_eq (nth ws 1) (codes "answer"))
+    (recalled (num ws 0) (Answered (signed_value (nth ws 2))) (num ws 3))
+    (recalled (num ws 0) (standing_value (nth ws 1)) (num ws 2))
+
 abbrev rows : List (List ℕ × (List (List ℕ) → Replied))
 rows =
     (codes "hello", λ ws. greeted (nth ws 0))
     ∷ (codes "answer", λ ws. answered (num ws 0) (signed_value (nth ws 1)) (num ws 2))
+    ∷ (codes "recall", λ ws. recalled_value ws)
+    ∷ (codes "left", λ ws. remaining (num ws 0) (num ws 1) (num ws 2))
     ∷ (codes "bye", λ ws. ended)
     ∷ (codes "10", λ ws. refused (by_line (Malformed (num ws 0))))
     ∷ (codes "11", λ ws. refused (by_line TooLong))
@@ -154,8 +169,12 @@ rows =
     ∷ (codes "37", λ ws. refused (by_program (too_wide (num ws 0) (num ws 1) (num ws 2))))
     ∷ (codes "40", λ ws. refused (by_money (OverBudget (num ws 0) (num ws 1) (num ws 2) (num ws 3))))
     ∷ (codes "41", λ ws. refused (by_money (JournalFull (num ws 0) (num ws 1) (num ws 2))))
-    ∷ (codes "50", λ ws. refused (by_number (Exhausted (num ws 0))))
-    ∷ (codes "51", λ ws. refused (by_number (Lost (num ws 0))))
+    ∷ (codes "42", λ ws. refused (by_disk (Closed (num ws 0))))
+    ∷ (codes "50", λ ws. refused (by_number (NoNoise (num ws 0))))
+    ∷ (codes "51", λ ws. refused (by_number (NoAnswer (num ws 0))))
+    ∷ (codes "52", λ ws. refused (by_disk DiskFault))
+    ∷ (codes "60", λ ws. refused (by_number (NoSuchNumber (num ws 0) (num ws 1))))
+    ∷ (codes "61", λ ws. refused (by_number (NotYours (num ws 0) (num ws 1))))
     ∷ (codes "90", λ ws. refused no_memory)
     ∷ []
 
@@ -215,6 +234,11 @@ ratio_is (Fin p q) (first, second) =
 read_back_is : (reply : Replied) → IsReply reply → read_back (words_in reply) ≡ reply
 read_back_is (greeted analyst) h = refl
 read_back_is (answered n z taken) h = rw (value_is n h.0, signed_is z h.1.0, value_is taken h.1.1.0) refl
+read_back_is (recalled n (Answered z) seen) h = rw (value_is n h.0, signed_is z h.1.1.0, value_is seen h.1.1.1.0) refl
+read_back_is (recalled n Open seen) h = rw (value_is n h.0, value_is seen h.1.1.0) refl
+read_back_is (recalled n Lost seen) h = rw (value_is n h.0, value_is seen h.1.1.0) refl
+read_back_is (recalled n Exhausted seen) h = rw (value_is n h.0, value_is seen h.1.1.0) refl
+read_back_is (remaining spent budget seen) h = rw (value_is spent h.0, value_is budget h.1.0, value_is seen h.1.1.0) refl
 read_back_is ended h = refl
 read_back_is (refused (by_line (Malformed n))) h = rw (value_is n h.0) refl
 read_back_is (refused (by_line TooLong)) h = refl
@@ -234,8 +258,12 @@ read_back_is (refused (by_program (too_long from to))) h = rw (value_is from h.0
 read_back_is (refused (by_program (too_wide from to width))) h = rw (value_is from h.0, value_is to h.1.0, value_is width h.1.1.0) refl
 read_back_is (refused (by_money (OverBudget spent after budget seen))) h = rw (value_is spent h.0, value_is after h.1.0, value_is budget h.1.1.0, value_is seen h.1.1.1.0) refl
 read_back_is (refused (by_money (JournalFull used unsettled capacity))) h = rw (value_is used h.0, value_is unsettled h.1.0, value_is capacity h.1.1.0) refl
-read_back_is (refused (by_number (Exhausted n))) h = rw (value_is n h.0) refl
-read_back_is (refused (by_number (Lost n))) h = rw (value_is n h.0) refl
+read_back_is (refused (by_disk (Closed failed_at))) h = rw (value_is failed_at h.0) refl
+read_back_is (refused (by_disk DiskFault)) h = refl
+read_back_is (refused (by_number (NoNoise n))) h = rw (value_is n h.0) refl
+read_back_is (refused (by_number (NoAnswer n))) h = rw (value_is n h.0) refl
+read_back_is (refused (by_number (NoSuchNumber n seen))) h = rw (value_is n h.0, value_is seen h.1.0) refl
+read_back_is (refused (by_number (NotYours n seen))) h = rw (value_is n h.0, value_is seen h.1.0) refl
 read_back_is (refused no_memory) h = refl
 
 -- No LF stands before the one at the end.
@@ -270,14 +298,20 @@ refusal_no_lf (by_line refusal) = line_no_lf refusal
 refusal_no_lf (by_program refusal) = program_no_lf refusal
 refusal_no_lf (by_money (OverBudget spent after budget seen)) = refl
 refusal_no_lf (by_money (JournalFull used unsettled capacity)) = refl
-refusal_no_lf (by_number (Exhausted n)) = refl
-refusal_no_lf (by_number (Lost n)) = refl
+refusal_no_lf (by_disk (Closed failed_at)) = refl
+refusal_no_lf (by_disk DiskFault) = refl
+refusal_no_lf (by_number (NoNoise n)) = refl
+refusal_no_lf (by_number (NoAnswer n)) = refl
+refusal_no_lf (by_number (NoSuchNumber n seen)) = refl
+refusal_no_lf (by_number (NotYours n seen)) = refl
 refusal_no_lf no_memory = refl
 
 kind_no_lf : (reply : Replied) → no_lf (reply_words reply).0 ≡ true
 unfolding no_lf
 kind_no_lf (greeted analyst) = refl
 kind_no_lf (answered n z taken) = refl
+kind_no_lf (recalled n standing seen) = refl
+kind_no_lf (remaining spent budget seen) = refl
 kind_no_lf ended = refl
 kind_no_lf (refused refusal) = refusal_no_lf refusal
 

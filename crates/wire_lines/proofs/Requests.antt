@@ -2,19 +2,22 @@
 use Rattle.std.proofs.Common.{◌≡◌, ◌≢◌, ◌↔◌, ℕ, ◌<◌, ◌≤◌, true, false, not, eqb, ltb, List, [], ◌∷◌, ◌++◌, length, All, Option, Some, None, Result, Ok, Err, IfOk, IfErr, codes, bytes_eq, inl, inr, refl, sym, ap, subst, ◌∙◌, arith, append_assoc}
 use Rattle.std.specs.Prelude.{⊤}
 use Rattle.std.specs.List.{list_all, AllByRecursion}
+use Rattle.std.specs.Str.Parse.{digits_value}
 use Rattle.std.proofs.lemmas.Bool.{ne_eqb, eqb-false, not-true, and_parts, cases_Bool, cases_lt, lt-ltb, le-ltb, cond-true, cond-false}
 use Rattle.std.proofs.lemmas.List.Elements.{All-from_recursion}
 use Rattle.std.proofs.lemmas.List.Splits.{slice_split_at, slice_split_none, join_with_byte-slice_split}
 use Rattle.std.proofs.lemmas.Option.{none-some, same_Some}
 use Rattle.std.proofs.lemmas.Slice.Eq.{bytes_eq-Decides}
 use Rattle.wire_lines.specs.Lines.{space, words_of, joined}
+use Rattle.wire_lines.specs.Number.{IsNumberText, is_number}
 use Rattle.wire_lines.specs.Epsilon.{epsilon_of}
-use Rattle.wire_lines.specs.Request.{Asked, hello, ask, bye, IsWord, IsAmount, IsRequest, line_limit, one_word, all_rest, fault_from, fault_among, fault_of, word_at, rest_at, end_at, hello_from, ask_from, bye_from, request_from, request_of, asked, reading, HasEpsilonInRange}
+use Rattle.wire_lines.specs.Request.{Asked, hello, ask, recall, left, bye, IsWord, IsAmount, IsRequest, line_limit, one_word, one_number, all_rest, fault_from, fault_among, fault_of, word_at, rest_at, end_at, hello_from, ask_from, recall_from, left_from, bye_from, request_from, request_of, asked, reading, HasEpsilonInRange}
 use Rattle.wire_lines.specs.declared.request.Request.{Request}
-use Rattle.wire_lines.specs.declared.request.Request.TheVariants.{Hello, Ask, Bye}
+use Rattle.wire_lines.specs.declared.request.Request.TheVariants.{Hello, Ask, Recall, Left, Bye}
 use Rattle.wire_lines.specs.declared.refusal.LineRefusal.{LineRefusal}
 use Rattle.wire_lines.specs.declared.refusal.LineRefusal.TheVariants.{Malformed, TooLong, Unknown, NoEpsilon, NoHello}
 use Rattle.wire_lines.specs.Refusal.{IsFormRefusal}
+use Rattle.wire_lines.proofs.Numerals.{is_number_from, is_number_to, digits_apart}
 use Rattle.wire_lines.proofs.Epsilons.{epsilon_from, epsilon_to}
 
 apart_tests : (line : List ℕ) → All (λ b. b ≢ space) line → All (λ b. eqb b space ≡ false) line
@@ -105,6 +108,33 @@ ask_found ((b ∷ bytes) ∷ (c ∷ amount) ∷ w ∷ words) r apart h =
     subst (λ q. IsRequest (joined (codes "ask" ∷ (b ∷ bytes) ∷ (c ∷ amount) ∷ w ∷ words)) q) same
     (c ∷ amount, a_word (b ∷ bytes) (omega arith) apart.0, a_word (c ∷ amount) (omega arith) apart.1.0, amount_is (c ∷ amount), ap (λ ys. codes "ask " ++ b ∷ ys) (sym (append_assoc bytes (space ∷ c ∷ amount) (space ∷ joined (w ∷ words)))))
 
+recall_found : (words : List (List ℕ)) (r : Asked) → AllByRecursion HasNoSpace words → recall_from words ≡ Ok r → IsRequest (joined (codes "recall" ∷ words)) r
+recall_found [] r apart h = absurd cc
+recall_found ([] ∷ words) r apart h = absurd cc
+recall_found ((b ∷ bytes) ∷ []) r apart h = absurd cc
+recall_found ((b ∷ bytes) ∷ [] ∷ words) r apart h = absurd cc
+recall_found ((b ∷ bytes) ∷ (c ∷ digits) ∷ w ∷ words) r apart h = elim (cases_Bool (is_number (c ∷ digits))) [
+  | inl number ↦ let none : Err (Malformed 3) ≡ Ok r = rw number at h in absurd cc
+  | inr other ↦ let none : Err (Malformed 2) ≡ Ok r = rw other at h in absurd cc
+]
+recall_found ((b ∷ bytes) ∷ (c ∷ digits) ∷ []) r apart h = elim (cases_Bool (is_number (c ∷ digits))) [
+  | inl number ↦
+      let read : Ok (recall (b ∷ bytes) (digits_value 10 (c ∷ digits))) ≡ Ok r = rw number at h in
+      let same : recall (b ∷ bytes) (digits_value 10 (c ∷ digits)) ≡ r = cc in
+      let (numeral, small) = is_number_from (c ∷ digits) number in
+      subst (λ q. IsRequest (joined (codes "recall" ∷ (b ∷ bytes) ∷ (c ∷ digits) ∷ [])) q) same
+      (c ∷ digits, a_word (b ∷ bytes) (omega arith) apart.0, (numeral, refl, small), refl)
+  | inr other ↦ let none : Err (Malformed 2) ≡ Ok r = rw other at h in absurd cc
+]
+
+left_found : (words : List (List ℕ)) (r : Asked) → AllByRecursion HasNoSpace words → left_from words ≡ Ok r → IsRequest (joined (codes "left" ∷ words)) r
+left_found [] r apart h = absurd cc
+left_found ([] ∷ words) r apart h = absurd cc
+left_found ((b ∷ bytes) ∷ w ∷ words) r apart h = absurd cc
+left_found ((b ∷ bytes) ∷ []) r apart h =
+    let same : left (b ∷ bytes) ≡ r = cc in
+    subst (λ q. IsRequest (joined (codes "left" ∷ (b ∷ bytes) ∷ [])) q) same (a_word (b ∷ bytes) (omega arith) apart.0, refl)
+
 bye_found : (words : List (List ℕ)) (r : Asked) → bye_from words ≡ Ok r → IsRequest (joined (codes "bye" ∷ words)) r
 bye_found [] r h = let same : bye ≡ r = cc in subst (λ q. IsRequest (codes "bye") q) same refl
 bye_found (w ∷ words) r h = absurd cc
@@ -120,10 +150,18 @@ from_found (kind ∷ words) r apart h = elim (cases_Bool (bytes_eq kind (codes "
   | inr not_hello ↦ elim (cases_Bool (bytes_eq kind (codes "ask"))) [
     | inl is_ask ↦
         subst (λ k. IsRequest (joined (k ∷ words)) r) (sym (kind_is kind (codes "ask") is_ask)) (ask_found words r apart.1 (rw (not_hello, is_ask) at h))
-    | inr not_ask ↦ elim (cases_Bool (bytes_eq kind (codes "bye"))) [
-      | inl is_bye ↦
-          subst (λ k. IsRequest (joined (k ∷ words)) r) (sym (kind_is kind (codes "bye") is_bye)) (bye_found words r (rw (not_hello, not_ask, is_bye) at h))
-      | inr not_bye ↦ let none : Err (Malformed 0) ≡ Ok r = rw (not_hello, not_ask, not_bye) at h in absurd cc
+    | inr not_ask ↦ elim (cases_Bool (bytes_eq kind (codes "recall"))) [
+      | inl is_recall ↦
+          subst (λ k. IsRequest (joined (k ∷ words)) r) (sym (kind_is kind (codes "recall") is_recall)) (recall_found words r apart.1 (rw (not_hello, not_ask, is_recall) at h))
+      | inr not_recall ↦ elim (cases_Bool (bytes_eq kind (codes "left"))) [
+        | inl is_left ↦
+            subst (λ k. IsRequest (joined (k ∷ words)) r) (sym (kind_is kind (codes "left") is_left)) (left_found words r apart.1 (rw (not_hello, not_ask, not_recall, is_left) at h))
+        | inr not_left ↦ elim (cases_Bool (bytes_eq kind (codes "bye"))) [
+          | inl is_bye ↦
+              subst (λ k. IsRequest (joined (k ∷ words)) r) (sym (kind_is kind (codes "bye") is_bye)) (bye_found words r (rw (not_hello, not_ask, not_recall, not_left, is_bye) at h))
+          | inr not_bye ↦ let none : Err (Malformed 0) ≡ Ok r = rw (not_hello, not_ask, not_recall, not_left, not_bye) at h in absurd cc
+        ]
+      ]
     ]
   ]
 ]
@@ -150,6 +188,15 @@ ask_taken [] amount word words first second = absurd (omega arith)
 ask_taken (b ∷ bytes) [] word words first second = absurd (omega arith)
 ask_taken (b ∷ bytes) (c ∷ amount) word words first second = refl
 
+recall_taken : (owner digits : List ℕ) (n : ℕ) → 0 < length owner → IsNumberText digits n → recall_from (owner ∷ digits ∷ []) ≡ Ok (recall owner n)
+recall_taken [] digits n some written = absurd (omega arith)
+recall_taken (b ∷ bytes) [] n some ((there, short, all), same, small) = absurd (omega arith)
+recall_taken (b ∷ bytes) (c ∷ digits) n some written = rw (is_number_to (c ∷ digits) n written) (ap (λ k. Ok (recall (b ∷ bytes) k)) (sym written.1))
+
+left_taken : (words : List (List ℕ)) (owner : List ℕ) → IsWord owner → words ≡ owner ∷ [] → left_from words ≡ Ok (left owner)
+left_taken words [] word e = absurd (omega arith)
+left_taken words (b ∷ bytes) word e = ap left_from e
+
 pub request_taken : (line : List ℕ) (r : Asked) → IsRequest line r → request_from (words_of line) ≡ Ok r
 request_taken line (hello analyst) (word, spelled) =
     ap request_from (words_cut line (codes "hello") analyst (literal_word (codes "hello") refl) spelled)
@@ -162,6 +209,13 @@ request_taken line (ask owner epsilon program) (amount, first, second, written, 
     ∙ ap ask_from behind ∙ ask_taken owner amount word words first.0 second.0
     ∙ ap (λ e. Ok (ask owner e (joined (word ∷ words)))) (epsilon_is amount epsilon written)
     ∙ ap (λ bytes. Ok (ask owner epsilon bytes)) (sym (ap joined e) ∙ join_with_byte-slice_split space program)
+request_taken line (recall owner number) (digits, word, written, spelled) =
+    ap request_from (words_cut line (codes "recall") (owner ++ (space ∷ digits)) (literal_word (codes "recall") refl) spelled)
+    ∙ ap recall_from (words_cut _ owner digits word.1 refl ∙ ap (λ ws. owner ∷ ws) (words_one digits (digits_apart space refl digits written.0.2)))
+    ∙ recall_taken owner digits number word.0 written
+request_taken line (left owner) (word, spelled) =
+    ap request_from (words_cut line (codes "left") owner (literal_word (codes "left") refl) spelled)
+    ∙ left_taken (words_of owner) owner word (words_one owner word.1)
 request_taken line bye spelled = ap (λ bytes. request_from (words_of bytes)) spelled
 
 -- A reading and a fault that say the same, the fault being one of the first four words.
@@ -186,6 +240,28 @@ ask_agrees ((b ∷ bytes) ∷ [] ∷ words) = (refl, omega arith)
 ask_agrees ((b ∷ bytes) ∷ (c ∷ amount) ∷ []) = (refl, omega arith)
 ask_agrees ((b ∷ bytes) ∷ (c ∷ amount) ∷ w ∷ words) = tt
 
+recall_agrees : (words : List (List ℕ)) → Agree (recall_from words) (fault_from 1 (one_word ∷ one_number ∷ []) words)
+unfolding Agree
+recall_agrees [] = (refl, omega arith)
+recall_agrees ([] ∷ words) = (refl, omega arith)
+recall_agrees ((b ∷ bytes) ∷ []) = (refl, omega arith)
+recall_agrees ((b ∷ bytes) ∷ [] ∷ words) = (refl, omega arith)
+recall_agrees ((b ∷ bytes) ∷ (c ∷ digits) ∷ []) = elim (cases_Bool (is_number (c ∷ digits))) [
+  | inl number ↦ rw number tt
+  | inr other ↦ rw other (refl, omega arith)
+]
+recall_agrees ((b ∷ bytes) ∷ (c ∷ digits) ∷ w ∷ words) = elim (cases_Bool (is_number (c ∷ digits))) [
+  | inl number ↦ rw number (refl, omega arith)
+  | inr other ↦ rw other (refl, omega arith)
+]
+
+left_agrees : (words : List (List ℕ)) → Agree (left_from words) (fault_from 1 (one_word ∷ []) words)
+unfolding Agree
+left_agrees [] = (refl, omega arith)
+left_agrees ([] ∷ words) = (refl, omega arith)
+left_agrees ((b ∷ bytes) ∷ []) = tt
+left_agrees ((b ∷ bytes) ∷ w ∷ words) = (refl, omega arith)
+
 bye_agrees : (words : List (List ℕ)) → Agree (bye_from words) (fault_from 1 [] words)
 unfolding Agree
 bye_agrees [] = tt
@@ -198,9 +274,15 @@ agree (kind ∷ words) = elim (cases_Bool (bytes_eq kind (codes "hello"))) [
   | inl is_hello ↦ rw is_hello (hello_agrees words)
   | inr not_hello ↦ elim (cases_Bool (bytes_eq kind (codes "ask"))) [
     | inl is_ask ↦ rw (not_hello, is_ask) (ask_agrees words)
-    | inr not_ask ↦ elim (cases_Bool (bytes_eq kind (codes "bye"))) [
-      | inl is_bye ↦ rw (not_hello, not_ask, is_bye) (bye_agrees words)
-      | inr not_bye ↦ rw (not_hello, not_ask, not_bye) (refl, omega arith)
+    | inr not_ask ↦ elim (cases_Bool (bytes_eq kind (codes "recall"))) [
+      | inl is_recall ↦ rw (not_hello, not_ask, is_recall) (recall_agrees words)
+      | inr not_recall ↦ elim (cases_Bool (bytes_eq kind (codes "left"))) [
+        | inl is_left ↦ rw (not_hello, not_ask, not_recall, is_left) (left_agrees words)
+        | inr not_left ↦ elim (cases_Bool (bytes_eq kind (codes "bye"))) [
+          | inl is_bye ↦ rw (not_hello, not_ask, not_recall, not_left, is_bye) (bye_agrees words)
+          | inr not_bye ↦ rw (not_hello, not_ask, not_recall, not_left, not_bye) (refl, omega arith)
+        ]
+      ]
     ]
   ]
 ]
@@ -296,6 +378,8 @@ pub result_epsilon : (line : List ℕ) (r : Result Request LineRefusal) → read
 result_epsilon line (Ok (Hello analyst)) h = tt
 result_epsilon line (Ok (Ask owner None program)) h = tt
 result_epsilon line (Ok (Ask owner (Some n) program)) h = let (amount, first, second, (whole, fraction, numeral, written, value, low, high), spelled) = (grammar_from line (ask owner.now (Some n) program.now) (sym h)).1 in (low, high)
+result_epsilon line (Ok (Recall owner number)) h = tt
+result_epsilon line (Ok (Left owner)) h = tt
 result_epsilon line (Ok Bye) h = tt
 result_epsilon line (Err fault) h = tt
 

@@ -1,8 +1,8 @@
 -- An epsilon as an analyst writes it, in millionths.
-use Rattle.std.specs.Prelude.{◌≡◌, ℕ, ◌+◌, ◌-◌, ◌*◌, ◌^◌, ◌<◌, ◌≤◌, ◌==◌, ◌&&◌, ◌⊎◌, nat_le, nat_lt, if◌then◌else◌, Bool, IsTrue, List, [], ◌∷◌, ◌++◌, length, Option, Some, None}
-use Rattle.std.specs.List.{list_all, slice_split}
-use Rattle.std.specs.Char.{is_ascii_digit}
+use Rattle.std.specs.Prelude.{◌≡◌, ℕ, ◌+◌, ◌-◌, ◌*◌, ◌^◌, ◌<◌, ◌≤◌, ◌==◌, ◌&&◌, ◌⊎◌, nat_le, nat_lt, if◌then◌else◌, List, [], ◌∷◌, ◌++◌, length, Option, Some, None}
+use Rattle.std.specs.List.{slice_split}
 use Rattle.std.specs.Str.Parse.{digits_value}
+use Rattle.wire_lines.specs.Number.{IsNumeral, is_numeral}
 
 abbrev pub point : ℕ
 point = 46
@@ -18,10 +18,6 @@ FRACTION_DIGITS = 6
 abbrev pub GREATEST : ℕ
 GREATEST = 1000000000
 
--- 1 to n ASCII digits
-abbrev pub IsNumeral : ℕ → List ℕ → Type 0
-IsNumeral n text = (0 < length text) × (length text ≤ n) × IsTrue (list_all is_ascii_digit text)
-
 -- the number with these digits before the point and behind it, in millionths
 abbrev pub in_millionths : List ℕ → List ℕ → ℕ
 in_millionths whole fraction = digits_value 10 whole * 1000000 + digits_value 10 fraction * 10 ^ (FRACTION_DIGITS - length fraction)
@@ -36,9 +32,6 @@ IsEpsilonText text n =
     (whole fraction : List ℕ) × IsNumeral WHOLE_DIGITS whole × IsWritten text whole fraction × (n ≡ in_millionths whole fraction) × (0 < n) × (n ≤ GREATEST)
 
 -- The same as a function: the millionths, or nothing where the text is no decimal in range.
-abbrev pub is_numeral : ℕ → List ℕ → Bool
-is_numeral n text = nat_lt 0 (length text) && nat_le (length text) n && list_all is_ascii_digit text
-
 abbrev pub epsilon_in_range : ℕ → Option ℕ
 epsilon_in_range n = if nat_lt 0 n && nat_le n GREATEST then Some n else None
 

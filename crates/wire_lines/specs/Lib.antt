@@ -1,4 +1,5 @@
 pub mod Lines
+pub mod Number
 pub mod Epsilon
 pub mod Request
 pub mod Name

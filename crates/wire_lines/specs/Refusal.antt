@@ -8,9 +8,10 @@ use Rattle.wire_lines.specs.declared.refusal.LineRefusal.TheVariants.{Malformed,
 use Rattle.wire_lines.specs.declared.refusal.ProgramRefusal.{ProgramRefusal as ProgramRefusalAt}
 use Rattle.wire_lines.specs.declared.refusal.ProgramRefusal.TheVariants.{NoToken, NoTerm, TooNested, IllTyped, TooSensitive, OutOfRange, Unbounded, NoNumber, TooDeep, TooLong as ProgramTooLong, TooWide}
 use Rattle.wire_lines.specs.declared.refusal.MoneyRefusal.{MoneyRefusal}
+use Rattle.wire_lines.specs.declared.refusal.DiskRefusal.{DiskRefusal}
 use Rattle.wire_lines.specs.declared.refusal.NumberRefusal.{NumberRefusal}
 use Rattle.wire_lines.specs.declared.refusal.Refusal.{Refusal as RefusalAt}
-use Rattle.wire_lines.specs.declared.refusal.Refusal.TheVariants.{Line, Program, Money, Number, NoMemory}
+use Rattle.wire_lines.specs.declared.refusal.Refusal.TheVariants.{Line, Program, Money, Disk, Number, NoMemory}
 
 -- of a program, without where a table's name lies in memory; spans are from a byte to the one behind the last
 pub data ProgramRefusal : Type 0 where
@@ -26,11 +27,12 @@ pub data ProgramRefusal : Type 0 where
   too_long : (from to : ℕ) → ProgramRefusal
   too_wide : (from to width : ℕ) → ProgramRefusal
 
--- said by the line itself, of the program, by the budget, of a number, or for want of memory
+-- said by the line itself, of the program, by the budget, for the owner's disk, of a number, or for want of memory
 pub data Refusal : Type 0 where
   by_line : LineRefusal → Refusal
   by_program : ProgramRefusal → Refusal
   by_money : MoneyRefusal → Refusal
+  by_disk : DiskRefusal → Refusal
   by_number : NumberRefusal → Refusal
   no_memory : Refusal
 
@@ -58,5 +60,6 @@ abbrev pub refusal_at : RefusalAt → Refusal
 refusal_at (Line refusal) = by_line refusal
 refusal_at (Program refusal) = by_program (program_refusal_at refusal)
 refusal_at (Money refusal) = by_money refusal
+refusal_at (Disk refusal) = by_disk refusal
 refusal_at (Number refusal) = by_number refusal
 refusal_at NoMemory = no_memory

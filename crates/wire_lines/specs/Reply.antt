@@ -7,17 +7,21 @@ use Rattle.fz_frac.specs.Distance.{Distance, Fin, Inf}
 use Rattle.fz_frac.specs.Sens.{distance_of}
 use Rattle.wire_lines.specs.Lines.{lf, space}
 use Rattle.wire_lines.specs.Name.{is_name}
-use Rattle.wire_lines.specs.Refusal.{ProgramRefusal, no_token, no_term, too_nested, ill_typed, too_sensitive, out_of_range, unbounded, no_number, too_deep, too_long, too_wide, Refusal, by_line, by_program, by_money, by_number, no_memory, refusal_at}
+use Rattle.wire_lines.specs.Refusal.{ProgramRefusal, no_token, no_term, too_nested, ill_typed, too_sensitive, out_of_range, unbounded, no_number, too_deep, too_long, too_wide, Refusal, by_line, by_program, by_money, by_disk, by_number, no_memory, refusal_at}
 use Rattle.wire_lines.specs.declared.reply.Reply.{Reply}
-use Rattle.wire_lines.specs.declared.reply.Reply.TheVariants.{Hello, Answer, Bye, Refused}
+use Rattle.wire_lines.specs.declared.reply.Reply.TheVariants.{Hello, Answer, Recalled, Left, Bye, Refused}
+use Rattle.wire_lines.specs.declared.reply.Standing.{Standing}
+use Rattle.wire_lines.specs.declared.reply.Standing.TheVariants.{Answered, Open, Lost, Exhausted}
 use Rattle.wire_lines.specs.declared.reply.Field.{Field}
 use Rattle.wire_lines.specs.declared.reply.Field.TheVariants.{Number, Amount, Signed, Name, Fault, Ratio}
 use Rattle.wire_lines.specs.declared.refusal.LineRefusal.{LineRefusal}
 use Rattle.wire_lines.specs.declared.refusal.LineRefusal.TheVariants.{Malformed, TooLong, Unknown, NoEpsilon, NoHello}
 use Rattle.wire_lines.specs.declared.refusal.MoneyRefusal.{MoneyRefusal}
 use Rattle.wire_lines.specs.declared.refusal.MoneyRefusal.TheVariants.{OverBudget, JournalFull}
+use Rattle.wire_lines.specs.declared.refusal.DiskRefusal.{DiskRefusal}
+use Rattle.wire_lines.specs.declared.refusal.DiskRefusal.TheVariants.{Closed, Fault as DiskFault}
 use Rattle.wire_lines.specs.declared.refusal.NumberRefusal.{NumberRefusal}
-use Rattle.wire_lines.specs.declared.refusal.NumberRefusal.TheVariants.{Exhausted, Lost}
+use Rattle.wire_lines.specs.declared.refusal.NumberRefusal.TheVariants.{Exhausted as NoNoise, Lost as NoAnswer, Unknown as NoSuchNumber, NotYours}
 use Rattle.wire_lines.specs.declared.refusal.TypeFault.{TypeFault}
 use Rattle.wire_lines.specs.declared.refusal.TypeFault.TheVariants.{Unbound, Mismatch, NotGround, NotFlat}
 
@@ -25,6 +29,8 @@ use Rattle.wire_lines.specs.declared.refusal.TypeFault.TheVariants.{Unbound, Mis
 pub data Replied : Type 0 where
   greeted : List ℕ → Replied
   answered : ℕ → ℤ → ℕ → Replied
+  recalled : ℕ → Standing → ℕ → Replied
+  remaining : (spent budget seen : ℕ) → Replied
   ended : Replied
   refused : Refusal → Replied
 
@@ -81,20 +87,36 @@ abbrev pub money_words : MoneyRefusal → List ℕ × List Datum
 money_words (OverBudget spent after budget seen) = (codes "no 40", number spent ∷ number after ∷ number budget ∷ number seen ∷ [])
 money_words (JournalFull used unsettled capacity) = (codes "no 41", number used ∷ number unsettled ∷ number capacity ∷ [])
 
+abbrev pub disk_words : DiskRefusal → List ℕ × List Datum
+disk_words (Closed failed_at) = (codes "no 42", number failed_at ∷ [])
+disk_words DiskFault = (codes "no 52", [])
+
 abbrev pub number_words : NumberRefusal → List ℕ × List Datum
-number_words (Exhausted n) = (codes "no 50", number n ∷ [])
-number_words (Lost n) = (codes "no 51", number n ∷ [])
+number_words (NoNoise n) = (codes "no 50", number n ∷ [])
+number_words (NoAnswer n) = (codes "no 51", number n ∷ [])
+number_words (NoSuchNumber n seen) = (codes "no 60", number n ∷ number seen ∷ [])
+number_words (NotYours n seen) = (codes "no 61", number n ∷ number seen ∷ [])
 
 abbrev pub refusal_words : Refusal → List ℕ × List Datum
 refusal_words (by_line refusal) = line_words refusal
 refusal_words (by_program refusal) = program_words refusal
 refusal_words (by_money refusal) = money_words refusal
+refusal_words (by_disk refusal) = disk_words refusal
 refusal_words (by_number refusal) = number_words refusal
 refusal_words no_memory = (codes "no 90", [])
+
+-- what became of a reservation: its answer, or why it has none
+abbrev pub standing_words : Standing → List Datum
+standing_words (Answered value) = text (codes "answer") ∷ signed value ∷ []
+standing_words Open = text (codes "open") ∷ []
+standing_words Lost = text (codes "lost") ∷ []
+standing_words Exhausted = text (codes "exhausted") ∷ []
 
 abbrev pub reply_words : Replied → List ℕ × List Datum
 reply_words (greeted analyst) = (codes "hello", text analyst ∷ [])
 reply_words (answered n value taken) = (codes "answer", number n ∷ signed value ∷ number taken ∷ [])
+reply_words (recalled n standing seen) = (codes "recall", number n ∷ standing_words standing ++ (number seen ∷ []))
+reply_words (remaining spent budget seen) = (codes "left", number spent ∷ number budget ∷ number seen ∷ [])
 reply_words ended = (codes "bye", [])
 reply_words (refused refusal) = refusal_words refusal
 
@@ -117,6 +139,8 @@ IsReply reply = AllByRecursion HasSize (reply_words reply).1
 abbrev pub replied : Reply → Replied
 replied (Hello analyst) = greeted analyst.bytes.now
 replied (Answer n value taken) = answered n value taken
+replied (Recalled n standing seen) = recalled n standing seen
+replied (Left spent budget seen) = remaining spent budget seen
 replied Bye = ended
 replied (Refused refusal) = refused (refusal_at refusal)
 

@@ -1,11 +1,12 @@
 -- The grammar of a request line, and how one is read.
-use Rattle.std.specs.Prelude.{◌≡◌, ◌≢◌, ℕ, ◌+◌, ◌<◌, ◌≤◌, nat_lt, if◌then◌else◌, List, [], ◌∷◌, ◌++◌, length, codes, bytes_eq, All, Option, Some, None, Result, Ok, Err, ⊤}
+use Rattle.std.specs.Prelude.{◌≡◌, ◌≢◌, ℕ, ◌+◌, ◌<◌, ◌≤◌, nat_lt, if◌then◌else◌, List, [], ◌∷◌, ◌++◌, length, codes, bytes_eq, All, Option, Some, None, ok_or, Result, Ok, Err, ⊤}
 use Rattle.std.specs.Borrow.{Bor}
 use Rattle.std.specs.Result.{result_map_both}
 use Rattle.wire_lines.specs.Lines.{space, words_of, joined}
+use Rattle.wire_lines.specs.Number.{IsNumberText, is_number, number_of}
 use Rattle.wire_lines.specs.Epsilon.{IsEpsilonText, epsilon_of, GREATEST}
 use Rattle.wire_lines.specs.declared.request.Request.{Request}
-use Rattle.wire_lines.specs.declared.request.Request.TheVariants.{Hello, Ask, Bye}
+use Rattle.wire_lines.specs.declared.request.Request.TheVariants.{Hello, Ask, Recall, Left, Bye}
 use Rattle.wire_lines.specs.declared.refusal.LineRefusal.{LineRefusal}
 use Rattle.wire_lines.specs.declared.refusal.LineRefusal.TheVariants.{Malformed, TooLong}
 
@@ -17,6 +18,8 @@ line_limit = 16384
 pub data Asked : Type 0 where
   hello : List ℕ → Asked
   ask : List ℕ → Option ℕ → List ℕ → Asked
+  recall : (owner : List ℕ) (number : ℕ) → Asked
+  left : (owner : List ℕ) → Asked
   bye : Asked
 
 -- a word has a byte, and no space
@@ -34,11 +37,16 @@ IsRequest line (hello analyst) = IsWord analyst × (line ≡ codes "hello " ++ a
 IsRequest line (ask owner epsilon program) =
     (amount : List ℕ) × IsWord owner × IsWord amount × IsAmount amount epsilon
     × (line ≡ codes "ask " ++ owner ++ (space ∷ amount) ++ (space ∷ program))
+IsRequest line (recall owner number) =
+    (digits : List ℕ) × IsWord owner × IsNumberText digits number
+    × (line ≡ codes "recall " ++ owner ++ (space ∷ digits))
+IsRequest line (left owner) = IsWord owner × (line ≡ codes "left " ++ owner)
 IsRequest line bye = line ≡ codes "bye"
 
--- What stands at a place of a line: a word, or the rest of the line.
+-- What stands at a place of a line: a word, a word that is a number, or the rest of the line.
 pub data Slot : Type 0 where
   one_word : Slot
+  one_number : Slot
   all_rest : Slot
 
 -- the kinds of lines, each with what follows its first word
@@ -46,9 +54,11 @@ abbrev pub slots_of : List ℕ → Option (List Slot)
 slots_of kind =
     if bytes_eq kind (codes "hello") then Some (one_word ∷ [])
     else (if bytes_eq kind (codes "ask") then Some (one_word ∷ one_word ∷ all_rest ∷ [])
-    else (if bytes_eq kind (codes "bye") then Some [] else None))
+    else (if bytes_eq kind (codes "recall") then Some (one_word ∷ one_number ∷ [])
+    else (if bytes_eq kind (codes "left") then Some (one_word ∷ [])
+    else (if bytes_eq kind (codes "bye") then Some [] else None))))
 
--- from word number n on, the first word that is missing, empty or too many
+-- from word number n on, the first word that is missing, empty, too many or no number where one is due
 abbrev pub fault_from : ℕ → List Slot → List (List ℕ) → Option ℕ
 fault_from n [] [] = None
 fault_from n [] (_ ∷ _) = Some n
@@ -57,6 +67,8 @@ fault_from n (all_rest ∷ parts) (_ ∷ _) = None
 fault_from n (one_word ∷ parts) [] = Some n
 fault_from n (one_word ∷ parts) ([] ∷ words) = Some n
 fault_from n (one_word ∷ parts) ((_ ∷ _) ∷ words) = fault_from (n + 1) parts words
+fault_from n (one_number ∷ parts) [] = Some n
+fault_from n (one_number ∷ parts) (word ∷ words) = if is_number word then fault_from (n + 1) parts words else Some n
 
 abbrev pub fault_behind : Option (List Slot) → List (List ℕ) → Option ℕ
 fault_behind None words = Some 0
@@ -82,6 +94,13 @@ word_at n [] = Err (Malformed n)
 word_at n ([] ∷ _) = Err (Malformed n)
 word_at n ((b ∷ bytes) ∷ words) = Ok (b ∷ bytes, words)
 
+-- word number n, which is a number, and the words behind it
+abbrev pub number_at : ℕ → List (List ℕ) → Result (ℕ × List (List ℕ)) LineRefusal
+number_at n words = do
+  digits ← word_at n words
+  number ← ok_or (number_of digits.0) (Malformed n)
+  Ok (number, digits.1)
+
 -- the rest of the line from word number n on, which is there and may be empty
 abbrev pub rest_at : ℕ → List (List ℕ) → Result (List ℕ) LineRefusal
 rest_at n [] = Err (Malformed n)
@@ -106,6 +125,19 @@ ask_from words = do
   program ← rest_at 3 amount.1
   Ok (ask owner.0 (epsilon_of amount.0) program)
 
+abbrev pub recall_from : List (List ℕ) → Result Asked LineRefusal
+recall_from words = do
+  owner ← word_at 1 words
+  number ← number_at 2 owner.1
+  _ ← end_at 3 number.1
+  Ok (recall owner.0 number.0)
+
+abbrev pub left_from : List (List ℕ) → Result Asked LineRefusal
+left_from words = do
+  owner ← word_at 1 words
+  _ ← end_at 2 owner.1
+  Ok (left owner.0)
+
 abbrev pub bye_from : List (List ℕ) → Result Asked LineRefusal
 bye_from words = do
   _ ← end_at 1 words
@@ -116,7 +148,9 @@ request_from [] = Err (Malformed 0)
 request_from (kind ∷ words) =
     if bytes_eq kind (codes "hello") then hello_from words
     else (if bytes_eq kind (codes "ask") then ask_from words
-    else (if bytes_eq kind (codes "bye") then bye_from words else Err (Malformed 0)))
+    else (if bytes_eq kind (codes "recall") then recall_from words
+    else (if bytes_eq kind (codes "left") then left_from words
+    else (if bytes_eq kind (codes "bye") then bye_from words else Err (Malformed 0)))))
 
 -- A line over the limit isn't looked at.
 unfoldable pub request_of : List ℕ → Result Asked LineRefusal
@@ -126,6 +160,8 @@ request_of line = if nat_lt line_limit (length line) then Err TooLong else reque
 abbrev pub asked : Request → Asked
 asked (Hello analyst) = hello analyst.now
 asked (Ask owner epsilon program) = ask owner.now epsilon program.now
+asked (Recall owner number) = recall owner.now number
+asked (Left owner) = left owner.now
 asked Bye = bye
 
 abbrev pub reading : Result Request LineRefusal → Result Asked LineRefusal
@@ -140,9 +176,15 @@ words_behind (Some rest) = words_of rest.now
 abbrev pub word_and_words : Bor (List ℕ) × Option (Bor (List ℕ)) → List ℕ × List (List ℕ)
 word_and_words (word, rest) = (word.now, words_behind rest)
 
+-- a number and what is left behind its word
+abbrev pub number_and_words : ℕ × Option (Bor (List ℕ)) → ℕ × List (List ℕ)
+number_and_words (number, rest) = (number, words_behind rest)
+
 -- an epsilon is from 1 to 10^9 millionths
 abbrev pub HasEpsilonInRange : Request → Type 0
 HasEpsilonInRange (Hello analyst) = ⊤
 HasEpsilonInRange (Ask owner None program) = ⊤
 HasEpsilonInRange (Ask owner (Some n) program) = (0 < n) × (n ≤ GREATEST)
+HasEpsilonInRange (Recall owner number) = ⊤
+HasEpsilonInRange (Left owner) = ⊤
 HasEpsilonInRange Bye = ⊤

@@ -3,10 +3,12 @@
 #![tactic(auto)]
 
 mod cut;
+mod digits;
 mod epsilon;
 mod laws;
 mod lines;
 mod name;
+mod number;
 mod refusal;
 mod reply;
 mod request;
@@ -17,9 +19,9 @@ pub use crate::laws::{
 pub use crate::lines::next_line;
 pub use crate::name::Name;
 pub use crate::refusal::{
-    LineRefusal, MoneyRefusal, NumberRefusal, ProgramRefusal, Refusal, TypeFault,
+    DiskRefusal, LineRefusal, MoneyRefusal, NumberRefusal, ProgramRefusal, Refusal, TypeFault,
 };
-pub use crate::reply::{REPLY_LIMIT, Reply, write_reply, write_sensitivity};
+pub use crate::reply::{REPLY_LIMIT, Reply, Standing, write_reply, write_sensitivity};
 pub use crate::request::{LINE_LIMIT, Request, read_request};
 
 #[cfg(test)]

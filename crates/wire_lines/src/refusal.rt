@@ -100,6 +100,15 @@ pub enum MoneyRefusal {
     },
 }
 
+/// What is refused for the disk of the owner's journal.
+#[derive(Clone, Copy, Debug, PartialEq, Eq)]
+pub enum DiskRefusal {
+    /// 42: the owner is closed since a disk fault, and how many the disk had then.
+    Closed { failed_at: u64 },
+    /// 52: the disk failed.
+    Fault,
+}
+
 /// What is refused of a reservation, by its number.
 #[derive(Clone, Copy, Debug, PartialEq, Eq)]
 pub enum NumberRefusal {
@@ -107,6 +116,10 @@ pub enum NumberRefusal {
     Exhausted { number: u32 },
     /// 51: its answer was lost.
     Lost { number: u32 },
+    /// 60: no reservation has it; and the records seen.
+    Unknown { number: u32, seen: u32 },
+    /// 61: another analyst reserved it; and the records seen.
+    NotYours { number: u32, seen: u32 },
 }
 
 /// A refusal, by who says it.
@@ -118,7 +131,9 @@ pub enum Refusal<'a> {
     Program(ProgramRefusal<'a>),
     /// 40 and 41
     Money(MoneyRefusal),
-    /// 50 and 51
+    /// 42 and 52
+    Disk(DiskRefusal),
+    /// 50, 51, 60 and 61
     Number(NumberRefusal),
     /// 90: want of memory before a reservation.
     NoMemory,

@@ -1,28 +1,60 @@
 //! A reply is written as a line.
 
-ghost use Rattle.std.specs.Prelude.{◌≡◌, ◌+◌, ◌≤◌, ◌<◌, ◌^◌, ◌++◌, ◌∷◌, length, take, map, decimal};
+ghost use Rattle.std.specs.Prelude.{◌≡◌, ◌+◌, ◌≤◌, ◌<◌, ◌^◌, ◌++◌, ◌∷◌, length, take, map, decimal, IsTrue};
 ghost use Rattle.fz_frac.specs.Sens.{distance_of};
 ghost use Rattle.wire_lines.specs.Refusal.{program_refusal_at, refusal_at};
-ghost use Rattle.wire_lines.specs.Reply.{IsReply, HasSize, ratio, reply_text, replied, line_text, line_words, program_words, money_words, number_words, refusal_words, datum_text, sensitivity_text, type_fault_text, datum_of};
+ghost use Rattle.wire_lines.specs.Reply.{IsReply, HasSize, text, ratio, recalled, reply_words, reply_text, replied, line_text, line_words, program_words, money_words, disk_words, number_words, refusal_words, datum_text, sensitivity_text, type_fault_text, datum_of};
 ghost use Rattle.wire_lines.specs.Lines.{space};
+ghost use Rattle.wire_lines.specs.Name.{is_name};
 ghost use Rattle.std.specs.List.{AllByRecursion};
 ghost use Rattle.std.specs.Fmt.{signed_decimal};
 
 use crate::name::Name;
 use crate::refusal::{
-    LineRefusal, MoneyRefusal, NumberRefusal, ProgramRefusal, Refusal, TypeFault,
+    DiskRefusal, LineRefusal, MoneyRefusal, NumberRefusal, ProgramRefusal, Refusal, TypeFault,
 };
 use Field::{Amount, Fault, Number, Ratio};
 use fz_frac::Sens;
 use itoa::Buffer;
 
+/// What became of a reservation.
+#[derive(Clone, Copy, Debug, PartialEq, Eq)]
+pub enum Standing {
+    /// It was answered with this value.
+    Answered(i64),
+    /// It was made in this run, and isn't settled yet.
+    Open,
+    /// Its answer was lost.
+    Lost,
+    /// Its draws were exhausted.
+    Exhausted,
+}
+
 /// A reply line.
 #[derive(Clone, Copy, Debug, PartialEq, Eq)]
 pub enum Reply<'a> {
     /// The analyst of the lines that follow.
-    Hello { analyst: Name<'a> },
+    Hello {
+        analyst: Name<'a>,
+    },
     /// The number of the reservation, the noisy value, and what it took in millionths.
-    Answer { number: u32, value: i64, taken: u64 },
+    Answer {
+        number: u32,
+        value: i64,
+        taken: u64,
+    },
+    /// The number of a reservation, what became of it, and the records seen.
+    Recalled {
+        number: u32,
+        standing: Standing,
+        seen: u32,
+    },
+    /// In millionths what is spent and the budget; and the records seen.
+    Left {
+        spent: u64,
+        budget: u64,
+        seen: u32,
+    },
     /// The session ends.
     Bye,
     /// `no`, a code and its data.
@@ -217,6 +249,18 @@ fn write_money_refusal(refusal: MoneyRefusal, out: &mut [u8; REPLY_LIMIT]) -> us
     }
 }
 
+/// Writes what is refused for a disk.
+fn write_disk_refusal(refusal: DiskRefusal, out: &mut [u8; REPLY_LIMIT]) -> usize
+    ensures fits { result ≤ REPLY_LIMIT }
+    ensures sized { AllByRecursion HasSize (disk_words refusal).1 }
+    ensures text { take result out.new ≡ line_text (disk_words refusal) }
+{
+    match refusal {
+        DiskRefusal::Closed { failed_at } => put_line(out, b"no 42", &[Amount(failed_at)]),
+        DiskRefusal::Fault => put_line(out, b"no 52", &[]),
+    }
+}
+
 /// Writes what is refused of a number.
 fn write_number_refusal(refusal: NumberRefusal, out: &mut [u8; REPLY_LIMIT]) -> usize
     ensures fits { result ≤ REPLY_LIMIT }
@@ -226,6 +270,12 @@ fn write_number_refusal(refusal: NumberRefusal, out: &mut [u8; REPLY_LIMIT]) -> 
     match refusal {
         NumberRefusal::Exhausted { number } => put_line(out, b"no 50", &[Number(number)]),
         NumberRefusal::Lost { number } => put_line(out, b"no 51", &[Number(number)]),
+        NumberRefusal::Unknown { number, seen } => {
+            put_line(out, b"no 60", &[Number(number), Number(seen)])
+        }
+        NumberRefusal::NotYours { number, seen } => {
+            put_line(out, b"no 61", &[Number(number), Number(seen)])
+        }
     }
 }
 
@@ -239,8 +289,39 @@ fn write_refusal(refusal: Refusal<'_>, out: &mut [u8; REPLY_LIMIT]) -> usize
         Refusal::Line(refusal) => write_line_refusal(refusal, out),
         Refusal::Program(refusal) => write_program_refusal(refusal, out),
         Refusal::Money(refusal) => write_money_refusal(refusal, out),
+        Refusal::Disk(refusal) => write_disk_refusal(refusal, out),
         Refusal::Number(refusal) => write_number_refusal(refusal, out),
         Refusal::NoMemory => put_line(out, b"no 90", &[]),
+    }
+}
+
+/// A word of a reply that is always the same.
+fn word(bytes: &'static [u8]) -> Field<'static>
+    requires { IsTrue (is_name bytes.now) }
+    ensures { datum_of result ≡ text bytes.now }
+{
+    Field::Name(Name { bytes })
+}
+
+/// Writes what became of a reservation.
+fn write_recalled(number: u32, standing: Standing, seen: u32, out: &mut [u8; REPLY_LIMIT]) -> usize
+    ensures fits { result ≤ REPLY_LIMIT }
+    ensures sized { AllByRecursion HasSize (reply_words (recalled number standing seen)).1 }
+    ensures text { take result out.new ≡ line_text (reply_words (recalled number standing seen)) }
+{
+    let number = Number(number);
+    let seen = Number(seen);
+    match standing {
+        Standing::Answered(value) => {
+            put_line(
+                out,
+                b"recall",
+                &[number, word(b"answer"), Field::Signed(value), seen],
+            )
+        }
+        Standing::Open => put_line(out, b"recall", &[number, word(b"open"), seen]),
+        Standing::Lost => put_line(out, b"recall", &[number, word(b"lost"), seen]),
+        Standing::Exhausted => put_line(out, b"recall", &[number, word(b"exhausted"), seen]),
     }
 }
 
@@ -264,6 +345,16 @@ fn write_line(reply: &Reply<'_>, out: &mut [u8; REPLY_LIMIT]) -> usize
                 &[Number(number), Field::Signed(value), Amount(taken)],
             )
         }
+        Reply::Recalled {
+            number,
+            standing,
+            seen,
+        } => write_recalled(number, standing, seen, out),
+        Reply::Left {
+            spent,
+            budget,
+            seen,
+        } => { put_line(out, b"left", &[Amount(spent), Amount(budget), Number(seen)]) }
         Reply::Bye => put_line(out, b"bye", &[]),
         Reply::Refused(refusal) => write_refusal(refusal, out),
     }

@@ -1,13 +1,14 @@
 //! A line is read as a request.
 
 ghost use Rattle.std.specs.Prelude.{◌≡◌, ◌≤◌, ◌<◌, ◌↔◌, ℕ, length, IfOk, IfErr, Ok, Err, Some, ◌∷◌};
-ghost use Rattle.wire_lines.specs.Request.{Asked, IsRequest, HasEpsilonInRange, line_limit, request_of, fault_of, reading, asked, word_at, end_at, hello_from, ask_from, bye_from, words_behind, word_and_words};
+ghost use Rattle.wire_lines.specs.Request.{Asked, IsRequest, HasEpsilonInRange, line_limit, request_of, fault_of, reading, asked, word_at, number_at, end_at, hello_from, ask_from, recall_from, left_from, bye_from, words_behind, word_and_words, number_and_words};
 ghost use Rattle.wire_lines.specs.Lines.{words_of};
 ghost use Rattle.wire_lines.specs.Refusal.{IsFormRefusal};
 ghost use Rattle.std.specs.Result.{result_map_both};
 
 use crate::cut::cut_at;
 use crate::epsilon::read_epsilon;
+use crate::number::read_number;
 use crate::refusal::LineRefusal;
 
 /// The most bytes of a line, without its end.
@@ -26,6 +27,15 @@ pub enum Request<'a> {
         owner: &'a [u8],
         epsilon: Option<u32>,
         program: &'a [u8],
+    },
+    /// `recall OWNER N`
+    Recall {
+        owner: &'a [u8],
+        number: u32,
+    },
+    /// `left OWNER`
+    Left {
+        owner: &'a [u8],
     },
     /// `bye`
     Bye,
@@ -54,6 +64,15 @@ fn next_word(rest: Option<&[u8]>, word: u32) -> Result<(&[u8], Option<&[u8]>), L
     } else {
         Ok((first, rest))
     }
+}
+
+/// Word number `word`, which is a number, and what is left behind it.
+fn next_number(rest: Option<&[u8]>, word: u32) -> Result<(u32, Option<&[u8]>), LineRefusal>
+    ensures { result_map_both number_and_words (λ fault. fault) result ≡ number_at word (words_behind rest.entry) }
+{
+    let (digits, rest) = next_word(rest, word)?;
+    let number = read_number(digits).ok_or(LineRefusal::Malformed { word })?;
+    Ok((number, rest))
 }
 
 /// There is no word number `word`.
@@ -91,6 +110,25 @@ fn read_ask(rest: Option<&[u8]>) -> Result<Request<'_>, LineRefusal>
     })
 }
 
+/// Reads what is left of a line behind `recall`.
+fn read_recall(rest: Option<&[u8]>) -> Result<Request<'_>, LineRefusal>
+    ensures { reading result ≡ recall_from (words_behind rest.entry) }
+{
+    let (owner, rest) = next_word(rest, 1)?;
+    let (number, rest) = next_number(rest, 2)?;
+    expect_end(rest, 3)?;
+    Ok(Request::Recall { owner, number })
+}
+
+/// Reads what is left of a line behind `left`.
+fn read_left(rest: Option<&[u8]>) -> Result<Request<'_>, LineRefusal>
+    ensures { reading result ≡ left_from (words_behind rest.entry) }
+{
+    let (owner, rest) = next_word(rest, 1)?;
+    expect_end(rest, 2)?;
+    Ok(Request::Left { owner })
+}
+
 /// Reads what is left of a line behind `bye`.
 fn read_bye(rest: Option<&[u8]>) -> Result<Request<'_>, LineRefusal>
     ensures { reading result ≡ bye_from (words_behind rest.entry) }
@@ -108,11 +146,18 @@ fn read_line(line: &[u8]) -> Result<Request<'_>, LineRefusal>
         return Err(LineRefusal::TooLong);
     }
     let (kind, rest) = split_word(line);
-    match kind {
-        b"hello" => read_hello(rest),
-        b"ask" => read_ask(rest),
-        b"bye" => read_bye(rest),
-        _ => Err(LineRefusal::Malformed { word: 0 }),
+    if kind == b"hello".as_slice() {
+        read_hello(rest)
+    } else if kind == b"ask".as_slice() {
+        read_ask(rest)
+    } else if kind == b"recall".as_slice() {
+        read_recall(rest)
+    } else if kind == b"left".as_slice() {
+        read_left(rest)
+    } else if kind == b"bye".as_slice() {
+        read_bye(rest)
+    } else {
+        Err(LineRefusal::Malformed { word: 0 })
     }
 }
 

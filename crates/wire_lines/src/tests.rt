@@ -4,9 +4,9 @@ ghost use Rattle.std.specs.Prelude.{◌<◌};
 
 use crate::name::Name;
 use crate::refusal::{
-    LineRefusal, MoneyRefusal, NumberRefusal, ProgramRefusal, Refusal, TypeFault,
+    DiskRefusal, LineRefusal, MoneyRefusal, NumberRefusal, ProgramRefusal, Refusal, TypeFault,
 };
-use crate::reply::{REPLY_LIMIT, Reply, write_reply};
+use crate::reply::{REPLY_LIMIT, Reply, Standing, write_reply};
 use crate::request::{LINE_LIMIT, Request, read_request};
 use crate::{
     epsilons_are_read_by_the_grammar, lines_are_read_by_the_grammar, next_line,
@@ -28,7 +28,7 @@ fn malformed(word: u32) -> Result<Request<'static>, LineRefusal> {
 
 #[test]
 fn reads_requests(rt: HostRuntime) {
-    let rows: [(&[u8], Result<Request<'_>, LineRefusal>); 24] = [
+    let rows: [(&[u8], Result<Request<'_>, LineRefusal>); 31] = [
         (b"hello ann", Ok(Request::Hello { analyst: b"ann" })),
         (b"hello", malformed(1)),
         (b"hello ", malformed(1)),
@@ -52,7 +52,20 @@ fn reads_requests(rt: HostRuntime) {
         (b"ask census  1 x", malformed(2)),
         (b"ask", malformed(1)),
         (b"ASK census 1 1", malformed(0)),
-        (b"recall census", malformed(0)),
+        (
+            b"recall census 0000000012",
+            Ok(Request::Recall {
+                owner: b"census",
+                number: 12,
+            }),
+        ),
+        (b"recall census", malformed(2)),
+        (b"recall census 4294967296", malformed(2)),
+        (b"recall census 00000000012", malformed(2)),
+        (b"recall census 1 2", malformed(3)),
+        (b"left census", Ok(Request::Left { owner: b"census" })),
+        (b"left", malformed(1)),
+        (b"askpart census area A 1 1", malformed(0)),
         (b"bye", Ok(Request::Bye)),
         (b"bye ", malformed(1)),
         (b"", malformed(0)),
@@ -109,6 +122,26 @@ fn writes_replies(rt: HostRuntime) {
         taken: 1,
     };
     assert!(rt; writes(lowest, b"answer 4294967295 -9223372036854775808 1\n"));
+    let standings: [(Standing, &[u8]); 4] = [
+        (Standing::Answered(5), b"recall 0 answer 5 2\n"),
+        (Standing::Open, b"recall 0 open 2\n"),
+        (Standing::Lost, b"recall 0 lost 2\n"),
+        (Standing::Exhausted, b"recall 0 exhausted 2\n"),
+    ];
+    for (standing, want) in standings {
+        let reply = Reply::Recalled {
+            number: 0,
+            standing,
+            seen: 2,
+        };
+        assert!(rt; writes(reply, want));
+    }
+    let left = Reply::Left {
+        spent: 1_000_000,
+        budget: 10_000_000,
+        seen: 1,
+    };
+    assert!(rt; writes(left, b"left 1000000 10000000 1\n"));
     assert!(rt; writes(Reply::Bye, b"bye\n"));
     assert!(rt;
         writes(
@@ -146,7 +179,7 @@ fn too_sensitive(sens: Sens) -> Refusal<'static> {
 #[test]
 fn writes_refusals(rt: HostRuntime) {
     let half = frac(3, 2);
-    let rows: [(Refusal<'_>, &[u8]); 25] = [
+    let rows: [(Refusal<'_>, &[u8]); 29] = [
         (
             Refusal::Line(LineRefusal::Malformed { word: 2 }),
             b"no 10 2\n",
@@ -222,6 +255,19 @@ fn writes_refusals(rt: HostRuntime) {
         (
             Refusal::Number(NumberRefusal::Lost { number: 8 }),
             b"no 51 8\n",
+        ),
+        (
+            Refusal::Disk(DiskRefusal::Closed { failed_at: 1 }),
+            b"no 42 1\n",
+        ),
+        (Refusal::Disk(DiskRefusal::Fault), b"no 52\n"),
+        (
+            Refusal::Number(NumberRefusal::Unknown { number: 1, seen: 2 }),
+            b"no 60 1 2\n",
+        ),
+        (
+            Refusal::Number(NumberRefusal::NotYours { number: 0, seen: 2 }),
+            b"no 61 0 2\n",
         ),
         (Refusal::NoMemory, b"no 90\n"),
     ];

@@ -13,12 +13,6 @@ returns c =
     let workers_is : rule_of c.default_value-workers.result ≡ workers_option = search (rules, parser_is) in
     let workers_alone : c.default_value-workers.result.global ≡ false = search rules in
     record {
-      shape = IfOk-weaker c.arg-3.result _ _ (λ r h. h.shape workers_alone
-          ∙ ap₂ with_rule (c.in_ok-arg-2.ensures.shape c.word-2.ensures.local
-          ∙ ap₂ with_rule (c.in_ok-arg.ensures.shape c.word.ensures.local
-          ∙ ap₂ with_rule c.new-2.ensures.app c.word.ensures.rule) c.word-2.ensures.rule) workers_is) c.arg-3.ensures;
-      local = IfOk-weaker c.arg-3.result _ _ (λ r h. h.globals
-          ∙ ap₂ ◌||◌ (c.in_ok-arg-2.ensures.globals
-          ∙ ap₂ ◌||◌ (c.in_ok-arg.ensures.globals
-          ∙ ap₂ ◌||◌ c.new-2.ensures.local c.word.ensures.local) c.word-2.ensures.local) workers_alone) c.arg-3.ensures;
+      shape = IfOk-weaker c.arg.result _ _ (λ r h. h.shape workers_alone ∙ ap₂ with_rule c.in_ok-files_command.ensures.shape workers_is) c.arg.ensures;
+      local = IfOk-weaker c.arg.result _ _ (λ r h. h.globals ∙ ap₂ ◌||◌ c.in_ok-files_command.ensures.local workers_alone) c.arg.ensures;
     }

@@ -1,7 +1,7 @@
 use Rattle.std.proofs.Common.{arith}
 use Rattle.std.proofs.lemmas.Grind.{common_steps}
-use Rattle.wire_lines.proofs.Epsilons.{next_digit, short_value}
-use Rattle.wire_lines.proofs.epsilon.value_of.Goals as goal
+use Rattle.wire_lines.proofs.Numerals.{next_digit, six_digits}
+use Rattle.wire_lines.proofs.digits.value_of.Goals as goal
 
 pub overflow_mul-value : goal.overflow_mul-value
 overflow_mul-value c = let (low, high, step, small) = next_digit c.args.digits.now c.loop-b.b-index c.requires.digits c.requires.short c.loop-b-test.true in omega arith
@@ -16,4 +16,4 @@ pub loop-b-preserved : goal.loop-b-preserved
 loop-b-preserved c = let (low, high, step, small) = next_digit c.args.digits.now c.loop-b.b-index c.requires.digits c.requires.short c.loop-b-test.true in omega arith
 
 pub returns-clause-small : goal.returns-clause-small
-returns-clause-small c = let h = short_value c.args.digits.now c.requires.digits c.requires.short in grind (arith, common_steps)
+returns-clause-small c short = let h = six_digits c.args.digits.now c.requires.digits short in grind (arith, common_steps)
