@@ -1,12 +1,12 @@
 -- the steps of `ask`, in the words of the verdict and the reply
-use Rattle.std.proofs.Common.{◌≡◌, ℕ, ◌+◌, Bool, true, false, cond, List, [], ◌∷◌, ◌++◌, length, refl, sym, ◌∙◌, ap, subst, append-nil, inl, inr, Option, Some, None}
+use Rattle.std.proofs.Common.{◌≡◌, ℕ, ◌+◌, Bool, true, false, cond, List, [], length, refl, sym, ◌∙◌, ap, subst, append-nil, inl, inr, Option, Some, None}
 use Rattle.std.specs.Prelude.{ℤ, nat_lt, Result, Ok, Err}
 use mathlib.Core.List.{IsPrefix}
-use Rattle.budget_core.specs.declared.records.View.{View}
-use Rattle.budget_core.specs.declared.records.View.TheVariants.{Whole}
-use Rattle.budget_core.specs.declared.records.Outcome.{Outcome}
-use Rattle.budget_core.specs.declared.records.Record.{Record}
-use Rattle.budget_core.specs.declared.records.Record.TheVariants.{Reserve, Settle}
+use Rattle.partition_charge.specs.declared.view.View.{View}
+use Rattle.partition_charge.specs.declared.view.View.TheVariants.{Whole}
+use Rattle.journal_records.specs.declared.records.Outcome.{Outcome}
+use Rattle.journal_records.specs.declared.records.Record.{Record}
+use Rattle.journal_records.specs.declared.records.Record.TheVariants.{Reserve}
 use Rattle.budget_core.specs.declared.entry.Ask.{Ask}
 use Rattle.budget_core.specs.declared.entry.Grant.{Grant}
 use Rattle.budget_core.specs.declared.entry.ReserveFault.{ReserveFault}
@@ -21,8 +21,7 @@ use Rattle.fz_ast.specs.Terms.{Term}
 use Rattle.metric_law.specs.Means.{Means}
 use Rattle.metric_values.specs.Tables.{rows_of}
 use Rattle.metric_values.specs.Values.{NumV}
-use Rattle.wire_lines.specs.Reply.{refused}
-use Rattle.wire_lines.specs.Refusal.{ProgramRefusal, Refusal, by_line, by_program, by_money, by_number, no_memory}
+use Rattle.wire_lines.specs.Refusal.{ProgramRefusal}
 use Rattle.fz_outside.specs.Draws.{first_draws}
 use Rattle.exact_bernoulli.specs.Meter.{draw_limit}
 use Rattle.discrete_laplace.specs.Noise.{noise_of}
@@ -32,10 +31,9 @@ use Rattle.answer_path.specs.Owner.{Owner, Holding, IsOwnerOf}
 use Rattle.answer_path.specs.Query.{Query}
 use Rattle.answer_path.specs.Program.{HasValueIn}
 use Rattle.answer_path.specs.Noise.{noise_at, scale_numerator, scale_denominator}
-use Rattle.answer_path.specs.Verdict.{program_refused, money_refused, granted, ask_for, money_refusal, verdict_by_money, IsVerdictBy, IsVerdict}
-use Rattle.answer_path.specs.Answered.{IsSettledAt, IsSettledBy, outcome_reply, granted_record, IsAsked}
-use Rattle.answer_path.specs.Pass.{records_told, told_of_reserve}
-use Rattle.answer_path.specs.Code.{IsRefusedFor, IsProgramRefusal}
+use Rattle.answer_path.specs.Verdict.{program_refused, ask_for, verdict_by_money, IsVerdictBy, IsVerdict}
+use Rattle.answer_path.specs.Answered.{IsSettledAt, IsSettledBy, granted_record}
+use Rattle.answer_path.specs.Code.{IsRefusedFor}
 
 -- the program is accepted where it is asked, at p/q
 abbrev pub IsAcceptedAt : Signature → List ℕ → (p q : ℕ) → Type 0
@@ -58,25 +56,8 @@ pub program_says : (owner : Owner) (start : ℕ) (records : List Record) (query 
 unfolding IsVerdict
 program_says owner start records query refusal h = (h.0, h.1, subst (λ (j : Judgement). IsVerdictBy owner.entry start records query j (program_refused refusal)) (sym h.2) refl)
 
-self : (records : List Record) → IsPrefix records records
+pub self : (records : List Record) → IsPrefix records records
 self records = ([], append-nil records)
-
--- A refusal before the budget is asked adds nothing.
-pub refused_asked : (owner : Owner) (draws : ℕ → ℕ → ℕ) (start : ℕ) (query : Query) (seen : List Record) (refusal : Refusal) → IsProgramRefusal owner.tables query.program refusal
-    → IsAsked owner draws start query seen (refused refusal) [] seen
-unfolding IsAsked
-refused_asked owner draws start query seen (by_program refusal) h = (seen, self seen, inl (program_refused refusal, program_says owner start seen query refusal h, (refl, refl, refl)))
-refused_asked owner draws start query seen no_memory h = (seen, self seen, inr (refl, refl, refl))
-refused_asked owner draws start query seen (by_line refusal) h = absurd h
-refused_asked owner draws start query seen (by_money refusal) h = absurd h
-refused_asked owner draws start query seen (by_number refusal) h = absurd h
-
--- the budget refuses
-pub money_asked : (owner : Owner) (draws : ℕ → ℕ → ℕ) (start : ℕ) (query : Query) (seen after : List Record) (p q : ℕ) (fault : ReserveFault) → IsAcceptedAt owner.tables query.program p q
-    → money_verdict owner.entry start seen (ask_for query p q) ≡ Err fault → after ≡ seen ++ [] → IsAsked owner draws start query seen (refused (by_money (money_refusal fault))) [] after
-unfolding IsAsked
-money_asked owner draws start query seen after p q fault c is same =
-    (seen, self seen, inl (money_refused (money_refusal fault), money_says owner start seen query p q (Err fault) c is, (refl, refl, same ∙ append-nil seen)))
 
 -- a grant has the next number
 abbrev given : Entry → ℕ → List Record → Ask → Grant
@@ -95,34 +76,8 @@ grant_number entry start records asking grant is = over (nat_lt entry.budget (co
     over true is = cc
     over false is = full (nat_lt entry.capacity (length records + open_from start records + 2)) is
 
-granted_is : (entry : Entry) (start : ℕ) (records : List Record) (asking : Ask) (grant : Grant) → money_verdict entry start records asking ≡ Ok grant → granted_record asking grant ≡ reservation_for records asking grant.taken
+pub granted_is : (entry : Entry) (start : ℕ) (records : List Record) (asking : Ask) (grant : Grant) → money_verdict entry start records asking ≡ Ok grant → granted_record asking grant ≡ reservation_for records asking grant.taken
 granted_is entry start records asking grant is = ap (λ n. Reserve (reservation_numbered n asking grant.taken)) (grant_number entry start records asking grant is)
-
--- a reservation is granted, and settled
-pub granted_asked : (owner : Owner) (draws : ℕ → ℕ → ℕ) (start : ℕ) (query : Query) (seen u after : List Record) (p q : ℕ) (grant : Grant) (outcome : Outcome) → IsAcceptedAt owner.tables query.program p q
-    → money_verdict owner.entry start seen (ask_for query p q) ≡ Ok grant → IsSettledBy owner draws query grant.number outcome
-    → u ≡ seen ++ records_told (told_of_reserve seen (ask_for query p q) (Ok grant)) → after ≡ u ++ records_told ((length u, Settle grant.number outcome) ∷ [])
-    → IsAsked owner draws start query seen (outcome_reply grant outcome) (told_of_reserve seen (ask_for query p q) (Ok grant) ++ (length u, Settle grant.number outcome) ∷ []) after
-unfolding IsAsked
-granted_asked owner draws start query seen u after p q grant outcome c is settles first second =
-    let asking : Ask = ask_for query p q in
-    let made : granted_record asking grant ≡ reservation_for seen asking grant.taken = granted_is owner.entry start seen asking grant is in (
-      seen,
-      self seen,
-      inl (
-        granted asking grant,
-        money_says owner start seen query p q (Ok grant) c is,
-        record {
-          outcome = outcome;
-          u = u;
-          settled = settles;
-          reserved = ([], append-nil (seen ++ granted_record asking grant ∷ []) ∙ ap (λ r. seen ++ r ∷ []) made ∙ sym first);
-          reply_is = refl;
-          told_is = ap (λ r. (length seen, r) ∷ (length u, Settle grant.number outcome) ∷ []) (sym made);
-          after_is = second;
-        },
-      ),
-    )
 
 -- what a settlement says of one worth it says of each that the first gives
 settlement_map : (A B : ℤ → Type 0) (noise : Option ℤ) (outcome : Outcome) → ((value : ℤ) → A value → B value) → IsSettledAt A noise outcome → IsSettledAt B noise outcome

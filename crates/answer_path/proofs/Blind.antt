@@ -1,6 +1,6 @@
 -- a verdict sees no answers
 use Rattle.std.proofs.Common.{ℕ, List, sym, ◌∙◌, ap}
-use Rattle.budget_core.specs.declared.records.Record.{Record}
+use Rattle.journal_records.specs.declared.records.Record.{Record}
 use Rattle.budget_core.specs.Bare.{without_answers}
 use Rattle.budget_core.proofs.BareLemmas.{money_verdict-without_answers}
 use Rattle.budget_core.specs.Entries.{Entry}

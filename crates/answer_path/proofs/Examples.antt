@@ -1,14 +1,16 @@
 -- The definitions, computed on small inputs.
 use Rattle.std.proofs.Common.{◌≡◌, ℕ, ◌≤◌, arith, List, [], ◌∷◌, ◌++◌, Option, Some, None, codes, refl, sym, ◌∙◌, ap, subst, pos, negsuc, inl, inr}
 use Rattle.std.specs.Prelude.{ℤ, ◌+ℤ◌}
-use Rattle.budget_core.specs.declared.records.View.TheVariants.{Whole}
-use Rattle.budget_core.specs.declared.records.Outcome.TheVariants.{Answered, Exhausted, Lost}
-use Rattle.budget_core.specs.declared.records.Record.{Record}
-use Rattle.budget_core.specs.declared.records.Record.TheVariants.{Reserve, Settle}
+use Rattle.partition_charge.specs.declared.view.View.TheVariants.{Whole}
+use Rattle.journal_records.specs.declared.records.Outcome.TheVariants.{Answered, Exhausted, Lost}
+use Rattle.journal_records.specs.declared.records.Record.{Record}
+use Rattle.journal_records.specs.declared.records.Record.TheVariants.{Reserve, Settle}
+use Rattle.sha2.specs.Sha256.{sha256}
 use Rattle.budget_core.specs.declared.entry.Ask.{Ask}
 use Rattle.budget_core.specs.declared.entry.Grant.{Grant}
 use Rattle.budget_core.specs.declared.entry.ReserveFault.TheVariants.{OverBudget, Full}
-use Rattle.budget_core.specs.Cost.{cost_of, partition_cost}
+use Rattle.budget_core.specs.Cost.{cost_of}
+use Rattle.partition_charge.specs.Cost.{cost_of_charges, partition_cost}
 use Rattle.fz_frac.specs.Distance.{Fin, Inf}
 use Rattle.fz_frac.specs.Lowest.{gcd, gcd_in}
 use Rattle.fz_ast.specs.Signature.{TableType, row_of}
@@ -36,6 +38,7 @@ use Rattle.answer_path.specs.Program.{IsCharged, HasValueIn}
 use Rattle.answer_path.specs.Noise.{scale_numerator, scale_denominator, noise_at}
 use Rattle.answer_path.specs.Verdict.{program_refused, money_refused, granted, ask_for, money_refusal, IsVerdict}
 use Rattle.answer_path.specs.Answered.{IsSettledAt, IsSettledBy, HasSmallAnswer, answer_limit, outcome_reply, grant_records, IsAsked}
+use Rattle.budget_ledger.specs.Account.{Storage}
 use Rattle.answer_path.specs.Pass.{first_of_run, told_behind, records_told}
 use Rattle.answer_path.proofs.Answering.{IsAcceptedAt, money_says, noise_is}
 use Rattle.answer_path.proofs.Scales.{scale_is}
@@ -230,18 +233,18 @@ not_small_below h = omega (arith, h)
 refusal_is_small : HasSmallAnswer (refused (by_number (NoAnswer 4)))
 refusal_is_small = tt
 
--- an ask carries the query's analyst, view and epsilon, and a reservation the ask's
+-- an ask carries the query's analyst, view and epsilon, and the digest of its program, and a reservation the ask's
 abbrev pub a_query : List ℕ → Query
 a_query program = record { owner = 2; analyst = 5; view = Whole; e = 1000000; program = program }
 
 abbrev pub an_ask : Ask
-an_ask = record { analyst = 5; view = Whole; e = 1000000; p = 1; q = 1 }
+an_ask = record { analyst = 5; view = Whole; e = 1000000; p = 1; q = 1; program = sha256 size_people }
 
 ask_is : ask_for (a_query size_people) 1 1 ≡ an_ask
 ask_is = refl
 
 abbrev pub reserved : ℕ → Record
-reserved number = Reserve (record { number = number; view = Whole; e = 1000000; p = 1; q = 1; taken = 1000000; analyst = 5 })
+reserved number = Reserve (record { number = number; view = Whole; e = 1000000; p = 1; q = 1; taken = 1000000; analyst = 5; program = sha256 size_people })
 
 records_are : grant_records an_ask (a_grant 4 1000000 9) Exhausted ≡ reserved 4 ∷ Settle 4 Exhausted ∷ []
 records_are = refl
@@ -264,19 +267,19 @@ owner budget capacity = record {
 pub size_accepted : IsAcceptedAt (people ∷ []) size_people 1 1
 size_accepted = (size_term, size_reads, size_judged)
 
-charged : IsCharged (people ∷ []) Whole size_people 1 1
+pub charged : IsCharged (people ∷ []) Whole size_people 1 1
 charged = (size_term, size_reads, size_judged)
 
 just_enough : IsVerdict (owner 1000000 2).entry (people ∷ []) 0 [] (a_query size_people) (granted an_ask (a_grant 0 1000000 1))
-unfolding cost_of partition_cost
+unfolding cost_of cost_of_charges partition_cost
 just_enough = money_says (owner 1000000 2) 0 [] (a_query size_people) 1 1 _ size_accepted refl
 
 over_budget : IsVerdict (owner 999999 2).entry (people ∷ []) 0 [] (a_query size_people) (money_refused (NoBudget 0 1000000 999999 0))
-unfolding cost_of partition_cost
+unfolding cost_of cost_of_charges partition_cost
 over_budget = money_says (owner 999999 2) 0 [] (a_query size_people) 1 1 _ size_accepted refl
 
 no_room : IsVerdict (owner 2000000 3).entry (people ∷ []) 0 (reserved 0 ∷ Settle 0 Exhausted ∷ []) (a_query size_people) (money_refused (JournalFull 2 0 3))
-unfolding cost_of partition_cost
+unfolding cost_of cost_of_charges partition_cost
 no_room = money_says (owner 2000000 3) 0 (reserved 0 ∷ Settle 0 Exhausted ∷ []) (a_query size_people) 1 1 _ size_accepted refl
 
 -- the program's value and the noise settle its reservation, and so does want of memory
@@ -296,14 +299,14 @@ meanwhile = before ++ reserved 1 ∷ reserved 2 ∷ []
 
 asked_among_others : IsAsked (owner 9000000 100) (λ number. draws_of_minus_one) 0 (a_query size_people) [] (answered 1 (pos 2) 1000000)
     ((2, reserved 1) ∷ (4, Settle 1 (Answered (pos 2))) ∷ []) (meanwhile ++ Settle 1 (Answered (pos 2)) ∷ [])
-unfolding IsAsked cost_of partition_cost
+unfolding IsAsked cost_of cost_of_charges partition_cost
 asked_among_others = (
   before,
   (before, refl),
   inl (
     granted an_ask (a_grant 1 1000000 3),
     money_says (owner 9000000 100) 0 before (a_query size_people) 1 1 _ size_accepted refl,
-    record {
+    inl (record {
       outcome = Answered (pos 2);
       u = meanwhile;
       settled = settled_by_three minus_one;
@@ -311,21 +314,21 @@ asked_among_others = (
       reply_is = refl;
       told_is = refl;
       after_is = refl;
-    },
+    }),
   ),
 )
 
 -- the same line where memory ran out after its reservation
 asked_and_lost : IsAsked (owner 9000000 100) (λ number. draws_of_minus_one) 0 (a_query size_people) [] (refused (by_number (NoAnswer 1)))
     ((2, reserved 1) ∷ (4, Settle 1 Lost) ∷ []) (meanwhile ++ Settle 1 Lost ∷ [])
-unfolding IsAsked cost_of partition_cost
+unfolding IsAsked cost_of cost_of_charges partition_cost
 asked_and_lost = (
   before,
   (before, refl),
   inl (
     granted an_ask (a_grant 1 1000000 3),
     money_says (owner 9000000 100) 0 before (a_query size_people) 1 1 _ size_accepted refl,
-    record {
+    inl (record {
       outcome = Lost;
       u = meanwhile;
       settled = settled_as_lost;
@@ -333,7 +336,7 @@ asked_and_lost = (
       reply_is = refl;
       told_is = refl;
       after_is = refl;
-    },
+    }),
   ),
 )
 
@@ -346,7 +349,8 @@ nothing_is_unseen : (draws : ℕ → ℕ → ℕ) (after : List Record) → IsAs
 unfolding IsAsked
 nothing_is_unseen draws after (g, begins, inl (program_refused r, is, (said, none, rest))) gone = cc (said)
 nothing_is_unseen draws after (g, begins, inl (money_refused r, is, (said, none, rest))) gone = cc (said)
-nothing_is_unseen draws after (g, begins, inl (granted asking grant, is, two)) gone = cc (two.told_is)
+nothing_is_unseen draws after (g, begins, inl (granted asking grant, is, inl two)) gone = cc (two.told_is)
+nothing_is_unseen draws after (g, begins, inl (granted asking grant, is, inr (refusal, said, rest))) gone = cc (said)
 nothing_is_unseen draws after (g, begins, inr (said, none, rest)) gone = cc (begins.1, rest, gone)
 
 -- What a pass shows: its own records have their places behind those found.
@@ -356,5 +360,8 @@ told_is = refl
 told_records : records_told ((1, reserved 1) ∷ (4, Settle 1 Lost) ∷ []) ≡ reserved 1 ∷ Settle 1 Lost ∷ []
 told_records = refl
 
-run_begins : first_of_run (record { entry = (owner 1 2).entry; found = reserved 0 ∷ Settle 0 Lost ∷ reserved 1 ∷ []; seen = []; own = [] }) ≡ 2
+abbrev pub a_storage : Storage
+a_storage = record { header = record { owner = 2; budget = 9000000; capacity = 100; digest = [] }; trace = None; faults = 3; closed = None }
+
+run_begins : first_of_run (record { entry = (owner 1 2).entry; found = reserved 0 ∷ Settle 0 Lost ∷ reserved 1 ∷ []; seen = []; own = []; storage = a_storage }) ≡ 2
 run_begins = refl

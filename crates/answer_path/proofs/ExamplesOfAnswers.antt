@@ -1,16 +1,18 @@
 -- Verdicts and what is answered by them, at worked queries, and wrong ones refused.
 use Rattle.std.proofs.Common.{◌≡◌, ℕ, List, [], ◌∷◌, ◌++◌, None, Option, codes, refl, sym, ◌∙◌, subst, pos, inl, inr}
 use Rattle.std.specs.Prelude.{ℤ}
-use Rattle.budget_core.specs.declared.records.View.TheVariants.{Whole, Part}
-use Rattle.budget_core.specs.declared.records.Outcome.{Outcome}
-use Rattle.budget_core.specs.declared.records.Outcome.TheVariants.{Answered, Exhausted, Lost}
-use Rattle.budget_core.specs.declared.records.Record.{Record}
-use Rattle.budget_core.specs.declared.records.Record.TheVariants.{Settle}
+use Rattle.partition_charge.specs.declared.view.View.TheVariants.{Whole, Part}
+use Rattle.journal_records.specs.declared.records.Outcome.{Outcome}
+use Rattle.journal_records.specs.declared.records.Outcome.TheVariants.{Answered, Exhausted, Lost}
+use Rattle.journal_records.specs.declared.records.Record.{Record}
+use Rattle.journal_records.specs.declared.records.Record.TheVariants.{Settle}
 use Rattle.budget_core.specs.declared.entry.Grant.{Grant}
-use Rattle.budget_core.specs.Cost.{cost_of, partition_cost}
+use Rattle.budget_core.specs.Cost.{cost_of}
+use Rattle.partition_charge.specs.Cost.{cost_of_charges, partition_cost}
 use Rattle.fz_frac.specs.Distance.{Fin}
 use Rattle.wire_lines.specs.Reply.{Replied, answered, refused}
-use Rattle.wire_lines.specs.Refusal.{ProgramRefusal, by_program, by_money, by_number, ill_typed, no_memory}
+use Rattle.wire_lines.specs.Refusal.{ProgramRefusal, by_program, by_money, by_disk, by_number, ill_typed, no_memory}
+use Rattle.wire_lines.specs.declared.refusal.DiskRefusal.{DiskRefusal}
 use Rattle.wire_lines.specs.declared.refusal.MoneyRefusal.{MoneyRefusal}
 use Rattle.wire_lines.specs.declared.refusal.MoneyRefusal.TheVariants.{OverBudget as NoBudget, JournalFull}
 use Rattle.wire_lines.specs.declared.refusal.NumberRefusal.TheVariants.{Exhausted as NoNoise, Lost as NoAnswer}
@@ -71,14 +73,14 @@ exhausted_at draws none = subst (λ (k : Option ℤ). IsSettledAt (HasValueIn (p
 
 asked_and_exhausted : (draws : ℕ → ℕ) → noise_at 1000000 draws ≡ None → IsAsked (owner 9000000 100) (λ number. draws) 0 query [] (refused (by_number (NoNoise 1)))
     ((2, reserved 1) ∷ (3, Settle 1 Exhausted) ∷ []) (before ++ reserved 1 ∷ Settle 1 Exhausted ∷ [])
-unfolding IsAsked cost_of partition_cost
+unfolding IsAsked cost_of cost_of_charges partition_cost
 asked_and_exhausted draws none = (
   before,
   (before, refl),
   inl (
     granted an_ask (a_grant 1 1000000 3),
     money_says (owner 9000000 100) 0 before query 1 1 _ size_accepted refl,
-    record {
+    inl (record {
       outcome = Exhausted;
       u = before ++ reserved 1 ∷ [];
       settled = exhausted_at draws none;
@@ -86,7 +88,7 @@ asked_and_exhausted draws none = (
       reply_is = refl;
       told_is = refl;
       after_is = refl;
-    },
+    }),
   ),
 )
 
@@ -95,7 +97,7 @@ unfolding IsAsked
 asked_of_a_stranger draws = (before, (before, refl), inl (program_refused unknown, refused_before_the_budget, (refl, refl, refl)))
 
 asked_over_budget : (draws : ℕ → ℕ → ℕ) → IsAsked (owner 1999999 100) draws 0 query [] (refused (by_money (NoBudget 1000000 2000000 1999999 2))) [] before
-unfolding IsAsked cost_of partition_cost
+unfolding IsAsked cost_of cost_of_charges partition_cost
 asked_over_budget draws = (
   before,
   (before, refl),
@@ -107,19 +109,21 @@ asked_over_budget draws = (
 )
 
 asked_without_room : (draws : ℕ → ℕ → ℕ) → IsAsked (owner 2000000 3) draws 0 query [] (refused (by_money (JournalFull 2 0 3))) [] before
-unfolding IsAsked cost_of partition_cost
+unfolding IsAsked cost_of cost_of_charges partition_cost
 asked_without_room draws = (
   before,
   (before, refl),
   inl (money_refused (JournalFull 2 0 3), money_says (owner 2000000 3) 0 before query 1 1 _ size_accepted refl, (refl, refl, refl)),
 )
 
--- No reply comes of a reservation without its settlement, whether it is answered, exhausted or lost, or another.
-half_a_grant : (draws : ℕ → ℕ → ℕ) (reply : Replied) (place : ℕ) (after : List Record) → IsAsked (owner 9000000 100) draws 0 query [] reply ((place, reserved 1) ∷ []) after → ⊥
+-- Only a refusal for the disk comes of a reservation without its settlement.
+half_a_grant : (draws : ℕ → ℕ → ℕ) (reply : Replied) (place : ℕ) (after : List Record) → IsAsked (owner 9000000 100) draws 0 query [] reply ((place, reserved 1) ∷ []) after
+    → (refusal : DiskRefusal) × (reply ≡ refused (by_disk refusal))
 unfolding IsAsked
 half_a_grant draws reply place after (g, begins, inl (program_refused refusal, is, (said, none, rest))) = absurd (cc (none))
 half_a_grant draws reply place after (g, begins, inl (money_refused refusal, is, (said, none, rest))) = absurd (cc (none))
-half_a_grant draws reply place after (g, begins, inl (granted asking grant, is, two)) = absurd (cc (two.told_is))
+half_a_grant draws reply place after (g, begins, inl (granted asking grant, is, inl two)) = absurd (cc (two.told_is))
+half_a_grant draws reply place after (g, begins, inl (granted asking grant, is, inr (refusal, said, rest))) = (refusal, said)
 half_a_grant draws reply place after (g, begins, inr (said, none, rest)) = absurd (cc (none))
 
 -- A reply that refuses before a reservation is none of a grant, however it was settled.
@@ -143,7 +147,8 @@ memory_adds_none : (draws : ℕ → ℕ → ℕ) (first : Told) (told : List Tol
 unfolding IsAsked
 memory_adds_none draws first told after (g, begins, inl (program_refused refusal, is, (said, none, rest))) = absurd (cc (none))
 memory_adds_none draws first told after (g, begins, inl (money_refused refusal, is, (said, none, rest))) = absurd (cc (none))
-memory_adds_none draws first told after (g, begins, inl (granted asking grant, is, two)) = not_of_memory grant two.outcome two.reply_is
+memory_adds_none draws first told after (g, begins, inl (granted asking grant, is, inl two)) = not_of_memory grant two.outcome two.reply_is
+memory_adds_none draws first told after (g, begins, inl (granted asking grant, is, inr (unkept, said, rest))) = absurd (cc (said))
 memory_adds_none draws first told after (g, begins, inr (said, none, rest)) = absurd (cc (none))
 
 -- a refusal with a record
@@ -152,7 +157,8 @@ program_adds_none : (draws : ℕ → ℕ → ℕ) (refusal : ProgramRefusal) (fi
 unfolding IsAsked
 program_adds_none draws refusal first told after (g, begins, inl (program_refused r, is, (said, none, rest))) = absurd (cc (none))
 program_adds_none draws refusal first told after (g, begins, inl (money_refused r, is, (said, none, rest))) = absurd (cc (none))
-program_adds_none draws refusal first told after (g, begins, inl (granted asking grant, is, two)) = not_of_a_program refusal grant two.outcome two.reply_is
+program_adds_none draws refusal first told after (g, begins, inl (granted asking grant, is, inl two)) = not_of_a_program refusal grant two.outcome two.reply_is
+program_adds_none draws refusal first told after (g, begins, inl (granted asking grant, is, inr (unkept, said, rest))) = absurd (cc (said))
 program_adds_none draws refusal first told after (g, begins, inr (said, none, rest)) = absurd (cc (none))
 
 money_adds_none : (draws : ℕ → ℕ → ℕ) (refusal : MoneyRefusal) (first : Told) (told : List Told) (after : List Record)
@@ -160,7 +166,8 @@ money_adds_none : (draws : ℕ → ℕ → ℕ) (refusal : MoneyRefusal) (first 
 unfolding IsAsked
 money_adds_none draws refusal first told after (g, begins, inl (program_refused r, is, (said, none, rest))) = absurd (cc (none))
 money_adds_none draws refusal first told after (g, begins, inl (money_refused r, is, (said, none, rest))) = absurd (cc (none))
-money_adds_none draws refusal first told after (g, begins, inl (granted asking grant, is, two)) = not_of_money refusal grant two.outcome two.reply_is
+money_adds_none draws refusal first told after (g, begins, inl (granted asking grant, is, inl two)) = not_of_money refusal grant two.outcome two.reply_is
+money_adds_none draws refusal first told after (g, begins, inl (granted asking grant, is, inr (unkept, said, rest))) = absurd (cc (said))
 money_adds_none draws refusal first told after (g, begins, inr (said, none, rest)) = absurd (cc (none))
 
 -- 51 where no number has noise: it would have to be 50
@@ -174,26 +181,27 @@ not_lost_without_noise : (draws : ℕ → ℕ → ℕ) → ((number : ℕ) → n
 unfolding IsAsked
 not_lost_without_noise draws none told after (g, begins, inl (program_refused refusal, is, (said, nothing, rest))) = absurd (cc (said))
 not_lost_without_noise draws none told after (g, begins, inl (money_refused refusal, is, (said, nothing, rest))) = absurd (cc (said))
-not_lost_without_noise draws none told after (g, begins, inl (granted asking grant, is, two)) =
+not_lost_without_noise draws none told after (g, begins, inl (granted asking grant, is, inl two)) =
     lost_has_noise (HasValueIn (people ∷ []) (owner 9000000 100).rows Whole size_people) grant two.outcome 1
     (subst (λ (k : Option ℤ). IsSettledAt (HasValueIn (people ∷ []) (owner 9000000 100).rows Whole size_people) k two.outcome) (none grant.number) two.settled) two.reply_is
+not_lost_without_noise draws none told after (g, begins, inl (granted asking grant, is, inr (unkept, said, rest))) = absurd (cc (said))
 not_lost_without_noise draws none told after (g, begins, inr (said, nothing, rest)) = absurd (cc (said))
 
 -- The same of a line among which no other adds records: answered, lost and refused; and want of memory adds nothing.
 answered_alone : IsAnswered (owner 9000000 100) (λ number. draws_of_minus_one) 0 before query (answered 1 (pos 2) 1000000) (reserved 1 ∷ Settle 1 (Answered (pos 2)) ∷ [])
-unfolding IsAnswered cost_of partition_cost
+unfolding IsAnswered cost_of cost_of_charges partition_cost
 answered_alone = (
   granted an_ask (a_grant 1 1000000 3),
   money_says (owner 9000000 100) 0 before query 1 1 _ size_accepted refl,
-  (Answered (pos 2), settled_by_three minus_one, refl, refl),
+  inl (Answered (pos 2), settled_by_three minus_one, refl, refl),
 )
 
 lost_alone : IsAnswered (owner 9000000 100) (λ number. draws_of_minus_one) 0 before query (refused (by_number (NoAnswer 1))) (reserved 1 ∷ Settle 1 Lost ∷ [])
-unfolding IsAnswered cost_of partition_cost
+unfolding IsAnswered cost_of cost_of_charges partition_cost
 lost_alone = (
   granted an_ask (a_grant 1 1000000 3),
   money_says (owner 9000000 100) 0 before query 1 1 _ size_accepted refl,
-  (Lost, settled_as_lost, refl, refl),
+  inl (Lost, settled_as_lost, refl, refl),
 )
 
 refused_alone : (draws : ℕ → ℕ → ℕ) → IsAnswered (stranger 0 0) draws 0 before query (refused (by_program unknown)) []

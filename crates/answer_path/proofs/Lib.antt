@@ -1,15 +1,21 @@
 mod Examples
 mod ExamplesOfAnswers
+mod ExamplesOfBooks
 mod Limits
 pub mod Told
 pub mod Readings
 pub mod Existing
 pub mod Programs
+pub mod Ranges
 pub mod Charged
 pub mod Scales
 pub mod Blind
+pub mod Digests
 pub mod Passes
 pub mod Answering
+pub mod Booking
+pub mod Turns
+pub mod Standings
 pub mod Alone
 pub mod Lost
 pub mod SizePeople

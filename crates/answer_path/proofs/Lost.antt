@@ -1,7 +1,7 @@
 -- what was added where an answer was lost
 use Rattle.std.proofs.Common.{◌≡◌, ℕ, refl, sym, ◌∙◌, ap, inl, inr}
-use Rattle.budget_core.specs.declared.records.Outcome.{Outcome}
-use Rattle.budget_core.specs.declared.records.Outcome.TheVariants.{Answered, Exhausted, Lost}
+use Rattle.journal_records.specs.declared.records.Outcome.{Outcome}
+use Rattle.journal_records.specs.declared.records.Outcome.TheVariants.{Answered, Exhausted, Lost}
 use Rattle.budget_core.specs.declared.entry.Grant.{Grant}
 use Rattle.wire_lines.specs.Reply.{refused}
 use Rattle.wire_lines.specs.Refusal.{by_number}
@@ -21,7 +21,8 @@ pub lost_are_charged : LostAreCharged
 unfolding IsAsked
 lost_are_charged owner draws start query seen reply told after n (g, begins, inl (program_refused refusal, is, (said, none, rest))) lost = absurd (cc (said, lost))
 lost_are_charged owner draws start query seen reply told after n (g, begins, inl (money_refused refusal, is, (said, none, rest))) lost = absurd (cc (said, lost))
-lost_are_charged owner draws start query seen reply told after n (g, begins, inl (granted asking grant, is, two)) lost =
+lost_are_charged owner draws start query seen reply told after n (g, begins, inl (granted asking grant, is, inl two)) lost =
     let h = told_lost grant two.outcome n (sym two.reply_is ∙ lost) in
     (asking, grant.taken, ap records_told two.told_is ∙ ap (λ o. grant_records asking grant o) h.1 ∙ ap (λ k. grant_records asking (record grant { number = k }) Lost) h.0)
+lost_are_charged owner draws start query seen reply told after n (g, begins, inl (granted asking grant, is, inr (refusal, said, rest))) lost = absurd (cc (said, lost))
 lost_are_charged owner draws start query seen reply told after n (g, begins, inr (said, none, rest)) lost = absurd (cc (said, lost))

@@ -24,7 +24,7 @@ use Rattle.shape_run.specs.declared.plan.Plan.{Plan}
 use Rattle.shape_run.specs.declared.plan.ShapeFault.{ShapeFault}
 use Rattle.shape_run.specs.declared.plan.ShapeFault.TheVariants.{TooDeep, TooLong, TooWide, NoMemory as NoCell}
 use Rattle.shape_run.specs.Plans.{IsPlanOf, IsStopOf}
-use Rattle.wire_lines.specs.Refusal.{Refusal, by_line, by_program, by_money, by_number, no_memory}
+use Rattle.wire_lines.specs.Refusal.{Refusal, by_line, by_program, by_money, by_disk, by_number, no_memory}
 use Rattle.answer_path.specs.Reading.{unlexed, stuck, nested, read, IsReading}
 use Rattle.answer_path.specs.Judgement.{accepted, judgement_of, judged_by, shaped_by, fault_refusal, AreNames}
 use Rattle.answer_path.specs.Code.{IsProgramRefusal, IsTermRefusal, lex_refusal, parse_refusal, limit_refusal, HasTable, TellsFault}
@@ -107,4 +107,5 @@ term_refused ts w e (by_program refusal) h k = (read e, h, k)
 term_refused ts w e no_memory h k = tt
 term_refused ts w e (by_line refusal) h k = absurd k
 term_refused ts w e (by_money refusal) h k = absurd k
+term_refused ts w e (by_disk refusal) h k = absurd k
 term_refused ts w e (by_number refusal) h k = absurd k

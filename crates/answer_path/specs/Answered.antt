@@ -2,15 +2,16 @@
 use Rattle.std.specs.Prelude.{◌≡◌, ℕ, ◌+◌, ◌^◌, ◌≤◌, ℤ, ◌+ℤ◌, unsigned_abs, List, [], ◌∷◌, ◌++◌, length}
 use Rattle.std.specs.Prelude.{Option, Some, None, ◌⊎◌, ⊤}
 use mathlib.Core.List.{IsPrefix}
-use Rattle.budget_core.specs.declared.records.Outcome.{Outcome}
-use Rattle.budget_core.specs.declared.records.Outcome.TheVariants.{Answered, Exhausted, Lost}
-use Rattle.budget_core.specs.declared.records.Record.{Record}
-use Rattle.budget_core.specs.declared.records.Record.TheVariants.{Reserve, Settle}
+use Rattle.journal_records.specs.declared.records.Outcome.{Outcome}
+use Rattle.journal_records.specs.declared.records.Outcome.TheVariants.{Answered, Exhausted, Lost}
+use Rattle.journal_records.specs.declared.records.Record.{Record}
+use Rattle.journal_records.specs.declared.records.Record.TheVariants.{Reserve, Settle}
 use Rattle.budget_core.specs.declared.entry.Ask.{Ask}
 use Rattle.budget_core.specs.declared.entry.Grant.{Grant}
 use Rattle.budget_core.specs.Ledger.{reservation_numbered}
 use Rattle.wire_lines.specs.Reply.{Replied, answered, refused}
-use Rattle.wire_lines.specs.Refusal.{Refusal, by_program, by_money, by_number, no_memory}
+use Rattle.wire_lines.specs.Refusal.{Refusal, by_program, by_money, by_number, by_disk, no_memory}
+use Rattle.wire_lines.specs.declared.refusal.DiskRefusal.{DiskRefusal}
 use Rattle.wire_lines.specs.declared.refusal.NumberRefusal.TheVariants.{Exhausted as NoNoise, Lost as NoAnswer}
 use Rattle.answer_path.specs.Owner.{Owner}
 use Rattle.answer_path.specs.Query.{Query}
@@ -51,12 +52,22 @@ granted_record asking grant = Reserve (reservation_numbered grant.number asking 
 abbrev pub grant_records : Ask → Grant → Outcome → List Record
 grant_records asking grant outcome = granted_record asking grant ∷ Settle grant.number outcome ∷ []
 
+-- A grant is settled and told so.
+abbrev pub IsSettledAndTold : Owner → (ℕ → ℕ → ℕ) → Query → Ask → Grant → Replied → (added : List Record) → Type 0
+IsSettledAndTold owner draws query asking grant reply added =
+    (outcome : Outcome) × IsSettledBy owner draws query grant.number outcome
+    × (reply ≡ outcome_reply grant outcome) × (added ≡ grant_records asking grant outcome)
+
+-- What was granted isn't written to the owner's journal: neither record, or the reservation alone.
+abbrev pub IsUnrecorded : Ask → Grant → Replied → (added : List Record) → Type 0
+IsUnrecorded asking grant reply added =
+    (refusal : DiskRefusal) × (reply ≡ refused (by_disk refusal)) × ((added ≡ []) ⊎ (added ≡ granted_record asking grant ∷ []))
+
 abbrev pub IsAnsweredBy : Owner → (ℕ → ℕ → ℕ) → Query → Verdict → Replied → (added : List Record) → Type 0
 IsAnsweredBy owner draws query (program_refused refusal) reply added = (reply ≡ refused (by_program refusal)) × (added ≡ [])
 IsAnsweredBy owner draws query (money_refused refusal) reply added = (reply ≡ refused (by_money refusal)) × (added ≡ [])
 IsAnsweredBy owner draws query (granted asking grant) reply added =
-    (outcome : Outcome) × IsSettledBy owner draws query grant.number outcome
-    × (reply ≡ outcome_reply grant outcome) × (added ≡ grant_records asking grant outcome)
+    IsSettledAndTold owner draws query asking grant reply added ⊎ IsUnrecorded asking grant reply added
 
 -- What is said to a query of an owner, and the records that it adds where no other line adds any, where the owner has
 -- these records and those before start were found.
@@ -88,11 +99,19 @@ pub record AddsTwo (owner : Owner) (draws : ℕ → ℕ → ℕ) (query : Query)
   pub told_is : told ≡ (length g, granted_record asking grant) ∷ (length u, Settle grant.number outcome) ∷ []
   pub after_is : after ≡ u ++ Settle grant.number outcome ∷ []
 
+-- What was granted isn't kept: it adds neither record to the records g, or its reservation alone.
+abbrev pub IsUnkept : Ask → Grant → List Record → Replied → (told : List Told) → (after : List Record) → Type 0
+IsUnkept asking grant g reply told after =
+    (refusal : DiskRefusal) × (reply ≡ refused (by_disk refusal))
+    × (((told ≡ []) × (after ≡ g))
+    ⊎ ((told ≡ (length g, granted_record asking grant) ∷ []) × IsPrefix (g ++ granted_record asking grant ∷ []) after))
+
 abbrev pub IsAskedBy :
     Owner → (ℕ → ℕ → ℕ) → Query → Verdict → List Record → Replied → (told : List Told) → (after : List Record) → Type 0
 IsAskedBy owner draws query (program_refused refusal) g reply told after = AddsNothing g (by_program refusal) reply told after
 IsAskedBy owner draws query (money_refused refusal) g reply told after = AddsNothing g (by_money refusal) reply told after
-IsAskedBy owner draws query (granted asking grant) g reply told after = AddsTwo owner draws query asking grant g reply told after
+IsAskedBy owner draws query (granted asking grant) g reply told after =
+    AddsTwo owner draws query asking grant g reply told after ⊎ IsUnkept asking grant g reply told after
 
 -- What is said to a query where its line saw these of the owner's records, what the line added, with positions, and the
 -- records after it: by the verdict on some records g that begin with those seen, or memory ran out before a reservation.

@@ -1,7 +1,7 @@
 -- What the code's answers mean.
 use Rattle.std.specs.Prelude.{◌≡◌, ◌<◌, ◌≤◌, ℕ, List, length, ⊤}
 use Rattle.budget_core.specs.Entries.{Entry, IsEpsilon}
-use Rattle.budget_core.specs.declared.records.View.TheVariants.{Whole}
+use Rattle.partition_charge.specs.declared.view.View.TheVariants.{Whole}
 use Rattle.fz_frac.specs.Sens.{distance_of}
 use Rattle.fz_ast.specs.Signature.{Signature}
 use Rattle.fz_ast.specs.Terms.{Term}

@@ -1,11 +1,11 @@
 -- What is proved of readings and of judgements.
 use Rattle.std.specs.Prelude.{◌≡◌, ◌↔◌, ◌⊎◌, ℕ, ℤ, List, [], ◌∷◌, ◌++◌}
-use Rattle.budget_core.specs.declared.records.Record.{Record}
-use Rattle.budget_core.specs.declared.records.Record.TheVariants.{Reserve, Settle}
-use Rattle.budget_core.specs.declared.records.Outcome.TheVariants.{Lost}
+use Rattle.journal_records.specs.declared.records.Record.{Record}
+use Rattle.journal_records.specs.declared.records.Record.TheVariants.{Reserve, Settle}
+use Rattle.journal_records.specs.declared.records.Outcome.TheVariants.{Lost}
 use Rattle.budget_core.specs.declared.entry.Ask.{Ask}
 use Rattle.budget_core.specs.Ledger.{reservation_numbered}
-use Rattle.budget_core.specs.declared.records.View.{View}
+use Rattle.partition_charge.specs.declared.view.View.{View}
 use Rattle.budget_core.specs.Bare.{without_answers}
 use Rattle.budget_core.specs.Entries.{Entry}
 use Rattle.fz_frac.specs.Distance.{Distance, Fin, mul, ◌⊑◌}

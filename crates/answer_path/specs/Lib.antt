@@ -6,6 +6,9 @@ pub mod Program
 pub mod Noise
 pub mod Verdict
 pub mod Answered
+pub mod Closing
+pub mod Standing
 pub mod Pass
+pub mod Turn
 pub mod Code
 pub mod Laws

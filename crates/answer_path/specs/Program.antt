@@ -1,7 +1,7 @@
 -- What a program is charged by, and what it is worth, in a view. No part is asked yet.
 use Rattle.std.specs.Prelude.{◌≡◌, ℕ, ℤ, List}
-use Rattle.budget_core.specs.declared.records.View.{View}
-use Rattle.budget_core.specs.declared.records.View.TheVariants.{Whole, Part}
+use Rattle.partition_charge.specs.declared.view.View.{View}
+use Rattle.partition_charge.specs.declared.view.View.TheVariants.{Whole, Part}
 use Rattle.fz_frac.specs.Distance.{Fin}
 use Rattle.fz_ast.specs.Signature.{Signature}
 use Rattle.fz_ast.specs.Terms.{Term}

@@ -1,6 +1,6 @@
 -- what an analyst asks
 use Rattle.std.specs.Prelude.{ℕ, List}
-use Rattle.budget_core.specs.declared.records.View.{View}
+use Rattle.partition_charge.specs.declared.view.View.{View}
 
 -- which owner, by its number, which analyst, in which view, at which epsilon in millionths, and which program
 pub record Query : Type 0 where

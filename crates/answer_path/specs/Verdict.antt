@@ -1,6 +1,6 @@
 -- the verdict on an ask: it sees no rows, no noise and no answer
 use Rattle.std.specs.Prelude.{◌≡◌, ℕ, List, Result, Ok, Err}
-use Rattle.budget_core.specs.declared.records.Record.{Record}
+use Rattle.journal_records.specs.declared.records.Record.{Record}
 use Rattle.budget_core.specs.Entries.{Entry}
 use Rattle.budget_core.specs.declared.entry.Ask.{Ask}
 use Rattle.budget_core.specs.declared.entry.Grant.{Grant}
@@ -10,6 +10,7 @@ use Rattle.budget_core.specs.Ledger.{money_verdict}
 use Rattle.wire_lines.specs.Refusal.{ProgramRefusal}
 use Rattle.wire_lines.specs.declared.refusal.MoneyRefusal.{MoneyRefusal}
 use Rattle.wire_lines.specs.declared.refusal.MoneyRefusal.TheVariants.{OverBudget as NoBudget, JournalFull}
+use Rattle.sha2.specs.Sha256.{sha256}
 use Rattle.fz_frac.specs.Distance.{Fin, Inf}
 use Rattle.fz_ast.specs.Signature.{Signature}
 use Rattle.answer_path.specs.Reading.{Reading, IsReading}
@@ -22,9 +23,10 @@ pub data Verdict : Type 0 where
   money_refused : MoneyRefusal → Verdict
   granted : Ask → Grant → Verdict
 
--- what a query of sensitivity p/q asks of the budget
+-- what a query of sensitivity p/q asks of the budget; its reservation will carry the SHA-256 of the program's bytes
 abbrev pub ask_for : Query → (p q : ℕ) → Ask
-ask_for query p q = record { analyst = query.analyst; view = query.view; e = query.e; p = p; q = q }
+ask_for query p q =
+    record { analyst = query.analyst; view = query.view; e = query.e; p = p; q = q; program = sha256 query.program }
 
 abbrev pub money_refusal : ReserveFault → MoneyRefusal
 money_refusal (OverBudget spent after budget seen) = NoBudget spent after budget seen

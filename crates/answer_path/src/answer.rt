@@ -1,7 +1,11 @@
 //! One query, from its program to its reply.
 
-ghost use Rattle.std.specs.Prelude.{◌≡◌, ◌++◌, ◌<◌, ◌≤◌, ◌^◌, ◌+ℤ◌, unsigned_abs, false, List, Some};
+ghost use Rattle.std.specs.Prelude.{◌≡◌, ◌++◌, ◌<◌, ◌≤◌, ◌^◌, ◌+ℤ◌, unsigned_abs, false, ℕ, List, Result, Some};
 ghost use Rattle.budget_core.specs.Entries.{IsEpsilon};
+ghost use Rattle.budget_core.specs.Ledger.{IsUnsettled};
+ghost use Rattle.budget_ledger.specs.Account.{Went};
+ghost use Rattle.journal_records.specs.Encoding.{IsByteList};
+ghost use Rattle.sha2.specs.Sha256.{sha256};
 ghost use Rattle.fz_ast.specs.Limits.{IsNumber};
 ghost use Rattle.fz_frac.specs.Distance.{Fin};
 ghost use Rattle.fz_frac.specs.Sens.{distance_of};
@@ -9,12 +13,16 @@ ghost use Rattle.linear_types.specs.Program.{is_endless};
 ghost use Rattle.metric_law.specs.Means.{Means};
 ghost use Rattle.metric_values.specs.Tables.{rows_of};
 ghost use Rattle.metric_values.specs.Values.{NumV};
+ghost use Rattle.wire_lines.specs.Refusal.{refusal_at};
 ghost use Rattle.wire_lines.specs.Reply.{replied};
 ghost use Rattle.answer_path.specs.Owner.{Owner, IsOwnerOf};
 ghost use Rattle.answer_path.specs.Noise.{scale_numerator, scale_denominator, noise_at};
 ghost use Rattle.answer_path.specs.Verdict.{ask_for, money_refusal};
 ghost use Rattle.answer_path.specs.Answered.{Told, HasSmallAnswer, IsAsked, IsSettledAt, answer_limit, outcome_reply};
-ghost use Rattle.answer_path.specs.Pass.{first_of_run, records_told};
+ghost use Rattle.answer_path.specs.Closing.{Closes};
+ghost use Rattle.answer_path.specs.Pass.{first_of_run, ledger_of, records_told};
+ghost use Rattle.answer_path.specs.Reading.{read, IsReading};
+ghost use Rattle.answer_path.specs.Turn.{IsTurn, HasSettled, book_refusal, disk_refusal, settled_reply};
 ghost use Rattle.answer_path.specs.Code.{IsJudged, IsQueryOf, query_of};
 
 use crate::dataset::Dataset;
@@ -22,13 +30,16 @@ use crate::pass::{Desk, Pass};
 use crate::program::{Judged, judge, read_program};
 use crate::query::Query;
 use budget_core::entry::{Ask, Grant, ReserveFault};
-use budget_core::records::Outcome;
+use budget_ledger::book::{AppendFault, BookFault};
 use discrete_laplace::sample;
 use fuzz_eval::run::run;
 use fz_frac::{Frac, Sens};
 use fz_outside::words::Streams;
+use journal_records::records::Outcome;
+use outside_disks::disk::Disk;
+use sha2::{Digest, Sha256};
 use std::alloc::Global;
-use wire_lines::{MoneyRefusal, NumberRefusal, Refusal, Reply};
+use wire_lines::{DiskRefusal, MoneyRefusal, NumberRefusal, Refusal, Reply};
 
 /// The noise's scale at an epsilon in millionths: 10^6 / e in lowest terms.
 fn scale_of(e: u32) -> Frac
@@ -129,6 +140,26 @@ fn refusal_of(fault: ReserveFault) -> MoneyRefusal
     }
 }
 
+/// Since a record wasn't appended: 42 or 52.
+fn disk_refusal_of(fault: AppendFault) -> DiskRefusal
+    ensures { result ≡ disk_refusal fault }
+{
+    match fault {
+        AppendFault::Closed { failed_at } => DiskRefusal::Closed { failed_at },
+        AppendFault::DiskFault => DiskRefusal::Fault,
+    }
+}
+
+/// Why no reservation was made: 40, 41, 42 or 52.
+fn book_refusal_of<'a>(fault: BookFault) -> Refusal<'a>
+    ensures { refusal_at result ≡ book_refusal fault }
+{
+    match fault {
+        BookFault::Refused(fault) => Refusal::Money(refusal_of(fault)),
+        BookFault::Unwritten(fault) => Refusal::Disk(disk_refusal_of(fault)),
+    }
+}
+
 /// The reply to an ask that is granted.
 fn reply_of<'a>(grant: Grant, outcome: Outcome) -> Reply<'a>
     ensures { replied result ≡ outcome_reply grant outcome }
@@ -145,9 +176,17 @@ fn reply_of<'a>(grant: Grant, outcome: Outcome) -> Reply<'a>
     }
 }
 
+/// The SHA-256 of a program's bytes.
+fn digest_of(program: &[u8]) -> [u8; 32]
+    ensures { result ≡ sha256 program.now }
+{
+    Sha256::digest(program)
+}
+
 /// What a query asks of the budget.
 fn asking_of(query: &Query<'_>, sens: Frac) -> Ask
-    ensures { result ≡ ask_for (query_of query.now) sens.p sens.q }
+    ensures asking { result ≡ ask_for (query_of query.now) sens.p sens.q }
+    ensures digest { IsByteList 32 result.program }
 {
     Ask {
         analyst: query.analyst,
@@ -155,15 +194,57 @@ fn asking_of(query: &Query<'_>, sens: Frac) -> Ask
         e: query.epsilon,
         p: sens.p,
         q: sens.q,
+        program: digest_of(query.program),
+    }
+}
+
+/// Settles a grant, and says its outcome only once the settlement is kept.
+fn settle<'a, D: Disk>(pass: &mut Pass<D>, grant: Grant, outcome: Outcome) -> Reply<'a>
+    requires { IsUnsettled (ledger_of pass.old) grant.number }
+    ensures settled { (kept : Result ℕ AppendFault) × HasSettled pass.old grant.number outcome kept pass.new
+        × (replied result ≡ settled_reply grant outcome kept) }
+    ensures went { Went pass.old.seen pass.new.seen pass.old.storage pass.new.storage }
+{
+    match pass.settle(grant.number, outcome) {
+        Ok(_) => reply_of(grant, outcome),
+        Err(fault) => Reply::Refused(Refusal::Disk(disk_refusal_of(fault))),
+    }
+}
+
+/// Answers a query whose program is judged: the budget is asked, the noise is drawn, the program is run, and the reservation
+/// is settled.
+fn answer_judged<'a, D: Disk, S: Streams>(
+    alloc: Global,
+    pass: &mut Pass<D>,
+    judged: &Judged<'_>,
+    dataset: &Dataset,
+    streams: &S,
+    query: &Query<'_>,
+) -> Reply<'a>
+    requires query { IsQueryOf pass.old.entry (query_of query.now) }
+    requires reads { IsReading query.now.program.now (read (judged.now.checked.term.now)) }
+    requires judged { IsJudged dataset.now.tables (judged.now.checked.term.now) judged.now }
+    ensures turn { (owner : Owner) → IsOwnerOf pass.old.entry dataset.now owner
+        → IsTurn owner (S.given streams.now query.now.owner) (query_of query.now) pass.old (replied result) pass.new }
+    ensures went { Went pass.old.seen pass.new.seen pass.old.storage pass.new.storage }
+    ensures fits { HasSmallAnswer (replied result) }
+{
+    let asking = asking_of(query, fraction_of(judged.checked.sens));
+    match pass.reserve(&asking) {
+        Err(fault) => Reply::Refused(book_refusal_of(fault)),
+        Ok(grant) => {
+            let outcome = outcome_at(alloc, judged, dataset, streams, query, grant.number);
+            settle(pass, grant, outcome)
+        }
     }
 }
 
 /// Answers a query: the program is read and judged, the budget is asked, the noise is drawn, the program is run, and the
 /// reservation is settled. Want of memory is said before a reservation, and an answer is lost after it.
-pub fn ask<'d, S: Streams>(
+pub fn ask<'d, D: Disk, S: Streams>(
     alloc: Global,
     _desk: &Desk,
-    pass: &mut Pass,
+    pass: &mut Pass<D>,
     dataset: &'d Dataset,
     streams: &S,
     query: &Query<'_>,
@@ -174,9 +255,14 @@ pub fn ask<'d, S: Streams>(
         (told : List Told)
         × IsAsked owner (S.given streams.now query.now.owner) (first_of_run pass.old) (query_of query.now) pass.old.seen (replied result) told pass.new.seen
         × (pass.new.own ≡ pass.old.own ++ told) }
+    // What the line did to the owner's book.
+    ensures closes { (owner : Owner) → IsOwnerOf pass.old.entry dataset.now owner → (told : List Told) → pass.new.own ≡ pass.old.own ++ told
+        → Closes owner (S.given streams.now query.now.owner) (query_of query.now) (replied result) told pass.old.storage.closed pass.new.storage.closed }
     // No other line added records meanwhile.
     ensures alone { (told : List Told) → pass.new.own ≡ pass.old.own ++ told → pass.new.seen ≡ pass.old.seen ++ records_told told }
     ensures kept { (pass.new.entry ≡ pass.old.entry) × (pass.new.found ≡ pass.old.found) }
+    // What a stop at any moment of the line leaves.
+    ensures went { Went pass.old.seen pass.new.seen pass.old.storage pass.new.storage }
     // An answer is within 2^50 + 2^33 in absolute value.
     ensures fits { HasSmallAnswer (replied result) }
 {
@@ -184,17 +270,8 @@ pub fn ask<'d, S: Streams>(
         Ok(term) => term,
         Err(refusal) => return Reply::Refused(refusal),
     };
-    let judged = match judge(alloc, dataset.sig(), &term) {
-        Ok(judged) => judged,
-        Err(refusal) => return Reply::Refused(refusal),
-    };
-    let asking = asking_of(query, fraction_of(judged.checked.sens));
-    match pass.reserve(&asking) {
-        Err(fault) => Reply::Refused(Refusal::Money(refusal_of(fault))),
-        Ok(grant) => {
-            let outcome = outcome_at(alloc, &judged, dataset, streams, query, grant.number);
-            pass.settle(grant.number, outcome);
-            reply_of(grant, outcome)
-        }
+    match judge(alloc, dataset.sig(), &term) {
+        Ok(judged) => answer_judged(alloc, pass, &judged, dataset, streams, query),
+        Err(refusal) => Reply::Refused(refusal),
     }
 }

@@ -8,6 +8,7 @@ mod pass;
 pub mod program;
 pub mod query;
 mod refusals;
+mod standing;
 
 pub use answer::ask;
 pub use dataset::Dataset;
@@ -18,3 +19,4 @@ pub use laws::{
 pub use pass::{Desk, Pass};
 pub use program::{Accepted, Judged, check_program, judge, read_program};
 pub use query::Query;
+pub use standing::{left, recall};

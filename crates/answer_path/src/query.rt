@@ -1,6 +1,6 @@
 //! What an analyst asks.
 
-use budget_core::records::View;
+use partition_charge::view::View;
 
 /// What an analyst asks of an owner. It borrows the line.
 #[derive(Clone, Copy, Debug)]

@@ -2,7 +2,7 @@ use Rattle.std.proofs.Common.{◌≡◌, ◌∙◌, refl, sym, ap, subst, Option
 use Rattle.std.proofs.lemmas.Int.{to_z-of_z, fits_signed_from_abs}
 use Rattle.std.specs.Prelude.{ℤ}
 use Rattle.std.specs.Result.{result_ok}
-use Rattle.budget_core.specs.declared.records.Outcome.TheVariants.{Exhausted}
+use Rattle.journal_records.specs.declared.records.Outcome.TheVariants.{Exhausted}
 use Rattle.metric_law.specs.Means.{Means}
 use Rattle.metric_values.specs.Tables.{rows_of}
 use Rattle.metric_values.specs.Values.{NumV}

@@ -1,0 +1,162 @@
+-- Lines at a book whose disk fails, and what is said of a number and of the budget, at worked records.
+use Rattle.std.proofs.Common.{◌≡◌, ℕ, List, [], ◌∷◌, ◌++◌, Some, None, refl, ap, pos, inl, inr}
+use Rattle.journal_records.specs.declared.records.Outcome.TheVariants.{Answered, Exhausted, Lost}
+use Rattle.journal_records.specs.declared.records.Record.{Record}
+use Rattle.journal_records.specs.declared.records.Record.TheVariants.{Reserve, Settle}
+use Rattle.budget_core.specs.declared.entry.Grant.{Grant}
+use Rattle.budget_core.specs.Cost.{cost_of}
+use Rattle.sha2.specs.Sha256.{sha256}
+use Rattle.partition_charge.specs.Cost.{cost_of_charges, partition_cost}
+use Rattle.budget_ledger.specs.declared.failure.Failure.{Failure}
+use Rattle.wire_lines.specs.Reply.{answered, recalled, remaining, refused}
+use Rattle.wire_lines.specs.Refusal.{by_disk, by_number, no_memory}
+use Rattle.wire_lines.specs.declared.refusal.DiskRefusal.TheVariants.{Closed, Fault}
+use Rattle.wire_lines.specs.declared.refusal.NumberRefusal.TheVariants.{Unknown as NoNumber, NotYours as AnotherAnalysts}
+use Rattle.wire_lines.specs.declared.reply.Standing.TheVariants.{Answered as StandsAnswered, Open as StandsOpen, Lost as StandsLost, Exhausted as StandsExhausted}
+use Rattle.answer_path.specs.Query.{Query}
+use Rattle.answer_path.specs.Verdict.{ask_for, granted}
+use Rattle.answer_path.specs.Answered.{IsAnswered, IsAsked, granted_record}
+use Rattle.answer_path.specs.Closing.{Closes}
+use Rattle.answer_path.specs.Standing.{IsBalance, IsRecalled}
+use Rattle.answer_path.proofs.Answering.{money_says}
+use Rattle.answer_path.proofs.SizePeople.{size_people}
+use Rattle.answer_path.proofs.Examples.{a_grant, a_query, an_ask, before, charged, draws_of_minus_one, minus_one, owner, reserved, settled_by_three, size_accepted}
+
+abbrev query : Query
+query = a_query size_people
+
+-- an append of this record failed, the disk's third failure
+abbrev failed : Record → Failure
+failed next = record { failed_at = 3; pending = next }
+
+-- 52 at the reservation: nothing was added, and the book is closed with that reservation pending.
+fault_at_reservation : (draws : ℕ → ℕ → ℕ) → IsAsked (owner 9000000 100) draws 0 query [] (refused (by_disk Fault)) [] before
+unfolding IsAsked cost_of cost_of_charges partition_cost
+fault_at_reservation draws = (
+  before,
+  (before, refl),
+  inl (
+    granted an_ask (a_grant 1 1000000 3),
+    money_says (owner 9000000 100) 0 before query 1 1 _ size_accepted refl,
+    inr (Fault, refl, inl (refl, refl)),
+  ),
+)
+
+closed_at_reservation : (draws : ℕ → ℕ → ℕ) → Closes (owner 9000000 100) draws query (refused (by_disk Fault)) [] None (Some (failed (reserved 1)))
+closed_at_reservation draws = (failed (reserved 1), refl, refl, (1, 1, charged, a_grant 1 1000000 3, refl))
+
+-- 52 at the settlement: the reservation was added, and its settlement is pending.
+fault_at_settlement : (draws : ℕ → ℕ → ℕ) → IsAsked (owner 9000000 100) draws 0 query [] (refused (by_disk Fault)) ((2, reserved 1) ∷ []) (before ++ reserved 1 ∷ [])
+unfolding IsAsked cost_of cost_of_charges partition_cost
+fault_at_settlement draws = (
+  before,
+  (before, refl),
+  inl (
+    granted an_ask (a_grant 1 1000000 3),
+    money_says (owner 9000000 100) 0 before query 1 1 _ size_accepted refl,
+    inr (Fault, refl, inr (refl, ([], refl))),
+  ),
+)
+
+fault_alone : (draws : ℕ → ℕ → ℕ) → IsAnswered (owner 9000000 100) draws 0 before query (refused (by_disk Fault)) (reserved 1 ∷ [])
+unfolding IsAnswered cost_of cost_of_charges partition_cost
+fault_alone draws = (
+  granted an_ask (a_grant 1 1000000 3),
+  money_says (owner 9000000 100) 0 before query 1 1 _ size_accepted refl,
+  inr (Fault, refl, inr refl),
+)
+
+closed_at_settlement :
+    Closes (owner 9000000 100) (λ number. draws_of_minus_one) query (refused (by_disk Fault)) ((2, reserved 1) ∷ []) None (Some (failed (Settle 1 (Answered (pos 2)))))
+closed_at_settlement = (failed (Settle 1 (Answered (pos 2))), refl, refl, (Answered (pos 2), settled_by_three minus_one, refl))
+
+-- 42 after it: the count of then is said, and nothing changes.
+closed_before : (draws : ℕ → ℕ → ℕ) (next : Record) → Closes (owner 9000000 100) draws query (refused (by_disk (Closed 3))) [] (Some (failed next)) (Some (failed next))
+closed_before draws next = (failed next, refl, refl, refl, refl)
+
+not_another_count : (draws : ℕ → ℕ → ℕ) (next : Record) → Closes (owner 9000000 100) draws query (refused (by_disk (Closed 4))) [] (Some (failed next)) (Some (failed next)) → ⊥
+not_another_count draws next (failure, was, said, none, rest) = absurd (cc (was, said))
+
+-- A book that was open doesn't refuse so, and a fault closes it; nor is the pending settlement another number's.
+not_closed_while_open : (draws : ℕ → ℕ → ℕ) → Closes (owner 9000000 100) draws query (refused (by_disk (Closed 3))) [] None None → ⊥
+not_closed_while_open draws (failure, was, said, none, rest) = absurd (cc was)
+
+not_open_after_a_fault : (draws : ℕ → ℕ → ℕ) → Closes (owner 9000000 100) draws query (refused (by_disk Fault)) [] None None → ⊥
+not_open_after_a_fault draws (failure, was, shut, rest) = absurd (cc shut)
+
+not_of_another_number : (draws : ℕ → ℕ → ℕ) → Closes (owner 9000000 100) draws query (refused (by_disk Fault)) ((2, reserved 1) ∷ []) None (Some (failed (Settle 2 Lost))) → ⊥
+not_of_another_number draws (failure, was, shut, (outcome, settles, is)) = absurd (cc (shut, is))
+
+-- An answer leaves an open book open, and none comes of a closed one. What is refused before the budget leaves either as it is.
+answered_open : (draws : ℕ → ℕ → ℕ) → Closes (owner 9000000 100) draws query (answered 1 (pos 2) 1000000) ((2, reserved 1) ∷ (3, Settle 1 (Answered (pos 2))) ∷ []) None None
+answered_open draws = (refl, refl)
+
+not_answered_closed : (draws : ℕ → ℕ → ℕ) (next : Record) → Closes (owner 9000000 100) draws query (answered 1 (pos 2) 1000000) [] (Some (failed next)) (Some (failed next)) → ⊥
+not_answered_closed draws next (was, rest) = absurd (cc was)
+
+refused_closed : (draws : ℕ → ℕ → ℕ) (next : Record) → Closes (owner 9000000 100) draws query (refused no_memory) [] (Some (failed next)) (Some (failed next))
+refused_closed draws next = refl
+
+-- A reservation carries the digest of its program, and no other.
+program_of : Record → List ℕ
+program_of (Reserve reservation) = reservation.program
+program_of (Settle number outcome) = []
+
+carries_the_digest : (grant : Grant) → program_of (granted_record (ask_for query 1 1) grant) ≡ sha256 size_people
+unfolding program_of
+carries_the_digest grant = refl
+
+not_another_digest : (grant : Grant) (digest : List ℕ) → granted_record (record an_ask { program = digest }) grant ≡ granted_record (ask_for query 1 1) grant → digest ≡ sha256 size_people
+unfolding program_of
+not_another_digest grant digest is = ap program_of is
+
+-- What is recalled: an answer, a number that none has, another analyst's, one exhausted, one lost, one of this run that is open,
+-- and one that an earlier run left open.
+abbrev history : List Record
+history =
+    reserved 0 ∷ Settle 0 (Answered (pos 5)) ∷ reserved 1 ∷ Settle 1 Exhausted ∷ reserved 2 ∷ Settle 2 Lost ∷ reserved 3 ∷ reserved 4 ∷ []
+
+recalled_first : IsRecalled 4 5 0 before (recalled 0 StandsExhausted 2) before
+unfolding IsRecalled
+recalled_first = (before, ([], refl), refl, refl)
+
+recalled_later : IsRecalled 4 5 0 (reserved 0 ∷ []) (recalled 0 (StandsAnswered (pos 5)) 8) history
+unfolding IsRecalled
+recalled_later = (history, (_, refl), refl, refl)
+
+recalled_none : IsRecalled 4 5 5 history (refused (by_number (NoNumber 5 8))) history
+unfolding IsRecalled
+recalled_none = (history, ([], refl), refl, refl)
+
+recalled_another : IsRecalled 4 6 0 history (refused (by_number (AnotherAnalysts 0 8))) history
+unfolding IsRecalled
+recalled_another = (history, ([], refl), refl, refl)
+
+recalled_exhausted : IsRecalled 4 5 1 history (recalled 1 StandsExhausted 8) history
+unfolding IsRecalled
+recalled_exhausted = (history, ([], refl), refl, refl)
+
+recalled_lost : IsRecalled 4 5 2 history (recalled 2 StandsLost 8) history
+unfolding IsRecalled
+recalled_lost = (history, ([], refl), refl, refl)
+
+recalled_open : IsRecalled 4 5 4 history (recalled 4 StandsOpen 8) history
+unfolding IsRecalled
+recalled_open = (history, ([], refl), refl, refl)
+
+recalled_of_before : IsRecalled 4 5 3 history (recalled 3 StandsLost 8) history
+unfolding IsRecalled
+recalled_of_before = (history, ([], refl), refl, refl)
+
+-- what is spent and left, and before any record
+left_of_it : IsBalance (owner 9000000 100).entry before (remaining 1000000 9000000 2) before
+unfolding IsBalance cost_of cost_of_charges partition_cost
+left_of_it = (before, ([], refl), refl, refl)
+
+left_at_first : IsBalance (owner 9000000 100).entry [] (remaining 0 9000000 0) []
+unfolding IsBalance cost_of cost_of_charges partition_cost
+left_at_first = ([], ([], refl), refl, refl)
+
+not_left_unseen : IsBalance (owner 9000000 100).entry before (remaining 0 9000000 0) [] → ⊥
+unfolding IsBalance
+not_left_unseen (g, begins, said, same) = cc (begins.1, same)

@@ -1,0 +1,37 @@
+-- what is said of a number and of the budget, by an owner's records
+use Rattle.std.specs.Prelude.{◌≡◌, ℕ, List}
+use mathlib.Core.List.{IsPrefix}
+use Rattle.journal_records.specs.declared.records.Record.{Record}
+use Rattle.budget_core.specs.declared.answers.Recall.{Recall}
+use Rattle.budget_core.specs.declared.answers.Recall.TheVariants.{Unknown, NotYours, Answer, Open, Lost, Exhausted}
+use Rattle.budget_core.specs.declared.answers.Left.{Left}
+use Rattle.budget_core.specs.Entries.{Entry}
+use Rattle.budget_core.specs.Answers.{recalled_from, left_by}
+use Rattle.wire_lines.specs.Reply.{Replied, recalled, remaining, refused}
+use Rattle.wire_lines.specs.Refusal.{by_number}
+use Rattle.wire_lines.specs.declared.reply.Standing.TheVariants.{Answered as StandsAnswered, Open as StandsOpen, Lost as StandsLost, Exhausted as StandsExhausted}
+use Rattle.wire_lines.specs.declared.refusal.NumberRefusal.TheVariants.{Unknown as NoNumber, NotYours as AnotherAnalysts}
+
+-- what is told of a number
+abbrev pub recall_reply : (number : ℕ) → Recall → Replied
+recall_reply number (Unknown seen) = refused (by_number (NoNumber number seen))
+recall_reply number (NotYours seen) = refused (by_number (AnotherAnalysts number seen))
+recall_reply number (Answer value seen) = recalled number (StandsAnswered value) seen
+recall_reply number (Open seen) = recalled number StandsOpen seen
+recall_reply number (Lost seen) = recalled number StandsLost seen
+recall_reply number (Exhausted seen) = recalled number StandsExhausted seen
+
+-- what is told of the budget
+abbrev pub left_reply : Left → Replied
+left_reply left = remaining left.spent left.budget left.seen
+
+-- What an analyst is told of a number where its line saw these of the owner's records, and the records after it: by some
+-- records that begin with those seen. Nothing is added.
+unfoldable pub IsRecalled : (start analyst number : ℕ) → (seen : List Record) → Replied → (after : List Record) → Type 0
+IsRecalled start analyst number seen reply after =
+    (g : List Record) × IsPrefix seen g × (reply ≡ recall_reply number (recalled_from start g number analyst)) × (after ≡ g)
+
+-- the same of the budget
+unfoldable pub IsBalance : Entry → (seen : List Record) → Replied → (after : List Record) → Type 0
+IsBalance entry seen reply after =
+    (g : List Record) × IsPrefix seen g × (reply ≡ left_reply (left_by entry g)) × (after ≡ g)
