@@ -1,11 +1,11 @@
 -- what is known of programs that are charged, and of their values
 use Rattle.std.proofs.Common.{◌≡◌, ℕ, ◌+◌, ◌*◌, ◌-◌, ◌/◌, ◌%◌, ◌<◌, ◌≤◌, List, ◌∙◌, subst, arith}
 use Rattle.std.specs.Prelude.{ℤ}
+use Rattle.std.specs.Int.{IsGcd}
 use Rattle.std.proofs.Math.Nat.{mod-lt, mod-eq-sub-div-mul, mul-le-mul, le_of_mul-le-mul_left}
-use Rattle.budget_core.specs.declared.records.View.{View}
-use Rattle.budget_core.specs.declared.records.View.TheVariants.{Whole, Part}
+use Rattle.partition_charge.specs.declared.view.View.{View}
+use Rattle.partition_charge.specs.declared.view.View.TheVariants.{Whole, Part}
 use Rattle.budget_core.specs.Cost.{charge_of}
-use Rattle.budget_core.specs.Entries.{IsLowest}
 use Rattle.fz_frac.specs.Distance.{Distance, Fin, Inf, den, mul, ◌⊑◌}
 use Rattle.fz_frac.specs.Lowest.{lowest, gcd}
 use Rattle.fz_frac.proofs.Laws.{den_pos, den_of}
@@ -15,7 +15,6 @@ use Rattle.metric_values.specs.Distances.{gap}
 use Rattle.metric_values.specs.Tables.{Dataset, apart}
 use Rattle.metric_values.specs.Tables.{IsDataset}
 use Rattle.answer_path.proofs.Programs.{accepted_is, accepted_are_bounded}
-use Rattle.answer_path.proofs.Charged.{lowest_of}
 use Rattle.answer_path.specs.Program.{IsCharged, HasValueIn}
 
 lowest_halves : (s : Distance) (p q : ℕ) → Fin p q ≡ lowest s → (0 < q) × (gcd p q ≡ 1)
@@ -30,11 +29,11 @@ lowest_halves (Fin a b) p q is =
     (subst (λ n. 0 < n) under low, subst (λ n. gcd n q ≡ 1) over (subst (λ n. gcd (a / g) n ≡ 1) under one))
 
 -- Sensitivities are in lowest terms.
-pub charged_lowest : (tables : Signature) (view : View) (program : List ℕ) (p q : ℕ) → IsCharged tables view program p q → IsLowest p q
+pub charged_lowest : (tables : Signature) (view : View) (program : List ℕ) (p q : ℕ) → IsCharged tables view program p q → (1 ≤ q) × IsGcd p q 1
 charged_lowest tables Whole program p q c =
     let i = accepted_is tables c.0 c.0 (Fin p q) c.2 in
     let h = lowest_halves i.1 p q i.4 in
-    lowest_of p q h.0 h.1
+    (omega (arith, h.0), subst (λ (g : ℕ). IsGcd p q g) h.1 (gcd_is p q))
 charged_lowest tables (Part partition part) program p q c = absurd c
 
 moves : (p q g n : ℕ) → 0 < q → Fin g 1 ⊑ mul (Fin p q) (Fin n 1) → g * q ≤ p * n
@@ -50,7 +49,7 @@ pub charged_moves : (tables : Signature) (rows other : Dataset) (view : View) (p
     → IsCharged tables view program p q → HasValueIn tables rows view program y → HasValueIn tables other view program z → gap y z * q ≤ p * apart rows other
 charged_moves tables rows other Whole program p q y z well are others c f g =
     let low = charged_lowest tables Whole program p q c in
-    moves p q (gap y z) (apart rows other) (omega (arith, low.positive))
+    moves p q (gap y z) (apart rows other) (omega (arith, low.0))
     (accepted_are_bounded tables program c.0 c.0 (Fin p q) well c.1 c.2 rows other are others y z f g)
 charged_moves tables rows other (Part partition part) program p q y z well are others c f g = absurd c
 

@@ -1,23 +1,26 @@
 -- The definitions, computed on small records.
-use Rattle.std.proofs.Common.{◌≡◌, ℕ, List, [], ◌∷◌, Some, None, codes, refl, sym, ◌∙◌, ap, pos, negsuc, arith}
+use Rattle.std.proofs.Common.{◌≡◌, ℕ, List, [], ◌∷◌, Some, None, codes, refl, sym, ◌∙◌, ap, subst, pos, negsuc, arith}
 use Rattle.std.specs.Prelude.{ℤ, ◌+ℤ◌}
-use Rattle.budget_core.specs.declared.records.View.TheVariants.{Whole}
-use Rattle.budget_core.specs.declared.records.Outcome.{Outcome}
-use Rattle.budget_core.specs.declared.records.Outcome.TheVariants.{Answered, Exhausted, Lost}
-use Rattle.budget_core.specs.declared.records.Reservation.{Reservation}
-use Rattle.budget_core.specs.declared.records.Record.{Record}
-use Rattle.budget_core.specs.declared.records.Record.TheVariants.{Reserve, Settle}
+use Rattle.partition_charge.specs.declared.view.View.TheVariants.{Whole}
+use Rattle.journal_records.specs.declared.records.Outcome.{Outcome}
+use Rattle.journal_records.specs.declared.records.Outcome.TheVariants.{Answered, Exhausted, Lost}
+use Rattle.journal_records.specs.declared.records.Reservation.{Reservation}
+use Rattle.journal_records.specs.declared.records.Record.{Record}
+use Rattle.journal_records.specs.declared.records.Record.TheVariants.{Reserve, Settle}
 use Rattle.fz_frac.specs.Lowest.{gcd, gcd_in}
 use Rattle.fz_ast.specs.Signature.{TableType, row_of}
 use Rattle.fz_ast.specs.Types.{NumT}
 use Rattle.metric_values.specs.Values.{NumF}
 use Rattle.shape_law.specs.Walk.{depth_limit}
 use Rattle.metric_values.specs.Tables.{Dataset}
-use Rattle.wire_lines.specs.Reply.{greeted, answered, ended, refused}
-use Rattle.wire_lines.specs.Refusal.{by_line, by_program, by_money, by_number, no_memory, no_number}
+use Rattle.wire_lines.specs.Reply.{greeted, answered, recalled, remaining, ended, refused}
+use Rattle.wire_lines.specs.declared.reply.Standing.TheVariants.{Answered as WasAnswered, Exhausted as WasExhausted, Open as IsOpen, Lost as WasLost}
+use Rattle.wire_lines.specs.declared.refusal.DiskRefusal.TheVariants.{Fault}
+use Rattle.wire_lines.specs.Refusal.{by_line, by_program, by_money, by_disk, by_number, no_memory, no_number}
 use Rattle.wire_lines.specs.declared.refusal.LineRefusal.TheVariants.{NoHello}
 use Rattle.wire_lines.specs.declared.refusal.MoneyRefusal.TheVariants.{JournalFull}
 use Rattle.wire_lines.specs.declared.refusal.NumberRefusal.TheVariants.{Exhausted as NoNoise, Lost as NoAnswer}
+use Rattle.sha2.specs.Sha256.{sha256}
 use Rattle.answer_path.specs.Owner.{Owner}
 use Rattle.answer_path.specs.Query.{Query}
 use Rattle.answer_path.specs.Judgement.{judgement_of, HasValue}
@@ -27,7 +30,7 @@ use Rattle.answer_path.proofs.Charged.{one_value_in}
 use Rattle.answer_path.proofs.SizePeople.{size_people, size_term, size_reads}
 use Rattle.owner_history.specs.Explains.{ExplainsOutcome, IsExplained, Explains}
 use Rattle.owner_history.specs.Shown.{IsShown}
-use Rattle.owner_history.specs.Granted.{settlement_in, IsGranted, IsBorneOut}
+use Rattle.owner_history.specs.Granted.{settlement_in, recall_in, IsGranted, IsBorneOut, IsSettledFor, IsRecallBorneOut}
 
 abbrev pub people : TableType
 people = record { name = codes "people"; row = row_of NumT [] }
@@ -44,7 +47,7 @@ three = record {
 abbrev pub two_rows : Dataset
 two_rows = (NumF (pos 30) ∷ NumF (pos 40) ∷ []) ∷ []
 
-size_charged : IsCharged (people ∷ []) Whole size_people 1 1
+pub size_charged : IsCharged (people ∷ []) Whole size_people 1 1
 unfolding judgement_of depth_limit gcd gcd_in
 size_charged = (size_term, size_reads, refl)
 
@@ -58,13 +61,13 @@ two_value = (size_term, size_reads, (2, (NumF (pos 30) ∷ NumF (pos 40) ∷ [],
 
 -- the size at epsilon 1, by the first analyst, and its answer: three rows and the noise -1
 abbrev pub reserved : Reservation
-reserved = record { number = 0; view = Whole; e = 1000000; p = 1; q = 1; taken = 1000000; analyst = 0 }
+reserved = record { number = 0; view = Whole; e = 1000000; p = 1; q = 1; taken = 1000000; analyst = 0; program = sha256 size_people }
 
 abbrev pub settled_as : Outcome → List Record
 settled_as outcome = Reserve reserved ∷ Settle 0 outcome ∷ []
 
 pub explained_two : (draws : ℕ → ℕ) → noise_at 1000000 draws ≡ Some (negsuc 0) → IsExplained three draws reserved size_people (Some (Answered (pos 2)))
-explained_two draws noise = record { charged = size_charged; settled = record { value = pos 3; noise = negsuc 0; has_value = three_value; has_noise = noise; sum = refl } }
+explained_two draws noise = record { digest = refl; charged = size_charged; settled = record { value = pos 3; noise = negsuc 0; has_value = three_value; has_noise = noise; sum = refl } }
 
 -- another answer isn't explained, nor is a number exhausted that has noise
 pub not_three : (draws : ℕ → ℕ) → noise_at 1000000 draws ≡ Some (negsuc 0) → ExplainsOutcome three draws reserved size_people (Some (Answered (pos 3))) → ⊥
@@ -87,6 +90,10 @@ open_is draws = tt
 
 lost_is : (draws : ℕ → ℕ) → ExplainsOutcome three draws reserved size_people (Some Lost)
 lost_is draws = tt
+
+-- a reservation with another program's digest isn't explained
+other_digest : (draws : ℕ → ℕ) → (sha256 [] ≡ sha256 size_people → ⊥) → IsExplained three draws (record reserved { program = sha256 [] }) size_people None → ⊥
+other_digest draws others h = others h.digest
 
 -- a reservation without a program isn't explained
 not_each : (draws : ℕ → ℕ → ℕ) → Explains three draws [] (settled_as (Answered (pos 2))) → ⊥
@@ -136,6 +143,45 @@ of_money = refl
 
 of_memory : settlement_in (refused no_memory) ≡ None
 of_memory = refl
+
+of_disk : settlement_in (refused (by_disk Fault)) ≡ None
+of_disk = refl
+
+-- a recalled answer is told by another reply than the first one, and is the value that was settled
+of_recalled : recall_in (recalled 7 (WasAnswered (pos 2)) 2) ≡ Some (7, Answered (pos 2))
+of_recalled = refl
+
+of_recalled_exhausted : recall_in (recalled 7 WasExhausted 2) ≡ Some (7, Exhausted)
+of_recalled_exhausted = refl
+
+of_recalled_open : recall_in (recalled 7 IsOpen 2) ≡ None
+of_recalled_open = refl
+
+of_recalled_lost : recall_in (recalled 7 WasLost 2) ≡ None
+of_recalled_lost = refl
+
+of_balance : recall_in (remaining 1000000 10000000 2) ≡ None
+of_balance = refl
+
+recalled_two : IsRecallBorneOut (settled_as (Answered (pos 2))) 0 (recalled 0 (WasAnswered (pos 2)) 2)
+recalled_two n outcome said =
+    let pair : (0, Answered (pos 2)) ≡ (n, outcome) = cc (said) in
+    let number : 0 ≡ n = ap (λ (z : ℕ × Outcome). z.0) pair in
+    let settled : Answered (pos 2) ≡ outcome = ap (λ (z : ℕ × Outcome). z.1) pair in
+    subst (λ (k : ℕ). IsSettledFor (settled_as (Answered (pos 2))) 0 k outcome) number
+    (subst (λ (u : Outcome). IsSettledFor (settled_as (Answered (pos 2))) 0 0 u) settled (record { reserved = reserved; numbered = refl; asked_by = refl; settled = refl }))
+
+-- the records don't bear out another value, nor that it is another analyst's
+not_recalled_three : IsRecallBorneOut (settled_as (Answered (pos 2))) 0 (recalled 0 (WasAnswered (pos 3)) 2) → ⊥
+not_recalled_three h = let s = h 0 (Answered (pos 3)) refl in cc (s.settled)
+
+not_recalled_by_another : IsRecallBorneOut (settled_as (Answered (pos 2))) 1 (recalled 0 (WasAnswered (pos 2)) 2) → ⊥
+not_recalled_by_another h =
+    let s = h 0 (Answered (pos 2)) refl in
+    let both : Some (Reserve reserved) ≡ Some (Reserve s.reserved) = s.numbered in
+    let same : reserved ≡ s.reserved = cc (both) in
+    let other : 0 ≡ 1 = ap (λ (r : Reservation). r.analyst) same ∙ s.asked_by in
+    cc (other)
 
 -- a query, and what the records say of it
 abbrev query_by : (analyst e : ℕ) → Query

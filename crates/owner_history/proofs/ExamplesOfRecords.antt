@@ -1,14 +1,15 @@
 -- What programs explain and what is displaced, at worked records, and wrong ones refused.
 use Rattle.std.proofs.Common.{◌≡◌, ℕ, zero, suc, ◌*◌, List, [], ◌∷◌, Some, refl, subst, ◌∙◌, ap, pos, negsuc, arith}
 use Rattle.std.specs.Prelude.{slice_get}
-use Rattle.budget_core.specs.declared.records.View.{View}
-use Rattle.budget_core.specs.declared.records.View.TheVariants.{Whole, Part}
-use Rattle.budget_core.specs.declared.records.Outcome.TheVariants.{Answered, Exhausted}
-use Rattle.budget_core.specs.declared.records.Reservation.{Reservation}
-use Rattle.budget_core.specs.declared.records.Record.{Record}
-use Rattle.budget_core.specs.declared.records.Record.TheVariants.{Reserve, Settle}
+use Rattle.partition_charge.specs.declared.view.View.{View}
+use Rattle.partition_charge.specs.declared.view.View.TheVariants.{Whole, Part}
+use Rattle.journal_records.specs.declared.records.Outcome.TheVariants.{Answered, Exhausted}
+use Rattle.journal_records.specs.declared.records.Reservation.{Reservation}
+use Rattle.journal_records.specs.declared.records.Record.{Record}
+use Rattle.journal_records.specs.declared.records.Record.TheVariants.{Reserve, Settle}
 use Rattle.budget_core.specs.Counts.{outcome_of, reservations_of}
 use Rattle.metric_values.specs.Distances.{gap}
+use Rattle.sha2.specs.Sha256.{sha256}
 use Rattle.answer_path.specs.Noise.{noise_at}
 use Rattle.answer_path.specs.Query.{Query}
 use Rattle.answer_path.proofs.Charged.{one_value_in}
@@ -39,7 +40,7 @@ not_by_two draws h = absurd (cc (h.each_has))
 
 -- At epsilon 1/2 one row less moves the answer half as far; with the answer at epsilon 1 before it, both add up.
 abbrev at_half : Reservation
-at_half = record { number = 1; view = Whole; e = 500000; p = 1; q = 1; taken = 500000; analyst = 0 }
+at_half = record { number = 1; view = Whole; e = 500000; p = 1; q = 1; taken = 500000; analyst = 0; program = sha256 size_people }
 
 abbrev half_alone : List Record
 half_alone = Reserve (record at_half { number = 0 }) ∷ Settle 0 (Answered (pos 4)) ∷ []

@@ -6,14 +6,15 @@ use Rattle.std.proofs.lemmas.Bool.{ne_eqb}
 use Rattle.std.proofs.lemmas.List.Elements.{filter-append}
 use mathlib.Core.Logic.{dite, inl, inr}
 use native.Mathlib.Decide.{ℕ_discrete}
-use Rattle.budget_core.specs.declared.records.Outcome.{Outcome}
-use Rattle.budget_core.specs.declared.records.Reservation.{Reservation}
-use Rattle.budget_core.specs.declared.records.Record.{Record}
-use Rattle.budget_core.specs.declared.records.Record.TheVariants.{Reserve, Settle}
+use Rattle.journal_records.specs.declared.records.Outcome.{Outcome}
+use Rattle.journal_records.specs.declared.records.Reservation.{Reservation}
+use Rattle.journal_records.specs.declared.records.Record.{Record}
+use Rattle.journal_records.specs.declared.records.Record.TheVariants.{Reserve, Settle}
 use Rattle.budget_core.specs.Counts.{is_reservation, reservations_of, outcome_of}
 use Rattle.budget_core.specs.Legal.{IsHistory}
 use Rattle.budget_core.proofs.Histories.{push_cases}
 use Rattle.budget_core.proofs.Numbers.{outcome_past, outcome_of-append-Reserve, outcome_of-append-Settle, outcome_of-append-new}
+use Rattle.sha2.specs.Sha256.{sha256}
 use Rattle.answer_path.specs.Owner.{Owner}
 use Rattle.answer_path.specs.Query.{Query}
 use Rattle.answer_path.specs.Program.{IsCharged, HasValueIn}
@@ -36,10 +37,10 @@ pub explains_none : (owner : Owner) (draws : ℕ → ℕ → ℕ) → Explains o
 explains_none owner draws = record { each_has = refl; explained = λ n program reserved at made. cc }
 
 module _ (owner : Owner) (draws : ℕ → ℕ → ℕ) (programs : List (List ℕ)) (records : List Record) (ex : Explains owner draws programs records) where
-  -- a reservation more, which is charged its program's sensitivity
-  pub explains_reservation : (program : List ℕ) (reserved : Reservation) → IsHistory owner.entry records → IsCharged owner.tables reserved.view program reserved.p reserved.q
+  -- a reservation more, which has its program's digest and is charged its sensitivity
+  pub explains_reservation : (program : List ℕ) (reserved : Reservation) → IsHistory owner.entry records → reserved.program ≡ sha256 program → IsCharged owner.tables reserved.view program reserved.p reserved.q
       → Explains owner draws (programs ++ program ∷ []) (records ++ Reserve reserved ∷ [])
-  explains_reservation program reserved h charged =
+  explains_reservation program reserved h digest charged =
       let made : reservations_of (records ++ Reserve reserved ∷ []) ≡ reservations_of records ++ Reserve reserved ∷ [] = filter-append is_reservation records (Reserve reserved ∷ []) in
       record {
         each_has = length-append programs (program ∷ []) ∙ ap (λ m. m + 1) ex.each_has ∙ sym (ap length made ∙ length-append (reservations_of records) (Reserve reserved ∷ []));
@@ -54,7 +55,7 @@ module _ (owner : Owner) (draws : ℕ → ℕ → ℕ) (programs : List (List �
                 | inr seam ↦
                     let none : outcome_of records m ≡ None = outcome_past owner.entry records h m (omega (arith, last.0)) in
                     let same : reserved ≡ found = same_reserved reserved found (ap (λ r. Some r) last.1) in
-                    let new : IsExplained owner (draws m) reserved program None = record { charged = charged; settled = tt } in
+                    let new : IsExplained owner (draws m) reserved program None = record { digest = digest; charged = charged; settled = tt } in
                     subst (λ (o : Option Outcome). IsExplained owner (draws m) found other o) (sym none)
                     (subst (λ (r : Reservation). IsExplained owner (draws m) r other None) same
                     (subst (λ (x : List ℕ). IsExplained owner (draws m) reserved x None) seam.1 new))
@@ -73,6 +74,7 @@ module _ (owner : Owner) (draws : ℕ → ℕ → ℕ) (programs : List (List �
         explained = λ m other found at made_at.
             let made : slice_get (reservations_of records) m ≡ Some (Reserve found) = ap (λ (rs : List Record). slice_get rs m) (sym same) ∙ made_at in
             let before = ex.explained m other found at made in record {
+              digest = before.digest;
               charged = before.charged;
               settled = dite (ℕ_discrete m n)
                   (λ is.

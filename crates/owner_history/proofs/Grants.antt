@@ -1,8 +1,8 @@
 -- what a verdict that grants says
 use Rattle.std.proofs.Common.{◌≡◌, ℕ, List, refl, sym, ap, subst}
 use Rattle.std.specs.Prelude.{Result, Ok, Err}
-use Rattle.budget_core.specs.declared.records.View.TheVariants.{Whole}
-use Rattle.budget_core.specs.declared.records.Record.{Record}
+use Rattle.partition_charge.specs.declared.view.View.TheVariants.{Whole}
+use Rattle.journal_records.specs.declared.records.Record.{Record}
 use Rattle.budget_core.specs.declared.entry.Ask.{Ask}
 use Rattle.budget_core.specs.declared.entry.Grant.{Grant}
 use Rattle.budget_core.specs.declared.entry.ReserveFault.{ReserveFault}

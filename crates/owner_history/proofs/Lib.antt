@@ -5,6 +5,7 @@ pub mod Bounded
 pub mod OneShown
 pub mod Grants
 pub mod Steps
+pub mod Recalls
 pub mod Sound
 pub mod Examples
 mod ExamplesOfRecords

@@ -1,16 +1,16 @@
--- found records are well, and what is well is sound
+-- found records are well, and what is well is backed by its programs
 use Rattle.std.proofs.Common.{◌≡◌, ℕ, ◌≤◌, List, length, slice_get, Some, arith}
 use Rattle.std.proofs.lemmas.Option.{slice_get_within}
 use Rattle.std.proofs.Math.Seq.{take-length}
-use Rattle.budget_core.specs.declared.records.Record.{Record}
+use Rattle.journal_records.specs.declared.records.Record.{Record}
 use Rattle.budget_core.specs.Cost.{cost_of}
 use Rattle.budget_core.specs.Entries.{Entry}
 use Rattle.budget_core.specs.Legal.{IsLegal}
 use Rattle.budget_core.proofs.LegalLemmas.{legal-cost}
 use Rattle.answer_path.specs.Owner.{Owner}
-use Rattle.owner_history.specs.Sound.{IsSound, IsFound, HasData}
+use Rattle.owner_history.specs.Sound.{IsBacked, IsFound, IsOwed, MayBeFound, HasData}
 use Rattle.owner_history.proofs.Bounded.{explained_bounded}
-use Rattle.owner_history.proofs.Steps.{IsWell}
+use Rattle.owner_history.proofs.Steps.{IsLawful, IsWell}
 
 beyond : {X : Type 0} (xs : List X) (k : ℕ) (x : X) → length xs ≤ k → slice_get xs k ≡ Some x → ⊥
 beyond xs k x past at = let within = slice_get_within xs k x at in omega arith
@@ -22,17 +22,27 @@ legal_self entry found = record {
   follows = λ k next past at. absurd (beyond found k next past at);
   settles = λ k number outcome past at. absurd (beyond found k _ past at);
   room = λ fits k more upto. absurd (omega arith);
-  valid = λ k next past at. absurd (beyond found k next past at);
+  terms = λ k next past at. absurd (beyond found k next past at);
 }
 
-pub well_found : (owner : Owner) (draws : ℕ → ℕ → ℕ) (found : List Record) (programs : List (List ℕ)) → IsFound owner draws programs found → IsWell owner draws found programs found
-well_found owner draws found programs f = record { history = f.history; legal = legal_self owner.entry found; explained = f.explained; later = omega arith }
+pub lawful_found : (owner : Owner) (draws : ℕ → ℕ → ℕ) (found : List Record) → MayBeFound owner found → IsLawful owner draws found found
+lawful_found owner draws found f = record { history = f.history; legal = legal_self owner.entry found; later = omega arith }
 
-pub well_sound : (owner : Owner) (draws : ℕ → ℕ → ℕ) (found : List Record) (programs : List (List ℕ)) (records : List Record) → HasData owner → cost_of found ≤ owner.entry.budget
-    → IsWell owner draws found programs records → IsSound owner draws found programs records
-well_sound owner draws found programs records has within w = record {
-  legal = w.legal;
-  within = legal-cost owner.entry found records within w.legal;
+pub lawful_owed : (owner : Owner) (draws : ℕ → ℕ → ℕ) (found records : List Record) → cost_of found ≤ owner.entry.budget → IsLawful owner draws found records → IsOwed owner found records
+lawful_owed owner draws found records within w = record { legal = w.legal; within = legal-cost owner.entry found records within w.legal }
+
+-- what programs explain may be found
+pub found_may : (owner : Owner) (draws : ℕ → ℕ → ℕ) (found : List Record) (programs : List (List ℕ)) → IsFound owner draws programs found → MayBeFound owner found
+found_may owner draws found programs f = record { history = f.history; within = f.within }
+
+pub well_found : (owner : Owner) (draws : ℕ → ℕ → ℕ) (found : List Record) (programs : List (List ℕ)) → IsFound owner draws programs found → IsWell owner draws found programs found
+well_found owner draws found programs f = record { lawful = lawful_found owner draws found (found_may owner draws found programs f); explained = f.explained }
+
+pub well_backed : (owner : Owner) (draws : ℕ → ℕ → ℕ) (found : List Record) (programs : List (List ℕ)) (records : List Record) → HasData owner → cost_of found ≤ owner.entry.budget
+    → IsWell owner draws found programs records → IsBacked owner draws found programs records
+well_backed owner draws found programs records has within w = record {
+  legal = w.lawful.legal;
+  within = legal-cost owner.entry found records within w.lawful.legal;
   explained = w.explained;
   bounded = explained_bounded owner draws programs records has w.explained;
 }

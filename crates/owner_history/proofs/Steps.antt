@@ -1,18 +1,20 @@
--- an owner's history with one grant more
+-- an owner's history with one reservation more, and with one settlement more
+use Rattle.std.specs.Prelude.{Ok}
 use Rattle.std.proofs.Common.{◌≡◌, ℕ, ◌+◌, ◌<◌, ◌≤◌, List, [], ◌∷◌, ◌++◌, length, slice_get, Some, refl, sym, ◌∙◌, ap, subst, arith, append_assoc}
 use Rattle.std.proofs.lemmas.List.Elements.{filter-append}
-use Rattle.budget_core.specs.declared.records.View.{View}
-use Rattle.budget_core.specs.declared.records.View.TheVariants.{Whole}
-use Rattle.budget_core.specs.declared.records.Outcome.{Outcome}
-use Rattle.budget_core.specs.declared.records.Reservation.{Reservation}
-use Rattle.budget_core.specs.declared.records.Record.{Record}
-use Rattle.budget_core.specs.declared.records.Record.TheVariants.{Reserve, Settle}
+use Rattle.partition_charge.specs.declared.view.View.{View}
+use Rattle.partition_charge.specs.declared.view.View.TheVariants.{Whole}
+use Rattle.journal_records.specs.declared.records.Outcome.{Outcome}
+use Rattle.journal_records.specs.declared.records.Reservation.{Reservation}
+use Rattle.journal_records.specs.declared.records.Record.{Record}
+use Rattle.journal_records.specs.declared.records.Record.TheVariants.{Reserve, Settle}
 use Rattle.budget_core.specs.declared.entry.Ask.{Ask}
 use Rattle.budget_core.specs.declared.entry.Grant.{Grant}
-use Rattle.budget_core.specs.Counts.{is_reservation, reservations_of}
+use Rattle.budget_core.specs.Counts.{is_reservation, reservations_of, reservation_of}
+use Rattle.journal_records.specs.Encoding.{AreTerms}
 use Rattle.budget_core.specs.Entries.{IsEpsilon, HasView}
 use Rattle.budget_core.specs.Legal.{IsHistory, IsLegal}
-use Rattle.budget_core.specs.Ledger.{Ledger, IsAskOf, IsUnsettled, next_number, reservation_numbered}
+use Rattle.budget_core.specs.Ledger.{Ledger, IsAskOf, IsUnsettled, next_number, reservation_numbered, money_verdict}
 use Rattle.budget_core.proofs.Histories.{legal-history, slice_get-append-seam}
 use Rattle.budget_core.proofs.Numbers.{reservations_of-append-Reserve, reservations_of-append-Settle, reservation_of-append-old, reservation_of-next, outcome_of-append-new}
 use Rattle.budget_core.proofs.LegalLemmas.{granted as money_granted, legal-Reserve, legal-Settle, unsettled-Reserve}
@@ -20,9 +22,11 @@ use Rattle.answer_path.specs.Owner.{Owner}
 use Rattle.answer_path.specs.Query.{Query}
 use Rattle.answer_path.specs.Program.{IsCharged}
 use Rattle.answer_path.specs.Verdict.{granted, ask_for, IsVerdict}
-use Rattle.answer_path.specs.Answered.{IsSettledBy, grant_records}
+use Rattle.sha2.specs.Sha256.{sha256}
+use Rattle.answer_path.specs.Answered.{IsSettledBy, grant_records, granted_record}
+use Rattle.answer_path.proofs.Digests.{sha256_bytes}
 use Rattle.owner_history.specs.Explains.{Explains}
-use Rattle.owner_history.specs.Granted.{IsGranted}
+use Rattle.owner_history.specs.Granted.{IsGranted, IsSettledFor}
 use mathlib.Core.List.{IsPrefix}
 use Rattle.owner_history.proofs.Prefixes.{slice_get_prefix, reservation_prefix, outcome_prefix}
 use Rattle.owner_history.proofs.Charges.{charged_lowest}
@@ -35,13 +39,100 @@ pub record IsQueryOf (owner : Owner) (query : Query) : Type 0 where
   pub analyst : query.analyst < owner.entry.analysts
   pub epsilon : IsEpsilon query.e
 
+-- what is asked of the budget for an accepted program is of the entry
+asked_of : (owner : Owner) (query : Query) (p q : ℕ) → IsQueryOf owner query → IsCharged owner.tables Whole query.program p q → IsAskOf owner.entry (ask_for query p q)
+asked_of owner query p q of charged =
+    let low = charged_lowest owner.tables Whole query.program p q charged in
+    let terms : AreTerms query.e p q = record { above = of.epsilon.least; most = of.epsilon.most; positive = low.0; lowest = low.1 } in
+    record {
+      analyst = of.analyst;
+      view = subst (λ (v : View). HasView owner.entry v) (sym of.whole) tt;
+      terms = terms;
+      digest = sha256_bytes query.program;
+    }
+
 module _ (owner : Owner) (draws : ℕ → ℕ → ℕ) (found : List Record) where
-  -- what holds of an owner's records and programs before each line
-  pub record IsWell (programs : List (List ℕ)) (records : List Record) : Type 0 where
+  -- what holds of an owner's records before each line, whatever was found
+  pub record IsLawful (records : List Record) : Type 0 where
     pub history : IsHistory owner.entry records
     pub legal : IsLegal owner.entry found records
-    pub explained : Explains owner draws programs records
     pub later : length (reservations_of found) ≤ length (reservations_of records)
+
+  -- the same of records and the programs that explain them
+  pub record IsWell (programs : List (List ℕ)) (records : List Record) : Type 0 where
+    pub lawful : IsLawful records
+    pub explained : Explains owner draws programs records
+
+  abbrev ledger_of : List Record → Ledger
+  ledger_of records = record { entry = owner.entry; found = found; records = records }
+
+  -- A query was granted a reservation, which stands behind the records.
+  pub record IsReserved (records : List Record) (query : Query) (n : ℕ) (r : Reservation) (after : List Record) : Type 0 where
+    pub number : n ≡ length (reservations_of records)
+    pub counted : length (reservations_of after) ≡ n + 1
+    pub lawful : IsLawful after
+    pub after_is : after ≡ records ++ Reserve r ∷ []
+    pub is_number : r.number ≡ n
+    pub numbered : reservation_of after n ≡ Some (Reserve r)
+    pub unsettled : IsUnsettled (ledger_of after) n
+    pub analyst : r.analyst ≡ query.analyst
+    pub view : r.view ≡ query.view
+    pub epsilon : r.e ≡ query.e
+    pub digest : r.program ≡ sha256 query.program
+    pub charged : IsCharged owner.tables r.view query.program r.p r.q
+
+  -- the reservation that is granted for an ask
+  reserved_for : IsHistory owner.entry found → (records : List Record) → IsLawful records → (query : Query) → IsQueryOf owner query → (p q : ℕ) (grant : Grant)
+      → IsCharged owner.tables Whole query.program p q → money_verdict owner.entry (length (reservations_of found)) records (ask_for query p q) ≡ Ok grant
+      → IsReserved records query grant.number (reservation_numbered grant.number (ask_for query p q) grant.taken) (records ++ granted_record (ask_for query p q) grant ∷ [])
+  reserved_for begun records w query of p q grant charged money =
+      let ask : Ask = ask_for query p q in
+      let n : ℕ = grant.number in
+      let numbered : n ≡ next_number records = ap (λ (x : Grant). x.number) (money_granted (ledger_of records) ask grant money).is in
+      let r : Reservation = reservation_numbered n ask grant.taken in
+      let first : List Record = records ++ Reserve r ∷ [] in
+      let legal : IsLegal owner.entry found first = subst (λ (k : ℕ). IsLegal owner.entry found (records ++ Reserve (reservation_numbered k ask grant.taken) ∷ [])) (sym numbered)
+      (legal-Reserve (ledger_of records) ask grant w.history w.legal (asked_of owner query p q of charged) money) in
+      let more : length (reservations_of first) ≡ n + 1 = reservations_of-append-Reserve records r ∙ ap (λ k. k + 1) (sym numbered) in
+      record {
+        number = numbered;
+        counted = more;
+        lawful = record { history = legal-history owner.entry found first begun legal; legal = legal; later = omega (arith, w.later, numbered, more) };
+        after_is = refl;
+        is_number = refl;
+        numbered = reservation_of-next owner.entry records r w.history numbered;
+        unsettled = unsettled-Reserve (ledger_of records) r w.history numbered (omega (arith, w.later, numbered));
+        analyst = refl;
+        view = refl;
+        epsilon = refl;
+        digest = refl;
+        charged = subst (λ (v : View). IsCharged owner.tables v query.program p q) (sym of.whole) charged;
+      }
+
+  -- One reservation more.
+  pub reserve : IsHistory owner.entry found → (records : List Record) → IsLawful records → (query : Query) → IsQueryOf owner query → (asking : Ask) (grant : Grant)
+      → IsVerdict owner.entry owner.tables (length (reservations_of found)) records query (granted asking grant)
+      → IsReserved records query grant.number (reservation_numbered grant.number asking grant.taken) (records ++ granted_record asking grant ∷ [])
+  reserve begun records w query of asking grant is =
+      let g = verdict_grants owner (length (reservations_of found)) records query asking grant is in
+      subst (λ (a : Ask). IsReserved records query grant.number (reservation_numbered grant.number a grant.taken) (records ++ granted_record a grant ∷ [])) (sym g.asks)
+      (reserved_for begun records w query of g.p g.q grant g.charged g.money)
+
+  -- One settlement more.
+  pub settle : IsHistory owner.entry found → (records : List Record) → IsLawful records → (n : ℕ) (outcome : Outcome) → IsUnsettled (ledger_of records) n → IsLawful (records ++ Settle n outcome ∷ [])
+  settle begun records w n outcome unsettled =
+      let after : List Record = records ++ Settle n outcome ∷ [] in
+      let legal : IsLegal owner.entry found after = legal-Settle (ledger_of records) n outcome w.history w.legal unsettled in
+      record { history = legal-history owner.entry found after begun legal; legal = legal; later = omega (arith, w.later, reservations_of-append-Settle records n outcome) }
+
+  -- The program of a reservation explains it, behind those of the records.
+  pub well_reserved : (programs : List (List ℕ)) (records : List Record) → IsWell programs records → (query : Query) (n : ℕ) (r : Reservation) (after : List Record) → IsReserved records query n r after
+      → IsWell (programs ++ query.program ∷ []) after
+  well_reserved programs records w query n r after made = record {
+    lawful = made.lawful;
+    explained = subst (λ (rs : List Record). Explains owner draws (programs ++ query.program ∷ []) rs) (sym made.after_is)
+        (explains_reservation owner draws programs records w.explained query.program r w.lawful.history made.digest made.charged);
+  }
 
   -- with the records and the program of one grant more
   pub record IsStep (programs : List (List ℕ)) (records : List Record) (query : Query) (n : ℕ) (outcome : Outcome) (after : List Record) : Type 0 where
@@ -50,57 +141,50 @@ module _ (owner : Owner) (draws : ℕ → ℕ → ℕ) (found : List Record) whe
     pub well : IsWell (programs ++ query.program ∷ []) after
     pub granted : IsGranted (programs ++ query.program ∷ []) after query n outcome
 
-  abbrev ledger_of : List Record → Ledger
-  ledger_of records = record { entry = owner.entry; found = found; records = records }
+  settled_step : IsHistory owner.entry found → (programs : List (List ℕ)) (records : List Record) → IsWell programs records → (query : Query) (n : ℕ) (r : Reservation) (first : List Record) (outcome : Outcome)
+      → IsReserved records query n r first → IsSettledBy owner draws query n outcome → IsStep programs records query n outcome (first ++ Settle n outcome ∷ [])
+  settled_step begun programs records w query n r first outcome made settles =
+      let counted : n ≡ length programs = made.number ∙ sym w.explained.each_has in
+      let at : slice_get (programs ++ query.program ∷ []) n ≡ Some query.program = ap (λ k. slice_get (programs ++ query.program ∷ []) k) counted ∙ slice_get-append-seam programs query.program [] in
+      let listed : slice_get (reservations_of first) n ≡ Some (Reserve r)
+      = ap (λ (rs : List Record). slice_get (reservations_of rs) n) made.after_is ∙ ap (λ (rs : List Record). slice_get rs n) (filter-append is_reservation records (Reserve r ∷ []))
+      ∙ ap (λ k. slice_get (reservations_of records ++ Reserve r ∷ []) k) made.number ∙ slice_get-append-seam (reservations_of records) (Reserve r) [] in
+      let reserved : IsWell (programs ++ query.program ∷ []) first = well_reserved programs records w query n r first made in
+      record {
+        number = made.number;
+        counted = reservations_of-append-Settle first n outcome ∙ made.counted;
+        well = record {
+          lawful = settle begun first made.lawful n outcome made.unsettled;
+          explained = explains_settlement owner draws (programs ++ query.program ∷ []) first reserved.explained n query.program r outcome at listed made.unsettled.unsettled
+              (outcome_explains owner draws query n outcome r made.view made.epsilon settles);
+        };
+        granted = record {
+          reserved = r;
+          numbered = reservation_of-append-old first (Settle n outcome) n (Reserve r) made.numbered;
+          analyst = made.analyst;
+          view = made.view;
+          epsilon = made.epsilon;
+          settled = outcome_of-append-new first n outcome made.unsettled.unsettled;
+          program = at;
+        };
+      }
 
   -- One grant more.
   pub step : IsHistory owner.entry found → (programs : List (List ℕ)) (records : List Record) → IsWell programs records → (query : Query) → IsQueryOf owner query → (asking : Ask) (grant : Grant) (outcome : Outcome)
       → IsVerdict owner.entry owner.tables (length (reservations_of found)) records query (granted asking grant) → IsSettledBy owner draws query grant.number outcome
       → IsStep programs records query grant.number outcome (records ++ grant_records asking grant outcome)
   step begun programs records w query of asking grant outcome is settles =
-      let g = verdict_grants owner (length (reservations_of found)) records query asking grant is in
-      let ask : Ask = ask_for query g.p g.q in
-      let n : ℕ = grant.number in
-      let numbered : n ≡ next_number records = ap (λ (x : Grant). x.number) (money_granted (ledger_of records) ask grant g.money).is in
-      let r : Reservation = reservation_numbered n ask grant.taken in
-      let first : List Record = records ++ Reserve r ∷ [] in
-      let asked : IsAskOf owner.entry ask = record {
-        analyst = of.analyst;
-        view = subst (λ (v : View). HasView owner.entry v) (sym of.whole) tt;
-        epsilon = of.epsilon;
-        lowest = charged_lowest owner.tables Whole query.program g.p g.q g.charged;
-      } in
-      let legal : IsLegal owner.entry found first = subst (λ (k : ℕ). IsLegal owner.entry found (records ++ Reserve (reservation_numbered k ask grant.taken) ∷ [])) (sym numbered)
-      (legal-Reserve (ledger_of records) ask grant w.history w.legal asked g.money) in
-      let history : IsHistory owner.entry first = legal-history owner.entry found first begun legal in
-      let unsettled : IsUnsettled (ledger_of first) n = unsettled-Reserve (ledger_of records) r w.history numbered (omega (arith, w.later, numbered)) in
-      let counted : n ≡ length programs = numbered ∙ sym w.explained.each_has in
-      let at : slice_get (programs ++ query.program ∷ []) n ≡ Some query.program = ap (λ k. slice_get (programs ++ query.program ∷ []) k) counted ∙ slice_get-append-seam programs query.program [] in
-      let made : slice_get (reservations_of first) n ≡ Some (Reserve r)
-      = ap (λ (rs : List Record). slice_get rs n) (filter-append is_reservation records (Reserve r ∷ [])) ∙ ap (λ k. slice_get (reservations_of records ++ Reserve r ∷ []) k) numbered ∙ slice_get-append-seam (reservations_of records) (Reserve r) [] in
-      let charged : IsCharged owner.tables r.view query.program r.p r.q = subst (λ (v : View). IsCharged owner.tables v query.program g.p g.q) (sym of.whole) g.charged in
-      let reserved : Explains owner draws (programs ++ query.program ∷ []) first = explains_reservation owner draws programs records w.explained query.program r w.history charged in
-      let explained : Explains owner draws (programs ++ query.program ∷ []) (first ++ Settle n outcome ∷ [])
-      = explains_settlement owner draws (programs ++ query.program ∷ []) first reserved n query.program r outcome at made unsettled.unsettled (outcome_explains owner draws query n outcome r refl refl settles) in
-      let settled : IsLegal owner.entry found (first ++ Settle n outcome ∷ []) = legal-Settle (ledger_of first) n outcome history legal unsettled in
-      let more : length (reservations_of (first ++ Settle n outcome ∷ [])) ≡ n + 1
-      = reservations_of-append-Settle first n outcome ∙ reservations_of-append-Reserve records r ∙ ap (λ k. k + 1) (sym numbered) in
-      let all : IsStep programs records query n outcome (first ++ Settle n outcome ∷ []) = record {
-        number = numbered;
-        counted = more;
-        well = record { history = legal-history owner.entry found (first ++ Settle n outcome ∷ []) begun settled; legal = settled; explained = explained; later = omega (arith, w.later, numbered, more) };
-        granted = record {
-          reserved = r;
-          numbered = reservation_of-append-old first (Settle n outcome) n (Reserve r) (reservation_of-next owner.entry records r w.history numbered);
-          analyst = refl;
-          view = refl;
-          epsilon = refl;
-          settled = outcome_of-append-new first n outcome unsettled.unsettled;
-          program = at;
-        };
-      } in
-      subst (λ (a : Ask). IsStep programs records query n outcome (records ++ grant_records a grant outcome)) (sym g.asks)
-      (subst (λ (rs : List Record). IsStep programs records query n outcome rs) (append_assoc records (Reserve r ∷ []) (Settle n outcome ∷ [])) all)
+      let made = reserve begun records w.lawful query of asking grant is in
+      subst (λ (rs : List Record). IsStep programs records query grant.number outcome rs) (append_assoc records (granted_record asking grant ∷ []) (Settle grant.number outcome ∷ []))
+      (settled_step begun programs records w query grant.number (reservation_numbered grant.number asking grant.taken) (records ++ granted_record asking grant ∷ []) outcome made settles)
+
+  -- The same of the records alone, whatever was found.
+  pub lawful_step : IsHistory owner.entry found → (records : List Record) → IsLawful records → (query : Query) → IsQueryOf owner query → (asking : Ask) (grant : Grant) (outcome : Outcome)
+      → IsVerdict owner.entry owner.tables (length (reservations_of found)) records query (granted asking grant) → IsLawful (records ++ grant_records asking grant outcome)
+  lawful_step begun records w query of asking grant outcome is =
+      let made = reserve begun records w query of asking grant is in
+      subst IsLawful (append_assoc records (granted_record asking grant ∷ []) (Settle grant.number outcome ∷ []))
+      (settle begun (records ++ granted_record asking grant ∷ []) made.lawful grant.number outcome made.unsettled)
 
 -- what is said of a number stays so in records and programs that go on
 pub granted_on : (programs more : List (List ℕ)) (records after : List Record) (query : Query) (n : ℕ) (outcome : Outcome) → IsPrefix programs more → IsPrefix records after
@@ -113,4 +197,12 @@ granted_on programs more records after query n outcome p r g = record {
   epsilon = g.epsilon;
   settled = outcome_prefix records after n outcome r g.settled;
   program = slice_get_prefix programs more n query.program p g.program;
+}
+
+pub settled_for_on : (records after : List Record) (analyst n : ℕ) (outcome : Outcome) → IsPrefix records after → IsSettledFor records analyst n outcome → IsSettledFor after analyst n outcome
+settled_for_on records after analyst n outcome r s = record {
+  reserved = s.reserved;
+  numbered = reservation_prefix records after n (Reserve s.reserved) r s.numbered;
+  asked_by = s.asked_by;
+  settled = outcome_prefix records after n outcome r s.settled;
 }

@@ -1,11 +1,12 @@
 -- programs explain records
 use Rattle.std.specs.Prelude.{◌≡◌, ℕ, ℤ, ◌+ℤ◌, List, length, slice_get, Option, Some, None, ⊤}
-use Rattle.budget_core.specs.declared.records.Outcome.{Outcome}
-use Rattle.budget_core.specs.declared.records.Outcome.TheVariants.{Answered, Exhausted, Lost}
-use Rattle.budget_core.specs.declared.records.Reservation.{Reservation}
-use Rattle.budget_core.specs.declared.records.Record.{Record}
-use Rattle.budget_core.specs.declared.records.Record.TheVariants.{Reserve}
+use Rattle.journal_records.specs.declared.records.Outcome.{Outcome}
+use Rattle.journal_records.specs.declared.records.Outcome.TheVariants.{Answered, Exhausted, Lost}
+use Rattle.journal_records.specs.declared.records.Reservation.{Reservation}
+use Rattle.journal_records.specs.declared.records.Record.{Record}
+use Rattle.journal_records.specs.declared.records.Record.TheVariants.{Reserve}
 use Rattle.budget_core.specs.Counts.{reservations_of, outcome_of}
+use Rattle.sha2.specs.Sha256.{sha256}
 use Rattle.answer_path.specs.Owner.{Owner}
 use Rattle.answer_path.specs.Program.{IsCharged, HasValueIn}
 use Rattle.answer_path.specs.Noise.{noise_at}
@@ -25,8 +26,9 @@ ExplainsOutcome owner draws reserved program (Some (Answered answer)) = IsNoised
 ExplainsOutcome owner draws reserved program (Some Exhausted) = noise_at reserved.e draws ≡ None
 ExplainsOutcome owner draws reserved program (Some Lost) = ⊤
 
--- A reservation is charged by its program's sensitivity, and settled by its value and noise.
+-- A reservation has its program's digest, is charged by its sensitivity, and settled by its value and noise.
 pub record IsExplained (owner : Owner) (draws : ℕ → ℕ) (reserved : Reservation) (program : List ℕ) (outcome : Option Outcome) : Type 0 where
+  pub digest : reserved.program ≡ sha256 program
   pub charged : IsCharged owner.tables reserved.view program reserved.p reserved.q
   pub settled : ExplainsOutcome owner draws reserved program outcome
 

@@ -1,14 +1,15 @@
--- what an owner's records say of a query that was granted, and of its reply
+-- what an owner's records say of a query that was granted, of its reply, and of a number that is recalled
 use Rattle.std.specs.Prelude.{◌≡◌, ℕ, List, slice_get, Option, Some, None}
-use Rattle.budget_core.specs.declared.records.Outcome.{Outcome}
-use Rattle.budget_core.specs.declared.records.Outcome.TheVariants.{Answered, Exhausted, Lost}
-use Rattle.budget_core.specs.declared.records.Reservation.{Reservation}
-use Rattle.budget_core.specs.declared.records.Record.{Record}
-use Rattle.budget_core.specs.declared.records.Record.TheVariants.{Reserve}
+use Rattle.journal_records.specs.declared.records.Outcome.{Outcome}
+use Rattle.journal_records.specs.declared.records.Outcome.TheVariants.{Answered, Exhausted, Lost}
+use Rattle.journal_records.specs.declared.records.Reservation.{Reservation}
+use Rattle.journal_records.specs.declared.records.Record.{Record}
+use Rattle.journal_records.specs.declared.records.Record.TheVariants.{Reserve}
 use Rattle.budget_core.specs.Counts.{reservation_of, outcome_of}
-use Rattle.wire_lines.specs.Reply.{Replied, greeted, answered, ended, refused}
-use Rattle.wire_lines.specs.Refusal.{by_line, by_program, by_money, by_number, no_memory}
-use Rattle.wire_lines.specs.declared.refusal.NumberRefusal.TheVariants.{Exhausted as NoNoise, Lost as NoAnswer}
+use Rattle.wire_lines.specs.Reply.{Replied, greeted, answered, recalled, remaining, ended, refused}
+use Rattle.wire_lines.specs.Refusal.{by_line, by_program, by_money, by_disk, by_number, no_memory}
+use Rattle.wire_lines.specs.declared.refusal.NumberRefusal.TheVariants.{Exhausted as NoNoise, Lost as NoAnswer, Unknown, NotYours}
+use Rattle.wire_lines.specs.declared.reply.Standing.TheVariants.{Answered as WasAnswered, Exhausted as WasExhausted, Open as IsOpen, Lost as WasLost}
 use Rattle.answer_path.specs.Query.{Query}
 
 -- The query was granted the number n, and the records settle n so. Number n's reservation has the query's analyst, view and
@@ -22,15 +23,20 @@ pub record IsGranted (programs : List (List ℕ)) (records : List Record) (query
   pub settled : outcome_of records n ≡ Some outcome
   pub program : slice_get programs n ≡ Some query.program
 
--- the number of the reservation that a reply speaks of, and how it was settled
+-- the number of the reservation that a reply to a query speaks of, and how it was settled
 abbrev pub settlement_in : Replied → Option (ℕ × Outcome)
 settlement_in (answered n value taken) = Some (n, Answered value)
 settlement_in (refused (by_number (NoNoise n))) = Some (n, Exhausted)
 settlement_in (refused (by_number (NoAnswer n))) = Some (n, Lost)
+settlement_in (refused (by_number (Unknown n seen))) = None
+settlement_in (refused (by_number (NotYours n seen))) = None
 settlement_in (refused (by_line refusal)) = None
 settlement_in (refused (by_program refusal)) = None
 settlement_in (refused (by_money refusal)) = None
+settlement_in (refused (by_disk refusal)) = None
 settlement_in (refused no_memory) = None
+settlement_in (recalled n standing seen) = None
+settlement_in (remaining spent budget seen) = None
 settlement_in (greeted name) = None
 settlement_in ended = None
 
@@ -38,3 +44,27 @@ settlement_in ended = None
 abbrev pub IsBorneOut : (programs : List (List ℕ)) → List Record → Query → Replied → Type 0
 IsBorneOut programs records query reply =
     (n : ℕ) (outcome : Outcome) → settlement_in reply ≡ Some (n, outcome) → IsGranted programs records query n outcome
+
+-- The analyst reserved the number n, and the records settle n so.
+pub record IsSettledFor (records : List Record) (analyst n : ℕ) (outcome : Outcome) : Type 0 where
+  pub reserved : Reservation
+  pub numbered : reservation_of records n ≡ Some (Reserve reserved)
+  pub asked_by : reserved.analyst ≡ analyst
+  pub settled : outcome_of records n ≡ Some outcome
+
+-- The number that a reply to a recall speaks of, and how it was settled. One that is open isn't settled, and one that is lost
+-- may have been open in an earlier run.
+abbrev pub recall_in : Replied → Option (ℕ × Outcome)
+recall_in (recalled n (WasAnswered value) seen) = Some (n, Answered value)
+recall_in (recalled n WasExhausted seen) = Some (n, Exhausted)
+recall_in (recalled n IsOpen seen) = None
+recall_in (recalled n WasLost seen) = None
+recall_in (answered n value taken) = None
+recall_in (remaining spent budget seen) = None
+recall_in (refused refusal) = None
+recall_in (greeted name) = None
+recall_in ended = None
+
+-- The records bear out what a reply to an analyst's recall says: the value is the very one that was settled.
+abbrev pub IsRecallBorneOut : List Record → (analyst : ℕ) → Replied → Type 0
+IsRecallBorneOut records analyst reply = (n : ℕ) (outcome : Outcome) → recall_in reply ≡ Some (n, outcome) → IsSettledFor records analyst n outcome

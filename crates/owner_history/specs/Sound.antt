@@ -1,6 +1,6 @@
 -- what is owed to an owner, whatever becomes of a run
 use Rattle.std.specs.Prelude.{ℕ, ◌*◌, ◌≤◌, List}
-use Rattle.budget_core.specs.declared.records.Record.{Record}
+use Rattle.journal_records.specs.declared.records.Record.{Record}
 use Rattle.budget_core.specs.Cost.{cost_of}
 use Rattle.budget_core.specs.Legal.{IsHistory, IsLegal}
 use Rattle.fz_ast.specs.Signature.{IsSignature}
@@ -16,14 +16,24 @@ IsDisplacementBounded owner programs records = (other : Dataset) → IsDataset o
     → (displaced : ℕ) × IsShown owner.tables programs records owner.rows other displaced
     × (displaced ≤ cost_of records * apart owner.rows other)
 
--- An owner's records: legal after the found ones, within the budget, explained by programs, with a bounded displacement.
-pub record IsSound (owner : Owner) (draws : ℕ → ℕ → ℕ) (found : List Record) (programs : List (List ℕ)) (records : List Record) : Type 0 where
+-- what any run may find of an owner's records: each may follow those before it, and their cost is within the budget
+pub record MayBeFound (owner : Owner) (found : List Record) : Type 0 where
+  pub history : IsHistory owner.entry found
+  pub within : cost_of found ≤ owner.entry.budget
+
+-- Owed to an owner whatever was found of its records: they are legal after the found ones, and within the budget.
+pub record IsOwed (owner : Owner) (found records : List Record) : Type 0 where
+  pub legal : IsLegal owner.entry found records
+  pub within : cost_of records ≤ owner.entry.budget
+
+-- Programs are behind an owner's records: these are legal after the found ones, within the budget, explained by the programs, with a bounded displacement.
+pub record IsBacked (owner : Owner) (draws : ℕ → ℕ → ℕ) (found : List Record) (programs : List (List ℕ)) (records : List Record) : Type 0 where
   pub legal : IsLegal owner.entry found records
   pub within : cost_of records ≤ owner.entry.budget
   pub explained : Explains owner draws programs records
   pub bounded : IsDisplacementBounded owner programs records
 
--- what a run may find: each record may follow those before it, their cost is within the budget, and programs explain them
+-- what a run finds where these programs explain it: each record may follow those before it, and their cost is within the budget
 pub record IsFound (owner : Owner) (draws : ℕ → ℕ → ℕ) (programs : List (List ℕ)) (found : List Record) : Type 0 where
   pub history : IsHistory owner.entry found
   pub within : cost_of found ≤ owner.entry.budget

@@ -1,7 +1,7 @@
 //! What explained records show.
 
 ghost use Rattle.std.specs.Prelude.{◌≡◌, ℕ, List};
-ghost use Rattle.budget_core.specs.declared.records.Record.{Record};
+ghost use Rattle.journal_records.specs.declared.records.Record.{Record};
 ghost use Rattle.fz_ast.specs.Signature.{Signature};
 ghost use Rattle.metric_values.specs.Tables.{Dataset};
 ghost use Rattle.answer_path.specs.Owner.{Owner};

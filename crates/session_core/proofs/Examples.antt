@@ -1,23 +1,25 @@
 -- The definitions, computed on small scripts.
 use Rattle.std.proofs.Common.{◌≡◌, ℕ, zero, suc, List, [], ◌∷◌, map, Option, Some, None, slice_get, codes, refl, sym, ◌∙◌, ap, subst, pos, negsuc, inl, inr, arith}
-use Rattle.std.specs.Prelude.{ℤ, ◌+ℤ◌, Ok}
+use Rattle.std.specs.Prelude.{ℤ, ◌+ℤ◌, Ok, ◌⊎◌}
 use Rattle.std.specs.Fmt.{digits}
 use Rattle.std.specs.List.{flat_map}
 use mathlib.Core.List.{IsPrefix}
-use Rattle.budget_core.specs.declared.records.View.TheVariants.{Whole}
-use Rattle.budget_core.specs.declared.records.Outcome.{Outcome}
-use Rattle.budget_core.specs.declared.records.Outcome.TheVariants.{Answered, Exhausted, Lost}
-use Rattle.budget_core.specs.declared.records.Record.{Record}
+use Rattle.partition_charge.specs.declared.view.View.TheVariants.{Whole}
+use Rattle.journal_records.specs.declared.records.Outcome.{Outcome}
+use Rattle.journal_records.specs.declared.records.Outcome.TheVariants.{Answered, Exhausted, Lost}
+use Rattle.journal_records.specs.declared.records.Record.{Record}
 use Rattle.budget_core.specs.declared.entry.Ask.{Ask}
 use Rattle.budget_core.specs.declared.entry.Grant.{Grant}
-use Rattle.budget_core.specs.Cost.{cost_of, partition_cost}
+use Rattle.budget_core.specs.Cost.{cost_of}
+use Rattle.partition_charge.specs.Cost.{cost_of_charges, partition_cost}
 use Rattle.budget_core.specs.Ledger.{money_verdict}
 use Rattle.fz_frac.specs.Lowest.{gcd, gcd_in}
 use Rattle.shape_law.specs.Walk.{depth_limit}
 use Rattle.wire_lines.specs.Lines.{lines_of}
 use Rattle.wire_lines.specs.Request.{request_of}
 use Rattle.wire_lines.specs.Reply.{Replied, greeted, answered, ended, refused, reply_text}
-use Rattle.wire_lines.specs.Refusal.{by_line, by_money, by_number, no_memory}
+use Rattle.wire_lines.specs.Refusal.{by_line, by_money, by_disk, by_number, no_memory}
+use Rattle.wire_lines.specs.declared.refusal.DiskRefusal.TheVariants.{Closed, Fault}
 use Rattle.wire_lines.specs.declared.refusal.LineRefusal.TheVariants.{Malformed, Unknown, NoEpsilon, NoHello}
 use Rattle.wire_lines.specs.declared.refusal.MoneyRefusal.TheVariants.{OverBudget as NoBudget, JournalFull}
 use Rattle.wire_lines.specs.declared.refusal.NumberRefusal.TheVariants.{Exhausted as NoNoise, Lost as NoAnswer}
@@ -26,6 +28,7 @@ use Rattle.fz_ast.specs.Signature.{TableType}
 use Rattle.fz_ast.specs.Types.{NumT}
 use Rattle.metric_values.specs.Values.{NumF}
 use Rattle.owner_catalog.specs.Entries.{TableEntry, OwnerEntry}
+use Rattle.sha2.specs.Sha256.{sha256}
 use Rattle.answer_path.specs.Owner.{Owner, Holding}
 use Rattle.answer_path.specs.Query.{Query}
 use Rattle.answer_path.specs.Judgement.{judgement_of, HasValue}
@@ -42,8 +45,8 @@ use Rattle.session_core.specs.Meant.{meant_by}
 use Rattle.session_core.specs.Turns.{Turn, turns_of}
 use Rattle.session_core.specs.Exchanges.{Exchange, told_of}
 use Rattle.session_core.specs.Transcript.{Journals, LeadExactly, placed_from, IsScriptRun, IsScriptWritten, IsTranscript}
-use Rattle.session_core.specs.Served.{AnswersOn, StandIn, Sources, IsAskedAt, AreAskedBy, ArePlaced}
-use Rattle.session_core.specs.Said.{HadMemory}
+use Rattle.session_core.specs.Served.{AnswersOn, StandIn, Sources, IsAskedAt, AreAskedBy, SpeaksOf, LeavesOpen, ArePlaced}
+use Rattle.session_core.specs.Said.{NothingFailed}
 use Rattle.session_core.proofs.Exactly.{answers_on}
 
 -- the table `people` has one column of numbers
@@ -64,16 +67,16 @@ abbrev pub register_of : List OwnerEntry → List Holding → Register
 register_of owners holdings = record { catalog = record { analysts = codes "ann" ∷ codes "bob" ∷ []; owners = owners; text = [] }; holdings = holdings }
 
 -- a house of two analysts and an owner, with these ages
-abbrev house : (budget capacity : ℕ) → List ℤ → Register
+abbrev pub house : (budget capacity : ℕ) → List ℤ → Register
 house budget capacity ages = register_of (owner_entry (codes "clinic") budget capacity (people_entry ∷ []) ∷ []) (ages_held ages ∷ [])
 
-abbrev the_owner : Register → Owner
+abbrev pub the_owner : Register → Owner
 the_owner register = owner_at (house_of register) 0
 
-abbrev three_rows : Register
+abbrev pub three_rows : Register
 three_rows = house 10000000 100 (pos 20 ∷ pos 30 ∷ pos 40 ∷ [])
 
-abbrev no_rows : Register
+abbrev pub no_rows : Register
 no_rows = house 10000000 100 []
 
 -- nothing was found
@@ -81,7 +84,7 @@ abbrev pub fresh : Journals
 fresh o = []
 
 -- what the one owner adds
-abbrev only : List Record → Journals
+abbrev pub only : List Record → Journals
 only records zero = records
 only records (suc o) = []
 
@@ -90,7 +93,7 @@ pub size_asked : IsAcceptedAt (people ∷ []) size_people 1 1
 unfolding judgement_of gcd gcd_in depth_limit
 size_asked = (size_term, size_reads, refl)
 
-three_value : HasValueIn (people ∷ []) (ages_held (pos 20 ∷ pos 30 ∷ pos 40 ∷ [])).rows Whole size_people (pos 3)
+pub three_value : HasValueIn (people ∷ []) (ages_held (pos 20 ∷ pos 30 ∷ pos 40 ∷ [])).rows Whole size_people (pos 3)
 unfolding HasValue
 three_value = (size_term, size_reads, (2, (NumF (pos 20) ∷ NumF (pos 30) ∷ NumF (pos 40) ∷ [], refl, refl)))
 
@@ -98,11 +101,11 @@ no_value : HasValueIn (people ∷ []) (ages_held []).rows Whole size_people (pos
 unfolding HasValue
 no_value = (size_term, size_reads, (2, ([], refl, refl)))
 
-abbrev a_query : Query
+abbrev pub a_query : Query
 a_query = record { owner = 0; analyst = 0; view = Whole; e = 1000000; program = size_people }
 
 abbrev pub an_ask : Ask
-an_ask = record { analyst = 0; view = Whole; e = 1000000; p = 1; q = 1 }
+an_ask = record { analyst = 0; view = Whole; e = 1000000; p = 1; q = 1; program = sha256 size_people }
 
 abbrev pub a_grant : Grant
 a_grant = record { number = 0; taken = 1000000; seen = 1 }
@@ -115,7 +118,7 @@ abbrev pub outcome_with : (size : ℕ) → Option ℤ → Outcome
 outcome_with size None = Exhausted
 outcome_with size (Some noise) = Answered (pos size +ℤ noise)
 
-settled_with : (HasWorth : ℤ → Type 0) (size : ℕ) (noise : Option ℤ) → HasWorth (pos size) → IsSettledAt HasWorth noise (outcome_with size noise)
+pub settled_with : (HasWorth : ℤ → Type 0) (size : ℕ) (noise : Option ℤ) → HasWorth (pos size) → IsSettledAt HasWorth noise (outcome_with size noise)
 settled_with HasWorth size None has = refl
 settled_with HasWorth size (Some noise) has = inl (pos size, has, refl)
 
@@ -130,7 +133,7 @@ pub grant_answer : (owner : Owner) (draws : ℕ → ℕ → ℕ) (records : List
 unfolding IsAnswered
 grant_answer owner draws records query grant size accepts money value =
     let outcome = outcome_with size (noise_at query.e (draws grant.number)) in
-    (granted (ask_for query 1 1) grant, money_says owner 0 records query 1 1 _ accepts money, (outcome, settled_with _ size (noise_at query.e (draws grant.number)) value, refl, refl))
+    (granted (ask_for query 1 1) grant, money_says owner 0 records query 1 1 _ accepts money, inl (outcome, settled_with _ size (noise_at query.e (draws grant.number)) value, refl, refl))
 
 -- a script of one ask: ann greets, asks and ends
 abbrev one_ask_script : List ℕ
@@ -142,7 +145,7 @@ turn who line = record { who = who; line = line }
 abbrev pub quiet : Option ℕ → List ℕ → Replied → Exchange
 quiet who line reply = record { turn = turn who line; reply = reply; told = [] }
 
-abbrev ask_line : List ℕ
+abbrev pub ask_line : List ℕ
 ask_line = codes "ask clinic 1 size people"
 
 abbrev asked : Outcome → Exchange
@@ -156,13 +159,13 @@ one_ask_turns : turns_of (house_of three_rows) one_ask_script ≡ turn None (cod
 unfolding lines_of meant_by request_of
 one_ask_turns = refl
 
-one_owner : (register : Register) → (house_of register).owners ≡ the_owner register ∷ [] → (draws : ℕ → ℕ → ℕ → ℕ) (xs : List Exchange) (records : List Record) → LeadExactly (house_of register) draws 0 0 [] xs records
+pub one_owner : (register : Register) → (house_of register).owners ≡ the_owner register ∷ [] → (draws : ℕ → ℕ → ℕ → ℕ) (xs : List Exchange) (records : List Record) → LeadExactly (house_of register) draws 0 0 [] xs records
     → (o : ℕ) (owner : Owner) → slice_get (house_of register).owners o ≡ Some owner → LeadExactly (house_of register) draws o 0 [] xs (only records o)
 one_owner register one draws xs records leads zero owner at = leads
 one_owner register one draws xs records leads (suc o) owner at = let none : None ≡ Some owner = ap (λ (ws : List Owner). slice_get ws (suc o)) (sym one) ∙ at in absurd (cc (none))
 
 three_leads : (draws : ℕ → ℕ → ℕ → ℕ) → LeadExactly (house_of three_rows) draws 0 0 [] (one_ask (outcome_of_size 3 draws)) (made (outcome_of_size 3 draws))
-unfolding meant_by request_of cost_of partition_cost
+unfolding meant_by request_of cost_of cost_of_charges partition_cost
 three_leads draws =
     let outcome = outcome_of_size 3 draws in
     (made outcome, (made outcome, inl (grant_answer (the_owner three_rows) (draws 0) [] a_query a_grant 3 size_asked refl three_value), refl, refl), refl)
@@ -193,10 +196,10 @@ without_memory draws =
 
 -- .. or after it, where the draws suffice: both records are added
 lost_leads : (draws : ℕ → ℕ → ℕ → ℕ) (noise : ℤ) → noise_at 1000000 (draws 0 0) ≡ Some noise → LeadExactly (house_of three_rows) draws 0 0 [] (one_ask Lost) (made Lost)
-unfolding meant_by request_of cost_of partition_cost IsAnswered
+unfolding meant_by request_of cost_of cost_of_charges partition_cost IsAnswered
 lost_leads draws noise is =
     let settled = subst (λ (k : Option ℤ). IsSettledAt (λ z. HasValueIn (people ∷ []) (the_owner three_rows).rows Whole size_people z) k Lost) (sym is) (inr refl) in
-    (made Lost, (made Lost, inl (granted an_ask a_grant, money_says (the_owner three_rows) 0 [] a_query 1 1 _ size_asked refl, (Lost, settled, refl, refl)), refl, refl), refl)
+    (made Lost, (made Lost, inl (granted an_ask a_grant, money_says (the_owner three_rows) 0 [] a_query 1 1 _ size_asked refl, inl (Lost, settled, refl, refl)), refl, refl), refl)
 
 lost_run : (draws : ℕ → ℕ → ℕ → ℕ) (noise : ℤ) → noise_at 1000000 (draws 0 0) ≡ Some noise
     → IsScriptRun (house_of three_rows) draws fresh one_ask_script (greeted (codes "ann") ∷ refused (by_number (NoAnswer 0)) ∷ ended ∷ []) (only (made Lost))
@@ -211,22 +214,28 @@ lost_run draws noise is = record {
 
 -- a loss is charged, and the next number is one more
 behind_loss : IsVerdict (the_owner three_rows).entry (people ∷ []) 0 (made Lost) a_query (granted an_ask (record { number = 1; taken = 1000000; seen = 3 }))
-unfolding cost_of partition_cost
+unfolding cost_of cost_of_charges partition_cost
 behind_loss = money_says (the_owner three_rows) 0 (made Lost) a_query 1 1 _ size_asked refl
 
 over_by_loss : IsVerdict (the_owner (house 1000000 100 [])).entry (people ∷ []) 0 (made Lost) a_query (money_refused (NoBudget 1000000 2000000 1000000 2))
-unfolding cost_of partition_cost
+unfolding cost_of cost_of_charges partition_cost
 over_by_loss = money_says (the_owner (house 1000000 100 [])) 0 (made Lost) a_query 1 1 _ size_asked refl
 
--- Of these replies 90 and 51 say that memory ran out, and 50 doesn't.
-had_memory : HadMemory (refused (by_number (NoNoise 0)))
-had_memory = tt
+-- Of these replies 90 and 51 say that memory ran out, 52 and 42 that the disk failed, and 50 says nothing of the kind.
+nothing_failed : NothingFailed (refused (by_number (NoNoise 0)))
+nothing_failed = tt
 
-had_none_before : HadMemory (refused no_memory) → ⊥
-had_none_before had = had
+failed_before : NothingFailed (refused no_memory) → ⊥
+failed_before had = had
 
-had_none_after : HadMemory (refused (by_number (NoAnswer 0))) → ⊥
-had_none_after had = had
+failed_after : NothingFailed (refused (by_number (NoAnswer 0))) → ⊥
+failed_after had = had
+
+failed_now : NothingFailed (refused (by_disk Fault)) → ⊥
+failed_now had = had
+
+failed_earlier : NothingFailed (refused (by_disk (Closed 1))) → ⊥
+failed_earlier had = had
 
 -- behind a bye nobody speaks
 behind_bye : (draws : ℕ → ℕ → ℕ → ℕ) → IsScriptRun (house_of three_rows) draws fresh (codes "hello ann\nbye\nask clinic 1 x\n") (greeted (codes "ann") ∷ ended ∷ refused (by_line NoHello) ∷ []) (only [])
@@ -264,7 +273,7 @@ two_asks outcome reply = quiet None (codes "hello ann") (greeted (codes "ann")) 
 
 second_over : (draws : ℕ → ℕ → ℕ → ℕ) → let outcome : Outcome = outcome_of_size 0 draws in
     LeadExactly (house_of (house 1000000 100 [])) draws 0 0 [] (two_asks outcome (refused (by_money (NoBudget 1000000 2000000 1000000 2)))) (made outcome)
-unfolding meant_by request_of cost_of partition_cost IsAnswered
+unfolding meant_by request_of cost_of cost_of_charges partition_cost IsAnswered
 second_over draws =
     let register = house 1000000 100 [] in
     let outcome = outcome_of_size 0 draws in (
@@ -275,7 +284,7 @@ second_over draws =
 
 second_full : (draws : ℕ → ℕ → ℕ → ℕ) → let outcome : Outcome = outcome_of_size 0 draws in
     LeadExactly (house_of (house 10000000 3 [])) draws 0 0 [] (two_asks outcome (refused (by_money (JournalFull 2 0 3)))) (made outcome)
-unfolding meant_by request_of cost_of partition_cost IsAnswered
+unfolding meant_by request_of cost_of cost_of_charges partition_cost IsAnswered
 second_full draws =
     let register = house 10000000 3 [] in
     let outcome = outcome_of_size 0 draws in (
@@ -318,7 +327,8 @@ untold : (draws : ℕ → ℕ → ℕ → ℕ) (last : List Record) → AnswersO
 unfolding meant_by request_of IsAsked
 untold draws last (after, (g, begins, inl (program_refused refusal, is, (said, none, rest))), ends) = cc (said)
 untold draws last (after, (g, begins, inl (money_refused refusal, is, (said, none, rest))), ends) = cc (said)
-untold draws last (after, (g, begins, inl (granted asking grant, is, two)), ends) = cc (two.told_is)
+untold draws last (after, (g, begins, inl (granted asking grant, is, inl two)), ends) = cc (two.told_is)
+untold draws last (after, (g, begins, inl (granted asking grant, is, inr (refusal, said, rest))), ends) = cc (said)
 untold draws last (after, (g, begins, inr (said, none, rest)), ends) = cc (said)
 
 unseen : IsPrefix (made (Answered (pos 2))) [] → ⊥
@@ -365,14 +375,18 @@ not_asked_twice h = h.once 0 1 (omega arith) (omega arith) refl
 placed_at : ArePlaced 0 (1 ∷ []) (one_ask (Answered (pos 2)))
 placed_at zero place at =
     let there : 1 ≡ place = cc (at) in
-    (asked (Answered (pos 2)), Answered (pos 2), ap (λ k. slice_get (one_ask (Answered (pos 2))) k) (sym there), refl)
+    (asked (Answered (pos 2)), ap (λ k. slice_get (one_ask (Answered (pos 2))) k) (sym there), inl (Answered (pos 2), refl))
 placed_at (suc n) place at = absurd (cc (at))
 
 not_placed : ArePlaced 0 (0 ∷ []) (one_ask (Answered (pos 2))) → ⊥
-not_placed h = let p = h 0 0 refl in wrong p.0 p.1 p.2 p.3
+not_placed h = let p = h 0 0 refl in wrong p.0 p.1 p.2
   where
-    wrong : (x : Exchange) (outcome : Outcome) → Some (quiet None (codes "hello ann") (greeted (codes "ann"))) ≡ Some x → settlement_in x.reply ≡ Some (0, outcome) → ⊥
-    wrong x outcome at said =
+    wrong : (x : Exchange) → Some (quiet None (codes "hello ann") (greeted (codes "ann"))) ≡ Some x → SpeaksOf 0 x ⊎ LeavesOpen 0 x → ⊥
+    wrong x at (inl (outcome, said)) =
         let same : quiet None (codes "hello ann") (greeted (codes "ann")) ≡ x = cc (at) in
         let none : None ≡ Some (0, outcome) = ap (λ (y : Exchange). settlement_in y.reply) same ∙ said in
+        cc (none)
+    wrong x at (inr (refusal, place, reserved, said, told, is)) =
+        let same : quiet None (codes "hello ann") (greeted (codes "ann")) ≡ x = cc (at) in
+        let none : greeted (codes "ann") ≡ refused (by_disk refusal) = ap (λ (y : Exchange). y.reply) same ∙ said in
         cc (none)

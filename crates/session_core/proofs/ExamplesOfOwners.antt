@@ -4,11 +4,12 @@ use Rattle.std.specs.Prelude.{ℤ, Option}
 use Rattle.std.specs.Fmt.{digits}
 use Rattle.std.proofs.lemmas.List.Elements.{All-head, All-from_recursion}
 use Rattle.std.specs.List.{flat_map}
-use Rattle.budget_core.specs.declared.records.View.TheVariants.{Whole}
-use Rattle.budget_core.specs.declared.records.Outcome.{Outcome}
-use Rattle.budget_core.specs.declared.records.Record.{Record}
+use Rattle.partition_charge.specs.declared.view.View.TheVariants.{Whole}
+use Rattle.journal_records.specs.declared.records.Outcome.{Outcome}
+use Rattle.journal_records.specs.declared.records.Record.{Record}
 use Rattle.budget_core.specs.declared.entry.Grant.{Grant}
-use Rattle.budget_core.specs.Cost.{cost_of, partition_cost}
+use Rattle.budget_core.specs.Cost.{cost_of}
+use Rattle.partition_charge.specs.Cost.{cost_of_charges, partition_cost}
 use Rattle.fz_frac.specs.Lowest.{gcd, gcd_in}
 use Rattle.fz_ast.specs.Signature.{TableType}
 use Rattle.fz_ast.specs.declared.row.Column.TheVariants.{Text}
@@ -32,7 +33,7 @@ use Rattle.answer_path.specs.Verdict.{money_refused}
 use Rattle.answer_path.specs.Answered.{Told, outcome_reply, grant_records, IsAnswered}
 use Rattle.answer_path.proofs.Answering.{IsAcceptedAt, money_says}
 use Rattle.answer_path.proofs.SizePeople.{size_people, size_term, size_reads}
-use Rattle.session_core.specs.House.{Register, IsHeldBy, IsRegister, house_of, owner_named}
+use Rattle.session_core.specs.House.{Register, IsHeldBy, IsRegister, house_of, entry_of, owner_named}
 use Rattle.session_core.specs.Meant.{meant_by}
 use Rattle.session_core.specs.Exchanges.{Exchange, told_of}
 use Rattle.session_core.specs.Transcript.{Journals, LeadExactly, placed_from, IsScriptRun, IsScriptWritten, IsTranscript}
@@ -110,7 +111,15 @@ not_swapped h = not_the_others (h.holds 0 clinic_entry school_held refl refl)
 not_one_short : IsRegister (register_of (clinic_entry ∷ school_entry ∷ []) (clinic_held ∷ [])) → ⊥
 not_one_short h = cc (h.each_has)
 
--- an entry counts the catalog's analysts, and no keys
+-- an entry counts the catalog's analysts, and the keys of each partition
+abbrev parted : OwnerEntry
+parted = record school_entry {
+  partitions = record { name = codes "by_name"; table = 1; column = 0; keys = codes "eve" ∷ codes "bob" ∷ [] } ∷ record { name = codes "by_first"; table = 1; column = 0; keys = codes "e" ∷ [] } ∷ [];
+}
+
+keys_counted : (entry_of two_owners.catalog parted).keys ≡ 2 ∷ 1 ∷ []
+keys_counted = refl
+
 school_kept : (owner_at (house_of two_owners) 1).entry ≡ record { budget = 10000000; capacity = 100; analysts = 2; keys = [] }
 school_kept = refl
 
@@ -199,7 +208,7 @@ school_value = (size_term, size_reads, (2, (NumF (pos 7) ∷ NumF (pos 8) ∷ []
 
 -- the clinic's budget suffices once ..
 clinic_leads : (draws : ℕ → ℕ → ℕ → ℕ) (b c : Option ℤ) → let a : Option ℤ = noise draws 0 0 in LeadExactly (house_of two_owners) draws 0 0 [] (exchanges a b c) (made (of_clinic a))
-unfolding meant_by request_of cost_of partition_cost IsAnswered
+unfolding meant_by request_of cost_of cost_of_charges partition_cost IsAnswered
 clinic_leads draws b c =
     let made_first = made (of_clinic (noise draws 0 0)) in (
       made_first,
@@ -213,7 +222,7 @@ clinic_leads draws b c =
 
 -- .. and the school's, from its own number 0 on and by its own draws, twice
 school_leads : (draws : ℕ → ℕ → ℕ → ℕ) (a : Option ℤ) → let b : Option ℤ = noise draws 1 0 in let c : Option ℤ = noise draws 1 1 in LeadExactly (house_of two_owners) draws 1 0 [] (exchanges a b c) (school_records b c)
-unfolding meant_by request_of cost_of partition_cost
+unfolding meant_by request_of cost_of cost_of_charges partition_cost
 school_leads draws a =
     let first = made (of_school (noise draws 1 0)) in
     let second = grant_records an_ask next_grant (of_school (noise draws 1 1)) in (

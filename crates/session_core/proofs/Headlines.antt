@@ -1,6 +1,6 @@
 -- the headline of every run
 use Rattle.std.proofs.Common.{◌≡◌, ℕ, ◌≤◌, List, [], ◌++◌, map, slice_get, Some, refl, sym, ◌∙◌, ap, subst, arith, append-nil}
-use Rattle.budget_core.specs.declared.records.Record.{Record}
+use Rattle.journal_records.specs.declared.records.Record.{Record}
 use Rattle.wire_lines.specs.Reply.{Replied}
 use Rattle.answer_path.specs.Owner.{Owner}
 use Rattle.owner_history.specs.Sound.{IsFound}
@@ -11,11 +11,12 @@ use Rattle.session_core.specs.Turns.{Turn, turns_of}
 use Rattle.session_core.specs.Exchanges.{Exchange}
 use Rattle.session_core.specs.Transcript.{Journals, first_new, LeadExactly, IsScriptRun}
 use Rattle.session_core.specs.Served.{Sources, AreAskedBy, ArePlaced}
-use Rattle.session_core.specs.Headline.{Programs, IsOwed, IsHonoured, AreOwed, Headline, AreFound}
+use Rattle.session_core.specs.Headline.{Programs, IsAccountedFor, IsHonoured, AreOwed, AreAccountedFor, Headline, AreFound, AreHistories}
 use Rattle.session_core.proofs.Turns.{AreKnown, turns_lines, turns_known}
 use Rattle.session_core.proofs.Exactly.{answers_on}
 use Rattle.session_core.proofs.Runs.{IsFine, IsPlaced, Ran, ran}
-use Rattle.owner_history.proofs.Sound.{well_found, well_sound}
+use Rattle.session_core.proofs.Lawful.{run_lawful}
+use Rattle.owner_history.proofs.Sound.{lawful_found, lawful_owed, well_found, well_backed}
 
 -- nothing was asked yet
 abbrev pub nothing_asked : Sources
@@ -33,18 +34,18 @@ module _ (house : House) (draws : ℕ → ℕ → ℕ → ℕ) (script : List �
     before = λ n place placed. absurd (cc (placed));
   }
 
-  owed_of : (records : List Record) (s : Sources) → IsWell owner (draws o) found (earlier ++ s.programs) records → AreAskedBy house o owner (turns_of house script) s → IsOwed house draws script o owner found earlier s records
-  owed_of records s well asked = record { sound = well_sound owner (draws o) found (earlier ++ s.programs) records of.data_of begun.within well; asked = asked }
+  accounted_of : (records : List Record) (s : Sources) → IsWell owner (draws o) found (earlier ++ s.programs) records → AreAskedBy house o owner (turns_of house script) s → IsAccountedFor house draws script o owner found earlier s records
+  accounted_of records s well asked = record { backed = well_backed owner (draws o) found (earlier ++ s.programs) records of.data_of begun.within well; asked = asked }
 
-  -- The records that were found are owed.
-  pub found_owed : IsOwed house draws script o owner found earlier nothing_asked found
-  found_owed = owed_of found nothing_asked first_fine.well asked_nothing
+  -- The records that were found are accounted for.
+  pub found_accounted : IsAccountedFor house draws script o owner found earlier nothing_asked found
+  found_accounted = accounted_of found nothing_asked first_fine.well asked_nothing
 
   placed_of : (s : Sources) (xs : List Exchange) → ((n place : ℕ) → 0 ≤ n → slice_get s.places n ≡ Some place → IsPlaced house draws (turns_of house script) o owner found earlier 0 n place xs) → ArePlaced (first_new found) s.places xs
   placed_of s xs each n place stands =
       let p = each n place (omega arith) stands in
       let same : p.behind ≡ place = omega (arith, p.there) in
-      (p.x, p.outcome, ap (λ k. slice_get xs k) (sym same) ∙ p.stands, p.said)
+      (p.x, ap (λ k. slice_get xs k) (sym same) ∙ p.stands, p.said)
 
   honoured_of : (xs : List Exchange) (records : List Record) → slice_get house.owners o ≡ Some owner → map (λ (x : Exchange). x.turn) xs ≡ turns_of house script
       → LeadExactly house draws o (first_new found) found xs records → IsHonoured house draws script o owner found earlier xs records
@@ -54,7 +55,7 @@ module _ (house : House) (draws : ℕ → ℕ → ℕ → ℕ) (script : List �
       = ran house draws (turns_of house script) o owner found earlier begun.history here of.analysts xs records 0 known turns found nothing_asked first_fine leads in
       record {
         sources = r.sources;
-        owed = owed_of records r.sources r.fine.well r.fine.asked;
+        accounted = accounted_of records r.sources r.fine.well r.fine.asked;
         replied = record {
           last = records;
           answers = answers_on house draws o (first_new found) found xs records leads;
@@ -64,9 +65,24 @@ module _ (house : House) (draws : ℕ → ℕ → ℕ → ℕ) (script : List �
         };
       }
 
--- The found records of every owner are owed.
-pub all_found_owed : (house : House) (draws : ℕ → ℕ → ℕ → ℕ) (found : Journals) (earlier : Programs) (script : List ℕ) → AreOwners house → AreFound house draws earlier found → AreOwed house draws found earlier script found
-all_found_owed house draws found earlier script owners founds = λ o owner at. (nothing_asked, found_owed house draws script o owner (found o) (earlier o) (founds o owner at) (owners o owner at))
+-- The found records of every owner are accounted for ..
+pub all_found_accounted : (house : House) (draws : ℕ → ℕ → ℕ → ℕ) (found : Journals) (earlier : Programs) (script : List ℕ) → AreOwners house → AreFound house draws earlier found → AreAccountedFor house draws found earlier script found
+all_found_accounted house draws found earlier script owners founds = λ o owner at. (nothing_asked, found_accounted house draws script o owner (found o) (earlier o) (founds o owner at) (owners o owner at))
+
+-- .. and owed, whatever programs are behind them.
+pub all_found_owed : (house : House) (found : Journals) → AreHistories house found → AreOwed house found found
+all_found_owed house found founds = λ o owner at.
+    let f = founds o owner at in
+    lawful_owed owner (λ n k. 0) (found o) (found o) f.within (lawful_found owner (λ n k. 0) (found o) f)
+
+-- What a run makes of any records that were found is owed.
+pub run_owed : (house : House) (draws : ℕ → ℕ → ℕ → ℕ) (found : Journals) (script : List ℕ) (replies : List Replied) (last : Journals) → AreOwners house → AreHistories house found
+    → IsScriptRun house draws found script replies last → AreOwed house found last
+run_owed house draws found script replies last owners founds run = λ o owner at.
+    let f = founds o owner at in
+    let known : AreKnown house (map (λ (x : Exchange). x.turn) run.exchanges) = subst (λ (ts : List Turn). AreKnown house ts) (sym run.turns) (turns_known house script) in
+    lawful_owed owner (draws o) (found o) (last o) f.within
+    (run_lawful house draws o owner (found o) f.history at (owners o owner at).analysts run.exchanges (found o) (last o) known (lawful_found owner (draws o) (found o) f) (run.owners o owner at))
 
 -- What is written for a script keeps the headline.
 pub headline_of : (house : House) (draws : ℕ → ℕ → ℕ → ℕ) (found : Journals) (earlier : Programs) (script : List ℕ) (replies : List Replied) (last : Journals) → AreOwners house → AreFound house draws earlier found

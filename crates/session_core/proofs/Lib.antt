@@ -3,6 +3,7 @@ pub mod Turns
 pub mod Wants
 pub mod Exactly
 pub mod Runs
+pub mod Lawful
 pub mod Headlines
 pub mod Once
 pub mod Plain
@@ -16,3 +17,4 @@ pub mod Serving
 pub mod Others
 pub mod Examples
 pub mod ExamplesOfOwners
+mod ExamplesOfFaults

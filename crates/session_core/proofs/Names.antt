@@ -7,8 +7,8 @@ use Rattle.std.proofs.lemmas.List.Quantifiers.{position-Some}
 use Rattle.fz_lexer.specs.Bytes.{begins, every_byte, is_letter, is_digit, is_name_byte}
 use Rattle.wire_lines.specs.Lines.{lf, space}
 use Rattle.wire_lines.specs.Name.{is_name}
-use Rattle.owner_catalog.specs.Forms.{is_name as is_catalog_name}
-use Rattle.owner_catalog.specs.Lawful.{IsName}
+use Rattle.owner_catalog.specs.Forms.{is_catalog_name}
+use Rattle.owner_catalog.specs.Lawful.{IsCatalogName}
 use Rattle.metric_values.proofs.Elements.{text_is}
 
 -- a byte of a name parts no words and no lines
@@ -51,12 +51,12 @@ pub found_within : (names : List (List ℕ)) (name : List ℕ) (place : ℕ) →
 found_within names name place at = (position-Some (λ other. bytes_eq name other) names place [] at).0
 
 -- a name that is found is one of them
-pub found_passes : (names : List (List ℕ)) (name : List ℕ) (place : ℕ) → All IsName names → position (λ other. bytes_eq name other) names ≡ Some place → IsTrue (is_name name)
+pub found_passes : (names : List (List ℕ)) (name : List ℕ) (place : ℕ) → All IsCatalogName names → position (λ other. bytes_eq name other) names ≡ Some place → IsTrue (is_name name)
 found_passes names name place all at =
     let found = position-Some (λ other. bytes_eq name other) names place [] at in
     let same : name ≡ get_or names place [] = text_is name (get_or names place []) found.1 in
     subst (λ (bytes : List ℕ). IsTrue (is_name bytes)) (sym same) (sayable (get_or names place []) (all place [] found.0))
 
-pub found_said : (names : List (List ℕ)) (name : List ℕ) (found : Option ℕ) → All IsName names → found ≡ position (λ other. bytes_eq name other) names → IfSome found (λ place. IsTrue (is_name name))
+pub found_said : (names : List (List ℕ)) (name : List ℕ) (found : Option ℕ) → All IsCatalogName names → found ≡ position (λ other. bytes_eq name other) names → IfSome found (λ place. IsTrue (is_name name))
 found_said names name None all is = tt
 found_said names name (Some place) all is = found_passes names name place all (sym is)

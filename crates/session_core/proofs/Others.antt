@@ -1,7 +1,7 @@
 -- lines that ask other owners
 use Rattle.std.proofs.Common.{◌≡◌, ℕ, Bool, false, List, [], ◌∷◌, ◌++◌, slice_get, Some, refl, ◌∙◌, ap, subst, append-nil}
 use Rattle.std.specs.Prelude.{MatchBool, if◌then◌else◌}
-use Rattle.budget_core.specs.declared.records.Record.{Record}
+use Rattle.journal_records.specs.declared.records.Record.{Record}
 use Rattle.answer_path.specs.Owner.{Owner}
 use Rattle.answer_path.specs.Answered.{Told}
 use Rattle.answer_path.specs.Pass.{Pass, first_of_run}
@@ -27,8 +27,8 @@ led_others house o M seen (x ∷ xs) last others leads = led_others house o M se
     behind (wants n owner demand) other h =
         subst (λ (b : Bool). MatchBool b ((after : List Record) × M owner demand seen x after × Lead house o M after xs last) (Lead house o M seen xs last)) other h
 
-same_pass : (a b : Pass) → b.entry ≡ a.entry → b.found ≡ a.found → b.seen ≡ a.seen → b.own ≡ a.own → b ≡ a
-same_pass a b entry found seen own = λ i. record { entry = entry i; found = found i; seen = seen i; own = own i }
+same_pass : (a b : Pass) → b.entry ≡ a.entry → b.found ≡ a.found → b.seen ≡ a.seen → b.own ≡ a.own → b.storage ≡ a.storage → b ≡ a
+same_pass a b entry found seen own storage = λ i. record { entry = entry i; found = found i; seen = seen i; own = own i; storage = storage i }
 
 pub others_stay : (house : House) (draws : ℕ → ℕ → ℕ → ℕ) (xs : List Exchange) (before after : List Pass) (o : ℕ) (owner : Owner) → AreServed house draws xs before after → slice_get house.owners o ≡ Some owner
     → AskOthers house o xs → pass_at after o ≡ pass_at before o
@@ -37,3 +37,4 @@ others_stay house draws xs before after o owner served at others =
     same_pass (pass_at before o) (pass_at after o) goes.entry goes.found
     (led_others house o (MeetsOnSome (draws o) (first_of_run (pass_at before o))) (pass_at before o).seen xs (pass_at after o).seen others goes.answers)
     (goes.own ∙ ap (λ (ts : List Told). (pass_at before o).own ++ ts) (told_others house o xs others) ∙ append-nil (pass_at before o).own)
+    (goes.still others)

@@ -1,15 +1,17 @@
 -- the owners of a register, by their numbers
-use Rattle.std.proofs.Common.{◌≡◌, ℕ, zero, suc, ◌+◌, ◌<◌, Bool, true, false, cond, List, [], ◌∷◌, map, length, slice_get, Option, Some, None, option_map, refl, sym, ◌∙◌, ap, subst, arith, bytes_eq}
+use Rattle.std.proofs.Common.{◌≡◌, ℕ, zero, suc, ◌+◌, ◌<◌, ◌≤◌, ◌++◌, get_or, take, Bool, true, false, cond, List, [], ◌∷◌, map, length, slice_get, Option, Some, None, option_map, refl, sym, ◌∙◌, ap, subst, arith, bytes_eq}
 use Rattle.std.proofs.lemmas.Iterator.Adapters.{position_from-zero}
 use Rattle.std.proofs.lemmas.Option.{slice_get_within, get_or_from_slice_get, slice_get-get_or}
+use Rattle.std.proofs.lemmas.List.{length-map}
+use Rattle.std.proofs.Math.Seq.{take-length}
 use Rattle.std.specs.Prelude.{IfSome}
 use Rattle.std.specs.List.{All, zip, position, position_from}
 use Rattle.fz_ast.specs.Signature.{Signature, IsSignature}
-use Rattle.owner_catalog.specs.Entries.{Catalog, OwnerEntry, owner_at as listed_at}
-use Rattle.owner_catalog.specs.Lawful.{IsOwner}
+use Rattle.owner_catalog.specs.Entries.{Catalog, OwnerEntry, TableEntry, PartitionEntry, owner_entry_at as listed_at}
+use Rattle.owner_catalog.specs.Lawful.{IsOwner, IsPartition}
 use Rattle.budget_core.specs.Entries.{IsEntry}
 use Rattle.answer_path.specs.Owner.{Owner, Holding}
-use Rattle.session_core.specs.House.{Register, IsRegister, House, IsOwnerIn, AreOwners, house_of, entry_of, owner_of, owner_from, owner_named}
+use Rattle.session_core.specs.House.{Register, IsRegister, House, IsOwnerIn, AreOwners, house_of, entry_of, keys_of, owner_of, owner_from, owner_named}
 use Rattle.session_core.specs.Code.{no_owner, owner_at, numbered}
 use Rattle.session_core.proofs.Wants.{owner_stands}
 use Rattle.session_core.proofs.Signed.{signature_signed}
@@ -53,22 +55,49 @@ entry_said register o owner at =
     let s = owner_stands_at register o owner at in
     ap (entry_of register.catalog) (get_or_from_slice_get register.catalog.owners o s.entry _ s.listed) ∙ ap (λ (w : Owner). w.entry) s.is
 
-pub entry_made : (catalog : Catalog) (o budget capacity analysts : ℕ) → budget ≡ (listed_at catalog o).budget → capacity ≡ (listed_at catalog o).capacity → analysts ≡ length catalog.analysts
-    → record { budget = budget; capacity = capacity; analysts = analysts; keys = [] } ≡ entry_of catalog (listed_at catalog o)
-entry_made catalog o budget capacity analysts b c a = cc (b, c, a)
+pub entry_made : (catalog : Catalog) (o budget capacity analysts : ℕ) (keys : List ℕ) → budget ≡ (listed_at catalog o).budget → capacity ≡ (listed_at catalog o).capacity → analysts ≡ length catalog.analysts
+    → keys ≡ keys_of (listed_at catalog o) → record { budget = budget; capacity = capacity; analysts = analysts; keys = keys } ≡ entry_of catalog (listed_at catalog o)
+entry_made catalog o budget capacity analysts keys b c a k = cc (b, c, a, k)
+
+-- each partition of a catalog has some keys, and not too many
+keys_legal : (tables : List TableEntry) (partitions : List PartitionEntry) → ((p : ℕ) (d : PartitionEntry) → p < length partitions → IsPartition tables (get_or partitions p d))
+    → All (λ keys. (1 ≤ keys) × (keys ≤ 250)) (map (λ (partition : PartitionEntry). length partition.keys) partitions)
+keys_legal tables [] each = λ k d less. absurd (omega (arith, less))
+keys_legal tables (partition ∷ partitions) each = here (keys_legal tables partitions (λ p e below. each (suc p) e (omega (arith, below))))
+  where
+    here : All (λ keys. (1 ≤ keys) × (keys ≤ 250)) (map (λ (other : PartitionEntry). length other.keys) partitions) → All (λ keys. (1 ≤ keys) × (keys ≤ 250)) (map (λ (other : PartitionEntry). length other.keys) (partition ∷ partitions))
+    here rest zero d less = let first : IsPartition tables partition = each 0 partition (omega arith) in (first.some, first.few)
+    here rest (suc k) d less = rest k d (omega (arith, less))
 
 pub entry_legal : (register : Register) → IsRegister register → (o : ℕ) → o < length (house_of register).owners → IsEntry (entry_of register.catalog (listed_at register.catalog o))
 entry_legal register of o within =
-    let said = of.catalog.owners o _ (in_catalog register of o within) in record {
+    let owner : OwnerEntry = listed_at register.catalog o in
+    let said : IsOwner owner = of.catalog.owners o _ (in_catalog register of o within) in record {
       some_budget = said.least_budget;
       budget = said.most_budget;
       some_room = said.least_capacity;
       capacity = said.most_capacity;
       some_analyst = of.catalog.some_analysts;
       analysts = of.catalog.few_analysts;
-      partitions = omega arith;
-      keys = λ k d less. absurd (omega (arith, less));
+      partitions = omega (arith, length-map owner.partitions (λ (partition : PartitionEntry). length partition.keys), said.few_partitions);
+      keys = keys_legal owner.tables owner.partitions (λ p d less. said.partitions p d less);
     }
+
+-- the numbers of keys of the first partitions, with those of one more
+keys_next : (partitions : List PartitionEntry) (p keys : ℕ) (d : PartitionEntry) → p < length partitions → keys ≡ length (get_or partitions p d).keys
+    → take (suc p) (map (λ (partition : PartitionEntry). length partition.keys) partitions) ≡ take p (map (λ (partition : PartitionEntry). length partition.keys) partitions) ++ keys ∷ []
+keys_next [] p keys d within is = absurd (omega (arith, within))
+keys_next (partition ∷ partitions) zero keys d within is = cc (is)
+keys_next (partition ∷ partitions) (suc p) keys d within is = ap (λ (rest : List ℕ). length partition.keys ∷ rest) (keys_next partitions p keys d (omega (arith, within)) is)
+
+pub keys_more : (owner : OwnerEntry) (p keys : ℕ) (d : PartitionEntry) → p < length owner.partitions → keys ≡ length (get_or owner.partitions p d).keys → take (p + 1) (keys_of owner) ≡ take p (keys_of owner) ++ keys ∷ []
+keys_more owner p keys d within is =
+    let next : suc p ≡ p + 1 = omega arith in
+    ap (λ (n : ℕ). take n (keys_of owner)) (sym next) ∙ keys_next owner.partitions p keys d within is
+
+pub keys_all : (owner : OwnerEntry) (p : ℕ) → p ≡ length owner.partitions → take p (keys_of owner) ≡ keys_of owner
+keys_all owner p is =
+    ap (λ (n : ℕ). take n (keys_of owner)) (is ∙ sym (length-map owner.partitions (λ (partition : PartitionEntry). length partition.keys))) ∙ take-length (keys_of owner)
 
 -- the owner of a number, and what it holds
 pub owner_there : (register : Register) (o : ℕ) → o < length (house_of register).owners → slice_get (house_of register).owners o ≡ Some (owner_at (house_of register) o)

@@ -3,29 +3,37 @@ use Rattle.std.proofs.Common.{◌≡◌, ◌≢◌, ℕ, zero, suc, ◌+◌, ◌
 use Rattle.std.specs.Prelude.{MatchBool}
 use Rattle.std.proofs.lemmas.Bool.{cases_lt}
 use Rattle.std.proofs.lemmas.Option.{slice_get_within}
-use mathlib.Core.Logic.{inl, inr}
+use mathlib.Core.Logic.{◌⊎◌, inl, inr}
 use mathlib.Core.List.{IsPrefix}
-use Rattle.budget_core.specs.declared.records.Outcome.{Outcome}
-use Rattle.budget_core.specs.declared.records.Record.{Record}
+use Rattle.journal_records.specs.declared.records.Outcome.{Outcome}
+use Rattle.journal_records.specs.declared.records.Record.{Record}
+use Rattle.journal_records.specs.declared.records.Reservation.{Reservation}
+use Rattle.budget_core.specs.declared.entry.Ask.{Ask}
+use Rattle.budget_core.specs.declared.entry.Grant.{Grant}
+use Rattle.budget_core.specs.Ledger.{reservation_numbered}
+use Rattle.wire_lines.specs.Reply.{Replied, refused}
+use Rattle.wire_lines.specs.Refusal.{by_disk}
+use Rattle.wire_lines.specs.declared.refusal.DiskRefusal.{DiskRefusal}
 use Rattle.budget_core.specs.Counts.{reservations_of}
 use Rattle.budget_core.specs.Legal.{IsHistory}
 use Rattle.budget_core.proofs.Histories.{push_cases, slice_get-append-lt, slice_get-append-seam}
 use Rattle.answer_path.specs.Owner.{Owner}
 use Rattle.answer_path.specs.Query.{Query}
 use Rattle.answer_path.specs.Verdict.{Verdict, program_refused, money_refused, granted, IsVerdict}
-use Rattle.answer_path.specs.Answered.{Told, IsAnsweredBy, IsAnswered}
-use Rattle.owner_history.specs.Granted.{settlement_in, IsGranted, IsBorneOut}
+use Rattle.answer_path.specs.Answered.{Told, IsSettledBy, outcome_reply, grant_records, granted_record, IsAnsweredBy, IsAnswered}
+use Rattle.owner_history.specs.Granted.{settlement_in, IsGranted, IsRecallBorneOut}
 use Rattle.owner_history.proofs.Prefixes.{prefix_self, prefix_by, prefix_trans, slice_get_prefix}
-use Rattle.owner_history.proofs.Steps.{IsQueryOf, IsWell, IsStep, step, granted_on}
+use Rattle.owner_history.proofs.Steps.{IsQueryOf, IsWell, IsReserved, IsStep, reserve, well_reserved, step, granted_on, settled_for_on}
+use Rattle.owner_history.proofs.Recalls.{recall_borne}
 use Rattle.session_core.specs.House.{House}
-use Rattle.session_core.specs.Meant.{Demand, asks, Meant, says, wants}
+use Rattle.session_core.specs.Meant.{Demand, asks, recalls, balances, Meant, says, wants}
 use Rattle.session_core.specs.Turns.{Turn, meant_at}
 use Rattle.session_core.specs.Exchanges.{Exchange, TurnLeads}
 use Rattle.session_core.specs.Transcript.{placed_from, first_new, MeetsExactly, LeadExactly}
-use Rattle.session_core.specs.Served.{Sources, IsAskedAt, AreAskedBy, StandIn, IsHeldTo, AreHeldTo}
+use Rattle.session_core.specs.Served.{Sources, IsAskedAt, AreAskedBy, StandIn, IsBorneOutTo, IsHeldTo, AreHeldTo, SpeaksOf, LeavesOpen}
 use Rattle.session_core.proofs.Turns.{AreKnown}
-use Rattle.session_core.proofs.Wants.{AsksOnly, asks_only, asked_in_range}
-use Rattle.session_core.proofs.Exactly.{placed_stand, stand_on, outcome_said}
+use Rattle.session_core.proofs.Wants.{AsksOnly, asks_only, only_stands, asked_in_range}
+use Rattle.session_core.proofs.Exactly.{placed_stand, stand_on, outcome_said, nothing_told, nothing_after}
 
 -- with the program of one turn more
 abbrev pub with_source : Sources → List ℕ → (at : ℕ) → Sources
@@ -91,14 +99,13 @@ module _ (house : House) (draws : ℕ → ℕ → ℕ → ℕ) (spoken : List Tu
     pub asked : AreAskedBy house o owner spoken s
     pub before : (n place : ℕ) → slice_get s.places n ≡ Some place → place < at
 
-  -- the exchange of the turn at a place, among those from there on, speaks of a new reservation
+  -- the exchange of the turn at a place, among those from there on, is of a new reservation
   pub record IsPlaced (at n place : ℕ) (xs : List Exchange) : Type 0 where
     pub behind : ℕ
     pub there : place ≡ at + behind
     pub x : Exchange
-    pub outcome : Outcome
     pub stands : slice_get xs behind ≡ Some x
-    pub said : settlement_in x.reply ≡ Some (first_new found + n, outcome)
+    pub said : SpeaksOf (first_new found + n) x ⊎ LeavesOpen (first_new found + n) x
 
   -- what comes of exchanges from a place on, on records, with these in the end
   pub record Ran (at : ℕ) (records : List Record) (s : Sources) (xs : List Exchange) (last : List Record) : Type 0 where
@@ -111,37 +118,54 @@ module _ (house : House) (draws : ℕ → ℕ → ℕ → ℕ) (spoken : List Tu
     pub placed : (n place : ℕ) → length s.places ≤ n → slice_get sources.places n ≡ Some place → IsPlaced at n place xs
 
   later_placed : (at n place : ℕ) (x : Exchange) (xs : List Exchange) → IsPlaced (suc at) n place xs → IsPlaced at n place (x ∷ xs)
-  later_placed at n place x xs p = record { behind = suc p.behind; there = p.there ∙ omega arith; x = p.x; outcome = p.outcome; stands = p.stands; said = p.said }
+  later_placed at n place x xs p = record { behind = suc p.behind; there = p.there ∙ omega arith; x = p.x; stands = p.stands; said = p.said }
 
   later_fine : (at : ℕ) (records : List Record) (s : Sources) → IsFine at records s → IsFine (suc at) records s
   later_fine at records s fine = record { well = fine.well; counted = fine.counted; asked = fine.asked; before = λ n place placed. omega (arith, fine.before n place placed) }
 
+  -- with one reservation more
+  fine_more : (at : ℕ) (records after : List Record) (s : Sources) (program : List ℕ) (n : ℕ) → IsFine at records s → IsAskedAt house o owner spoken at program → n ≡ length (reservations_of records)
+      → length (reservations_of after) ≡ n + 1 → IsWell owner (draws o) found ((earlier ++ s.programs) ++ program ∷ []) after → IsFine (suc at) after (with_source s program at)
+  fine_more at records after s program n fine asked number counted well = record {
+    well = subst (λ (ps : List (List ℕ)). IsWell owner (draws o) found ps after) (append_assoc earlier s.programs (program ∷ [])) well;
+    counted = omega (arith, counted, number, fine.counted, length-append s.places (at ∷ []));
+    asked = asked_more house o owner spoken s at program fine.asked fine.before asked;
+    before = λ k place placed. elim (push_cases s.places at k place placed) [ inl before ↦ omega (arith, fine.before k place before.1) | inr last ↦ omega (arith, last.1) ];
+  }
+
   -- a turn that adds nothing
   quiet_first : (at : ℕ) (records : List Record) (s : Sources) (x : Exchange) (xs : List Exchange) (last : List Record)
-      → ((programs : List (List ℕ)) → IsHeldTo o programs last (meant_at house x.turn) x) → Ran (suc at) records s xs last → Ran at records s (x ∷ xs) last
+      → (IsPrefix records last → (programs : List (List ℕ)) → IsHeldTo o programs last (meant_at house x.turn) x) → Ran (suc at) records s xs last → Ran at records s (x ∷ xs) last
   quiet_first at records s x xs last held ran = record {
     sources = ran.sources;
     programs = ran.programs;
     places = ran.places;
     on = ran.on;
     fine = subst (λ (k : ℕ). IsFine k last ran.sources) (omega arith) ran.fine;
-    held = (held (earlier ++ ran.sources.programs), ran.held);
+    held = (held ran.on (earlier ++ ran.sources.programs), ran.held);
     placed = λ n place past stands. later_placed at n place x xs (ran.placed n place past stands);
   }
 
-  -- a turn that was granted a reservation
-  granted_first : (at : ℕ) (records added : List Record) (s : Sources) (query : Query) (x : Exchange) (xs : List Exchange) (last : List Record) (n : ℕ) (outcome : Outcome)
-      → ((w : Owner) (other : Query) → meant_at house x.turn ≡ wants o w (asks other) → other ≡ query)
-      → IsGranted (earlier ++ (s.programs ++ query.program ∷ [])) (records ++ added) query n outcome
-      → n ≡ first_new found + length s.places → x.told ≡ placed_from (length records) added → settlement_in x.reply ≡ Some (n, outcome)
+  -- what the records after a turn bear out, and all later ones, by the programs then
+  abbrev BearOut : (programs : List (List ℕ)) (records : List Record) → Demand → Exchange → Type 0
+  BearOut programs records demand x = (more : List (List ℕ)) (later : List Record) → IsPrefix programs more → IsPrefix records later → IsBorneOutTo more later demand x.reply
+
+  -- a turn makes one demand
+  same_demand : (x : Exchange) (demand : Demand) → meant_at house x.turn ≡ wants o owner demand → (w : Owner) (other : Demand) → meant_at house x.turn ≡ wants o w other → demand ≡ other
+  same_demand x demand meant w other is = let both : wants o owner demand ≡ wants o w other = sym meant ∙ is in cc
+
+  -- a turn that added a reservation, and perhaps its settlement
+  added_first : (at : ℕ) (records added : List Record) (s : Sources) (query : Query) (x : Exchange) (xs : List Exchange) (last : List Record) (n : ℕ)
+      → meant_at house x.turn ≡ wants o owner (asks query) → BearOut (earlier ++ (s.programs ++ query.program ∷ [])) (records ++ added) (asks query) x
+      → n ≡ first_new found + length s.places → x.told ≡ placed_from (length records) added → SpeaksOf n x ⊎ LeavesOpen n x
       → Ran (suc at) (records ++ added) (with_source s query.program at) xs last → Ran at records s (x ∷ xs) last
-  granted_first at records added s query x xs last n outcome only given numbered told said ran = record {
+  added_first at records added s query x xs last n meant borne numbered told said ran = record {
     sources = ran.sources;
     programs = prefix_trans s.programs (s.programs ++ query.program ∷ []) ran.sources.programs (prefix_by s.programs (query.program ∷ [])) ran.programs;
     places = prefix_trans s.places (s.places ++ at ∷ []) ran.sources.places (prefix_by s.places (at ∷ [])) ran.places;
     on = prefix_trans records (records ++ added) last (prefix_by records added) ran.on;
     fine = subst (λ (k : ℕ). IsFine k last ran.sources) (omega arith) ran.fine;
-    held = (λ w other meant. (stand, borne other (only w other meant)), ran.held);
+    held = (λ w other is. (stand, subst (λ (d : Demand). IsBorneOutTo (earlier ++ ran.sources.programs) last d x.reply) (same_demand x (asks query) meant w other is) (borne _ last on_programs ran.on)), ran.held);
     placed = λ m place past stands. elim (cases_lt (length s.places) m) [
       | inl after ↦ later_placed at m place x xs (ran.placed m place (omega (arith, length-append s.places (at ∷ []))) stands)
       | inr upto ↦
@@ -151,7 +175,7 @@ module _ (house : House) (draws : ℕ → ℕ → ℕ → ℕ) (spoken : List Tu
           let both : Some at ≡ Some place = sym first ∙ ap (λ k. slice_get ran.sources.places k) same ∙ stands in
           let equal : at ≡ place = cc in
           let number : n ≡ first_new found + m = omega (arith, numbered, same) in
-          record { behind = 0; there = omega (arith, equal); x = x; outcome = outcome; stands = refl; said = said ∙ ap (λ (k : ℕ). Some (k, outcome)) number }
+          record { behind = 0; there = omega (arith, equal); x = x; stands = refl; said = subst (λ (k : ℕ). SpeaksOf k x ⊎ LeavesOpen k x) number said }
     ];
   }
     where
@@ -161,57 +185,92 @@ module _ (house : House) (draws : ℕ → ℕ → ℕ → ℕ) (spoken : List Tu
       on_programs : IsPrefix (earlier ++ (s.programs ++ query.program ∷ [])) (earlier ++ ran.sources.programs)
       on_programs = (ran.programs.0, append_assoc earlier (s.programs ++ query.program ∷ []) ran.programs.0 ∙ ap (λ (ps : List (List ℕ)). earlier ++ ps) ran.programs.1)
 
-      borne : (other : Query) → other ≡ query → IsBorneOut (earlier ++ ran.sources.programs) last other x.reply
-      borne other same = λ m u is.
-          let both : Some (n, outcome) ≡ Some (m, u) = sym said ∙ is in
-          let pair : (n, outcome) ≡ (m, u) = cc (both) in
-          let number : n ≡ m = ap (λ (z : ℕ × Outcome). z.0) pair in
-          let settled : outcome ≡ u = ap (λ (z : ℕ × Outcome). z.1) pair in
-          let there : IsGranted (earlier ++ ran.sources.programs) last query n outcome
-          = granted_on (earlier ++ (s.programs ++ query.program ∷ [])) (earlier ++ ran.sources.programs) (records ++ added) last query n outcome on_programs ran.on given in
-          subst (λ (q : Query). IsGranted (earlier ++ ran.sources.programs) last q m u) (sym same)
-          (subst (λ (k : ℕ). IsGranted (earlier ++ ran.sources.programs) last query k u) number
-          (subst (λ (y : Outcome). IsGranted (earlier ++ ran.sources.programs) last query n y) settled there))
+  -- a reply that speaks of a reservation that was granted
+  granted_bears : (programs : List (List ℕ)) (records : List Record) (query : Query) (x : Exchange) (n : ℕ) (outcome : Outcome) → IsGranted programs records query n outcome → settlement_in x.reply ≡ Some (n, outcome)
+      → BearOut programs records (asks query) x
+  granted_bears programs records query x n outcome given said = λ more later on_programs on m u is.
+      let both : Some (n, outcome) ≡ Some (m, u) = sym said ∙ is in
+      let pair : (n, outcome) ≡ (m, u) = cc (both) in
+      let number : n ≡ m = ap (λ (z : ℕ × Outcome). z.0) pair in
+      let settled : outcome ≡ u = ap (λ (z : ℕ × Outcome). z.1) pair in
+      let there : IsGranted more later query n outcome = granted_on programs more records later query n outcome on_programs on given in
+      subst (λ (k : ℕ). IsGranted more later query k u) number (subst (λ (y : Outcome). IsGranted more later query n y) settled there)
+
+  -- a reply to a query that speaks of no reservation
+  unsaid_bears : (programs : List (List ℕ)) (records : List Record) (query : Query) (x : Exchange) → settlement_in x.reply ≡ None → BearOut programs records (asks query) x
+  unsaid_bears programs records query x unsaid = λ more later on_programs on n outcome said. absurd (let both : None ≡ Some (n, outcome) = sym unsaid ∙ said in cc (both))
 
   -- what is run from any records that are fine
   abbrev Runs : (at : ℕ) → List Exchange → (last : List Record) → Type 0
   Runs at xs last = (g : List Record) (s : Sources) → IsFine at g s → LeadExactly house draws o (first_new found) g xs last → Ran at g s xs last
 
-  -- a query that adds nothing, and whose reply speaks of no reservation
-  nothing_first : (at : ℕ) (records added after : List Record) (s : Sources) (x : Exchange) (xs : List Exchange) (last : List Record) → added ≡ [] → settlement_in x.reply ≡ None
-      → x.told ≡ placed_from (length records) added → after ≡ records ++ added → IsFine at records s → LeadExactly house draws o (first_new found) after xs last → Runs (suc at) xs last → Ran at records s (x ∷ xs) last
-  nothing_first at records added after s x xs last none unsaid told is fine more rest =
-      let quiet : x.told ≡ [] = told ∙ ap (placed_from (length records)) none in
-      let same : after ≡ records = is ∙ ap (λ rs. records ++ rs) none ∙ append-nil records in
+  -- a demand that adds nothing
+  nothing_first : (at : ℕ) (records after : List Record) (s : Sources) (demand : Demand) (x : Exchange) (xs : List Exchange) (last : List Record) → meant_at house x.turn ≡ wants o owner demand
+      → ((programs : List (List ℕ)) → BearOut programs records demand x) → x.told ≡ [] → after ≡ records → IsFine at records s → LeadExactly house draws o (first_new found) after xs last → Runs (suc at) xs last
+      → Ran at records s (x ∷ xs) last
+  nothing_first at records after s demand x xs last meant borne none same fine more rest =
       quiet_first at records s x xs last
-      (λ programs w query meant. (subst (λ (t : List Told). StandIn last t) (sym quiet) tt, λ n outcome said. absurd (let both : None ≡ Some (n, outcome) = sym unsaid ∙ said in cc (both))))
+      (λ on programs w other is. (
+        subst (λ (t : List Told). StandIn last t) (sym none) tt,
+        subst (λ (d : Demand). IsBorneOutTo programs last d x.reply) (same_demand x demand meant w other is) (borne programs programs last (prefix_self programs) on),
+      ))
       (rest records s (later_fine at records s fine) (subst (λ (rs : List Record). LeadExactly house draws o (first_new found) rs xs last) same more))
+
+  -- a query that adds nothing, and whose reply speaks of no reservation
+  refused_first : (at : ℕ) (records added after : List Record) (s : Sources) (query : Query) (x : Exchange) (xs : List Exchange) (last : List Record) → meant_at house x.turn ≡ wants o owner (asks query) → added ≡ []
+      → settlement_in x.reply ≡ None → x.told ≡ placed_from (length records) added → after ≡ records ++ added → IsFine at records s → LeadExactly house draws o (first_new found) after xs last → Runs (suc at) xs last
+      → Ran at records s (x ∷ xs) last
+  refused_first at records added after s query x xs last meant none unsaid told is fine more rest =
+      nothing_first at records after s (asks query) x xs last meant (λ programs. unsaid_bears programs records query x unsaid) (nothing_told (length records) added x.told told none) (nothing_after records added after is none) fine more rest
+
+  -- a query that is granted, where this is what it adds
+  granted_first : IsHistory owner.entry found → (at : ℕ) (records after : List Record) (s : Sources) (query : Query) (x : Exchange) (xs : List Exchange) (last : List Record) (asking : Ask) (grant : Grant) (outcome : Outcome)
+      → IsVerdict owner.entry owner.tables (first_new found) records query (granted asking grant) → IsSettledBy owner (draws o) query grant.number outcome → x.reply ≡ outcome_reply grant outcome
+      → x.told ≡ placed_from (length records) (grant_records asking grant outcome) → after ≡ records ++ grant_records asking grant outcome → IsFine at records s → LeadExactly house draws o (first_new found) after xs last
+      → IsQueryOf owner query → IsAskedAt house o owner spoken at query.program → meant_at house x.turn ≡ wants o owner (asks query) → Runs (suc at) xs last → Ran at records s (x ∷ xs) last
+  granted_first begun at records after s query x xs last asking grant outcome is settles reply told ends fine more of asked meant rest =
+      let n : ℕ = grant.number in
+      let all : List Record = records ++ grant_records asking grant outcome in
+      let stepped : IsStep owner (draws o) found (earlier ++ s.programs) records query n outcome all = step owner (draws o) found begun (earlier ++ s.programs) records fine.well query of asking grant outcome is settles in
+      let said : settlement_in x.reply ≡ Some (n, outcome) = ap settlement_in reply ∙ outcome_said grant outcome in
+      added_first at records (grant_records asking grant outcome) s query x xs last n meant
+      (granted_bears (earlier ++ (s.programs ++ query.program ∷ [])) all query x n outcome
+      (subst (λ (ps : List (List ℕ)). IsGranted ps all query n outcome) (append_assoc earlier s.programs (query.program ∷ [])) stepped.granted) said)
+      (omega (arith, stepped.number, fine.counted)) told (inl (outcome, said))
+      (rest all (with_source s query.program at) (fine_more at records all s query.program n fine asked stepped.number stepped.counted stepped.well)
+      (subst (λ (rs : List Record). LeadExactly house draws o (first_new found) rs xs last) ends more))
+
+  -- a query that is granted, where its settlement wasn't written
+  opened_first : IsHistory owner.entry found → (at : ℕ) (records after : List Record) (s : Sources) (query : Query) (x : Exchange) (xs : List Exchange) (last : List Record) (asking : Ask) (grant : Grant) (refusal : DiskRefusal)
+      → IsVerdict owner.entry owner.tables (first_new found) records query (granted asking grant) → x.reply ≡ refused (by_disk refusal)
+      → x.told ≡ placed_from (length records) (granted_record asking grant ∷ []) → after ≡ records ++ granted_record asking grant ∷ [] → IsFine at records s → LeadExactly house draws o (first_new found) after xs last
+      → IsQueryOf owner query → IsAskedAt house o owner spoken at query.program → meant_at house x.turn ≡ wants o owner (asks query) → Runs (suc at) xs last → Ran at records s (x ∷ xs) last
+  opened_first begun at records after s query x xs last asking grant refusal is reply told ends fine more of asked meant rest =
+      let n : ℕ = grant.number in
+      let r : Reservation = reservation_numbered n asking grant.taken in
+      let all : List Record = records ++ granted_record asking grant ∷ [] in
+      let made : IsReserved owner (draws o) found records query n r all = reserve owner (draws o) found begun records fine.well.lawful query of asking grant is in
+      added_first at records (granted_record asking grant ∷ []) s query x xs last n meant
+      (unsaid_bears (earlier ++ (s.programs ++ query.program ∷ [])) all query x (ap settlement_in reply))
+      (omega (arith, made.number, fine.counted)) told (inr (refusal, length records, r, reply, told, made.is_number))
+      (rest all (with_source s query.program at)
+      (fine_more at records all s query.program n fine asked made.number made.counted (well_reserved owner (draws o) found (earlier ++ s.programs) records fine.well query n r all made))
+      (subst (λ (rs : List Record). LeadExactly house draws o (first_new found) rs xs last) ends more))
 
   answered_first : IsHistory owner.entry found → (at : ℕ) (records added after : List Record) (s : Sources) (query : Query) (x : Exchange) (xs : List Exchange) (last : List Record) (v : Verdict)
       → IsVerdict owner.entry owner.tables (first_new found) records query v → IsAnsweredBy owner (draws o) query v x.reply added
       → x.told ≡ placed_from (length records) added → after ≡ records ++ added → IsFine at records s → LeadExactly house draws o (first_new found) after xs last
       → IsQueryOf owner query → IsAskedAt house o owner spoken at query.program → meant_at house x.turn ≡ wants o owner (asks query) → Runs (suc at) xs last → Ran at records s (x ∷ xs) last
   answered_first begun at records added after s query x xs last (program_refused refusal) is by told ends fine more of asked meant rest =
-      nothing_first at records added after s x xs last by.1 (ap settlement_in by.0) told ends fine more rest
+      refused_first at records added after s query x xs last meant by.1 (ap settlement_in by.0) told ends fine more rest
   answered_first begun at records added after s query x xs last (money_refused refusal) is by told ends fine more of asked meant rest =
-      nothing_first at records added after s x xs last by.1 (ap settlement_in by.0) told ends fine more rest
-  answered_first begun at records added after s query x xs last (granted asking grant) is by told ends fine more of asked meant rest =
-      let n : ℕ = grant.number in
-      let stepped : IsStep owner (draws o) found (earlier ++ s.programs) records query n by.0 (records ++ added)
-      = subst (λ (rs : List Record). IsStep owner (draws o) found (earlier ++ s.programs) records query n by.0 (records ++ rs)) (sym by.3)
-      (step owner (draws o) found begun (earlier ++ s.programs) records fine.well query of asking grant by.0 is by.1) in
-      let together : (earlier ++ s.programs) ++ query.program ∷ [] ≡ earlier ++ (s.programs ++ query.program ∷ []) = append_assoc earlier s.programs (query.program ∷ []) in
-      let then : IsFine (suc at) (records ++ added) (with_source s query.program at) = record {
-        well = subst (λ (ps : List (List ℕ)). IsWell owner (draws o) found ps (records ++ added)) together stepped.well;
-        counted = omega (arith, stepped.counted, stepped.number, fine.counted, length-append s.places (at ∷ []));
-        asked = asked_more house o owner spoken s at query.program fine.asked fine.before asked;
-        before = λ k place placed. elim (push_cases s.places at k place placed) [ inl before ↦ omega (arith, fine.before k place before.1) | inr last ↦ omega (arith, last.1) ];
-      } in
-      granted_first at records added s query x xs last n by.0
-      (λ w other is_other. let both : wants o owner (asks query) ≡ wants o w (asks other) = sym meant ∙ is_other in cc (both))
-      (subst (λ (ps : List (List ℕ)). IsGranted ps (records ++ added) query n by.0) together stepped.granted)
-      (omega (arith, stepped.number, fine.counted)) told (ap settlement_in by.2 ∙ outcome_said grant by.0)
-      (rest (records ++ added) (with_source s query.program at) then (subst (λ (rs : List Record). LeadExactly house draws o (first_new found) rs xs last) ends more))
+      refused_first at records added after s query x xs last meant by.1 (ap settlement_in by.0) told ends fine more rest
+  answered_first begun at records added after s query x xs last (granted asking grant) is (inl (outcome, settles, reply, all)) told ends fine more of asked meant rest =
+      granted_first begun at records after s query x xs last asking grant outcome is settles reply (told ∙ ap (placed_from (length records)) all) (ends ∙ ap (λ rs. records ++ rs) all) fine more of asked meant rest
+  answered_first begun at records added after s query x xs last (granted asking grant) is (inr (refusal, reply, inl none)) told ends fine more of asked meant rest =
+      refused_first at records added after s query x xs last meant none (ap settlement_in reply) told ends fine more rest
+  answered_first begun at records added after s query x xs last (granted asking grant) is (inr (refusal, reply, inr one)) told ends fine more of asked meant rest =
+      opened_first begun at records after s query x xs last asking grant refusal is reply (told ∙ ap (placed_from (length records)) one) (ends ∙ ap (λ rs. records ++ rs) one) fine more of asked meant rest
 
   wants_first : IsHistory owner.entry found → (at : ℕ) (records after : List Record) (s : Sources) (demand : Demand) (x : Exchange) (xs : List Exchange) (last : List Record) → MeetsExactly (draws o) (first_new found) owner demand records x after
       → LeadExactly house draws o (first_new found) after xs last → IsFine at records s
@@ -219,35 +278,41 @@ module _ (house : House) (draws : ℕ → ℕ → ℕ → ℕ) (spoken : List Tu
       → Runs (suc at) xs last → Ran at records s (x ∷ xs) last
   unfolding IsAnswered
   wants_first begun at records after s (asks query) x xs last (added, inr lack, told, ends) more fine sized stands only meant rest =
-      nothing_first at records added after s x xs last lack.1 (ap settlement_in lack.0) told ends fine more rest
+      refused_first at records added after s query x xs last meant lack.1 (ap settlement_in lack.0) told ends fine more rest
   wants_first begun at records after s (asks query) x xs last (added, inl by, told, ends) more fine sized stands only meant rest =
       answered_first begun at records added after s query x xs last by.0 by.1 by.2 told ends fine more
       (record { whole = only.whole; analyst = subst (λ (k : ℕ). query.analyst < k) (sym sized) only.analyst; epsilon = asked_in_range x.turn.line only.name query.program query.e only.written })
       (record { turn = x.turn; query = query; stands = stands; written = (only.name, query.e, only.written); comes_to = meant; asks = refl })
       meant rest
+  wants_first begun at records after s (recalls analyst number) x xs last (said, told, ends) more fine sized stands only meant rest =
+      let here : IsRecallBorneOut records analyst x.reply = subst (λ (r : Replied). IsRecallBorneOut records analyst r) (sym said) (recall_borne (first_new found) records number analyst) in
+      nothing_first at records after s (recalls analyst number) x xs last meant
+      (λ programs others later on_programs on n outcome is. settled_for_on records later analyst n outcome on (here n outcome is)) told ends fine more rest
+  wants_first begun at records after s balances x xs last (said, told, ends) more fine sized stands only meant rest =
+      nothing_first at records after s balances x xs last meant (λ programs others later on_programs on. tt) told ends fine more rest
 
   first_turn : IsHistory owner.entry found → (at : ℕ) (records : List Record) (s : Sources) (m : Meant) (x : Exchange) (xs : List Exchange) (last : List Record) → slice_get house.owners o ≡ Some owner
       → owner.entry.analysts ≡ length house.analysts → slice_get spoken at ≡ Some x.turn → AsksOnly house x.turn.line m → meant_at house x.turn ≡ m → IsFine at records s
       → TurnLeads house o (MeetsExactly (draws o) (first_new found)) m records x (λ after. LeadExactly house draws o (first_new found) after xs last)
       → Runs (suc at) xs last → Ran at records s (x ∷ xs) last
   first_turn begun at records s (says reply next) x xs last here sized stands only meant fine leads rest =
-      quiet_first at records s x xs last (λ programs w query is. absurd (let both : says reply next ≡ wants o w (asks query) = sym meant ∙ is in cc (both)))
+      quiet_first at records s x xs last (λ on programs w other is. absurd (let both : says reply next ≡ wants o w other = sym meant ∙ is in cc (both)))
       (rest records s (later_fine at records s fine) leads)
-  first_turn begun at records s (wants n asked (asks query)) x xs last here sized stands only meant fine leads rest = either (n == o) refl leads
+  first_turn begun at records s (wants n asked demand) x xs last here sized stands only meant fine leads rest = either (n == o) refl leads
     where
       either : (b : Bool) → (n == o) ≡ b
-          → MatchBool b ((after : List Record) × MeetsExactly (draws o) (first_new found) asked (asks query) records x after × LeadExactly house draws o (first_new found) after xs last) (LeadExactly house draws o (first_new found) records xs last)
+          → MatchBool b ((after : List Record) × MeetsExactly (draws o) (first_new found) asked demand records x after × LeadExactly house draws o (first_new found) after xs last) (LeadExactly house draws o (first_new found) records xs last)
           → Ran at records s (x ∷ xs) last
       either true hit by =
           let same : n ≡ o = eqb-true n o hit in
-          let both : Some asked ≡ Some owner = sym only.stands ∙ ap (λ k. slice_get house.owners k) same ∙ here in
+          let both : Some asked ≡ Some owner = sym (only_stands house x.turn.line n asked demand only) ∙ ap (λ k. slice_get house.owners k) same ∙ here in
           let ours : asked ≡ owner = cc in
-          let whole : wants n asked (asks query) ≡ wants o owner (asks query) = ap (λ k. wants k asked (asks query)) same ∙ ap (λ (w : Owner). wants o w (asks query)) ours in
-          wants_first begun at records by.0 s (asks query) x xs last (subst (λ (w : Owner). MeetsExactly (draws o) (first_new found) w (asks query) records x by.0) ours by.1) by.2 fine sized stands
+          let whole : wants n asked demand ≡ wants o owner demand = ap (λ k. wants k asked demand) same ∙ ap (λ (w : Owner). wants o w demand) ours in
+          wants_first begun at records by.0 s demand x xs last (subst (λ (w : Owner). MeetsExactly (draws o) (first_new found) w demand records x by.0) ours by.1) by.2 fine sized stands
           (subst (λ (m : Meant). AsksOnly house x.turn.line m) whole only) (meant ∙ whole) rest
       either false miss by =
           quiet_first at records s x xs last
-          (λ programs w other is. absurd (let both : wants n asked (asks query) ≡ wants o w (asks other) = sym meant ∙ is in let same : n ≡ o = cc in let hit = eq-eqb n o same in cc (hit, miss)))
+          (λ on programs w other is. absurd (let both : wants n asked demand ≡ wants o w other = sym meant ∙ is in let same : n ≡ o = cc in let hit = eq-eqb n o same in cc (hit, miss)))
           (rest records s (later_fine at records s fine) by)
 
   -- One owner's part in a run.

@@ -8,9 +8,10 @@ use Rattle.std.specs.List.{flat_map}
 use Rattle.std.proofs.lemmas.List.{map-append}
 use Rattle.std.proofs.lemmas.List.Concat.{flat_map-append}
 use mathlib.Core.Logic.{inl, inr}
-use Rattle.budget_core.specs.declared.records.Record.{Record}
-use Rattle.budget_core.specs.declared.records.Record.TheVariants.{Settle}
+use Rattle.journal_records.specs.declared.records.Record.{Record}
+use Rattle.journal_records.specs.declared.records.Record.TheVariants.{Settle}
 use Rattle.budget_core.specs.Counts.{reservations_of}
+use Rattle.budget_core.specs.Answers.{recalled_from, left_by}
 use Rattle.wire_lines.specs.Lines.{lines_of}
 use Rattle.wire_lines.specs.Reply.{Replied, reply_text}
 use Rattle.answer_path.specs.Owner.{Owner}
@@ -18,13 +19,16 @@ use Rattle.answer_path.specs.Query.{Query}
 use Rattle.answer_path.specs.Verdict.{program_refused, money_refused, granted}
 use Rattle.answer_path.specs.Answered.{granted_record, Told, IsAsked}
 use Rattle.answer_path.specs.Pass.{Pass, first_of_run, records_told}
+use Rattle.answer_path.specs.Standing.{recall_reply, left_reply, IsRecalled, IsBalance}
 use Rattle.answer_path.proofs.Alone.{alone_is_answered}
+use Rattle.budget_ledger.specs.Account.{Went}
+use Rattle.budget_ledger.proofs.Wents.{went_self, went_then}
 use Rattle.session_core.specs.House.{House}
-use Rattle.session_core.specs.Meant.{Demand, asks, Meant, says, wants}
+use Rattle.session_core.specs.Meant.{Demand, asks, recalls, balances, Meant, says, wants}
 use Rattle.session_core.specs.Turns.{Turn, meant_at, turns_of}
-use Rattle.session_core.specs.Exchanges.{Exchange, IsPlain, TurnLeads, Lead, is_of, told_of}
+use Rattle.session_core.specs.Exchanges.{Exchange, IsPlain, AskOthers, TurnLeads, Lead, is_of, told_of}
 use Rattle.session_core.specs.Transcript.{placed_from, MeetsExactly, LeadExactly, IsScriptWritten}
-use Rattle.session_core.specs.Served.{MeetsOnSome, AnswersOn}
+use Rattle.session_core.specs.Served.{MeetsOnSome, AnswersOn, ClosesBy}
 use Rattle.session_core.specs.Code.{turns_left, who_behind, no_pass, pass_at, seen_by, found_by, ArePasses, GoesOn, AreServed, AreAlone, AreFresh, HasServed, room_for_line, room_for_lines}
 use Rattle.session_core.proofs.Exchanges.{all_append, lead_append}
 use Rattle.session_core.proofs.Turning.{turns_first, turns_next}
@@ -55,7 +59,7 @@ unfolding IsAsked
 told_placed owner draws start query seen reply told after (g, begins, inl (program_refused refusal, is, (said, none, rest))) whole = none ∙ sym (ap (λ ts. placed_from (length seen) (records_told ts)) none)
 told_placed owner draws start query seen reply told after (g, begins, inl (money_refused refusal, is, (said, none, rest))) whole = none ∙ sym (ap (λ ts. placed_from (length seen) (records_told ts)) none)
 told_placed owner draws start query seen reply told after (g, begins, inr (said, none, rest)) whole = none ∙ sym (ap (λ ts. placed_from (length seen) (records_told ts)) none)
-told_placed owner draws start query seen reply told after (g, begins, inl (granted asking grant, is, two)) whole =
+told_placed owner draws start query seen reply told after (g, begins, inl (granted asking grant, is, inl two)) whole =
     let r : Record = granted_record asking grant in
     let s : Record = Settle grant.number two.outcome in
     let above = sym (ap length begins.1) ∙ length-append seen begins.0 in
@@ -67,16 +71,39 @@ told_placed owner draws start query seen reply told after (g, begins, inl (grant
     let high : length two.u ≡ length seen + 1 = omega (arith, above, further, one, ends, all) in
     two.told_is ∙ ap (λ (k : ℕ). (k, r) ∷ (length two.u, s) ∷ []) low ∙ ap (λ (k : ℕ). (length seen, r) ∷ (k, s) ∷ []) high
     ∙ sym (ap (λ ts. placed_from (length seen) (records_told ts)) two.told_is)
+told_placed owner draws start query seen reply told after (g, begins, inl (granted asking grant, is, inr (refusal, said, inl (none, rest)))) whole = none ∙ sym (ap (λ ts. placed_from (length seen) (records_told ts)) none)
+told_placed owner draws start query seen reply told after (g, begins, inl (granted asking grant, is, inr (refusal, said, inr (told_one, on)))) whole =
+    let r : Record = granted_record asking grant in
+    let above = sym (ap length begins.1) ∙ length-append seen begins.0 in
+    let further = sym (ap length on.1) ∙ length-append (g ++ r ∷ []) on.0 in
+    let one = length-append g (r ∷ []) in
+    let all = ap length (whole ∙ ap (λ ts. seen ++ records_told ts) told_one) ∙ length-append seen (r ∷ []) in
+    let low : length g ≡ length seen = omega (arith, above, further, one, all) in
+    told_one ∙ ap (λ (k : ℕ). (k, r) ∷ []) low ∙ sym (ap (λ ts. placed_from (length seen) (records_told ts)) told_one)
+
+nothing_more : (seen : List Record) (told : List Told) (after : List Record) → told ≡ [] → after ≡ seen ++ records_told told → after ≡ seen
+nothing_more seen told after none whole = whole ∙ ap (λ ts. seen ++ records_told ts) none ∙ append-nil seen
 
 -- where nothing came in between, a demand is met on just what was seen
-met_alone : (draws : ℕ → ℕ → ℕ) (start : ℕ) (owner : Owner) (query : Query) (seen : List Record) (x : Exchange) (after : List Record) → MeetsOnSome draws start owner (asks query) seen x after
-    → after ≡ seen ++ records_told x.told → MeetsExactly draws start owner (asks query) seen x after
-met_alone draws start owner query seen x after asked whole =
+met_alone : (draws : ℕ → ℕ → ℕ) (start : ℕ) (owner : Owner) (demand : Demand) (seen : List Record) (x : Exchange) (after : List Record) → MeetsOnSome draws start owner demand seen x after
+    → after ≡ seen ++ records_told x.told → MeetsExactly draws start owner demand seen x after
+unfolding IsRecalled IsBalance
+met_alone draws start owner (asks query) seen x after asked whole =
     (records_told x.told, alone_is_answered owner draws start query seen x.reply x.told after asked whole, told_placed owner draws start query seen x.reply x.told after asked whole, whole)
+met_alone draws start owner (recalls analyst number) seen x after ((g, begins, said, is), none) whole =
+    let same : after ≡ seen = nothing_more seen x.told after none whole in
+    (said ∙ ap (λ (rs : List Record). recall_reply number (recalled_from start rs number analyst)) (sym is ∙ same), none, same)
+met_alone draws start owner balances seen x after ((g, begins, said, is), none) whole =
+    let same : after ≡ seen = nothing_more seen x.told after none whole in
+    (said ∙ ap (λ (rs : List Record). left_reply (left_by owner.entry rs)) (sym is ∙ same), none, same)
 
 module _ (house : House) (draws : ℕ → ℕ → ℕ → ℕ) where
   told_append : (o : ℕ) (xs ys : List Exchange) → told_of house o (xs ++ ys) ≡ told_of house o xs ++ told_of house o ys
   told_append o xs ys = flat_map-append (λ (x : Exchange). if is_of o (meant_at house x.turn) then x.told else []) xs ys
+
+  others_split : (o : ℕ) (xs ys : List Exchange) → AskOthers house o (xs ++ ys) → AskOthers house o xs × AskOthers house o ys
+  others_split o [] ys others = (tt, others)
+  others_split o (x ∷ xs) ys others = let rest = others_split o xs ys others.1 in ((others.0, rest.0), rest.1)
 
   same_start : (a b : Pass) → b.found ≡ a.found → first_of_run b ≡ first_of_run a
   same_start a b is = ap (λ rs. length (reservations_of rs)) is
@@ -88,6 +115,9 @@ module _ (house : House) (draws : ℕ → ℕ → ℕ → ℕ) where
     own = g.own ∙ ap (λ ts. ts ++ told_of house o ys) f.own ∙ append_assoc a.own (told_of house o xs) (told_of house o ys) ∙ ap (λ ts. a.own ++ ts) (sym (told_append o xs ys));
     answers = lead_append house o (MeetsOnSome (draws o) (first_of_run a)) a.seen xs b.seen ys c.seen f.answers
         (subst (λ (k : ℕ). AnswersOn house draws o k b.seen ys c.seen) (same_start a b f.found) g.answers);
+    went = went_then a.seen b.seen c.seen a.storage b.storage c.storage f.went g.went;
+    closes = lead_append house o (ClosesBy (draws o)) a.storage.closed xs b.storage.closed ys c.storage.closed f.closes g.closes;
+    still = λ others. let both = others_split o xs ys others in g.still both.1 ∙ f.still both.0;
   }
 
   -- One run of lines after another.
@@ -104,7 +134,19 @@ module _ (house : House) (draws : ℕ → ℕ → ℕ → ℕ) where
       (subst (λ (k : ℕ). LeadExactly house draws o k (pass_at b o).seen ys (pass_at c o).seen) (same_start (pass_at a o) (pass_at b o) (f.owners o owner at).found) (h o owner at))
 
   none_served : (a : List Pass) → AreServed house draws [] a a
-  none_served a = record { each_has = refl; plain = tt; owners = λ o owner at. record { entry = refl; found = refl; own = sym (append-nil (pass_at a o).own); answers = refl } }
+  none_served a = record {
+    each_has = refl;
+    plain = tt;
+    owners = λ o owner at. record {
+      entry = refl;
+      found = refl;
+      own = sym (append-nil (pass_at a o).own);
+      answers = refl;
+      went = went_self (pass_at a o).seen (pass_at a o).storage;
+      closes = refl;
+      still = λ others. refl;
+    };
+  }
 
   -- a line that asks nobody
   quiet_told : (b : Bool) (told : List Told) → told ≡ [] → (if b then told else []) ++ [] ≡ []
@@ -120,6 +162,9 @@ module _ (house : House) (draws : ℕ → ℕ → ℕ → ℕ) where
       found = refl;
       own = sym (ap (λ ts. (pass_at a o).own ++ ts) (quiet_told (is_of o (meant_at house x.turn)) x.told none) ∙ append-nil (pass_at a o).own);
       answers = subst (λ (m : Meant). TurnLeads house o (MeetsOnSome (draws o) (first_of_run (pass_at a o))) m (pass_at a o).seen x (λ after. (pass_at a o).seen ≡ after)) (sym is) refl;
+      went = went_self (pass_at a o).seen (pass_at a o).storage;
+      closes = subst (λ (m : Meant). TurnLeads house o (ClosesBy (draws o)) m (pass_at a o).storage.closed x (λ after. (pass_at a o).storage.closed ≡ after)) (sym is) refl;
+      still = λ others. refl;
     };
   }
 
@@ -127,9 +172,9 @@ module _ (house : House) (draws : ℕ → ℕ → ℕ → ℕ) where
   alone_plain x reply next a is = λ o owner at.
       subst (λ (m : Meant). TurnLeads house o (MeetsExactly (draws o) (first_of_run (pass_at a o))) m (pass_at a o).seen x (λ after. (pass_at a o).seen ≡ after)) (sym is) refl
 
--- a line that asks an owner, whose pass goes on
-module _ (house : House) (draws : ℕ → ℕ → ℕ → ℕ) (x : Exchange) (query : Query) (n : ℕ) (owner : Owner) (before : List Pass) (p q : Pass)
-    (is : meant_at house x.turn ≡ wants n owner (asks query)) (within : n < length before) (old : p ≡ pass_at before n) where
+-- a line that makes a demand of an owner, whose pass goes on
+module _ (house : House) (draws : ℕ → ℕ → ℕ → ℕ) (x : Exchange) (demand : Demand) (n : ℕ) (owner : Owner) (before : List Pass) (p q : Pass)
+    (is : meant_at house x.turn ≡ wants n owner demand) (within : n < length before) (old : p ≡ pass_at before n) where
   same_number : (n == n) ≡ true
   same_number = eq-eqb n n refl
 
@@ -140,20 +185,20 @@ module _ (house : House) (draws : ℕ → ℕ → ℕ → ℕ) (x : Exchange) (q
   told_others o other = ap (λ (m : Meant). (if is_of o m then x.told else []) ++ []) is ∙ ap (λ (b : Bool). (if b then x.told else []) ++ []) other
 
   -- what the turn leads to, of the owner that it asks and of another
-  leads_asked : (M : Owner → Demand → List Record → Exchange → List Record → Type 0) (seen last : List Record) → ((after : List Record) × M owner (asks query) seen x after × (last ≡ after)) → Lead house n M seen (x ∷ []) last
-  leads_asked M seen last h =
+  leads_asked : {S : Type 0} (M : Owner → Demand → S → Exchange → S → Type 0) (seen last : S) → ((after : S) × M owner demand seen x after × (last ≡ after)) → Lead house n M seen (x ∷ []) last
+  leads_asked {S} M seen last h =
       subst (λ (m : Meant). TurnLeads house n M m seen x (λ after. last ≡ after)) (sym is)
-      (subst (λ (b : Bool). MatchBool b ((after : List Record) × M owner (asks query) seen x after × (last ≡ after)) (last ≡ seen)) (sym same_number) h)
+      (subst (λ (b : Bool). MatchBool b ((after : S) × M owner demand seen x after × (last ≡ after)) (last ≡ seen)) (sym same_number) h)
 
-  asked_led : (M : Owner → Demand → List Record → Exchange → List Record → Type 0) (seen last : List Record) → Lead house n M seen (x ∷ []) last → (after : List Record) × M owner (asks query) seen x after × (last ≡ after)
-  asked_led M seen last h =
-      subst (λ (b : Bool). MatchBool b ((after : List Record) × M owner (asks query) seen x after × (last ≡ after)) (last ≡ seen)) same_number
+  asked_led : {S : Type 0} (M : Owner → Demand → S → Exchange → S → Type 0) (seen last : S) → Lead house n M seen (x ∷ []) last → (after : S) × M owner demand seen x after × (last ≡ after)
+  asked_led {S} M seen last h =
+      subst (λ (b : Bool). MatchBool b ((after : S) × M owner demand seen x after × (last ≡ after)) (last ≡ seen)) same_number
       (subst (λ (m : Meant). TurnLeads house n M m seen x (λ after. last ≡ after)) is h)
 
-  leads_others : (M : Owner → Demand → List Record → Exchange → List Record → Type 0) (o : ℕ) (seen : List Record) → (n == o) ≡ false → Lead house o M seen (x ∷ []) seen
-  leads_others M o seen other =
+  leads_others : {S : Type 0} (M : Owner → Demand → S → Exchange → S → Type 0) (o : ℕ) (seen : S) → (n == o) ≡ false → Lead house o M seen (x ∷ []) seen
+  leads_others {S} M o seen other =
       subst (λ (m : Meant). TurnLeads house o M m seen x (λ after. seen ≡ after)) (sym is)
-      (subst (λ (b : Bool). MatchBool b ((after : List Record) × M owner (asks query) seen x after × (seen ≡ after)) (seen ≡ seen)) (sym other) refl)
+      (subst (λ (b : Bool). MatchBool b ((after : S) × M owner demand seen x after × (seen ≡ after)) (seen ≡ seen)) (sym other) refl)
 
   -- the passes afterwards: the one of the owner that is asked, and the others as they were
   pass_asked : pass_at (set before n q) n ≡ q
@@ -162,6 +207,10 @@ module _ (house : House) (draws : ℕ → ℕ → ℕ → ℕ) (x : Exchange) (q
   pass_others : (o : ℕ) → (n == o) ≡ false → pass_at (set before n q) o ≡ pass_at before o
   pass_others o other = get_or-set_other before n o q no_pass (λ same. absurd (cc (other, eq-eqb n o (sym same))))
 
+  -- the line doesn't ask others alone
+  asks_this : AskOthers house n (x ∷ []) → ⊥
+  asks_this others = let hit : is_of n (meant_at house x.turn) ≡ (n == n) = ap (is_of n) is in cc (others.0, hit, same_number)
+
   -- Another owner's pass stays as it was.
   goes_others : (o : ℕ) (a : Pass) → (n == o) ≡ false → GoesOn house draws o (x ∷ []) a a
   goes_others o a other = record {
@@ -169,11 +218,14 @@ module _ (house : House) (draws : ℕ → ℕ → ℕ → ℕ) (x : Exchange) (q
     found = refl;
     own = sym (ap (λ ts. a.own ++ ts) (told_others o other) ∙ append-nil a.own);
     answers = leads_others (MeetsOnSome (draws o) (first_of_run a)) o a.seen other;
+    went = went_self a.seen a.storage;
+    closes = leads_others (ClosesBy (draws o)) o a.storage.closed other;
+    still = λ others. refl;
   }
 
-  pub served_asks : IsAsked owner (draws n) (first_of_run p) query p.seen x.reply x.told q.seen → q.own ≡ p.own ++ x.told → q.entry ≡ p.entry → q.found ≡ p.found
-      → AreServed house draws (x ∷ []) before (set before n q)
-  served_asks asked own entry found = record {
+  pub served_wants : MeetsOnSome (draws n) (first_of_run p) owner demand p.seen x q.seen → q.own ≡ p.own ++ x.told → q.entry ≡ p.entry → q.found ≡ p.found
+      → Went p.seen q.seen p.storage q.storage → ClosesBy (draws n) owner demand p.storage.closed x q.storage.closed → AreServed house draws (x ∷ []) before (set before n q)
+  served_wants met own entry found went closes = record {
     each_has = length-set before n q;
     plain = (subst (λ (m : Meant). IsPlain m x) (sym is) tt, tt);
     owners = λ o other at. each o (n == o) refl;
@@ -184,7 +236,10 @@ module _ (house : House) (draws : ℕ → ℕ → ℕ → ℕ) (x : Exchange) (q
         entry = entry;
         found = found;
         own = own ∙ ap (λ ts. p.own ++ ts) (sym told_asks);
-        answers = leads_asked (MeetsOnSome (draws n) (first_of_run p)) p.seen q.seen (q.seen, asked, refl);
+        answers = leads_asked (MeetsOnSome (draws n) (first_of_run p)) p.seen q.seen (q.seen, met, refl);
+        went = went;
+        closes = leads_asked (ClosesBy (draws n)) p.storage.closed q.storage.closed (q.storage.closed, closes, refl);
+        still = λ others. absurd (asks_this others);
       }
 
       each : (o : ℕ) (b : Bool) → (n == o) ≡ b → GoesOn house draws o (x ∷ []) (pass_at before o) (pass_at (set before n q) o)
@@ -195,9 +250,9 @@ module _ (house : House) (draws : ℕ → ℕ → ℕ → ℕ) (x : Exchange) (q
           (subst (λ (r : Pass). GoesOn house draws n (x ∷ []) p r) (sym pass_asked) goes_asked))
       each o false miss = subst (λ (r : Pass). GoesOn house draws o (x ∷ []) (pass_at before o) r) (sym (pass_others o miss)) (goes_others o (pass_at before o) miss)
 
-  pub alone_asks : slice_get house.owners n ≡ Some owner → AreServed house draws (x ∷ []) before (set before n q)
+  pub alone_wants : slice_get house.owners n ≡ Some owner → AreServed house draws (x ∷ []) before (set before n q)
       → ((told : List Told) → q.own ≡ p.own ++ told → q.seen ≡ p.seen ++ records_told told) → AreAlone house draws (x ∷ []) before (set before n q)
-  alone_asks stands served whole = λ o other at. each o (n == o) refl
+  alone_wants stands served whole = λ o other at. each o (n == o) refl
     where
       goes : GoesOn house draws n (x ∷ []) p q
       goes =
@@ -208,7 +263,7 @@ module _ (house : House) (draws : ℕ → ℕ → ℕ → ℕ) (x : Exchange) (q
       leads =
           let hit = asked_led (MeetsOnSome (draws n) (first_of_run p)) p.seen q.seen goes.answers in
           let ends : hit.0 ≡ p.seen ++ records_told x.told = sym hit.2 ∙ whole x.told (goes.own ∙ ap (λ ts. p.own ++ ts) told_asks) in
-          leads_asked (MeetsExactly (draws n) (first_of_run p)) p.seen q.seen (hit.0, met_alone (draws n) (first_of_run p) owner query p.seen x hit.0 hit.1 ends, hit.2)
+          leads_asked (MeetsExactly (draws n) (first_of_run p)) p.seen q.seen (hit.0, met_alone (draws n) (first_of_run p) owner demand p.seen x hit.0 hit.1 ends, hit.2)
 
       each : (o : ℕ) (b : Bool) → (n == o) ≡ b → LeadExactly house draws o (first_of_run (pass_at before o)) (pass_at before o).seen (x ∷ []) (pass_at (set before n q) o).seen
       each o true hit =
@@ -219,6 +274,23 @@ module _ (house : House) (draws : ℕ → ℕ → ℕ → ℕ) (x : Exchange) (q
       each o false miss =
           subst (λ (r : Pass). LeadExactly house draws o (first_of_run (pass_at before o)) (pass_at before o).seen (x ∷ []) r.seen) (sym (pass_others o miss))
           (leads_others (MeetsExactly (draws o) (first_of_run (pass_at before o))) o (pass_at before o).seen miss)
+
+-- a pass that stays as it was added nothing
+none_behind : {X : Type 0} (xs ys : List X) → xs ≡ xs ++ ys → ys ≡ []
+none_behind xs [] is = refl
+none_behind xs (y ∷ ys) is = absurd (omega (arith, ap length is ∙ length-append xs (y ∷ ys)))
+
+pub added_nothing : (p q : Pass) → q ≡ p → (told : List Told) → q.own ≡ p.own ++ told → q.seen ≡ p.seen ++ records_told told
+added_nothing p q same told own =
+    let none : told ≡ [] = none_behind p.own told (sym (ap (λ (r : Pass). r.own) same) ∙ own) in
+    ap (λ (r : Pass). r.seen) same ∙ sym (append-nil p.seen) ∙ sym (ap (λ ts. p.seen ++ records_told ts) none)
+
+-- .. and went on by nothing
+pub went_nowhere : (p q : Pass) → q ≡ p → Went p.seen q.seen p.storage q.storage
+went_nowhere p q same = subst (λ (r : Pass). Went p.seen r.seen p.storage r.storage) (sym same) (went_self p.seen p.storage)
+
+pub own_nowhere : (p q : Pass) → q ≡ p → q.own ≡ p.own ++ []
+own_nowhere p q same = ap (λ (r : Pass). r.own) same ∙ sym (append-nil p.own)
 
 -- a script that is answered up to a line
 pub record IsUpTo (house : House) (draws : ℕ → ℕ → ℕ → ℕ) (script : List ℕ) (who : Option ℕ) (lines : List (List ℕ)) (out : List ℕ) (before now : List Pass) : Type 0 where
@@ -253,8 +325,9 @@ module _ (house : House) (draws : ℕ → ℕ → ℕ → ℕ) (script : List �
   ended who lines out now up none =
       sym (append-nil (map (λ (x : Exchange). x.turn) up.exchanges)) ∙ ap (λ ls. map (λ (x : Exchange). x.turn) up.exchanges ++ turns_left house who ls) (sym none) ∙ up.turns
 
-  pub up_to_served : (who : Option ℕ) (lines : List (List ℕ)) (out : List ℕ) (now : List Pass) → IsUpTo house draws script who lines out before now → lines ≡ [] → HasServed house draws script out before now
-  up_to_served who lines out now up none = record { exchanges = up.exchanges; turns = ended who lines out now up none; written = up.written; served = up.served }
+  pub up_to_both : (who : Option ℕ) (lines : List (List ℕ)) (out : List ℕ) (now : List Pass) → IsUpTo house draws script who lines out before now → lines ≡ []
+      → (h : HasServed house draws script out before now) × AreAlone house draws h.exchanges before now
+  up_to_both who lines out now up none = (record { exchanges = up.exchanges; turns = ended who lines out now up none; written = up.written; served = up.served }, up.alone)
 
   pub up_to_written : (who : Option ℕ) (lines : List (List ℕ)) (out : List ℕ) (now : List Pass) → IsUpTo house draws script who lines out before now → lines ≡ [] → AreFresh house before
       → IsScriptWritten house draws (found_by before) script out (seen_by now)

@@ -5,7 +5,7 @@ use Rattle.std.specs.Fmt.{digits}
 use Rattle.wire_lines.specs.Lines.{space}
 use Rattle.wire_lines.specs.Reply.{ended, refused, reply_text}
 use Rattle.wire_lines.specs.Refusal.{by_line, IsFormRefusal}
-use Rattle.wire_lines.specs.Request.{Asked, hello, ask, request_of}
+use Rattle.wire_lines.specs.Request.{Asked, hello, ask, recall, left, request_of}
 use Rattle.wire_lines.specs.declared.refusal.LineRefusal.{LineRefusal}
 use Rattle.wire_lines.specs.declared.refusal.LineRefusal.TheVariants.{Malformed, TooLong, Unknown, NoEpsilon, NoHello}
 use Rattle.wire_lines.proofs.Requests.{grammar_from}
@@ -52,6 +52,16 @@ pub ask_long : (line owner program : List ℕ) (epsilon : Option ℕ) → reques
 ask_long line owner program epsilon reads few =
     let written = (grammar_from line (ask owner epsilon program) reads).1 in
     omega (arith, long_ask line (owner ++ (space ∷ written.0) ++ (space ∷ program)) written.4 (two_long owner written.0 program))
+
+pub recall_long : (line owner : List ℕ) (number : ℕ) → request_of line ≡ Ok (recall owner number) → length line < 6 → ⊥
+recall_long line owner number reads few =
+    let written = (grammar_from line (recall owner number) reads).1 in
+    omega (arith, ap length written.3 ∙ length-append (codes "recall ") (owner ++ (space ∷ written.0)))
+
+pub left_long : (line owner : List ℕ) → request_of line ≡ Ok (left owner) → length line < 6 → ⊥
+left_long line owner reads few =
+    let written = (grammar_from line (left owner) reads).1 in
+    omega (arith, ap length written.1 ∙ length-append (codes "left ") owner, written.0.0)
 
 -- what a line comes to, by how it is read
 pub meant_of : (house : House) (who : Option ℕ) (line : List ℕ) (request : Result Asked LineRefusal) → request_of line ≡ request → meant_by_request house who request ≡ meant_by house who line

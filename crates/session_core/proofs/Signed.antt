@@ -13,9 +13,9 @@ use Rattle.fz_ast.specs.Signature.{IsFresh, IsSignature}
 use Rattle.fz_ast.proofs.RowTypes.{row_flat, row_formed}
 use Rattle.metric_values.proofs.Elements.{text_is}
 use Rattle.table_store.specs.Schema.{column_kind}
-use Rattle.owner_catalog.specs.Entries.{TableEntry, OwnerEntry, table_name, table_type_of, signature_of}
-use Rattle.owner_catalog.specs.Forms.{is_name, is_reserved, is_table_name}
-use Rattle.owner_catalog.specs.Lawful.{IsTable, IsOwner}
+use Rattle.owner_catalog.specs.Entries.{TableEntry, OwnerEntry, table_name, table_type_of, owner_signature}
+use Rattle.owner_catalog.specs.Forms.{is_catalog_name, is_reserved, is_table_name}
+use Rattle.owner_catalog.specs.Lawful.{IsTableEntry, IsOwner}
 
 column_limits : (c : Column) → TypeLimits (column_type c)
 column_limits Num = tt
@@ -43,15 +43,15 @@ fresh name [] h = tt
 fresh name (table ∷ tables) h = (other_way name table.name h.0, fresh name tables h.1)
 
 -- a table's name is a name, and short
-pub table_named : (table : TableEntry) → IsTable table → is_name table.name ≡ true
+pub table_named : (table : TableEntry) → IsTableEntry table → is_catalog_name table.name ≡ true
 unfolding is_table_name
-table_named table of = (and_parts (is_name table.name) (not (is_reserved table.name)) of.name).0
+table_named table of = (and_parts (is_catalog_name table.name) (not (is_reserved table.name)) of.name).0
 
-short : (name : List ℕ) → is_name name ≡ true → length name ≤ 32
-unfolding is_name
+short : (name : List ℕ) → is_catalog_name name ≡ true → length name ≤ 32
+unfolding is_catalog_name
 short name named = leb-true (length name) 32 (and_parts (begins is_letter name && every_byte is_name_byte name) (nat_le (length name) 32) named).1
 
-signed : (tables : List TableEntry) → AllByRecursion IsTable tables → IsDistinct bytes_eq (map table_name tables) → IsSignature (map table_type_of tables)
+signed : (tables : List TableEntry) → AllByRecursion IsTableEntry tables → IsDistinct bytes_eq (map table_name tables) → IsSignature (map table_type_of tables)
 unfolding IsDistinct
 signed [] of distinct = tt
 signed (table ∷ tables) of distinct = (
@@ -64,5 +64,5 @@ signed (table ∷ tables) of distinct = (
 )
 
 -- An owner's tables are a signature.
-pub signature_signed : (owner : OwnerEntry) → IsOwner owner → IsSignature (signature_of owner)
-signature_signed owner of = signed owner.tables (recursion_from_All IsTable owner.tables of.tables) of.distinct_tables
+pub signature_signed : (owner : OwnerEntry) → IsOwner owner → IsSignature (owner_signature owner)
+signature_signed owner of = signed owner.tables (recursion_from_All IsTableEntry owner.tables of.tables) of.distinct_tables

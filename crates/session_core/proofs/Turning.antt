@@ -3,11 +3,11 @@ use Rattle.std.proofs.Common.{◌≡◌, ℕ, Bool, true, false, cond, List, [],
 use Rattle.std.specs.Prelude.{Result, Ok, Err}
 use Rattle.std.specs.List.{flat_map, onto_first}
 use Rattle.wire_lines.specs.Lines.{lines_of}
-use Rattle.wire_lines.specs.Request.{Asked, hello, ask, bye, request_of}
+use Rattle.wire_lines.specs.Request.{Asked, hello, ask, recall, left, bye, request_of}
 use Rattle.wire_lines.specs.declared.refusal.LineRefusal.{LineRefusal}
 use Rattle.answer_path.specs.Owner.{Owner}
 use Rattle.session_core.specs.House.{House, analyst_named, owner_named}
-use Rattle.session_core.specs.Meant.{Meant, says, wants, meant_by, meant_by_request, meant_by_hello, meant_by_ask, next_who}
+use Rattle.session_core.specs.Meant.{Meant, says, wants, meant_by, meant_by_request, meant_by_hello, meant_by_ask, meant_by_recall, meant_by_left, next_who}
 use Rattle.session_core.specs.Turns.{Turn, session_turns, blocks_of, turns_of, is_bye, is_bye_request}
 use Rattle.session_core.specs.Code.{turns_behind, turns_left, who_behind, is_ended}
 
@@ -25,10 +25,21 @@ ask_says who (Some found) None program = refl
 ask_says None (Some found) (Some e) program = refl
 ask_says (Some analyst) (Some found) (Some e) program = refl
 
+recall_says : (who : Option ℕ) (found : Option (ℕ × Owner)) (number : ℕ) → says_bye (meant_by_recall who found number) ≡ false
+recall_says who None number = refl
+recall_says None (Some found) number = refl
+recall_says (Some analyst) (Some found) number = refl
+
+left_says : (who : Option ℕ) (found : Option (ℕ × Owner)) → says_bye (meant_by_left who found) ≡ false
+left_says who None = refl
+left_says who (Some found) = refl
+
 request_says : (house : House) (who : Option ℕ) (request : Result Asked LineRefusal) → says_bye (meant_by_request house who request) ≡ is_bye_request request
 request_says house who (Err refusal) = refl
 request_says house who (Ok (hello name)) = hello_says house who name (analyst_named house name)
 request_says house who (Ok (ask name epsilon program)) = ask_says who (owner_named house name) epsilon program
+request_says house who (Ok (recall name number)) = recall_says who (owner_named house name) number
+request_says house who (Ok (left name)) = left_says who (owner_named house name)
 request_says house who (Ok bye) = refl
 
 bye_says : (house : House) (who : Option ℕ) (line : List ℕ) → says_bye (meant_by house who line) ≡ is_bye line

@@ -2,20 +2,22 @@
 use Rattle.std.specs.Prelude.{◌≡◌, ℕ, ◌<◌, ◌≤◌, nat_lt, List, [], ◌∷◌, length, ◌++◌, Option, Some, None, ⊤, Bool, true, false}
 use Rattle.std.specs.Prelude.{if◌then◌else◌, get_or, map, option_map, slice_get, sum_by}
 use Rattle.std.specs.List.{flat_map}
+use Rattle.journal_records.specs.declared.records.Header.{Header}
 use Rattle.budget_core.specs.Entries.{Entry}
-use Rattle.wire_lines.specs.Reply.{Replied, greeted, answered, ended, refused, replied, reply_text}
+use Rattle.budget_ledger.specs.Account.{Storage, Went}
+use Rattle.wire_lines.specs.Reply.{Replied, greeted, answered, recalled, remaining, ended, refused, replied, reply_text}
 use Rattle.answer_path.specs.Owner.{Owner}
 use Rattle.answer_path.specs.Answered.{Told}
 use Rattle.answer_path.specs.Pass.{Pass, first_of_run}
 use Rattle.answer_path.specs.Code.{query_of, IsQueryOf}
 use Rattle.session_core.specs.House.{House}
-use Rattle.session_core.specs.Meant.{Meant, says, wants, asks, meant_by, next_who}
+use Rattle.session_core.specs.Meant.{Meant, says, wants, asks, recalls, balances, meant_by, next_who}
 use Rattle.session_core.specs.Turns.{Turn, session_turns, blocks_of, is_bye, turns_of}
-use Rattle.session_core.specs.Exchanges.{Exchange, ArePlain, told_of}
-use Rattle.session_core.specs.Served.{AnswersOn}
+use Rattle.session_core.specs.Exchanges.{Exchange, ArePlain, AskOthers, told_of}
+use Rattle.session_core.specs.Served.{AnswersOn, ClosesOn}
 use Rattle.session_core.specs.Transcript.{Journals, LeadExactly}
 use Rattle.session_core.specs.declared.line.Meaning.{Meaning}
-use Rattle.session_core.specs.declared.line.Meaning.TheVariants.{Says, Asks}
+use Rattle.session_core.specs.declared.line.Meaning.TheVariants.{Says, Asks, Recalls, Balances}
 
 abbrev pub no_entry : Entry
 no_entry = record { budget = 0; capacity = 0; analysts = 0; keys = [] }
@@ -35,21 +37,27 @@ numbered house found = option_map (λ o. (o, owner_at house o)) found
 abbrev pub meaning_of : House → Meaning → Meant
 meaning_of house (Says reply who) = says (replied reply) who
 meaning_of house (Asks query) = wants query.owner (owner_at house query.owner) (asks (query_of query))
+meaning_of house (Recalls owner analyst number) = wants owner (owner_at house owner) (recalls analyst number)
+meaning_of house (Balances owner) = wants owner (owner_at house owner) balances
 
 -- who speaks is an analyst of the house
 abbrev pub IsAnalyst : House → Option ℕ → Type 0
 IsAnalyst house None = ⊤
 IsAnalyst house (Some analyst) = analyst < length house.analysts
 
--- a query is of one of the house's owners, and of that owner's entry
+-- a demand is of one of the house's owners, and a query of that owner's entry
 abbrev pub IsMeaningIn : House → Meaning → Type 0
 IsMeaningIn house (Says reply who) = IsAnalyst house who
 IsMeaningIn house (Asks query) = (query.owner < length house.owners) × IsQueryOf (owner_at house query.owner).entry (query_of query)
+IsMeaningIn house (Recalls owner analyst number) = owner < length house.owners
+IsMeaningIn house (Balances owner) = owner < length house.owners
 
--- as short a reply as any line may have, and no query
+-- as short a reply as any line may have, and no demand
 abbrev pub IsShort : Meaning → Type 0
 IsShort (Says reply who) = length (reply_text (replied reply)) ≤ 8
 IsShort (Asks query) = ⊥
+IsShort (Recalls owner analyst number) = ⊥
+IsShort (Balances owner) = ⊥
 
 -- the turns that are left in a script, where this analyst speaks at the first
 abbrev pub turns_behind : House → Option ℕ → List (List (List ℕ)) → List Turn
@@ -66,6 +74,8 @@ who_behind house who line = if is_bye line then None else next_who who (meant_by
 abbrev pub is_ended : Replied → Bool
 is_ended (greeted name) = false
 is_ended (answered n value taken) = false
+is_ended (recalled n standing seen) = false
+is_ended (remaining spent budget seen) = false
 is_ended ended = true
 is_ended (refused refusal) = false
 
@@ -73,8 +83,14 @@ is_ended (refused refusal) = false
 abbrev pub one_line : (who : Option ℕ) → (line : List ℕ) → Replied → List Told → List Exchange
 one_line who line reply told = record { turn = record { who = who; line = line }; reply = reply; told = told } ∷ []
 
+abbrev no_header : Header
+no_header = record { owner = 0; budget = 0; capacity = 0; digest = [] }
+
+abbrev no_storage : Storage
+no_storage = record { header = no_header; trace = None; faults = 0; closed = None }
+
 abbrev pub no_pass : Pass
-no_pass = record { entry = no_entry; found = []; seen = []; own = [] }
+no_pass = record { entry = no_entry; found = []; seen = []; own = []; storage = no_storage }
 
 -- the pass of the owner of this number, among one pass for each owner
 abbrev pub pass_at : List Pass → ℕ → Pass
@@ -93,12 +109,17 @@ pub record ArePasses (house : House) (passes : List Pass) : Type 0 where
   pub entries : (o : ℕ) (owner : Owner) → slice_get house.owners o ≡ Some owner → (pass_at passes o).entry ≡ owner.entry
 
 -- One owner's pass goes on by some exchanges: each of its turns has the stated reply on some records that begin with what
--- the pass had seen, and what they added is the pass's own.
+-- the pass had seen, and what they added is the pass's own. A stop at any moment leaves some first ones of the records, or one more
+-- where a record wasn't wholly added; and the book is closed as the replies say.
 pub record GoesOn (house : House) (draws : ℕ → ℕ → ℕ → ℕ) (o : ℕ) (xs : List Exchange) (before after : Pass) : Type 0 where
   pub entry : after.entry ≡ before.entry
   pub found : after.found ≡ before.found
   pub own : after.own ≡ before.own ++ told_of house o xs
   pub answers : AnswersOn house draws o (first_of_run before) before.seen xs after.seen
+  pub went : Went before.seen after.seen before.storage after.storage
+  pub closes : ClosesOn house draws o before.storage.closed xs after.storage.closed
+  -- lines that ask others leave the owner's disk alone
+  pub still : AskOthers house o xs → after.storage ≡ before.storage
 
 -- Some lines were served, in any order with those of others: who asks no owner has the plain reply, and each pass went on.
 pub record AreServed (house : House) (draws : ℕ → ℕ → ℕ → ℕ) (xs : List Exchange) (before after : List Pass) : Type 0 where

@@ -1,7 +1,6 @@
 -- lines and their replies, as far as they concern one owner
 use Rattle.std.specs.Prelude.{◌≡◌, ℕ, ◌==◌, Bool, false, List, [], ◌∷◌, ⊤, MatchBool, if◌then◌else◌}
 use Rattle.std.specs.List.{AllByRecursion, flat_map}
-use Rattle.budget_core.specs.declared.records.Record.{Record}
 use Rattle.wire_lines.specs.Reply.{Replied}
 use Rattle.answer_path.specs.Owner.{Owner}
 use Rattle.answer_path.specs.Answered.{Told}
@@ -36,13 +35,13 @@ AskOthers house o xs = AllByRecursion (λ x. is_of o (meant_at house x.turn) ≡
 abbrev pub told_of : House → ℕ → List Exchange → List Told
 told_of house o xs = flat_map (λ x. if is_of o (meant_at house x.turn) then x.told else []) xs
 
--- One owner's part in some exchanges, where the demand of a turn leads from what was known of the owner's records to what is
--- known then as `Meets` says. Turns that ask others are passed over.
-module _ (house : House) (o : ℕ) (Meets : Owner → Demand → (seen : List Record) → Exchange → (after : List Record) → Type 0) where
-  abbrev pub TurnLeads : Meant → (seen : List Record) → Exchange → (List Record → Type 0) → Type 0
-  TurnLeads (says reply next) seen x Rest = Rest seen
-  TurnLeads (wants n owner demand) seen x Rest = MatchBool (n == o) ((after : List Record) × Meets owner demand seen x after × Rest after) (Rest seen)
+-- One owner's part in some exchanges, where the demand of a turn leads from one state (what is known of the owner's records,
+-- or why its book is closed) to the next as `Meets` says. Turns that ask others are passed over.
+module _ {S : Type 0} (house : House) (o : ℕ) (Meets : Owner → Demand → (before : S) → Exchange → (after : S) → Type 0) where
+  abbrev pub TurnLeads : Meant → (before : S) → Exchange → (S → Type 0) → Type 0
+  TurnLeads (says reply next) before x Rest = Rest before
+  TurnLeads (wants n owner demand) before x Rest = MatchBool (n == o) ((after : S) × Meets owner demand before x after × Rest after) (Rest before)
 
-  abbrev pub Lead : (seen : List Record) → List Exchange → (last : List Record) → Type 0
-  Lead seen [] last = last ≡ seen
-  Lead seen (x ∷ xs) last = TurnLeads (meant_at house x.turn) seen x (λ after. Lead after xs last)
+  abbrev pub Lead : (before : S) → List Exchange → (last : S) → Type 0
+  Lead before [] last = last ≡ before
+  Lead before (x ∷ xs) last = TurnLeads (meant_at house x.turn) before x (λ after. Lead after xs last)

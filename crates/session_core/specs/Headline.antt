@@ -1,11 +1,11 @@
 -- what is promised of a script's replies and records
 use Rattle.std.specs.Prelude.{◌≡◌, ℕ, List, ◌++◌, map, slice_get, Some}
 use mathlib.Core.List.{IsPrefix}
-use Rattle.budget_core.specs.declared.records.Record.{Record}
+use Rattle.journal_records.specs.declared.records.Record.{Record}
 use Rattle.wire_lines.specs.Lines.{lines_of}
 use Rattle.wire_lines.specs.Reply.{Replied}
 use Rattle.answer_path.specs.Owner.{Owner}
-use Rattle.owner_history.specs.Sound.{IsSound, IsFound}
+use Rattle.owner_history.specs.Sound.{IsBacked, IsFound, IsOwed, MayBeFound}
 use Rattle.session_core.specs.House.{House}
 use Rattle.session_core.specs.Turns.{turns_of}
 use Rattle.session_core.specs.Exchanges.{Exchange, ArePlain}
@@ -16,16 +16,17 @@ use Rattle.session_core.specs.Transcript.{Journals, first_new}
 abbrev pub Programs : Type 0
 Programs = ℕ → List (List ℕ)
 
--- Owed to an owner at every status, the owner being number o of the house: its records are legal, within the budget, explained
--- by programs and boundedly displaced, and the programs behind the earlier ones are those that turns of the script ask of this
+-- The programs behind an owner's records, the owner being number o of the house: the records are legal, within the budget,
+-- explained and boundedly displaced by them, and those behind the earlier ones are programs that turns of the script ask of this
 -- owner, each turn at most once.
-pub record IsOwed (house : House) (draws : ℕ → ℕ → ℕ → ℕ) (script : List ℕ) (o : ℕ) (owner : Owner) (found : List Record)
+pub record IsAccountedFor (house : House) (draws : ℕ → ℕ → ℕ → ℕ) (script : List ℕ) (o : ℕ) (owner : Owner) (found : List Record)
     (earlier : List (List ℕ)) (sources : Sources) (records : List Record) : Type 0 where
-  pub sound : IsSound owner (draws o) found (earlier ++ sources.programs) records
+  pub backed : IsBacked owner (draws o) found (earlier ++ sources.programs) records
   pub asked : AreAskedBy house o owner (turns_of house script) sources
 
 -- What replies say of an owner's records: each is the stated one on some of them, what it added stands in them, they bear out
--- what it says, and each new reservation's number is said in the reply to its turn.
+-- what it says (a recalled answer is the value that was settled), and the reply to each new reservation's turn says its number,
+-- or that the owner's disk failed.
 pub record IsReplied (house : House) (draws : ℕ → ℕ → ℕ → ℕ) (o : ℕ) (owner : Owner) (found : List Record)
     (earlier : List (List ℕ)) (sources : Sources) (xs : List Exchange) (records : List Record) : Type 0 where
   -- what is known of the owner's records at the end
@@ -39,14 +40,18 @@ pub record IsReplied (house : House) (draws : ℕ → ℕ → ℕ → ℕ) (o : 
 pub record IsHonoured (house : House) (draws : ℕ → ℕ → ℕ → ℕ) (script : List ℕ) (o : ℕ) (owner : Owner) (found : List Record)
     (earlier : List (List ℕ)) (xs : List Exchange) (records : List Record) : Type 0 where
   pub sources : Sources
-  pub owed : IsOwed house draws script o owner found earlier sources records
+  pub accounted : IsAccountedFor house draws script o owner found earlier sources records
   pub replied : IsReplied house draws o owner found earlier sources xs records
 
--- The records of every owner are sound, whatever was replied.
-abbrev pub AreOwed :
+-- Owed at every status, to every owner, whatever was found: its records are legal after those found, and within the budget.
+abbrev pub AreOwed : House → (found records : Journals) → Type 0
+AreOwed house found records = (o : ℕ) (owner : Owner) → slice_get house.owners o ≡ Some owner → IsOwed owner (found o) (records o)
+
+-- Owed at every status, to every owner, where programs explain what was found: there are programs behind all of its records.
+abbrev pub AreAccountedFor :
     House → (ℕ → ℕ → ℕ → ℕ) → (found : Journals) → (earlier : Programs) → (script : List ℕ) → (records : Journals) → Type 0
-AreOwed house draws found earlier script records = (o : ℕ) (owner : Owner) → slice_get house.owners o ≡ Some owner
-    → (sources : Sources) × IsOwed house draws script o owner (found o) (earlier o) sources (records o)
+AreAccountedFor house draws found earlier script records = (o : ℕ) (owner : Owner) → slice_get house.owners o ≡ Some owner
+    → (sources : Sources) × IsAccountedFor house draws script o owner (found o) (earlier o) sources (records o)
 
 -- These replies to a script and these records keep the promises to each owner, whose records were found, with these programs.
 pub record Headline (house : House) (draws : ℕ → ℕ → ℕ → ℕ) (found : Journals) (earlier : Programs) (script : List ℕ)
@@ -60,7 +65,11 @@ pub record Headline (house : House) (draws : ℕ → ℕ → ℕ → ℕ) (found
   pub owners : (o : ℕ) (owner : Owner) → slice_get house.owners o ≡ Some owner
       → IsHonoured house draws script o owner (found o) (earlier o) exchanges (records o)
 
--- what each owner's run may begin with
+-- what each owner's run may begin with, where these programs explain it
 abbrev pub AreFound : House → (ℕ → ℕ → ℕ → ℕ) → (earlier : Programs) → (found : Journals) → Type 0
 AreFound house draws earlier found = (o : ℕ) (owner : Owner) → slice_get house.owners o ≡ Some owner
     → IsFound owner (draws o) (earlier o) (found o)
+
+-- what each owner's run may begin with, by whatever programs
+abbrev pub AreHistories : House → (found : Journals) → Type 0
+AreHistories house found = (o : ℕ) (owner : Owner) → slice_get house.owners o ≡ Some owner → MayBeFound owner (found o)

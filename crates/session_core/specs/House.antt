@@ -3,7 +3,7 @@ use Rattle.std.specs.Prelude.{◌≡◌, ℕ, ◌+◌, List, [], ◌∷◌, leng
 use Rattle.std.specs.Prelude.{position, bytes_eq, slice_get}
 use Rattle.std.specs.List.{zip}
 use Rattle.budget_core.specs.Entries.{Entry}
-use Rattle.owner_catalog.specs.Catalog.{Catalog, OwnerEntry, IsCatalog, signature_of}
+use Rattle.owner_catalog.specs.Catalog.{Catalog, OwnerEntry, IsCatalog, owner_signature}
 use Rattle.answer_path.specs.Owner.{Owner, Holding, IsHolding}
 use Rattle.owner_history.specs.Sound.{HasData}
 
@@ -41,10 +41,14 @@ pub record Register : Type 0 where
 abbrev pub register_with : Catalog → List Holding → Register
 register_with catalog holdings = record { catalog = catalog; holdings = holdings }
 
--- What is kept of an owner's budget. It counts no keys: no line asks a part of a partition.
+-- how many keys each of an owner's partitions has
+abbrev pub keys_of : OwnerEntry → List ℕ
+keys_of owner = map (λ partition. length partition.keys) owner.partitions
+
+-- what is kept of an owner's budget
 abbrev pub entry_of : Catalog → OwnerEntry → Entry
 entry_of catalog owner =
-    record { budget = owner.budget; capacity = owner.capacity; analysts = length catalog.analysts; keys = [] }
+    record { budget = owner.budget; capacity = owner.capacity; analysts = length catalog.analysts; keys = keys_of owner }
 
 -- an owner of the catalog, and what it holds
 abbrev pub owner_of : Catalog → OwnerEntry × Holding → Owner
@@ -57,7 +61,7 @@ house_of register =
 
 -- The owner's tables are those that the catalog says it has, and there are rows of each.
 pub record IsHeldBy (owner : OwnerEntry) (holding : Holding) : Type 0 where
-  pub tables : holding.tables ≡ signature_of owner
+  pub tables : holding.tables ≡ owner_signature owner
   pub rows : IsHolding holding
 
 -- what a register may be: a catalog's owners, each of which holds rows of its tables

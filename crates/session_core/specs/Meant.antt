@@ -1,8 +1,8 @@
 -- what a line comes to by itself
 use Rattle.std.specs.Prelude.{ℕ, List, Result, Ok, Err, Option, Some, None}
-use Rattle.budget_core.specs.declared.records.View.TheVariants.{Whole}
+use Rattle.partition_charge.specs.declared.view.View.TheVariants.{Whole}
 use Rattle.wire_lines.specs.Reply.{Replied, greeted, ended, refused}
-use Rattle.wire_lines.specs.Request.{Asked, hello, ask, bye, request_of}
+use Rattle.wire_lines.specs.Request.{Asked, hello, ask, recall, left, bye, request_of}
 use Rattle.wire_lines.specs.Refusal.{by_line}
 use Rattle.wire_lines.specs.declared.refusal.LineRefusal.{LineRefusal}
 use Rattle.wire_lines.specs.declared.refusal.LineRefusal.TheVariants.{Unknown, NoEpsilon, NoHello}
@@ -10,9 +10,12 @@ use Rattle.answer_path.specs.Owner.{Owner}
 use Rattle.answer_path.specs.Query.{Query}
 use Rattle.session_core.specs.House.{House, analyst_named, owner_named}
 
--- what is demanded of an owner
+-- what is demanded of an owner: an answer to a query, what became of a number that the analyst reserved, or what is left of
+-- the budget
 pub data Demand : Type 0 where
   asks : Query → Demand
+  recalls : (analyst number : ℕ) → Demand
+  balances : Demand
 
 -- What a line comes to by itself, by the house's names and by who speaks: a reply and who speaks then, or a demand of an
 -- owner. Refusals are looked for in the order of their codes.
@@ -31,10 +34,23 @@ meant_by_ask None (Some found) (Some e) program = says (refused (by_line NoHello
 meant_by_ask (Some analyst) (Some found) (Some e) program =
     wants found.0 found.1 (asks (record { owner = found.0; analyst = analyst; view = Whole; e = e; program = program }))
 
+-- An analyst recalls its own numbers, so a hello comes first.
+abbrev pub meant_by_recall : Option ℕ → Option (ℕ × Owner) → ℕ → Meant
+meant_by_recall who None number = says (refused (by_line (Unknown 1))) who
+meant_by_recall None (Some found) number = says (refused (by_line NoHello)) None
+meant_by_recall (Some analyst) (Some found) number = wants found.0 found.1 (recalls analyst number)
+
+-- Anybody may see what is left.
+abbrev pub meant_by_left : Option ℕ → Option (ℕ × Owner) → Meant
+meant_by_left who None = says (refused (by_line (Unknown 1))) who
+meant_by_left who (Some found) = wants found.0 found.1 balances
+
 abbrev pub meant_by_request : House → Option ℕ → Result Asked LineRefusal → Meant
 meant_by_request house who (Err refusal) = says (refused (by_line refusal)) who
 meant_by_request house who (Ok (hello name)) = meant_by_hello house who name (analyst_named house name)
 meant_by_request house who (Ok (ask name epsilon program)) = meant_by_ask who (owner_named house name) epsilon program
+meant_by_request house who (Ok (recall name number)) = meant_by_recall who (owner_named house name) number
+meant_by_request house who (Ok (left name)) = meant_by_left who (owner_named house name)
 meant_by_request house who (Ok bye) = says ended who
 
 unfoldable pub meant_by : House → Option ℕ → List ℕ → Meant

@@ -1,36 +1,64 @@
 -- What is promised of lines and replies in whatever order the owner's records came: each reply is the stated one on some of
 -- them, which begin with all that this worker saw and added before.
-use Rattle.std.specs.Prelude.{◌≡◌, ◌≢◌, ℕ, ◌+◌, ◌<◌, List, length, slice_get, Some, Ok}
+use Rattle.std.specs.Prelude.{◌≡◌, ◌≢◌, ◌⊎◌, ℕ, ◌+◌, ◌<◌, List, [], ◌∷◌, length, slice_get, Option, Some, Ok, ⊤}
 use Rattle.std.specs.List.{AllByRecursion}
-use Rattle.budget_core.specs.declared.records.Outcome.{Outcome}
-use Rattle.budget_core.specs.declared.records.Record.{Record}
+use Rattle.journal_records.specs.declared.records.Outcome.{Outcome}
+use Rattle.journal_records.specs.declared.records.Reservation.{Reservation}
+use Rattle.journal_records.specs.declared.records.Record.{Record}
+use Rattle.journal_records.specs.declared.records.Record.TheVariants.{Reserve}
+use Rattle.budget_ledger.specs.declared.failure.Failure.{Failure}
+use Rattle.wire_lines.specs.Reply.{Replied, refused}
+use Rattle.wire_lines.specs.Refusal.{by_disk}
+use Rattle.wire_lines.specs.declared.refusal.DiskRefusal.{DiskRefusal}
 use Rattle.wire_lines.specs.Request.{ask, request_of}
 use Rattle.answer_path.specs.Owner.{Owner}
 use Rattle.answer_path.specs.Query.{Query}
 use Rattle.answer_path.specs.Answered.{Told, IsAsked}
-use Rattle.owner_history.specs.Granted.{settlement_in, IsBorneOut}
+use Rattle.answer_path.specs.Standing.{IsRecalled, IsBalance}
+use Rattle.answer_path.specs.Closing.{Closes}
+use Rattle.owner_history.specs.Granted.{settlement_in, IsBorneOut, IsRecallBorneOut}
 use Rattle.session_core.specs.House.{House}
-use Rattle.session_core.specs.Meant.{Meant, Demand, asks, wants}
+use Rattle.session_core.specs.Meant.{Meant, Demand, asks, recalls, balances, wants}
 use Rattle.session_core.specs.Turns.{Turn, meant_at}
 use Rattle.session_core.specs.Exchanges.{Exchange, Lead}
 
--- A demand is met on some of the owner's records, which begin with what was seen.
+-- A demand is met on some of the owner's records, which begin with what was seen. A recall and a balance add nothing.
 abbrev pub MeetsOnSome : (ℕ → ℕ → ℕ) → (start : ℕ) → Owner → Demand → (seen : List Record) → Exchange → (after : List Record) → Type 0
 MeetsOnSome draws start owner (asks query) seen x after = IsAsked owner draws start query seen x.reply x.told after
+MeetsOnSome draws start owner (recalls analyst number) seen x after = IsRecalled start analyst number seen x.reply after × (x.told ≡ [])
+MeetsOnSome draws start owner balances seen x after = IsBalance owner.entry seen x.reply after × (x.told ≡ [])
 
 -- One owner's part in some exchanges of one worker, in any order with those of others.
 abbrev pub AnswersOn :
     House → (ℕ → ℕ → ℕ → ℕ) → (o start : ℕ) → (seen : List Record) → List Exchange → (last : List Record) → Type 0
 AnswersOn house draws o start seen xs last = Lead house o (MeetsOnSome (draws o) start) seen xs last
 
+-- What a demand does to the owner's book, which is closed since an append to its journal failed, or isn't: a recall and a balance
+-- leave it as it is.
+abbrev pub ClosesBy : (ℕ → ℕ → ℕ) → Owner → Demand → (before : Option Failure) → Exchange → (after : Option Failure) → Type 0
+ClosesBy draws owner (asks query) before x after = Closes owner draws query x.reply x.told before after
+ClosesBy draws owner (recalls analyst number) before x after = after ≡ before
+ClosesBy draws owner balances before x after = after ≡ before
+
+-- One owner's book through some exchanges: a 52 closes it, and from then on each query that would be granted is told 42.
+abbrev pub ClosesOn :
+    House → (ℕ → ℕ → ℕ → ℕ) → (o : ℕ) → (before : Option Failure) → List Exchange → (after : Option Failure) → Type 0
+ClosesOn house draws o before xs after = Lead house o (ClosesBy (draws o)) before xs after
+
 -- the records stand at their places
 abbrev pub StandIn : List Record → List Told → Type 0
 StandIn records told = AllByRecursion (λ z. slice_get records z.0 ≡ Some z.1) told
 
+-- The records bear out the reply to a demand. (What a balance says is said by the records that it is made on.)
+abbrev pub IsBorneOutTo : (programs : List (List ℕ)) → List Record → Demand → Replied → Type 0
+IsBorneOutTo programs records (asks query) reply = IsBorneOut programs records query reply
+IsBorneOutTo programs records (recalls analyst number) reply = IsRecallBorneOut records analyst reply
+IsBorneOutTo programs records balances reply = ⊤
+
 -- where the turn asks this owner: what it added stands in the owner's records, which bear out what its reply says
 abbrev pub IsHeldTo : (o : ℕ) → (programs : List (List ℕ)) → List Record → Meant → Exchange → Type 0
-IsHeldTo o programs records meant x = (owner : Owner) (query : Query) → meant ≡ wants o owner (asks query)
-    → StandIn records x.told × IsBorneOut programs records query x.reply
+IsHeldTo o programs records meant x = (owner : Owner) (demand : Demand) → meant ≡ wants o owner demand
+    → StandIn records x.told × IsBorneOutTo programs records demand x.reply
 
 abbrev pub AreHeldTo : House → (o : ℕ) → (programs : List (List ℕ)) → List Record → List Exchange → Type 0
 AreHeldTo house o programs records xs = AllByRecursion (λ x. IsHeldTo o programs records (meant_at house x.turn) x) xs
@@ -61,7 +89,17 @@ pub record AreAskedBy (house : House) (o : ℕ) (owner : Owner) (turns : List Tu
   pub asked : (n place : ℕ) (program : List ℕ) → slice_get sources.places n ≡ Some place → slice_get sources.programs n ≡ Some program
       → IsAskedAt house o owner turns place program
 
--- The reply at each new reservation's place speaks of that reservation.
+-- the reply speaks of the reservation of this number, and of how it was settled
+abbrev pub SpeaksOf : ℕ → Exchange → Type 0
+SpeaksOf n x = (outcome : Outcome) × (settlement_in x.reply ≡ Some (n, outcome))
+
+-- The turn added the reservation of this number alone: its settlement wasn't added for the owner's disk, and the reply names
+-- no number.
+abbrev pub LeavesOpen : ℕ → Exchange → Type 0
+LeavesOpen n x = (refusal : DiskRefusal) × (place : ℕ) × (reserved : Reservation)
+    × (x.reply ≡ refused (by_disk refusal)) × (x.told ≡ (place, Reserve reserved) ∷ []) × (reserved.number ≡ n)
+
+-- The reply at each new reservation's place speaks of that reservation, or it is a disk's refusal, and left it open.
 abbrev pub ArePlaced : (start : ℕ) (places : List ℕ) → List Exchange → Type 0
 ArePlaced start places xs = (n place : ℕ) → slice_get places n ≡ Some place
-    → (x : Exchange) × (outcome : Outcome) × (slice_get xs place ≡ Some x) × (settlement_in x.reply ≡ Some (start + n, outcome))
+    → (x : Exchange) × (slice_get xs place ≡ Some x) × (SpeaksOf (start + n) x ⊎ LeavesOpen (start + n) x)

@@ -1,14 +1,16 @@
 //! A house: a catalog's owners, and what each of them holds.
 
-ghost use Rattle.std.specs.Prelude.{◌≡◌, ◌<◌, length, slice_get, Some, IfSome, IsTrue};
+ghost use Rattle.std.specs.Prelude.{◌≡◌, ◌<◌, length, slice_get, Some, IfSome, IfOk, IsTrue};
 ghost use Rattle.wire_lines.specs.Name.{is_name};
 ghost use Rattle.answer_path.specs.Owner.{Owner};
-ghost use Rattle.session_core.specs.House.{IsRegister, register_with, house_of, analyst_named, owner_named};
+ghost use Rattle.owner_catalog.specs.Entries.{owner_entry_at};
+ghost use Rattle.session_core.specs.House.{IsRegister, register_with, house_of, keys_of, analyst_named, owner_named};
 ghost use Rattle.session_core.specs.Code.{numbered};
 
 use answer_path::Dataset;
 use budget_core::entry::Entry;
 use owner_catalog::Catalog;
+use std::alloc::{AllocError, Global};
 use std::marker::Model;
 
 /// A catalog, and the tables and rows of each of its owners, in order.
@@ -49,17 +51,39 @@ impl House {
         self.catalog.owners()
     }
 
-    /// What is kept of an owner's budget.
-    pub fn entry(&self, owner: u32) -> Entry
+    /// The catalog.
+    pub fn catalog(&self) -> &Catalog
+        ensures { result.now ≡ self.now.catalog }
+    {
+        &self.catalog
+    }
+
+    // How many keys each of an owner's partitions has.
+    fn keys(&self, alloc: Global, owner: u32) -> Result<Vec<u16>, AllocError>
         requires { owner < length (house_of self.now).owners }
-        ensures { (asked : Owner) → slice_get (house_of self.now).owners owner ≡ Some asked → result ≡ asked.entry }
+        ensures { IfOk result (λ keys. keys.items ≡ keys_of (owner_entry_at self.now.catalog owner)) }
+    {
+        let partitions = self.catalog.partitions(owner);
+        let mut keys = Vec::new(alloc);
+        for partition in 0..partitions {
+            keys.push(self.catalog.keys(owner, partition as u8) as u16)?;
+        }
+        Ok(keys)
+    }
+
+    /// What is kept of an owner's budget.
+    pub fn entry(&self, alloc: Global, owner: u32) -> Result<Entry, AllocError>
+        requires { owner < length (house_of self.now).owners }
+        ensures { IfOk result (λ entry. (asked : Owner) → slice_get (house_of self.now).owners owner ≡ Some asked → entry ≡ asked.entry) }
     {
         let analysts = self.catalog.analysts() as u16;
-        Entry::new(
+        let keys = self.keys(alloc, owner)?;
+        Ok(Entry::new(
             self.catalog.budget(owner),
             self.catalog.capacity(owner),
             analysts,
-        )
+            keys,
+        ))
     }
 
     /// An owner's tables and rows.

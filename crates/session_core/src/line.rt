@@ -3,21 +3,34 @@
 ghost use Rattle.std.specs.Prelude.{◌≡◌, IfSome, Some, ◌<◌, length};
 ghost use Rattle.budget_core.specs.Entries.{IsEpsilon};
 ghost use Rattle.session_core.specs.House.{house_of, analyst_named, owner_named};
-ghost use Rattle.session_core.specs.Meant.{meant_by, meant_by_ask, meant_by_hello};
+ghost use Rattle.session_core.specs.Meant.{meant_by, meant_by_ask, meant_by_hello, meant_by_left, meant_by_recall};
 ghost use Rattle.session_core.specs.Code.{meaning_of, IsAnalyst, IsMeaningIn, IsShort};
 
 use crate::house::House;
 use answer_path::Query;
-use budget_core::records::View;
+use partition_charge::view::View;
 use wire_lines::{LineRefusal, Name, Refusal, Reply, Request, read_request};
 
 /// What a line comes to, by the names of the house and by who speaks.
 #[derive(Clone, Copy, Debug)]
 pub enum Meaning<'a> {
     /// A reply, and who speaks then.
-    Says { reply: Reply<'a>, who: Option<u16> },
+    Says {
+        reply: Reply<'a>,
+        who: Option<u16>,
+    },
     /// A query.
     Asks(Query<'a>),
+    /// What became of a number that this analyst reserved with this owner.
+    Recalls {
+        owner: u32,
+        analyst: u16,
+        number: u32,
+    },
+    /// What is left of this owner's budget.
+    Balances {
+        owner: u32,
+    },
 }
 
 /// What a line comes to, where this analyst speaks.
@@ -36,6 +49,8 @@ pub fn read_line<'a>(house: &House, who: Option<u16>, line: &'a [u8]) -> Meaning
                 program,
             },
         ) => read_ask(house, who, owner, epsilon, program),
+        Ok(Request::Recall { owner, number }) => read_recall(house, who, owner, number),
+        Ok(Request::Left { owner }) => read_left(house, who, owner),
         Ok(Request::Bye) => Meaning::Says {
             reply: Reply::Bye,
             who,
@@ -97,5 +112,36 @@ fn read_ask<'a>(
             epsilon,
             program,
         }),
+    }
+}
+
+// The owner is looked for before the analyst, who recalls its own numbers.
+fn read_recall<'a>(house: &House, who: Option<u16>, owner: &[u8], number: u32) -> Meaning<'a>
+    requires known { IsAnalyst (house_of house.now) who }
+    ensures meaning { meaning_of (house_of house.now) result
+        ≡ meant_by_recall who (owner_named (house_of house.now) owner.now) number }
+    ensures proper { IsMeaningIn (house_of house.now) result }
+{
+    match (house.owner(owner), who) {
+        (None, _) => refuse(LineRefusal::Unknown { word: 1 }, who),
+        (Some(_), None) => refuse(LineRefusal::NoHello, who),
+        (Some(owner), Some(analyst)) => Meaning::Recalls {
+            owner,
+            analyst,
+            number,
+        },
+    }
+}
+
+// Anybody may see what is left, before a hello too.
+fn read_left<'a>(house: &House, who: Option<u16>, owner: &[u8]) -> Meaning<'a>
+    requires known { IsAnalyst (house_of house.now) who }
+    ensures meaning { meaning_of (house_of house.now) result
+        ≡ meant_by_left who (owner_named (house_of house.now) owner.now) }
+    ensures proper { IsMeaningIn (house_of house.now) result }
+{
+    match house.owner(owner) {
+        None => refuse(LineRefusal::Unknown { word: 1 }, who),
+        Some(owner) => Meaning::Balances { owner },
     }
 }

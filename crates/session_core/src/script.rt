@@ -13,8 +13,9 @@ ghost use Rattle.session_core.specs.Code.{ArePasses, AreServed, AreAlone, AreFre
 use crate::house::House;
 use crate::line::{Meaning, read_line};
 use crate::passes::Passes;
-use answer_path::{Desk, ask};
+use answer_path::{Desk, ask, left, recall};
 use fz_outside::words::Streams;
+use outside_disks::disk::Disk;
 use std::alloc::{AllocError, Global};
 use wire_lines::{REPLY_LIMIT, Reply, next_line, write_reply};
 
@@ -80,11 +81,11 @@ fn who_after(reply: &Reply<'_>, who: Option<u16>) -> Option<u16>
 }
 
 // Answers one line, where this analyst speaks. Nobody speaks behind a `bye`.
-fn answer_line<'a, S: Streams>(
+fn answer_line<'a, D: Disk, S: Streams>(
     alloc: Global,
     house: &'a House,
     desk: &Desk,
-    passes: &mut Passes,
+    passes: &mut Passes<D>,
     streams: &S,
     who: Option<u16>,
     line: &'a [u8],
@@ -113,6 +114,18 @@ fn answer_line<'a, S: Streams>(
             ),
             who,
         },
+        Meaning::Recalls {
+            owner,
+            analyst,
+            number,
+        } => Answer {
+            reply: recall(desk, &mut passes.each[owner as usize], number, analyst),
+            who,
+        },
+        Meaning::Balances { owner } => Answer {
+            reply: left(desk, &mut passes.each[owner as usize]),
+            who,
+        },
         Meaning::Says { reply, who } => Answer {
             reply,
             who: who_after(&reply, who),
@@ -122,19 +135,21 @@ fn answer_line<'a, S: Streams>(
 
 /// The replies to a script, by passes that have seen what was found. All memory is taken first, so an error leaves the passes
 /// as they were.
-pub fn answer_script<S: Streams>(
+pub fn answer_script<D: Disk, S: Streams>(
     alloc: Global,
     house: &House,
     desk: &Desk,
-    passes: &mut Passes,
+    passes: &mut Passes<D>,
     streams: &S,
     script: &[u8],
 ) -> Result<Vec<u8>, AllocError>
     requires passes { ArePasses (house_of house.now) passes.old }
-    // In any order with other lines: the stated replies, and what they added is the passes' own.
+    // The stated replies, in any order with other lines; what they added is the passes' own. No other line added records
+    // meanwhile, so each was answered on just the records so far.
     ensures served { IfOk result (λ out.
-        HasServed (house_of house.now) (S.given streams.now) script.now out.items passes.old passes.new) }
-    // Alone: the transcript, and the records after it.
+        (h : HasServed (house_of house.now) (S.given streams.now) script.now out.items passes.old passes.new)
+        × AreAlone (house_of house.now) (S.given streams.now) h.exchanges passes.old passes.new) }
+    // The transcript, and the records after it.
     ensures written { AreFresh (house_of house.now) passes.old →
         IfOk result (λ out.
         IsScriptWritten (house_of house.now) (S.given streams.now) (found_by passes.old) script.now out.items (seen_by passes.new)) }

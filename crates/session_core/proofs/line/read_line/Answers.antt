@@ -1,9 +1,9 @@
 use Rattle.std.proofs.Common.{◌≡◌, ◌∙◌, sym, ap, subst, Ok, Err}
-use Rattle.wire_lines.specs.Request.{request_of, reading, hello, ask, bye}
+use Rattle.wire_lines.specs.Request.{request_of, reading, hello, ask, recall, left, bye}
 use Rattle.session_core.specs.House.{house_of}
 use Rattle.session_core.specs.Code.{meaning_of, IsShort}
 use Rattle.session_core.specs.declared.line.Meaning.{Meaning}
-use Rattle.session_core.proofs.Short.{meant_of, ended_short, refusal_short, hello_long, ask_long}
+use Rattle.session_core.proofs.Short.{meant_of, ended_short, refusal_short, hello_long, ask_long, recall_long, left_long}
 use Rattle.session_core.proofs.line.read_line.Goals as goal
 
 pub returns-in-Ok-Hello : goal.returns-in-Ok-Hello
@@ -23,6 +23,25 @@ returns-in-Ok-Ask c =
       meaning = c.read_ask.ensures.meaning ∙ meant_of (house_of c.args.house.now) c.args.who c.args.line.now (Ok request) reads;
       proper = c.read_ask.ensures.proper;
       short = λ few. absurd (ask_long c.args.line.now c.in-Ok-Ask.owner.now c.in-Ok-Ask.program.now c.in-Ok-Ask.epsilon reads few);
+    }
+
+pub returns-in-Ok-Recall : goal.returns-in-Ok-Recall
+returns-in-Ok-Recall c =
+    let request = recall c.in-Ok-Recall.owner.now c.in-Ok-Recall.number in
+    let reads : request_of c.args.line.now ≡ Ok request = sym c.read_request.ensures.exact ∙ ap reading c.in-Ok-Recall.is ∙ ap (λ r. reading (Ok r)) c.in-Ok-Recall.field-0-is in
+    record {
+      meaning = c.read_recall.ensures.meaning ∙ meant_of (house_of c.args.house.now) c.args.who c.args.line.now (Ok request) reads;
+      proper = c.read_recall.ensures.proper;
+      short = λ few. absurd (recall_long c.args.line.now c.in-Ok-Recall.owner.now c.in-Ok-Recall.number reads few);
+    }
+
+pub returns-in-Ok-Left : goal.returns-in-Ok-Left
+returns-in-Ok-Left c =
+    let reads : request_of c.args.line.now ≡ Ok (left c.in-Ok-Left.owner.now) = sym c.read_request.ensures.exact ∙ ap reading c.in-Ok-Left.is ∙ ap (λ r. reading (Ok r)) c.in-Ok-Left.field-0-is in
+    record {
+      meaning = c.read_left.ensures.meaning ∙ meant_of (house_of c.args.house.now) c.args.who c.args.line.now (Ok (left c.in-Ok-Left.owner.now)) reads;
+      proper = c.read_left.ensures.proper;
+      short = λ few. absurd (left_long c.args.line.now c.in-Ok-Left.owner.now reads few);
     }
 
 pub returns-in-Ok-Bye-clause-meaning : goal.returns-in-Ok-Bye-clause-meaning

@@ -5,7 +5,7 @@ use Rattle.wire_lines.specs.Reply.{replied, reply_text}
 use Rattle.session_core.specs.House.{house_of}
 use Rattle.session_core.specs.Exchanges.{Exchange}
 use Rattle.session_core.specs.Code.{room_for_lines}
-use Rattle.session_core.proofs.Serving.{room_next, room_taken, passes_kept, up_to_first, up_to_next, up_to_served, up_to_written}
+use Rattle.session_core.proofs.Serving.{room_next, room_taken, passes_kept, up_to_first, up_to_next, up_to_both, up_to_written}
 use Rattle.session_core.proofs.script.answer_script.Goals as goal
 
 pub loop-line-init : goal.loop-line-init
@@ -45,7 +45,7 @@ loop-line-preserved g c =
 
 pub returns-clause-served : goal.returns-clause-served
 returns-clause-served g c =
-    up_to_served (house_of c.args.house.now) (g.S.Streams.given c.args.streams.now) c.args.script.now c.args.passes.now c.loop-line.who (lines_of c.loop-line.rest.now) c.loop-line.out.items c.loop-line.passes
+    up_to_both (house_of c.args.house.now) (g.S.Streams.given c.args.streams.now) c.args.script.now c.args.passes.now c.loop-line.who (lines_of c.loop-line.rest.now) c.loop-line.out.items c.loop-line.passes
     c.loop-line.invariant.told c.in_default.ensures.lines
 
 pub returns-clause-written : goal.returns-clause-written
