@@ -1,22 +1,22 @@
 -- a `gap` is of two datasets of its tables
-use Rattle.std.proofs.Common.{◌≡◌, ℕ, ◌<◌, Bool, true, false, cond, List, Option, Some, None, length, slice_get, get_or, refl, sym, ◌∙◌, ap, subst, bytes_eq}
-use Rattle.std.specs.Prelude.{Result, Ok, Err, find, ok_or, option_and_then, position}
+use Rattle.std.proofs.Common.{◌≡◌, ℕ, ◌<◌, Bool, true, false, cond, List, Option, Some, None, length, slice_get, refl, sym, ◌∙◌, ap, subst, bytes_eq}
+use Rattle.std.specs.Prelude.{Result, Ok, Err, ok_or, option_and_then, position}
 use Rattle.std.specs.Cmp.Lexicographic.{pointwise}
 use Rattle.std.proofs.lemmas.List.Quantifiers.{position-Some}
 use Rattle.std.proofs.lemmas.Option.{slice_get-get_or}
 use Rattle.fz_ast.specs.Signature.{Signature, IsSignature}
 use Rattle.metric_values.specs.Tables.{Dataset, IsDataset}
-use Rattle.owner_catalog.specs.Catalog.{Catalog, IsCatalog, signature_of}
-use Rattle.owner_catalog.specs.Entries.{OwnerEntry, owner_at}
+use Rattle.owner_catalog.specs.Catalog.{Catalog, IsCatalog, owner_signature}
+use Rattle.owner_catalog.specs.Entries.{OwnerEntry, owner_entry_at}
 use Rattle.answer_path.specs.Owner.{Holding}
-use Rattle.session_core.specs.House.{IsHeldBy, IsRegister, Register}
+use Rattle.session_core.specs.House.{IsHeldBy, Register}
 use Rattle.session_core.proofs.Signed.{signature_signed}
-use Rattle.command_words.specs.Command.{Command, run, check, gap, command_of}
+use Rattle.command_words.specs.Command.{Command, init, run, audit, check, gap, command_of}
 use Rattle.query_server.specs.Files.{Reads}
-use Rattle.query_server.specs.Steps.{Outcome, Step, ◌>>=◌, continued, done, file_read, from}
+use Rattle.query_server.specs.Steps.{Step, ◌>>=◌, continued, done, file_read, from}
 use Rattle.query_server.specs.Loaded.{catalog_read, entry_named, holding_in, loaded, owner_loaded}
 use Rattle.query_server.specs.Fit.{fitting, if_fitting, same_table}
-use Rattle.query_server.specs.Ending.{Ending, ended, refused, to_compare}
+use Rattle.query_server.specs.Ending.{Ending, ended, refused, to_answer, to_make, to_count, to_compare}
 use Rattle.query_server.specs.Gap.{gap_steps}
 use Rattle.query_server.specs.Due.{ending_of, steps_of}
 use Rattle.query_server.specs.Laws.{GapsAreOfDatasets}
@@ -24,7 +24,7 @@ use Rattle.query_server.proofs.Pairs.{inverted}
 use Rattle.query_server.proofs.Owners.{find_place}
 use Rattle.query_server.proofs.Fits.{same_signature}
 use Rattle.query_server.proofs.Loaded.{catalog_lawful, loaded_register}
-use Rattle.query_server.proofs.Endings.{check_cases, run_cases}
+use Rattle.query_server.proofs.Endings.{check_cases, house_cases}
 
 -- What holds of a refused name, and of what the next steps come to with what a step gave, holds of both.
 then_known : {A : Type 0} (P : Ending → Type 0) → ((name : List ℕ) → P (refused name)) → (step : Step A) (next : A → Step Ending) (reads : Reads)
@@ -50,30 +50,30 @@ placed register name holding is = here (position (λ (owner : OwnerEntry). bytes
     here (Some o) was is = (o, was, at o (slice_get register.holdings o) refl is)
     here None was is = cc
 
-named_entry : (catalog : Catalog) (name : List ℕ) (o : ℕ) (entry : OwnerEntry) → position (λ (owner : OwnerEntry). bytes_eq name owner.name) catalog.owners ≡ Some o → entry_named catalog name ≡ Ok entry → owner_at catalog o ≡ entry
+named_entry : (catalog : Catalog) (name : List ℕ) (o : ℕ) (entry : OwnerEntry) → position (λ (owner : OwnerEntry). bytes_eq name owner.name) catalog.owners ≡ Some o → entry_named catalog name ≡ Ok entry → owner_entry_at catalog o ≡ entry
 named_entry catalog name o entry place is =
     here (ap (λ found. ok_or found name) (find_place (λ (owner : OwnerEntry). bytes_eq name owner.name) catalog.owners o _ place)) is
   where
-    here : entry_named catalog name ≡ Ok (owner_at catalog o) → entry_named catalog name ≡ Ok entry → owner_at catalog o ≡ entry
+    here : entry_named catalog name ≡ Ok (owner_entry_at catalog o) → entry_named catalog name ≡ Ok entry → owner_entry_at catalog o ≡ entry
     here at named = cc
 
 -- an entry and what it holds, of a catalog that keeps the rules
 record IsKnown (entry : OwnerEntry) (holding : Holding) : Type 0 where
   held : IsHeldBy entry holding
-  signed : IsSignature (signature_of entry)
+  signed : IsSignature (owner_signature entry)
 
 known : (catalog : Catalog) (name : List ℕ) (reads : Reads) (entry : OwnerEntry) (holding : Holding) → IsCatalog catalog → entry_named catalog name ≡ Ok entry → (owner_loaded catalog name reads).given ≡ Ok holding → IsKnown entry holding
 known catalog name reads entry holding lawful named is =
-    let load = inverted (loaded catalog) (λ register. from (holding_in register name)) reads holding is in
-    let register = loaded_register catalog reads load.0 lawful load.1 in
-    let place = placed load.0 name holding load.2 in
-    let at = subst (λ (c : Catalog). position (λ (owner : OwnerEntry). bytes_eq name owner.name) c.owners ≡ Some place.0) register.0 place.1 in
+    let load = inverted (loaded catalog) (λ loading. from (holding_in loading.register name)) reads holding is in
+    let loading = loaded_register catalog reads load.0 lawful load.1 in
+    let place = placed load.0.register name holding load.2 in
+    let at = subst (λ (c : Catalog). position (λ (owner : OwnerEntry). bytes_eq name owner.name) c.owners ≡ Some place.0) loading.0 place.1 in
     let within : place.0 < length catalog.owners = (position-Some (λ (owner : OwnerEntry). bytes_eq name owner.name) catalog.owners place.0 entry at).0 in
-    let its : owner_at catalog place.0 ≡ entry = named_entry catalog name place.0 entry at named in
-    let there : slice_get load.0.catalog.owners place.0 ≡ Some (owner_at catalog place.0) = ap (λ (c : Catalog). slice_get c.owners place.0) register.0 ∙ slice_get-get_or catalog.owners place.0 _ within in
+    let its : owner_entry_at catalog place.0 ≡ entry = named_entry catalog name place.0 entry at named in
+    let there : slice_get load.0.register.catalog.owners place.0 ≡ Some (owner_entry_at catalog place.0) = ap (λ (c : Catalog). slice_get c.owners place.0) loading.0 ∙ slice_get-get_or catalog.owners place.0 _ within in
     subst (λ (e : OwnerEntry). IsKnown e holding) its (record {
-      held = register.1.holds place.0 (owner_at catalog place.0) holding there place.2;
-      signed = signature_signed (owner_at catalog place.0) (lawful.owners place.0 _ within);
+      held = loading.1.register.holds place.0 (owner_entry_at catalog place.0) holding there place.2;
+      signed = signature_signed (owner_entry_at catalog place.0) (lawful.owners place.0 _ within);
     })
 
 fits_named : (entry : OwnerEntry) (catalog : Catalog) (name : List ℕ) (other : OwnerEntry) → fitting entry catalog name ≡ Ok other → entry_named catalog name ≡ Ok other
@@ -91,7 +91,7 @@ fits_named entry catalog name other is = here (entry_named catalog name) refl is
 abbrev IsOfDatasets : Ending → Type 0
 IsOfDatasets ending = (tables : Signature) (X Y : Dataset) (program : List ℕ) → ending ≡ to_compare tables X Y program → IsSignature tables × IsDataset tables X × IsDataset tables Y
 
-both_known : (entry other : OwnerEntry) (first second : Holding) (bytes : List ℕ) → signature_of other ≡ signature_of entry → IsKnown entry first → IsKnown other second → IsOfDatasets (to_compare first.tables first.rows second.rows bytes)
+both_known : (entry other : OwnerEntry) (first second : Holding) (bytes : List ℕ) → owner_signature other ≡ owner_signature entry → IsKnown entry first → IsKnown other second → IsOfDatasets (to_compare first.tables first.rows second.rows bytes)
 both_known entry other first second bytes same one two tables X Y program is =
     let its : first.tables ≡ tables = cc in
     let rows : first.rows ≡ X = cc in
@@ -124,6 +124,8 @@ gaps_of_datasets words reads = here (command_of words)
   where
     here : (command : Option Command) → IsOfDatasets (ended (steps_of command reads).given)
     here None = λ tables X Y program is. cc
-    here (Some (run catalog key workers)) = run_cases IsOfDatasets (λ name tables X Y program is. cc) (λ register key tables X Y program is. cc) catalog key reads
+    here (Some (run catalog key workers)) = house_cases IsOfDatasets (λ name tables X Y program is. cc) to_answer (λ loading key tables X Y program is. cc) catalog key reads
+    here (Some (init catalog key)) = house_cases IsOfDatasets (λ name tables X Y program is. cc) to_make (λ loading key tables X Y program is. cc) catalog key reads
+    here (Some (audit catalog key)) = house_cases IsOfDatasets (λ name tables X Y program is. cc) to_count (λ loading key tables X Y program is. cc) catalog key reads
     here (Some (check catalog owner file)) = check_cases IsOfDatasets (λ name tables X Y program is. cc) (λ ts bytes tables X Y program is. cc) catalog owner file reads
     here (Some (gap catalog owner second_catalog file)) = gap_known catalog owner second_catalog file reads

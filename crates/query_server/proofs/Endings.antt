@@ -1,42 +1,40 @@
 -- what a command comes to, by its steps
-use Rattle.std.proofs.Common.{◌≡◌, ℕ, List, Option, Some, None, refl, sym, ◌∙◌, ap, subst, arith}
+use Rattle.std.proofs.Common.{◌≡◌, ℕ, List, Option, Some, None, refl, sym, ◌∙◌, ap, subst}
 use Rattle.std.specs.Prelude.{Result, Ok, Err}
 use Rattle.fz_ast.specs.Signature.{Signature}
 use Rattle.metric_values.specs.Tables.{Dataset}
-use Rattle.budget_core.specs.Cost.{cost_of, partition_cost}
-use Rattle.budget_core.specs.declared.records.Record.{Record}
 use Rattle.owner_catalog.specs.Catalog.{Catalog}
 use Rattle.wire_lines.specs.Reply.{Replied}
-use Rattle.session_core.specs.House.{House, Register, IsRegister, house_of}
-use Rattle.session_core.specs.Transcript.{Journals, IsScriptRun, IsScriptWritten, IsTranscript, LeadExactly, first_new}
-use Rattle.session_core.specs.Headline.{AreFound, Headline}
+use Rattle.session_core.specs.House.{house_of}
+use Rattle.session_core.specs.Transcript.{Journals, IsScriptRun}
+use Rattle.session_core.specs.Headline.{AreFound, Headline, Programs}
 use Rattle.session_core.proofs.Owners.{register_owners}
 use Rattle.session_core.proofs.Headlines.{headline_of}
-use Rattle.command_words.specs.Command.{Command, run, check, gap, command_of}
+use Rattle.command_words.specs.Command.{Command, init, run, audit, check, gap, command_of}
 use Rattle.query_server.specs.Files.{Contents, Reads, always}
 use Rattle.query_server.specs.Steps.{Step, ◌>>=◌, continued, done, file_read, from}
-use Rattle.query_server.specs.Loaded.{catalog_read, key_read, loaded, entry_named, owner_loaded}
+use Rattle.query_server.specs.Loaded.{Loading, IsLoading, catalog_read, key_read, loaded, entry_named, owner_loaded, with_house}
 use Rattle.query_server.specs.Fit.{fitting}
-use Rattle.query_server.specs.Ending.{Ending, ended, refused, to_answer, to_check, to_compare}
-use Rattle.query_server.specs.Run.{none_found, run_steps}
+use Rattle.query_server.specs.Ending.{Ending, ended, refused, to_answer, to_make, to_count, to_check, to_compare}
+use Rattle.query_server.specs.Run.{run_steps}
 use Rattle.query_server.specs.Check.{check_steps}
 use Rattle.query_server.specs.Gap.{gap_steps}
 use Rattle.query_server.specs.Due.{ending_of, steps_of}
-use Rattle.query_server.specs.Promise.{IsHouseOf, no_programs}
+use Rattle.query_server.specs.Promise.{IsHouseOf}
 use Rattle.query_server.proofs.Pairs.{inverted}
 use Rattle.query_server.proofs.Told.{keeps_catalog, keeps_key}
 use Rattle.query_server.proofs.Loaded.{catalog_lawful, loaded_register}
 
--- what the steps of a `run` gave
-pub run_gives : (catalog key : List ℕ) (reads : Reads) (ending : Ending) → (run_steps catalog key reads).given ≡ Ok ending
-    → (house : Catalog) × (bytes : List ℕ) × (register : Register) × ((catalog_read catalog reads).given ≡ Ok house) × ((key_read key (catalog_read catalog reads).rest).given ≡ Ok bytes)
-    × ((loaded house (key_read key (catalog_read catalog reads).rest).rest).given ≡ Ok register) × (to_answer register bytes ≡ ending)
-run_gives catalog key reads ending is =
-    let house = inverted (catalog_read catalog) (λ house. key_read key >>= (λ bytes. loaded house >>= (λ register. done (to_answer register bytes)))) reads ending is in
-    let bytes = inverted (key_read key) (λ bytes. loaded house.0 >>= (λ register. done (to_answer register bytes))) (catalog_read catalog reads).rest ending house.2 in
-    let register = inverted (loaded house.0) (λ register. done (to_answer register bytes.0)) (key_read key (catalog_read catalog reads).rest).rest ending bytes.2 in
-    let same : to_answer register.0 bytes.0 ≡ ending = cc in
-    (house.0, bytes.0, register.0, house.1, bytes.1, register.1, same)
+-- what the steps to a house gave
+pub house_gives : {A : Type 0} (work : Loading → List ℕ → A) (catalog key : List ℕ) (reads : Reads) (a : A) → (with_house work catalog key reads).given ≡ Ok a
+    → (house : Catalog) × (bytes : List ℕ) × (loading : Loading) × ((catalog_read catalog reads).given ≡ Ok house) × ((key_read key (catalog_read catalog reads).rest).given ≡ Ok bytes)
+    × ((loaded house (key_read key (catalog_read catalog reads).rest).rest).given ≡ Ok loading) × (work loading bytes ≡ a)
+house_gives work catalog key reads a is =
+    let house = inverted (catalog_read catalog) (λ house. key_read key >>= (λ bytes. loaded house >>= (λ loading. done (work loading bytes)))) reads a is in
+    let bytes = inverted (key_read key) (λ bytes. loaded house.0 >>= (λ loading. done (work loading bytes))) (catalog_read catalog reads).rest a house.2 in
+    let loading = inverted (loaded house.0) (λ loading. done (work loading bytes.0)) (key_read key (catalog_read catalog reads).rest).rest a bytes.2 in
+    let same : work loading.0 bytes.0 ≡ a = cc in
+    (house.0, bytes.0, loading.0, house.1, bytes.1, loading.1, same)
 
 -- What holds of a refused name, and of all that a step's next ones come to, holds of what it comes to with them.
 then_cases : {A : Type 0} (P : Ending → Type 0) → ((name : List ℕ) → P (refused name)) → (step : Step A) (next : A → Step Ending) → ((a : A) (reads : Reads) → P (ended (next a reads).given))
@@ -48,13 +46,13 @@ then_cases {A} P by_name step next each reads = here (step reads).given
     here (Ok a) = each a (step reads).rest
     here (Err name) = by_name name
 
--- of a `run`, each script to be answered
-pub run_cases : (P : Ending → Type 0) → ((name : List ℕ) → P (refused name)) → ((register : Register) (key : List ℕ) → P (to_answer register key))
-    → (catalog key : List ℕ) (reads : Reads) → P (ended (run_steps catalog key reads).given)
-run_cases P by_name by_work catalog key =
-    then_cases P by_name (catalog_read catalog) (λ house. key_read key >>= (λ bytes. loaded house >>= (λ register. done (to_answer register bytes))))
-    (λ house. then_cases P by_name (key_read key) (λ bytes. loaded house >>= (λ register. done (to_answer register bytes)))
-    (λ bytes. then_cases P by_name (loaded house) (λ register. done (to_answer register bytes)) (λ register reads. by_work register bytes)))
+-- of a `run`, an `init` and an `audit`, what is to be done with each house
+pub house_cases : (P : Ending → Type 0) → ((name : List ℕ) → P (refused name)) → (work : Loading → List ℕ → Ending) → ((loading : Loading) (key : List ℕ) → P (work loading key))
+    → (catalog key : List ℕ) (reads : Reads) → P (ended (with_house work catalog key reads).given)
+house_cases P by_name work by_work catalog key =
+    then_cases P by_name (catalog_read catalog) (λ house. key_read key >>= (λ bytes. loaded house >>= (λ loading. done (work loading bytes))))
+    (λ house. then_cases P by_name (key_read key) (λ bytes. loaded house >>= (λ loading. done (work loading bytes)))
+    (λ bytes. then_cases P by_name (loaded house) (λ loading. done (work loading bytes)) (λ loading reads. by_work loading bytes)))
 
 -- of a `check`, each program to be checked
 pub check_cases : (P : Ending → Type 0) → ((name : List ℕ) → P (refused name)) → ((tables : Signature) (program : List ℕ) → P (to_check tables program))
@@ -79,49 +77,56 @@ gap_cases P by_name by_work catalog owner second_catalog file =
     (λ program reads. by_work holding.tables holding.rows second_holding.rows program)))))))
 
 -- A script is answered over a house of the files.
-house_of_run : (words : List (List ℕ)) (held : Contents) (catalog name : List ℕ) (workers : ℕ) (register : Register) (key : List ℕ) → command_of words ≡ Some (run catalog name workers)
-    → (run_steps catalog name (always held)).given ≡ Ok (to_answer register key) → IsHouseOf words held register key
-house_of_run words held catalog name workers register key commanded is =
-    let found = run_gives catalog name (always held) (to_answer register key) is in
-    let same : found.2 ≡ register = cc in
+house_of_run : (words : List (List ℕ)) (held : Contents) (catalog name : List ℕ) (workers : ℕ) (loading : Loading) (key : List ℕ) → command_of words ≡ Some (run catalog name workers)
+    → (run_steps catalog name (always held)).given ≡ Ok (to_answer loading key) → IsHouseOf words held loading key
+house_of_run words held catalog name workers loading key commanded is =
+    let found = house_gives to_answer catalog name (always held) (to_answer loading key) is in
+    let same : found.2 ≡ loading = cc in
     let bytes : found.1 ≡ key = cc in
     let first = keeps_catalog held catalog in
     let key_found = subst (λ (rest : Reads). (key_read name rest).given ≡ Ok found.1) first found.4 in
     let rest_of_key : (key_read name (catalog_read catalog (always held)).rest).rest ≡ always held = ap (λ (rest : Reads). (key_read name rest).rest) first ∙ keeps_key held name in
     let loads = subst (λ (rest : Reads). (loaded found.0 rest).given ≡ Ok found.2) rest_of_key found.5 in
     let lawful = loaded_register found.0 (always held) found.2 (catalog_lawful catalog (always held) found.0 found.3) loads in
-    let its : found.0 ≡ register.catalog = sym lawful.0 ∙ ap (λ (r : Register). r.catalog) same in
+    let its : found.0 ≡ loading.register.catalog = sym lawful.0 ∙ ap (λ (l : Loading). l.register.catalog) same in
     record {
       catalog = catalog;
       key_name = name;
       workers = workers;
       commanded = commanded;
       has_catalog = found.3 ∙ ap Ok its;
-      has_tables = subst (λ (c : Catalog). (loaded c (always held)).given ≡ Ok register) its (loads ∙ ap Ok same);
+      has_tables = subst (λ (c : Catalog). (loaded c (always held)).given ≡ Ok loading) its (loads ∙ ap Ok same);
       has_key = key_found ∙ ap Ok bytes;
-      lawful = subst IsRegister same lawful.1;
+      lawful = subst IsLoading same lawful.1;
     }
 
 -- what ended as a script that is to be answered was given
-given_answer : (given : Result Ending (List ℕ)) (register : Register) (key : List ℕ) → ended given ≡ to_answer register key → given ≡ Ok (to_answer register key)
-given_answer (Ok ending) register key is = ap Ok is
-given_answer (Err name) register key is = cc
+given_answer : (given : Result Ending (List ℕ)) (loading : Loading) (key : List ℕ) → ended given ≡ to_answer loading key → given ≡ Ok (to_answer loading key)
+given_answer (Ok ending) loading key is = ap Ok is
+given_answer (Err name) loading key is = cc
 
-check_answers : (register : Register) (key catalog owner file : List ℕ) (reads : Reads) → ended (check_steps catalog owner file reads).given ≡ to_answer register key → ⊥
-check_answers register key = check_cases (λ ending. ending ≡ to_answer register key → ⊥) (λ name is. cc) (λ tables program is. cc)
+-- no other command comes to a script
+other_house : (loading : Loading) (key : List ℕ) (work : Loading → List ℕ → Ending) → ((l : Loading) (k : List ℕ) → work l k ≡ to_answer loading key → ⊥) → (catalog name : List ℕ) (reads : Reads)
+    → ended (with_house work catalog name reads).given ≡ to_answer loading key → ⊥
+other_house loading key work other = house_cases (λ ending. ending ≡ to_answer loading key → ⊥) (λ name is. cc) work other
 
-gap_answers : (register : Register) (key catalog owner second_catalog file : List ℕ) (reads : Reads) → ended (gap_steps catalog owner second_catalog file reads).given ≡ to_answer register key → ⊥
-gap_answers register key = gap_cases (λ ending. ending ≡ to_answer register key → ⊥) (λ name is. cc) (λ tables X Y program is. cc)
+check_answers : (loading : Loading) (key catalog owner file : List ℕ) (reads : Reads) → ended (check_steps catalog owner file reads).given ≡ to_answer loading key → ⊥
+check_answers loading key = check_cases (λ ending. ending ≡ to_answer loading key → ⊥) (λ name is. cc) (λ tables program is. cc)
 
-pub house_by : (words : List (List ℕ)) (held : Contents) (register : Register) (key : List ℕ) → ending_of words (always held) ≡ to_answer register key → IsHouseOf words held register key
+gap_answers : (loading : Loading) (key catalog owner second_catalog file : List ℕ) (reads : Reads) → ended (gap_steps catalog owner second_catalog file reads).given ≡ to_answer loading key → ⊥
+gap_answers loading key = gap_cases (λ ending. ending ≡ to_answer loading key → ⊥) (λ name is. cc) (λ tables X Y program is. cc)
+
+pub house_by : (words : List (List ℕ)) (held : Contents) (loading : Loading) (key : List ℕ) → ending_of words (always held) ≡ to_answer loading key → IsHouseOf words held loading key
 unfolding ending_of
-house_by words held register key is = here (command_of words) refl is
+house_by words held loading key is = here (command_of words) refl is
   where
-    here : (command : Option Command) → command_of words ≡ command → ended (steps_of command (always held)).given ≡ to_answer register key → IsHouseOf words held register key
+    here : (command : Option Command) → command_of words ≡ command → ended (steps_of command (always held)).given ≡ to_answer loading key → IsHouseOf words held loading key
     here None was is = cc
-    here (Some (run catalog name workers)) was is = house_of_run words held catalog name workers register key was (given_answer (run_steps catalog name (always held)).given register key is)
-    here (Some (gap catalog owner second_catalog file)) was is = absurd (gap_answers register key catalog owner second_catalog file (always held) is)
-    here (Some (check catalog owner file)) was is = absurd (check_answers register key catalog owner file (always held) is)
+    here (Some (run catalog name workers)) was is = house_of_run words held catalog name workers loading key was (given_answer (run_steps catalog name (always held)).given loading key is)
+    here (Some (init catalog name)) was is = absurd (other_house loading key to_make (λ l k wrong. cc) catalog name (always held) is)
+    here (Some (audit catalog name)) was is = absurd (other_house loading key to_count (λ l k wrong. cc) catalog name (always held) is)
+    here (Some (gap catalog owner second_catalog file)) was is = absurd (gap_answers loading key catalog owner second_catalog file (always held) is)
+    here (Some (check catalog owner file)) was is = absurd (check_answers loading key catalog owner file (always held) is)
 
 -- the ending of the words that are this command, or none
 pub ending_by : (words : List (List ℕ)) (reads : Reads) (command : Option Command) → command_of words ≡ command → ending_of words reads ≡ ended (steps_of command reads).given
@@ -131,37 +136,16 @@ ending_by words reads command is = ap (λ c. ended (steps_of c reads).given) is
 -- a `run` checks no program, and compares none
 pub no_check : (words : List (List ℕ)) (held : Contents) (catalog key : List ℕ) (workers : ℕ) (tables : Signature) (program : List ℕ) → command_of words ≡ Some (run catalog key workers) → ending_of words (always held) ≡ to_check tables program → ⊥
 no_check words held catalog key workers tables program commanded is =
-    run_cases (λ ending. ending ≡ to_check tables program → ⊥) (λ name is. cc) (λ register key is. cc) catalog key (always held) (sym (ending_by words (always held) (Some (run catalog key workers)) commanded) ∙ is)
+    house_cases (λ ending. ending ≡ to_check tables program → ⊥) (λ name is. cc) to_answer (λ loading key is. cc) catalog key (always held) (sym (ending_by words (always held) (Some (run catalog key workers)) commanded) ∙ is)
 
 pub no_gap : (words : List (List ℕ)) (held : Contents) (catalog key : List ℕ) (workers : ℕ) (tables : Signature) (X Y : Dataset) (program : List ℕ) → command_of words ≡ Some (run catalog key workers)
     → ending_of words (always held) ≡ to_compare tables X Y program → ⊥
 no_gap words held catalog key workers tables X Y program commanded is =
-    run_cases (λ ending. ending ≡ to_compare tables X Y program → ⊥) (λ name is. cc) (λ register key is. cc) catalog key (always held) (sym (ending_by words (always held) (Some (run catalog key workers)) commanded) ∙ is)
-
--- where no records are there, none were found
-none_are_found : (register : Register) (draws : ℕ → ℕ → ℕ → ℕ) → AreFound (house_of register) draws no_programs none_found
-unfolding cost_of partition_cost
-none_are_found register draws = λ o owner at. record {
-  history = record { follows = λ k next is. cc };
-  within = omega arith;
-  explained = record { each_has = refl; explained = λ n program reserved is has. cc };
-}
+    house_cases (λ ending. ending ≡ to_compare tables X Y program → ⊥) (λ name is. cc) to_answer (λ loading key is. cc) catalog key (always held) (sym (ending_by words (always held) (Some (run catalog key workers)) commanded) ∙ is)
 
 -- what is replied to a script in a house keeps the promises
-pub register_headline : (register : Register) (draws : ℕ → ℕ → ℕ → ℕ) (script : List ℕ) (replies : List Replied) (records : Journals) → IsRegister register
-    → IsScriptRun (house_of register) draws none_found script replies records → Headline (house_of register) draws none_found no_programs script replies records
-register_headline register draws script replies records lawful kept =
-    headline_of (house_of register) draws none_found no_programs script replies records (register_owners register lawful) (none_are_found register draws) kept
-
--- the records that are found may be called otherwise
-pub found_as : (house : House) (draws : ℕ → ℕ → ℕ → ℕ) (found other : Journals) (script text : List ℕ) (last : Journals) → ((o : ℕ) → found o ≡ other o) → IsScriptWritten house draws found script text last → IsTranscript house draws other script text
-unfolding IsTranscript IsScriptWritten
-found_as house draws found other script text last same (replies, kept, is) =
-    let renamed : IsScriptRun house draws other script replies last = record {
-      exchanges = kept.exchanges;
-      turns = kept.turns;
-      replied = kept.replied;
-      plain = kept.plain;
-      owners = λ o owner at. subst (λ (f : List Record). LeadExactly house draws o (first_new f) f kept.exchanges (last o)) (same o) (kept.owners o owner at);
-    } in
-    (last, (replies, renamed, is))
+pub house_headline : (loading : Loading) (draws : ℕ → ℕ → ℕ → ℕ) (found : Journals) (earlier : Programs) (script : List ℕ) (replies : List Replied) (records : Journals) → IsLoading loading
+    → AreFound (house_of loading.register) draws earlier found → IsScriptRun (house_of loading.register) draws found script replies records
+    → Headline (house_of loading.register) draws found earlier script replies records
+house_headline loading draws found earlier script replies records lawful explained kept =
+    headline_of (house_of loading.register) draws found earlier script replies records (register_owners loading.register lawful.register) explained kept

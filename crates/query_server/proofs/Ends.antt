@@ -1,53 +1,60 @@
 -- what stops a command, and what it ends with
 use Rattle.std.proofs.Common.{◌≡◌, ℕ, ◌<◌, List, [], ◌++◌, length, Option, Some, None, refl, sym, ap, subst, ◌∙◌, arith, string_bytes, length-append, append-nil}
-use Rattle.std.specs.Prelude.{Result, Ok, Err, MatchResult, IsErrAnd}
+use Rattle.std.specs.Prelude.{Result, Ok, Err, IsErrAnd}
 use Rattle.std.specs.Io.KnownBytes.{prepend_known, IsAtEnd}
 use mathlib.Core.Logic.{inl, inr}
-use Rattle.session_core.specs.House.{Register}
-use Rattle.query_server.specs.Ending.{Ending, ended, to_answer}
+use Rattle.query_server.specs.Ending.{Ending, ended}
 use Rattle.query_server.specs.Files.{Contents, IsLeft}
 use Rattle.query_server.specs.Steps.{Outcome, Step}
-use Rattle.query_server.specs.Run.{IsScriptDue, script_limit}
+use Rattle.query_server.specs.Shelves.{Shelf}
+use Rattle.query_server.specs.Run.{script_limit}
 use Rattle.query_server.specs.Due.{AreRead, ForContents, IsDue}
 use Rattle.query_server.specs.Status.{refused_text}
-use Rattle.query_server.specs.Ends.{IsEndOf, IsFailing, IsStepEnd, IsStopAt, end_by, run_status, run_text, stop_status}
+use Rattle.query_server.specs.Ends.{IsEndOf, IsStepEnd, IsStopAt, end_by, stop_status}
 use Rattle.query_server.specs.Taken.{IsTaken}
 use Rattle.query_server.specs.declared.end.Status.TheVariants as code
 use Rattle.query_server.specs.declared.end.Stop.{Stop}
-use Rattle.query_server.specs.declared.end.Stop.TheVariants.{Usage, Refused, Fault, NoMemory}
+use Rattle.query_server.specs.declared.end.Stop.TheVariants.{Usage, Refused, Journal, Disk, Fault, NoMemory}
 use Rattle.query_server.specs.declared.end.End.{End}
-use Rattle.query_server.specs.declared.end.End.TheVariants.{Stopped, Run}
-use Rattle.query_server.specs.declared.running.RunEnd.{RunEnd}
+use Rattle.query_server.specs.declared.end.End.TheVariants.{Stopped}
+use Rattle.query_server.proofs.Disks.{may_stop_same}
 use Rattle.query_server.proofs.Reached.{IsDone, IsStopped, any_reads}
 use Rattle.query_server.proofs.Contents.{any_left}
 
--- What stops a command is due, and its files were read.
-stop_end : (o : Outcome Ending) (old new : List (List ℕ)) (script : List ℕ) (stop : Stop) → IsStopAt o old new stop → IsEndOf (ended o.given) script (Stopped stop) × AreRead (stop_status stop) o.names old new
-stop_end o old new script Usage is = absurd is
-stop_end o old new script (Refused name) (given, read) = (
-  inl (subst (λ (e : Ending). IsDue e script code.Refused (refused_text (string_bytes name))) (sym (ap ended given)) (refl, refl)),
-  record { names = o.names; is = read; some = ([], sym (append-nil o.names)); all = inr (inr refl) },
+-- What stops a command is due, and its files were read. No disk was taken.
+stop_end : (o : Outcome Ending) (old new : List (List ℕ)) (shelf : Shelf) (script : List ℕ) (stop : Stop) → IsStopAt o old new stop
+    → IsEndOf (ended o.given) shelf shelf script (Stopped stop) × AreRead (stop_status stop) o.names old new
+stop_end o old new shelf script Usage is = absurd is
+stop_end o old new shelf script (Journal line) is = absurd is
+stop_end o old new shelf script (Disk line) is = absurd is
+stop_end o old new shelf script (Refused name) (given, read) = (
+  inl (subst (λ (e : Ending). IsDue e shelf shelf script code.Refused (refused_text (string_bytes name))) (sym (ap ended given)) (refl, refl, λ n. refl)),
+  record { names = o.names; is = read; some = ([], sym (append-nil o.names)); all = inr (inr (inr refl)) },
 )
-stop_end o old new script Fault (some, more, is, both) = (inr (inl refl), record { names = some; is = is; some = (more, both); all = inl refl })
-stop_end o old new script NoMemory (some, more, is, both) = (inr (inr refl), record { names = some; is = is; some = (more, both); all = inr (inl refl) })
+stop_end o old new shelf script Fault (some, more, is, both) =
+    (inr (inl refl, may_stop_same (ended o.given) shelf), record { names = some; is = is; some = (more, both); all = inl refl })
+stop_end o old new shelf script NoMemory (some, more, is, both) =
+    (inr (inr (inl refl), may_stop_same (ended o.given) shelf), record { names = some; is = is; some = (more, both); all = inr (inl refl) })
 
-pub stopped_end : (held : Option Contents) (left : Option (List ℕ)) (old new : List (List ℕ)) (steps : Step Ending) (stop : Stop) → IsStopped held old new steps stop → ForContents held left (IsStepEnd old new steps (Stopped stop))
-stopped_end held left old new steps stop is =
+pub stopped_end : (held : Option Contents) (left : Option (List ℕ)) (old new : List (List ℕ)) (shelf : Shelf) (steps : Step Ending) (stop : Stop) → IsStopped held old new steps stop
+    → ForContents held left (IsStepEnd old new shelf shelf steps (Stopped stop))
+stopped_end held left old new shelf steps stop is =
     let some = any_reads held in
     let one = is some.0 some.1 in
     let script = any_left left in
-    (one.0, script.0, one.1, script.1, stop_end (steps one.0) old new script.0 stop one.2)
+    (one.0, script.0, one.1, script.1, stop_end (steps one.0) old new shelf script.0 stop one.2)
 
 -- a stop that is passed on
-pub passed_end : {T : Type 0} (held : Option Contents) (left : Option (List ℕ)) (old new : List (List ℕ)) (steps : Step Ending) (make : T → End) (stop : Stop) (result : Result T Stop)
-    → IsStopped held old new steps stop → IsErrAnd result (λ e. e ≡ stop) → ForContents held left (IsStepEnd old new steps (end_by make result))
-passed_end held left old new steps make stop (Ok x) is wrong = absurd wrong
-passed_end held left old new steps make stop (Err other) is same = subst (λ (s : Stop). ForContents held left (IsStepEnd old new steps (Stopped s))) (sym same) (stopped_end held left old new steps stop is)
+pub passed_end : {T : Type 0} (held : Option Contents) (left : Option (List ℕ)) (old new : List (List ℕ)) (shelf : Shelf) (steps : Step Ending) (make : T → End) (stop : Stop) (result : Result T Stop)
+    → IsStopped held old new steps stop → IsErrAnd result (λ e. e ≡ stop) → ForContents held left (IsStepEnd old new shelf shelf steps (end_by make result))
+passed_end held left old new shelf steps make stop (Ok x) is wrong = absurd wrong
+passed_end held left old new shelf steps make stop (Err other) is same =
+    subst (λ (s : Stop). ForContents held left (IsStepEnd old new shelf shelf steps (Stopped s))) (sym same) (stopped_end held left old new shelf steps stop is)
 
 -- What ends the work that the steps gave ends the command.
-pub done_end : (held : Option Contents) (left : Option (List ℕ)) (old new : List (List ℕ)) (steps : Step Ending) (ending : Ending) (script : List ℕ) (end : End) → IsDone held old new steps ending
-    → IsLeft left script → IsEndOf ending script end → ForContents held left (IsStepEnd old new steps end)
-done_end held left old new steps ending script end is told due =
+pub done_end : (held : Option Contents) (left : Option (List ℕ)) (old new : List (List ℕ)) (before after : Shelf) (steps : Step Ending) (ending : Ending) (script : List ℕ) (end : End)
+    → IsDone held old new steps ending → IsLeft left script → IsEndOf ending before after script end → ForContents held left (IsStepEnd old new before after steps end)
+done_end held left old new before after steps ending script end is told due =
     let some = any_reads held in
     let one = is some.0 some.1 in (
       one.0,
@@ -55,15 +62,15 @@ done_end held left old new steps ending script end is told due =
       one.1,
       told,
       (
-        subst (λ (e : Ending). IsEndOf e script end) (sym (ap ended one.2.given)) due,
-        record { names = (steps one.0).names; is = one.2.names; some = ([], sym (append-nil (steps one.0).names)); all = inr (inr refl) },
+        subst (λ (e : Ending). IsEndOf e before after script end) (sym (ap ended one.2.given)) due,
+        record { names = (steps one.0).names; is = one.2.names; some = ([], sym (append-nil (steps one.0).names)); all = inr (inr (inr refl)) },
       ),
     )
 
 -- Work that fails is no end of its own.
-pub failed_end : (held : Option Contents) (left : Option (List ℕ)) (old new : List (List ℕ)) (steps : Step Ending) (ending : Ending) (end : End) → IsDone held old new steps ending
-    → ((script : List ℕ) → IsEndOf ending script end) → ForContents held left (IsStepEnd old new steps end)
-failed_end held left old new steps ending end is due = let script = any_left left in done_end held left old new steps ending script.0 end is script.1 (due script.0)
+pub failed_end : (held : Option Contents) (left : Option (List ℕ)) (old new : List (List ℕ)) (before after : Shelf) (steps : Step Ending) (ending : Ending) (end : End) → IsDone held old new steps ending
+    → ((script : List ℕ) → IsEndOf ending before after script end) → ForContents held left (IsStepEnd old new before after steps end)
+failed_end held left old new before after steps ending end is due = let script = any_left left in done_end held left old new before after steps ending script.0 end is script.1 (due script.0)
 
 pub prepend_nothing : (left : Option (List ℕ)) → left ≡ prepend_known [] left
 prepend_nothing None = refl
@@ -71,10 +78,12 @@ prepend_nothing (Some bytes) = refl
 
 -- where nothing is taken of the source
 pub took_nothing : (left : Option (List ℕ)) (stop : Stop) → IsTaken left left (stop_status stop)
-took_nothing left Usage = record { taken = []; is = prepend_nothing left; few = omega arith; refused = λ same. refl; too_long = λ same. cc; done = λ same. cc }
-took_nothing left (Refused name) = record { taken = []; is = prepend_nothing left; few = omega arith; refused = λ same. refl; too_long = λ same. cc; done = λ same. cc }
-took_nothing left Fault = record { taken = []; is = prepend_nothing left; few = omega arith; refused = λ same. refl; too_long = λ same. cc; done = λ same. cc }
-took_nothing left NoMemory = record { taken = []; is = prepend_nothing left; few = omega arith; refused = λ same. refl; too_long = λ same. cc; done = λ same. cc }
+took_nothing left Usage = record { taken = []; is = prepend_nothing left; few = omega arith; refused = λ same. refl; unopened = λ same. refl; too_long = λ same. cc; done = λ same. cc }
+took_nothing left (Refused name) = record { taken = []; is = prepend_nothing left; few = omega arith; refused = λ same. refl; unopened = λ same. refl; too_long = λ same. cc; done = λ same. cc }
+took_nothing left (Journal line) = record { taken = []; is = prepend_nothing left; few = omega arith; refused = λ same. refl; unopened = λ same. refl; too_long = λ same. cc; done = λ same. cc }
+took_nothing left (Disk line) = record { taken = []; is = prepend_nothing left; few = omega arith; refused = λ same. refl; unopened = λ same. refl; too_long = λ same. cc; done = λ same. cc }
+took_nothing left Fault = record { taken = []; is = prepend_nothing left; few = omega arith; refused = λ same. refl; unopened = λ same. refl; too_long = λ same. cc; done = λ same. cc }
+took_nothing left NoMemory = record { taken = []; is = prepend_nothing left; few = omega arith; refused = λ same. refl; unopened = λ same. refl; too_long = λ same. cc; done = λ same. cc }
 
 -- a source that was read to its end held what was read
 pub left_at_end : (before after : Option (List ℕ)) (script : List ℕ) → before ≡ prepend_known script after → IsAtEnd after → IsLeft before script
@@ -87,10 +96,3 @@ pub left_too_long : (before after : Option (List ℕ)) (taken : List ℕ) → be
 left_too_long before None taken is long = (taken, subst (λ (left : Option (List ℕ)). IsLeft left taken) (sym is) tt, long)
 left_too_long before (Some rest) taken is long =
     (taken ++ rest, subst (λ (left : Option (List ℕ)). IsLeft left (taken ++ rest)) (sym is) refl, omega (arith, long, length-append taken rest))
-
--- A script that was to be answered ends so.
-pub script_end : (register : Register) (key script : List ℕ) (result : Result RunEnd Stop) → MatchResult result (λ end. IsScriptDue register key script (run_status end) (run_text end)) IsFailing
-    → IsEndOf (to_answer register key) script (end_by Run result)
-script_end register key script (Ok end) due = inl due
-script_end register key script (Err stop) (inl is) = inr (inl (ap Stopped is))
-script_end register key script (Err stop) (inr is) = inr (inr (ap Stopped is))

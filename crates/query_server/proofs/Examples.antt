@@ -11,24 +11,26 @@ use Rattle.wire_lines.specs.Refusal.{no_token}
 use Rattle.wire_lines.specs.Reply.{reply_text}
 use Rattle.answer_path.specs.Reading.{IsReading, unlexed}
 use Rattle.answer_path.specs.Judgement.{judgement_of, refused_for}
-use Rattle.session_core.specs.House.{Register}
 use Rattle.query_server.specs.Status.{code_of, refused_text, usage_text}
 use Rattle.query_server.specs.Ending.{usage, refused}
 use Rattle.query_server.specs.Steps.{◌>>=◌}
 use Rattle.query_server.specs.Files.{always, readable}
-use Rattle.query_server.specs.Loaded.{key_read}
-use Rattle.query_server.specs.Run.{script_limit, IsScriptDue}
+use Rattle.query_server.specs.Loaded.{Loading, key_read}
+use Rattle.query_server.specs.Opened.{owners_in}
+use Rattle.query_server.specs.Shelves.{Shelf, Became, IsOnlySynced}
+use Rattle.query_server.specs.Run.{script_limit, IsAnswerDue, IsScriptDue}
+use Rattle.session_core.specs.Transcript.{Journals}
 use Rattle.query_server.specs.Check.{accepted_text}
 use Rattle.query_server.specs.Gap.{IsGapBy, IsGapDue, gap_text}
 use Rattle.query_server.specs.Due.{AreRead, IfFinished, IsFaultyWordsEnd, IsPrefix, IsWrittenAt}
 use Rattle.query_server.specs.Taken.{IsTaken}
-use Rattle.query_server.specs.declared.end.Status.TheVariants.{Done, ProgramRefused, Usage, Refused, Fault, NoMemory, ScriptTooLong}
+use Rattle.query_server.specs.declared.end.Status.TheVariants.{Done, ProgramRefused, Usage, Refused, JournalRefused, Fault, DiskFault, NoMemory, ScriptTooLong}
 
 -- ---- statuses and lines
 
--- the number of each status, 0 to 8: 4 and 6 are none
-numbers : code_of Done ∷ code_of ProgramRefused ∷ code_of Usage ∷ code_of Refused ∷ code_of Fault ∷ code_of NoMemory ∷ code_of ScriptTooLong ∷ []
-    ≡ 0 ∷ 1 ∷ 2 ∷ 3 ∷ 5 ∷ 7 ∷ 8 ∷ []
+-- the number of each status
+numbers : code_of Done ∷ code_of ProgramRefused ∷ code_of Usage ∷ code_of Refused ∷ code_of JournalRefused ∷ code_of Fault ∷ code_of DiskFault ∷ code_of NoMemory ∷ code_of ScriptTooLong ∷ []
+    ≡ 0 ∷ 1 ∷ 2 ∷ 3 ∷ 4 ∷ 5 ∷ 6 ∷ 7 ∷ 8 ∷ []
 numbers = refl
 
 refused_line : refused_text (codes "cat.json") ≡ codes "refused cat.json\n"
@@ -87,42 +89,64 @@ long_key : key_given 33 ≡ Err a
 unfolding ◌>>=◌
 long_key = refl
 
--- scripts of 2^24 bytes and of one more
-longest_script : (register : Register) (key script text : List ℕ) → length script ≡ 16777216 → IsScriptDue register key script ScriptTooLong text → ⊥
-longest_script register key script text is (inl (wrong, short, due)) = cc
-longest_script register key script text is (inr (over, long, due)) = let more : script_limit < length script = long in omega (arith, more, is)
+-- scripts of 2^24 bytes and of one more, where all journals are opened
+module _ (loading : Loading) (key : List ℕ) (old new : Shelf) (found : Journals) (script : List ℕ) where
+  longest_script : (text : List ℕ) → length script ≡ 16777216 → IsAnswerDue loading key old new found script ScriptTooLong text → ⊥
+  longest_script text is (inl (wrong, short, due)) = cc
+  longest_script text is (inr (over, long, due, disks)) = let more : script_limit < length script = long in omega (arith, more, is)
 
-longer_script : (register : Register) (key script : List ℕ) → length script ≡ 16777217
-    → IsScriptDue register key script ScriptTooLong (codes "script too long\n")
-longer_script register key script is = inr (refl, omega (arith, is), refl)
+  longer_script : length script ≡ 16777217 → Became (owners_in loading) (λ o. IsOnlySynced) old new
+      → IsAnswerDue loading key old new found script ScriptTooLong (codes "script too long\n")
+  longer_script is disks = inr (refl, omega (arith, is), refl, disks)
 
-longer_unanswered : (register : Register) (key script text : List ℕ) → length script ≡ 16777217 → IsScriptDue register key script Done text → ⊥
-longer_unanswered register key script text is (inl (over, short, due)) = let few : length script ≤ script_limit = short in omega (arith, few, is)
-longer_unanswered register key script text is (inr (wrong, long, due)) = cc
+  longer_unanswered : (text : List ℕ) → length script ≡ 16777217 → IsAnswerDue loading key old new found script Done text → ⊥
+  longer_unanswered text is (inl (over, short, due)) = let few : length script ≤ script_limit = short in omega (arith, few, is)
+  longer_unanswered text is (inr (wrong, long, due, disks)) = cc
+
+  -- A script is neither answered nor too long where a journal is refused, and comes to no other status than these.
+  unusable : (text : List ℕ) → IsScriptDue loading key old new script Refused text → ⊥
+  unusable text (inl due) = let wrong = due.is_status in cc
+  unusable text (inr (records, opened, inl (wrong, short, due))) = cc
+  unusable text (inr (records, opened, inr (wrong, long, due, disks))) = cc
 
 -- ---- what is written, read and taken
 
-usage_whole : IsWrittenAt usage [] Usage (codes "usage\n")
-usage_whole = inl (refl, refl)
+-- the disks are as they were
+module _ (shelf : Shelf) where
+  usage_whole : IsWrittenAt usage shelf shelf [] Usage (codes "usage\n")
+  usage_whole = inl (inl (refl, refl, λ o. refl))
 
-usage_cut : IsWrittenAt usage [] Fault (codes "usa")
-usage_cut = inr (inr (refl, inl (Usage, usage_text, (refl, refl), (codes "ge\n", refl))))
+  usage_cut : IsWrittenAt usage shelf shelf [] Fault (codes "usa")
+  usage_cut = inr (refl, (Usage, usage_text, inl (refl, refl, λ o. refl), (codes "ge\n", refl)))
 
-memory_whole : IsWrittenAt usage [] NoMemory (codes "memory\n")
-memory_whole = inr (inl (refl, refl))
+  memory_whole : IsWrittenAt usage shelf shelf [] NoMemory (codes "memory\n")
+  memory_whole = inl (inr (inl (refl, refl), λ o. refl))
 
-nothing_done : (text : List ℕ) → IsWrittenAt usage [] Done text → ⊥
-nothing_done text (inl (wrong, is)) = cc
-nothing_done text (inr (inl (wrong, is))) = cc
-nothing_done text (inr (inr (wrong, is))) = cc
+  memory_cut : IsWrittenAt usage shelf shelf [] Fault (codes "mem")
+  memory_cut = inr (refl, (NoMemory, codes "memory\n", inr (inl (refl, refl), λ o. refl), (codes "ory\n", refl)))
 
-name_written : IsWrittenAt (refused a) [] Refused (codes "refused a\n")
-name_written = inl (refl, refl)
+  name_written : IsWrittenAt (refused a) shelf shelf [] Refused (codes "refused a\n")
+  name_written = inl (inl (refl, refl, λ o. refl))
 
-name_unwritten : IsWrittenAt (refused a) [] Refused [] → ⊥
-name_unwritten (inl (is, wrong)) = cc
-name_unwritten (inr (inl (wrong, is))) = cc
-name_unwritten (inr (inr (wrong, is))) = cc
+-- and whatever they are
+module _ (old new : Shelf) where
+  nothing_done : (text : List ℕ) → IsWrittenAt usage old new [] Done text → ⊥
+  nothing_done text (inl (inl (wrong, is, same))) = cc
+  nothing_done text (inl (inr (inl (wrong, is), may))) = cc
+  nothing_done text (inl (inr (inr (wrong, line), may))) = cc
+  nothing_done text (inr (wrong, is)) = cc
+
+  no_disk_failed : (text : List ℕ) → IsWrittenAt usage old new [] DiskFault text → ⊥
+  no_disk_failed text (inl (inl (wrong, is, same))) = cc
+  no_disk_failed text (inl (inr (inl (wrong, is), may))) = cc
+  no_disk_failed text (inl (inr (inr (is, line), may))) = line
+  no_disk_failed text (inr (wrong, is)) = cc
+
+  name_unwritten : IsWrittenAt (refused a) old new [] Refused [] → ⊥
+  name_unwritten (inl (inl (is, wrong, same))) = cc
+  name_unwritten (inl (inr (inl (wrong, is), may))) = cc
+  name_unwritten (inl (inr (inr (wrong, line), may))) = cc
+  name_unwritten (inr (wrong, is)) = cc
 
 -- a text begins with its first byte and not with its second
 first_byte : IsPrefix (1 ∷ []) (1 ∷ 2 ∷ [])
@@ -150,7 +174,7 @@ no_token_undone X Y program text (wrong, is) = cc
 
 -- of two files that are due both are read, or one where something failed, and never the second first
 both_read : AreRead Refused (a ∷ b ∷ []) (c ∷ []) (c ∷ a ∷ b ∷ [])
-both_read = record { names = a ∷ b ∷ []; is = refl; some = ([], refl); all = inr (inr refl) }
+both_read = record { names = a ∷ b ∷ []; is = refl; some = ([], refl); all = inr (inr (inr refl)) }
 
 one_read : AreRead Fault (a ∷ b ∷ []) (c ∷ []) (c ∷ a ∷ [])
 one_read = record { names = a ∷ []; is = refl; some = (b ∷ [], refl); all = inl refl }
@@ -158,7 +182,8 @@ one_read = record { names = a ∷ []; is = refl; some = (b ∷ [], refl); all = 
 unread_at : (names : List (List ℕ)) → [] ≡ [] ++ names → IfFinished Refused (names ≡ a ∷ []) → ⊥
 unread_at [] is (inl wrong) = cc
 unread_at [] is (inr (inl wrong)) = cc
-unread_at [] is (inr (inr wrong)) = cc
+unread_at [] is (inr (inr (inl wrong))) = cc
+unread_at [] is (inr (inr (inr wrong))) = cc
 unread_at (name ∷ names) is all = cc
 
 wrong_at : (names rest : List (List ℕ)) → (1 ∷ []) ∷ [] ≡ [] ++ names → (2 ∷ []) ∷ [] ≡ names ++ rest → ⊥
@@ -178,6 +203,7 @@ both_taken = record {
   is = refl;
   few = omega arith;
   refused = λ wrong. absurd (cc wrong);
+  unopened = λ wrong. elim wrong [ inl is ↦ absurd (cc is) | inr is ↦ absurd (cc is) ];
   too_long = λ wrong. absurd (cc wrong);
   done = λ is. (omega arith, refl);
 }
@@ -187,6 +213,14 @@ one_left t = let none : 2 ∷ [] ≡ [] = (t.done refl).1 in cc none
 
 one_taken : IsTaken (Some (1 ∷ [])) (Some []) Refused → ⊥
 one_taken t = let left : Some (1 ∷ []) ≡ prepend_known [] (Some []) = subst (λ xs. Some (1 ∷ []) ≡ prepend_known xs (Some [])) (t.refused refl) t.is in cc left
+
+one_taken_unopened : IsTaken (Some (1 ∷ [])) (Some []) JournalRefused → ⊥
+one_taken_unopened t =
+    let left : Some (1 ∷ []) ≡ prepend_known [] (Some []) = subst (λ xs. Some (1 ∷ []) ≡ prepend_known xs (Some [])) (t.unopened (inl refl)) t.is in cc left
+
+one_taken_of_a_disk : IsTaken (Some (1 ∷ [])) (Some []) DiskFault → ⊥
+one_taken_of_a_disk t =
+    let left : Some (1 ∷ []) ≡ prepend_known [] (Some []) = subst (λ xs. Some (1 ∷ []) ≡ prepend_known xs (Some [])) (t.unopened (inr refl)) t.is in cc left
 
 too_few_taken : (before after : Option (List ℕ)) (t : IsTaken before after ScriptTooLong) → length t.taken ≡ 16777216 → ⊥
 too_few_taken before after t is = let more : script_limit < length t.taken = t.too_long refl in omega (arith, more, is)

@@ -1,14 +1,15 @@
 -- worked examples of steps, and of the order of work of each command with the names that it reads
-use Rattle.std.proofs.Common.{◌≡◌, ℕ, zero, suc, List, [], ◌∷◌, ◌++◌, Option, Some, None, refl, ap, ◌∙◌}
+use Rattle.std.proofs.Common.{◌≡◌, ℕ, zero, suc, List, [], ◌∷◌, ◌++◌, Option, Some, None, replicate, refl, ap, ◌∙◌}
 use Rattle.std.specs.Prelude.{Result, Ok, Err, codes, pos, ok_or}
 use Rattle.fz_ast.specs.declared.row.Column.TheVariants.{Num}
-use Rattle.owner_catalog.specs.Catalog.{OwnerEntry, TableEntry, Catalog, signature_of}
-use Rattle.session_core.specs.House.{Register}
-use Rattle.query_server.specs.Ending.{usage, Ending, to_answer, to_check, to_compare}
+use Rattle.owner_catalog.specs.Catalog.{OwnerEntry, TableEntry, Catalog, owner_signature}
+use Rattle.query_server.specs.Ending.{usage, Ending, to_answer, to_make, to_count, to_check, to_compare}
 use Rattle.query_server.specs.Files.{Reads, always, readable, Contents}
 use Rattle.query_server.specs.Steps.{Outcome, ◌>>=◌, behind, each, file_read, Step, continued}
-use Rattle.query_server.specs.Loaded.{key_read, catalog_read, holding_read, loaded, rows_read}
+use Rattle.query_server.specs.Loaded.{LoadedTable, LoadedOwner, Loading, key_read, catalog_read, table_read, owner_read, loaded, with_house}
 use Rattle.query_server.specs.Run.{run_steps}
+use Rattle.query_server.specs.Make.{make_steps}
+use Rattle.query_server.specs.Count.{count_steps}
 use Rattle.query_server.specs.Check.{check_steps}
 use Rattle.query_server.specs.Gap.{gap_steps}
 use Rattle.query_server.specs.Due.{files_of, steps_of}
@@ -109,10 +110,20 @@ abbrev rows : List Flat
 rows = NumF (pos 1) ∷ []
 
 abbrev holding : (name file : List ℕ) → Holding
-holding name file = record { tables = signature_of (with_table name file); rows = rows ∷ [] }
+holding name file = record { tables = owner_signature (with_table name file); rows = rows ∷ [] }
 
-abbrev register : Register
-register = record { catalog = both; holdings = holding a a_csv ∷ holding b b_csv ∷ [] }
+-- the SHA-256 of a table's file
+abbrev hash : List ℕ
+hash = replicate 32 7
+
+abbrev table_loaded : LoadedTable
+table_loaded = record { rows = rows; hash = hash }
+
+abbrev owner_held : (name file : List ℕ) → LoadedOwner
+owner_held name file = record { holding = holding name file; hashes = hash ∷ [] }
+
+abbrev loading : Loading
+loading = record { register = record { catalog = both; holdings = holding a a_csv ∷ holding b b_csv ∷ [] }; hashes = (hash ∷ []) ∷ (hash ∷ []) ∷ [] }
 
 abbrev HasCatalog : Contents → Type 0
 HasCatalog held = Comes (catalog_read cat) held (Ok both) (cat ∷ [])
@@ -121,27 +132,27 @@ abbrev HasSecond : Contents → Type 0
 HasSecond held = Comes (catalog_read second) held (Ok one) (second ∷ [])
 
 -- a file as a table of these owners: it holds rows, or is refused
-abbrev rows_in : (file : List ℕ) → Step (List Flat)
-rows_in file = rows_read (table_in file)
+abbrev rows_in : (file : List ℕ) → Step LoadedTable
+rows_in file = table_read (table_in file)
 
 abbrev HasRows : Contents → (file : List ℕ) → Type 0
-HasRows held file = Comes (rows_in file) held (Ok rows) (file ∷ [])
+HasRows held file = Comes (rows_in file) held (Ok table_loaded) (file ∷ [])
 
 abbrev HasNone : Contents → (file : List ℕ) → Type 0
 HasNone held file = Comes (rows_in file) held (Err file) (file ∷ [])
 
 -- what an owner of one table holds
-held_by : (held : Contents) (name file : List ℕ) → HasRows held file → Comes (holding_read (with_table name file)) held (Ok (holding name file)) (file ∷ [])
+held_by : (held : Contents) (name file : List ℕ) → HasRows held file → Comes (owner_read (with_table name file)) held (Ok (owner_held name file)) (file ∷ [])
 unfolding each
 held_by held name csv has = goes_on _ _ held _ _ _ _ (goes_on _ _ held _ _ _ _ has (goes_on _ _ held _ _ _ _ refl refl)) refl
 
-unheld_by : (held : Contents) (name file : List ℕ) → HasNone held file → Comes (holding_read (with_table name file)) held (Err file) (file ∷ [])
+unheld_by : (held : Contents) (name file : List ℕ) → HasNone held file → Comes (owner_read (with_table name file)) held (Err file) (file ∷ [])
 unfolding each
 unheld_by held name csv has = stops _ _ held _ _ (stops _ _ held _ _ has)
 
 -- the tables of all owners, in order
 all_loaded : (held : Contents) → HasRows held a_csv → HasRows held b_csv
-    → Comes (loaded both) held (Ok register) (a_csv ∷ b_csv ∷ [])
+    → Comes (loaded both) held (Ok loading) (a_csv ∷ b_csv ∷ [])
 unfolding each
 all_loaded held first second =
     goes_on _ _ held _ _ _ _ (goes_on _ _ held _ _ _ _ (held_by held a a_csv first)
@@ -157,7 +168,7 @@ unfolding each
 second_table_refused held first second =
     stops _ _ held _ _ (goes_on _ _ held _ _ _ _ (held_by held a a_csv first) (stops _ _ held _ _ (stops _ _ held _ _ (unheld_by held b b_csv second))))
 
-all_of_second : (held : Contents) → HasRows held c_csv → Comes (loaded one) held (Ok (record { catalog = one; holdings = holding a c_csv ∷ [] })) (c_csv ∷ [])
+all_of_second : (held : Contents) → HasRows held c_csv → Comes (loaded one) held (Ok (record { register = record { catalog = one; holdings = holding a c_csv ∷ [] }; hashes = (hash ∷ []) ∷ [] })) (c_csv ∷ [])
 unfolding each
 all_of_second held has = goes_on _ _ held _ _ _ _ (goes_on _ _ held _ _ _ _ (held_by held a c_csv has) (goes_on _ _ held _ _ _ _ refl refl)) refl
 
@@ -170,22 +181,32 @@ program_read : (held : Contents) (found : Option (List ℕ)) → held program �
     → Comes (file_read program) held (ok_or (readable found) program) (program ∷ [])
 program_read held found is = ap (λ found. record { given = ok_or (readable found) program; names = program ∷ []; rest = always held }) is
 
--- `run`: CATALOG, KEY, the tables
-run_catalog : (held : Contents) → Comes (catalog_read cat) held (Err cat) (cat ∷ []) → Comes (run_steps cat key) held (Err cat) (cat ∷ [])
-run_catalog held none = stops _ _ held _ _ none
+-- `run`, `init`, `audit`: CATALOG, KEY, the tables of all owners
+module _ {A : Type 0} (work : Loading → List ℕ → A) (held : Contents) where
+  house_catalog : Comes (catalog_read cat) held (Err cat) (cat ∷ []) → Comes (with_house work cat key) held (Err cat) (cat ∷ [])
+  house_catalog none = stops _ _ held _ _ none
 
-run_key : (held : Contents) → HasCatalog held → Comes (key_read key) held (Err key) (key ∷ []) → Comes (run_steps cat key) held (Err key) (cat ∷ key ∷ [])
-run_key held has none = goes_on _ _ held _ _ _ _ has (stops _ _ held _ _ none)
+  house_key : HasCatalog held → Comes (key_read key) held (Err key) (key ∷ []) → Comes (with_house work cat key) held (Err key) (cat ∷ key ∷ [])
+  house_key has none = goes_on _ _ held _ _ _ _ has (stops _ _ held _ _ none)
 
-run_table : (held : Contents) (bytes : List ℕ) → HasCatalog held → Comes (key_read key) held (Ok bytes) (key ∷ []) → HasRows held a_csv → HasNone held b_csv
-    → Comes (run_steps cat key) held (Err b_csv) (cat ∷ key ∷ a_csv ∷ b_csv ∷ [])
-run_table held bytes has has_key first none =
-    goes_on _ _ held _ _ _ _ has (goes_on _ _ held _ _ _ _ has_key (stops _ _ held _ _ (second_table_refused held first none)))
+  house_table : (bytes : List ℕ) → HasCatalog held → Comes (key_read key) held (Ok bytes) (key ∷ []) → HasRows held a_csv → HasNone held b_csv
+      → Comes (with_house work cat key) held (Err b_csv) (cat ∷ key ∷ a_csv ∷ b_csv ∷ [])
+  house_table bytes has has_key first none =
+      goes_on _ _ held _ _ _ _ has (goes_on _ _ held _ _ _ _ has_key (stops _ _ held _ _ (second_table_refused held first none)))
 
-run_whole : (held : Contents) (bytes : List ℕ) → HasCatalog held → Comes (key_read key) held (Ok bytes) (key ∷ []) → HasRows held a_csv → HasRows held b_csv
-    → Comes (run_steps cat key) held (Ok (to_answer register bytes)) (cat ∷ key ∷ a_csv ∷ b_csv ∷ [])
-run_whole held bytes has has_key first second =
-    goes_on _ _ held _ _ _ _ has (goes_on _ _ held _ _ _ _ has_key (goes_on _ _ held _ _ _ _ (all_loaded held first second) refl))
+  house_whole : (bytes : List ℕ) → HasCatalog held → Comes (key_read key) held (Ok bytes) (key ∷ []) → HasRows held a_csv → HasRows held b_csv
+      → Comes (with_house work cat key) held (Ok (work loading bytes)) (cat ∷ key ∷ a_csv ∷ b_csv ∷ [])
+  house_whole bytes has has_key first second =
+      goes_on _ _ held _ _ _ _ has (goes_on _ _ held _ _ _ _ has_key (goes_on _ _ held _ _ _ _ (all_loaded held first second) refl))
+
+of_run : run_steps cat key ≡ with_house to_answer cat key
+of_run = refl
+
+of_init : make_steps cat key ≡ with_house to_make cat key
+of_init = refl
+
+of_audit : count_steps cat key ≡ with_house to_count cat key
+of_audit = refl
 
 -- `check`: CATALOG, OWNER, the tables of all owners, FILE
 check_owner : (held : Contents) → HasCatalog held → Comes (check_steps cat nobody program) held (Err nobody) (cat ∷ [])
@@ -203,7 +224,7 @@ check_file held has first second none =
     (stops _ _ held _ _ (program_read held None none))))
 
 check_whole : (held : Contents) → HasCatalog held → HasRows held a_csv → HasRows held b_csv → held program ≡ Some (codes "1")
-    → Comes (check_steps cat b program) held (Ok (to_check (signature_of (with_table b b_csv)) (codes "1"))) (cat ∷ a_csv ∷ b_csv ∷ program ∷ [])
+    → Comes (check_steps cat b program) held (Ok (to_check (owner_signature (with_table b b_csv)) (codes "1"))) (cat ∷ a_csv ∷ b_csv ∷ program ∷ [])
 check_whole held has first second file =
     goes_on _ _ held _ _ _ _ has (goes_on _ _ held _ _ _ _ refl (goes_on _ _ held _ _ _ _ (goes_on _ _ held _ _ _ _ (all_loaded held first second) refl)
     (goes_on _ _ held _ _ _ _ (program_read held (Some (codes "1")) file) refl)))
@@ -230,7 +251,7 @@ gap_second_table held has has_second first other none =
 
 gap_whole : (held : Contents) → HasCatalog held → HasSecond held → HasRows held a_csv → HasRows held b_csv → HasRows held c_csv
     → held program ≡ Some (codes "1")
-    → Comes (gap_steps cat a second program) held (Ok (to_compare (signature_of (with_table a a_csv)) (rows ∷ []) (rows ∷ []) (codes "1")))
+    → Comes (gap_steps cat a second program) held (Ok (to_compare (owner_signature (with_table a a_csv)) (rows ∷ []) (rows ∷ []) (codes "1")))
     (cat ∷ second ∷ a_csv ∷ b_csv ∷ c_csv ∷ program ∷ [])
 gap_whole held has has_second first other third file =
     goes_on _ _ held _ _ _ _ has (goes_on _ _ held _ _ _ _ refl (goes_on _ _ held _ _ _ _ has_second (goes_on _ _ held _ _ _ _ refl

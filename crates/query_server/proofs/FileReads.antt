@@ -9,7 +9,7 @@ use Rattle.query_server.specs.Files.{Contents, Reads, AreTold, always, readable}
 use Rattle.query_server.specs.Steps.{file_read}
 use Rattle.query_server.specs.Ends.{IsGiven, IsRefusalOf, IsRefusedBy, IsStopAt}
 use Rattle.query_server.specs.declared.end.Stop.{Stop}
-use Rattle.query_server.specs.declared.end.Stop.TheVariants.{Usage, Refused, Fault, NoMemory}
+use Rattle.query_server.specs.declared.end.Stop.TheVariants.{Usage, Refused, Journal, Disk, Fault, NoMemory}
 
 readable_short : (bytes : List ℕ) → length bytes ≤ 2 ^ 26 → readable (Some bytes) ≡ Some bytes
 readable_short bytes short = ap (λ b. cond b (Some bytes) None) (le-leb (length bytes) (2 ^ 26) short)
@@ -56,6 +56,8 @@ file_given held name bytes read old new found bound is named rest told =
 refused_at : (name : List ℕ) (reads : Reads) (old new : List (List ℕ)) (stop : Stop) → readable (reads 0 name) ≡ None → new ≡ old ++ name ∷ [] → IsRefusalOf name stop → IsStopAt (file_read name reads) old new stop
 refused_at name reads old new Usage none named is = absurd is
 refused_at name reads old new (Refused other) none named is = (ap (λ contents. ok_or contents name) none ∙ ap Err (sym is), named)
+refused_at name reads old new (Journal line) none named is = absurd is
+refused_at name reads old new (Disk line) none named is = absurd is
 refused_at name reads old new Fault none named is = absurd is
 refused_at name reads old new NoMemory none named is = (name ∷ [], [], named, refl)
 
@@ -76,6 +78,8 @@ key_decided name bytes key given same long is =
 pub refusal_decided : {A : Type 0} (name : List ℕ) (given : Result A (List ℕ)) (stop : Stop) → given ≡ Err name → IsRefusalOf name stop → IsRefusedBy given stop
 refusal_decided name given Usage is refuses = absurd refuses
 refusal_decided name given (Refused other) is refuses = is ∙ ap Err (sym refuses)
+refusal_decided name given (Journal line) is refuses = absurd refuses
+refusal_decided name given (Disk line) is refuses = absurd refuses
 refusal_decided name given Fault is refuses = absurd refuses
 refusal_decided name given NoMemory is refuses = tt
 

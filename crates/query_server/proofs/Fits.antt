@@ -8,7 +8,7 @@ use Rattle.fz_ast.specs.Signature.{Signature, TableType}
 use Rattle.fz_ast.specs.declared.row.Column.{Column}
 use Rattle.fz_ast.specs.declared.row.Column.TheVariants.{Num, Text}
 use Rattle.table_store.specs.Schema.{NamedColumn, column_kind, row_of_schema}
-use Rattle.owner_catalog.specs.Catalog.{Catalog, IsCatalog, OwnerEntry, TableEntry, signature_of}
+use Rattle.owner_catalog.specs.Catalog.{Catalog, IsCatalog, OwnerEntry, TableEntry, owner_signature}
 use Rattle.owner_catalog.specs.Entries.{table_type_of}
 use Rattle.query_server.specs.Files.{Contents}
 use Rattle.query_server.specs.Loaded.{catalog_read, entry_named}
@@ -48,15 +48,15 @@ tables_same (x ∷ xs) (y ∷ ys) is =
     let both = and_parts (same_table x y) (pointwise same_table xs ys) is in
     ap (λ (table : TableType). table ∷ map table_type_of xs) (table_same x y both.0) ∙ ap (λ (tables : Signature). table_type_of y ∷ tables) (tables_same xs ys both.1)
 
-if_same : (entry : OwnerEntry) (name : List ℕ) (found : Result OwnerEntry (List ℕ)) (other : OwnerEntry) → if_fitting entry name found ≡ Ok other → signature_of other ≡ signature_of entry
+if_same : (entry : OwnerEntry) (name : List ℕ) (found : Result OwnerEntry (List ℕ)) (other : OwnerEntry) → if_fitting entry name found ≡ Ok other → owner_signature other ≡ owner_signature entry
 if_same entry name (Err refused) other is = cc
 if_same entry name (Ok found) other is = here (pointwise same_table entry.tables found.tables) refl is
   where
-    here : (b : Bool) → pointwise same_table entry.tables found.tables ≡ b → cond b (Ok found) (Err name) ≡ Ok other → signature_of other ≡ signature_of entry
-    here true same is = let it : found ≡ other = cc in sym (tables_same entry.tables found.tables same ∙ ap signature_of it)
+    here : (b : Bool) → pointwise same_table entry.tables found.tables ≡ b → cond b (Ok found) (Err name) ≡ Ok other → owner_signature other ≡ owner_signature entry
+    here true same is = let it : found ≡ other = cc in sym (tables_same entry.tables found.tables same ∙ ap owner_signature it)
     here false same is = cc
 
-pub same_signature : (entry : OwnerEntry) (catalog : Catalog) (name : List ℕ) (other : OwnerEntry) → fitting entry catalog name ≡ Ok other → signature_of other ≡ signature_of entry
+pub same_signature : (entry : OwnerEntry) (catalog : Catalog) (name : List ℕ) (other : OwnerEntry) → fitting entry catalog name ≡ Ok other → owner_signature other ≡ owner_signature entry
 same_signature entry catalog name other is = if_same entry name (entry_named catalog name) other is
 
 -- A catalog that was opened keeps the rules.

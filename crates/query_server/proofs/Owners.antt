@@ -6,7 +6,7 @@ use Rattle.std.proofs.lemmas.List.Folds.{find_at}
 use Rattle.std.proofs.lemmas.List.Quantifiers.{position-Some}
 use Rattle.std.proofs.lemmas.Option.{slice_get-get_or, slice_get_past}
 use Rattle.std.proofs.lemmas.Bool.{ltb-false}
-use Rattle.owner_catalog.specs.Entries.{Catalog, OwnerEntry, owner_at}
+use Rattle.owner_catalog.specs.Entries.{Catalog, OwnerEntry, owner_entry_at}
 use Rattle.query_server.specs.Loaded.{entry_named}
 use Rattle.query_server.specs.Ends.{IsOwnerAt, IsRefusalOf, IsRefusedBy}
 use Rattle.query_server.specs.declared.end.Stop.{Stop}
@@ -30,7 +30,7 @@ find_nowhere p xs is = find_at p xs ∙ slice_get_past xs (position_or_len p xs)
 pub owner_found : (catalog : Catalog) (name : List ℕ) (o : ℕ) → position (λ (owner : OwnerEntry). bytes_eq name owner.name) catalog.owners ≡ Some o → IsOwnerAt catalog name o
 owner_found catalog name o is = record {
   place = is;
-  within = (position-Some (λ (owner : OwnerEntry). bytes_eq name owner.name) catalog.owners o (owner_at catalog 0) is).0;
+  within = (position-Some (λ (owner : OwnerEntry). bytes_eq name owner.name) catalog.owners o (owner_entry_at catalog 0) is).0;
   is = ap (λ found. ok_or found name) (find_place (λ (owner : OwnerEntry). bytes_eq name owner.name) catalog.owners o _ is);
 }
 

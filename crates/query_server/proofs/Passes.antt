@@ -1,69 +1,131 @@
--- a pass for each owner of a house, on which nothing was found or done
-use Rattle.std.proofs.Common.{◌≡◌, ℕ, ◌+◌, ◌<◌, ◌≤◌, Bool, true, false, List, [], ◌∷◌, ◌++◌, length, slice_get, Some, refl, sym, ◌∙◌, ap, subst, arith, length-append}
+-- passes on books that were opened one after another
+use Rattle.std.proofs.Common.{◌≡◌, ℕ, ◌+◌, ◌<◌, ◌≤◌, List, [], ◌∷◌, ◌++◌, length, Option, Some, None, refl, sym, ◌∙◌, ap, subst, arith, length-append}
+use Rattle.std.specs.Prelude.{IfSome}
 use mathlib.Core.Logic.{◌⊎◌, inl, inr}
-use Rattle.std.specs.Prelude.{nat_lt}
+use Rattle.std.proofs.lemmas.Bool.{cases_eq, cases_lt}
 use Rattle.std.proofs.Math.Seq.{get_or-append_seam}
-use Rattle.std.proofs.lemmas.Option.{slice_get_within}
-use Rattle.std.proofs.lemmas.Bool.{ltb-false, ltb-true}
-use Rattle.answer_path.specs.Owner.{Owner}
+use Rattle.outside_disks.specs.Disks.{Shown, Trace, WhereTold}
+use Rattle.journal_records.specs.declared.records.Header.{Header}
+use Rattle.journal_records.specs.declared.records.Record.{Record}
+use Rattle.budget_journal.specs.Journals.{Found, MayHaveSynced}
+use Rattle.budget_core.specs.Entries.{Entry}
+use Rattle.budget_ledger.specs.Account.{Account}
 use Rattle.answer_path.specs.Pass.{Pass}
-use Rattle.session_core.specs.House.{House, Register, house_of}
-use Rattle.session_core.specs.Code.{ArePasses, AreFresh, found_by, no_pass, pass_at}
-use Rattle.session_core.specs.Transcript.{Journals, IsScriptWritten, IsTranscript}
-use Rattle.query_server.specs.Run.{none_found}
-use Rattle.query_server.specs.Ends.{AreNew}
-use Rattle.query_server.proofs.Endings.{found_as}
-use Rattle.query_server.proofs.Places.{earlier, with_last}
+use Rattle.session_core.specs.Code.{no_pass, pass_at}
+use Rattle.fz_outside.specs.Faults.{HasRisen, last_count}
+use Rattle.query_server.specs.Shelves.{Shelf, Became, IsOnlySynced, SomeRose}
+use Rattle.query_server.specs.Books.{ArePassesOn, ArePutBack, IsNewBook, IsNewPass, LeftDisk, TookDisk, shown_by}
+use Rattle.query_server.proofs.Places.{earlier}
 
--- passes for the first owners of a house
-pub record AreFirst (house : House) (passes : List Pass) (n : ℕ) : Type 0 where
-  pub count : length passes ≡ n
-  pub entries : (o : ℕ) (owner : Owner) → o < n → slice_get house.owners o ≡ Some owner → (pass_at passes o).entry ≡ owner.entry
-  pub news : AreNew passes
-
-pub no_passes : (house : House) → AreFirst house [] 0
-no_passes house = record { count = refl; entries = λ o owner less at. absurd (omega (arith, less)); news = λ o. (refl, refl) }
-
--- What holds of the pass at a place among these, and of one more where that is the last.
-at_place : (P : Pass → Type 0) (passes : List Pass) (pass : Pass) (o : ℕ) → P (pass_at passes o) → (o ≡ length passes → P pass) → P (pass_at (passes ++ pass ∷ []) o)
-at_place P passes pass o before last = here (with_last passes pass no_pass o)
-  where
-    here : (pass_at (passes ++ pass ∷ []) o ≡ pass_at passes o) ⊎ ((o ≡ length passes) × (pass_at (passes ++ pass ∷ []) o ≡ pass)) → P (pass_at (passes ++ pass ∷ []) o)
-    here (inl same) = subst P (sym same) before
-    here (inr (is, same)) = subst P (sym same) (last is)
-
-one_entry : (house : House) (passes : List Pass) (n : ℕ) (pass : Pass) → AreFirst house passes n → ((owner : Owner) → slice_get house.owners n ≡ Some owner → pass.entry ≡ owner.entry)
-    → (o : ℕ) (owner : Owner) → o < n + 1 → slice_get house.owners o ≡ Some owner → (pass_at (passes ++ pass ∷ []) o).entry ≡ owner.entry
-one_entry house passes n pass are entry o owner less at = here (nat_lt o n) refl
-  where
-    last : o ≡ n → (pass_at (passes ++ pass ∷ []) o).entry ≡ owner.entry
-    last is = ap (λ k. (pass_at (passes ++ pass ∷ []) k).entry) (is ∙ sym are.count) ∙ ap (λ (p : Pass). p.entry) (get_or-append_seam passes pass [] no_pass)
-        ∙ entry owner (subst (λ k. slice_get house.owners k ≡ Some owner) is at)
-
-    here : (b : Bool) → nat_lt o n ≡ b → (pass_at (passes ++ pass ∷ []) o).entry ≡ owner.entry
-    here true is =
-        let first : o < n = ltb-true o n is in
-        ap (λ (p : Pass). p.entry) (earlier passes pass no_pass o (omega (arith, first, are.count))) ∙ are.entries o owner first at
-    here false is = let past : n ≤ o = ltb-false o n is in last (omega (arith, past, less))
-
-pub one_pass_more : (house : House) (passes : List Pass) (n : ℕ) (pass : Pass) → AreFirst house passes n → ((owner : Owner) → slice_get house.owners n ≡ Some owner → pass.entry ≡ owner.entry)
-    → pass.found ≡ [] → pass.seen ≡ [] → AreFirst house (passes ++ pass ∷ []) (n + 1)
-one_pass_more house passes n pass are entry found seen = record {
-  count = length-append passes (pass ∷ []) ∙ ap (λ k. k + 1) are.count;
-  entries = λ o owner less at. one_entry house passes n pass are entry o owner less at;
-  news = λ o. at_place (λ (p : Pass). (p.found ≡ []) × (p.seen ≡ [])) passes pass o (are.news o) (λ last. (found, seen));
+pub none_opened : (entries : ℕ → Entry) (headers : ℕ → Header) (shelf : Shelf) → ArePassesOn entries headers 0 shelf shelf []
+none_opened entries headers shelf = record {
+  count = refl;
+  each = λ o less. absurd (omega (arith, less));
+  taken = λ o less. absurd (omega (arith, less));
+  others = λ o past. refl;
 }
 
--- passes for all owners
-pub are_all : (house : House) (passes : List Pass) (n : ℕ) → AreFirst house passes n → n ≡ length house.owners → ArePasses house passes
-are_all house passes n are is = record {
-  each_has = are.count ∙ is;
-  entries = λ o owner at. (let within : o < length house.owners = slice_get_within house.owners o owner at in are.entries o owner (omega (arith, within, is)) at);
+new_at : (entries : ℕ → Entry) (headers : ℕ → Header) (old : Shelf) (passes : List Pass) (pass : Pass) (n : ℕ) → length passes ≡ n → IsNewPass (entries n) (headers n) (old n) pass
+    → ((o : ℕ) → o < n → IsNewPass (entries o) (headers o) (old o) (pass_at passes o))
+    → (o : ℕ) → o < n + 1 → (o ≡ n) ⊎ (o ≡ n → ⊥) → IsNewPass (entries o) (headers o) (old o) (pass_at (passes ++ pass ∷ []) o)
+new_at entries headers old passes pass n count new each o less (inl is) =
+    let seam : pass_at (passes ++ pass ∷ []) o ≡ pass = ap (pass_at (passes ++ pass ∷ [])) (is ∙ sym count) ∙ get_or-append_seam passes pass [] no_pass in
+    subst (λ (p : Pass). IsNewPass (entries o) (headers o) (old o) p) (sym seam) (subst (λ (k : ℕ). IsNewPass (entries k) (headers k) (old k) pass) (sym is) new)
+new_at entries headers old passes pass n count new each o less (inr isnt) =
+    let first : o < n = before o n less isnt in
+    subst (λ (p : Pass). IsNewPass (entries o) (headers o) (old o) p) (sym (earlier passes pass no_pass o (omega (arith, first, count)))) (each o first)
+  where
+    before : (o n : ℕ) → o < n + 1 → (o ≡ n → ⊥) → o < n
+    before o n less isnt = grind (arith, less, isnt)
+
+-- a pass on a book that was just opened
+pub opened_pass : (entry : Entry) (header wanted : Header) (mid old : Option Shown) (book : Account) (pass : Pass) → header ≡ wanted → mid ≡ old
+    → pass ≡ record { entry = book.ledger.entry; found = book.ledger.found; seen = book.ledger.found; own = []; storage = book.storage } → IsNewBook entry header mid book → IsNewPass entry wanted old pass
+opened_pass entry header wanted mid old book pass of_header at is new =
+    subst (λ (p : Pass). IsNewPass entry wanted old p) (sym is)
+    (subst (λ (h : Header). IsNewPass entry h old (record { entry = book.ledger.entry; found = book.ledger.found; seen = book.ledger.found; own = []; storage = book.storage })) of_header
+    (subst (λ (s : Option Shown). IsNewPass entry header s (record { entry = book.ledger.entry; found = book.ledger.found; seen = book.ledger.found; own = []; storage = book.storage })) at
+    (record { of_entry = new.of_entry; fresh = refl; of_header = new.of_header; unclosed = new.unclosed; history = new.history; on = new.on })))
+
+-- one more
+pub one_opened : (entries : ℕ → Entry) (headers : ℕ → Header) (n : ℕ) (old mid new : Shelf) (passes : List Pass) (pass : Pass) → ArePassesOn entries headers n old mid passes → TookDisk n mid new
+    → IsNewPass (entries n) (headers n) (old n) pass → ArePassesOn entries headers (n + 1) old new (passes ++ pass ∷ [])
+one_opened entries headers n old mid new passes pass on took is = record {
+  count = length-append passes (pass ∷ []) ∙ ap (λ k. k + 1) on.count;
+  each = λ o less. new_at entries headers old passes pass n on.count is on.each o less (cases_eq o n);
+  taken = λ o less. taken_at o less (cases_eq o n);
+  others = λ o past. took.1 o (λ same. omega (arith, past, same)) ∙ on.others o (omega (arith, past));
+}
+  where
+    taken_at : (o : ℕ) → o < n + 1 → (o ≡ n) ⊎ (o ≡ n → ⊥) → new o ≡ None
+    taken_at o less (inl same) = ap new same ∙ took.0
+    taken_at o less (inr isnt) = took.1 o isnt ∙ on.taken o (before o n less isnt)
+      where
+        before : (o n : ℕ) → o < n + 1 → (o ≡ n → ⊥) → o < n
+        before o n less isnt = grind (arith, less, isnt)
+
+-- ---- disks that are put back with nothing written
+
+synced_trace : (header : Header) (found : List Record) (before now : Option Trace) → WhereTold (Found header found) before now → MayHaveSynced before now
+synced_trace header found None None f = inl refl
+synced_trace header found None (Some u) f = absurd f
+synced_trace header found (Some t) None f = absurd f
+synced_trace header found (Some t) (Some u) f = inr (ap Some f.0)
+
+pub new_synced : (entry : Entry) (header : Header) (before : Shown) (shown : Option Shown) (pass : Pass) → shown ≡ Some before → IsNewPass entry header shown pass → IsOnlySynced before (shown_by pass)
+new_synced entry header before shown pass at new =
+    let on = subst (λ (s : Option Shown). IfSome s (λ b. WhereTold (Found header pass.found) b.trace pass.storage.trace × (pass.storage.faults ≡ b.faults))) at new.on in
+    record { synced = synced_trace header pass.found before.trace pass.storage.trace on.0; counts = omega (arith, on.1) }
+
+synced_self : (shown : Shown) → IsOnlySynced shown shown
+synced_self shown = record { synced = inl refl; counts = omega arith }
+
+-- all
+pub all_back : (entries : ℕ → Entry) (headers : ℕ → Header) (n : ℕ) (old mid new : Shelf) (passes : List Pass) → ArePassesOn entries headers n old mid passes → ArePutBack (length passes) passes mid new
+    → Became n (λ _. IsOnlySynced) old new
+all_back entries headers n old mid new passes on back = record {
+  owned = λ o before less at. (shown_by (pass_at passes o), back.each o (omega (arith, less, on.count)), new_synced (entries o) (headers o) before (old o) (pass_at passes o) at (on.each o less));
+  others = λ o past. back.others o (omega (arith, past, on.count)) ∙ on.others o past;
 }
 
--- What is written by new passes is a transcript.
-pub answered_in : (register : Register) (given draws : ℕ → ℕ → ℕ → ℕ) (passes : List Pass) (script text : List ℕ) (last : Journals) → given ≡ draws → AreNew passes
-    → (AreFresh (house_of register) passes → IsScriptWritten (house_of register) given (found_by passes) script text last) → IsTranscript (house_of register) draws none_found script text
-answered_in register given draws passes script text last drawn news written =
-    subst (λ (d : ℕ → ℕ → ℕ → ℕ). IsTranscript (house_of register) d none_found script text) drawn
-    (found_as (house_of register) given (found_by passes) none_found script text last (λ o. (news o).0) (written (λ o owner at. (news o).1 ∙ sym (news o).0)))
+-- some, and one that wasn't opened
+pub some_back : (entries : ℕ → Entry) (headers : ℕ → Header) (n k : ℕ) (old mid left new : Shelf) (passes : List Pass) → k < n → ArePassesOn entries headers k old mid passes → LeftDisk k mid left
+    → ArePutBack (length passes) passes left new → Became n (λ _. IsOnlySynced) old new
+some_back entries headers n k old mid left new passes within on stays back = record {
+  owned = λ o before less at. here o before at (cases_lt o k) (cases_eq o k);
+  others = λ o past. back.others o (omega (arith, past, within, on.count)) ∙ stays.elsewhere o (λ same. omega (arith, past, within, same)) ∙ on.others o (omega (arith, past, within));
+}
+  where
+    here : (o : ℕ) (before : Shown) → old o ≡ Some before → (o < k) ⊎ (k ≤ o) → (o ≡ k) ⊎ (o ≡ k → ⊥) → (after : Shown) × (new o ≡ Some after) × IsOnlySynced before after
+    here o before at (inl first) same =
+        (shown_by (pass_at passes o), back.each o (omega (arith, first, on.count)), new_synced (entries o) (headers o) before (old o) (pass_at passes o) at (on.each o first))
+    here o before at (inr past) (inl same) =
+        let one = stays.here before (on.others k (omega arith) ∙ ap old (sym same) ∙ at) in
+        (one.0, ap new same ∙ back.others k (omega (arith, on.count)) ∙ one.1, one.2)
+    here o before at (inr past) (inr isnt) =
+        (before, back.others o (omega (arith, past, on.count)) ∙ stays.elsewhere o isnt ∙ on.others o past ∙ at, synced_self before)
+
+-- ---- a disk of which a call failed
+
+pub risen_from : (old mid new : ℕ) → old ≤ mid → mid ≤ new → HasRisen mid new → HasRisen old new
+risen_from old mid new first second risen = λ less. here less (cases_lt mid last_count)
+  where
+    here : old < last_count → (mid < last_count) ⊎ (last_count ≤ mid) → old < new
+    here less (inl before) = let up = risen before in omega (arith, first, up)
+    here less (inr past) = omega (arith, less, past, second)
+
+none_rose : (before : Shown) → None ≡ Some before → ⊥
+none_rose before is = cc
+
+-- Where it is one of those that weren't taken, or were put back as they were, it is so still.
+pub rose_still : (entries : ℕ → Entry) (headers : ℕ → Header) (k : ℕ) (old mid left new : Shelf) (passes : List Pass) → ArePassesOn entries headers k old mid passes → ArePutBack (length passes) passes left new
+    → SomeRose mid left → SomeRose old new
+rose_still entries headers k old mid left new passes on back (o, before, after, was, is, rose) = here (cases_lt o k)
+  where
+    here : (o < k) ⊎ (k ≤ o) → SomeRose old new
+    here (inl first) = absurd (none_rose before (sym (on.taken o first) ∙ was))
+    here (inr past) = (o, before, after, sym (on.others o past) ∙ was, back.others o (omega (arith, past, on.count)) ∙ is, rose)
+
+pub rose_by : {A B C D : Type 0} → A ⊎ B → (A → C) → (B → D) → C ⊎ D
+rose_by (inl a) f g = inl (f a)
+rose_by (inr b) f g = inr (g b)

@@ -6,7 +6,7 @@ use Rattle.query_server.specs.Files.{Contents, Reads, AreTold, always}
 use Rattle.query_server.specs.Steps.{Outcome, Step, ◌>>=◌, behind, continued, done, each, from}
 use Rattle.query_server.specs.Ends.{AreBegun, IsDecided, IsGiven, IsRefusedBy, IsStep, IsStopAt}
 use Rattle.query_server.specs.declared.end.Stop.{Stop}
-use Rattle.query_server.specs.declared.end.Stop.TheVariants.{Usage, Refused, Fault, NoMemory}
+use Rattle.query_server.specs.declared.end.Stop.TheVariants.{Usage, Refused, Journal, Disk, Fault, NoMemory}
 
 -- some reads to come
 pub any_reads : (held : Option Contents) → (reads : Reads) × AreTold held reads
@@ -79,6 +79,8 @@ begun_behind {A} old mid new names o whole before same (some, more, is, both) = 
 stops_whole : {A : Type 0} (old mid new names : List (List ℕ)) (o whole : Outcome A) (stop : Stop) → mid ≡ old ++ names → whole ≡ behind names o
     → IsStopAt o mid new stop → IsStopAt whole old new stop
 stops_whole {A} old mid new names o whole Usage before same is = is
+stops_whole {A} old mid new names o whole (Journal line) before same is = is
+stops_whole {A} old mid new names o whole (Disk line) before same is = is
 stops_whole {A} old mid new names o whole (Refused name) before same (given, read) = (
   ap (λ (w : Outcome A). w.given) same ∙ given,
   read ∙ ap (λ ns. ns ++ o.names) before ∙ append_assoc old names o.names ∙ ap (λ ns. old ++ ns) (sym (ap (λ (w : Outcome A). w.names) same)),
@@ -129,6 +131,8 @@ begun_then step next reads old new (some, more, is, both) =
 stop_then : {A B : Type 0} (step : Step A) (next : A → Step B) (reads : Reads) (old new : List (List ℕ)) (stop : Stop) → IsStopAt (step reads) old new stop → IsStopAt ((step >>= next) reads) old new stop
 unfolding ◌>>=◌
 stop_then step next reads old new Usage is = is
+stop_then step next reads old new (Journal line) is = is
+stop_then step next reads old new (Disk line) is = is
 stop_then step next reads old new (Refused name) (given, read) = (
   ap (λ r. (continued r (step reads).names (step reads).rest next).given) given,
   read ∙ sym (ap (λ r. old ++ (continued r (step reads).names (step reads).rest next).names) given),
@@ -150,6 +154,8 @@ passed held old new step value stop (Err other) is same = subst (λ (s : Stop). 
 -- what is decided without a read
 refused_here : {A : Type 0} (old : List (List ℕ)) (given : Result A (List ℕ)) (reads : Reads) (stop : Stop) → IsRefusedBy given stop → IsStopAt (from given reads) old old stop
 refused_here old given reads Usage is = absurd is
+refused_here old given reads (Journal line) is = absurd is
+refused_here old given reads (Disk line) is = absurd is
 refused_here old given reads (Refused name) is = (is, sym (append-nil old))
 refused_here old given reads Fault is = absurd is
 refused_here old given reads NoMemory is = ([], [], sym (append-nil old), refl)
@@ -253,3 +259,7 @@ next_stopped {A} held now old mid new whole step so_far xs i d stop within reach
 pub last_done : {A B : Type 0} (held : Option Contents) (old new : List (List ℕ)) (whole : Step (List B)) (step : A → Step B) (all : List B) (xs : List A) (i : ℕ) → length xs ≤ i
     → Reached held old new whole (others step all (drop i xs)) → IsDone held old new whole all
 last_done {A} held old new whole step all xs i past reached = no_more held old new whole step all (subst (λ (left : List A). Reached held old new whole (others step all left)) (drop_all i xs past) reached)
+
+-- where memory ran out after all was read
+pub cut_behind : {A : Type 0} (held : Option Contents) (old new : List (List ℕ)) (whole : Step A) (a : A) → IsDone held old new whole a → IsStopped held old new whole NoMemory
+cut_behind held old new whole a is = λ rest told. (let one = is rest told in (one.0, one.1, ((whole one.0).names, [], one.2.names, sym (append-nil (whole one.0).names))))

@@ -4,7 +4,7 @@ use Rattle.std.specs.Prelude.{Result, Ok, Err}
 use Rattle.owner_catalog.specs.Catalog.{Catalog, OwnerEntry, TableEntry}
 use Rattle.query_server.specs.Files.{Contents, Reads, always}
 use Rattle.query_server.specs.Steps.{Step, ◌>>=◌, continued, done, each}
-use Rattle.query_server.specs.Loaded.{catalog_read, holding_read, key_read, loaded, rows_read}
+use Rattle.query_server.specs.Loaded.{catalog_read, key_read, loaded, owner_read, table_read}
 
 -- the reads to come find what the earlier ones found
 abbrev pub Keeps : {A : Type 0} → Contents → Step A → Type 0
@@ -31,11 +31,11 @@ keeps_catalog held name = keeps_then held _ _ refl (λ bytes. refl)
 pub keeps_key : (held : Contents) (name : List ℕ) → Keeps held (key_read name)
 keeps_key held name = keeps_then held _ _ refl (λ bytes. refl)
 
-keeps_rows : (held : Contents) (table : TableEntry) → Keeps held (rows_read table)
-keeps_rows held table = keeps_then held _ _ refl (λ bytes. refl)
+keeps_table : (held : Contents) (table : TableEntry) → Keeps held (table_read table)
+keeps_table held table = keeps_then held _ _ refl (λ bytes. keeps_then held _ _ refl (λ rows. refl))
 
-keeps_holding : (held : Contents) (owner : OwnerEntry) → Keeps held (holding_read owner)
-keeps_holding held owner = keeps_then held _ _ (keeps_each held rows_read (keeps_rows held) owner.tables) (λ rows. refl)
+keeps_owner : (held : Contents) (owner : OwnerEntry) → Keeps held (owner_read owner)
+keeps_owner held owner = keeps_then held _ _ (keeps_each held table_read (keeps_table held) owner.tables) (λ tables. refl)
 
 pub keeps_loaded : (held : Contents) (catalog : Catalog) → Keeps held (loaded catalog)
-keeps_loaded held catalog = keeps_then held _ _ (keeps_each held holding_read (keeps_holding held) catalog.owners) (λ holdings. refl)
+keeps_loaded held catalog = keeps_then held _ _ (keeps_each held owner_read (keeps_owner held) catalog.owners) (λ owned. refl)

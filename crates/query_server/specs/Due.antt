@@ -1,21 +1,28 @@
 -- what is due, and what is written
-use Rattle.std.specs.Prelude.{◌≡◌, ◌⊎◌, ℕ, List, ◌++◌, Option, Some, None, ⊤}
+use Rattle.std.specs.Prelude.{◌≡◌, ◌⊎◌, ℕ, ◌<◌, ◌≤◌, List, ◌++◌, Option, Some, None, ⊤}
 use Rattle.fz_ast.specs.Signature.{Signature}
-use Rattle.command_words.specs.Command.{Command, run, check, gap, command_of}
-use Rattle.query_server.specs.Ending.{Ending, ended, usage, refused, to_answer, to_check, to_compare}
+use Rattle.command_words.specs.Command.{Command, init, run, audit, check, gap, command_of}
+use Rattle.query_server.specs.Ending.{Ending, ended, usage, refused, to_answer, to_make, to_count, to_check, to_compare}
 use Rattle.query_server.specs.Files.{Contents, Reads, AreTold, IsLeft}
 use Rattle.query_server.specs.Steps.{Step, done}
+use Rattle.outside_bays.specs.Bays.{Same}
+use Rattle.query_server.specs.Shelves.{Shelf, Became, IsOnlySynced}
+use Rattle.query_server.specs.Opened.{name_at, owners_in}
 use Rattle.query_server.specs.Run.{run_steps, IsScriptDue}
+use Rattle.query_server.specs.Make.{make_steps, AreMadeBefore, IsMakingDue}
+use Rattle.query_server.specs.Count.{count_steps, IsCountDue}
 use Rattle.query_server.specs.Check.{check_steps, IsProgramDue}
 use Rattle.query_server.specs.Gap.{gap_steps, IsGapDue}
-use Rattle.query_server.specs.Status.{usage_text, refused_text, memory_text}
+use Rattle.query_server.specs.Status.{usage_text, refused_text, disk_text, memory_text}
 use Rattle.query_server.specs.declared.end.Status.{Status}
-use Rattle.query_server.specs.declared.end.Status.TheVariants.{Usage, Refused, Fault, NoMemory}
+use Rattle.query_server.specs.declared.end.Status.TheVariants.{Usage, Refused, Fault, DiskFault, NoMemory}
 
 -- The steps of a command: the words decide first.
 abbrev pub steps_of : Option Command → Step Ending
 steps_of None = done usage
 steps_of (Some (run catalog key workers)) = run_steps catalog key
+steps_of (Some (init catalog key)) = make_steps catalog key
+steps_of (Some (audit catalog key)) = count_steps catalog key
 steps_of (Some (check catalog owner file)) = check_steps catalog owner file
 steps_of (Some (gap catalog owner second_catalog file)) = gap_steps catalog owner second_catalog file
 
@@ -27,31 +34,58 @@ ending_of words reads = ended (steps_of (command_of words) reads).given
 unfoldable pub files_of : (words : List (List ℕ)) → Reads → List (List ℕ)
 files_of words reads = (steps_of (command_of words) reads).names
 
--- Where nothing fails and memory suffices, this status and this text may be due.
-abbrev pub IsDue : Ending → (script : List ℕ) → (status : Status) → (text : List ℕ) → Type 0
-IsDue usage script status text = (status ≡ Usage) × (text ≡ usage_text)
-IsDue (refused name) script status text = (status ≡ Refused) × (text ≡ refused_text name)
-IsDue (to_answer register key) script status text = IsScriptDue register key script status text
-IsDue (to_check tables program) script status text = IsProgramDue tables program status text
-IsDue (to_compare tables X Y program) script status text = IsGapDue tables X Y program status text
+-- Where nothing fails and memory suffices, this status and this text may be due, and this may become of the owners' disks.
+abbrev pub IsDue : Ending → (old new : Shelf) → (script : List ℕ) → (status : Status) → (text : List ℕ) → Type 0
+IsDue usage old new script status text = (status ≡ Usage) × (text ≡ usage_text) × Same old new
+IsDue (refused name) old new script status text = (status ≡ Refused) × (text ≡ refused_text name) × Same old new
+IsDue (to_answer loading key) old new script status text = IsScriptDue loading key old new script status text
+IsDue (to_make loading key) old new script status text = IsMakingDue loading key old new status text
+IsDue (to_count loading key) old new script status text = IsCountDue loading key old new status text
+IsDue (to_check tables program) old new script status text = IsProgramDue tables program status text
+IsDue (to_compare tables X Y program) old new script status text = IsGapDue tables X Y program status text
+
+-- What may become of the owners' disks where a failure or want of memory ends the work: nothing is written to any; by an `init`
+-- the first owners' journals are made, and one may be made in part.
+abbrev pub MayStop : Ending → (old new : Shelf) → Type 0
+MayStop usage old new = Same old new
+MayStop (refused name) old new = Same old new
+MayStop (to_answer loading key) old new = Became (owners_in loading) (λ _. IsOnlySynced) old new
+MayStop (to_make loading key) old new = (o : ℕ) × AreMadeBefore loading key o (λ before after. before.faults ≤ after.faults) old new
+MayStop (to_count loading key) old new = Became (owners_in loading) (λ _. IsOnlySynced) old new
+MayStop (to_check tables program) old new = Same old new
+MayStop (to_compare tables X Y program) old new = Same old new
+
+-- this line names an owner whose disk was to be opened or made
+abbrev pub IsDiskLine : Ending → (text : List ℕ) → Type 0
+IsDiskLine usage text = ⊥
+IsDiskLine (refused name) text = ⊥
+IsDiskLine (to_answer loading key) text = (o : ℕ) × (o < owners_in loading) × (text ≡ disk_text (name_at loading o))
+IsDiskLine (to_make loading key) text = (o : ℕ) × (o < owners_in loading) × (text ≡ disk_text (name_at loading o))
+IsDiskLine (to_count loading key) text = (o : ℕ) × (o < owners_in loading) × (text ≡ disk_text (name_at loading o))
+IsDiskLine (to_check tables program) text = ⊥
+IsDiskLine (to_compare tables X Y program) text = ⊥
+
+-- Memory ran out, or a disk failed: the line of that.
+abbrev pub IsStopLine : Ending → (status : Status) → (text : List ℕ) → Type 0
+IsStopLine ending status text = ((status ≡ NoMemory) × (text ≡ memory_text)) ⊎ ((status ≡ DiskFault) × IsDiskLine ending text)
+
+-- What is to be written with a status: what is due, or what ended the work before.
+abbrev pub IsToWrite : Ending → (old new : Shelf) → (script : List ℕ) → (status : Status) → (text : List ℕ) → Type 0
+IsToWrite ending old new script status text = IsDue ending old new script status text ⊎ (IsStopLine ending status text × MayStop ending old new)
 
 -- something failed, or memory ran out, or else this holds
 abbrev pub IfFinished : Status → Type 0 → Type 0
-IfFinished status P = (status ≡ Fault) ⊎ (status ≡ NoMemory) ⊎ P
+IfFinished status P = (status ≡ Fault) ⊎ (status ≡ NoMemory) ⊎ (status ≡ DiskFault) ⊎ P
 
 -- the text begins with this
 abbrev pub IsPrefix : (prefix text : List ℕ) → Type 0
 IsPrefix prefix text = (rest : List ℕ) × (text ≡ prefix ++ rest)
 
-abbrev pub IsPrefixOfDue : Ending → (script text : List ℕ) → Type 0
-IsPrefixOfDue ending script text = (status : Status) × (due : List ℕ) × IsDue ending script status due × IsPrefix text due
-
--- What is written is due with the status; where memory ran out, that line alone; where something failed, a prefix of either.
-abbrev pub IsWrittenAt : Ending → (script : List ℕ) → (status : Status) → (text : List ℕ) → Type 0
-IsWrittenAt ending script status text =
-    IsDue ending script status text
-    ⊎ ((status ≡ NoMemory) × (text ≡ memory_text))
-    ⊎ ((status ≡ Fault) × (IsPrefixOfDue ending script text ⊎ IsPrefix text memory_text))
+-- What is written with the status; where files, source or sink failed, a prefix of what was to be written.
+abbrev pub IsWrittenAt : Ending → (old new : Shelf) → (script : List ℕ) → (status : Status) → (text : List ℕ) → Type 0
+IsWrittenAt ending old new script status text =
+    IsToWrite ending old new script status text
+    ⊎ ((status ≡ Fault) × ((whole : Status) × (due : List ℕ) × IsToWrite ending old new script whole due × IsPrefix text due))
 
 -- What is written at faulty words: the line `usage` with its status, or where memory ran out the line `memory`; where the sink
 -- failed, a prefix of either.
@@ -76,13 +110,26 @@ ForContents held left Comes = (reads : Reads) × (script : List ℕ) × AreTold 
 abbrev pub IsOfRun : Option Command → Type 0
 IsOfRun None = ⊥
 IsOfRun (Some (run catalog key workers)) = ⊤
+IsOfRun (Some (init catalog key)) = ⊥
+IsOfRun (Some (audit catalog key)) = ⊥
 IsOfRun (Some (check catalog owner file)) = ⊥
 IsOfRun (Some (gap catalog owner second_catalog file)) = ⊥
+
+-- a command that takes the owners' disks
+abbrev pub IsOfDisks : Option Command → Type 0
+IsOfDisks None = ⊥
+IsOfDisks (Some (run catalog key workers)) = ⊤
+IsOfDisks (Some (init catalog key)) = ⊤
+IsOfDisks (Some (audit catalog key)) = ⊤
+IsOfDisks (Some (check catalog owner file)) = ⊥
+IsOfDisks (Some (gap catalog owner second_catalog file)) = ⊥
 
 -- a command that reads a program
 abbrev pub IsOfProgram : Option Command → Type 0
 IsOfProgram None = ⊥
 IsOfProgram (Some (run catalog key workers)) = ⊥
+IsOfProgram (Some (init catalog key)) = ⊥
+IsOfProgram (Some (audit catalog key)) = ⊥
 IsOfProgram (Some (check catalog owner file)) = ⊤
 IsOfProgram (Some (gap catalog owner second_catalog file)) = ⊤
 
@@ -90,6 +137,8 @@ IsOfProgram (Some (gap catalog owner second_catalog file)) = ⊤
 abbrev pub IsForProgram : (tables : Signature) → (program : List ℕ) → Ending → Type 0
 IsForProgram tables program usage = ⊥
 IsForProgram tables program (refused name) = ⊥
-IsForProgram tables program (to_answer register key) = ⊥
+IsForProgram tables program (to_answer loading key) = ⊥
+IsForProgram tables program (to_make loading key) = ⊥
+IsForProgram tables program (to_count loading key) = ⊥
 IsForProgram tables program (to_check over other) = (over ≡ tables) × (other ≡ program)
 IsForProgram tables program (to_compare over X Y other) = (over ≡ tables) × (other ≡ program)

@@ -2,14 +2,18 @@
 use Rattle.std.specs.Prelude.{ℕ, List, Result, Ok, Err}
 use Rattle.fz_ast.specs.Signature.{Signature}
 use Rattle.metric_values.specs.Tables.{Dataset}
-use Rattle.session_core.specs.House.{Register}
+use Rattle.query_server.specs.Loaded.{Loading}
 
 -- Faulty words; a name that is refused; or work to be done, a case a command.
 pub data Ending : Type 0 where
   usage : Ending
   refused : (name : List ℕ) → Ending
   -- by `run`: a script is to be answered, in the house of a catalog and of what its owners hold, and under this key
-  to_answer : Register → (key : List ℕ) → Ending
+  to_answer : Loading → (key : List ℕ) → Ending
+  -- by `init`: the journals of these owners are to be made
+  to_make : Loading → (key : List ℕ) → Ending
+  -- by `audit`: the records in these owners' journals are to be counted
+  to_count : Loading → (key : List ℕ) → Ending
   -- by `check`: a program is to be checked over these tables
   to_check : (tables : Signature) (program : List ℕ) → Ending
   -- by `gap`: a program is to be run over two datasets of these tables

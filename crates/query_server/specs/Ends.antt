@@ -1,39 +1,60 @@
 -- what the code's ends mean
-use Rattle.std.specs.Prelude.{◌≡◌, ◌⊎◌, ℕ, List, [], ◌++◌, Option, Some, MatchResult, Result, Ok, Err, ⊤, string_bytes, bytes_eq, position, length, ◌<◌}
+use Rattle.std.specs.declared.alloc.Global.{Global}
+use Rattle.std.specs.Prelude.{Vec, map, ◌≡◌, ◌⊎◌, ℕ, List, [], ◌++◌, Option, Some, MatchResult, Result, Ok, Err, ⊤, string_bytes, bytes_eq, position, length, ◌<◌, ◌≤◌}
 use Rattle.fz_ast.specs.Signature.{Signature}
 use Rattle.metric_values.specs.Tables.{Dataset}
-use Rattle.answer_path.specs.Pass.{Pass}
 use Rattle.query_server.specs.Check.{IsProgramDue}
 use Rattle.query_server.specs.Gap.{IsGapDue}
-use Rattle.session_core.specs.Code.{found_by, seen_by}
 use Rattle.query_server.specs.Files.{Contents, Reads, AreTold}
-use Rattle.owner_catalog.specs.Entries.{Catalog, owner_at}
-use Rattle.query_server.specs.Loaded.{entry_named}
+use Rattle.owner_catalog.specs.Entries.{Catalog, owner_entry_at}
+use Rattle.answer_path.specs.Owner.{Holding}
+use Rattle.answer_path.specs.Pass.{Pass}
+use Rattle.session_core.specs.Code.{AreAlone, HasServed}
+use Rattle.session_core.specs.House.{House, Register, register_with}
+use Rattle.query_server.specs.Run.{script_limit}
+use Rattle.query_server.specs.Loaded.{LoadedOwner, Loading, entry_named}
 use Rattle.query_server.specs.Steps.{Outcome, Step}
 use Rattle.query_server.specs.Ending.{Ending, ended}
 use Rattle.query_server.specs.Status.{usage_text, refused_text, memory_text, too_long_text}
-use Rattle.query_server.specs.Due.{AreRead, IsDue, IsPrefix}
+use Rattle.query_server.specs.Due.{AreRead, IsDiskLine, IsDue, IsPrefix, MayStop}
+use Rattle.query_server.specs.Shelves.{Shelf}
 use Rattle.query_server.specs.declared.end.Status.{Status}
 use Rattle.query_server.specs.declared.end.Status.TheVariants as code
 use Rattle.query_server.specs.declared.end.Stop.{Stop}
-use Rattle.query_server.specs.declared.end.Stop.TheVariants.{Usage, Refused, Fault, NoMemory}
+use Rattle.query_server.specs.declared.end.Stop.TheVariants.{Usage, Refused, Journal, Disk, Fault, NoMemory}
 use Rattle.query_server.specs.declared.end.End.{End}
-use Rattle.query_server.specs.declared.end.End.TheVariants.{Stopped, Run, Check, Gap}
+use Rattle.query_server.specs.declared.end.End.TheVariants.{Stopped, Run, Listed, Check, Gap}
 use Rattle.query_server.specs.declared.running.RunEnd.{RunEnd}
 use Rattle.query_server.specs.declared.running.RunEnd.TheVariants.{Answered, TooLong}
 use Rattle.query_server.specs.declared.programs.ProgramEnd.{ProgramEnd}
 use Rattle.query_server.specs.declared.programs.ProgramEnd.TheVariants.{Accepted, Refused as Unaccepted}
 
+-- what an owner's tables and the SHA-256 of their files are
+abbrev pub owner_loaded_of : Signature → Dataset → List (List ℕ) → LoadedOwner
+owner_loaded_of tables rows hashes = record { holding = record { tables = tables; rows = rows }; hashes = hashes }
+
+-- what a house and the SHA-256 of its owners' table files are
+abbrev pub loading_by : Register → List (Vec (List ℕ) Global) → Loading
+loading_by register hashes = record { register = register; hashes = map (λ of_owner. of_owner.items) hashes }
+
+-- the same of all owners of a catalog
+abbrev pub loading_of : Catalog → List Holding → List (Vec (List ℕ) Global) → Loading
+loading_of catalog holdings hashes = loading_by (register_with catalog holdings) hashes
+
 -- The status and the text of what stops a command, and of each command's end.
 abbrev pub stop_status : Stop → Status
 stop_status Usage = code.Usage
 stop_status (Refused name) = code.Refused
+stop_status (Journal line) = code.JournalRefused
+stop_status (Disk line) = code.DiskFault
 stop_status Fault = code.Fault
 stop_status NoMemory = code.NoMemory
 
 abbrev pub stop_text : Stop → List ℕ
 stop_text Usage = usage_text
 stop_text (Refused name) = refused_text (string_bytes name)
+stop_text (Journal line) = line.items
+stop_text (Disk line) = line.items
 stop_text Fault = []
 stop_text NoMemory = memory_text
 
@@ -56,12 +77,14 @@ program_text (Unaccepted line) = line.items
 abbrev pub status_at : End → Status
 status_at (Stopped stop) = stop_status stop
 status_at (Run end) = run_status end
+status_at (Listed lines) = code.Done
 status_at (Check end) = program_status end
 status_at (Gap end) = program_status end
 
 abbrev pub text_at : End → List ℕ
 text_at (Stopped stop) = stop_text stop
 text_at (Run end) = run_text end
+text_at (Listed lines) = lines.items
 text_at (Check end) = program_text end
 text_at (Gap end) = program_text end
 
@@ -84,6 +107,8 @@ AreBegun o old new = (names : List (List ℕ)) × (rest : List (List ℕ)) × (n
 abbrev pub IsStopAt : {A : Type 0} → Outcome A → (old new : List (List ℕ)) → Stop → Type 0
 IsStopAt o old new Usage = ⊥
 IsStopAt o old new (Refused name) = (o.given ≡ Err (string_bytes name)) × (new ≡ old ++ o.names)
+IsStopAt o old new (Journal line) = ⊥
+IsStopAt o old new (Disk line) = ⊥
 IsStopAt o old new Fault = AreBegun o old new
 IsStopAt o old new NoMemory = AreBegun o old new
 
@@ -97,6 +122,8 @@ IsStep held old new step value result = (rest : Reads) → AreTold held rest
 abbrev pub IsRefusedBy : {A : Type 0} → Result A (List ℕ) → Stop → Type 0
 IsRefusedBy given Usage = ⊥
 IsRefusedBy given (Refused name) = given ≡ Err (string_bytes name)
+IsRefusedBy given (Journal line) = ⊥
+IsRefusedBy given (Disk line) = ⊥
 IsRefusedBy given Fault = ⊥
 IsRefusedBy given NoMemory = ⊤
 
@@ -107,26 +134,28 @@ IsDecided given value result = MatchResult result (λ x. given ≡ Ok (value x))
 pub record IsOwnerAt (catalog : Catalog) (name : List ℕ) (o : ℕ) : Type 0 where
   pub place : position (λ owner. bytes_eq name owner.name) catalog.owners ≡ Some o
   pub within : o < length catalog.owners
-  pub is : entry_named catalog name ≡ Ok (owner_at catalog o)
+  pub is : entry_named catalog name ≡ Ok (owner_entry_at catalog o)
 
--- something failed, or memory ran out
-abbrev pub IsCut : End → Type 0
-IsCut end = (end ≡ Stopped Fault) ⊎ (end ≡ Stopped NoMemory)
+-- The work was ended before: files, source or an owner's disk failed, or memory ran out.
+abbrev pub IsCut : Ending → End → Type 0
+IsCut ending end = (end ≡ Stopped Fault) ⊎ (end ≡ Stopped NoMemory) ⊎ ((line : Vec ℕ Global) × (end ≡ Stopped (Disk line)) × IsDiskLine ending line.items)
 
 -- this name is refused, or memory ran out
 abbrev pub IsRefusalOf : (name : List ℕ) → Stop → Type 0
 IsRefusalOf name Usage = ⊥
 IsRefusalOf name (Refused other) = string_bytes other ≡ name
+IsRefusalOf name (Journal line) = ⊥
+IsRefusalOf name (Disk line) = ⊥
 IsRefusalOf name Fault = ⊥
 IsRefusalOf name NoMemory = ⊤
 
 abbrev pub IsFailing : Stop → Type 0
 IsFailing stop = (stop ≡ Fault) ⊎ (stop ≡ NoMemory)
 
--- the end is due, unless something failed or memory ran out
-abbrev pub IsEndOf : Ending → (script : List ℕ) → End → Type 0
-IsEndOf ending script end =
-    IsDue ending script (status_at end) (text_at end) ⊎ IsCut end
+-- The end is due, or the work was ended before.
+abbrev pub IsEndOf : Ending → (old new : Shelf) → (script : List ℕ) → End → Type 0
+IsEndOf ending old new script end =
+    IsDue ending old new script (status_at end) (text_at end) ⊎ (IsCut ending end × MayStop ending old new)
 
 -- a program comes to this end over these tables
 abbrev pub IsVerdictOn : (tables : Signature) → (program : List ℕ) → ProgramEnd → Type 0
@@ -137,13 +166,17 @@ abbrev pub IsGapOn : (tables : Signature) → (X Y : Dataset) → (program : Lis
 IsGapOn tables X Y program end = IsGapDue tables X Y program (program_status end) (program_text end)
 
 -- A command that reads by these steps ends so, where files and source held this.
-abbrev pub IsStepEnd : (old new : List (List ℕ)) → Step Ending → End → Reads → (script : List ℕ) → Type 0
-IsStepEnd old new steps end reads script =
-    IsEndOf (ended (steps reads).given) script end × AreRead (status_at end) (steps reads).names old new
+abbrev pub IsStepEnd : (old new : List (List ℕ)) → (before after : Shelf) → Step Ending → End → Reads → (script : List ℕ) → Type 0
+IsStepEnd old new before after steps end reads script =
+    IsEndOf (ended (steps reads).given) before after script end × AreRead (status_at end) (steps reads).names old new
 
--- passes on which nothing was found, and nothing done
-abbrev pub AreNew : List Pass → Type 0
-AreNew passes = (o : ℕ) → (found_by passes o ≡ []) × (seen_by passes o ≡ [])
+-- How a script ends that was to be answered over these passes: its replies, each on the records so far of the owner that it asks;
+-- or the passes are as they were.
+abbrev pub IsAnsweredOn : House → (draws : ℕ → ℕ → ℕ → ℕ) → (script : List ℕ) → (old new : List Pass) → Result RunEnd Stop → Type 0
+IsAnsweredOn house draws script old new (Ok (Answered replies)) =
+    (length script ≤ script_limit) × ((h : HasServed house draws script replies.items old new) × AreAlone house draws h.exchanges old new)
+IsAnsweredOn house draws script old new (Ok TooLong) = (script_limit < length script) × (new ≡ old)
+IsAnsweredOn house draws script old new (Err stop) = IsFailing stop × (new ≡ old)
 
 -- The end's text is written with its status; or a prefix of it, and something failed.
 pub record IsEndingWith (end : End) (status : Status) (text : List ℕ) : Type 0 where

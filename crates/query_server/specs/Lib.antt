@@ -4,11 +4,17 @@ pub mod Steps
 pub mod Loaded
 pub mod Fit
 pub mod Ending
+pub mod Shelves
+pub mod Opened
 pub mod Run
+pub mod Make
+pub mod Count
 pub mod Check
 pub mod Gap
 pub mod Due
 pub mod Promise
 pub mod Ends
+pub mod Books
+pub mod Making
 pub mod Taken
 pub mod Laws

@@ -1,10 +1,14 @@
 -- the files of a catalog: itself, and the tables of its owners
-use Rattle.std.specs.Prelude.{ℕ, List, length, nat_eq, Result, Ok, Err, find, position, slice_get, ok_or, option_and_then, bytes_eq, if◌then◌else◌}
+use Rattle.std.specs.Prelude.{◌≡◌, ◌<◌, ℕ, List, [], length, map, nat_eq, Result, Ok, Err, find, get_or, position, slice_get, ok_or, option_and_then, bytes_eq, if◌then◌else◌}
+use Rattle.sha2.specs.Sha256.{sha256}
+use Rattle.journal_records.specs.declared.records.Header.{Header}
 use Rattle.metric_values.specs.Values.{Flat}
 use Rattle.table_store.specs.Table.{table_in_file}
-use Rattle.owner_catalog.specs.Catalog.{Catalog, OwnerEntry, TableEntry, catalog_in_file, signature_of}
+use Rattle.owner_catalog.specs.Catalog.{Catalog, OwnerEntry, TableEntry, catalog_in_file, owner_signature}
+use Rattle.owner_catalog.specs.Digest.{digest_of}
+use Rattle.owner_catalog.specs.Entries.{owner_entry_at}
 use Rattle.answer_path.specs.Owner.{Holding}
-use Rattle.session_core.specs.House.{Register}
+use Rattle.session_core.specs.House.{Register, IsRegister}
 use Rattle.query_server.specs.Steps.{Step, ◌>>=◌, done, each, file_read, from}
 
 -- this name is refused, where something is wrong
@@ -24,23 +28,77 @@ catalog_read name = do
   bytes ← file_read name
   from (or_refused name (catalog_in_file bytes))
 
--- the rows of a table, in the file that its entry names
-abbrev pub rows_read : TableEntry → Step (List Flat)
-rows_read table = do
-  bytes ← file_read table.file
-  from (or_refused table.file (table_in_file table.columns bytes))
+-- a table's rows, and the SHA-256 of the file that they stand in
+pub record LoadedTable : Type 0 where
+  pub rows : List Flat
+  pub hash : List ℕ
 
--- an owner's tables and their rows
-abbrev pub holding_read : OwnerEntry → Step Holding
-holding_read owner = do
-  rows ← each rows_read owner.tables
-  done (record { tables = signature_of owner; rows = rows })
+-- what these bytes, in which these rows stand, are of a table
+abbrev pub table_with : List Flat → (bytes : List ℕ) → LoadedTable
+table_with rows bytes = record { rows = rows; hash = sha256 bytes }
+
+-- a table, in the file that its entry names
+abbrev pub table_read : TableEntry → Step LoadedTable
+table_read table = do
+  bytes ← file_read table.file
+  rows ← from (or_refused table.file (table_in_file table.columns bytes))
+  done (table_with rows bytes)
+
+-- an owner's tables and their rows, and the SHA-256 of each of its table files, in order
+pub record LoadedOwner : Type 0 where
+  pub holding : Holding
+  pub hashes : List (List ℕ)
+
+-- what these tables are of this owner
+abbrev pub owner_with : OwnerEntry → List LoadedTable → LoadedOwner
+owner_with owner tables =
+    record { holding = record { tables = owner_signature owner; rows = map (λ t. t.rows) tables }; hashes = map (λ t. t.hash) tables }
+
+abbrev pub owner_read : OwnerEntry → Step LoadedOwner
+owner_read owner = do
+  tables ← each table_read owner.tables
+  done (owner_with owner tables)
+
+-- What all owners of a catalog hold, and the SHA-256 of each one's table files. Every command loads both, though the digests
+-- of journals alone need the SHA-256.
+pub record Loading : Type 0 where
+  pub register : Register
+  pub hashes : List (List (List ℕ))
+
+-- what these owners are of this catalog
+abbrev pub loading_with : Catalog → List LoadedOwner → Loading
+loading_with catalog owners =
+    record { register = record { catalog = catalog; holdings = map (λ o. o.holding) owners }; hashes = map (λ o. o.hashes) owners }
 
 -- what all owners of a catalog hold
-abbrev pub loaded : Catalog → Step Register
+abbrev pub loaded : Catalog → Step Loading
 loaded catalog = do
-  holdings ← each holding_read catalog.owners
-  done (record { catalog = catalog; holdings = holdings })
+  owners ← each owner_read catalog.owners
+  done (loading_with catalog owners)
+
+-- what is to be done with a house: CATALOG, then KEY, then the tables of all owners
+abbrev pub with_house : {A : Type 0} → (Loading → (key : List ℕ) → A) → (catalog key : List ℕ) → Step A
+with_house work catalog key = do
+  house ← catalog_read catalog
+  bytes ← key_read key
+  loading ← loaded house
+  done (work loading bytes)
+
+-- what may be loaded: a register, and the SHA-256 of each of an owner's tables
+pub record IsLoading (loading : Loading) : Type 0 where
+  pub register : IsRegister loading.register
+  pub hashed : (o : ℕ) → o < length loading.register.catalog.owners
+      → length (get_or loading.hashes o []) ≡ length (owner_entry_at loading.register.catalog o).tables
+
+-- The header of an owner's journal under a key: the owner's number, its budget and capacity, and the digest of the key, its
+-- entry and its table files.
+abbrev pub header_of : Loading → (key : List ℕ) → (o : ℕ) → Header
+header_of loading key o = record {
+  owner = o;
+  budget = (owner_entry_at loading.register.catalog o).budget;
+  capacity = (owner_entry_at loading.register.catalog o).capacity;
+  digest = digest_of loading.register.catalog o key (get_or loading.hashes o []);
+}
 
 -- the owner of this name
 abbrev pub entry_named : Catalog → (name : List ℕ) → Result OwnerEntry (List ℕ)
@@ -54,5 +112,5 @@ holding_in register name =
 -- all owners are loaded, and this one is taken
 abbrev pub owner_loaded : Catalog → (name : List ℕ) → Step Holding
 owner_loaded catalog name = do
-  register ← loaded catalog
-  from (holding_in register name)
+  loading ← loaded catalog
+  from (holding_in loading.register name)

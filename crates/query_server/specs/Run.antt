@@ -1,11 +1,26 @@
 -- `run`: a script is answered
-use Rattle.std.specs.Prelude.{◌≡◌, ◌⊎◌, ℕ, ◌^◌, ◌<◌, ◌≤◌, List, [], length}
+use Rattle.std.specs.Prelude.{◌≡◌, ◌⊎◌, ℕ, ◌^◌, ◌<◌, ◌≤◌, List, length, Option, None, Some, IfSome}
+use mathlib.Core.List.{IsPrefix}
+use Rattle.std.specs.List.{flat_map}
 use Rattle.word_streams.specs.Draws.{draws_of}
-use Rattle.session_core.specs.House.{Register, house_of}
-use Rattle.session_core.specs.Transcript.{Journals, IsTranscript}
-use Rattle.query_server.specs.Steps.{Step, ◌>>=◌, done}
-use Rattle.query_server.specs.Loaded.{catalog_read, key_read, loaded}
+use Rattle.fz_outside.specs.Faults.{HasRisen}
+use Rattle.outside_disks.specs.Disks.{Passes, Shown, WhereTold, noted}
+use Rattle.outside_disks.specs.Disks.Step.{Synced}
+use Rattle.journal_records.specs.declared.records.Header.{Header}
+use Rattle.journal_records.specs.declared.records.Record.{Record}
+use Rattle.budget_core.specs.Entries.{Entry}
+use Rattle.budget_core.specs.Legal.{MayFollow}
+use Rattle.budget_ledger.specs.Account.{IsKeptNow, IsMoment}
+use Rattle.budget_ledger.specs.declared.failure.Failure.{Failure}
+use Rattle.wire_lines.specs.Reply.{Replied, reply_text}
+use Rattle.session_core.specs.House.{house_of}
+use Rattle.session_core.specs.Served.{ClosesOn}
+use Rattle.session_core.specs.Transcript.{Journals, IsScriptRun}
+use Rattle.query_server.specs.Steps.{Step}
+use Rattle.query_server.specs.Loaded.{Loading, header_of, with_house}
 use Rattle.query_server.specs.Ending.{Ending, to_answer}
+use Rattle.query_server.specs.Shelves.{Shelf, Became, IsOnlySynced}
+use Rattle.query_server.specs.Opened.{AreOpened, IsRefusalDue, entry_at, owners_in}
 use Rattle.query_server.specs.Status.{too_long_text}
 use Rattle.query_server.specs.declared.end.Status.{Status}
 use Rattle.query_server.specs.declared.end.Status.TheVariants.{Done, ScriptTooLong}
@@ -16,18 +31,42 @@ script_limit = 2 ^ 24
 
 -- CATALOG, then KEY, then the tables of all owners
 abbrev pub run_steps : (catalog key : List ℕ) → Step Ending
-run_steps catalog key = do
-  house ← catalog_read catalog
-  bytes ← key_read key
-  register ← loaded house
-  done (to_answer register bytes)
+run_steps catalog key = with_house to_answer catalog key
 
--- no records are there at the start
-abbrev pub none_found : Journals
-none_found o = []
+-- An owner's disk through a run. Each file that a stop may have left since its journal was opened, which synced the disk, stands
+-- for the first of these records, among them those found; where an append failed, it may have that one's record too. What a stop
+-- leaves now stands for all of them. The disk's count of faults rose where an append failed, of a record that may follow them, and
+-- else it stands still.
+pub record WentOn (entry : Entry) (header : Header) (found records : List Record) (closed : Option Failure) (before after : Shown) : Type 0 where
+  pub begins : IsPrefix found records
+  pub moments : WhereTold (Passes (IsMoment header found records closed)) (noted Synced before.trace) after.trace
+  pub kept : IfSome after.trace (IsKeptNow header records closed)
+  pub counts : before.faults ≤ after.faults
+  pub steady : closed ≡ None → after.faults ≡ before.faults
+  pub failed : (failure : Failure) → closed ≡ Some failure → HasRisen before.faults after.faults × (failure.failed_at ≡ after.faults)
+  pub follows : (failure : Failure) → closed ≡ Some failure → MayFollow entry records failure.pending
 
--- What is due to a script, where no records are there at the start: a transcript of it, or that it has too many bytes.
-abbrev pub IsScriptDue : Register → (key script : List ℕ) → (status : Status) → (text : List ℕ) → Type 0
-IsScriptDue register key script status text =
-    ((status ≡ Done) × (length script ≤ script_limit) × IsTranscript (house_of register) (draws_of key) none_found script text)
-    ⊎ ((status ≡ ScriptTooLong) × (script_limit < length script) × (text ≡ too_long_text))
+-- A script was answered, each line on the records so far of the owner that it asks, where these records were found. Its replies
+-- are the text; an owner's disk has its records and, by its replies, failed or didn't.
+pub record IsScriptAnswered (loading : Loading) (key : List ℕ) (old new : Shelf) (found : Journals) (script text : List ℕ) : Type 0 where
+  pub replies : List Replied
+  pub records : Journals
+  pub run : IsScriptRun (house_of loading.register) (draws_of key) found script replies records
+  pub written : text ≡ flat_map reply_text replies
+  -- what became of each owner's book: an append to its journal failed, or none did
+  pub closed : ℕ → Option Failure
+  pub closes : (o : ℕ) → o < owners_in loading → ClosesOn (house_of loading.register) (draws_of key) o None run.exchanges (closed o)
+  pub disks : Became (owners_in loading) (λ o. WentOn (entry_at loading o) (header_of loading key o) (found o) (records o) (closed o)) old new
+
+-- the script is answered, or has too many bytes, and then no disk was written
+abbrev pub IsAnswerDue : Loading → (key : List ℕ) → (old new : Shelf) → (found : Journals) → (script : List ℕ) → (status : Status) → (text : List ℕ) → Type 0
+IsAnswerDue loading key old new found script status text =
+    ((status ≡ Done) × (length script ≤ script_limit) × IsScriptAnswered loading key old new found script text)
+    ⊎ ((status ≡ ScriptTooLong) × (script_limit < length script) × (text ≡ too_long_text) × Became (owners_in loading) (λ _. IsOnlySynced) old new)
+
+-- What is due to a script, by what the owners' disks hold: the line of the journal that is refused; or where all are opened, the
+-- replies, or that the script has too many bytes.
+abbrev pub IsScriptDue : Loading → (key : List ℕ) → (old new : Shelf) → (script : List ℕ) → (status : Status) → (text : List ℕ) → Type 0
+IsScriptDue loading key old new script status text =
+    IsRefusalDue loading key old new status text
+    ⊎ ((found : Journals) × AreOpened loading key old found × IsAnswerDue loading key old new found script status text)

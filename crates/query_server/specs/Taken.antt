@@ -1,18 +1,19 @@
 -- what is taken of the source
-use Rattle.std.specs.Prelude.{◌≡◌, ℕ, ◌+◌, ◌≤◌, ◌<◌, List, [], length, Option, Some, None}
+use Rattle.std.specs.Prelude.{◌≡◌, ◌⊎◌, ℕ, ◌+◌, ◌≤◌, ◌<◌, List, [], length, Option, Some, None}
 use Rattle.std.specs.Io.KnownBytes.{prepend_known, IsAtEnd}
-use Rattle.command_words.specs.Command.{Command, run, check, gap}
+use Rattle.command_words.specs.Command.{Command, init, run, audit, check, gap}
 use Rattle.query_server.specs.Run.{script_limit}
 use Rattle.query_server.specs.declared.end.Status.{Status}
-use Rattle.query_server.specs.declared.end.Status.TheVariants.{Done, Refused, ScriptTooLong}
+use Rattle.query_server.specs.declared.end.Status.TheVariants.{Done, Refused, JournalRefused, DiskFault, ScriptTooLong}
 
--- At most 2^24 + 1 bytes are taken: none where a file is refused, over 2^24 where the script is too long, and all there are
+-- At most 2^24 + 1 bytes are taken: none where a file or a journal is refused or a disk failed, over 2^24 where the script is too long, and all there are
 -- where it is answered.
 pub record IsTaken (before after : Option (List ℕ)) (status : Status) : Type 0 where
   pub taken : List ℕ
   pub is : before ≡ prepend_known taken after
   pub few : length taken ≤ script_limit + 1
   pub refused : status ≡ Refused → taken ≡ []
+  pub unopened : (status ≡ JournalRefused) ⊎ (status ≡ DiskFault) → taken ≡ []
   pub too_long : status ≡ ScriptTooLong → script_limit < length taken
   pub done : status ≡ Done → (length taken ≤ script_limit) × IsAtEnd after
 
@@ -20,5 +21,7 @@ pub record IsTaken (before after : Option (List ℕ)) (status : Status) : Type 0
 abbrev pub IsTakenAt : Option Command → (before after : Option (List ℕ)) → (status : Status) → Type 0
 IsTakenAt None before after status = after ≡ before
 IsTakenAt (Some (run catalog key workers)) before after status = IsTaken before after status
+IsTakenAt (Some (init catalog key)) before after status = after ≡ before
+IsTakenAt (Some (audit catalog key)) before after status = after ≡ before
 IsTakenAt (Some (gap catalog owner second_catalog file)) before after status = after ≡ before
 IsTakenAt (Some (check catalog owner file)) before after status = after ≡ before

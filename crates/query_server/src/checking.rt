@@ -4,6 +4,7 @@ ghost use Rattle.std.specs.Prelude.{◌≡◌, ℕ, List, Option, IfOk, IsErrOf}
 ghost use Rattle.fz_frac.specs.Sens.{distance_of};
 ghost use Rattle.fz_outside.specs.Faults.{HasCause};
 ghost use Rattle.query_server.specs.Check.{accepted_text, check_steps};
+ghost use Rattle.query_server.specs.Shelves.{Shelf};
 ghost use Rattle.query_server.specs.Due.{ForContents};
 ghost use Rattle.query_server.specs.Ends.{IsStepEnd, IsVerdictOn, end_by};
 
@@ -47,8 +48,8 @@ pub(crate) fn check_file<F: Files>(
     owner: &str,
     file: &str,
 ) -> Result<ProgramEnd, Stop>
-    ensures end { (left : Option (List ℕ)) → ForContents (F.held files.old) left
-        (IsStepEnd (F.names files.old) (F.names files.new) (check_steps catalog.now owner.now file.now) (end_by End.Check result)) }
+    ensures end { (left : Option (List ℕ)) (shelf : Shelf) → ForContents (F.held files.old) left
+        (IsStepEnd (F.names files.old) (F.names files.new) shelf shelf (check_steps catalog.now owner.now file.now) (end_by End.Check result)) }
     ensures same { F.held files.new ≡ F.held files.old }
     ensures cause { HasCause (F.faults files.old) (F.faults files.new) (IsErrOf result Stop.Fault) }
 {

@@ -10,12 +10,14 @@ ghost use Rattle.answer_path.specs.Code.{IsJudged};
 ghost use Rattle.fz_outside.specs.Faults.{HasCause};
 ghost use Rattle.query_server.specs.Ending.{to_compare};
 ghost use Rattle.query_server.specs.Gap.{gap_steps, gap_text};
+ghost use Rattle.query_server.specs.Shelves.{Shelf};
 ghost use Rattle.query_server.specs.Due.{ForContents};
 ghost use Rattle.query_server.specs.Ends.{IsEndOf, IsGapOn, IsStep, IsStepEnd, end_by};
 
 use crate::end::{End, Stop};
 use crate::fitting::find_fitting;
 use crate::loading::{load_for, open_catalog};
+use crate::numbers::put_number;
 use crate::opening::find_owner;
 use crate::programs::{ProgramEnd, refuse};
 use crate::reading::read_file;
@@ -45,15 +47,7 @@ struct Comparison {
     second: i64,
 }
 
-/// Puts a whole number behind some lines.
-fn put_number(lines: &mut Vec<u8>, n: u64) -> Result<(), AllocError>
-    ensures { IfOk result (λ _. lines.new.items ≡ lines.old.items ++ decimal n) }
-{
-    let mut buffer = Buffer::new();
-    lines.extend_from_slice(buffer.format(n).as_bytes())
-}
-
-/// The same of a number that may be negative.
+/// Puts a number that may be negative behind some lines.
 fn put_signed(lines: &mut Vec<u8>, n: i64) -> Result<(), AllocError>
     ensures { IfOk result (λ _. lines.new.items ≡ lines.old.items ++ signed_decimal n) }
 {
@@ -181,8 +175,8 @@ pub(crate) fn compare_files<F: Files>(
     second_catalog: &str,
     file: &str,
 ) -> Result<ProgramEnd, Stop>
-    ensures end { (left : Option (List ℕ)) → ForContents (F.held files.old) left
-        (IsStepEnd (F.names files.old) (F.names files.new) (gap_steps catalog.now owner.now second_catalog.now file.now) (end_by End.Gap result)) }
+    ensures end { (left : Option (List ℕ)) (shelf : Shelf) → ForContents (F.held files.old) left
+        (IsStepEnd (F.names files.old) (F.names files.new) shelf shelf (gap_steps catalog.now owner.now second_catalog.now file.now) (end_by End.Gap result)) }
     ensures same { F.held files.new ≡ F.held files.old }
     ensures cause { HasCause (F.faults files.old) (F.faults files.new) (IsErrOf result Stop.Fault) }
 {

@@ -19,8 +19,12 @@ pub enum Status {
     /// 3: a file that the command or its catalog names is absent, too long or outside its definition, or the owner is unknown in
     /// a catalog, or its entries in the two catalogs of a `gap` don't fit.
     Refused,
+    /// 4: an owner's journal is refused.
+    JournalRefused,
     /// 5: files, source or sink have failed.
     Fault,
+    /// 6: the bay has failed, or an owner's disk as its journal was opened or made.
+    DiskFault,
     /// 7: memory ran out.
     NoMemory,
     /// 8: over 2^24 bytes of script were taken.
@@ -37,7 +41,9 @@ impl Status {
             Status::ProgramRefused => 1,
             Status::Usage => 2,
             Status::Refused => 3,
+            Status::JournalRefused => 4,
             Status::Fault => 5,
+            Status::DiskFault => 6,
             Status::NoMemory => 7,
             Status::ScriptTooLong => 8,
         }
@@ -51,6 +57,10 @@ pub enum Stop {
     Usage,
     /// The file or the owner of this name is refused.
     Refused(String),
+    /// An owner's journal is refused, with this line.
+    Journal(Vec<u8>),
+    /// The bay or an owner's disk has failed, with this line.
+    Disk(Vec<u8>),
     /// Files or the source have failed.
     Fault,
     /// Memory ran out.
@@ -76,6 +86,8 @@ impl Stop {
         match self {
             Stop::Usage => Status::Usage,
             Stop::Refused(_) => Status::Refused,
+            Stop::Journal(_) => Status::JournalRefused,
+            Stop::Disk(_) => Status::DiskFault,
             Stop::Fault => Status::Fault,
             Stop::NoMemory => Status::NoMemory,
         }
@@ -87,6 +99,8 @@ impl Stop {
 pub(crate) enum End {
     Stopped(Stop),
     Run(RunEnd),
+    /// The lines of an `init` or an `audit`.
+    Listed(Vec<u8>),
     Check(ProgramEnd),
     Gap(ProgramEnd),
 }
@@ -100,6 +114,7 @@ impl End {
         match self {
             End::Stopped(stop) => stop.status(),
             End::Run(end) => end.status(),
+            End::Listed(_) => Status::Done,
             End::Check(end) => end.status(),
             End::Gap(end) => end.status(),
         }

@@ -3,7 +3,7 @@
 ghost use Rattle.std.specs.Prelude.{◌≡◌, ◌<◌, length, Ok, MatchResult};
 ghost use Rattle.std.specs.Cmp.Lexicographic.{pointwise};
 ghost use Rattle.owner_catalog.specs.Catalog.{IsCatalog};
-ghost use Rattle.owner_catalog.specs.Entries.{owner_at, table_at};
+ghost use Rattle.owner_catalog.specs.Entries.{owner_entry_at, table_entry_at};
 ghost use Rattle.query_server.specs.Fit.{fitting, same_column, same_table};
 ghost use Rattle.query_server.specs.Ends.{IsOwnerAt, IsRefusedBy};
 
@@ -44,9 +44,9 @@ fn is_same_table(
     table: u8,
 ) -> bool
     requires owners { (first_owner < length first.now.owners) × (second_owner < length second.now.owners) }
-    requires first { table < length (owner_at first.now first_owner).tables }
-    requires second { table < length (owner_at second.now second_owner).tables }
-    ensures { result ≡ same_table (table_at first.now first_owner table) (table_at second.now second_owner table) }
+    requires first { table < length (owner_entry_at first.now first_owner).tables }
+    requires second { table < length (owner_entry_at second.now second_owner).tables }
+    ensures { result ≡ same_table (table_entry_at first.now first_owner table) (table_entry_at second.now second_owner table) }
 {
     first.table_name(first_owner, table) == second.table_name(second_owner, table)
         && are_same_columns(
@@ -59,7 +59,7 @@ fn is_same_table(
 fn are_same_tables(first: &Catalog, first_owner: u32, second: &Catalog, second_owner: u32) -> bool
     requires owners { (first_owner < length first.now.owners) × (second_owner < length second.now.owners) }
     requires legal { IsCatalog first.now }
-    ensures { result ≡ pointwise same_table (owner_at first.now first_owner).tables (owner_at second.now second_owner).tables }
+    ensures { result ≡ pointwise same_table (owner_entry_at first.now first_owner).tables (owner_entry_at second.now second_owner).tables }
 {
     let count = first.tables(first_owner);
     if second.tables(second_owner) != count {
@@ -85,8 +85,8 @@ pub(crate) fn find_fitting(
     requires legal { IsCatalog first.now }
     ensures owner { MatchResult result
         (λ owner. IsOwnerAt second.now name.now owner
-        × (fitting (owner_at first.now first_owner) second.now name.now ≡ Ok (owner_at second.now owner)))
-        (IsRefusedBy (fitting (owner_at first.now first_owner) second.now name.now)) }
+        × (fitting (owner_entry_at first.now first_owner) second.now name.now ≡ Ok (owner_entry_at second.now owner)))
+        (IsRefusedBy (fitting (owner_entry_at first.now first_owner) second.now name.now)) }
 {
     let owner = find_owner(alloc, second, name)?;
     if are_same_tables(first, first_owner, second, owner) {

@@ -1,12 +1,11 @@
 //! What a command works on is opened: a house, or an owner's dataset and a program.
 
-ghost use Rattle.std.specs.Prelude.{◌≡◌, IsErrOf, MatchResult};
+ghost use Rattle.std.specs.Prelude.{◌≡◌, ℕ, List, IfOk, IsErrOf, MatchResult, OnOk};
 ghost use Rattle.fz_outside.specs.Faults.{HasCause};
-ghost use Rattle.query_server.specs.Ending.{to_answer, to_check};
-ghost use Rattle.query_server.specs.Loaded.{entry_named};
-ghost use Rattle.query_server.specs.Run.{run_steps};
+ghost use Rattle.query_server.specs.Ending.{Ending, to_check};
+ghost use Rattle.query_server.specs.Loaded.{IsLoading, Loading, entry_named, with_house};
 ghost use Rattle.query_server.specs.Check.{check_steps};
-ghost use Rattle.query_server.specs.Ends.{IsOwnerAt, IsRefusedBy, IsStep};
+ghost use Rattle.query_server.specs.Ends.{IsOwnerAt, IsRefusedBy, IsStep, loading_by};
 
 use crate::end::Stop;
 use crate::loading::{load_all, load_for, open_catalog};
@@ -17,10 +16,11 @@ use owner_catalog::Catalog;
 use session_core::house::House;
 use std::alloc::Global;
 
-/// A house with the key of its draws.
+/// A house with the SHA-256 of its owners' table files and the key of its draws.
 #[derive(Drop)]
 pub struct Opened {
     pub house: House,
+    pub hashes: Vec<Vec<[u8; 32]>>,
     pub key: [u8; 32],
 }
 
@@ -38,16 +38,22 @@ pub fn open_house<F: Files>(
     catalog: &str,
     key: &str,
 ) -> Result<Opened, Stop>
-    ensures step { IsStep (F.held files.old) (F.names files.old) (F.names files.new) (run_steps catalog.now key.now)
-        (λ opened. to_answer opened.house opened.key) result }
+    ensures step { (work : Loading → (key : List ℕ) → Ending) → IsStep (F.held files.old) (F.names files.old) (F.names files.new)
+        (with_house work catalog.now key.now) (λ opened. work (loading_by opened.house opened.hashes.items) opened.key) result }
+    ensures loading { IfOk result (λ opened. IsLoading (loading_by opened.house opened.hashes.items)) }
     ensures same { F.held files.new ≡ F.held files.old }
     ensures cause { HasCause (F.faults files.old) (F.faults files.new) (IsErrOf result Stop.Fault) }
+    ensures passed { OnOk result (F.faults files.new ≡ F.faults files.old) }
 {
     let catalog = open_catalog(alloc, files, catalog)?;
     let key = read_key(alloc, files, key)?;
-    let datasets = load_all(alloc, files, &catalog)?;
-    let house = House::new(catalog, datasets);
-    Ok(Opened { house, key })
+    let loaded = load_all(alloc, files, &catalog)?;
+    let house = House::new(catalog, loaded.datasets);
+    Ok(Opened {
+        house,
+        hashes: loaded.hashes,
+        key,
+    })
 }
 
 /// The number of the owner of this name.

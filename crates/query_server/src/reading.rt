@@ -1,6 +1,6 @@
 //! Files that are read whole: any, and a key's.
 
-ghost use Rattle.std.specs.Prelude.{◌≡◌, ◌≢◌, ◌∷◌, [], length, MatchOption, IsErrOf};
+ghost use Rattle.std.specs.Prelude.{◌≡◌, ◌≢◌, ◌∷◌, [], length, MatchOption, IsErrOf, OnOk};
 ghost use Rattle.fz_outside.specs.Faults.{HasCause};
 ghost use Rattle.query_server.specs.Steps.{file_read};
 ghost use Rattle.query_server.specs.Loaded.{key_read};
@@ -16,6 +16,7 @@ pub(crate) fn read_file<F: Files>(alloc: Global, files: &mut F, name: &str) -> R
     ensures step { IsStep (F.held files.old) (F.names files.old) (F.names files.new) (file_read name.now) (λ bytes. bytes.items) result }
     ensures same { F.held files.new ≡ F.held files.old }
     ensures cause { HasCause (F.faults files.old) (F.faults files.new) (IsErrOf result Stop.Fault) }
+    ensures passed { OnOk result (F.faults files.new ≡ F.faults files.old) }
 {
     match files.read(alloc, name) {
         Ok(FileRead::Bytes(bytes)) => Ok(bytes),
@@ -43,6 +44,7 @@ pub(crate) fn read_key<F: Files>(alloc: Global, files: &mut F, name: &str) -> Re
     ensures step { IsStep (F.held files.old) (F.names files.old) (F.names files.new) (key_read name.now) (λ key. key) result }
     ensures same { F.held files.new ≡ F.held files.old }
     ensures cause { HasCause (F.faults files.old) (F.faults files.new) (IsErrOf result Stop.Fault) }
+    ensures passed { OnOk result (F.faults files.new ≡ F.faults files.old) }
 {
     let bytes = read_file(alloc, files, name)?;
     match key_of(&bytes) {

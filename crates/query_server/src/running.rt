@@ -1,26 +1,32 @@
 //! A script is read and answered.
 
-ghost use Rattle.std.specs.Prelude.{◌≡◌, ◌⊎◌, ℕ, List, ◌≤◌, IfOk, MatchResult, IsErrOf};
+ghost use Rattle.std.specs.Prelude.{◌≡◌, ◌⊎◌, ℕ, List, Vec, ◌<◌, ◌≤◌, Err, IsErrOf};
+ghost use Rattle.std.specs.declared.alloc.Global.{Global as Heap};
+ghost use Rattle.word_streams.specs.Draws.{draws_of};
 ghost use Rattle.fz_outside.specs.Faults.{HasCause, HasRisen};
 ghost use Rattle.session_core.specs.House.{house_of};
 ghost use Rattle.session_core.specs.Code.{ArePasses};
+ghost use Rattle.query_server.specs.Loaded.{IsLoading};
+ghost use Rattle.query_server.specs.Ending.{to_answer};
 ghost use Rattle.query_server.specs.Files.{IsLeft};
-ghost use Rattle.query_server.specs.Run.{IsScriptDue, run_steps};
+ghost use Rattle.query_server.specs.Run.{run_steps};
+ghost use Rattle.query_server.specs.Shelves.{AreAtHome, SomeRose};
 ghost use Rattle.query_server.specs.Due.{ForContents};
-ghost use Rattle.query_server.specs.Ends.{AreNew, IsFailing, IsStepEnd, end_by, run_status, run_text, status_at};
+ghost use Rattle.query_server.specs.Ends.{IsAnsweredOn, IsEndOf, IsStepEnd, end_by, loading_by, run_status, run_text, status_at};
 ghost use Rattle.query_server.specs.Taken.{IsTaken};
 
+use crate::books::{open_passes, put_back};
 use crate::end::{End, Status, Stop};
 use crate::opening::{Opened, open_house};
-use answer_path::{Desk, Pass};
-use budget_core::book::Book;
+use answer_path::Desk;
 use fz_outside::FileFault;
 use fz_outside::files::Files;
 use fz_outside::source::{Source, read_up_to};
-use session_core::house::House;
+use outside_bays::bay::Bay;
+use outside_disks::disk::Disk;
 use session_core::passes::Passes;
 use session_core::script::answer_script;
-use std::alloc::{AllocError, Global};
+use std::alloc::Global;
 use word_streams::KeyStreams;
 
 /// The most bytes of a script.
@@ -57,29 +63,19 @@ impl RunEnd {
     }
 }
 
-/// A pass for each owner of a house, in order. Room for the records of all is taken.
-fn open_passes(alloc: Global, house: &House) -> Result<Passes, AllocError>
-    ensures passes { IfOk result (ArePasses (house_of house.now)) }
-    ensures empty { IfOk result AreNew }
-{
-    let mut passes = Vec::with_capacity(alloc, house.owners())?;
-    for owner in 0..house.owners() as u32 {
-        let book = Book::new(alloc, house.entry(owner))?;
-        passes.push(Pass::new(book))?;
-    }
-    Ok(Passes::new(passes))
-}
-
-/// Reads a script to its end, or to one byte more than it may have, and answers it. Room for the records comes first.
-fn answer<S: Source>(alloc: Global, opened: &Opened, source: &mut S) -> Result<RunEnd, Stop>
+/// Reads a script to its end, or to one byte more than it may have, and answers it.
+fn answer_over<D: Disk, S: Source>(
+    alloc: Global,
+    opened: &Opened,
+    passes: &mut Passes<D>,
+    source: &mut S,
+) -> Result<RunEnd, Stop>
+    requires passes { ArePasses (house_of opened.now.house) passes.old }
     ensures end { (script : List ℕ) × IsLeft (S.left source.old) script
-        × MatchResult result (λ end. IsScriptDue opened.now.house opened.now.key script (run_status end) (run_text end)) IsFailing }
+        × IsAnsweredOn (house_of opened.now.house) (draws_of opened.now.key) script passes.old passes.new result }
     ensures taken { IsTaken (S.left source.old) (S.left source.new) (status_at (end_by End.Run result)) }
     ensures cause { HasCause (S.faults source.old) (S.faults source.new) (IsErrOf result Stop.Fault) }
 {
-    let Ok(mut passes) = open_passes(alloc, &opened.house) else {
-        return Err(Stop::NoMemory);
-    };
     let desk = Desk::new();
     let script = match read_up_to(alloc, source, SCRIPT_LIMIT + 1) {
         Ok(script) => script,
@@ -90,28 +86,60 @@ fn answer<S: Source>(alloc: Global, opened: &Opened, source: &mut S) -> Result<R
         return Ok(RunEnd::TooLong);
     }
     let streams = KeyStreams::new(opened.key);
-    match answer_script(alloc, &opened.house, &desk, &mut passes, &streams, &script) {
+    match answer_script(alloc, &opened.house, &desk, passes, &streams, &script) {
         Ok(replies) => Ok(RunEnd::Answered(replies)),
         Err(_) => Err(Stop::NoMemory),
     }
 }
 
+/// Opens the owners' books, answers the script over them, and puts the disks back.
+fn answer<B: Bay, S: Source>(
+    alloc: Global,
+    opened: &Opened,
+    bay: &mut B,
+    source: &mut S,
+) -> Result<RunEnd, Stop>
+    requires loaded { IsLoading (loading_by opened.now.house opened.now.hashes.items) }
+    requires home { AreAtHome (B.owners bay.old) (B.shelf bay.old) }
+    ensures end { (script : List ℕ) × IsLeft (S.left source.old) script
+        × IsEndOf (to_answer (loading_by opened.now.house opened.now.hashes.items) opened.now.key) (B.shelf bay.old) (B.shelf bay.new) script (end_by End.Run result) }
+    ensures taken { IsTaken (S.left source.old) (S.left source.new) (status_at (end_by End.Run result)) }
+    ensures owners { B.owners bay.new ≡ B.owners bay.old }
+    ensures bay { B.faults bay.old ≤ B.faults bay.new }
+    ensures cause { HasCause (S.faults source.old) (S.faults source.new) (IsErrOf result Stop.Fault) }
+    ensures disk { (line : Vec ℕ Heap) → result ≡ Err (Stop.Disk line) →
+        HasRisen (B.faults bay.old) (B.faults bay.new) ⊎ SomeRose (B.shelf bay.old) (B.shelf bay.new) }
+{
+    let mut passes = Passes::new(open_passes(alloc, bay, opened)?);
+    let end = answer_over(alloc, opened, &mut passes, source);
+    put_back(bay, passes.into_vec());
+    end
+}
+
 /// Opens the house of a catalog and a key, and answers a script.
-pub(crate) fn run_script<F: Files, S: Source>(
+pub(crate) fn run_script<F: Files, B: Bay, S: Source>(
     alloc: Global,
     files: &mut F,
+    bay: &mut B,
     source: &mut S,
     catalog: &str,
     key: &str,
 ) -> Result<RunEnd, Stop>
+    requires home { AreAtHome (B.owners bay.old) (B.shelf bay.old) }
     ensures end { ForContents (F.held files.old) (S.left source.old)
-        (IsStepEnd (F.names files.old) (F.names files.new) (run_steps catalog.now key.now) (end_by End.Run result)) }
+        (IsStepEnd (F.names files.old) (F.names files.new) (B.shelf bay.old) (B.shelf bay.new) (run_steps catalog.now key.now) (end_by End.Run result)) }
     ensures taken { IsTaken (S.left source.old) (S.left source.new) (status_at (end_by End.Run result)) }
+    // Where a call of files failed, nothing was taken of the source.
+    ensures unread { F.faults files.old < F.faults files.new → source.new ≡ source.old }
     ensures same { F.held files.new ≡ F.held files.old }
     ensures files { F.faults files.old ≤ F.faults files.new }
+    ensures owners { B.owners bay.new ≡ B.owners bay.old }
+    ensures bay { B.faults bay.old ≤ B.faults bay.new }
     ensures source { S.faults source.old ≤ S.faults source.new }
     ensures cause { IsErrOf result Stop.Fault → HasRisen (F.faults files.old) (F.faults files.new) ⊎ HasRisen (S.faults source.old) (S.faults source.new) }
+    ensures disk { (line : Vec ℕ Heap) → result ≡ Err (Stop.Disk line) →
+        HasRisen (B.faults bay.old) (B.faults bay.new) ⊎ SomeRose (B.shelf bay.old) (B.shelf bay.new) }
 {
     let opened = open_house(alloc, files, catalog, key)?;
-    answer(alloc, &opened, source)
+    answer(alloc, &opened, bay, source)
 }

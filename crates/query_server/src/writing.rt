@@ -42,6 +42,8 @@ fn write_stop<K: Sink>(sink: &mut K, stop: &Stop) -> Result<(), Failed>
     match stop {
         Stop::Usage => put_line(sink, b"usage\n"),
         Stop::Refused(name) => write_refused(sink, name),
+        Stop::Journal(line) => put_line(sink, line),
+        Stop::Disk(line) => put_line(sink, line),
         Stop::Fault => put_line(sink, b""),
         Stop::NoMemory => put_line(sink, b"memory\n"),
     }
@@ -57,6 +59,7 @@ fn write_end<K: Sink>(sink: &mut K, end: &End) -> Result<(), Failed>
     match end {
         End::Stopped(stop) => write_stop(sink, stop),
         End::Run(end) => put_line(sink, end.text()),
+        End::Listed(lines) => put_line(sink, lines),
         End::Check(end) => put_line(sink, end.text()),
         End::Gap(end) => put_line(sink, end.text()),
     }

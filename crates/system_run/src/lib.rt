@@ -1,4 +1,5 @@
-//! The top call over the system: the words of the process, the files of the system, standard input and standard output.
+//! The top call over the system: the words of the process, the files of the system, the journals in a folder of it, standard
+//! input and standard output.
 #![tactic(auto)]
 
 ghost use Rattle.std.specs.Prelude.{◌≡◌};
@@ -8,11 +9,15 @@ ghost use Rattle.query_server.specs.declared.end.Status.{Status as Ended};
 
 use fz_outside::real::{RealFiles, RealSink, RealSource};
 use fz_outside::sink::{Sink, put};
+use outside_bays::real::RealBay;
 use query_server::{Status, run_server};
 use std::alloc::{AllocError, Global};
 use std::io::ErrorKind;
 use std::process::ExitCode;
-use std::{env, io};
+use std::{env, fs, io};
+
+/// The most owners of a catalog. The journal of owner N is `journals/N.bud`.
+const OWNERS: u32 = 16;
 
 // The words behind the program's own name. A word that isn't UTF-8 is no command, so then no words are.
 fn words_of(rt: &HostRuntime, alloc: Global) -> Result<Vec<String>, AllocError> {
@@ -23,25 +28,35 @@ fn words_of(rt: &HostRuntime, alloc: Global) -> Result<Vec<String>, AllocError> 
     }
 }
 
-// What is left to say where there is no memory for the words.
-fn without_words<K: Sink>(sink: &mut K) -> Status {
+// What is left to say where there is no memory for the words or for the places of the journals.
+fn without_memory<K: Sink>(sink: &mut K) -> Status {
     match put(sink, b"memory\n") {
         Ok(()) => Status::NoMemory,
         Err(_) => Status::Fault,
     }
 }
 
+// Opens a folder, which takes a number of the process that is free. Reading and writing a folder fail: where standard input or
+// output is closed, it stands in its place, and not the file of a journal.
+fn hold_number(rt: &HostRuntime) -> Option<fs::File> {
+    fs::open(rt, "/").ok()
+}
+
 /// Does the command of the process's words. The process is to end with the number of the command's status.
 pub fn run_process(rt: &HostRuntime) -> ExitCode
     ensures { (status : Ended) × (exit_status result ≡ code_of status) }
 {
+    let _held = (hold_number(rt), hold_number(rt), hold_number(rt));
     let alloc = rt.alloc();
     let mut files = RealFiles::new(rt);
     let mut source = RealSource::new(rt.reader());
     let mut sink = RealSink::new(io::writer(rt));
     let status = match words_of(rt, alloc) {
-        Ok(words) => run_server(alloc, &words, &mut files, &mut source, &mut sink),
-        Err(_) => without_words(&mut sink),
+        Ok(words) => match RealBay::new(alloc, rt, "journals", OWNERS) {
+            Ok(mut bay) => run_server(alloc, &words, &mut files, &mut bay, &mut source, &mut sink),
+            Err(_) => without_memory(&mut sink),
+        },
+        Err(_) => without_memory(&mut sink),
     };
     ExitCode::from(status.code())
 }

@@ -8,15 +8,15 @@ use Rattle.query_server.proofs.Ends.{failed_end, passed_end}
 use Rattle.query_server.proofs.checking.check_file.Goals as goal
 
 pub returns-in_err-candidate-clause-end : goal.returns-in_err-candidate-clause-end
-returns-in_err-candidate-clause-end g c = λ left. passed_end _ left _ _ (check_steps c.args.catalog.now c.args.owner.now c.args.file.now) Check _ c.from_residual.result c.in_err-candidate.ensures.step c.from_residual.ensures.1
+returns-in_err-candidate-clause-end g c = λ left shelf. passed_end _ left _ _ shelf (check_steps c.args.catalog.now c.args.owner.now c.args.file.now) Check _ c.from_residual.result c.in_err-candidate.ensures.step c.from_residual.ensures.1
 
 pub returns-in-Ok-clause-end : goal.returns-in-Ok-clause-end
-returns-in-Ok-clause-end g c = λ left.
+returns-in-Ok-clause-end g c = λ left shelf.
     let found = c.in_ok-candidate.candidate in
-    failed_end _ left _ _ _ (to_check found.dataset.tables found.program.items) _ c.in_ok-candidate.ensures.step
+    failed_end _ left _ _ shelf shelf _ (to_check found.dataset.tables found.program.items) _ c.in_ok-candidate.ensures.step
     (λ script. inl (subst (λ (program : List ℕ). IsVerdictOn found.dataset.tables program c.in-Ok.end) c.deref.ensures.value c.in-Ok.ensures))
 
 pub returns-clause-end : goal.returns-clause-end
-returns-clause-end g c = λ left.
+returns-clause-end g c = λ left shelf.
     let found = c.in_ok-candidate.candidate in
-    failed_end _ left _ _ _ (to_check found.dataset.tables found.program.items) _ c.in_ok-candidate.ensures.step (λ script. inr (inr refl))
+    failed_end _ left _ _ shelf shelf _ (to_check found.dataset.tables found.program.items) _ c.in_ok-candidate.ensures.step (λ script. inr (inr (inl refl), λ n. refl))

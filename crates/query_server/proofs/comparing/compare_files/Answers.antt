@@ -8,15 +8,15 @@ use Rattle.query_server.proofs.Ends.{failed_end, passed_end}
 use Rattle.query_server.proofs.comparing.compare_files.Goals as goal
 
 pub returns-in_err-found-clause-end : goal.returns-in_err-found-clause-end
-returns-in_err-found-clause-end g c = λ left. passed_end _ left _ _ (gap_steps c.args.catalog.now c.args.owner.now c.args.second_catalog.now c.args.file.now) Gap _ c.from_residual.result c.in_err-found.ensures.step c.from_residual.ensures.1
+returns-in_err-found-clause-end g c = λ left shelf. passed_end _ left _ _ shelf (gap_steps c.args.catalog.now c.args.owner.now c.args.second_catalog.now c.args.file.now) Gap _ c.from_residual.result c.in_err-found.ensures.step c.from_residual.ensures.1
 
 pub returns-in-Ok-clause-end : goal.returns-in-Ok-clause-end
-returns-in-Ok-clause-end g c = λ left.
+returns-in-Ok-clause-end g c = λ left shelf.
     let found = c.in_ok-found.found in
-    failed_end _ left _ _ _ (to_compare found.first.tables found.first.rows found.second.rows found.program.items) _ c.in_ok-found.ensures.step
+    failed_end _ left _ _ shelf shelf _ (to_compare found.first.tables found.first.rows found.second.rows found.program.items) _ c.in_ok-found.ensures.step
     (λ script. inl (subst (λ (program : List ℕ). IsGapOn found.first.tables found.first.rows found.second.rows program c.in-Ok.end) c.deref.ensures.value c.in-Ok.ensures))
 
 pub returns-clause-end : goal.returns-clause-end
-returns-clause-end g c = λ left.
+returns-clause-end g c = λ left shelf.
     let found = c.in_ok-found.found in
-    failed_end _ left _ _ _ (to_compare found.first.tables found.first.rows found.second.rows found.program.items) _ c.in_ok-found.ensures.step (λ script. inr (inr refl))
+    failed_end _ left _ _ shelf shelf _ (to_compare found.first.tables found.first.rows found.second.rows found.program.items) _ c.in_ok-found.ensures.step (λ script. inr (inr (inl refl), λ n. refl))

@@ -1,5 +1,5 @@
 use Rattle.std.proofs.Common.{◌∙◌, refl, sym}
-use Rattle.owner_catalog.specs.Entries.{owner_at}
+use Rattle.owner_catalog.specs.Entries.{owner_entry_at}
 use Rattle.query_server.specs.Gap.{gap_steps}
 use Rattle.query_server.proofs.Fits.{opened_lawful, same_signature}
 use Rattle.query_server.proofs.Reached.{all_done, begun, decided, one_more, passed, stopped, undecided}
@@ -94,6 +94,6 @@ returns-clause-step g c =
 
 pub returns-clause-tables : goal.returns-clause-tables
 returns-clause-tables g c =
-    let first = owner_at c.in_ok-first_house.first_house c.in_ok-first_owner.first_owner in
-    let second = owner_at c.in_ok-second_house.second_house c.in_ok-second_owner.second_owner in
+    let first = owner_entry_at c.in_ok-first_house.first_house c.in_ok-first_owner.first_owner in
+    let second = owner_entry_at c.in_ok-second_house.second_house c.in_ok-second_owner.second_owner in
     c.in_ok-second.ensures.tables ∙ same_signature first c.in_ok-second_house.second_house c.args.owner.now second c.in_ok-second_owner.ensures.owner.1 ∙ sym c.in_ok-first.ensures.tables

@@ -1,6 +1,8 @@
-use Rattle.std.proofs.Common.{◌≡◌, ◌≤◌, drop}
+use Rattle.std.proofs.Common.{◌≡◌, ℕ, List, drop, map}
+use Rattle.std.specs.Prelude.{Vec}
+use Rattle.std.specs.declared.alloc.Global.{Global}
 use Rattle.query_server.specs.Steps.{each}
-use Rattle.query_server.specs.Loaded.{holding_read}
+use Rattle.query_server.specs.Loaded.{LoadedOwner, owner_read}
 use Rattle.query_server.proofs.Reached.{Reached, others}
 use Rattle.query_server.proofs.loading.load_all.Given as goal
 
@@ -8,8 +10,11 @@ use Rattle.query_server.proofs.loading.load_all.Given as goal
 abbrev pub invariant-loop-owner : goal.invariant-loop-owner
 invariant-loop-owner g l =
     record {
-      reached : Reached (g.F.Files.held l.fn.files) (g.F.Files.names l.fn.files) (g.F.Files.names l.files) (each holding_read l.catalog.owners)
-          (others holding_read l.datasets.items (drop l.owner l.catalog.owners));
+      so_far : List LoadedOwner;
+      holdings : map (λ (o : LoadedOwner). o.holding) so_far ≡ l.datasets.items;
+      hashes : map (λ (o : LoadedOwner). o.hashes) so_far ≡ map (λ (v : Vec (List ℕ) Global). v.items) l.hashes.items;
+      reached : Reached (g.F.Files.held l.fn.files) (g.F.Files.names l.fn.files) (g.F.Files.names l.files) (each owner_read l.catalog.owners)
+          (others owner_read so_far (drop l.owner l.catalog.owners));
       same : g.F.Files.held l.files ≡ g.F.Files.held l.fn.files;
-      later : g.F.Files.faults l.fn.files ≤ g.F.Files.faults l.files;
+      passed : g.F.Files.faults l.files ≡ g.F.Files.faults l.fn.files;
     }

@@ -5,21 +5,21 @@ use Rattle.query_server.proofs.Holdings.{its_tables, one_holds}
 use Rattle.query_server.proofs.Reached.{at_done, begun, decided, one_more, passed, stopped}
 use Rattle.query_server.proofs.loading.load_for.Goals as goal
 
-pub returns-in_err-datasets-clause-step : goal.returns-in_err-datasets-clause-step
-returns-in_err-datasets-clause-step g c = λ name owner.
-    passed _ _ _ _ _ _ c.from_residual.result (stopped _ _ _ _ _ _ _ _ _ (begun _ _ (owner_loaded c.args.catalog.now name)) refl c.in_err-datasets.ensures.step) c.from_residual.ensures.1
+pub returns-in_err-loaded-clause-step : goal.returns-in_err-loaded-clause-step
+returns-in_err-loaded-clause-step g c = λ name owner.
+    passed _ _ _ _ _ _ c.from_residual.result (stopped _ _ _ _ _ _ _ _ _ (begun _ _ (owner_loaded c.args.catalog.now name)) refl c.in_err-loaded.ensures.step) c.from_residual.ensures.1
 
 pub returns-clause-step : goal.returns-clause-step
 returns-clause-step g c = λ name owner.
-    let holdings = c.in_ok-datasets.datasets.items in
-    let within : c.args.owner < length holdings = omega (arith, c.requires, c.in_ok-datasets.ensures.register.each_has) in
+    let holdings = c.in_ok-loaded.loaded.datasets.items in
+    let within : c.args.owner < length holdings = omega (arith, c.requires, c.in_ok-loaded.ensures.register.register.each_has) in
     let at : slice_get holdings c.args.owner ≡ Some c.swap_remove.result = slice_get_read holdings (length holdings) c.args.owner c.swap_remove.result refl within c.swap_remove.ensures.value in
-    at_done _ _ _ _ _ _ _ _ (one_more _ _ _ _ _ _ _ _ _ (begun _ _ (owner_loaded c.args.catalog.now name)) refl c.in_ok-datasets.ensures.step) c.in_ok-datasets.ensures.same
+    at_done _ _ _ _ _ _ _ _ (one_more _ _ _ _ _ _ _ _ _ (begun _ _ (owner_loaded c.args.catalog.now name)) refl c.in_ok-loaded.ensures.step) c.in_ok-loaded.ensures.same
     (decided _ _ _ _ (one_holds c.args.catalog.now holdings name c.args.owner c.swap_remove.result owner at))
 
 pub returns-clause-tables : goal.returns-clause-tables
 returns-clause-tables g c =
-    let holdings = c.in_ok-datasets.datasets.items in
-    let within : c.args.owner < length holdings = omega (arith, c.requires, c.in_ok-datasets.ensures.register.each_has) in
+    let holdings = c.in_ok-loaded.loaded.datasets.items in
+    let within : c.args.owner < length holdings = omega (arith, c.requires, c.in_ok-loaded.ensures.register.register.each_has) in
     let at : slice_get holdings c.args.owner ≡ Some c.swap_remove.result = slice_get_read holdings (length holdings) c.args.owner c.swap_remove.result refl within c.swap_remove.ensures.value in
-    its_tables c.args.catalog.now holdings c.args.owner c.swap_remove.result c.in_ok-datasets.ensures.register c.requires at
+    its_tables c.args.catalog.now holdings c.args.owner c.swap_remove.result c.in_ok-loaded.ensures.register.register c.requires at

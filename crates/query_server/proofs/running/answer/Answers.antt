@@ -1,35 +1,52 @@
-use Rattle.std.proofs.Common.{◌<◌, ◌≤◌, ℕ, List, refl, subst, arith, length}
+use Rattle.std.proofs.Common.{◌≡◌, ◌∙◌, List, length, sym, ap, subst, arith}
 use Rattle.word_streams.specs.Draws.{draws_of}
+use Rattle.answer_path.specs.Pass.{Pass}
 use Rattle.session_core.specs.House.{house_of}
-use Rattle.session_core.specs.Transcript.{IsTranscript}
-use Rattle.query_server.specs.Run.{none_found, script_limit}
-use mathlib.Core.Logic.{inl, inr}
+use Rattle.session_core.specs.Code.{ArePasses}
+use Rattle.query_server.specs.Opened.{owners_in}
+use Rattle.query_server.specs.Ends.{IsAnsweredOn, loading_by}
 use Rattle.query_server.proofs.Contents.{any_left}
-use Rattle.query_server.proofs.Ends.{left_at_end, left_too_long}
-use Rattle.query_server.proofs.Passes.{answered_in}
+use Rattle.query_server.proofs.Ran.{answered_count, answered_no_disk, few_owners, open_passed, opened_passes, run_ends}
 use Rattle.query_server.proofs.running.answer.Goals as goal
 
-pub returns-in_default-clause-end : goal.returns-in_default-clause-end
-returns-in_default-clause-end g c = let some = any_left (g.S.Source.left c.args.source.now) in (some.0, some.1, inr refl)
+pub returns-in_err-open_passes-clause-end : goal.returns-in_err-open_passes-clause-end
+returns-in_err-open_passes-clause-end g c =
+    let loading = loading_by c.args.opened.now.house c.args.opened.now.hashes.items in
+    let some = any_left (g.S.Source.left c.args.source.now) in
+    (some.0, some.1, open_passed loading c.args.opened.now.key c.requires.loaded _ _ some.0 c.in_err-open_passes.field-0.0 c.from_residual.result c.in_err-open_passes.ensures.stop c.in_err-open_passes.ensures.left c.from_residual.ensures.1)
 
-pub returns-in-Err-Failed-clause-end : goal.returns-in-Err-Failed-clause-end
-returns-in-Err-Failed-clause-end g c = let some = any_left (g.S.Source.left c.args.source.now) in (some.0, some.1, inl refl)
+pub answer_over-end-requires : goal.answer_over-end-requires
+answer_over-end-requires g c =
+    let loading = loading_by c.args.opened.now.house c.args.opened.now.hashes.items in
+    record {
+      passes = subst (λ (ps : List Pass). ArePasses (house_of c.args.opened.now.house) ps) (sym c.new-passes.ensures)
+          (opened_passes loading c.args.opened.now.key c.requires.loaded _ _ c.in_ok-open_passes.field-0.items c.in_ok-open_passes.ensures.passes);
+    }
 
-pub returns-in-Err-NoMemory-clause-end : goal.returns-in-Err-NoMemory-clause-end
-returns-in-Err-NoMemory-clause-end g c = let some = any_left (g.S.Source.left c.args.source.now) in (some.0, some.1, inr refl)
+pub put_back-requires-clause-known : goal.put_back-requires-clause-known
+put_back-requires-clause-known g c =
+    let loading = loading_by c.args.opened.now.house c.args.opened.now.hashes.items in
+    let due = c.answer_over-end.ensures.end in
+    let count : length c.answer_over-end.new.passes ≡ length c.new-passes.result = answered_count loading c.args.opened.now.key c.requires.loaded (draws_of c.args.opened.now.key) _ _ due.0 c.answer_over-end.result due.2 in
+    let few = few_owners loading c.args.opened.now.key c.requires.loaded in
+    let all : length c.into_vec.result.items ≡ owners_in loading =
+    ap length c.into_vec.ensures ∙ count ∙ ap length c.new-passes.ensures ∙ c.in_ok-open_passes.ensures.passes.count in
+    omega (arith, few, all, (c.requires.home 15 (omega arith)).0, c.in_ok-open_passes.ensures.owners)
 
-pub returns-then-len-gt-SCRIPT_LIMIT-clause-end : goal.returns-then-len-gt-SCRIPT_LIMIT-clause-end
-returns-then-len-gt-SCRIPT_LIMIT-clause-end g c =
-    let long : script_limit < length c.in-Ok-read_up_to.script.items = omega (arith, c.if-len-gt-SCRIPT_LIMIT.true, c.len.ensures) in
-    let some = left_too_long _ _ c.in-Ok-read_up_to.script.items c.in-Ok-read_up_to.ensures.bytes long in (some.0, some.1, inr (refl, some.2, refl))
+pub returns-clause-end : goal.returns-clause-end
+returns-clause-end g c =
+    let loading = loading_by c.args.opened.now.house c.args.opened.now.hashes.items in
+    let key = c.args.opened.now.key in
+    let house = house_of c.args.opened.now.house in
+    let passes = c.in_ok-open_passes.field-0.items in
+    let after = c.into_vec.result.items in
+    let due = c.answer_over-end.ensures.end in
+    let answered = subst (λ (ps : List Pass). IsAnsweredOn house (draws_of key) due.0 ps after c.answer_over-end.result) c.new-passes.ensures
+    (subst (λ (ps : List Pass). IsAnsweredOn house (draws_of key) due.0 c.new-passes.result ps c.answer_over-end.result) (sym c.into_vec.ensures) due.2) in
+    (due.0, due.1, run_ends loading key c.requires.loaded _ _ _ passes after due.0 c.answer_over-end.result c.in_ok-open_passes.ensures.passes answered c.put_back.ensures.back)
 
-pub returns-in-Ok-answer_script-clause-end : goal.returns-in-Ok-answer_script-clause-end
-returns-in-Ok-answer_script-clause-end g c =
-    let script = c.in-Ok-read_up_to.script.items in
-    let text = c.in-Ok-answer_script.replies.items in
-    let register = c.args.opened.now.house in
-    let draws = draws_of c.args.opened.now.key in
-    let short : length script ≤ script_limit = omega (arith, c.if-len-gt-SCRIPT_LIMIT.false, c.len.ensures) in
-    let at_end = c.in-Ok-read_up_to.ensures.end (omega (arith, short, c.len.ensures)) in
-    let transcript = answered_in register _ draws c.in-Ok.passes c.deref.result.now text _ c.new-streams.ensures.given c.in-Ok.ensures.empty c.in-Ok-answer_script.ensures.written in
-    (script, left_at_end _ _ script c.in-Ok-read_up_to.ensures.bytes at_end, inl (refl, short, subst (λ (s : List ℕ). IsTranscript (house_of register) draws none_found s text) c.deref.ensures.value transcript))
+pub returns-clause-disk : goal.returns-clause-disk
+returns-clause-disk g c = λ line is.
+    let loading = loading_by c.args.opened.now.house c.args.opened.now.hashes.items in
+    let due = c.answer_over-end.ensures.end in
+    answered_no_disk loading c.args.opened.now.key c.requires.loaded (draws_of c.args.opened.now.key) _ _ due.0 c.answer_over-end.result line due.2 is

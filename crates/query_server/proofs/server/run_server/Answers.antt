@@ -1,10 +1,13 @@
-use Rattle.std.proofs.Common.{◌∙◌, Some, ap, map, string_bytes}
+use Rattle.std.proofs.Common.{◌∙◌, Some, ap, map, string_bytes, subst}
 use Rattle.std.specs.Io.KnownBytes.{append_known}
 use Rattle.command_words.specs.Command.{command_of}
 use Rattle.query_server.specs.Files.{always}
-use Rattle.query_server.specs.Due.{ending_of}
+use Rattle.query_server.specs.Ending.{Ending}
+use Rattle.query_server.specs.Due.{IfFinished, IsDue, ending_of}
 use Rattle.query_server.proofs.Contents.{at_held, at_told}
-use Rattle.query_server.proofs.Outcomes.{Comes, all_written, comparison_by, cut_short_by, finished_due, finished_map, headline_by, name_by, of_program_by, of_run_by, program_by, silent_by, taken_with, usage_by, usage_written, verdict_by}
+use Rattle.query_server.proofs.Diskless.{disk_status}
+use Rattle.query_server.proofs.Home.{at_home_again, complete_by, home_again, no_cause, no_disk_cause}
+use Rattle.query_server.proofs.Outcomes.{Comes, all_written, comparison_by, finished_due, finished_map, headline_by, left_by_run, name_by, of_disks_by, of_program_by, of_run_by, program_by, silent_by, taken_with, usage_by, usage_written, verdict_by}
 use Rattle.query_server.proofs.server.run_server.Goals as goal
 
 pub returns-clause-line : goal.returns-clause-line
@@ -14,9 +17,11 @@ returns-clause-line g c =
     let left = g.S.Source.left c.args.source.now in
     let old = g.F.Files.names c.args.files.now in
     let new = g.F.Files.names c.run_command-end.new.files in
+    let b = g.B.Bay.shelf c.args.bay.now in
+    let a = g.B.Bay.shelf c.run_command-end.new.bay in
     let status = c.finish.result in
     let done = c.finish.ensures.written in
-    let written = all_written words held left old new c.run_command-end.result status done.0 done.2 c.run_command-end.ensures.end in
+    let written = all_written words held left old new b a c.run_command-end.result status done.0 done.2 c.run_command-end.ensures.end in
     (done.0, done.1, written)
 
 pub returns-clause-exact : goal.returns-clause-exact
@@ -26,10 +31,12 @@ returns-clause-exact g c = λ told script before files source sink.
     let left = g.S.Source.left c.args.source.now in
     let old = g.F.Files.names c.args.files.now in
     let new = g.F.Files.names c.run_command-end.new.files in
+    let b = g.B.Bay.shelf c.args.bay.now in
+    let a = g.B.Bay.shelf c.run_command-end.new.bay in
     let status = c.finish.result in
     let done = c.finish.ensures.written in
-    let written = all_written words held left old new c.run_command-end.result status done.0 done.2 c.run_command-end.ensures.end in
-    let w = at_told told script held left (Comes words old new status done.0) files source written in
+    let written = all_written words held left old new b a c.run_command-end.result status done.0 done.2 c.run_command-end.ensures.end in
+    let w = at_told told script held left (Comes words old new b a status done.0) files source written in
     (done.0, done.1 ∙ ap (λ known. append_known known done.0) sink, w.0)
 
 pub returns-clause-headline : goal.returns-clause-headline
@@ -39,24 +46,28 @@ returns-clause-headline g c = λ told catalog key workers script before files so
     let left = g.S.Source.left c.args.source.now in
     let old = g.F.Files.names c.args.files.now in
     let new = g.F.Files.names c.run_command-end.new.files in
+    let b = g.B.Bay.shelf c.args.bay.now in
+    let a = g.B.Bay.shelf c.run_command-end.new.bay in
     let status = c.finish.result in
     let done = c.finish.ensures.written in
-    let written = all_written words held left old new c.run_command-end.result status done.0 done.2 c.run_command-end.ensures.end in
-    let w = at_told told script held left (Comes words old new status done.0) files source written in
-    (done.0, done.1 ∙ ap (λ known. append_known known done.0) sink, headline_by words told catalog key workers script done.0 status commanded same w.0)
+    let written = all_written words held left old new b a c.run_command-end.result status done.0 done.2 c.run_command-end.ensures.end in
+    let w = at_told told script held left (Comes words old new b a status done.0) files source written in
+    (done.0, done.1 ∙ ap (λ known. append_known known done.0) sink, headline_by words told b a catalog key workers script done.0 status commanded same w.0)
 
-pub returns-clause-cut_short : goal.returns-clause-cut_short
-returns-clause-cut_short g c = λ told script before files source sink same.
+pub returns-clause-left : goal.returns-clause-left
+returns-clause-left g c = λ told script before files source sink.
     let words = map string_bytes c.args.words.now in
     let held = g.F.Files.held c.args.files.now in
     let left = g.S.Source.left c.args.source.now in
     let old = g.F.Files.names c.args.files.now in
     let new = g.F.Files.names c.run_command-end.new.files in
+    let b = g.B.Bay.shelf c.args.bay.now in
+    let a = g.B.Bay.shelf c.run_command-end.new.bay in
     let status = c.finish.result in
     let done = c.finish.ensures.written in
-    let written = all_written words held left old new c.run_command-end.result status done.0 done.2 c.run_command-end.ensures.end in
-    let w = at_told told script held left (Comes words old new status done.0) files source written in
-    (done.0, done.1 ∙ ap (λ known. append_known known done.0) sink, cut_short_by words told script done.0 status w.0)
+    let written = all_written words held left old new b a c.run_command-end.result status done.0 done.2 c.run_command-end.ensures.end in
+    let w = at_told told script held left (Comes words old new b a status done.0) files source written in
+    (done.0, done.1 ∙ ap (λ known. append_known known done.0) sink, left_by_run words told b a script done.0 status w.0)
 
 pub returns-clause-status : goal.returns-clause-status
 returns-clause-status g c = λ told script files source.
@@ -65,11 +76,13 @@ returns-clause-status g c = λ told script files source.
     let left = g.S.Source.left c.args.source.now in
     let old = g.F.Files.names c.args.files.now in
     let new = g.F.Files.names c.run_command-end.new.files in
+    let b = g.B.Bay.shelf c.args.bay.now in
+    let a = g.B.Bay.shelf c.run_command-end.new.bay in
     let status = c.finish.result in
     let done = c.finish.ensures.written in
-    let written = all_written words held left old new c.run_command-end.result status done.0 done.2 c.run_command-end.ensures.end in
-    let w = at_told told script held left (Comes words old new status done.0) files source written in
-    finished_map status _ _ (λ due. (done.0, due)) (finished_due (ending_of words (always told)) script status done.0 w.0)
+    let written = all_written words held left old new b a c.run_command-end.result status done.0 done.2 c.run_command-end.ensures.end in
+    let w = at_told told script held left (Comes words old new b a status done.0) files source written in
+    finished_map status _ _ (λ due. (done.0, due)) (finished_due (ending_of words (always told)) b a script status done.0 w.0)
 
 pub returns-clause-refusal : goal.returns-clause-refusal
 returns-clause-refusal g c = λ told files.
@@ -78,11 +91,13 @@ returns-clause-refusal g c = λ told files.
     let left = g.S.Source.left c.args.source.now in
     let old = g.F.Files.names c.args.files.now in
     let new = g.F.Files.names c.run_command-end.new.files in
+    let b = g.B.Bay.shelf c.args.bay.now in
+    let a = g.B.Bay.shelf c.run_command-end.new.bay in
     let status = c.finish.result in
     let done = c.finish.ensures.written in
-    let written = all_written words held left old new c.run_command-end.result status done.0 done.2 c.run_command-end.ensures.end in
-    let w = at_held told held left (Comes words old new status done.0) files written in
-    finished_map status _ _ (λ due. (w.0, done.0, due)) (finished_due (ending_of words (always told)) w.0 status done.0 w.1.0)
+    let written = all_written words held left old new b a c.run_command-end.result status done.0 done.2 c.run_command-end.ensures.end in
+    let w = at_held told held left (Comes words old new b a status done.0) files written in
+    finished_map status _ _ (λ due. (w.0, done.0, due)) (finished_due (ending_of words (always told)) b a w.0 status done.0 w.1.0)
 
 pub returns-clause-name : goal.returns-clause-name
 returns-clause-name g c = λ told before files sink same.
@@ -91,11 +106,13 @@ returns-clause-name g c = λ told before files sink same.
     let left = g.S.Source.left c.args.source.now in
     let old = g.F.Files.names c.args.files.now in
     let new = g.F.Files.names c.run_command-end.new.files in
+    let b = g.B.Bay.shelf c.args.bay.now in
+    let a = g.B.Bay.shelf c.run_command-end.new.bay in
     let status = c.finish.result in
     let done = c.finish.ensures.written in
-    let written = all_written words held left old new c.run_command-end.result status done.0 done.2 c.run_command-end.ensures.end in
-    let w = at_held told held left (Comes words old new status done.0) files written in
-    let named = name_by (ending_of words (always told)) w.0 status done.0 same w.1.0 in
+    let written = all_written words held left old new b a c.run_command-end.result status done.0 done.2 c.run_command-end.ensures.end in
+    let w = at_held told held left (Comes words old new b a status done.0) files written in
+    let named = name_by (ending_of words (always told)) b a w.0 status done.0 same w.1.0 in
     (named.0, named.1, done.1 ∙ ap (λ known. append_known known done.0) sink ∙ ap (λ text. append_known (Some before) text) named.2)
 
 pub returns-clause-program : goal.returns-clause-program
@@ -105,11 +122,13 @@ returns-clause-program g c = λ told tables program before files sink due.
     let left = g.S.Source.left c.args.source.now in
     let old = g.F.Files.names c.args.files.now in
     let new = g.F.Files.names c.run_command-end.new.files in
+    let b = g.B.Bay.shelf c.args.bay.now in
+    let a = g.B.Bay.shelf c.run_command-end.new.bay in
     let status = c.finish.result in
     let done = c.finish.ensures.written in
-    let written = all_written words held left old new c.run_command-end.result status done.0 done.2 c.run_command-end.ensures.end in
-    let w = at_held told held left (Comes words old new status done.0) files written in
-    (done.0, done.1 ∙ ap (λ known. append_known known done.0) sink, program_by (ending_of words (always told)) tables program w.0 status done.0 due w.1.0)
+    let written = all_written words held left old new b a c.run_command-end.result status done.0 done.2 c.run_command-end.ensures.end in
+    let w = at_held told held left (Comes words old new b a status done.0) files written in
+    (done.0, done.1 ∙ ap (λ known. append_known known done.0) sink, program_by (ending_of words (always told)) b a tables program w.0 status done.0 due w.1.0)
 
 pub returns-clause-comparison : goal.returns-clause-comparison
 returns-clause-comparison g c = λ told tables X Y program before files sink due.
@@ -118,11 +137,13 @@ returns-clause-comparison g c = λ told tables X Y program before files sink due
     let left = g.S.Source.left c.args.source.now in
     let old = g.F.Files.names c.args.files.now in
     let new = g.F.Files.names c.run_command-end.new.files in
+    let b = g.B.Bay.shelf c.args.bay.now in
+    let a = g.B.Bay.shelf c.run_command-end.new.bay in
     let status = c.finish.result in
     let done = c.finish.ensures.written in
-    let written = all_written words held left old new c.run_command-end.result status done.0 done.2 c.run_command-end.ensures.end in
-    let w = at_held told held left (Comes words old new status done.0) files written in
-    (done.0, done.1 ∙ ap (λ known. append_known known done.0) sink, comparison_by (ending_of words (always told)) tables X Y program w.0 status done.0 due w.1.0)
+    let written = all_written words held left old new b a c.run_command-end.result status done.0 done.2 c.run_command-end.ensures.end in
+    let w = at_held told held left (Comes words old new b a status done.0) files written in
+    (done.0, done.1 ∙ ap (λ known. append_known known done.0) sink, comparison_by (ending_of words (always told)) b a tables X Y program w.0 status done.0 due w.1.0)
 
 pub returns-clause-verdict : goal.returns-clause-verdict
 returns-clause-verdict g c = λ told tables program reading files due reads.
@@ -131,11 +152,13 @@ returns-clause-verdict g c = λ told tables program reading files due reads.
     let left = g.S.Source.left c.args.source.now in
     let old = g.F.Files.names c.args.files.now in
     let new = g.F.Files.names c.run_command-end.new.files in
+    let b = g.B.Bay.shelf c.args.bay.now in
+    let a = g.B.Bay.shelf c.run_command-end.new.bay in
     let status = c.finish.result in
     let done = c.finish.ensures.written in
-    let written = all_written words held left old new c.run_command-end.result status done.0 done.2 c.run_command-end.ensures.end in
-    let w = at_held told held left (Comes words old new status done.0) files written in
-    verdict_by (ending_of words (always told)) tables program w.0 reading status done.0 due reads w.1.0
+    let written = all_written words held left old new b a c.run_command-end.result status done.0 done.2 c.run_command-end.ensures.end in
+    let w = at_held told held left (Comes words old new b a status done.0) files written in
+    verdict_by (ending_of words (always told)) b a tables program w.0 reading status done.0 due reads w.1.0
 
 pub returns-clause-usage : goal.returns-clause-usage
 returns-clause-usage g c = λ same.
@@ -144,10 +167,12 @@ returns-clause-usage g c = λ same.
     let left = g.S.Source.left c.args.source.now in
     let old = g.F.Files.names c.args.files.now in
     let new = g.F.Files.names c.run_command-end.new.files in
+    let b = g.B.Bay.shelf c.args.bay.now in
+    let a = g.B.Bay.shelf c.run_command-end.new.bay in
     let status = c.finish.result in
     let done = c.finish.ensures.written in
-    let written = all_written words held left old new c.run_command-end.result status done.0 done.2 c.run_command-end.ensures.end in
-    usage_by words written.0 written.1 status done.0 same written.4.0
+    let written = all_written words held left old new b a c.run_command-end.result status done.0 done.2 c.run_command-end.ensures.end in
+    usage_by words written.0 b a written.1 status done.0 same written.4.0
 
 pub returns-clause-no_command : goal.returns-clause-no_command
 returns-clause-no_command g c = λ none.
@@ -163,10 +188,12 @@ returns-clause-of_program g c = λ same.
     let left = g.S.Source.left c.args.source.now in
     let old = g.F.Files.names c.args.files.now in
     let new = g.F.Files.names c.run_command-end.new.files in
+    let b = g.B.Bay.shelf c.args.bay.now in
+    let a = g.B.Bay.shelf c.run_command-end.new.bay in
     let status = c.finish.result in
     let done = c.finish.ensures.written in
-    let written = all_written words held left old new c.run_command-end.result status done.0 done.2 c.run_command-end.ensures.end in
-    of_program_by words written.0 written.1 status done.0 same written.4.0
+    let written = all_written words held left old new b a c.run_command-end.result status done.0 done.2 c.run_command-end.ensures.end in
+    of_program_by words written.0 b a written.1 status done.0 same written.4.0
 
 pub returns-clause-of_run : goal.returns-clause-of_run
 returns-clause-of_run g c = λ same.
@@ -175,10 +202,26 @@ returns-clause-of_run g c = λ same.
     let left = g.S.Source.left c.args.source.now in
     let old = g.F.Files.names c.args.files.now in
     let new = g.F.Files.names c.run_command-end.new.files in
+    let b = g.B.Bay.shelf c.args.bay.now in
+    let a = g.B.Bay.shelf c.run_command-end.new.bay in
     let status = c.finish.result in
     let done = c.finish.ensures.written in
-    let written = all_written words held left old new c.run_command-end.result status done.0 done.2 c.run_command-end.ensures.end in
-    of_run_by words written.0 written.1 status done.0 same written.4.0
+    let written = all_written words held left old new b a c.run_command-end.result status done.0 done.2 c.run_command-end.ensures.end in
+    of_run_by words written.0 b a written.1 status done.0 same written.4.0
+
+pub returns-clause-of_disks : goal.returns-clause-of_disks
+returns-clause-of_disks g c = λ same.
+    let words = map string_bytes c.args.words.now in
+    let held = g.F.Files.held c.args.files.now in
+    let left = g.S.Source.left c.args.source.now in
+    let old = g.F.Files.names c.args.files.now in
+    let new = g.F.Files.names c.run_command-end.new.files in
+    let b = g.B.Bay.shelf c.args.bay.now in
+    let a = g.B.Bay.shelf c.run_command-end.new.bay in
+    let status = c.finish.result in
+    let done = c.finish.ensures.written in
+    let written = all_written words held left old new b a c.run_command-end.result status done.0 done.2 c.run_command-end.ensures.end in
+    of_disks_by words written.0 b a written.1 status done.0 same written.4.0
 
 pub returns-clause-taken : goal.returns-clause-taken
 returns-clause-taken g c =
@@ -193,13 +236,51 @@ returns-clause-named g c = λ told files.
     let left = g.S.Source.left c.args.source.now in
     let old = g.F.Files.names c.args.files.now in
     let new = g.F.Files.names c.run_command-end.new.files in
+    let b = g.B.Bay.shelf c.args.bay.now in
+    let a = g.B.Bay.shelf c.run_command-end.new.bay in
     let status = c.finish.result in
     let done = c.finish.ensures.written in
-    let written = all_written words held left old new c.run_command-end.result status done.0 done.2 c.run_command-end.ensures.end in
-    let w = at_held told held left (Comes words old new status done.0) files written in
+    let written = all_written words held left old new b a c.run_command-end.result status done.0 done.2 c.run_command-end.ensures.end in
+    let w = at_held told held left (Comes words old new b a status done.0) files written in
     w.1.1
 
 pub returns-clause-silent : goal.returns-clause-silent
 returns-clause-silent g c = λ fault.
     let done = c.finish.ensures.written in
     silent_by c.run_command-end.result done.0 c.finish.result _ _ _ done.2 done.1 (c.finish.ensures.fault fault)
+
+pub returns-clause-back : goal.returns-clause-back
+returns-clause-back g c =
+    let words = map string_bytes c.args.words.now in
+    let end = c.run_command-end.ensures.end in
+    home_again g.B.Bay.shelf words c.args.bay.now c.run_command-end.new.bay end.0 end.1 c.run_command-end.result c.run_command-end.ensures.still end.4.0
+
+pub returns-clause-home : goal.returns-clause-home
+returns-clause-home g c =
+    let words = map string_bytes c.args.words.now in
+    let end = c.run_command-end.ensures.end in
+    at_home_again _ _ _ _ c.run_command-end.ensures.owners c.requires.home (home_again g.B.Bay.shelf words c.args.bay.now c.run_command-end.new.bay end.0 end.1 c.run_command-end.result c.run_command-end.ensures.still end.4.0)
+
+pub returns-clause-disk : goal.returns-clause-disk
+returns-clause-disk g c = λ is.
+    let done = c.finish.ensures.written in
+    let end = disk_status c.run_command-end.result c.finish.result done.0 done.2 is in
+    c.run_command-end.ensures.disk end.0 end.1
+
+pub returns-clause-complete : goal.returns-clause-complete
+returns-clause-complete g c = λ told script loading key found files source ending known opened no_file no_source no_sink no_bay no_disk.
+    let words = map string_bytes c.args.words.now in
+    let held = g.F.Files.held c.args.files.now in
+    let left = g.S.Source.left c.args.source.now in
+    let old = g.F.Files.names c.args.files.now in
+    let new = g.F.Files.names c.run_command-end.new.files in
+    let b = g.B.Bay.shelf c.args.bay.now in
+    let a = g.B.Bay.shelf c.run_command-end.new.bay in
+    let status = c.finish.result in
+    let done = c.finish.ensures.written in
+    let written = all_written words held left old new b a c.run_command-end.result status done.0 done.2 c.run_command-end.ensures.end in
+    let w = at_told told script held left (Comes words old new b a status done.0) files source written in
+    complete_by loading key b a found script status done.0 known opened
+    (λ fault. no_cause c.run_command-end.result no_file no_source no_sink (c.finish.ensures.fault fault) c.run_command-end.ensures.cause)
+    (λ fault. (let end = disk_status c.run_command-end.result status done.0 done.2 fault in no_disk_cause no_bay no_disk (c.run_command-end.ensures.disk end.0 end.1).1))
+    (subst (λ (e : Ending). IfFinished status (IsDue e b a script status done.0)) ending (finished_due (ending_of words (always told)) b a script status done.0 w.0))

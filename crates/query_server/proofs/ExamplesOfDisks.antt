@@ -1,0 +1,277 @@
+-- worked examples of journals on the owners' disks: their lines, which are opened, refused, made and counted
+use Rattle.std.proofs.Common.{◌≡◌, ℕ, zero, suc, ◌+◌, ◌*◌, ◌<◌, ◌≤◌, List, [], ◌∷◌, length, Option, Some, None, replicate, true, false, true≢false, refl, sym, ap, subst, arith}
+use Rattle.std.specs.Prelude.{codes, pos, slice_index, IfSome}
+use Rattle.std.specs.Fmt.{digits}
+use mathlib.Core.Logic.{inl, inr}
+use Rattle.outside_disks.specs.Disks.{Shown, Step, Trace}
+use Rattle.outside_disks.specs.Disks.Step.{Wrote, Synced}
+use Rattle.partition_charge.specs.declared.view.View.TheVariants.{Whole}
+use Rattle.partition_charge.specs.Cost.{cost_of_charges, partition_cost}
+use Rattle.journal_records.specs.declared.records.Outcome.TheVariants.{Answered, Exhausted}
+use Rattle.journal_records.specs.declared.records.Record.{Record}
+use Rattle.journal_records.specs.declared.records.Record.TheVariants.{Reserve, Settle}
+use Rattle.journal_records.specs.declared.records.Header.{Header}
+use Rattle.budget_core.specs.Cost.{cost_of}
+use Rattle.budget_core.specs.Entries.{Entry}
+use Rattle.owner_catalog.specs.Catalog.{Catalog, OwnerEntry}
+use Rattle.owner_catalog.specs.Digest.{digest_of}
+use Rattle.session_core.specs.Transcript.{Journals}
+use Rattle.query_server.specs.Loaded.{Loading, header_of}
+use Rattle.query_server.specs.Shelves.{Shelf, bytes_on, TellBytes, AreAtHome, Became, IsOnlySynced}
+use Rattle.query_server.specs.Opened.{name_at, IsUnopened, IsRefusedAt, IsRefusalDue}
+use Rattle.query_server.specs.Make.{IsMade, IsExistingDue, made_line}
+use Rattle.query_server.specs.Count.{counted_line, counted_text}
+use Rattle.query_server.specs.Due.{IsDiskLine, IsStopLine}
+use Rattle.query_server.specs.Ending.{refused, to_make, to_count}
+use Rattle.query_server.specs.Status.{journal_text, disk_text}
+use Rattle.query_server.specs.declared.end.Status.{Status}
+use Rattle.query_server.specs.declared.end.Status.TheVariants.{Done, JournalRefused, DiskFault}
+use Rattle.query_server.specs.declared.refusals.JournalRefusal.{JournalRefusal}
+use Rattle.query_server.specs.declared.refusals.JournalRefusal.TheVariants.{Uninitialised, Changed, Damaged, Exists}
+
+-- ---- lines
+
+abbrev census : List ℕ
+census = codes "census"
+
+not_made : journal_text census (Uninitialised 0) ≡ codes "journal census uninitialised 0\n"
+unfolding digits
+not_made = refl
+
+of_another_key : journal_text census Changed ≡ codes "journal census changed\n"
+of_another_key = refl
+
+behind_a_closed_slot : journal_text census (Damaged 2) ≡ codes "journal census damaged 2\n"
+unfolding digits
+behind_a_closed_slot = refl
+
+there_already : journal_text census (Exists 6528) ≡ codes "journal census exists 6528\n"
+unfolding digits
+there_already = refl
+
+disk_line : disk_text census ≡ codes "disk census\n"
+disk_line = refl
+
+-- an owner of this name, and a catalog of two
+abbrev owner : (name : List ℕ) (budget capacity : ℕ) → OwnerEntry
+owner name budget capacity = record { name = name; budget = budget; capacity = capacity; tables = []; partitions = []; text = name }
+
+abbrev two : Catalog
+two = record { analysts = codes "ann" ∷ codes "bob" ∷ []; owners = owner census 10000000 100 ∷ owner (codes "b") 3 2 ∷ []; text = [] }
+
+abbrev loading : Loading
+loading = record { register = record { catalog = two; holdings = [] }; hashes = (replicate 32 1 ∷ []) ∷ (replicate 32 2 ∷ []) ∷ [] }
+
+line_of_a_made_journal : made_line (owner census 10000000 100) ≡ codes "owner census budget 10000000 capacity 100\n"
+unfolding digits
+line_of_a_made_journal = refl
+
+-- one reservation answered, one exhausted and one open, at 2 millionths each
+abbrev made : ℕ → Record
+made number = Reserve (record { number = number; view = Whole; e = 2; p = 1; q = 1; taken = 2; analyst = 0; program = replicate 32 9 })
+
+abbrev three : List Record
+three = made 0 ∷ Settle 0 (Answered (pos 5)) ∷ made 1 ∷ Settle 1 Exhausted ∷ made 2 ∷ []
+
+line_of_three : counted_line (owner census 10000000 100) three ≡ codes "census reservations 3 answered 1 exhausted 1 lost 1 spent 6 budget 10000000\n"
+unfolding digits cost_of cost_of_charges partition_cost
+line_of_three = refl
+
+-- each owner's line is of its own records
+abbrev of_the_second : Journals
+of_the_second o = replicate o (made 0)
+
+lines_of_both : counted_text loading of_the_second
+    ≡ codes "census reservations 0 answered 0 exhausted 0 lost 0 spent 0 budget 10000000\nb reservations 1 answered 0 exhausted 0 lost 1 spent 2 budget 3\n"
+unfolding digits cost_of cost_of_charges partition_cost
+lines_of_both = refl
+
+-- ---- headers
+
+header_of_the_second : header_of loading (codes "key") 1
+    ≡ record { owner = 1; budget = 3; capacity = 2; digest = digest_of two 1 (codes "key") (replicate 32 2 ∷ []) }
+header_of_the_second = refl
+
+-- ---- what the disks show
+
+-- a disk that tells these bytes
+abbrev telling : List ℕ → Option Shown
+telling bytes = Some (record { trace = Some (record { start = bytes; steps = [] }); faults = 0 })
+
+-- the first owner's disk holds these bytes, the second one's tells nothing, and no other disk is at home
+abbrev shelf_with : List ℕ → Shelf
+shelf_with bytes zero = telling bytes
+shelf_with bytes (suc zero) = Some (record { trace = None; faults = 0 })
+shelf_with bytes (suc (suc o)) = None
+
+told : (bytes : List ℕ) → bytes_on (shelf_with bytes) 0 ≡ Some bytes
+told bytes = refl
+
+untold : (bytes : List ℕ) → bytes_on (shelf_with bytes) 1 ≡ None
+untold bytes = refl
+
+absent : (bytes : List ℕ) → bytes_on (shelf_with bytes) 2 ≡ None
+absent bytes = refl
+
+one_tells : (bytes : List ℕ) → TellBytes 1 (shelf_with bytes)
+one_tells bytes zero lt = refl
+one_tells bytes (suc o) lt = absurd (omega (arith, lt))
+
+both_do_not : (bytes : List ℕ) → TellBytes 2 (shelf_with bytes) → ⊥
+both_do_not bytes tell = let wrong : false ≡ true = tell 1 (omega arith) in true≢false (sym wrong)
+
+-- a disk at home for each of 16 owners, or for one less
+all_at_home : AreAtHome 16 (λ o. telling [])
+all_at_home o lt = (lt, refl)
+
+one_owner_less : AreAtHome 15 (λ o. telling []) → ⊥
+one_owner_less home = omega (arith, (home 15 (omega arith)).0)
+
+none_at_home : AreAtHome 16 (λ o. None) → ⊥
+none_at_home home = true≢false (sym (home 0 (omega arith)).1)
+
+-- ---- what becomes of them
+
+abbrev shown : List ℕ → Shown
+shown bytes = record { trace = Some (record { start = bytes; steps = [] }); faults = 0 }
+
+as_it_was : (before : Shown) → IsOnlySynced before before
+as_it_was before = record { synced = inl refl; counts = omega arith }
+
+synced : (bytes : List ℕ) → IsOnlySynced (shown bytes) (record { trace = Some (record { start = bytes; steps = Synced ∷ [] }); faults = 0 })
+synced bytes = record { synced = inr refl; counts = omega arith }
+
+sync_failed : (bytes : List ℕ) → IsOnlySynced (shown bytes) (record (shown bytes) { faults = 1 })
+sync_failed bytes = record { synced = inl refl; counts = omega arith }
+
+abbrev steps_in : Option Trace → List Step
+steps_in None = []
+steps_in (Some t) = t.steps
+
+not_unchanged : (more : List ℕ) → Wrote 0 more ∷ [] ≡ [] → ⊥
+not_unchanged more is = cc
+
+not_a_sync : (more : List ℕ) → Wrote 0 more ∷ [] ≡ Synced ∷ [] → ⊥
+not_a_sync more is = cc
+
+written : (bytes more : List ℕ) → IsOnlySynced (shown bytes) (record { trace = Some (record { start = bytes; steps = Wrote 0 more ∷ [] }); faults = 0 }) → ⊥
+written bytes more goes = elim goes.synced [ inl is ↦ not_unchanged more (ap steps_in is) | inr is ↦ not_a_sync more (ap steps_in is) ]
+
+as_they_were : (owners : ℕ) (shelf : Shelf) → Became owners (λ o. IsOnlySynced) shelf shelf
+as_they_were owners shelf = record { owned = λ o before lt is. (before, is, as_it_was before); others = λ o le. refl }
+
+one_is_gone : Became 1 (λ o. IsOnlySynced) (shelf_with []) (λ o. None) → ⊥
+one_is_gone became = let gone : None ≡ Some (became.owned 0 (shown []) (omega arith) refl).0 = (became.owned 0 (shown []) (omega arith) refl).1 in cc gone
+
+-- a disk of no owner of the catalog is as it was
+another_is_gone : Became 0 (λ o. IsOnlySynced) (shelf_with []) (λ o. None) → ⊥
+another_is_gone became = let gone : None ≡ telling [] = became.others 0 (omega arith) in cc gone
+
+-- ---- which journals are opened
+
+-- A disk that was never written is not made: its length is told, and no other. So is one whose header's gate is closed.
+module _ (entry : Entry) (header : Header) where
+  empty_disk : IsUnopened entry header (Some []) (Uninitialised 0)
+  empty_disk = (refl, inl (omega arith))
+
+  other_length : IsUnopened entry header (Some []) (Uninitialised 1) → ⊥
+  other_length is = omega (arith, is.0)
+
+  closed_header : IsUnopened entry header (Some (replicate 128 0)) (Uninitialised 128)
+  closed_header = (refl, inr (λ is. omega (arith, is)))
+
+  open_header : IsUnopened entry header (Some (165 ∷ replicate 127 0)) (Uninitialised 128) → ⊥
+  open_header (is, inl short) = let few : 128 < 128 = short in omega (arith, few)
+  open_header (is, inr closed) = closed refl
+
+  -- nothing is said of a header that isn't there, and of a disk that is there already when journals are opened
+  no_header : IsUnopened entry header (Some []) Changed → ⊥
+  no_header (kept, found, is) = let long : 128 ≤ 0 = is.0 in omega (arith, long)
+
+  is_there : (bytes : Option (List ℕ)) → IsUnopened entry header bytes (Exists 1) → ⊥
+  is_there bytes is = is
+
+  -- of a disk that tells nothing anything may be said
+  untold_disk : IsUnopened entry header None (Damaged 7)
+  untold_disk = tt
+
+abbrev key : List ℕ
+key = codes "key"
+
+-- The first owner's journal is refused, and not the second's, as the first's isn't opened; there is no third.
+first_refused : IsRefusedAt loading key (shelf_with []) 0 (Uninitialised 0)
+first_refused = record { known = omega arith; before = λ p lt. absurd (omega (arith, lt)); refused = (refl, inl (omega arith)) }
+
+second_refused : IsRefusedAt loading key (shelf_with []) 1 (Damaged 7) → ⊥
+second_refused at =
+    let opened = at.before 0 (omega arith) in
+    let whole : 0 ≡ 128 + 64 * 100 = opened.1.stands.whole in
+    omega (arith, whole)
+
+third_refused : (refusal : JournalRefusal) → IsRefusedAt loading key (shelf_with []) 2 refusal → ⊥
+third_refused refusal at = let known : 2 < 2 = at.known in omega (arith, known)
+
+first_line_due : IsRefusalDue loading key (shelf_with []) (shelf_with []) JournalRefused (codes "journal census uninitialised 0\n")
+unfolding digits
+first_line_due = record {
+  o = 0;
+  refusal = Uninitialised 0;
+  at = first_refused;
+  is_status = refl;
+  is_text = refl;
+  disks = as_they_were 2 (shelf_with []);
+}
+
+refused_and_done : (text : List ℕ) → IsRefusalDue loading key (shelf_with []) (shelf_with []) Done text → ⊥
+refused_and_done text due = let wrong = due.is_status in cc wrong
+
+-- ---- which are made
+
+-- One byte on the first owner's disk is enough: its journal isn't made, nor is the second's.
+one_byte : IsExistingDue loading key (shelf_with (7 ∷ [])) (shelf_with (7 ∷ [])) JournalRefused (codes "journal census exists 1\n")
+unfolding digits
+one_byte = record {
+  o = 0;
+  n = 1;
+  known = omega arith;
+  some = omega arith;
+  long = refl;
+  is_status = refl;
+  is_text = refl;
+  disks = record { made = λ p before lt. absurd (omega (arith, lt)); here = λ before is. (before, is, as_it_was before); behind = λ p lt. refl };
+}
+
+no_byte : (new : Shelf) (status : Status) (text : List ℕ) (due : IsExistingDue loading key (shelf_with []) new status text) → due.o ≡ 0 → ⊥
+no_byte new status text due is =
+    let long : 0 ≡ due.n = subst (λ o. IfSome (bytes_on (shelf_with []) o) (λ bytes. length bytes ≡ due.n)) is due.long in
+    omega (arith, long, due.some)
+
+-- a journal is made on an empty disk, and where no count rose
+made_over_a_byte : (header : Header) (after : Shown) → IsMade header (shown (7 ∷ [])) after → ⊥
+made_over_a_byte header after is = let none : 7 ∷ [] ≡ [] = (is.made (record { start = 7 ∷ []; steps = [] }) refl).0 in cc none
+
+made_with_a_fault : (header : Header) (trace : Option Trace) → IsMade header (shown []) (record { trace = trace; faults = 1 }) → ⊥
+made_with_a_fault header trace is = omega (arith, is.counts)
+
+-- ---- a disk's line is of an owner
+
+second_disk : IsDiskLine (to_count loading key) (codes "disk b\n")
+second_disk = (1, omega arith, refl)
+
+other_at : (o : ℕ) → o < 2 → codes "disk c\n" ≡ disk_text (name_at loading o) → ⊥
+other_at zero lt is = let wrong : 10 ≡ 101 = ap (λ text. slice_index text 6) is in omega (arith, wrong)
+other_at (suc zero) lt is = let wrong : 99 ≡ 98 = ap (λ text. slice_index text 5) is in omega (arith, wrong)
+other_at (suc (suc o)) lt is = omega (arith, lt)
+
+other_disk : IsDiskLine (to_count loading key) (codes "disk c\n") → ⊥
+other_disk (o, lt, is) = other_at o lt is
+
+no_disk_opened : (text : List ℕ) → IsDiskLine (refused key) text → ⊥
+no_disk_opened text line = line
+
+disk_failed : IsStopLine (to_make loading key) DiskFault (codes "disk census\n")
+disk_failed = inr (refl, (0, omega arith, refl))
+
+disk_failed_and_done : (text : List ℕ) → IsStopLine (to_make loading key) Done text → ⊥
+disk_failed_and_done text (inl (wrong, is)) = cc
+disk_failed_and_done text (inr (wrong, line)) = cc

@@ -1,0 +1,99 @@
+-- Journals made up to one that isn't.
+use Rattle.std.proofs.Common.{◌≡◌, ◌<◌, ◌≤◌, ◌∙◌, ℕ, List, length, Option, Some, None, refl, subst, arith}
+use Rattle.std.specs.Prelude.{◌≢◌, IfSome, option_map, option_and_then}
+use mathlib.Core.Logic.{inl, inr}
+use Rattle.outside_disks.specs.Disks.{Shown, Trace, seen_of}
+use Rattle.budget_journal.specs.declared.making.InitFault.{InitFault}
+use Rattle.budget_journal.specs.declared.making.InitFault.TheVariants.{AlreadyThere, DiskFault}
+use Rattle.query_server.specs.Loaded.{Loading, header_of}
+use Rattle.query_server.specs.Opened.{name_at, owners_in}
+use Rattle.query_server.specs.Shelves.{Shelf, Became, IsOnlySynced}
+use Rattle.query_server.specs.Make.{AreMadeBefore, IsMade}
+use Rattle.query_server.specs.Ending.{to_make}
+use Rattle.query_server.specs.Ends.{IsEndOf}
+use Rattle.query_server.specs.declared.end.End.TheVariants.{Stopped}
+use Rattle.query_server.specs.Making.{IsMakeStop, IsUnmade, IsUnmadeStop, Turned}
+use Rattle.query_server.specs.declared.end.Stop.{Stop}
+use Rattle.query_server.specs.declared.end.Stop.TheVariants.{Usage, Refused, Journal, Disk, Fault, NoMemory}
+
+abbrev Goings : Type 1
+Goings = Shown → Shown → Type 0
+
+pub turned : (Goes : Goings) (old new : Option Shown) (before : Shown) → Turned Goes old new → old ≡ Some before
+    → (after : Shown) × (new ≡ Some after) × Goes before after
+turned Goes (Some b) (Some a) before goes is = let same : b ≡ before = cc is in (a, refl, subst (λ (s : Shown). Goes s a) same goes)
+turned Goes (Some b) None before goes is = absurd goes
+turned Goes None new before goes is = absurd goes
+
+pub turned_more : (Goes More : Goings) (old new : Option Shown) → ((b a : Shown) → Goes b a → More b a) → Turned Goes old new → Turned More old new
+turned_more Goes More (Some b) (Some a) more goes = more b a goes
+turned_more Goes More (Some b) None more goes = goes
+turned_more Goes More None new more goes = goes
+
+-- the journals before an owner's are made, and its disk turned
+made_before : (loading : Loading) (key : List ℕ) (o : ℕ) (Goes : Goings) (old mid new : Shelf)
+    → Became o (λ p. IsMade (header_of loading key p)) old mid → Turned Goes (mid o) (new o) → ((p : ℕ) → p ≢ o → new p ≡ mid p)
+    → AreMadeBefore loading key o Goes old new
+made_before loading key o Goes old mid new made turn others = record {
+  made = λ p before less is.
+      let done = made.owned p before less is in
+      (done.0, others p (λ same. omega (arith, less, same)) ∙ done.1, done.2);
+  here = λ before is. turned Goes (mid o) (new o) before turn (made.others o (omega arith) ∙ is);
+  behind = λ p less. others p (λ same. omega (arith, less, same)) ∙ made.others p (omega (arith, less));
+}
+
+told_long : (n : ℕ) (trace : Option Trace) → IfSome trace (λ t. length (seen_of t) ≡ n) → IfSome (option_map seen_of trace) (λ bytes. length bytes ≡ n)
+told_long n None long = tt
+told_long n (Some t) long = long
+
+-- how long the disk is that isn't empty
+there : (n : ℕ) (old new : Option Shown) → Turned (IsUnmade (AlreadyThere n)) old new
+    → (1 ≤ n) × IfSome (option_map seen_of (option_and_then (λ (shown : Shown). shown.trace) old)) (λ bytes. length bytes ≡ n)
+there n (Some b) (Some a) unmade = (unmade.0, told_long n b.trace unmade.1)
+there n (Some b) None unmade = absurd unmade
+there n None new unmade = absurd unmade
+
+later : (fault : InitFault) (b a : Shown) → IsUnmade fault b a → b.faults ≤ a.faults
+later (AlreadyThere n) b a unmade = unmade.2.counts
+later DiskFault b a unmade = unmade
+
+pub making_stopped : (loading : Loading) (key : List ℕ) (o : ℕ) (old mid new : Shelf) (fault : InitFault) (stop : Stop)
+    → Became o (λ p. IsMade (header_of loading key p)) old mid → Turned (IsUnmade fault) (mid o) (new o) → ((p : ℕ) → p ≢ o → new p ≡ mid p)
+    → o < owners_in loading → IsUnmadeStop (name_at loading o) fault stop → IsMakeStop loading key old new stop
+making_stopped loading key o old mid new (AlreadyThere n) (Journal line) made turn others within is =
+    let long = there n (mid o) (new o) turn in (
+      o,
+      n,
+      within,
+      long.0,
+      subst (λ (s : Option Shown). IfSome (option_map seen_of (option_and_then (λ (shown : Shown). shown.trace) s)) (λ bytes. length bytes ≡ n))
+          (made.others o (omega arith)) long.1,
+      is,
+      made_before loading key o IsOnlySynced old mid new made (turned_more (IsUnmade (AlreadyThere n)) IsOnlySynced (mid o) (new o) (λ b a unmade. unmade.2) turn) others,
+    )
+making_stopped loading key o old mid new (AlreadyThere n) Usage made turn others within is = absurd is
+making_stopped loading key o old mid new (AlreadyThere n) (Refused name) made turn others within is = absurd is
+making_stopped loading key o old mid new (AlreadyThere n) Fault made turn others within is = absurd is
+making_stopped loading key o old mid new DiskFault Usage made turn others within is = absurd is
+making_stopped loading key o old mid new DiskFault (Refused name) made turn others within is = absurd is
+making_stopped loading key o old mid new DiskFault Fault made turn others within is = absurd is
+making_stopped loading key o old mid new (AlreadyThere n) (Disk line) made turn others within is = absurd is
+making_stopped loading key o old mid new DiskFault (Journal line) made turn others within is = absurd is
+making_stopped loading key o old mid new DiskFault (Disk line) made turn others within is =
+    (o, within, is, made_before loading key o (λ b a. b.faults ≤ a.faults) old mid new made turn others)
+making_stopped loading key o old mid new fault NoMemory made turn others within is = (
+  o,
+  made_before loading key o (λ b a. b.faults ≤ a.faults) old mid new made
+      (turned_more (IsUnmade fault) (λ b a. b.faults ≤ a.faults) (mid o) (new o) (later fault) turn) others,
+)
+
+-- what stops the making ends an `init`
+pub make_stop_end : (loading : Loading) (key : List ℕ) (old new : Shelf) (stop : Stop) (script : List ℕ) → IsMakeStop loading key old new stop
+    → IsEndOf (to_make loading key) old new script (Stopped stop)
+make_stop_end loading key old new (Journal line) script (o, n, within, some, long, text, made) =
+    inl (inr (record { o = o; n = n; known = within; some = some; long = long; is_status = refl; is_text = text; disks = made }))
+make_stop_end loading key old new (Disk line) script (o, within, text, made) = inr (inr (inr (line, refl, (o, within, text))), (o, made))
+make_stop_end loading key old new NoMemory script made = inr (inr (inl refl), made)
+make_stop_end loading key old new Usage script is = absurd is
+make_stop_end loading key old new (Refused name) script is = absurd is
+make_stop_end loading key old new Fault script is = absurd is

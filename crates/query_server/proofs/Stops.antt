@@ -1,0 +1,145 @@
+-- why not all books were opened
+use Rattle.std.proofs.Common.{◌≡◌, ℕ, ◌<◌, List, Option, Some, None, slice_get, refl, sym, ◌∙◌, ap, subst, arith}
+use Rattle.std.specs.Prelude.{IfSome, Vec, Result, Err, option_and_then, option_map}
+use Rattle.std.specs.declared.alloc.Global.{Global}
+use Rattle.outside_disks.specs.Disks.{Shown, Trace, WhereTold, seen_of}
+use Rattle.journal_records.specs.declared.records.Header.{Header}
+use Rattle.journal_records.specs.declared.records.Record.{Record}
+use Rattle.budget_journal.specs.Journals.{Found, Stands}
+use Rattle.budget_journal.specs.declared.opening.OpenFault.{OpenFault}
+use Rattle.budget_journal.specs.declared.opening.OpenFault.TheVariants as open_fault
+use Rattle.budget_core.specs.Entries.{Entry}
+use Rattle.budget_core.specs.Ledger.{Ledger}
+use Rattle.budget_core.specs.Legal.{IsHistory}
+use Rattle.budget_ledger.specs.Account.{Account, IsBook, Storage}
+use Rattle.budget_ledger.specs.Opened.{IsBookFault}
+use Rattle.answer_path.specs.Pass.{Pass}
+use Rattle.answer_path.specs.Owner.{Owner}
+use Rattle.session_core.specs.Code.{owner_at, pass_at}
+use Rattle.session_core.specs.House.{house_of}
+use Rattle.session_core.proofs.Owners.{entry_said, owner_there, owners_length}
+use Rattle.query_server.specs.Files.{Contents}
+use Rattle.query_server.specs.Steps.{Step}
+use Rattle.query_server.specs.Loaded.{IsLoading, Loading, header_of}
+use Rattle.query_server.specs.Shelves.{Shelf, bytes_on}
+use Rattle.query_server.specs.Opened.{IsOpened, IsUnopened, entry_at, name_at, owners_in}
+use Rattle.query_server.specs.Status.{disk_text, journal_text}
+use Rattle.query_server.specs.Books.{ArePassesOn, IsBookFaultStop, IsBookStop, IsDiskStop, IsJournalStop, IsNewBook, IsNewPass, IsOpenStop}
+use Rattle.query_server.proofs.Reached.{IsStopped, any_reads}
+use Rattle.query_server.specs.declared.refusals.JournalRefusal.TheVariants.{Uninitialised, Changed, Damaged}
+use Rattle.query_server.specs.declared.refusals.JournalRefusal.{JournalRefusal}
+use Rattle.query_server.specs.declared.end.Stop.{Stop}
+use Rattle.query_server.specs.declared.end.Stop.TheVariants.{Usage, Refused, Journal, Disk, Fault, NoMemory}
+
+-- what a disk that shows this tells
+abbrev pub bytes_shown : Option Shown → Option (List ℕ)
+bytes_shown shown = option_map seen_of (option_and_then (λ (s : Shown). s.trace) shown)
+
+-- what was found is what the disk stands for
+stands_told : (header : Header) (found : List Record) (before now : Option Trace) → WhereTold (Found header found) before now → IfSome (option_map seen_of before) (Stands header found)
+stands_told header found None now f = tt
+stands_told header found (Some t) None f = absurd f
+stands_told header found (Some t) (Some u) (is, rest) = subst (λ (w : Trace). Stands header found (seen_of w)) is rest.stands
+
+stands_shown : (header : Header) (found : List Record) (now : Option Trace) (shown : Option Shown) (faults : ℕ) → IfSome shown (λ b. WhereTold (Found header found) b.trace now × (faults ≡ b.faults)) → IfSome (bytes_shown shown) (Stands header found)
+stands_shown header found now None faults on = tt
+stands_shown header found now (Some b) faults on = stands_told header found b.trace now on.0
+
+pub pass_opened : (entry : Entry) (header : Header) (shown : Option Shown) (pass : Pass) → IsNewPass entry header shown pass → IsOpened entry header (bytes_shown shown) pass.found
+pass_opened entry header shown pass new = record { stands = stands_shown header pass.found pass.storage.trace shown pass.storage.faults new.on; history = new.history }
+
+unopened_as : (entry : Entry) (header : Header) (refusal : JournalRefusal) (mid old : Option Shown) → mid ≡ old → IsUnopened entry header (bytes_shown mid) refusal → IsUnopened entry header (bytes_shown old) refusal
+unopened_as entry header refusal mid old is = subst (λ (s : Option Shown). IsUnopened entry header (bytes_shown s) refusal) is
+
+-- A book that isn't opened, behind others that are, stops the opening.
+pub open_stopped : (loading : Loading) (key : List ℕ) (k : ℕ) (old mid : Shelf) (passes : List Pass) (stop : Stop) → k < owners_in loading → ArePassesOn (entry_at loading) (header_of loading key) k old mid passes
+    → IsBookStop loading key mid k stop → IsOpenStop loading key old stop
+open_stopped loading key k old mid passes Usage within on is = is
+open_stopped loading key k old mid passes (Refused name) within on is = is
+open_stopped loading key k old mid passes (Journal line) within on (refusal, unopened, is) = (
+  k,
+  refusal,
+  record {
+    known = within;
+    before = λ p less. ((pass_at passes p).found, pass_opened (entry_at loading p) (header_of loading key p) (old p) (pass_at passes p) (on.each p less));
+    refused = unopened_as (entry_at loading k) (header_of loading key k) refusal (mid k) (old k) (on.others k (omega arith)) unopened;
+  },
+  is,
+)
+open_stopped loading key k old mid passes (Disk line) within on is = (k, within, is)
+open_stopped loading key k old mid passes Fault within on is = is
+open_stopped loading key k old mid passes NoMemory within on is = is
+
+-- ---- one book
+
+pub disk_stopped : (loading : Loading) (key : List ℕ) (shelf : Shelf) (o : ℕ) (name : List ℕ) (stop : Stop) → name ≡ name_at loading o → IsDiskStop name stop → IsBookStop loading key shelf o stop
+disk_stopped loading key shelf o name Usage named is = is
+disk_stopped loading key shelf o name (Refused other) named is = is
+disk_stopped loading key shelf o name (Journal line) named is = absurd is
+disk_stopped loading key shelf o name (Disk line) named is = is ∙ ap disk_text named
+disk_stopped loading key shelf o name Fault named is = is
+disk_stopped loading key shelf o name NoMemory named is = is
+
+journal_stopped : (loading : Loading) (key : List ℕ) (shelf : Shelf) (o : ℕ) (name : List ℕ) (refusal : JournalRefusal) (stop : Stop) → name ≡ name_at loading o
+    → IsUnopened (entry_at loading o) (header_of loading key o) (bytes_on shelf o) refusal → IsJournalStop name refusal stop → IsBookStop loading key shelf o stop
+journal_stopped loading key shelf o name refusal Usage named unopened is = is
+journal_stopped loading key shelf o name refusal (Refused other) named unopened is = is
+journal_stopped loading key shelf o name refusal (Journal line) named unopened is = (refusal, unopened, is ∙ ap (λ n. journal_text n refusal) named)
+journal_stopped loading key shelf o name refusal (Disk line) named unopened is = absurd is
+journal_stopped loading key shelf o name refusal Fault named unopened is = is
+journal_stopped loading key shelf o name refusal NoMemory named unopened is = is
+
+if_some : {A : Type 0} (P Q : A → Type 0) (x : Option A) → ((a : A) → P a → Q a) → IfSome x P → IfSome x Q
+if_some P Q (Some a) f p = f a p
+if_some P Q None f p = tt
+
+pub fault_stopped : (loading : Loading) (key : List ℕ) (shelf : Shelf) (o : ℕ) (name : List ℕ) (fault : OpenFault) (stop : Stop) → name ≡ name_at loading o
+    → IfSome (bytes_on shelf o) (λ bytes. IsBookFault (entry_at loading o) (header_of loading key o) bytes fault) → IsBookFaultStop name fault stop → IsBookStop loading key shelf o stop
+fault_stopped loading key shelf o name open_fault.DiskFault stop named told is = disk_stopped loading key shelf o name stop named is
+fault_stopped loading key shelf o name open_fault.NoMemory stop named told is = subst (IsBookStop loading key shelf o) (sym is) tt
+fault_stopped loading key shelf o name (open_fault.NotInitialised n) stop named told is = journal_stopped loading key shelf o name (Uninitialised n) stop named told is
+fault_stopped loading key shelf o name (open_fault.Changed kept found) stop named told is =
+    journal_stopped loading key shelf o name Changed stop named
+    (if_some (λ bytes. IsBookFault (entry_at loading o) (header_of loading key o) bytes (open_fault.Changed kept found)) _ (bytes_on shelf o) (λ bytes p. (kept, found, p)) told) is
+fault_stopped loading key shelf o name (open_fault.Damaged slot) stop named told is = journal_stopped loading key shelf o name (Damaged slot) stop named told is
+
+-- what is said of a told disk
+pub told_shown : (P : List ℕ → Type 0) (shown : Option Shown) (trace : Option Trace) (faults : ℕ) → shown ≡ Some (record { trace = trace; faults = faults }) → ((t : Trace) → trace ≡ Some t → P (seen_of t))
+    → IfSome (bytes_shown shown) P
+told_shown P shown trace faults is p = subst (λ (s : Option Shown). IfSome (bytes_shown s) P) (sym is) (here trace p)
+  where
+    here : (trace : Option Trace) → ((t : Trace) → trace ≡ Some t → P (seen_of t)) → IfSome (option_map seen_of trace) P
+    here None p = tt
+    here (Some t) p = p t refl
+
+pub new_book : (entry wanted : Entry) (header : Header) (before : Option Shown) (trace : Option Trace) (faults : ℕ) (book : Account) → entry ≡ wanted → before ≡ Some (record { trace = trace; faults = faults })
+    → WhereTold (Found header book.ledger.found) trace book.storage.trace
+    → (book.ledger ≡ record { entry = entry; found = book.ledger.found; records = book.ledger.found }) × (book.storage ≡ record { header = header; trace = book.storage.trace; faults = faults; closed = None })
+    → IsBook book → IsNewBook wanted header before book
+new_book entry wanted header before trace faults book is at found fresh sound = record {
+  of_entry = ap (λ (l : Ledger). l.entry) fresh.0 ∙ is;
+  fresh = ap (λ (l : Ledger). l.records) fresh.0;
+  of_header = ap (λ (s : Storage). s.header) fresh.1;
+  unclosed = ap (λ (s : Storage). s.closed) fresh.1;
+  history = subst (λ (e : Entry). IsHistory e book.ledger.found) (ap (λ (l : Ledger). l.entry) fresh.0 ∙ is) sound.sound.found;
+  on = subst (λ (s : Option Shown). IfSome s (λ b. WhereTold (Found header book.ledger.found) b.trace book.storage.trace × (book.storage.faults ≡ b.faults))) (sym at)
+      (found, ap (λ (s : Storage). s.faults) fresh.1);
+}
+
+-- an owner's entry, by its number
+pub entry_is : (loading : Loading) (o : ℕ) (entry : Entry) → IsLoading loading → o < owners_in loading → ((asked : Owner) → slice_get (house_of loading.register).owners o ≡ Some asked → entry ≡ asked.entry)
+    → entry ≡ entry_at loading o
+entry_is loading o entry lawful within is =
+    let there = owner_there loading.register o (omega (arith, within, owners_length loading.register lawful.register)) in
+    is (owner_at (house_of loading.register) o) there ∙ sym (entry_said loading.register o (owner_at (house_of loading.register) o) there)
+
+-- steps over files name no disk
+pub step_no_disk : {A B : Type 0} (held : Option Contents) (old new : List (List ℕ)) (step : Step A) (stop : Stop) (line : Vec ℕ Global) → IsStopped held old new step stop → stop ≡ Disk line → B
+step_no_disk held old new step stop line is same =
+    let some = any_reads held in
+    let wrong = (subst (λ (s : Stop). IsStopped held old new step s) same is) some.0 some.1 in
+    absurd wrong.2
+
+-- one result has one stop
+pub err_same : {T : Type 0} (a b : Stop) (r : Result T Stop) → r ≡ Err a → r ≡ Err b → a ≡ b
+err_same a b r first second = cc

@@ -1,0 +1,71 @@
+use Rattle.std.proofs.Common.{rules, ◌≡◌, ◌∙◌, ◌<◌, ◌+◌, List, refl, sym, ap, subst, arith}
+use Rattle.std.specs.Prelude.{Err, IsSome}
+use Rattle.query_server.specs.declared.end.Stop.TheVariants.{Disk}
+use Rattle.answer_path.specs.Pass.{Pass}
+use Rattle.query_server.specs.Loaded.{header_of}
+use Rattle.query_server.specs.Opened.{entry_at, owners_in}
+use Rattle.query_server.specs.Ends.{loading_by}
+use Rattle.query_server.specs.Books.{ArePassesOn}
+use Rattle.query_server.proofs.Passes.{one_opened, opened_pass, risen_from, rose_by, rose_still, some_back}
+use Rattle.query_server.proofs.Stops.{err_same, open_stopped}
+use Rattle.query_server.proofs.books.open_passes.Goals as goal
+
+pub returns-in-Err-clause-left : goal.returns-in-Err-clause-left
+returns-in-Err-clause-left g c =
+    let loading = loading_by c.args.opened.now.house c.args.opened.now.hashes.items in
+    let within : c.loop-owner.owner < owners_in loading = omega (arith, c.loop-owner-test.true, c.loop-owner.auto.owner-end, c.in_ok-headers.ensures.count) in
+    some_back _ _ _ c.loop-owner.owner _ _ _ _ c.loop-owner.passes.items within c.loop-owner.invariant.on c.in-Err.ensures.left c.put_back.ensures.back
+
+pub returns-in-Err-clause-stop : goal.returns-in-Err-clause-stop
+returns-in-Err-clause-stop g c =
+    let loading = loading_by c.args.opened.now.house c.args.opened.now.hashes.items in
+    let within : c.loop-owner.owner < owners_in loading = omega (arith, c.loop-owner-test.true, c.loop-owner.auto.owner-end, c.in_ok-headers.ensures.count) in
+    open_stopped loading c.args.opened.now.key c.loop-owner.owner _ _ c.loop-owner.passes.items c.in-Err.stop within c.loop-owner.invariant.on c.in-Err.ensures.stop
+
+pub loop-owner-preserved : goal.loop-owner-preserved
+loop-owner-preserved g c =
+    let loading = loading_by c.args.opened.now.house c.args.opened.now.hashes.items in
+    let key = c.args.opened.now.key in
+    let owner = c.loop-owner.owner in
+    let on = c.loop-owner.invariant.on in
+    let book = c.in-Ok-open_book.book in
+    let within : owner < owners_in loading = omega (arith, c.loop-owner-test.true, c.loop-owner.auto.owner-end, c.in_ok-headers.ensures.count) in
+    let header : c.index.result.now ≡ header_of loading key owner = search (rules, c.in_ok-headers.ensures.headers owner c.index.result.now within) in
+    record {
+      on = subst (λ (ps : List Pass). ArePassesOn (entry_at loading) (header_of loading key) (owner + 1) (g.B.Bay.shelf c.args.bay.now) (g.B.Bay.shelf c.open_book.new.bay) ps) (sym c.push_reserved.ensures.items)
+          (one_opened (entry_at loading) (header_of loading key) owner _ _ _ c.loop-owner.passes.items c.new.result on c.in-Ok-open_book.ensures.taken
+          (opened_pass _ c.index.result.now _ _ _ book c.new.result header (on.others owner (omega arith)) c.new.ensures c.in-Ok-open_book.ensures.book));
+      room = omega (arith, c.loop-owner.invariant.room, c.push_reserved.ensures.capacity);
+      owners = c.in-Ok-open_book.ensures.owners ∙ c.loop-owner.invariant.owners;
+      faults = omega (arith, c.in-Ok-open_book.ensures.faults, c.loop-owner.invariant.faults);
+    }
+
+pub open_book-requires-clause-known : goal.open_book-requires-clause-known
+open_book-requires-clause-known g c =
+    let loading = loading_by c.args.opened.now.house c.args.opened.now.hashes.items in
+    let within : c.loop-owner.owner < 16 = omega (arith, c.loop-owner-test.true, c.loop-owner.auto.owner-end, c.in_ok-headers.ensures.few) in
+    omega (arith, (c.requires.home c.loop-owner.owner within).0, c.loop-owner.invariant.owners)
+
+pub open_book-requires-clause-home : goal.open_book-requires-clause-home
+open_book-requires-clause-home g c =
+    let within : c.loop-owner.owner < 16 = omega (arith, c.loop-owner-test.true, c.loop-owner.auto.owner-end, c.in_ok-headers.ensures.few) in
+    subst IsSome (sym (c.loop-owner.invariant.on.others c.loop-owner.owner (omega arith))) (c.requires.home c.loop-owner.owner within).1
+
+pub put_back-requires-clause-known : goal.put_back-requires-clause-known
+put_back-requires-clause-known g c =
+    let within : c.loop-owner.owner < 16 = omega (arith, c.loop-owner-test.true, c.loop-owner.auto.owner-end, c.in_ok-headers.ensures.few) in
+    omega (arith, (c.requires.home c.loop-owner.owner within).0, c.loop-owner.invariant.owners, c.loop-owner.invariant.on.count, c.in-Err.ensures.owners)
+
+pub put_back-requires-clause-taken : goal.put_back-requires-clause-taken
+put_back-requires-clause-taken g c = λ o less.
+    let on = c.loop-owner.invariant.on in
+    let first : o < c.loop-owner.owner = omega (arith, less, on.count) in
+    c.in-Err.ensures.left.elsewhere o (λ same. omega (arith, first, same)) ∙ on.taken o first
+
+pub returns-in-Err-clause-cause : goal.returns-in-Err-clause-cause
+returns-in-Err-clause-cause g c = λ line is.
+    let same = err_same c.in-Err.stop (Disk line) _ refl is in
+    let rose = c.in-Err.ensures.cause line (ap Err same) in
+    rose_by rose
+    (λ bay. (risen_from _ _ _ c.loop-owner.invariant.faults (omega (arith, c.in-Err.ensures.faults, c.put_back.ensures.faults)) (λ less. omega (arith, bay less, c.put_back.ensures.faults))))
+    (rose_still _ _ c.loop-owner.owner _ _ _ _ c.loop-owner.passes.items c.loop-owner.invariant.on c.put_back.ensures.back)

@@ -1,0 +1,26 @@
+use Rattle.std.proofs.Common.{◌≡◌, ◌∙◌, length, refl, ap, arith}
+use Rattle.budget_ledger.specs.Account.{Account}
+use Rattle.query_server.proofs.Back.{back_all, back_begun, back_more, changed_to, stored_by}
+use Rattle.query_server.proofs.books.put_back.Goals as goal
+
+pub loop-pass-init : goal.loop-pass-init
+loop-pass-init g c = record { back = back_begun _ _ c.requires.taken; owners = refl; faults = refl }
+
+pub loop-pass-preserved : goal.loop-pass-preserved
+loop-pass-preserved g c =
+    let pass = c.in-Some.pass in
+    let book = c.into_book.result in
+    let here : c.len-owner.result ≡ length c.pop.new.self.items = omega (arith, c.len-owner.ensures, c.pop.new.self.ok) in
+    record {
+      back = back_more _ _ c.pop.new.self.items pass _ _ _ c.in-Some.ensures.items c.loop-pass.invariant.back
+          (changed_to _ _ _ _ _ _ _ _ here (c.into_disk.ensures.trace ∙ ap (λ (b : Account). b.storage.trace) c.into_book.ensures)
+          (c.into_disk.ensures.faults ∙ ap (λ (b : Account). b.storage.faults) c.into_book.ensures) c.put_back.ensures.home)
+          (stored_by book pass _ c.into_disk.ensures.trace c.into_book.ensures c.into_disk.ensures.kept c.into_disk.ensures.book);
+      owners = c.put_back.ensures.owners ∙ c.loop-pass.invariant.owners;
+      faults = c.put_back.ensures.passed ∙ c.loop-pass.invariant.faults;
+    }
+
+pub returns-clause-back : goal.returns-clause-back
+returns-clause-back g c =
+    let none : length c.loop-pass.rest.items ≡ 0 = omega (arith, c.in_default.ensures.cases) in
+    back_all _ _ _ _ none c.loop-pass.invariant.back

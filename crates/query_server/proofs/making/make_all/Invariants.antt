@@ -1,0 +1,16 @@
+use Rattle.std.proofs.Common.{◌≡◌}
+use Rattle.query_server.specs.Loaded.{header_of}
+use Rattle.query_server.specs.Ends.{loading_by}
+use Rattle.query_server.specs.Shelves.{Became}
+use Rattle.query_server.specs.Make.{IsMade}
+use Rattle.query_server.proofs.making.make_all.Given as goal
+
+-- the journals of the owners so far are made
+abbrev pub invariant-loop-owner : goal.invariant-loop-owner
+invariant-loop-owner g l =
+    record {
+      made : Became l.owner (λ o. IsMade (header_of (loading_by l.opened.house l.opened.hashes.items) l.opened.key o))
+          (g.B.Bay.shelf l.fn.bay) (g.B.Bay.shelf l.bay);
+      owners : g.B.Bay.owners l.bay ≡ g.B.Bay.owners l.fn.bay;
+      passed : g.B.Bay.faults l.bay ≡ g.B.Bay.faults l.fn.bay;
+    }

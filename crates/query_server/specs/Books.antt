@@ -1,0 +1,114 @@
+-- what the code's books and passes are of the owners' disks
+use Rattle.std.specs.Prelude.{◌≡◌, ℕ, ◌<◌, ◌≤◌, List, length, Option, Some, None, IfSome, ⊤}
+use Rattle.outside_disks.specs.Disks.{Shown, WhereTold}
+use Rattle.journal_records.specs.declared.records.Header.{Header}
+use Rattle.budget_journal.specs.Journals.{Found}
+use Rattle.budget_core.specs.Entries.{Entry}
+use Rattle.budget_core.specs.Legal.{IsHistory, MayFollow}
+use Rattle.budget_ledger.specs.declared.failure.Failure.{Failure}
+use Rattle.budget_ledger.specs.Account.{Account, IsKeptNow}
+use Rattle.answer_path.specs.Pass.{Pass}
+use Rattle.session_core.specs.Code.{pass_at}
+use Rattle.query_server.specs.Loaded.{Loading, header_of}
+use Rattle.query_server.specs.Shelves.{Shelf, IsOnlySynced, bytes_on}
+use Rattle.query_server.specs.Opened.{IsRefusedAt, IsUnopened, entry_at, name_at, owners_in}
+use Rattle.query_server.specs.Status.{disk_text, journal_text}
+use Rattle.query_server.specs.declared.refusals.JournalRefusal.{JournalRefusal}
+use Rattle.query_server.specs.declared.refusals.JournalRefusal.TheVariants.{Uninitialised, Changed, Damaged}
+use Rattle.budget_journal.specs.declared.opening.OpenFault.{OpenFault}
+use Rattle.budget_journal.specs.declared.opening.OpenFault.TheVariants as open_fault
+use Rattle.query_server.specs.declared.end.Stop.{Stop}
+use Rattle.query_server.specs.declared.end.Stop.TheVariants.{Usage, Refused, Journal, Disk, Fault, NoMemory}
+
+-- A book that was just opened on a disk that showed this.
+pub record IsNewBook (entry : Entry) (header : Header) (before : Option Shown) (book : Account) : Type 0 where
+  pub of_entry : book.ledger.entry ≡ entry
+  pub fresh : book.ledger.records ≡ book.ledger.found
+  pub of_header : book.storage.header ≡ header
+  pub unclosed : book.storage.closed ≡ None
+  pub history : IsHistory entry book.ledger.found
+  pub on : IfSome before (λ b. WhereTold (Found header book.ledger.found) b.trace book.storage.trace × (book.storage.faults ≡ b.faults))
+
+-- A book was opened: its owner's disk is taken. Or it wasn't, and the disk is at home again, with nothing written.
+abbrev pub TookDisk : (o : ℕ) → (old new : Shelf) → Type 0
+TookDisk o old new = (new o ≡ None) × ((p : ℕ) → (p ≡ o → ⊥) → new p ≡ old p)
+
+pub record LeftDisk (o : ℕ) (old new : Shelf) : Type 0 where
+  pub here : (before : Shown) → old o ≡ Some before → (after : Shown) × (new o ≡ Some after) × IsOnlySynced before after
+  pub elsewhere : (p : ℕ) → (p ≡ o → ⊥) → new p ≡ old p
+
+-- the line of a disk or of a journal, or memory ran out
+abbrev pub IsDiskStop : (owner : List ℕ) → Stop → Type 0
+IsDiskStop owner Usage = ⊥
+IsDiskStop owner (Refused name) = ⊥
+IsDiskStop owner (Journal line) = ⊥
+IsDiskStop owner (Disk line) = line.items ≡ disk_text owner
+IsDiskStop owner Fault = ⊥
+IsDiskStop owner NoMemory = ⊤
+
+abbrev pub IsJournalStop : (owner : List ℕ) → JournalRefusal → Stop → Type 0
+IsJournalStop owner refusal Usage = ⊥
+IsJournalStop owner refusal (Refused name) = ⊥
+IsJournalStop owner refusal (Journal line) = line.items ≡ journal_text owner refusal
+IsJournalStop owner refusal (Disk line) = ⊥
+IsJournalStop owner refusal Fault = ⊥
+IsJournalStop owner refusal NoMemory = ⊤
+
+-- what stops a command where a journal isn't opened for this
+abbrev pub IsBookFaultStop : (owner : List ℕ) → OpenFault → Stop → Type 0
+IsBookFaultStop owner open_fault.DiskFault stop = IsDiskStop owner stop
+IsBookFaultStop owner open_fault.NoMemory stop = stop ≡ NoMemory
+IsBookFaultStop owner (open_fault.NotInitialised n) stop = IsJournalStop owner (Uninitialised n) stop
+IsBookFaultStop owner (open_fault.Changed kept found) stop = IsJournalStop owner Changed stop
+IsBookFaultStop owner (open_fault.Damaged slot) stop = IsJournalStop owner (Damaged slot) stop
+
+-- why a book wasn't opened
+abbrev pub IsBookStop : Loading → (key : List ℕ) → Shelf → (o : ℕ) → Stop → Type 0
+IsBookStop loading key old o Usage = ⊥
+IsBookStop loading key old o (Refused name) = ⊥
+IsBookStop loading key old o (Journal line) = (refusal : JournalRefusal)
+    × IsUnopened (entry_at loading o) (header_of loading key o) (bytes_on old o) refusal × (line.items ≡ journal_text (name_at loading o) refusal)
+IsBookStop loading key old o (Disk line) = line.items ≡ disk_text (name_at loading o)
+IsBookStop loading key old o Fault = ⊥
+IsBookStop loading key old o NoMemory = ⊤
+
+-- why not all books were opened
+abbrev pub IsOpenStop : Loading → (key : List ℕ) → Shelf → Stop → Type 0
+IsOpenStop loading key old Usage = ⊥
+IsOpenStop loading key old (Refused name) = ⊥
+IsOpenStop loading key old (Journal line) = (o : ℕ) × (refusal : JournalRefusal) × IsRefusedAt loading key old o refusal
+    × (line.items ≡ journal_text (name_at loading o) refusal)
+IsOpenStop loading key old (Disk line) = (o : ℕ) × (o < owners_in loading) × (line.items ≡ disk_text (name_at loading o))
+IsOpenStop loading key old Fault = ⊥
+IsOpenStop loading key old NoMemory = ⊤
+
+-- A pass on which nothing was done yet, over a disk that showed this.
+pub record IsNewPass (entry : Entry) (header : Header) (before : Option Shown) (pass : Pass) : Type 0 where
+  pub of_entry : pass.entry ≡ entry
+  pub fresh : pass.seen ≡ pass.found
+  pub of_header : pass.storage.header ≡ header
+  pub unclosed : pass.storage.closed ≡ None
+  pub history : IsHistory entry pass.found
+  pub on : IfSome before (λ b. WhereTold (Found header pass.found) b.trace pass.storage.trace × (pass.storage.faults ≡ b.faults))
+
+-- The first owners' passes were just opened on their disks, which are taken; the others are as they were.
+pub record ArePassesOn (entries : ℕ → Entry) (headers : ℕ → Header) (n : ℕ) (old new : Shelf) (passes : List Pass) : Type 0 where
+  pub count : length passes ≡ n
+  pub each : (o : ℕ) → o < n → IsNewPass (entries o) (headers o) (old o) (pass_at passes o)
+  pub taken : (o : ℕ) → o < n → new o ≡ None
+  pub others : (o : ℕ) → n ≤ o → new o ≡ old o
+
+-- what a pass shows of its disk
+abbrev pub shown_by : Pass → Shown
+shown_by pass = record { trace = pass.storage.trace; faults = pass.storage.faults }
+
+-- A stop leaves the records that a pass has seen; where an append failed, its record may follow them.
+pub record IsStored (pass : Pass) : Type 0 where
+  pub kept : IfSome pass.storage.trace (IsKeptNow pass.storage.header pass.seen pass.storage.closed)
+  pub follows : (failure : Failure) → pass.storage.closed ≡ Some failure → MayFollow pass.entry pass.seen failure.pending
+
+-- The first owners' disks were put back as their passes show them, and stand for these passes' records; the others are as they were.
+pub record ArePutBack (n : ℕ) (passes : List Pass) (old new : Shelf) : Type 0 where
+  pub each : (o : ℕ) → o < n → new o ≡ Some (shown_by (pass_at passes o))
+  pub kept : (o : ℕ) → o < n → IsStored (pass_at passes o)
+  pub others : (o : ℕ) → n ≤ o → new o ≡ old o

@@ -1,0 +1,62 @@
+-- which of the owners' journals are opened, and which one is refused
+use Rattle.std.specs.Prelude.{◌≡◌, ℕ, ◌<◌, List, length, Option, IfSome}
+use Rattle.journal_records.specs.declared.records.Header.{Header}
+use Rattle.journal_records.specs.declared.records.Record.{Record}
+use Rattle.budget_journal.specs.Journals.{Stands}
+use Rattle.budget_journal.specs.declared.opening.OpenFault.TheVariants as open_fault
+use Rattle.budget_core.specs.Entries.{Entry}
+use Rattle.budget_core.specs.Legal.{IsHistory}
+use Rattle.budget_ledger.specs.Opened.{IsBookFault}
+use Rattle.owner_catalog.specs.Entries.{owner_entry_at}
+use Rattle.session_core.specs.House.{entry_of}
+use Rattle.session_core.specs.Transcript.{Journals}
+use Rattle.query_server.specs.Loaded.{Loading, header_of}
+use Rattle.query_server.specs.Shelves.{Shelf, Became, IsOnlySynced, bytes_on}
+use Rattle.query_server.specs.Status.{journal_text}
+use Rattle.query_server.specs.declared.end.Status.{Status}
+use Rattle.query_server.specs.declared.end.Status.TheVariants.{JournalRefused}
+use Rattle.query_server.specs.declared.refusals.JournalRefusal.{JournalRefusal}
+use Rattle.query_server.specs.declared.refusals.JournalRefusal.TheVariants.{Uninitialised, Changed, Damaged, Exists}
+
+-- how many owners there are, and what is known of each by its number
+abbrev pub owners_in : Loading → ℕ
+owners_in loading = length loading.register.catalog.owners
+
+abbrev pub name_at : Loading → (o : ℕ) → List ℕ
+name_at loading o = (owner_entry_at loading.register.catalog o).name
+
+abbrev pub entry_at : Loading → (o : ℕ) → Entry
+entry_at loading o = entry_of loading.register.catalog (owner_entry_at loading.register.catalog o)
+
+-- A journal is opened with the records that its bytes stand for, of which each may follow those before it.
+pub record IsOpened (entry : Entry) (header : Header) (bytes : Option (List ℕ)) (found : List Record) : Type 0 where
+  pub stands : IfSome bytes (Stands header found)
+  pub history : IsHistory entry found
+
+-- Why a journal isn't opened: by its length, by its header, or by the least slot that is damaged or whose record may not follow.
+abbrev pub IsUnopened : Entry → Header → (bytes : Option (List ℕ)) → JournalRefusal → Type 0
+IsUnopened entry header bytes (Uninitialised n) = IfSome bytes (λ b. IsBookFault entry header b (open_fault.NotInitialised n))
+IsUnopened entry header bytes Changed =
+    IfSome bytes (λ b. (kept : List ℕ) × (found : List ℕ) × IsBookFault entry header b (open_fault.Changed kept found))
+IsUnopened entry header bytes (Damaged slot) = IfSome bytes (λ b. IsBookFault entry header b (open_fault.Damaged slot))
+IsUnopened entry header bytes (Exists n) = ⊥
+
+-- The journals of all owners are opened, with these records.
+abbrev pub AreOpened : Loading → (key : List ℕ) → Shelf → (found : Journals) → Type 0
+AreOpened loading key shelf found =
+    (o : ℕ) → o < owners_in loading → IsOpened (entry_at loading o) (header_of loading key o) (bytes_on shelf o) (found o)
+
+-- An owner's journal is refused, and those of the owners before it are opened.
+pub record IsRefusedAt (loading : Loading) (key : List ℕ) (shelf : Shelf) (o : ℕ) (refusal : JournalRefusal) : Type 0 where
+  pub known : o < owners_in loading
+  pub before : (p : ℕ) → p < o → (found : List Record) × IsOpened (entry_at loading p) (header_of loading key p) (bytes_on shelf p) found
+  pub refused : IsUnopened (entry_at loading o) (header_of loading key o) (bytes_on shelf o) refusal
+
+-- What is due where a journal is refused: the first one's line. Nothing is written to any disk.
+pub record IsRefusalDue (loading : Loading) (key : List ℕ) (old new : Shelf) (status : Status) (text : List ℕ) : Type 0 where
+  pub o : ℕ
+  pub refusal : JournalRefusal
+  pub at : IsRefusedAt loading key old o refusal
+  pub is_status : status ≡ JournalRefused
+  pub is_text : text ≡ journal_text (name_at loading o) refusal
+  pub disks : Became (owners_in loading) (λ _. IsOnlySynced) old new

@@ -1,0 +1,136 @@
+//! The records in the owners' journals are counted.
+
+ghost use Rattle.std.specs.Prelude.{◌≡◌, ◌⊎◌, ◌++◌, ◌<◌, ◌≤◌, ℕ, List, Option, Vec, length, Err, IfErr, IfOk, IsErrOf, IsSome, OnOk};
+ghost use Rattle.std.specs.declared.alloc.Global.{Global as Heap};
+ghost use Rattle.fz_outside.specs.Faults.{HasCause, HasRisen};
+ghost use Rattle.journal_records.specs.declared.records.Record.{Record};
+ghost use Rattle.owner_catalog.specs.Entries.{owner_entry_at};
+ghost use Rattle.query_server.specs.Loaded.{IsLoading, header_of};
+ghost use Rattle.session_core.specs.Transcript.{Journals};
+ghost use Rattle.query_server.specs.Shelves.{AreAtHome, Became, IsOnlySynced, SomeRose, bytes_on};
+ghost use Rattle.query_server.specs.Opened.{AreOpened, IsOpened, entry_at, owners_in};
+ghost use Rattle.query_server.specs.Count.{count_steps, counted_line, counted_text};
+ghost use Rattle.query_server.specs.Due.{ForContents};
+ghost use Rattle.query_server.specs.Ends.{IsStepEnd, end_by, loading_by};
+ghost use Rattle.query_server.specs.Books.{IsBookStop, IsOpenStop, LeftDisk};
+
+use crate::books::open_book;
+use crate::end::{End, Stop};
+use crate::headers::headers_of;
+use crate::numbers::put_field;
+use crate::opening::{Opened, open_house};
+use budget_ledger::book::Book;
+use fz_outside::files::Files;
+use journal_records::records::Header;
+use outside_bays::bay::Bay;
+use outside_disks::disk::Disk;
+use owner_catalog::Catalog;
+use std::alloc::{AllocError, Global};
+
+/// Puts the line of an owner's records behind some lines.
+fn put_counted<D: Disk>(
+    lines: &mut Vec<u8>,
+    catalog: &Catalog,
+    owner: u32,
+    book: &Book<D>,
+) -> Result<(), AllocError>
+    requires { owner < length catalog.now.owners }
+    ensures { IfOk result (λ _. lines.new.items ≡ lines.old.items ++ counted_line (owner_entry_at catalog.now owner) book.now.ledger.records) }
+{
+    let counts = book.counts();
+    lines.extend_from_slice(catalog.owner_name(owner).as_bytes())?;
+    put_field(lines, b" reservations ", u64::from(counts.reservations))?;
+    put_field(lines, b" answered ", u64::from(counts.answered))?;
+    put_field(lines, b" exhausted ", u64::from(counts.exhausted))?;
+    put_field(lines, b" lost ", u64::from(counts.lost))?;
+    put_field(lines, b" spent ", book.spent())?;
+    put_field(lines, b" budget ", catalog.budget(owner))?;
+    lines.extend_from_slice(b"\n")
+}
+
+/// Puts the line of an owner behind some lines: its book is opened on its disk, which is put back.
+fn count_owner<B: Bay>(
+    alloc: Global,
+    bay: &mut B,
+    opened: &Opened,
+    header: &Header,
+    owner: u32,
+    lines: &mut Vec<u8>,
+) -> Result<(), Stop>
+    requires loaded { IsLoading (loading_by opened.now.house opened.now.hashes.items) }
+    requires owner { owner < owners_in (loading_by opened.now.house opened.now.hashes.items) }
+    requires header { header.now ≡ header_of (loading_by opened.now.house opened.now.hashes.items) opened.now.key owner }
+    requires known { owner < B.owners bay.old }
+    requires home { IsSome (B.shelf bay.old owner) }
+    ensures counted { OnOk result ((found : List Record)
+        × IsOpened (entry_at (loading_by opened.now.house opened.now.hashes.items) owner) header.now (bytes_on (B.shelf bay.old) owner) found
+        × (lines.new.items ≡ lines.old.items ++ counted_line (owner_entry_at opened.now.house.catalog owner) found)) }
+    ensures left { LeftDisk owner (B.shelf bay.old) (B.shelf bay.new) }
+    ensures stop { IfErr result (IsBookStop (loading_by opened.now.house opened.now.hashes.items) opened.now.key (B.shelf bay.old) owner) }
+    ensures owners { B.owners bay.new ≡ B.owners bay.old }
+    ensures faults { B.faults bay.old ≤ B.faults bay.new }
+    ensures cause { (line : Vec ℕ Heap) → result ≡ Err (Stop.Disk line) →
+        HasRisen (B.faults bay.old) (B.faults bay.new) ⊎ SomeRose (B.shelf bay.old) (B.shelf bay.new) }
+{
+    let book = open_book(alloc, bay, opened, header, owner)?;
+    let counted = put_counted(lines, opened.house.catalog(), owner, &book);
+    bay.put_back(owner, book.into_disk());
+    match counted {
+        Ok(()) => Ok(()),
+        Err(_) => Err(Stop::NoMemory),
+    }
+}
+
+/// The lines of all owners, whose books are opened one after another, up to the first that isn't opened.
+fn count_all<B: Bay>(alloc: Global, bay: &mut B, opened: &Opened) -> Result<Vec<u8>, Stop>
+    requires loaded { IsLoading (loading_by opened.now.house opened.now.hashes.items) }
+    requires home { AreAtHome (B.owners bay.old) (B.shelf bay.old) }
+    ensures counted { IfOk result (λ lines. (found : Journals)
+        × AreOpened (loading_by opened.now.house opened.now.hashes.items) opened.now.key (B.shelf bay.old) found
+        × (lines.items ≡ counted_text (loading_by opened.now.house opened.now.hashes.items) found)) }
+    ensures disks { Became (owners_in (loading_by opened.now.house opened.now.hashes.items)) (λ _. IsOnlySynced) (B.shelf bay.old) (B.shelf bay.new) }
+    ensures stop { IfErr result (IsOpenStop (loading_by opened.now.house opened.now.hashes.items) opened.now.key (B.shelf bay.old)) }
+    ensures owners { B.owners bay.new ≡ B.owners bay.old }
+    ensures faults { B.faults bay.old ≤ B.faults bay.new }
+    ensures disk { (line : Vec ℕ Heap) → result ≡ Err (Stop.Disk line) →
+        HasRisen (B.faults bay.old) (B.faults bay.new) ⊎ SomeRose (B.shelf bay.old) (B.shelf bay.new) }
+{
+    let headers = headers_of(alloc, opened)?;
+    let mut lines = Vec::new(alloc);
+    for owner in 0..headers.len() as u32 {
+        match count_owner(
+            alloc,
+            bay,
+            opened,
+            &headers[owner as usize],
+            owner,
+            &mut lines,
+        ) {
+            Ok(()) => (),
+            Err(stop) => return Err(stop),
+        }
+    }
+    Ok(lines)
+}
+
+/// Opens the house of a catalog and a key, and counts the records in the journals of its owners.
+pub(crate) fn count_records<F: Files, B: Bay>(
+    alloc: Global,
+    files: &mut F,
+    bay: &mut B,
+    catalog: &str,
+    key: &str,
+) -> Result<Vec<u8>, Stop>
+    requires home { AreAtHome (B.owners bay.old) (B.shelf bay.old) }
+    ensures end { (left : Option (List ℕ)) → ForContents (F.held files.old) left
+        (IsStepEnd (F.names files.old) (F.names files.new) (B.shelf bay.old) (B.shelf bay.new) (count_steps catalog.now key.now) (end_by End.Listed result)) }
+    ensures same { F.held files.new ≡ F.held files.old }
+    ensures owners { B.owners bay.new ≡ B.owners bay.old }
+    ensures bay { B.faults bay.old ≤ B.faults bay.new }
+    ensures cause { HasCause (F.faults files.old) (F.faults files.new) (IsErrOf result Stop.Fault) }
+    ensures disk { (line : Vec ℕ Heap) → result ≡ Err (Stop.Disk line) →
+        HasRisen (B.faults bay.old) (B.faults bay.new) ⊎ SomeRose (B.shelf bay.old) (B.shelf bay.new) }
+{
+    let opened = open_house(alloc, files, catalog, key)?;
+    count_all(alloc, bay, &opened)
+}
