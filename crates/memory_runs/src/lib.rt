@@ -1,10 +1,11 @@
-//! The top call over files, source and sink in memory, for the crates of tests.
+//! The top call over files, disks, source and sink in memory, for the crates of tests.
 #![tactic(auto)]
 
-use fz_outside::files::{MemFile, MemFiles};
-use fz_outside::sink::MemSink;
-use fz_outside::source::MemSource;
-use query_server::{Status, run_server};
+pub mod journals;
+
+use crate::journals::empty_journals;
+use fz_outside::files::MemFile;
+use query_server::Status;
 use std::alloc::{AllocError, Global};
 
 /// The most bytes that a run in memory writes.
@@ -98,17 +99,17 @@ pub fn census_files<'a>(table: &'a [u8], name: &'a str, bytes: &'a [u8]) -> [Mem
     ]
 }
 
-/// How the command of these words ends over these files and this source, and what it writes.
+/// How the command of these words ends over these files and this source, and what it writes. A `run` finds journals that an
+/// `init` has made.
 pub fn ended(
     alloc: Global,
     texts: &[&str],
     held: &[MemFile<'_>],
     script: &[u8],
 ) -> Result<(Status, Vec<u8>), AllocError> {
-    let words = words_of(alloc, texts)?;
-    let mut files = MemFiles::new(held);
-    let mut source = MemSource::new(script);
-    let mut sink = MemSink::<ROOM>::new(alloc)?;
-    let status = run_server(alloc, &words, &mut files, &mut source, &mut sink);
-    Ok((status, sink.bytes().to_vec(alloc)?))
+    let mut journals = empty_journals(alloc)?;
+    if let ["run", catalog, key] = texts {
+        journals.ran(alloc, &["init", catalog, key], held, b"")?;
+    }
+    journals.ran(alloc, texts, held, script)
 }

@@ -35,29 +35,21 @@ pub(crate) fn text_of(alloc: Global, chain: &Chain<'_>) -> Result<String, AllocE
     Ok(program)
 }
 
-// 127 deep and 128, 129 and more; the last program is deep in another place.
 #[rattlefmt::skip]
-pub(crate) const DEPTHS: [Chain<'static>; 5] = [
+pub(crate) const CHAINS: [Chain<'static>; 28] = [
+    // 127 deep and 128, 129 and more; the last program is deep in another place.
     (42, "fun (x : num) => 0 + x", "fun (x : num) => 0 + @ x", "@ 1", Whole(0, 1)),
     (42, "fun (x : num) => 0 + x", "fun (x : num) => 0 + @ x", "0 + @ 1", Whole(0, 1)),
     (42, "fun (x : num) => 0 + x", "fun (x : num) => 0 + @ x", "0 + (0 + @ 1)", Refused("35 26 27")),
     (43, "fun (x : num) => 0 + x", "fun (x : num) => 0 + @ x", "@ 1", Refused("35 65 67")),
     (45, "fun (x : num) => 0 + x", "fun (x : num) => 0 + @ x", "@ 1", Refused("35 179 181")),
-];
-
-// 12,310 turns, 20,000 and 20,001, and more.
-#[rattlefmt::skip]
-pub(crate) const TURNS: [Chain<'static>; 5] = [
+    // 12,310 turns, 20,000 and 20,001, and more.
     (12, "fun (x : num) => x", "fun (x : num) => @ (@ x)", "@ 1", Whole(0, 1)),
     (12, "fun (x : num) => x", "fun (x : num) => @ (@ x)", "clip[0,9] (@ 1 + f10 1 + f8 1 + f1 1)", Whole(0, 4)),
     (12, "fun (x : num) => x", "fun (x : num) => @ (@ x)", "clip[0,9] (clip[0,9] (@ 1 + f10 1 + f8 1 + f1 1))", Refused("36 26 27")),
     (13, "fun (x : num) => x", "fun (x : num) => @ (@ x)", "@ 1", Refused("36 26 27")),
     (16, "fun (x : num) => x", "fun (x : num) => @ (@ x)", "@ 1", Refused("36 61 63")),
-];
-
-// 64 tables wide, 65 and 128; a body that nobody enters isn't visited, both branches are, and the first union in order is told.
-#[rattlefmt::skip]
-pub(crate) const WIDTHS: [Chain<'static>; 8] = [
+    // 64 tables wide, 65 and 128; a body that nobody enters isn't visited, both branches are, and the first union in order is told.
     (6, "union people people", "union @ @", "size @", Whole(64, 192)),
     (5, "union people people", "union @ @", "size (union @ @)", Whole(64, 192)),
     (6, "union people people", "union @ @", "size (union @ people)", Refused("37 158 173 65")),
@@ -66,11 +58,7 @@ pub(crate) const WIDTHS: [Chain<'static>; 8] = [
     (6, "union people people", "union @ @", "if true then 1 else size (union @ @)", Refused("37 178 189 128")),
     (6, "union people people", "union @ @", "size (union (union @ people) (union @ @))", Refused("37 165 180 65")),
     (6, "union people people", "union @ @", "size (filter (fn (x : num) => true) @)", Whole(64, 192)),
-];
-
-// Pairs that double sixty times, numbers that double until they are held at the limit, and bags that are gone over sixty times.
-#[rattlefmt::skip]
-pub(crate) const DOUBLED: [Chain<'static>; 10] = [
+    // Pairs that double sixty times, numbers that double until they are held at the limit, and bags that are gone over sixty times.
     (60, "(1, 1)", "(@, @)", "let (x, y) = @ in 7", Whole(0, 7)),
     (60, "size people", "(@, @)", "7", Whole(0, 7)),
     (50, "1", "(fn (x : num) => x + x) (![inf] @)", "@", Whole(0, 562949953421312)),

@@ -16,4 +16,6 @@ mod programs;
 #[cfg(test)]
 mod rules;
 #[cfg(test)]
+mod statuses;
+#[cfg(test)]
 mod wanted;

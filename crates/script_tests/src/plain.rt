@@ -1,6 +1,6 @@
 //! The server once more, plainly and slowly: a script is cut at each LF and a line at each space, the cost is a running sum,
 //! and the noise comes out of the whole list of a number's draws. It reads no program but `size people`, and has `?` for the
-//! refusal of another. Tests compare it with the real one.
+//! refusal of another; it has `*` for the reply to a `recall` or a `left`. Tests compare it with the real one.
 
 ghost use Rattle.std.specs.Prelude.{◌<◌};
 
@@ -220,6 +220,8 @@ impl Server {
                 String::from_str(alloc, "bye\n")
             }
             [b"bye", ..] => String::from_str(alloc, "no 10 1\n"),
+            [b"recall", ..] => String::from_str(alloc, "*\n"),
+            [b"left", ..] => String::from_str(alloc, "*\n"),
             _ => String::from_str(alloc, "no 10 0\n"),
         }
     }

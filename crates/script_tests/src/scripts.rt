@@ -5,30 +5,16 @@ use fz_outside::files::MemFiles;
 use fz_outside::flaky::{Flaky, Schedule};
 use fz_outside::sink::MemSink;
 use fz_outside::source::MemSource;
+use memory_runs::journals::{MemJournals, empty_journals};
 use memory_runs::{KEY, Piece, TABLE, census_files, ended, joined, words_of};
-use query_server::{Status, run_server};
+use query_server::Status;
 use std::alloc::{AllocError, Global};
 use std::test::Fail;
 
-#[derive(Drop)]
-struct Case<'a> {
-    name: &'a str,
-    pieces: &'a [Piece<'a>],
-    want: &'a [u8],
-}
+const RUN: &[&str] = &["run", "cat.json", "key"];
 
-// How the command of these words ends over the catalog, its table and a key, and what it writes.
-fn written(
-    alloc: Global,
-    texts: &[&str],
-    table: &[u8],
-    key: &[u8],
-    script: &[u8],
-) -> Result<(Status, Vec<u8>), AllocError> {
-    ended(alloc, texts, &census_files(table, "key", key), script)
-}
-
-// Whether a transcript is the plain one, which has `?` for the refusal of a program that it doesn't read.
+// Whether a transcript is the plain one, which has `?` for the refusal of a program that it doesn't read, and `*` for the reply to a
+// `recall` or a `left`.
 fn agrees(plain: &[u8], transcript: &[u8]) -> bool {
     let mut lines = transcript.split(|b| *b == b'\n');
     for line in plain.split(|b| *b == b'\n') {
@@ -38,6 +24,7 @@ fn agrees(plain: &[u8], transcript: &[u8]) -> bool {
                     return false;
                 }
             }
+            Some(_) if line == b"*".as_slice() => {}
             Some(same) if same == line => {}
             _ => return false,
         }
@@ -45,231 +32,145 @@ fn agrees(plain: &[u8], transcript: &[u8]) -> bool {
     lines.next().is_none()
 }
 
+// A script, and what is written for it.
+#[rattlefmt::skip]
+const SCRIPTS: [(&[Piece<'static>], &[u8]); 16] = [
+    // one ask
+    (&[(b"hello ann\nask census 1 size people\nbye\n", 1)], b"hello ann\nanswer 0 5 1000000\nbye\n"),
+    // nothing
+    (&[(b"", 1)], b""),
+    // over budget
+    (&[(b"hello ann\n", 1), (b"ask census 1 size people\n", 11)],
+        b"hello ann\nanswer 0 5 1000000\nanswer 1 3 1000000\nanswer 2 3 1000000\nanswer 3 0 1000000\nanswer 4 4 1000000\n\
+        answer 5 4 1000000\nanswer 6 3 1000000\nanswer 7 4 1000000\nanswer 8 0 1000000\nanswer 9 3 1000000\n\
+        no 40 10000000 11000000 10000000 20\n"),
+    // before a hello
+    (&[(b"\nask census 0 size people\nask census 1 size people\nask nobody 1 x\nrecall census\n", 1), (b"x", 16385), (b"\n", 1)],
+        b"no 10 0\nno 13\nno 14\nno 12 1\nno 10 2\nno 11\n"),
+    // words
+    (&[(b"hello ann\nhello\nhello \nhello ann x\nhello  ann\nhello eve\nrecall census 0\nASK census 1 1\nask\nask census\nask census \n\
+        ask census 1\nask census 1 \nask census 1. 1\nask census 0.0000001 1\nask census 1000.000001 1\nask census 1 \"\n\
+        ask census 1 1125899906842625\nask census 1 naaaaaaaaaaaaaaaaaaaaaaaaaaaaaaaa\nask census 1 \0\nask census 1 size people people\n\
+        ask census 1 (fn (x : num) => x\nask census 1 1 -o 2\nbye \nask census 1 size people\n", 1)],
+        b"hello ann\nno 10 1\nno 10 1\nno 10 2\nno 10 1\nno 12 1\nno 60 0 0\nno 10 0\nno 10 1\nno 10 2\nno 10 2\nno 10 3\nno 21 0\nno 13\n\
+        no 13\nno 13\nno 20 0\nno 20 0\nno 20 0\nno 20 0\nno 21 2\nno 21 9\nno 21 1\nno 10 1\nanswer 0 5 1000000\n"),
+    // long programs
+    (&[(b"hello ann\nask census 1 ", 1), (b"(", 4097), (b"\nask census 1 ", 1), (b"(", 4096), (b"\nask census 1 ", 1), (b" ", 16001), (b"\n", 1)],
+        b"hello ann\nno 20 4096\nno 21 4096\nno 20 16000\n"),
+    // epsilons
+    (&[(b"hello ann\nask census 0.5 size people\nask census 0.000001 size people\nask census 3 size people\nask census 1000 size people\n", 1)],
+        b"hello ann\nanswer 0 7 500000\nanswer 1 1853682 1\nanswer 2 3 3000000\nno 40 3500001 1003500001 10000000 6\n"),
+    // lines at the limit
+    (&[(b"hello ann\nask census 1 ", 1), (b"x", 16371), (b"\r\nask census 1 ", 1), (b"x", 16372), (b"\nask nobody 0 ", 1), (b"x", 16372), (b"\n", 1), (b"x", 16384), (b"\n", 1)],
+        b"hello ann\nno 20 16000\nno 11\nno 11\nno 10 0\n"),
+    // ends
+    (&[(b"hello bob\r\nbye\r\nask census 1 size people\nhello ann\nask census 1 size people\nbye", 1)],
+        b"hello bob\nbye\nno 14\nhello ann\nanswer 0 5 1000000\nbye\n"),
+    // a lone end
+    (&[(b"hello ann\nbye\r\n\r", 1)], b"hello ann\nbye\nno 10 0\n"),
+    // later hellos
+    (&[(b"hello ann\nhello bob\nhello eve\nask census 1 size people\nbye\nhello eve\nask census 1 size people\n", 1)],
+        b"hello ann\nhello bob\nno 12 1\nanswer 0 5 1000000\nbye\nno 12 1\nno 14\n"),
+    // two faults, no money asked
+    (&[(b"ask nobody 0\nask  0 x\nask nobody 0 x\nask nobody 1 size people\nask census 0 x\nask census 1 x\nhello ann\nask nobody 1 x\n\
+        ask census 0 x\n", 1)],
+        b"no 10 3\nno 10 1\nno 12 1\nno 12 1\nno 13\nno 14\nhello ann\nno 12 1\nno 13\n"),
+    // two faults, nothing left
+    (&[(b"hello ann\n", 1), (b"ask census 0.000001 size people\n", 51), (b"ask census 1000 size people\nask census 1 x\nask census 0 size people\nask nobody 1 size people\nask census 1\nbye\n\
+        ask census 1 size people\n", 1)],
+        b"hello ann\nanswer 0 2219833 1\nanswer 1 1853682 1\nanswer 2 670675 1\nanswer 3 1600267 1\nanswer 4 492120 1\nanswer 5 466397 1\n\
+        answer 6 138308 1\nanswer 7 -510741 1\nanswer 8 2932079 1\nanswer 9 559000 1\nanswer 10 88079 1\nanswer 11 9559 1\n\
+        answer 12 312668 1\nanswer 13 -1233544 1\nanswer 14 -908194 1\nanswer 15 242306 1\nanswer 16 -477117 1\nanswer 17 -1164476 1\n\
+        answer 18 62403 1\nanswer 19 -1801301 1\nanswer 20 173168 1\nanswer 21 1376735 1\nanswer 22 2289686 1\nanswer 23 323899 1\n\
+        answer 24 463096 1\nanswer 25 -9473 1\nanswer 26 225564 1\nanswer 27 103489 1\nanswer 28 231093 1\nanswer 29 -34408 1\n\
+        answer 30 3386209 1\nanswer 31 -514645 1\nanswer 32 1496521 1\nanswer 33 -244250 1\nanswer 34 -703873 1\nanswer 35 -246359 1\n\
+        answer 36 -1568502 1\nanswer 37 -1161899 1\nanswer 38 2827729 1\nanswer 39 -1753503 1\nanswer 40 -848539 1\nanswer 41 -47454 1\n\
+        answer 42 917093 1\nanswer 43 -369510 1\nanswer 44 907935 1\nanswer 45 2080907 1\nanswer 46 -2208760 1\nanswer 47 379866 1\n\
+        answer 48 1048170 1\nanswer 49 687537 1\nno 41 100 0 100\nno 40 50 1000000050 10000000 100\nno 30 unbound 0 1\nno 13\nno 12 1\n\
+        no 10 3\nbye\nno 14\n"),
+    // two faults, over budget
+    (&[(b"hello ann\n", 1), (b"ask census 10 size people\nask census 1 x\nask census 0 size people\nask nobody 1 size people\nask census 1\nbye\n\
+        ask census 1 size people\n", 1)],
+        b"hello ann\nanswer 0 3 10000000\nno 30 unbound 0 1\nno 13\nno 12 1\nno 10 3\nbye\nno 14\n"),
+    // what became of an ask, and what is left
+    (&[(b"hello ann\nask census 1 size people\nrecall census 0\nrecall census 1\nhello bob\nrecall census 0\nleft census\n\
+        recall census 0000000000\nbye\nleft census\nrecall census 0\n", 1)],
+        b"hello ann\nanswer 0 5 1000000\nrecall 0 answer 5 2\nno 60 1 2\nhello bob\nno 61 0 2\nleft 1000000 10000000 2\n\
+        no 61 0 2\nbye\nleft 1000000 10000000 2\nno 14\n"),
+    // words of a recall and of a left
+    (&[(b"left census\nrecall\nrecall \nrecall census\nrecall census \nrecall census x\nrecall census -1\nrecall census +1\n\
+        recall census 4294967296\nrecall census 00000000000\nrecall nobody x\nrecall nobody 0\nrecall census 4294967295\nrecall census 0 x\n\
+        left\nleft \nleft nobody\nleft census \nleft nobody x\nhello ann\nrecall census 4294967295\nrecall census 0000000000\r\nleft census\r\n", 1)],
+        b"left 0 10000000 0\nno 10 1\nno 10 1\nno 10 2\nno 10 2\nno 10 2\nno 10 2\nno 10 2\n\
+        no 10 2\nno 10 2\nno 10 2\nno 12 1\nno 14\nno 10 3\n\
+        no 10 1\nno 10 1\nno 12 1\nno 10 2\nno 10 2\nhello ann\nno 60 4294967295 0\nno 60 0 0\nleft 0 10000000 0\n"),
+];
+
 // Each script's transcript; the plain server writes the same.
 #[test]
 fn transcripts(rt: HostRuntime) -> Result<(), Fail> {
-    let cases = [
-        Case {
-            name: "one ask",
-            pieces: &[(b"hello ann\nask census 1 size people\nbye\n", 1)],
-            want: b"hello ann\nanswer 0 5 1000000\nbye\n",
-        },
-        Case {
-            name: "nothing",
-            pieces: &[(b"", 1)],
-            want: b"",
-        },
-        Case {
-            name: "over budget",
-            pieces: &[(b"hello ann\n", 1), (b"ask census 1 size people\n", 11)],
-            want: b"hello ann\nanswer 0 5 1000000\nanswer 1 3 1000000\nanswer 2 3 1000000\nanswer 3 0 1000000\nanswer 4 4 1000000\n\
-                answer 5 4 1000000\nanswer 6 3 1000000\nanswer 7 4 1000000\nanswer 8 0 1000000\nanswer 9 3 1000000\n\
-                no 40 10000000 11000000 10000000 20\n",
-        },
-        Case {
-            name: "before a hello",
-            pieces: &[
-                (
-                    b"\nask census 0 size people\nask census 1 size people\nask nobody 1 x\nrecall census\n",
-                    1,
-                ),
-                (b"x", 16385),
-                (b"\n", 1),
-            ],
-            want: b"no 10 0\nno 13\nno 14\nno 12 1\nno 10 0\nno 11\n",
-        },
-        Case {
-            name: "words",
-            pieces: &[(
-                b"hello ann\nhello\nhello \nhello ann x\nhello  ann\nhello eve\nrecall census 0\nASK census 1 1\nask\nask census\nask census \n\
-                    ask census 1\nask census 1 \nask census 1. 1\nask census 0.0000001 1\nask census 1000.000001 1\nask census 1 \"\n\
-                    ask census 1 1125899906842625\nask census 1 naaaaaaaaaaaaaaaaaaaaaaaaaaaaaaaa\nask census 1 \0\nask census 1 size people people\n\
-                    ask census 1 (fn (x : num) => x\nask census 1 1 -o 2\nbye \nask census 1 size people\n",
-                1,
-            )],
-            want: b"hello ann\nno 10 1\nno 10 1\nno 10 2\nno 10 1\nno 12 1\nno 10 0\nno 10 0\nno 10 1\nno 10 2\nno 10 2\nno 10 3\nno 21 0\nno 13\n\
-                no 13\nno 13\nno 20 0\nno 20 0\nno 20 0\nno 20 0\nno 21 2\nno 21 9\nno 21 1\nno 10 1\nanswer 0 5 1000000\n",
-        },
-        Case {
-            name: "long programs",
-            pieces: &[
-                (b"hello ann\nask census 1 ", 1),
-                (b"(", 4097),
-                (b"\nask census 1 ", 1),
-                (b"(", 4096),
-                (b"\nask census 1 ", 1),
-                (b" ", 16001),
-                (b"\n", 1),
-            ],
-            want: b"hello ann\nno 20 4096\nno 21 4096\nno 20 16000\n",
-        },
-        Case {
-            name: "epsilons",
-            pieces: &[(
-                b"hello ann\nask census 0.5 size people\nask census 0.000001 size people\nask census 3 size people\nask census 1000 size people\n",
-                1,
-            )],
-            want: b"hello ann\nanswer 0 7 500000\nanswer 1 1853682 1\nanswer 2 3 3000000\nno 40 3500001 1003500001 10000000 6\n",
-        },
-        Case {
-            name: "lines at the limit",
-            pieces: &[
-                (b"hello ann\nask census 1 ", 1),
-                (b"x", 16371),
-                (b"\r\nask census 1 ", 1),
-                (b"x", 16372),
-                (b"\nask nobody 0 ", 1),
-                (b"x", 16372),
-                (b"\n", 1),
-                (b"x", 16384),
-                (b"\n", 1),
-            ],
-            want: b"hello ann\nno 20 16000\nno 11\nno 11\nno 10 0\n",
-        },
-        Case {
-            name: "ends",
-            pieces: &[(
-                b"hello bob\r\nbye\r\nask census 1 size people\nhello ann\nask census 1 size people\nbye",
-                1,
-            )],
-            want: b"hello bob\nbye\nno 14\nhello ann\nanswer 0 5 1000000\nbye\n",
-        },
-        Case {
-            name: "a lone end",
-            pieces: &[(b"hello ann\nbye\r\n\r", 1)],
-            want: b"hello ann\nbye\nno 10 0\n",
-        },
-        Case {
-            name: "later hellos",
-            pieces: &[(
-                b"hello ann\nhello bob\nhello eve\nask census 1 size people\nbye\nhello eve\nask census 1 size people\n",
-                1,
-            )],
-            want: b"hello ann\nhello bob\nno 12 1\nanswer 0 5 1000000\nbye\nno 12 1\nno 14\n",
-        },
-        Case {
-            name: "two faults, no money asked",
-            pieces: &[(
-                b"ask nobody 0\nask  0 x\nask nobody 0 x\nask nobody 1 size people\nask census 0 x\nask census 1 x\nhello ann\nask nobody 1 x\n\
-                    ask census 0 x\n",
-                1,
-            )],
-            want: b"no 10 3\nno 10 1\nno 12 1\nno 12 1\nno 13\nno 14\nhello ann\nno 12 1\nno 13\n",
-        },
-        Case {
-            name: "two faults, nothing left",
-            pieces: &[
-                (b"hello ann\n", 1),
-                (b"ask census 0.000001 size people\n", 51),
-                (
-                    b"ask census 1000 size people\nask census 1 x\nask census 0 size people\nask nobody 1 size people\nask census 1\nbye\n\
-                        ask census 1 size people\n",
-                    1,
-                ),
-            ],
-            want: b"hello ann\nanswer 0 2219833 1\nanswer 1 1853682 1\nanswer 2 670675 1\nanswer 3 1600267 1\nanswer 4 492120 1\nanswer 5 466397 1\n\
-                answer 6 138308 1\nanswer 7 -510741 1\nanswer 8 2932079 1\nanswer 9 559000 1\nanswer 10 88079 1\nanswer 11 9559 1\n\
-                answer 12 312668 1\nanswer 13 -1233544 1\nanswer 14 -908194 1\nanswer 15 242306 1\nanswer 16 -477117 1\nanswer 17 -1164476 1\n\
-                answer 18 62403 1\nanswer 19 -1801301 1\nanswer 20 173168 1\nanswer 21 1376735 1\nanswer 22 2289686 1\nanswer 23 323899 1\n\
-                answer 24 463096 1\nanswer 25 -9473 1\nanswer 26 225564 1\nanswer 27 103489 1\nanswer 28 231093 1\nanswer 29 -34408 1\n\
-                answer 30 3386209 1\nanswer 31 -514645 1\nanswer 32 1496521 1\nanswer 33 -244250 1\nanswer 34 -703873 1\nanswer 35 -246359 1\n\
-                answer 36 -1568502 1\nanswer 37 -1161899 1\nanswer 38 2827729 1\nanswer 39 -1753503 1\nanswer 40 -848539 1\nanswer 41 -47454 1\n\
-                answer 42 917093 1\nanswer 43 -369510 1\nanswer 44 907935 1\nanswer 45 2080907 1\nanswer 46 -2208760 1\nanswer 47 379866 1\n\
-                answer 48 1048170 1\nanswer 49 687537 1\nno 41 100 0 100\nno 40 50 1000000050 10000000 100\nno 30 unbound 0 1\nno 13\nno 12 1\n\
-                no 10 3\nbye\nno 14\n",
-        },
-        Case {
-            name: "two faults, over budget",
-            pieces: &[
-                (b"hello ann\n", 1),
-                (
-                    b"ask census 10 size people\nask census 1 x\nask census 0 size people\nask nobody 1 size people\nask census 1\nbye\n\
-                        ask census 1 size people\n",
-                    1,
-                ),
-            ],
-            want: b"hello ann\nanswer 0 3 10000000\nno 30 unbound 0 1\nno 13\nno 12 1\nno 10 3\nbye\nno 14\n",
-        },
-    ];
     let alloc = rt.alloc();
-    for case in &cases {
-        let script = joined(alloc, case.pieces)?;
-        let (status, out) = written(alloc, &["run", "cat.json", "key"], TABLE, &KEY, &script)?;
-        assert_eq!(rt; status, Status::Done, "{}", case.name);
-        assert!(rt; out.as_slice() == case.want, "{}", case.name);
+    for (pieces, wanted) in SCRIPTS {
+        let script = joined(alloc, pieces)?;
+        let (status, out) = ended(alloc, RUN, &census_files(TABLE, "key", &KEY), &script)?;
+        assert_eq!(rt; status, Status::Done, "{pieces:?}");
+        assert!(rt; out.as_slice() == wanted, "{pieces:?}");
         let plain = plain::transcript(alloc, 3, KEY, &script)?;
-        assert!(rt;
-            agrees(plain.as_bytes(), case.want),
-            "{} (plainly)",
-            case.name
-        );
+        assert!(rt; agrees(plain.as_bytes(), wanted), "{pieces:?} (plainly)");
     }
     Ok(())
 }
 
-const RUN: &[&str] = &["run", "cat.json", "key"];
+const ASK: &[Piece<'static>] = &[(b"hello ann\nask census 1 size people\n", 1)];
 
-const ASK: &[u8] = b"hello ann\nask census 1 size people\n";
+// A script of one byte too many.
+const LONG: &[Piece<'static>] = &[(b"\n", 16_777_217)];
 
 // Words, the table's file, the key's and the script; how the run ends, and what it writes.
 #[rattlefmt::skip]
-const STATUSES: [(&[&str], &[u8], &[u8], &[u8], Status, &[u8]); 13] = [
-    (&[], TABLE, &KEY, b"", Status::Usage, b"usage\n"),
-    (&["run", "cat.json"], TABLE, &KEY, b"", Status::Usage, b"usage\n"),
-    (&["run", "cat.json", "key", "x"], TABLE, &KEY, b"", Status::Usage, b"usage\n"),
-    (&["Run", "cat.json", "key"], TABLE, &KEY, b"", Status::Usage, b"usage\n"),
-    (&["run", "none", "nokey"], TABLE, &KEY, b"", Status::Refused, b"refused none\n"),
-    (&["run", "people.csv", "nokey"], TABLE, &KEY, b"", Status::Refused, b"refused people.csv\n"),
-    (&["run", "cat.json", "nokey"], b"age\n1.5\n", &KEY, b"", Status::Refused, b"refused nokey\n"),
-    (RUN, b"age\n1.5\n", &[0; 31], b"", Status::Refused, b"refused key\n"),
-    (RUN, b"age\n1.5\n", &KEY, b"", Status::Refused, b"refused people.csv\n"),
-    (RUN, TABLE, &[0; 33], b"", Status::Refused, b"refused key\n"),
-    (RUN, TABLE, b"", b"", Status::Refused, b"refused key\n"),
+const STATUSES: [(&[&str], &[u8], &[u8], &[Piece<'static>], Status, &[u8]); 20] = [
+    (&[], TABLE, &KEY, &[], Status::Usage, b"usage\n"),
+    (&["run", "cat.json"], TABLE, &KEY, &[], Status::Usage, b"usage\n"),
+    (&["run", "cat.json", "key", "x"], TABLE, &KEY, &[], Status::Usage, b"usage\n"),
+    (&["Run", "cat.json", "key"], TABLE, &KEY, &[], Status::Usage, b"usage\n"),
+    // the catalog is looked at before the key, and the key before the rows
+    (&["run", "none", "nokey"], TABLE, &KEY, &[], Status::Refused, b"refused none\n"),
+    (&["run", "people.csv", "nokey"], TABLE, &KEY, &[], Status::Refused, b"refused people.csv\n"),
+    (&["run", "cat.json", "nokey"], b"age\n1.5\n", &KEY, &[], Status::Refused, b"refused nokey\n"),
+    (RUN, b"age\n1.5\n", &[0; 31], &[], Status::Refused, b"refused key\n"),
+    (RUN, b"age\n1.5\n", &KEY, &[], Status::Refused, b"refused people.csv\n"),
+    (RUN, TABLE, &[0; 33], &[], Status::Refused, b"refused key\n"),
+    (RUN, TABLE, b"", &[], Status::Refused, b"refused key\n"),
     (RUN, b"age\n", &KEY, ASK, Status::Done, b"hello ann\nanswer 0 2 1000000\n"),
     (RUN, b"\xEF\xBB\xBFage\r\n-5", &KEY, ASK, Status::Done, b"hello ann\nanswer 0 3 1000000\n"),
+    // the rows are looked at before the script, and at faulty words no script is read
+    (RUN, b"", &KEY, LONG, Status::Refused, b"refused people.csv\n"),
+    (RUN, b"age\n1.5\n", &KEY, LONG, Status::Refused, b"refused people.csv\n"),
+    (RUN, b"years\n20\n", &KEY, LONG, Status::Refused, b"refused people.csv\n"),
+    (RUN, b"age\n20\n30,1\n", &KEY, LONG, Status::Refused, b"refused people.csv\n"),
+    (RUN, b"age\n1125899906842625\n", &KEY, LONG, Status::Refused, b"refused people.csv\n"),
+    (RUN, TABLE, &KEY, LONG, Status::ScriptTooLong, b"script too long\n"),
+    (&["go", "none", "none"], TABLE, &KEY, LONG, Status::Usage, b"usage\n"),
 ];
 
-// The catalog is looked at before the key, and the key before the rows.
 #[test]
 fn statuses(rt: HostRuntime) -> Result<(), Fail> {
     let alloc = rt.alloc();
-    for (words, table, key, script, status, want) in STATUSES {
-        let (ended, out) = written(alloc, words, table, key, script)?;
-        assert_eq!(rt; ended, status, "{words:?}");
-        assert!(rt; out.as_slice() == want, "{words:?}");
+    for (words, table, key, pieces, status, wanted) in STATUSES {
+        let script = joined(alloc, pieces)?;
+        let (end, out) = ended(alloc, words, &census_files(table, "key", key), &script)?;
+        assert_eq!(rt; end, status, "{words:?} {table:?}");
+        assert!(rt; out.as_slice() == wanted, "{words:?} {table:?}");
     }
     Ok(())
 }
 
-// Tables that are none.
-const NO_TABLES: [&[u8]; 5] = [
-    b"",
-    b"age\n1.5\n",
-    b"years\n20\n",
-    b"age\n20\n30,1\n",
-    b"age\n1125899906842625\n",
-];
-
-// The rows are looked at before the script, and at faulty words no script is read.
-#[test]
-fn scripts_too_long(rt: HostRuntime) -> Result<(), Fail> {
-    let alloc = rt.alloc();
-    let long = joined(alloc, &[(b"\n", 16_777_217)])?;
-    for table in NO_TABLES {
-        let (ended, out) = written(alloc, RUN, table, &KEY, &long)?;
-        assert_eq!(rt; ended, Status::Refused, "{table:?}");
-        assert!(rt;
-            out.as_slice() == b"refused people.csv\n".as_slice(),
-            "{table:?}"
-        );
-    }
-    let (ended, out) = written(alloc, RUN, TABLE, &KEY, &long)?;
-    assert_eq!(rt; ended, Status::ScriptTooLong);
-    assert!(rt; out.as_slice() == b"script too long\n".as_slice());
-    let (ended, out) = written(alloc, &["go", "none", "none"], TABLE, &KEY, &long)?;
-    assert_eq!(rt; ended, Status::Usage);
-    assert!(rt; out.as_slice() == b"usage\n".as_slice());
-    Ok(())
+// The journal of the catalog's owner, which an `init` has made.
+fn made(alloc: Global) -> Result<MemJournals<'static>, AllocError> {
+    let mut journals = empty_journals(alloc)?;
+    let held = census_files(TABLE, "key", &KEY);
+    journals.ran(alloc, &["init", "cat.json", "key"], &held, b"")?;
+    Ok(journals)
 }
 
 // A script of the greatest length is answered to its end.
@@ -277,12 +178,13 @@ fn scripts_too_long(rt: HostRuntime) -> Result<(), Fail> {
 fn longest_script(rt: HostRuntime) -> Result<(), Fail> {
     let alloc = rt.alloc();
     let script = joined(alloc, &[(b"\n", 16_777_216)])?;
-    let words = words_of(alloc, &["run", "cat.json", "key"])?;
+    let words = words_of(alloc, RUN)?;
     let held = census_files(TABLE, "key", &KEY);
     let mut files = MemFiles::new(&held);
     let mut source = MemSource::new(&script);
     let mut sink = MemSink::<134_217_728>::new(alloc)?;
-    let status = run_server(alloc, &words, &mut files, &mut source, &mut sink);
+    let mut journals = made(alloc)?;
+    let status = journals.ran_over(alloc, &words, &mut files, &mut source, &mut sink);
     assert_eq!(rt; status, Status::Done);
     assert_eq!(rt; sink.bytes().len(), 134_217_728);
     assert!(rt; sink.bytes().ends_with(b"no 10 0\nno 10 0\n"));
@@ -306,7 +208,7 @@ fn on_schedule<T>(inner: T, failing: &[u64]) -> Flaky<'_, T> {
 #[test]
 fn faults(rt: HostRuntime) -> Result<(), Fail> {
     let alloc = rt.alloc();
-    let words = words_of(alloc, &["run", "cat.json", "key"])?;
+    let words = words_of(alloc, RUN)?;
     let held = census_files(TABLE, "key", &KEY);
     let script = b"hello ann\nask census 1 size people\nbye\n";
     let want = b"hello ann\nanswer 0 5 1000000\nbye\n";
@@ -317,7 +219,8 @@ fn faults(rt: HostRuntime) -> Result<(), Fail> {
             let mut files = on_schedule(MemFiles::new(&held), &failing[..1]);
             let mut source = on_schedule(MemSource::new(script), &failing[1..2]);
             let mut sink = on_schedule(MemSink::<64>::new(alloc)?, &failing[2..]);
-            let status = run_server(alloc, &words, &mut files, &mut source, &mut sink);
+            let mut journals = made(alloc)?;
+            let status = journals.ran_over(alloc, &words, &mut files, &mut source, &mut sink);
             let out = sink.inner.bytes();
             let met = call < [3, 4, 3][place];
             assert_eq!(rt; status == Status::Fault, met, "call {call} at {place}");
@@ -359,17 +262,12 @@ fn plain_transcripts_agree(rt: HostRuntime) -> Result<(), Fail> {
     for (place, byte) in key.iter_mut().enumerate() {
         *byte = place as u8;
     }
+    let held = census_files(TABLE, "key", &key);
     for first in telling {
         for second in telling {
             for third in telling {
                 let script = joined(alloc, &[(first, 1), (second, 1), (third, 1)])?;
-                let (status, out) = written(
-                    alloc,
-                    &["run", "cat.json", "key"],
-                    TABLE,
-                    &key,
-                    &script,
-                )?;
+                let (status, out) = ended(alloc, RUN, &held, &script)?;
                 let plain = plain::transcript(alloc, 3, key, &script)?;
                 assert_eq!(rt; status, Status::Done);
                 assert!(rt; out.as_slice() == plain.as_bytes(), "{script:?}");

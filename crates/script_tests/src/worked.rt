@@ -1,7 +1,7 @@
 //! Worked rows: scripts with their replies, byte for byte, under a key of zeros. What is wanted was worked out by hand from the rules,
 //! with the noise that tools/reference.py draws.
 
-use memory_runs::{KEY, Piece, TABLE, census_files, ended, joined};
+use memory_runs::{AGE, KEY, Piece, TABLE, census_files, ended, file, joined, owner_text};
 use query_server::Status;
 use std::test::Fail;
 
@@ -45,6 +45,50 @@ fn worked_rows(rt: HostRuntime) -> Result<(), Fail> {
         let (status, out) = ended(alloc, &["run", "cat.json", "key"], &held, &script)?;
         assert_eq!(rt; status, Status::Done, "{asked:?}");
         assert!(rt; out.as_slice() == due.as_slice(), "{asked:?}");
+    }
+    Ok(())
+}
+
+// How often a number stands in a table, and how often another one behind it; what is asked of it, and the reply.
+#[rattlefmt::skip]
+const SUMS: [(usize, &[u8], usize, &[u8], &[u8]); 4] = [
+    (262_144, b"1125899906842624\n", 0, b"sum[0,4294967295] people", b"answer 0 1125899908800310 4294967295\n"),
+    (262_145, b"1125899906842624\n", 0, b"sum[0,4294967295] people", b"answer 0 1125899909062454 4294967295\n"),
+    (262_145, b"-1125899906842624\n", 0, b"sum[-4294967295,0] people", b"answer 0 -1125899904622794 4294967295\n"),
+    (262_200, b"4294967295\n", 100, b"sum[-4294967295,4294967295] people", b"answer 0 1125710930239330 4294967295\n"),
+];
+
+// A sum is held at 2^50 once, behind its last element: tables of over 262,144 rows tell it from one that is held at each.
+#[test]
+fn sums_of_many_rows(rt: HostRuntime) -> Result<(), Fail> {
+    let alloc = rt.alloc();
+    let owner = owner_text(
+        alloc,
+        "census",
+        1_000_000_000_000,
+        100,
+        &[("people", "people.csv", AGE)],
+    )?;
+    let catalog = format!(in alloc; "{{\"analysts\":[\"ann\"],\"owners\":[{owner}]}}")?;
+    for (times, number, more, program, wanted) in SUMS {
+        let table = joined(
+            alloc,
+            &[(b"age\n", 1), (number, times), (b"-4294967295\n", more)],
+        )?;
+        let script = joined(
+            alloc,
+            &[(b"hello ann\nask census 0.000001 ", 1), (program, 1)],
+        )?;
+        let held = [
+            file("cat.json", catalog.as_bytes()),
+            file("people.csv", &table),
+            file("key", &KEY),
+        ];
+        let (_, out) = ended(alloc, &["run", "cat.json", "key"], &held, &script)?;
+        assert!(rt;
+            out.strip_prefix(b"hello ann\n") == Some(wanted),
+            "{times} rows"
+        );
     }
     Ok(())
 }

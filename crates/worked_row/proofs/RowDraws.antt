@@ -1,5 +1,5 @@
 -- the noise of number 0 of owner 0 under a key of zeros, at epsilon 1.
-use Rattle.std.proofs.Common.{◌≡◌, ◌≤◌, ◌/◌, ℕ, zero, suc, List, [], ◌∷◌, Some, replicate, refl, ◌∙◌, ap, lit≤}
+use Rattle.std.proofs.Common.{◌≡◌, ◌≤◌, ◌/◌, ℕ, zero, suc, List, [], ◌∷◌, Some, refl, ◌∙◌, ap, lit≤}
 use Rattle.std.specs.Prelude.{pos}
 use Rattle.rand_core.specs.Steps.{u32_at}
 use Rattle.rand_chacha.specs.Block.{block_word, column_round, diagonal_round, double_rounds, quarter_round}
@@ -12,9 +12,7 @@ use Rattle.discrete_laplace.specs.Readers.{read_sample, read_attempt, read_geome
 use Rattle.discrete_laplace.specs.Noise.{noise_of}
 use Rattle.discrete_laplace.proofs.Fewer.{noise_of_first}
 use Rattle.answer_path.specs.Noise.{noise_at, scale_numerator, scale_denominator}
-
-abbrev pub zeros : List ℕ
-zeros = replicate 32 0
+use Rattle.worked_row.specs.Held.{zeros}
 
 -- the first draws, which suffice
 thirteen : List ℕ

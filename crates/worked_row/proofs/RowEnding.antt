@@ -7,8 +7,8 @@ use Rattle.query_server.specs.Ending.{Ending, ended, to_answer}
 use Rattle.query_server.specs.Files.{Contents, always}
 use Rattle.query_server.specs.Steps.{Outcome}
 use Rattle.worked_row.specs.Row.{catalog_text, table_text}
-use Rattle.worked_row.proofs.RowDraws.{zeros}
-use Rattle.worked_row.proofs.RowSteps.{register, run_given}
+use Rattle.worked_row.specs.Held.{loading, zeros}
+use Rattle.worked_row.proofs.RowSteps.{run_given}
 
 abbrev pub words : List (List ℕ)
 words = codes "run" ∷ codes "cat.json" ∷ codes "key" ∷ []
@@ -18,7 +18,7 @@ is_run = plain_is_tabled words (refl, (refl, (refl, tt)))
 
 -- A script is to be answered over the three rows, whatever else the files hold.
 pub row_ending : (given : List (List ℕ)) (held : Contents) → given ≡ words → held (codes "cat.json") ≡ Some catalog_text → held (codes "key") ≡ Some zeros
-    → held (codes "people.csv") ≡ Some table_text → ending_of given (always held) ≡ to_answer register zeros
+    → held (codes "people.csv") ≡ Some table_text → ending_of given (always held) ≡ to_answer loading zeros
 unfolding ending_of
 row_ending given held are_words has_catalog has_key has_table =
     ap (λ given. ended (steps_of (command_of given) (always held)).given) are_words

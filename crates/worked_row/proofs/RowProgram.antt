@@ -10,12 +10,11 @@ use Rattle.answer_path.proofs.Programs.{one_value}
 use Rattle.answer_path.proofs.SizePeople.{size_people, size_term, size_reads}
 use Rattle.fz_ast.specs.Signature.{Signature}
 use Rattle.metric_values.specs.Tables.{Dataset}
-use Rattle.owner_catalog.specs.Catalog.{signature_of}
-use Rattle.worked_row.proofs.RowCatalog.{census}
-use Rattle.worked_row.proofs.RowTable.{rows}
+use Rattle.owner_catalog.specs.Catalog.{owner_signature}
+use Rattle.worked_row.specs.Held.{census, rows}
 
 abbrev pub tables : Signature
-tables = signature_of census
+tables = owner_signature census
 
 abbrev pub dataset : Dataset
 dataset = rows ∷ []

@@ -1,19 +1,24 @@
 -- The replies to `hello ann`, `ask census 1 size people`, `bye`, where the table has the rows 20, 30 and 40.
-use Rattle.std.proofs.Common.{◌≡◌, ℕ, List, [], ◌∷◌, map, Option, Some, None, refl, sym, ◌∙◌, ap, subst, codes}
+use Rattle.std.proofs.Common.{◌≡◌, ℕ, List, [], ◌∷◌, map, Option, Some, None, refl, sym, ◌∙◌, ap, subst, codes, arith}
 use Rattle.std.specs.Prelude.{ℤ, pos, ◌+ℤ◌}
 use Rattle.std.specs.Fmt.{digits}
 use Rattle.std.specs.List.{flat_map}
 use mathlib.Core.Logic.{◌⊎◌, inl, inr}
-use Rattle.budget_core.specs.Cost.{cost_of, partition_cost}
+use Rattle.sha2.specs.Sha256.{sha256}
+use Rattle.budget_core.specs.Cost.{cost_of}
+use Rattle.partition_charge.specs.Cost.{cost_of_charges, partition_cost}
+use Rattle.budget_ledger.specs.declared.failure.Failure.{Failure}
 use Rattle.budget_core.specs.declared.entry.Ask.{Ask}
 use Rattle.budget_core.specs.declared.entry.Grant.{Grant}
-use Rattle.budget_core.specs.declared.records.Outcome.{Outcome}
-use Rattle.budget_core.specs.declared.records.Record.{Record}
-use Rattle.budget_core.specs.declared.records.View.TheVariants.{Whole}
-use Rattle.budget_core.specs.declared.records.Outcome.TheVariants.{Answered, Lost}
+use Rattle.journal_records.specs.declared.records.Outcome.{Outcome}
+use Rattle.journal_records.specs.declared.records.Record.{Record}
+use Rattle.partition_charge.specs.declared.view.View.TheVariants.{Whole}
+use Rattle.journal_records.specs.declared.records.Outcome.TheVariants.{Answered, Lost}
 use Rattle.fz_frac.specs.Distance.{Fin}
 use Rattle.wire_lines.specs.Lines.{lines_of}
-use Rattle.wire_lines.specs.Refusal.{by_number, no_memory}
+use Rattle.wire_lines.specs.Refusal.{by_disk, by_number, no_memory}
+use Rattle.wire_lines.specs.declared.refusal.DiskRefusal.{DiskRefusal}
+use Rattle.wire_lines.specs.declared.refusal.DiskRefusal.TheVariants.{Closed, Fault as DiskFailed}
 use Rattle.wire_lines.specs.Request.{request_of}
 use Rattle.wire_lines.specs.declared.refusal.NumberRefusal.TheVariants.{Lost as NoAnswer}
 use Rattle.wire_lines.specs.Reply.{Replied, greeted, answered, ended, refused, reply_text}
@@ -28,27 +33,31 @@ use Rattle.answer_path.specs.Answered.{IsAnswered, IsAnsweredBy, IsSettledAt, ou
 use Rattle.answer_path.proofs.Readings.{one_reading}
 use Rattle.answer_path.proofs.SizePeople.{size_people, size_term, size_reads}
 use Rattle.session_core.specs.House.{House, house_of, owner_of}
-use Rattle.session_core.specs.Meant.{Meant, says, wants, asks, meant_by}
+use Rattle.session_core.specs.Meant.{Meant, Demand, says, wants, asks, meant_by}
+use Rattle.session_core.specs.Served.{ClosesBy, ClosesOn}
+use Rattle.answer_path.specs.Closing.{Closes}
 use Rattle.session_core.specs.Turns.{Turn, turns_of, meant_at}
 use Rattle.session_core.specs.Exchanges.{Exchange, IsPlain, ArePlain, TurnLeads, Lead}
-use Rattle.session_core.specs.Transcript.{Journals, MeetsExactly, LeadExactly, IsScriptRun, IsScriptWritten, IsTranscript}
-use Rattle.query_server.specs.Run.{none_found}
-use Rattle.worked_row.specs.Row.{script, row, row_without, row_lost, IsRowText}
-use Rattle.worked_row.proofs.RowCatalog.{catalog, census}
-use Rattle.worked_row.proofs.RowSteps.{holding, register}
+use Rattle.session_core.specs.Transcript.{Journals, MeetsExactly, LeadExactly, first_new}
+use Rattle.query_server.specs.Run.{IsScriptAnswered}
+use Rattle.query_server.specs.Shelves.{Shelf}
+use Rattle.word_streams.specs.Draws.{draws_of}
+use Rattle.worked_row.specs.Row.{script, row, row_without, row_lost, row_failed, IsRowText}
+use Rattle.worked_row.specs.Held.{catalog, census, loaded_owner, loading, zeros}
+use Rattle.worked_row.proofs.RowDraws.{noise_is_two}
 use Rattle.worked_row.proofs.RowProgram.{judgement, size_is_three, tables}
 
 abbrev house : House
-house = house_of register
+house = house_of loading.register
 
 abbrev owner : Owner
-owner = owner_of catalog (census, holding)
+owner = owner_of catalog (census, loaded_owner.holding)
 
 abbrev query : Query
 query = record { owner = 0; analyst = 0; view = Whole; e = 1000000; program = size_people }
 
 abbrev asking : Ask
-asking = record { analyst = 0; view = Whole; e = 1000000; p = 1; q = 1 }
+asking = record { analyst = 0; view = Whole; e = 1000000; p = 1; q = 1; program = sha256 size_people }
 
 abbrev grant : Grant
 grant = record { number = 0; taken = 1000000; seen = 1 }
@@ -80,7 +89,7 @@ third_meant = refl
 
 -- the verdict, whose program has one reading
 granted_by : (found : Reading) (verdict : Verdict) → found ≡ read size_term → IsVerdictBy owner.entry 0 [] query (judgement_of tables found) verdict → verdict ≡ granted asking grant
-unfolding cost_of partition_cost
+unfolding cost_of cost_of_charges partition_cost
 granted_by found verdict same is =
     here (subst (λ (j : Judgement). IsVerdictBy owner.entry 0 [] query j verdict) (ap (λ (r : Reading). judgement_of tables r) same ∙ judgement) is)
   where
@@ -96,30 +105,47 @@ HasWorth z = HasValueIn owner.tables owner.rows Whole size_people z
 
 -- what the second line is told
 abbrev IsSaid : Replied → Type 0
-IsSaid reply = (reply ≡ answered 0 (pos 5) 1000000) ⊎ (reply ≡ refused no_memory) ⊎ (reply ≡ refused (by_number (NoAnswer 0)))
+IsSaid reply = (reply ≡ answered 0 (pos 5) 1000000) ⊎ (reply ≡ refused no_memory) ⊎ (reply ≡ refused (by_number (NoAnswer 0))) ⊎ (reply ≡ refused (by_disk DiskFailed))
+
+-- the same, or that the book was closed
+abbrev IsTold : Replied → Type 0
+IsTold reply = IsSaid reply ⊎ ((n : ℕ) × (reply ≡ refused (by_disk (Closed n))))
 
 settled_to : (outcome : Outcome) → IsSettledAt HasWorth (Some (pos 2)) outcome → (outcome ≡ Answered (pos 5)) ⊎ (outcome ≡ Lost)
 settled_to outcome (inl (value, has, is)) = inl (is ∙ ap (λ (z : ℤ). Answered (z +ℤ pos 2)) (size_is_three value has))
 settled_to outcome (inr is) = inr is
 
-said_by : (draws : ℕ → ℕ → ℕ) (reply : Replied) (added : List Record) → noise_at 1000000 (draws 0) ≡ Some (pos 2) → IsAnsweredBy owner draws query (granted asking grant) reply added → IsSaid reply
-said_by draws reply added noise (outcome, settled, is, more) =
-    here (settled_to outcome (subst (λ (k : Option ℤ). IsSettledAt HasWorth k outcome) noise settled))
+told_by_disk : (refusal : DiskRefusal) (reply : Replied) → reply ≡ refused (by_disk refusal) → IsTold reply
+told_by_disk (Closed n) reply is = inr (n, is)
+told_by_disk DiskFailed reply is = inl (inr (inr (inr is)))
+
+said_by : (draws : ℕ → ℕ → ℕ) (reply : Replied) (added : List Record) → noise_at 1000000 (draws 0) ≡ Some (pos 2) → IsAnsweredBy owner draws query (granted asking grant) reply added → IsTold reply
+said_by draws reply added noise (inl (outcome, settled, is, more)) =
+    inl (here (settled_to outcome (subst (λ (k : Option ℤ). IsSettledAt HasWorth k outcome) noise settled)))
   where
     here : (outcome ≡ Answered (pos 5)) ⊎ (outcome ≡ Lost) → IsSaid reply
     here (inl five) = inl (is ∙ ap (outcome_reply grant) five)
-    here (inr lost) = inr (inr (is ∙ ap (outcome_reply grant) lost))
+    here (inr lost) = inr (inr (inl (is ∙ ap (outcome_reply grant) lost)))
+said_by draws reply added noise (inr (refusal, is, more)) = told_by_disk refusal reply is
 
-asked_by : (draws : ℕ → ℕ → ℕ) (reply : Replied) (added : List Record) → noise_at 1000000 (draws 0) ≡ Some (pos 2) → IsAnswered owner draws 0 [] query reply added → IsSaid reply
+asked_by : (draws : ℕ → ℕ → ℕ) (reply : Replied) (added : List Record) → noise_at 1000000 (draws 0) ≡ Some (pos 2) → IsAnswered owner draws 0 [] query reply added → IsTold reply
 unfolding IsAnswered
 asked_by draws reply added noise (verdict, is, said) =
     said_by draws reply added noise (subst (λ (v : Verdict). IsAnsweredBy owner draws query v reply added) (is_granted verdict is) said)
 
 -- the second line's reply
-second_said : (draws : ℕ → ℕ → ℕ → ℕ) (y : Exchange) (after : List Record) → noise_at 1000000 (draws 0 0) ≡ Some (pos 2)
-    → MeetsExactly (draws 0) 0 owner (asks query) [] y after → IsSaid y.reply
-second_said draws y after noise (added, inl is, told, after_is) = asked_by (draws 0) y.reply added noise is
-second_said draws y after noise (added, inr (is, none), told, after_is) = inr (inl is)
+second_told : (draws : ℕ → ℕ → ℕ → ℕ) (y : Exchange) (after : List Record) → noise_at 1000000 (draws 0 0) ≡ Some (pos 2)
+    → MeetsExactly (draws 0) 0 owner (asks query) [] y after → IsTold y.reply
+second_told draws y after noise (added, inl is, told, after_is) = asked_by (draws 0) y.reply added noise is
+second_told draws y after noise (added, inr (is, none), told, after_is) = inl (inr (inl is))
+
+-- a book that was opened in this run isn't closed before its first line
+said_open : (draws : ℕ → ℕ → ℕ → ℕ) (y : Exchange) (after : Option Failure) → ClosesBy (draws 0) owner (asks query) None y after → IsTold y.reply → IsSaid y.reply
+said_open draws y after closes (inl said) = said
+said_open draws y after closes (inr (n, is)) = absurd (here (subst (λ (r : Replied). Closes owner (draws 0) query r y.told None after) is closes))
+  where
+    here : Closes owner (draws 0) query (refused (by_disk (Closed n))) y.told None after → ⊥
+    here (failure, was, said, none, rest) = absurd (cc was)
 
 abbrev replies_with : Replied → List Replied
 replies_with reply = greeted (codes "ann") ∷ reply ∷ ended ∷ []
@@ -137,29 +163,32 @@ plain_by : (x : Exchange) (turn : Turn) (said : Replied) (next : Option ℕ) →
 plain_by x turn said next at is plain = (subst (λ (m : Meant). IsPlain m x) (ap (meant_at house) at ∙ is) plain).0
 
 -- what the first two lines mean being known
-asked_then : (draws : ℕ → ℕ → ℕ → ℕ) (x y z : Exchange) (last : List Record) → noise_at 1000000 (draws 0 0) ≡ Some (pos 2)
+second_meets : {S : Type 0} (Meets : Owner → Demand → S → Exchange → S → Type 0) (before last : S) (x y z : Exchange)
     → meant_at house x.turn ≡ says (greeted (codes "ann")) (Some 0) → meant_at house y.turn ≡ wants 0 owner (asks query)
-    → LeadExactly house draws 0 0 [] (x ∷ y ∷ z ∷ []) last → IsSaid y.reply
-asked_then draws x y z last noise is_first is_second lead =
-    let Meets = MeetsExactly (draws 0) 0 in
-    let behind : LeadExactly house draws 0 0 [] (y ∷ z ∷ []) last =
-    subst (λ (m : Meant). TurnLeads house 0 Meets m [] x (λ after. Lead house 0 Meets after (y ∷ z ∷ []) last)) is_first lead in
-    let asked : (after : List Record) × Meets owner (asks query) [] y after × Lead house 0 Meets after (z ∷ []) last =
-    subst (λ (m : Meant). TurnLeads house 0 Meets m [] y (λ after. Lead house 0 Meets after (z ∷ []) last)) is_second behind in
-    second_said draws y asked.0 noise asked.1
+    → Lead house 0 Meets before (x ∷ y ∷ z ∷ []) last → (after : S) × Meets owner (asks query) before y after
+second_meets {S = S} Meets before last x y z is_first is_second lead =
+    let behind : Lead house 0 Meets before (y ∷ z ∷ []) last =
+    subst (λ (m : Meant). TurnLeads house 0 Meets m before x (λ after. Lead house 0 Meets after (y ∷ z ∷ []) last)) is_first lead in
+    let asked : (after : S) × Meets owner (asks query) before y after × Lead house 0 Meets after (z ∷ []) last =
+    subst (λ (m : Meant). TurnLeads house 0 Meets m before y (λ after. Lead house 0 Meets after (z ∷ []) last)) is_second behind in
+    (asked.0, asked.1)
 
-replies_from : (draws : ℕ → ℕ → ℕ → ℕ) → noise_at 1000000 (draws 0 0) ≡ Some (pos 2) → (xs : List Exchange) (last : List Record)
-    → map (λ x. x.turn) xs ≡ first_turn ∷ second_turn ∷ third_turn ∷ [] → ArePlain house xs → LeadExactly house draws 0 0 [] xs last → IsRow (map (λ x. x.reply) xs)
-replies_from draws noise [] last turns plain lead = cc
-replies_from draws noise (x ∷ []) last turns plain lead = cc
-replies_from draws noise (x ∷ y ∷ []) last turns plain lead = cc
-replies_from draws noise (x ∷ y ∷ z ∷ w ∷ xs) last turns plain lead = cc
-replies_from draws noise (x ∷ y ∷ z ∷ []) last turns (px, (py, (pz, nothing))) lead =
+replies_from : (draws : ℕ → ℕ → ℕ → ℕ) → noise_at 1000000 (draws 0 0) ≡ Some (pos 2) → (xs : List Exchange) (last : List Record) (closed : Option Failure)
+    → map (λ x. x.turn) xs ≡ first_turn ∷ second_turn ∷ third_turn ∷ [] → ArePlain house xs → LeadExactly house draws 0 0 [] xs last → ClosesOn house draws 0 None xs closed → IsRow (map (λ x. x.reply) xs)
+replies_from draws noise [] last closed turns plain lead closes = cc
+replies_from draws noise (x ∷ []) last closed turns plain lead closes = cc
+replies_from draws noise (x ∷ y ∷ []) last closed turns plain lead closes = cc
+replies_from draws noise (x ∷ y ∷ z ∷ w ∷ xs) last closed turns plain lead closes = cc
+replies_from draws noise (x ∷ y ∷ z ∷ []) last closed turns (px, (py, (pz, nothing))) lead closes =
     let first : x.turn ≡ first_turn = cc in
     let second : y.turn ≡ second_turn = cc in
     let third : z.turn ≡ third_turn = cc in
+    let greets = ap (meant_at house) first ∙ first_meant in
+    let asks_it = ap (meant_at house) second ∙ second_meant in
+    let told = second_meets (MeetsExactly (draws 0) 0) [] last x y z greets asks_it lead in
+    let open_then = second_meets (ClosesBy (draws 0)) None closed x y z greets asks_it closes in
     three x.reply y.reply z.reply (plain_by x first_turn (greeted (codes "ann")) (Some 0) first first_meant px)
-    (asked_then draws x y z last noise (ap (meant_at house) first ∙ first_meant) (ap (meant_at house) second ∙ second_meant) lead)
+    (said_open draws y open_then.0 open_then.1 (second_told draws y told.0 noise told.1))
     (plain_by z third_turn ended (Some 0) third third_meant pz)
 
 answered_text : flat_map reply_text (replies_with (answered 0 (pos 5) 1000000)) ≡ row
@@ -174,20 +203,27 @@ lost_text : flat_map reply_text (replies_with (refused (by_number (NoAnswer 0)))
 unfolding reply_text digits
 lost_text = refl
 
+failed_text : flat_map reply_text (replies_with (refused (by_disk DiskFailed))) ≡ row_failed
+unfolding reply_text digits
+failed_text = refl
+
 text_with : (reply : Replied) → IsSaid reply → IsRowText (flat_map reply_text (replies_with reply))
 text_with reply (inl is) = inl (ap (λ (r : Replied). flat_map reply_text (replies_with r)) is ∙ answered_text)
 text_with reply (inr (inl is)) = inr (inl (ap (λ (r : Replied). flat_map reply_text (replies_with r)) is ∙ text_without))
-text_with reply (inr (inr is)) = inr (inr (ap (λ (r : Replied). flat_map reply_text (replies_with r)) is ∙ lost_text))
+text_with reply (inr (inr (inl is))) = inr (inr (inl (ap (λ (r : Replied). flat_map reply_text (replies_with r)) is ∙ lost_text)))
+text_with reply (inr (inr (inr is))) = inr (inr (inr (ap (λ (r : Replied). flat_map reply_text (replies_with r)) is ∙ failed_text)))
 
 text_is : (replies : List Replied) (text : List ℕ) → IsRow replies → text ≡ flat_map reply_text replies → IsRowText text
 text_is replies text row same =
     subst (λ (t : List ℕ). IsRowText t) (sym (same ∙ ap (λ (rs : List Replied). flat_map reply_text rs) row.are)) (text_with row.reply row.said)
 
-row_by : (draws : ℕ → ℕ → ℕ → ℕ) → noise_at 1000000 (draws 0 0) ≡ Some (pos 2) → (replies : List Replied) (last : Journals) → IsScriptRun house draws none_found script replies last → IsRow replies
-row_by draws noise replies last run =
-    subst (λ (rs : List Replied). IsRow rs) run.replied (replies_from draws noise run.exchanges (last 0) (run.turns ∙ turns) run.plain (run.owners 0 owner refl))
-
--- Every transcript of the script is the row, but for want of memory at its second line.
-pub transcript_is : (draws : ℕ → ℕ → ℕ → ℕ) → noise_at 1000000 (draws 0 0) ≡ Some (pos 2) → (text : List ℕ) → IsTranscript house draws none_found script text → IsRowText text
-unfolding IsTranscript IsScriptWritten
-transcript_is draws noise text (last, (replies, run, same)) = text_is replies text (row_by draws noise replies last run) same
+-- Every script that is answered over a journal without records gives the row, but for want of memory or a disk at its second line.
+pub answered_is : (old new : Shelf) (found : Journals) (text : List ℕ) → found 0 ≡ [] → IsScriptAnswered loading zeros old new found script text → IsRowText text
+answered_is old new found text none a =
+    let draws = draws_of zeros in
+    let lead : LeadExactly house draws 0 0 [] a.run.exchanges (a.records 0) =
+    subst (λ (rs : List Record). LeadExactly house draws 0 (first_new rs) rs a.run.exchanges (a.records 0)) none (a.run.owners 0 owner refl) in
+    let closes : ClosesOn house draws 0 None a.run.exchanges (a.closed 0) = a.closes 0 (omega arith) in
+    text_is a.replies text
+    (subst (λ (rs : List Replied). IsRow rs) a.run.replied (replies_from draws noise_is_two a.run.exchanges (a.records 0) (a.closed 0) (a.run.turns ∙ turns) a.run.plain lead closes))
+    a.written

@@ -1,18 +1,54 @@
--- What the status and what is written come to where that script is answered.
-use Rattle.std.proofs.Common.{◌≡◌, ℕ, ◌<◌, List, [], ◌++◌, length, Some, refl, ◌∙◌, ap, subst, arith, length-append}
+-- What the status and what is written come to where that script is answered over a journal that was made and has no records.
+use Rattle.std.proofs.Common.{◌≡◌, ℕ, ◌<◌, List, [], ◌++◌, length, Option, Some, refl, ◌∙◌, ap, subst, arith, length-append}
+use Rattle.std.specs.Prelude.{IfSome}
 use mathlib.Core.Logic.{◌⊎◌, inl, inr}
 use Rattle.fz_outside.specs.Faults.{HasRisen}
-use Rattle.word_streams.specs.Draws.{draws_of}
+use Rattle.budget_journal.specs.Journals.{Stands}
+use Rattle.budget_journal.proofs.One.{stands-one}
+use Rattle.budget_core.specs.Entries.{Entry}
+use Rattle.budget_core.specs.Legal.{IsHistory}
+use Rattle.query_server.proofs.Unopened.{not_refused as never_refused}
+use Rattle.session_core.specs.Transcript.{Journals}
 use Rattle.query_server.specs.Ending.{Ending, to_answer}
 use Rattle.query_server.specs.Run.{IsScriptDue}
-use Rattle.query_server.specs.Due.{IsPrefix, IsWrittenAt}
-use Rattle.query_server.specs.Status.{memory_text, too_long_text}
+use Rattle.query_server.specs.Opened.{AreOpened, IsRefusalDue, IsUnopened, entry_at, name_at}
+use Rattle.query_server.specs.Loaded.{header_of}
+use Rattle.query_server.specs.Shelves.{Shelf, bytes_on}
+use Rattle.query_server.specs.Due.{IsPrefix, IsToWrite, IsStopLine, IsWrittenAt}
+use Rattle.query_server.specs.Status.{disk_text, memory_text}
 use Rattle.query_server.specs.declared.end.Status.{Status}
-use Rattle.query_server.specs.declared.end.Status.TheVariants.{Done, Fault, NoMemory}
-use Rattle.worked_row.proofs.RowDraws.{zeros, noise_is_two}
-use Rattle.worked_row.specs.Row.{script, row, row_without, row_lost, IsRowText}
-use Rattle.worked_row.proofs.RowSteps.{register}
-use Rattle.worked_row.proofs.RowReplies.{transcript_is}
+use Rattle.query_server.specs.declared.end.Status.TheVariants.{Done, Fault, DiskFault, NoMemory}
+use Rattle.worked_row.specs.Held.{IsMade, loading, zeros}
+use Rattle.worked_row.specs.Row.{script, row, row_without, row_lost, row_failed, IsRowText}
+use Rattle.worked_row.proofs.RowReplies.{answered_is}
+
+-- no records are a history
+no_records : (entry : Entry) → IsHistory entry []
+no_records entry = record { follows = λ k next is. absurd (cc is) }
+
+-- it isn't refused
+not_refused : (old new : Shelf) (status : Status) (text : List ℕ) → IsMade old → IsRefusalDue loading zeros old new status text → ⊥
+not_refused old new status text (bytes, told, made) due =
+    let first : due.o ≡ 0 = omega (arith, due.at.known) in
+    let refused : IsUnopened (entry_at loading 0) (header_of loading zeros 0) (bytes_on old 0) due.refusal =
+    subst (λ (o : ℕ). IsUnopened (entry_at loading o) (header_of loading zeros o) (bytes_on old o) due.refusal) first due.at.refused in
+    never_refused (entry_at loading 0) (header_of loading zeros 0) [] bytes due.refusal made (no_records (entry_at loading 0)) (subst (λ (b : Option (List ℕ)). IsUnopened (entry_at loading 0) (header_of loading zeros 0) b due.refusal) told refused)
+
+-- it is opened without records
+none_there : (old : Shelf) (found : Journals) → IsMade old → AreOpened loading zeros old found → found 0 ≡ []
+none_there old found (bytes, told, made) opened =
+    let stands : Stands (header_of loading zeros 0) (found 0) bytes =
+    subst (λ (b : Option (List ℕ)). IfSome b (Stands (header_of loading zeros 0) (found 0))) told (opened 0 (omega arith)).stands in
+    stands-one (header_of loading zeros 0) (found 0) [] bytes stands made
+
+script_length : length script ≡ 39
+script_length = refl
+
+-- so what is due is the row
+due_is : (old new : Shelf) (status : Status) (text : List ℕ) → IsMade old → IsScriptDue loading zeros old new script status text → (status ≡ Done) × IsRowText text
+due_is old new status text made (inl refusal) = absurd (not_refused old new status text made refusal)
+due_is old new status text made (inr (found, opened, inl (done, few, answered))) = (done, answered_is old new found text (none_there old found made opened) answered)
+due_is old new status text made (inr (found, opened, inr (over, many, is, disks))) = absurd (omega (arith, many, script_length))
 
 row_length : length row ≡ 33
 row_length = refl
@@ -23,71 +59,78 @@ without_length = refl
 lost_length : length row_lost ≡ 22
 lost_length = refl
 
+failed_length : length row_failed ≡ 20
+failed_length = refl
+
 memory_length : length memory_text ≡ 7
 memory_length = refl
 
-long_length : length too_long_text ≡ 16
-long_length = refl
+disk_length : length (disk_text (name_at loading 0)) ≡ 12
+disk_length = refl
 
 row_short : (text : List ℕ) → IsRowText text → length text < 64
 row_short text (inl is) = let e : length text ≡ length row = ap length is in omega (arith, row_length)
 row_short text (inr (inl is)) = let e : length text ≡ length row_without = ap length is in omega (arith, without_length)
-row_short text (inr (inr is)) = let e : length text ≡ length row_lost = ap length is in omega (arith, lost_length)
+row_short text (inr (inr (inl is))) = let e : length text ≡ length row_lost = ap length is in omega (arith, lost_length)
+row_short text (inr (inr (inr is))) = let e : length text ≡ length row_failed = ap length is in omega (arith, failed_length)
 
 prefix_short : (text whole : List ℕ) → IsPrefix text whole → length whole < 64 → length text < 64
 prefix_short text whole (rest, is) short =
     let e : length whole ≡ length (text ++ rest) = ap length is in
     omega (arith, length-append text rest)
 
-due_short : (status : Status) (text : List ℕ) → IsScriptDue register zeros script status text → length text < 64
-due_short status text (inl (done, few, is)) = row_short text (transcript_is (draws_of zeros) noise_is_two text is)
-due_short status text (inr (over, many, is)) = let e : length text ≡ length too_long_text = ap length is in omega (arith, long_length)
+stop_short : (status : Status) (text : List ℕ) → IsStopLine (to_answer loading zeros) status text → length text < 64
+stop_short status text (inl (memory, is)) = let e : length text ≡ length memory_text = ap length is in omega (arith, memory_length)
+stop_short status text (inr (disk, (o, few, is))) =
+    let first : o ≡ 0 = omega (arith, few) in
+    let e : length text ≡ length (disk_text (name_at loading 0)) = ap length (is ∙ ap (λ (o : ℕ). disk_text (name_at loading o)) first) in omega (arith, disk_length)
+
+to_write_short : (old new : Shelf) (status : Status) (text : List ℕ) → IsMade old → IsToWrite (to_answer loading zeros) old new script status text → length text < 64
+to_write_short old new status text made (inl due) = row_short text (due_is old new status text made due).1
+to_write_short old new status text made (inr (stop, more)) = stop_short status text stop
 
 -- At any status fewer bytes are written than there is room for.
-pub short : (status : Status) (text : List ℕ) → IsWrittenAt (to_answer register zeros) script status text → length text < 64
-short status text (inl due) = due_short status text due
-short status text (inr (inl (memory, is))) = let e : length text ≡ length memory_text = ap length is in omega (arith, memory_length)
-short status text (inr (inr (fault, inl (other, due, is, prefix)))) = prefix_short text due prefix (due_short other due is)
-short status text (inr (inr (fault, inr prefix))) = prefix_short text memory_text prefix (omega (arith, memory_length))
+pub short : (old new : Shelf) (status : Status) (text : List ℕ) → IsMade old → IsWrittenAt (to_answer loading zeros) old new script status text → length text < 64
+short old new status text made (inl whole) = to_write_short old new status text made whole
+short old new status text made (inr (fault, (other, due, is, prefix))) = prefix_short text due prefix (to_write_short old new other due made is)
 
 -- So a sink that fails only where it is full hasn't failed.
-pub none_failed : (ending : Ending) (status : Status) (text written : List ℕ) (faults : ℕ) → ending ≡ to_answer register zeros → IsWrittenAt ending script status text
+pub none_failed : (ending : Ending) (old new : Shelf) (status : Status) (text written : List ℕ) (faults : ℕ) → IsMade old → ending ≡ to_answer loading zeros → IsWrittenAt ending old new script status text
     → Some written ≡ Some ([] ++ text) → (0 < faults → length written ≡ 64) → faults ≡ 0
-none_failed ending status text written faults due is whole full =
-    let few : length text < 64 = short status text (subst (λ (e : Ending). IsWrittenAt e script status text) due is) in
+none_failed ending old new status text written faults made due is whole full =
+    let few : length text < 64 = short old new status text made (subst (λ (e : Ending). IsWrittenAt e old new script status text) due is) in
     let same : written ≡ text = cc in
     let e : length written ≡ length text = ap length same in
     grind arith
 
-script_length : length script ≡ 39
-script_length = refl
-
--- where nothing fails
-finished_row : (status : Status) (text : List ℕ) → IsWrittenAt (to_answer register zeros) script status text → (status ≡ Fault → ⊥)
-    → (status ≡ NoMemory) ⊎ ((status ≡ Done) × IsRowText text)
-finished_row status text (inl (inl (done, few, is))) sound = inr (done, transcript_is (draws_of zeros) noise_is_two text is)
-finished_row status text (inl (inr (over, many, is))) sound = absurd (omega (arith, many, script_length))
-finished_row status text (inr (inl (memory, is))) sound = inl memory
-finished_row status text (inr (inr (fault, is))) sound = absurd (sound fault)
+-- where files, source and sink don't fail
+finished_row : (old new : Shelf) (status : Status) (text : List ℕ) → IsMade old → IsWrittenAt (to_answer loading zeros) old new script status text → (status ≡ Fault → ⊥)
+    → (status ≡ NoMemory) ⊎ (status ≡ DiskFault) ⊎ ((status ≡ Done) × IsRowText text)
+finished_row old new status text made (inl (inl due)) sound = inr (inr (due_is old new status text made due))
+finished_row old new status text made (inl (inr (inl (memory, is), more))) sound = inl memory
+finished_row old new status text made (inl (inr (inr (disk, is), more))) sound = inr (inl disk)
+finished_row old new status text made (inr (fault, is)) sound = absurd (sound fault)
 
 -- what the sink may hold then
 abbrev IsRowWritten : List ℕ → Type 0
-IsRowWritten written = (Some written ≡ Some row) ⊎ (Some written ≡ Some row_without) ⊎ (Some written ≡ Some row_lost)
+IsRowWritten written = (Some written ≡ Some row) ⊎ (Some written ≡ Some row_without) ⊎ (Some written ≡ Some row_lost) ⊎ (Some written ≡ Some row_failed)
 
 written_row : (text written : List ℕ) → Some written ≡ Some ([] ++ text) → IsRowText text → IsRowWritten written
 written_row text written whole (inl is) = inl (whole ∙ ap Some is)
 written_row text written whole (inr (inl is)) = inr (inl (whole ∙ ap Some is))
-written_row text written whole (inr (inr is)) = inr (inr (whole ∙ ap Some is))
+written_row text written whole (inr (inr (inl is))) = inr (inr (inl (whole ∙ ap Some is)))
+written_row text written whole (inr (inr (inr is))) = inr (inr (inr (whole ∙ ap Some is)))
 
--- Where nothing fails, the row is written or memory is wanting.
-pub finished : (ending : Ending) (status : Status) (text written : List ℕ) → ending ≡ to_answer register zeros → IsWrittenAt ending script status text
+-- Where those don't fail, the row is written, or memory is wanting, or the disk fails at the opening.
+pub finished : (ending : Ending) (old new : Shelf) (status : Status) (text written : List ℕ) → IsMade old → ending ≡ to_answer loading zeros → IsWrittenAt ending old new script status text
     → Some written ≡ Some ([] ++ text) → (status ≡ Fault → ⊥)
-    → (status ≡ NoMemory) ⊎ ((status ≡ Done) × IsRowWritten written)
-finished ending status text written due is whole sound = here (finished_row status text (subst (λ (e : Ending). IsWrittenAt e script status text) due is) sound)
+    → (status ≡ NoMemory) ⊎ (status ≡ DiskFault) ⊎ ((status ≡ Done) × IsRowWritten written)
+finished ending old new status text written made due is whole sound = here (finished_row old new status text made (subst (λ (e : Ending). IsWrittenAt e old new script status text) due is) sound)
   where
-    here : (status ≡ NoMemory) ⊎ ((status ≡ Done) × IsRowText text) → (status ≡ NoMemory) ⊎ ((status ≡ Done) × IsRowWritten written)
+    here : (status ≡ NoMemory) ⊎ (status ≡ DiskFault) ⊎ ((status ≡ Done) × IsRowText text) → (status ≡ NoMemory) ⊎ (status ≡ DiskFault) ⊎ ((status ≡ Done) × IsRowWritten written)
     here (inl none) = inl none
-    here (inr (complete, same)) = inr (complete, written_row text written whole same)
+    here (inr (inl disk)) = inr (inl disk)
+    here (inr (inr (complete, same))) = inr (inr (complete, written_row text written whole same))
 
 -- counts that are 0 haven't risen
 pub none_risen : {P : Type 0} → (before now : ℕ) → before ≡ 0 → now ≡ 0 → HasRisen 0 0 ⊎ (P × HasRisen 0 0) ⊎ HasRisen before now → ⊥

@@ -2,18 +2,16 @@
 use Rattle.std.proofs.Common.{◌≡◌, ℕ, List, [], ◌∷◌, ◌++◌, Option, Some, refl, ap, ◌∙◌}
 use Rattle.std.specs.Prelude.{Result, Ok, Err, ok_or, codes, length, nat_eq, if◌then◌else◌}
 use Rattle.table_store.specs.Table.{table_in_file}
-use Rattle.owner_catalog.specs.Catalog.{catalog_in_file, signature_of}
-use Rattle.answer_path.specs.Owner.{Holding}
-use Rattle.session_core.specs.House.{Register}
+use Rattle.owner_catalog.specs.Catalog.{catalog_in_file}
 use Rattle.query_server.specs.Files.{Contents, always, readable}
 use Rattle.query_server.specs.Steps.{Step, Outcome, from, done, file_read, behind, continued, each, ◌>>=◌}
-use Rattle.query_server.specs.Loaded.{catalog_read, key_read, rows_read, holding_read, loaded, or_refused}
+use Rattle.query_server.specs.Loaded.{catalog_read, key_read, loaded, loading_with, or_refused, owner_read, owner_with, table_read, table_with}
 use Rattle.query_server.specs.Ending.{Ending, to_answer}
 use Rattle.query_server.specs.Run.{run_steps}
 use Rattle.worked_row.specs.Row.{catalog_text, table_text}
-use Rattle.worked_row.proofs.RowCatalog.{catalog, census, people, has_catalog}
-use Rattle.worked_row.proofs.RowDraws.{zeros}
-use Rattle.worked_row.proofs.RowTable.{rows, has_rows}
+use Rattle.worked_row.specs.Held.{catalog, census, loaded_owner, loaded_table, loading, people, rows, zeros}
+use Rattle.worked_row.proofs.RowCatalog.{has_catalog as catalog_is_read}
+use Rattle.worked_row.proofs.RowTable.{has_rows}
 
 -- a step gives this, and the files tell the same as before
 abbrev pub Gives : {A : Type 0} → Step A → Contents → A → Type 0
@@ -44,38 +42,34 @@ one step held x y is =
     goes_on (step x) (λ y. each step [] >>= (λ ys. done (y ∷ ys))) held y (y ∷ []) is
     (goes_on (each step []) (λ ys. done (y ∷ ys)) held [] (y ∷ []) (none step held) (gives held (Ok (y ∷ [])) (y ∷ []) refl))
 
-abbrev pub holding : Holding
-holding = record { tables = signature_of census; rows = rows ∷ [] }
-
-abbrev pub register : Register
-register = record { catalog = catalog; holdings = holding ∷ [] }
-
 abbrev ending : Ending
-ending = to_answer register zeros
+ending = to_answer loading zeros
 
 catalog_given : (held : Contents) → held (codes "cat.json") ≡ Some catalog_text → Gives (catalog_read (codes "cat.json")) held catalog
 catalog_given held has =
     goes_on (file_read (codes "cat.json")) (λ bytes. from (or_refused (codes "cat.json") (catalog_in_file bytes))) held catalog_text catalog
     (reads held (codes "cat.json") catalog_text has refl)
-    (gives held (or_refused (codes "cat.json") (catalog_in_file catalog_text)) catalog (ap (λ read. or_refused (codes "cat.json") read) has_catalog))
+    (gives held (or_refused (codes "cat.json") (catalog_in_file catalog_text)) catalog (ap (λ read. or_refused (codes "cat.json") read) catalog_is_read))
 
-rows_given : (held : Contents) → held (codes "people.csv") ≡ Some table_text → Gives (rows_read people) held rows
-rows_given held has =
-    goes_on (file_read (codes "people.csv")) (λ bytes. from (or_refused (codes "people.csv") (table_in_file people.columns bytes))) held table_text rows
+table_given : (held : Contents) → held (codes "people.csv") ≡ Some table_text → Gives (table_read people) held loaded_table
+table_given held has =
+    goes_on (file_read (codes "people.csv")) (λ bytes. from (or_refused (codes "people.csv") (table_in_file people.columns bytes)) >>= (λ rows. done (table_with rows bytes))) held table_text loaded_table
     (reads held (codes "people.csv") table_text has refl)
+    (goes_on (from (or_refused (codes "people.csv") (table_in_file people.columns table_text))) (λ rows. done (table_with rows table_text)) held rows loaded_table
     (gives held (or_refused (codes "people.csv") (table_in_file people.columns table_text)) rows (ap (λ read. or_refused (codes "people.csv") read) has_rows))
+    (gives held (Ok loaded_table) loaded_table refl))
 
-holding_given : (held : Contents) → held (codes "people.csv") ≡ Some table_text → Gives (holding_read census) held holding
-holding_given held has =
-    goes_on (each rows_read census.tables) (λ rows. done (record { tables = signature_of census; rows = rows })) held (rows ∷ []) holding
-    (one rows_read held people rows (rows_given held has))
-    (gives held (Ok holding) holding refl)
+owner_given : (held : Contents) → held (codes "people.csv") ≡ Some table_text → Gives (owner_read census) held loaded_owner
+owner_given held has =
+    goes_on (each table_read census.tables) (λ tables. done (owner_with census tables)) held (loaded_table ∷ []) loaded_owner
+    (one table_read held people loaded_table (table_given held has))
+    (gives held (Ok loaded_owner) loaded_owner refl)
 
-loaded_given : (held : Contents) → held (codes "people.csv") ≡ Some table_text → Gives (loaded catalog) held register
+loaded_given : (held : Contents) → held (codes "people.csv") ≡ Some table_text → Gives (loaded catalog) held loading
 loaded_given held has =
-    goes_on (each holding_read catalog.owners) (λ holdings. done (record { catalog = catalog; holdings = holdings })) held (holding ∷ []) register
-    (one holding_read held census holding (holding_given held has))
-    (gives held (Ok register) register refl)
+    goes_on (each owner_read catalog.owners) (λ owners. done (loading_with catalog owners)) held (loaded_owner ∷ []) loading
+    (one owner_read held census loaded_owner (owner_given held has))
+    (gives held (Ok loading) loading refl)
 
 key_given : (held : Contents) → held (codes "key") ≡ Some zeros → Gives (key_read (codes "key")) held zeros
 key_given held has =
@@ -84,12 +78,12 @@ key_given held has =
     (gives held (Ok zeros) zeros refl)
 
 pub run_given : (held : Contents) → held (codes "cat.json") ≡ Some catalog_text → held (codes "key") ≡ Some zeros → held (codes "people.csv") ≡ Some table_text
-    → Gives (run_steps (codes "cat.json") (codes "key")) held (to_answer register zeros)
+    → Gives (run_steps (codes "cat.json") (codes "key")) held (to_answer loading zeros)
 run_given held has_catalog has_key has_table =
-    goes_on (catalog_read (codes "cat.json")) (λ house. key_read (codes "key") >>= (λ bytes. loaded house >>= (λ register. done (to_answer register bytes)))) held catalog ending
+    goes_on (catalog_read (codes "cat.json")) (λ house. key_read (codes "key") >>= (λ bytes. loaded house >>= (λ loading. done (to_answer loading bytes)))) held catalog ending
     (catalog_given held has_catalog)
-    (goes_on (key_read (codes "key")) (λ bytes. loaded catalog >>= (λ register. done (to_answer register bytes))) held zeros ending
+    (goes_on (key_read (codes "key")) (λ bytes. loaded catalog >>= (λ loading. done (to_answer loading bytes))) held zeros ending
     (key_given held has_key)
-    (goes_on (loaded catalog) (λ register. done (to_answer register zeros)) held register ending
+    (goes_on (loaded catalog) (λ loading. done (to_answer loading zeros)) held loading ending
     (loaded_given held has_table)
     (gives held (Ok ending) ending refl)))

@@ -24,6 +24,10 @@ row_without = codes "hello ann\nno 90\nbye\n"
 abbrev pub row_lost : List ℕ
 row_lost = codes "hello ann\nno 51 0\nbye\n"
 
+-- and where the owner's disk failed
+abbrev pub row_failed : List ℕ
+row_failed = codes "hello ann\nno 52\nbye\n"
+
 -- what may be written
 abbrev pub IsRowText : List ℕ → Type 0
-IsRowText text = (text ≡ row) ⊎ (text ≡ row_without) ⊎ (text ≡ row_lost)
+IsRowText text = (text ≡ row) ⊎ (text ≡ row_without) ⊎ (text ≡ row_lost) ⊎ (text ≡ row_failed)

@@ -3,11 +3,14 @@
 
 ghost use Rattle.std.specs.Prelude.{◌≡◌, ◌⊎◌, Some, [], ◌∷◌, codes, map, string_bytes, replicate, IfOk};
 ghost use Rattle.fz_outside.specs.Files.{bytes_of};
-ghost use Rattle.worked_row.specs.Row.{catalog_text, table_text, row, row_without, row_lost};
+ghost use Rattle.query_server.specs.Shelves.{AreAtHome};
+ghost use Rattle.worked_row.specs.Held.{IsMade};
+ghost use Rattle.worked_row.specs.Row.{catalog_text, table_text, row, row_without, row_lost, row_failed};
 
 use fz_outside::files::{MemFile, MemFiles};
 use fz_outside::sink::{MemSink, Sink};
 use fz_outside::source::MemSource;
+use outside_bays::bay::Bay;
 use query_server::{Status, run_server};
 use std::alloc::{AllocError, Global};
 
@@ -54,21 +57,25 @@ fn files_of_row() -> [MemFile<'static>; 3]
     ]
 }
 
-/// An analyst asks for the size of a table of three rows. Under a key of zeros the noise is 2, so the answer is 5. These
-/// replies are written, or memory is wanting, for the whole, for the one program, or after its reservation; nothing else can come.
-pub fn row_one(alloc: Global) -> Result<Ran, AllocError>
-    ensures { IfOk result (λ ran. (ran.status ≡ Status.NoMemory)
+/// An analyst asks for the size of a table of three rows, over a journal that was made and has no records. Under a key of zeros
+/// the noise is 2, so the answer is 5. These replies are written; or memory is wanting, for the whole, for the one program, or
+/// after its reservation; or the owner's disk failed, as its journal was opened or as a record was appended; nothing else can come.
+pub fn row_one<B: Bay>(alloc: Global, bay: &mut B) -> Result<Ran, AllocError>
+    requires home { AreAtHome (B.owners bay.old) (B.shelf bay.old) }
+    requires made { IsMade (B.shelf bay.old) }
+    ensures { IfOk result (λ ran. (ran.status ≡ Status.NoMemory) ⊎ (ran.status ≡ Status.DiskFault)
         ⊎ ((ran.status ≡ Status.Done)
         × ((⟦<MemSink<ROOM> as Sink>⟧.contents ran.sink ≡ Some row)
         ⊎ (⟦<MemSink<ROOM> as Sink>⟧.contents ran.sink ≡ Some row_without)
-        ⊎ (⟦<MemSink<ROOM> as Sink>⟧.contents ran.sink ≡ Some row_lost)))) }
+        ⊎ (⟦<MemSink<ROOM> as Sink>⟧.contents ran.sink ≡ Some row_lost)
+        ⊎ (⟦<MemSink<ROOM> as Sink>⟧.contents ran.sink ≡ Some row_failed)))) }
 {
     let words = words_of_row(alloc)?;
     let listed = files_of_row();
     let mut files = MemFiles::new(&listed);
     let mut source = MemSource::new(b"hello ann\nask census 1 size people\nbye\n");
     let mut sink = MemSink::<ROOM>::new(alloc)?;
-    let status = run_server(alloc, &words, &mut files, &mut source, &mut sink);
+    let status = run_server(alloc, &words, &mut files, bay, &mut source, &mut sink);
     // The sink isn't full, so it hasn't failed.
     let faults = sink.faults();
     prove!(faults == 0);

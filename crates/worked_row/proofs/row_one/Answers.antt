@@ -8,20 +8,20 @@ use Rattle.worked_row.proofs.row_one.Goals as goal
 
 -- The sink has room for whatever may be written, so it hasn't failed.
 pub prove-unreachable-requires : goal.prove-unreachable-requires
-prove-unreachable-requires c =
+prove-unreachable-requires g c =
     let held : List ℕ → Option (List ℕ) = bytes_of c.files_of_row-listed.result in
     let named = ap (map string_bytes) c.deref.ensures.value ∙ c.in_ok-words.ensures in
     let due = row_ending (map string_bytes c.deref.result.now) held named c.files_of_row-listed.ensures.catalog c.files_of_row-listed.ensures.key c.files_of_row-listed.ensures.table in
     let exact = c.run_server-status.ensures.exact held script [] c.new-files.ensures.held c.new-source.ensures c.in_ok-sink.ensures.contents in
-    c.if-prove.true (none_failed _ _ exact.0 c.run_server-status.new.sink.bytes.items c.faults-faults.result due exact.2 exact.1 c.faults-faults.ensures.full)
+    c.if-prove.true (none_failed _ _ _ _ exact.0 c.run_server-status.new.sink.bytes.items c.faults-faults.result c.requires.made due exact.2 exact.1 c.faults-faults.ensures.full)
 
 -- Then nothing has, and the transcript is the row.
 pub returns : goal.returns
-returns c =
+returns g c =
     let held : List ℕ → Option (List ℕ) = bytes_of c.files_of_row-listed.result in
     let named = ap (map string_bytes) c.deref.ensures.value ∙ c.in_ok-words.ensures in
     let due = row_ending (map string_bytes c.deref.result.now) held named c.files_of_row-listed.ensures.catalog c.files_of_row-listed.ensures.key c.files_of_row-listed.ensures.table in
     let exact = c.run_server-status.ensures.exact held script [] c.new-files.ensures.held c.new-source.ensures c.in_ok-sink.ensures.contents in
     let zero : c.run_server-status.new.sink.faults ≡ 0 = sym c.faults-faults.ensures.count ∙ c.if-prove.false in
     let sound = λ (is : c.run_server-status.result ≡ Fault). none_risen _ _ c.in_ok-sink.ensures.faults zero (c.run_server-status.ensures.fault is) in
-    finished _ _ exact.0 c.run_server-status.new.sink.bytes.items due exact.2 exact.1 sound
+    finished _ _ _ _ exact.0 c.run_server-status.new.sink.bytes.items c.requires.made due exact.2 exact.1 sound

@@ -1,0 +1,188 @@
+//! Files of journals, byte by byte: those that a stop may have left, and those that are refused.
+
+use crate::held::{AUDIT, INIT, RUN, ran_again};
+use query_server::Status;
+use std::alloc::{AllocError, Global};
+use std::test::Fail;
+
+// The header of the owner census: gate, name, version, owner, budget and capacity; and its digest, by Python's hashlib.
+const HEADER: &[u8; 26] = b"\xA5FUZZBUDG\x01\0\0\0\0\0\0\0\0\0\x98\x96\x80\0\0\0\x64";
+
+const DIGEST: &[u8; 32] =
+    b"\x1c\xa2\x1f\x42\x39\x60\x7f\xc6\x72\x8d\x0f\x04\xe4\x38\x54\x68\x23\xde\x3e\x60\x18\xee\x02\x45\xff\xa1\x20\x11\x8a\xfe\x85\x94";
+
+// A reservation of the whole view at epsilon 1, and the SHA-256 of its program; and its settlement, with the answer 5.
+const RESERVED: &[u8; 32] =
+    b"\xA5\x01\xFF\0\0\0\0\0\0\x0F\x42\x40\0\0\0\x01\0\0\0\x01\0\0\0\0\0\x0F\x42\x40\0\0\0\0";
+
+const PROGRAM: &[u8; 32] =
+    b"\xf2\x67\x09\xab\xda\xb8\xd6\xd5\xcd\xb6\x6b\x3f\x26\x6f\xfa\x51\xb8\x5c\x79\xd8\x69\x75\x6a\x3c\x88\xf7\x9c\x09\x17\x1f\x1f\x40";
+
+const SETTLED: &[u8; 16] = b"\xA5\x02\x01\0\0\0\0\0\0\0\0\0\0\0\0\x05";
+
+// Pieces put over the bytes of a file, at their places.
+type Patches<'a> = &'a [(usize, &'a [u8])];
+
+// A file of so many bytes: these ones with patches over them, and zeros behind.
+fn patched(
+    alloc: Global,
+    whole: &[u8],
+    length: usize,
+    patches: Patches<'_>,
+) -> Result<Vec<u8>, AllocError> {
+    let mut bytes = whole.to_vec(alloc)?;
+    bytes.resize(length, 0)?;
+    for (place, piece) in patches {
+        for (to, from) in bytes.iter_mut().skip(*place).zip(piece.iter()) {
+            *to = *from;
+        }
+    }
+    Ok(bytes)
+}
+
+// What `run` writes where the journal is as row one left it, but for what is changed.
+const SCRIPT: &[u8] = b"left census\nhello ann\nrecall census 0\nask census 1 size people\n";
+
+// Length of the file and what is changed in it; what `audit` writes; and what `run` writes.
+#[rattlefmt::skip]
+const KEPT: [(Patches<'static>, &[u8], &[u8]); 11] = [
+    (&[],
+        b"census reservations 1 answered 1 exhausted 0 lost 0 spent 1000000 budget 10000000\n",
+        b"left 1000000 10000000 2\nhello ann\nrecall 0 answer 5 2\nanswer 1 3 1000000\n"),
+    // a stop behind the reservation's gate: nothing of the settlement, all but its gate, a torn gate
+    (&[(192, &[0; 64])],
+        b"census reservations 1 answered 0 exhausted 0 lost 1 spent 1000000 budget 10000000\n",
+        b"left 1000000 10000000 1\nhello ann\nrecall 0 lost 1\nanswer 1 3 1000000\n"),
+    (&[(192, b"\0")],
+        b"census reservations 1 answered 0 exhausted 0 lost 1 spent 1000000 budget 10000000\n",
+        b"left 1000000 10000000 1\nhello ann\nrecall 0 lost 1\nanswer 1 3 1000000\n"),
+    (&[(192, b"\x25")],
+        b"census reservations 1 answered 0 exhausted 0 lost 1 spent 1000000 budget 10000000\n",
+        b"left 1000000 10000000 1\nhello ann\nrecall 0 lost 1\nanswer 1 3 1000000\n"),
+    // the reservation's gate is torn: it isn't there
+    (&[(128, b"\x25"), (192, &[0; 64])],
+        b"census reservations 0 answered 0 exhausted 0 lost 0 spent 0 budget 10000000\n",
+        b"left 0 10000000 0\nhello ann\nno 60 0 0\nanswer 0 5 1000000\n"),
+    // other settlements, and another analyst
+    (&[(194, b"\x02"), (200, &[0; 8])],
+        b"census reservations 1 answered 0 exhausted 1 lost 0 spent 1000000 budget 10000000\n",
+        b"left 1000000 10000000 2\nhello ann\nrecall 0 exhausted 2\nanswer 1 3 1000000\n"),
+    (&[(194, b"\x03"), (200, &[0; 8])],
+        b"census reservations 1 answered 0 exhausted 0 lost 1 spent 1000000 budget 10000000\n",
+        b"left 1000000 10000000 2\nhello ann\nrecall 0 lost 2\nanswer 1 3 1000000\n"),
+    (&[(200, &[255; 8])],
+        b"census reservations 1 answered 1 exhausted 0 lost 0 spent 1000000 budget 10000000\n",
+        b"left 1000000 10000000 2\nhello ann\nrecall 0 answer -1 2\nanswer 1 3 1000000\n"),
+    (&[(157, b"\x01")],
+        b"census reservations 1 answered 1 exhausted 0 lost 0 spent 1000000 budget 10000000\n",
+        b"left 1000000 10000000 2\nhello ann\nno 61 0 2\nanswer 1 3 1000000\n"),
+    // another program was asked: nobody compares it
+    (&[(160, &[7; 32])],
+        b"census reservations 1 answered 1 exhausted 0 lost 0 spent 1000000 budget 10000000\n",
+        b"left 1000000 10000000 2\nhello ann\nrecall 0 answer 5 2\nanswer 1 3 1000000\n"),
+    // what stands behind a closed gate doesn't count
+    (&[(257, &[255; 63])],
+        b"census reservations 1 answered 1 exhausted 0 lost 0 spent 1000000 budget 10000000\n",
+        b"left 1000000 10000000 2\nhello ann\nrecall 0 answer 5 2\nanswer 1 3 1000000\n"),
+];
+
+// The line of each file that is refused.
+#[rattlefmt::skip]
+const REFUSED: [(usize, Patches<'static>, &[u8]); 33] = [
+    (0, &[], b"journal census uninitialised 0\n"),
+    (127, &[], b"journal census uninitialised 127\n"),
+    (6528, &[(0, b"\0")], b"journal census uninitialised 6528\n"),
+    (6528, &[(0, b"\x25")], b"journal census uninitialised 6528\n"),
+    // the header, before the slots: name, version, owner, budget, capacity, zeros, digest, zeros
+    (6528, &[(1, b"f"), (128, b"\0")], b"journal census changed\n"),
+    (6528, &[(9, b"\x02")], b"journal census changed\n"),
+    (6528, &[(13, b"\x01")], b"journal census changed\n"),
+    (6528, &[(21, b"\x81")], b"journal census changed\n"),
+    (6528, &[(25, b"\x65")], b"journal census changed\n"),
+    (6528, &[(26, b"\x01")], b"journal census changed\n"),
+    (6528, &[(95, b"\0")], b"journal census changed\n"),
+    (6528, &[(127, b"\x01")], b"journal census changed\n"),
+    // slots that aren't wholly there, or are too many
+    (128, &[], b"journal census damaged 0\n"),
+    (319, &[], b"journal census damaged 2\n"),
+    (6527, &[], b"journal census damaged 99\n"),
+    (6529, &[], b"journal census damaged 100\n"),
+    (6592, &[(128, b"\0")], b"journal census damaged 1\n"),
+    // an open slot behind a closed one
+    (6528, &[(128, b"\0")], b"journal census damaged 1\n"),
+    (6528, &[(192, b"\0"), (256, b"\xA5")], b"journal census damaged 2\n"),
+    // slots that are open and no record: kind, outcome, an answer that is none, zeros, epsilon, a fraction that isn't in lowest terms
+    (6528, &[(129, b"\x03")], b"journal census damaged 0\n"),
+    (6528, &[(194, b"\x04")], b"journal census damaged 1\n"),
+    (6528, &[(194, b"\x02")], b"journal census damaged 1\n"),
+    (6528, &[(255, b"\x01")], b"journal census damaged 1\n"),
+    (6528, &[(136, &[0; 4])], b"journal census damaged 0\n"),
+    (6528, &[(143, b"\x02"), (147, b"\x02")], b"journal census damaged 0\n"),
+    (6528, &[(256, b"\xA5")], b"journal census damaged 2\n"),
+    // records that may not follow: part, number, what it took, analyst, over the budget, of no reservation, settled twice
+    (6528, &[(130, b"\0")], b"journal census damaged 0\n"),
+    (6528, &[(135, b"\x01")], b"journal census damaged 0\n"),
+    (6528, &[(155, b"\x41")], b"journal census damaged 0\n"),
+    (6528, &[(157, b"\x02")], b"journal census damaged 0\n"),
+    (6528, &[(136, b"\x3B\x9A\xCA\0"), (152, b"\x3B\x9A\xCA\0")], b"journal census damaged 0\n"),
+    (6528, &[(199, b"\x01")], b"journal census damaged 1\n"),
+    (6528, &[(256, SETTLED)], b"journal census damaged 2\n"),
+];
+
+// Its bytes are as the format says, whatever is behind it; and what other files are read as.
+#[test]
+fn files_of_journals(rt: HostRuntime) -> Result<(), Fail> {
+    let alloc = rt.alloc();
+    let made = ran_again(alloc, &[], INIT, b"")?;
+    let whole = ran_again(
+        alloc,
+        &made.first,
+        RUN,
+        b"hello ann\nask census 1 size people\nbye\n",
+    )?;
+    let due: [(usize, &'static [u8]); 5] = [
+        (0, HEADER),
+        (64, DIGEST),
+        (128, RESERVED),
+        (160, PROGRAM),
+        (192, SETTLED),
+    ];
+    assert!(rt; whole.first.as_slice() == patched(alloc, &[], 6528, &due)?.as_slice());
+    for (patches, counts, replies) in KEPT {
+        let bytes = patched(alloc, &whole.first, 6528, patches)?;
+        let counted = ran_again(alloc, &bytes, AUDIT, b"")?;
+        assert!(rt;
+            counted.out.as_slice() == counts,
+            "{patches:?} {:?}",
+            counted.out
+        );
+        assert!(rt; counted.first.as_slice() == bytes.as_slice(), "{patches:?}");
+        let asked = ran_again(alloc, &bytes, RUN, SCRIPT)?;
+        assert!(rt;
+            asked.out.as_slice() == replies,
+            "{patches:?} {:?}",
+            asked.out
+        );
+    }
+    for (length, patches, line) in REFUSED {
+        let bytes = patched(alloc, &whole.first, length, patches)?;
+        for words in [AUDIT, RUN] {
+            let refused = ran_again(alloc, &bytes, words, SCRIPT)?;
+            assert_eq!(rt;
+                refused.status,
+                Status::JournalRefused,
+                "{length} {patches:?}"
+            );
+            assert!(rt;
+                refused.out.as_slice() == line,
+                "{length} {patches:?} {:?}",
+                refused.out
+            );
+            assert!(rt;
+                refused.first.as_slice() == bytes.as_slice(),
+                "{length} {patches:?}"
+            );
+        }
+    }
+    Ok(())
+}

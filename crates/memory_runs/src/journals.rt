@@ -1,0 +1,106 @@
+//! The disks of sixteen owners in memory, on which one command follows another.
+
+ghost use Rattle.query_server.specs.Shelves.{AreAtHome};
+
+use crate::{ROOM, words_of};
+use fz_outside::files::{Files, MemFile, MemFiles};
+use fz_outside::sink::{MemSink, Sink};
+use fz_outside::source::{MemSource, Source};
+use outside_bays::bay::Bay;
+use outside_bays::memory::MemBay;
+use outside_disks::memory::{Limits, MemDisk};
+use query_server::{Status, run_server};
+use std::alloc::{AllocError, Global};
+
+/// How much a disk of a test takes: a journal of up to 126 records.
+pub const LARGE: Limits = Limits {
+    length: 8_192,
+    calls: 4_096,
+    written: 65_536,
+};
+
+/// How much a disk takes on which little is done: a journal of up to 14 records.
+pub const SMALL: Limits = Limits {
+    length: 1_024,
+    calls: 512,
+    written: 8_192,
+};
+
+/// The disks of sixteen owners, at home in a bay.
+#[derive(Drop)]
+pub struct Journals<B: Bay> {
+    bay: B,
+    ghost home: { AreAtHome (B.owners bay) (B.shelf bay) },
+}
+
+impl<B: Bay + Drop> Journals<B> {
+    /// How the command of these words ends over these files and this source, and what it writes.
+    pub fn ran(
+        &mut self,
+        alloc: Global,
+        texts: &[&str],
+        held: &[MemFile<'_>],
+        script: &[u8],
+    ) -> Result<(Status, Vec<u8>), AllocError> {
+        let words = words_of(alloc, texts)?;
+        let mut files = MemFiles::new(held);
+        let mut source = MemSource::new(script);
+        let mut sink = MemSink::<ROOM>::new(alloc)?;
+        let status = self.ran_over(alloc, &words, &mut files, &mut source, &mut sink);
+        Ok((status, sink.bytes().to_vec(alloc)?))
+    }
+
+    /// How the command of these words ends over these files, this source and this sink.
+    pub fn ran_over<F: Files, S: Source, K: Sink>(
+        &mut self,
+        alloc: Global,
+        words: &[String],
+        files: &mut F,
+        source: &mut S,
+        sink: &mut K,
+    ) -> Status {
+        run_server(alloc, words, files, &mut self.bay, source, sink)
+    }
+
+    /// The bay.
+    pub fn into_bay(self) -> B
+        ensures home { AreAtHome (B.owners result) (B.shelf result) }
+    {
+        self.bay
+    }
+
+    /// The disks of owners 0 and 1, where the bay gives them.
+    pub fn into_disks(self) -> Option<(B::D, B::D)> {
+        let mut bay = self.bay;
+        let first = bay.take(0).ok()?;
+        let second = bay.take(1).ok()?;
+        Some((first, second))
+    }
+}
+
+/// A bay in memory.
+pub type MemJournals<'a> = Journals<MemBay<'a, MemDisk<'a>>>;
+
+/// These disks for owners 0 and 1, and empty ones for the others; and which calls of the bay fail.
+#[tactic(auto, using(crate::proofs::Bays::one_more, crate::proofs::Bays::at_home))]
+pub fn journals_on<'a>(
+    alloc: Global,
+    first: MemDisk<'a>,
+    second: MemDisk<'a>,
+    failing: &'a [u64],
+) -> Result<MemJournals<'a>, AllocError> {
+    let mut disks = vec![in alloc; Some(first), Some(second)]?;
+    for _ in 2..16_usize {
+        disks.push(Some(MemDisk::new(alloc, &[], SMALL, &[])?))?;
+    }
+    Ok(Journals {
+        bay: MemBay::new(disks, failing),
+    })
+}
+
+/// Empty disks, the first of them a large one.
+pub fn empty_journals(alloc: Global) -> Result<MemJournals<'static>, AllocError> {
+    let first = MemDisk::new(alloc, &[], LARGE, &[])?;
+    let second = MemDisk::new(alloc, &[], SMALL, &[])?;
+    journals_on(alloc, first, second, &[])
+}
