@@ -26,7 +26,7 @@ asked() {
     local said=$1
     [[ $1 != "answer "* ]] || said="ok $3"
     printf 'hello ann\nask census 1 %s\n' "$2" >lines
-    "$program" run cat.json key <lines >output 2>errors
+    afresh cat.json key <lines >output 2>errors
     status=$?
     judge "ask ${2:0:35}" 0 "hello ann/$1/"
     printf '%s' "$2" >text
@@ -42,7 +42,7 @@ unions="let a = union people people in let b = union a a in let c = union b b in
 # lines STATUS OUTPUT TEXT: a script of this text, with printf's escapes.
 lines() {
     printf "$3" >lines
-    "$program" run cat.json key <lines >output 2>errors
+    afresh cat.json key <lines >output 2>errors
     status=$?
     judge "script '$3'" "$1" "$2"
 }
@@ -214,24 +214,24 @@ asked "answer 0 6 1000000" '(size people + 1)' 1
 asked "answer 0 4 1000000" 'size (filter (fn (x : num) => x <= 30) people)' 1
 long=$(head -c 16384 /dev/zero | tr '\0' a)
 printf '%s\n%sa\n' "$long" "$long" >lines
-"$program" run cat.json key <lines >output 2>errors
+afresh cat.json key <lines >output 2>errors
 status=$?
 judge "lines of 16,384 and 16,385 bytes" 0 'no 10 0/no 11/'
-"$program" run cat.json key </dev/zero >output 2>errors
+afresh cat.json key </dev/zero >output 2>errors
 status=$?
 judge "a script without end" 8 'script too long/'
-"$program" run cat.json key <. >output 2>errors
+afresh cat.json key <. >output 2>errors
 status=$?
 judge "standard input is a folder" 5 ''
-"$program" run cat.json key <&- >output 2>errors
+afresh cat.json key <&- >output 2>errors
 status=$?
 judge "standard input is closed" 5 ''
 
 : >output
-"$program" run cat.json key <script 2>errors >&-
+afresh cat.json key <script 2>errors >&-
 status=$?
 judge "standard output is closed" 5 ''
-"$program" run cat.json key <script 2>errors >/dev/full
+afresh cat.json key <script 2>errors >/dev/full
 status=$?
 judge "standard output is full" 5 ''
 "$program" run nobody key <script 2>errors >/dev/full
@@ -241,7 +241,7 @@ judge "a refusal, standard output is full" 5 ''
 status=$?
 judge "usage, standard output is full" 5 ''
 yes bye | head -c 16000000 >lines
-"$program" run cat.json key <lines 2>errors | head -n 1 >output
+afresh cat.json key <lines 2>errors | head -n 1 >output
 status=${PIPESTATUS[0]}
 judge "the reader of standard output goes" 5 'bye/'
 exit $passed

@@ -34,8 +34,11 @@ over() {
 
 # script NAME COUNT EPSILON PROGRAM: the script NAME, of so many asks of this program.
 script() { { echo "hello ann"; for ((ask = 0; ask < $2; ask++)); do echo "ask census $3 $4"; done; } >"$1"; }
-# spend CATALOG NAME: runs the script NAME and keeps its seconds.
-spend() { { time "$program" run "$1" key <"$2" >"$2.output"; } 2>>"$2.times"; }
+# spend CATALOG NAME: runs the script NAME over new journals and keeps its seconds.
+spend() {
+    renew "$1" key
+    { time "$program" run "$1" key <"$2" >"$2.output"; } 2>>"$2.times"
+}
 # least NAME: the seconds that the script NAME took, the least of the rounds.
 least() { awk '{ used = $1 + $2; if (NR == 1 || used < least) least = used } END { print least }' "$1.times"; }
 # query TEXT: keeps the processor time that sqlite3 takes for the query, by query, and what it answers.
@@ -57,7 +60,10 @@ print(int(sys.argv[3]) - noise(millionths(sys.argv[2].encode()), key_draws(bytes
 END
 }
 # peak NAME: the script NAME run once, the most memory it takes in KiB.
-peak() { /usr/bin/time -f %M "$program" run "$held" key <"$1" 2>&1 >/dev/null | tail -n 1; }
+peak() {
+    renew "$held" key
+    /usr/bin/time -f %M "$program" run "$held" key <"$1" 2>&1 >/dev/null | tail -n 1
+}
 # bar NAME FIGURE BAR VERDICT: a row.
 bar() {
     printf '%-34s %22s %22s   %s\n' "$1" "$2" "$3" "$4"
@@ -126,6 +132,7 @@ long_run() {
 ends() {
     local status said verdict=MISSED
     { echo "hello ann"; echo "ask census 0.01 $5"; echo "ask census 1 size people"; } >limited
+    renew "$2" key
     (ulimit "$3" "$4" && exec "$program" run "$2" key <limited >limited.output 2>&1)
     status=$?
     said=$(sed -n 2p limited.output | cut -c1-20)

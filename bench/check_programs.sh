@@ -12,6 +12,8 @@ need_program
 need_tool /usr/bin/time time
 make_room
 printf 'age\n20\n30\n40\n' >people.csv
+renew cat.json key
+cp journals/0.bud empty.bud
 runs=4
 bar=10000
 TIMEFORMAT='%U %S'
@@ -52,7 +54,7 @@ spend() {
     shift
     for ((round = 0; round < rounds; round++)); do
         for name in "$@"; do
-            { time for ((run = 0; run < runs; run++)); do "$program" run cat.json key <"$name" >"$name.output"; done; } 2>>"$name.times"
+            { time for ((run = 0; run < runs; run++)); do cp empty.bud journals/0.bud && "$program" run cat.json key <"$name" >"$name.output"; done; } 2>>"$name.times"
             [ "$(wc -l <"$name.output")" = $((lines + 1)) ] || { echo "another number of replies than of lines" >&2; exit 1; }
         done
     done

@@ -68,6 +68,17 @@ make_room() {
     catalog cat.json people.csv
 }
 
+# renew CATALOG KEY: this folder's journals are made anew, and hold no records. Where the files are refused there are none.
+renew() {
+    rm -rf journals
+    "$program" init "$1" "$2" </dev/null >made 2>&1
+}
+# afresh CATALOG KEY: a run over new journals, on this function's standard input.
+afresh() {
+    renew "$@"
+    "$program" run "$@"
+}
+
 # measure NAME COMMAND..: runs the command on this script's standard input, and prints a row.
 # Its standard output goes to the file output, its status to the variable status.
 measure() {
@@ -90,8 +101,9 @@ judge() {
     [ "$status" = "$2" ] && [ "$found" = "$3" ] && [ ! -s errors ] || { verdict="WRONG, wanted $2 $3"; passed=1; }
     printf '%-40s %3s  %s  %s\n' "$1" "$status" "${found:0:60}" "$verdict"
 }
-# words NAME STATUS OUTPUT WORD..: the example's script under these words.
+# words NAME STATUS OUTPUT WORD..: the example's script under these words; a run goes over new journals.
 words() {
+    if [ $# = 6 ] && [ "$4" = run ]; then renew "$5" "$6"; fi
     "$program" "${@:4}" <script >output 2>errors
     status=$?
     judge "$1" "$2" "$3"

@@ -16,6 +16,7 @@ from fractions import Fraction
 TOP = os.path.dirname(os.path.dirname(os.path.abspath(__file__)))
 PROGRAM = os.path.abspath(os.environ.get("PROGRAM", f"{TOP}/out/hitchseason"))
 sys.path.insert(0, f"{TOP}/tools")
+from afresh import run_afresh  # noqa: E402
 from catalog import census  # noqa: E402
 
 BUDGET, CAPACITY, MOST_DRAWS = 10_000_000, 100, 4096
@@ -139,7 +140,7 @@ def main():
             with open(f"{room}/people.csv", "w") as file:
                 file.write("age\n" + "".join(f"{rng.randint(-(2**50), 2**50)}\n" for _ in range(rows)))
             script = "hello ann\n" + "".join(f"ask census {written(it, rng)} size people\n" for it in epsilons)
-            ran = subprocess.run([PROGRAM, "run", "cat.json", "key"], input=script.encode(), capture_output=True, cwd=room)
+            ran = run_afresh(PROGRAM, "cat.json", "key", script.encode(), room)
             wanted = list(replies(key, rows, epsilons))
             if ran.returncode != 0 or ran.stdout.decode().splitlines() != wanted:
                 print(f"run {run}: key {key.hex()}, {rows} rows, status {ran.returncode}")

@@ -19,6 +19,7 @@ from math import ceil
 TOP = os.path.dirname(os.path.dirname(os.path.abspath(__file__)))
 PROGRAM = os.path.abspath(os.environ.get("PROGRAM", f"{TOP}/out/hitchseason"))
 sys.path.insert(0, f"{TOP}/tools")
+from afresh import run_afresh  # noqa: E402
 from programs import Node, Refused, sensitivity_text  # noqa: E402
 from random_programs import CATALOG, TABLES, program_of  # noqa: E402
 from runs import asked  # noqa: E402
@@ -84,7 +85,7 @@ class Comparison:
             self.count(want, term, r)
         fits = [it for it, program in enumerate(programs) if wanted[it][1] and fits_a_line(program)]
         script = b"hello ann\n" + b"".join(b"ask census 1000 " + programs[it] + b"\n" for it in fits)
-        ran = subprocess.run([PROGRAM, "run", "cat.json", "key"], input=script, capture_output=True, cwd=self.room)
+        ran = run_afresh(PROGRAM, "cat.json", "key", script, self.room)
         lines = ran.stdout.decode().splitlines()[1:]
         if ran.returncode or len(lines) != len(fits):
             self.differ(f"run, status {ran.returncode}", b"", f"{len(lines)} replies", len(fits))

@@ -22,6 +22,7 @@ from math import ceil
 TOP = os.path.dirname(os.path.dirname(os.path.abspath(__file__)))
 PROGRAM = os.path.abspath(os.environ.get("PROGRAM", f"{TOP}/out/hitchseason"))
 sys.path.insert(0, f"{TOP}/tools")
+from afresh import renew  # noqa: E402
 from programs import RULES, Refused, sensitivity_text  # noqa: E402
 from random_programs import CATALOG, TABLES, accepted_of  # noqa: E402
 from reference import BUDGET, CAPACITY, Exhausted, key_draws, noise  # noqa: E402
@@ -191,6 +192,7 @@ class Room:
         self.file("key", script.key)
         self.file("people.csv", b"age\n" + b"".join(b"%d\n" % row for row in script.rows["people"]))
         self.file("stays.csv", b"ward,nights\n" + b"".join(quoted(ward) + b",%d\n" % nights for ward, nights in script.rows["stays"]))
+        renew(PROGRAM, "cat.json", "key", self.folder)
         status, lines = self.run(["run", "cat.json", "key"], b"\n".join(script.lines) + b"\n")
         for case, found, want in zip(script.cases, lines[1:], script.replies[1:]):
             if found != want:

@@ -8,6 +8,7 @@ need_tool /usr/bin/time time
 make_room
 
 printf 'age\n20\n30\n40\n' >people.csv
+renew cat.json key
 longest=$((1 << 24))
 head -c "$longest" /dev/zero | tr '\0' '\n' >longest
 head -c $((longest + 1)) /dev/zero | tr '\0' '\n' >longer

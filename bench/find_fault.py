@@ -12,6 +12,7 @@ import tempfile
 TOP = os.path.dirname(os.path.dirname(os.path.abspath(__file__)))
 PROGRAM = os.path.abspath(os.environ.get("PROGRAM", f"{TOP}/out/hitchseason"))
 sys.path.insert(0, f"{TOP}/tools")
+from afresh import run_afresh  # noqa: E402
 from catalog import OWNER, PARTITION, TABLE, changed  # noqa: E402
 
 GOOD_TABLE = "town,age\nA,20\nB,30\n"
@@ -89,7 +90,7 @@ class Trial:
         if not first.startswith(want) or ran.returncode != (1 if want else 0) or ran.stderr:
             self.differ(f"{ran.returncode} {first} {ran.stderr}", want)
         if not self.alone:
-            ran = subprocess.run([PROGRAM, "run", "catalog.json", "key"], input=b"", capture_output=True, cwd=self.room)
+            ran = run_afresh(PROGRAM, "catalog.json", "key", b"", self.room)
             said = f"{want.split(':')[0]}\n" if want else ""
             if ran.stdout.decode() != said or ran.returncode != (3 if want else 0):
                 self.differ(f"the program: {ran.returncode} {ran.stdout}", said)

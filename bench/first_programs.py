@@ -136,6 +136,11 @@ class Trial:
         ran = subprocess.run([PROGRAM, *words], input=script.encode(), capture_output=True, cwd=TOP)
         self.compare(what, ran.stdout.decode(), want)
 
+    def by_run(self, script, want):
+        """A script over new journals, which are in a folder of their own."""
+        ran = subprocess.run([f"{TOP}/tools/afresh", CATALOG, KEY], input=script.encode(), capture_output=True, cwd=TOP, env={**os.environ, "PROGRAM": PROGRAM})
+        self.compare("run", ran.stdout.decode(), want)
+
     def tables(self):
         with tempfile.TemporaryDirectory() as room:
             subprocess.run([f"{TOP}/tools/make_survey", room], check=True)
@@ -181,7 +186,7 @@ def main():
             subprocess.run([f"{TOP}/tools/build"], check=True)
         trial.checks(house, [("labour", program[0]) for program in programs] + [(row[3], program_of(row)) for row in rows])
         for script in (page_script(programs), survey_script(rows), text_of(f"{SURVEY}/first")):
-            trial.by_program(["run", CATALOG, KEY], script, "run", house.replies(script))
+            trial.by_run(script, house.replies(script))
         trial.commands(house, rows)
     if page.count("```program") != len(programs):
         trial.compare("the number of lines behind blocks", str(len(programs)), str(page.count("```program")))

@@ -95,7 +95,7 @@ class Trial:
         self.ask("ask", script, CATALOG, transcript(script, self.house))
 
     def ask(self, what, script, catalog, want):
-        ran = subprocess.run([PROGRAM, "run", catalog, KEY], input=script, capture_output=True, cwd=TOP)
+        ran = subprocess.run([f"{TOP}/tools/afresh", catalog, KEY], input=script, capture_output=True, cwd=TOP, env={**os.environ, "PROGRAM": PROGRAM})
         if ran.stdout.decode() != want:
             self.differ(what, script.decode(), ran.stdout.decode().splitlines(), want.splitlines())
 

@@ -18,6 +18,7 @@ catalog table.json table.csv
 of() { head -c "$2" /dev/zero | tr '\0' "$1"; }
 # run NAME CATALOG SCRIPT: prints a row and how it ended.
 run() {
+    renew "$2" key
     measure "$1" "$program" run "$2" key <"$3"
     echo "    status $status, $(wc -l <output) lines, the last: $(tail -n 1 output)"
 }

@@ -9,6 +9,8 @@ rounds=${1:-5}
 need_program
 make_room
 printf 'age\n20\n30\n40\n' >people.csv
+renew cat.json key
+cp journals/0.bud empty.bud
 lines=1000
 runs=4
 bar=5000
@@ -31,7 +33,7 @@ spend() {
     local round run name
     for ((round = 0; round < rounds; round++)); do
         for name in "$@"; do
-            { time for ((run = 0; run < runs; run++)); do "$program" run cat.json key <"$name" >"$name.output"; done; } 2>>"$name.times"
+            { time for ((run = 0; run < runs; run++)); do cp empty.bud journals/0.bud && "$program" run cat.json key <"$name" >"$name.output"; done; } 2>>"$name.times"
             [ "$(wc -l <"$name.output")" = $((lines + 1)) ] || { echo "another number of replies than of lines" >&2; exit 1; }
         done
     done

@@ -32,18 +32,22 @@ judge() {
 # The kit's refusals: the build is made anew for each number.
 by_try() {
     local first=$1 last=$2 in_a_row=0 output number status
+    take_quick_program
+    make_room
+    cp "$top"/crates/hitchseason/data/{cat.json,people.csv} "$example/key" .
+    renew cat.json key
     cd "$top/crates/hitchseason" || exit 2
     for ((number = first; number <= last && in_a_row < 5; number++)); do
         output=$(rt try --fail-alloc "$number" --data cat.json=data/cat.json --data people.csv=data/people.csv --data key="$example/key" \
-            -- run cat.json key <"$example/script" 2>/dev/null)
+            --data journals/0.bud="$room/journals/0.bud" -- run cat.json key <"$example/script" 2>/dev/null)
         status=$?
         judge "$number" "$status" "$output"
         if [ "$status" = 0 ]; then in_a_row=$((in_a_row + 1)); else in_a_row=0; fi
     done
 }
 
-# A run of the proved program with the refusals that the environment names.
-refuse() { env "$@" LD_PRELOAD="$room/refuse.so" "$program" run cat.json key <"$example/script"; }
+# A run of the proved program over new journals, with the refusals that the environment names.
+refuse() { renew cat.json key; env "$@" LD_PRELOAD="$room/refuse.so" "$program" run cat.json key <"$example/script"; }
 
 by_malloc() {
     local count number
@@ -70,16 +74,21 @@ is_spared() {
         { differs += $0 != wanted[FNR] && ($0 != "no 90" || wanted[FNR] !~ /^(no|answer) /) && $0 != lost[FNR] }
         END { exit differs > 0 || FNR != lines }' wanted output
 }
+# new_journals WORD..: before a run, the journals are made anew.
+new_journals() { if [ $# = 3 ] && [ "$1" = run ]; then renew "$2" "$3"; fi; }
 # turns NAME SCRIPT WORD..: each allocation of this run refused in turn, alone and with all later ones. Each run must
 # end with status 7 and the line 'memory', or as it ends with none refused, but that replies to asks may be 'no 90' or 'no 51'.
 turns() {
     local name=$1 script=$2 count number all right=0 ninety=0 want
     shift 2
+    new_journals "$@"
     "$program" "$@" <"$script" >wanted
     want=$?
+    new_journals "$@"
     count=$(env TELL=1 LD_PRELOAD="$room/refuse.so" "$program" "$@" <"$script" 2>&1 >/dev/null)
     for all in "" REFUSE_ALL=1; do
         for ((number = 1; number <= count; number++)); do
+            new_journals "$@"
             env REFUSE="$number" $all LD_PRELOAD="$room/refuse.so" "$program" "$@" <"$script" >output 2>&1
             status=$?
             if [ "$status" = "$want" ] && cmp -s output wanted; then

@@ -18,6 +18,7 @@ from math import ceil
 TOP = os.path.dirname(os.path.dirname(os.path.abspath(__file__)))
 PROGRAM = os.path.abspath(os.environ.get("PROGRAM", f"{TOP}/crates/hitchseason/out/hitchseason"))
 sys.path.insert(0, f"{TOP}/tools")
+from afresh import renew  # noqa: E402
 from catalog import census  # noqa: E402
 from programs import Refused  # noqa: E402
 from reference import BUDGET, ROWS, Server, key_words, millionths, with_rows  # noqa: E402
@@ -50,14 +51,15 @@ def ask_is(server, line, found):
         return "no 90"
     _, _, epsilon, program = line.split(b" ", 3)
     owner = server.owners[b"census"]
-    if found == f"no 51 {owner.number}":
+    if found == f"no 51 {len(owner.reservations)}":
         try:
             cost = ceil(asked(program)[1] * millionths(epsilon))
         except Refused:
             raise Wrong("no 51 of a refused program") from None
         if owner.spent + cost > BUDGET:
             raise Wrong("no 51 over the budget")
-        owner.spent, owner.records, owner.number = owner.spent + cost, owner.records + 2, owner.number + 1
+        owner.spent, owner.records = owner.spent + cost, owner.records + 2
+        owner.reservations.append((server.who, "lost"))
         return "no 51"
     want = server.reply(line)
     if found != want:
@@ -91,6 +93,7 @@ class Room:
         subprocess.run(words, check=True)
 
     def run(self, script, **refusals):
+        renew(PROGRAM, "cat.json", "key", self.folder)
         given = {**os.environ, "LD_PRELOAD": f"{self.folder}/refuse.so", **refusals}
         ran = subprocess.run([PROGRAM, "run", "cat.json", "key"], input=script, capture_output=True, cwd=self.folder, env=given)
         return ran.returncode, ran.stdout.decode("latin-1"), ran.stderr.decode("latin-1")

@@ -29,6 +29,7 @@ beside() {
     : >theirs_wall
     print_head
     for ((round = 1; round <= rounds; round++)); do
+        renew "$2" key
         measure "run $2 key" "$program" run "$2" key <script
         if [ "$status" != 0 ] || [ "$(grep -c '^answer ' output)" != 10 ]; then
             echo "the program ended with status $status and this output:" >&2
@@ -42,7 +43,7 @@ beside() {
         echo "$wall" >>theirs_wall
     done
     echo "sqlite3 counts $(sqlite3 :memory: '.mode csv' ".import $3 t" 'select count(*) from t') rows; the replies, the same in each round:"
-    "$program" run "$2" key <script | head -n 3
+    afresh "$2" key <script | head -n 3
     echo "median wall: $(median ours_wall) s beside sqlite3's $(median theirs_wall) s, bar $4 times faster"
     echo "greatest peak: $worst KiB, bar $bar KiB"
     [ "$worst" -le "$bar" ] || { echo "over the memory bar"; passed=1; }

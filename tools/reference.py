@@ -114,12 +114,29 @@ def millionths(text):
     return int(value * 10**6) if 0 < value <= 1000 else None
 
 
+def whole_number(text):
+    """A number of 1 to 10 digits below 2^32, or None."""
+    if not 1 <= len(text) <= 10 or any(b not in b"0123456789" for b in text):
+        return None
+    return int(text) if int(text) < 2**32 else None
+
+
 class Owner:
-    """An owner's entry, tables and rows, and what was charged and recorded."""
+    """An owner's entry, tables and rows, and what was charged and recorded: of each reservation who made it, and what became of it."""
 
     def __init__(self, entry, rows):
         self.entry, self.rows, self.tables = entry, rows, signature(entry)
-        self.spent = self.records = self.number = 0
+        self.spent = self.records = self.start = 0
+        self.reservations = []
+
+    def goes_on(self, spent, records, reservations):
+        """From here on a later run is answered, behind so many records. A reservation is who made it, and its standing or None."""
+        self.spent, self.records, self.reservations = spent, records, list(reservations)
+        self.start = len(self.reservations)
+
+    def standing(self, number):
+        said = self.reservations[number][1]
+        return said or ("open" if number >= self.start else "lost")
 
 
 class House:
@@ -164,12 +181,45 @@ class Server:
             return self.hello(words)
         if kind == b"ask":
             return self.ask(line.split(b" ", 3))
+        if kind == b"recall":
+            return self.recall(words)
+        if kind == b"left":
+            return self.left(words)
         if kind == b"bye":
             if len(words) > 1:
                 return "no 10 1"
             self.who = None
             return "bye"
         return "no 10 0"
+
+    def recall(self, words):
+        if len(words) < 2 or words[1] == b"":
+            return "no 10 1"
+        number = whole_number(words[2]) if len(words) > 2 else None
+        if number is None:
+            return "no 10 2"
+        if len(words) > 3:
+            return "no 10 3"
+        if words[1] not in self.owners:
+            return "no 12 1"
+        if self.who is None:
+            return "no 14"
+        owner = self.owners[words[1]]
+        if number >= len(owner.reservations):
+            return f"no 60 {number} {owner.records}"
+        if owner.reservations[number][0] != self.who:
+            return f"no 61 {number} {owner.records}"
+        return f"recall {number} {owner.standing(number)} {owner.records}"
+
+    def left(self, words):
+        if len(words) < 2 or words[1] == b"":
+            return "no 10 1"
+        if len(words) > 2:
+            return "no 10 2"
+        if words[1] not in self.owners:
+            return "no 12 1"
+        owner = self.owners[words[1]]
+        return f"left {owner.spent} {owner.entry['budget']} {owner.records}"
 
     def hello(self, words):
         if len(words) < 2 or words[1] == b"":
@@ -207,14 +257,15 @@ class Server:
             return f"no 40 {owner.spent} {owner.spent + cost} {budget} {owner.records}"
         if owner.records + 2 > capacity:
             return f"no 41 {owner.records} 0 {capacity}"
-        number = owner.number
-        owner.number += 1
+        number = len(owner.reservations)
         owner.spent += cost
         owner.records += 2
         try:
-            exact = value(term, owner.rows)
-            return f"answer {number} {exact + noise(e, self.draws(order, number))} {cost}"
+            answer = value(term, owner.rows) + noise(e, self.draws(order, number))
+            owner.reservations.append((self.who, f"answer {answer}"))
+            return f"answer {number} {answer} {cost}"
         except Exhausted:
+            owner.reservations.append((self.who, "exhausted"))
             return f"no 50 {number}"
 
 
@@ -337,6 +388,9 @@ def check():
     hello, one = b"hello ann\n", b"ask census 1 size people\n"
     assert transcript(hello + one + b"bye\n") == "hello ann\nanswer 0 5 1000000\nbye\n"
     assert transcript(b"") == ""
+    assert transcript(hello + one + b"recall census 0\nhello bob\nrecall census 0\nrecall census 1\nleft census\n").splitlines()[2:] == [
+        "recall 0 answer 5 2", "hello bob", "no 61 0 2", "no 60 1 2", "left 1000000 10000000 2"
+    ]
     assert transcript(hello + 11 * one).splitlines()[-1] == "no 40 10000000 11000000 10000000 20"
     assert transcript(hello + one, draws=lambda *_: followed([])) == "hello ann\nno 50 0\n"
     assert transcript(hello + one, with_rows([]), lambda *_: followed([0, 0, 0, 0, 1, 0, 1, 0])).endswith(

@@ -1,0 +1,160 @@
+#!/usr/bin/env bash
+# The program on whatever stands in the place of a journal: status and output beside what is wanted, and the file as it was.
+# usage: bench/bad_journals.sh    (PROGRAM=FILE tries another build than tools/build's)
+# As root it also tries a read-only file and a full disk, as the user nobody and on a small tmpfs in a mount of its own. It ends with
+# status 1 where one differs.
+. "$(dirname "$0")/common.sh"
+take_quick_program
+need_tool python3 python3
+make_room
+cp "$top"/examples/first-run/{people.csv,script} .
+passed=0
+replies='hello ann/answer 0 5 1000000/bye/'
+again='hello ann/answer 1 3 1000000/bye/'
+
+# two NAME: the catalog NAME, of the owners census and, behind it, second.
+two() {
+    catalog "$1" people.csv
+    python3 - "$1" <<'END'
+import json
+import sys
+with open(sys.argv[1]) as file:
+    catalog = json.load(file)
+catalog["owners"].append({**catalog["owners"][0], "name": "second", "capacity": 10})
+with open(sys.argv[1], "w") as file:
+    json.dump(catalog, file)
+END
+}
+# anew [CATALOG]: new journals with one ask in that of census.
+anew() {
+    renew "${1:-cat.json}" key
+    "$program" run "${1:-cat.json}" key <script >/dev/null
+}
+# command NAME STATUS OUTPUT WORD..: the example's script under these words, over the journals as they are.
+command() {
+    "$program" "${@:4}" <script >output 2>errors
+    status=$?
+    judge "$1" "$2" "$3"
+}
+# sums: what stands in journals.
+sums() { find journals -type f -exec sha256sum {} + 2>/dev/null | sort; ls -ld journals journals/* 2>/dev/null | cut -c1-10; }
+# refused NAME STATUS OUTPUT [CATALOG [KEY]]: `run` and `audit` refuse what is there, and leave it as it is.
+refused() {
+    local before after
+    before=$(sums)
+    command "$1" "$2" "$3" run "${4:-cat.json}" "${5:-key}"
+    command "    and by audit" "$2" "$3" audit "${4:-cat.json}" "${5:-key}"
+    after=$(sums)
+    [ "$before" = "$after" ] || { echo "the files aren't as they were"; passed=1; }
+}
+# put PLACE BYTES: writes bytes, with printf's escapes, into the journal of census.
+put() { printf "$2" | dd of=journals/0.bud bs=1 seek="$1" conv=notrunc status=none; }
+# copy FROM TO: a slot of the journal of census in another slot's place.
+copy() { dd if=journals/0.bud of=slot bs=64 skip=$(($1 + 2)) count=1 status=none && dd if=slot of=journals/0.bud bs=64 seek=$(($2 + 2)) conv=notrunc status=none; }
+two two.json
+
+rm -rf journals
+refused "no journal" 4 'journal census uninitialised 0/'
+[ ! -e journals ] || { echo "run or audit made the folder"; passed=1; }
+command "init" 0 'owner census budget 10000000 capacity 100/' init cat.json key
+command "init twice" 4 'journal census exists 6528/' init cat.json key
+command "the first run" 0 "$replies" run cat.json key
+command "audit" 0 'census reservations 1 answered 1 exhausted 0 lost 0 spent 1000000 budget 10000000/' audit cat.json key
+command "the second run" 0 "$again" run cat.json key
+
+anew && truncate -s 0 journals/0.bud && refused "an empty file" 4 'journal census uninitialised 0/'
+anew && truncate -s 127 journals/0.bud && refused "127 bytes" 4 'journal census uninitialised 127/'
+anew && truncate -s 128 journals/0.bud && refused "a header alone" 4 'journal census damaged 0/'
+anew && truncate -s 191 journals/0.bud && refused "the first slot torn off" 4 'journal census damaged 0/'
+anew && truncate -s 192 journals/0.bud && refused "the second slot torn off" 4 'journal census damaged 1/'
+anew && truncate -s 6527 journals/0.bud && refused "a byte too short" 4 'journal census damaged 99/'
+anew && truncate -s 6529 journals/0.bud && refused "a byte too long" 4 'journal census damaged 100/'
+anew && truncate -s 12928 journals/0.bud && refused "twice as many slots" 4 'journal census damaged 100/'
+anew && head -c 6528 /dev/zero >journals/0.bud && refused "zeros" 4 'journal census uninitialised 6528/'
+anew && tr '\0' '\377' </dev/zero | head -c 6528 >journals/0.bud && refused "bytes 0xFF" 4 'journal census uninitialised 6528/'
+anew && head -c 6528 /dev/urandom >journals/0.bud && put 0 '\245' && refused "random bytes behind a gate" 4 'journal census changed/'
+anew && put 0 '\045' && refused "the header's gate torn" 4 'journal census uninitialised 6528/'
+anew && put 9 '\002' && refused "another version" 4 'journal census changed/'
+anew && put 127 '\001' && refused "a byte of the header's end" 4 'journal census changed/'
+anew && put 128 '\045' && refused "the first gate torn, behind it a slot" 4 'journal census damaged 1/'
+anew && put 192 '\045' && command "the last gate torn" 0 "$again" run cat.json key
+anew && put 193 '\003' && refused "no such kind of record" 4 'journal census damaged 1/'
+anew && put 135 '\001' && refused "another number" 4 'journal census damaged 0/'
+anew && put 158 '\001' && refused "bytes where zeros belong" 4 'journal census damaged 0/'
+anew && put 157 '\002' && refused "an analyst that isn't there" 4 'journal census damaged 0/'
+anew && put 155 '\101' && refused "another charge" 4 'journal census damaged 0/'
+anew && put 147 '\002' && refused "another sensitivity" 4 'journal census damaged 0/'
+anew && copy 1 2 && refused "a settlement twice" 4 'journal census damaged 2/'
+anew && copy 0 2 && refused "a reservation twice" 4 'journal census damaged 2/'
+anew && copy 1 0 && refused "a settlement first" 4 'journal census damaged 0/'
+anew && copy 1 99 && refused "the last slot open" 4 'journal census damaged 99/'
+anew && copy 0 3 && refused "a slot open behind a closed one" 4 'journal census damaged 3/'
+
+anew two.json && cp journals/1.bud journals/0.bud && refused "another owner's" 4 'journal census changed/' two.json
+anew two.json && rm journals/1.bud && refused "no journal of the second owner" 4 'journal second uninitialised 0/' two.json
+anew two.json && truncate -s 700 journals/1.bud && refused "the second owner's torn off" 4 'journal second damaged 8/' two.json
+renew two.json key && rm journals/0.bud && command "init: the second owner's is there" 4 'journal second exists 768/' init two.json key
+command "    and the first owner's was made" 4 'journal census exists 6528/' init two.json key
+sed 's/10000000/10000001/' cat.json >richer.json
+anew && refused "a catalog of another budget" 4 'journal census changed/' richer.json
+sed 's/"capacity": 100/"capacity": 99/' cat.json >less.json
+anew && refused "a catalog of another capacity" 4 'journal census changed/' less.json
+sed 's/"bob"/"eve"/' cat.json >eve.json
+anew && refused "a catalog of another analyst" 4 'journal census changed/' eve.json
+printf '%s' "$(tr -d ' \n' <cat.json)" >tight.json
+anew && command "the same catalog without blanks" 0 "$again" run tight.json key
+head -c 32 /dev/zero | tr '\0' '\1' >key1
+anew && refused "another key" 4 'journal census changed/' cat.json key1
+anew && cp people.csv kept.csv && printf '50\n' >>people.csv && refused "another table" 4 'journal census changed/'
+cp kept.csv people.csv
+refused "a catalog that is absent" 3 'refused nothing/' nothing
+printf 'age\n1.5\n' >bad.csv && catalog bad.json bad.csv
+refused "a table that isn't one" 3 'refused bad.csv/' bad.json
+
+rm -rf journals && mkdir -p journals/0.bud && refused "a folder in its place" 6 'disk census/'
+command "    and for init" 6 'disk census/' init cat.json key
+rm -rf journals && : >journals && refused "a file in the folder's place" 6 'disk census/'
+command "    and for init" 6 'disk census/' init cat.json key
+rm -rf journals && mkdir journals && ln -s 0.bud journals/0.bud && refused "a link to itself" 6 'disk census/'
+anew && mv journals/0.bud kept.bud && ln -s ../kept.bud journals/0.bud && command "a link to a journal" 0 "$again" run cat.json key
+anew && : >output
+"$program" audit cat.json key 2>errors >/dev/full
+status=$?
+judge "audit: standard output is full" 5 ''
+"$program" run cat.json key <script 2>errors >/dev/full
+status=$?
+judge "run: standard output is full" 5 ''
+command "    what it asked is charged" 0 'census reservations 2 answered 2 exhausted 0 lost 0 spent 2000000 budget 10000000/' audit cat.json key
+
+# as_nobody NAME STATUS OUTPUT WORD..: the same as a user who may read what lies here and write nothing.
+as_nobody() {
+    setpriv --reuid 65534 --regid 65534 --clear-groups "$program" "${@:4}" <script >output 2>errors
+    status=$?
+    judge "$1" "$2" "$3"
+}
+if [ "$(id -u)" = 0 ] && command -v setpriv unshare >/dev/null; then
+    chmod 755 . && cp "$program" ./program && program=$room/program
+    anew && chmod 444 journals/0.bud
+    before=$(sums)
+    as_nobody "a file that can't be written" 6 'disk census/' run cat.json key
+    as_nobody "    and for audit" 6 'disk census/' audit cat.json key
+    [ "$before" = "$(sums)" ] || { echo "the files aren't as they were"; passed=1; }
+    rm -rf journals
+    as_nobody "a folder that can't be made" 6 'disk census/' init cat.json key
+    mkdir small
+    sed 's/"capacity": 100/"capacity": 262144/' cat.json >large.json
+    # A disk of 1 MiB, on which the 16 MiB of a journal have no room.
+    unshare -m bash -s "$program" >small.said 2>&1 <<'END' || { cat small.said; passed=1; }
+mount -t tmpfs -o size=1m none small && cp large.json people.csv key small && cd small || exit 1
+for command in init run init; do
+    "$1" "$command" large.json key </dev/null
+    echo "status $?"
+done
+END
+    said=$(sed 's/\(uninitialised\|exists\) [0-9]*/\1 SOME/' small.said | tr '\n' '/')
+    [ "$said" = "disk census/status 6/journal census uninitialised SOME/status 4/journal census exists SOME/status 4/" ] || { echo "WRONG on a full disk:"; passed=1; }
+    printf '%-40s      %s\n' "a disk that is full" "$said"
+else
+    echo "not tried, for want of rights: a file that can't be written, a full disk"
+fi
+exit $passed

@@ -1,0 +1,124 @@
+// Lets one call on a file under a folder named journals fail, or ends the process there: put in front of a program by LD_PRELOAD.
+// TELL=1     writes how many such calls there were to standard error, at the end
+// FAIL=N     call N (from 1) fails with EIO, and with FAIL_ALL=1 each later one too
+// STOP=N     the process is killed at call N, in the place of the call; a write has then put half of its bytes
+// The calls are reads and writes at a place, syncs, and opening or making such a file or folder.
+#define _GNU_SOURCE
+#include <dlfcn.h>
+#include <errno.h>
+#include <fcntl.h>
+#include <signal.h>
+#include <stdarg.h>
+#include <stdio.h>
+#include <stdlib.h>
+#include <string.h>
+#include <sys/stat.h>
+#include <unistd.h>
+
+static long calls, fail_at, stop_at, fail_all;
+
+__attribute__((constructor)) static void begin(void) {
+    fail_at = getenv("FAIL") ? atol(getenv("FAIL")) : 0;
+    stop_at = getenv("STOP") ? atol(getenv("STOP")) : 0;
+    fail_all = getenv("FAIL_ALL") != 0;
+}
+
+__attribute__((destructor)) static void end(void) {
+    if (getenv("TELL"))
+        fprintf(stderr, "%ld", calls);
+}
+
+static int counts(const char *path) { return path && strstr(path, "journals") != 0; }
+
+static int file_counts(int file) {
+    char link[64], path[4096];
+    snprintf(link, sizeof link, "/proc/self/fd/%d", file);
+    ssize_t n = readlink(link, path, sizeof path - 1);
+    if (n < 0)
+        return 0;
+    path[n] = 0;
+    return counts(path);
+}
+
+// Whether this call is to fail. Where it is to stop, there is nobody left to tell.
+static int fails(void) {
+    calls++;
+    if (calls == stop_at)
+        raise(SIGKILL);
+    if (fail_at && (calls == fail_at || (fail_all && calls > fail_at))) {
+        errno = EIO;
+        return 1;
+    }
+    return 0;
+}
+
+typedef ssize_t (*write_call)(int, const void *, size_t, off_t);
+typedef ssize_t (*read_call)(int, void *, size_t, off_t);
+typedef int (*sync_call)(int);
+typedef int (*open_call)(const char *, int, ...);
+typedef int (*openat_call)(int, const char *, int, ...);
+typedef int (*mkdir_call)(const char *, mode_t);
+
+static ssize_t writes(const char *name, int file, const void *bytes, size_t size, off_t place) {
+    write_call next = (write_call)dlsym(RTLD_NEXT, name);
+    if (file_counts(file)) {
+        if (calls + 1 == stop_at)
+            next(file, bytes, size / 2, place);
+        if (fails())
+            return -1;
+    }
+    return next(file, bytes, size, place);
+}
+ssize_t pwrite(int file, const void *bytes, size_t size, off_t place) { return writes("pwrite", file, bytes, size, place); }
+ssize_t pwrite64(int file, const void *bytes, size_t size, off_t place) { return writes("pwrite64", file, bytes, size, place); }
+
+static ssize_t reads(const char *name, int file, void *bytes, size_t size, off_t place) {
+    if (file_counts(file) && fails())
+        return -1;
+    return ((read_call)dlsym(RTLD_NEXT, name))(file, bytes, size, place);
+}
+ssize_t pread(int file, void *bytes, size_t size, off_t place) { return reads("pread", file, bytes, size, place); }
+ssize_t pread64(int file, void *bytes, size_t size, off_t place) { return reads("pread64", file, bytes, size, place); }
+
+static int syncs(const char *name, int file) {
+    if (file_counts(file) && fails())
+        return -1;
+    return ((sync_call)dlsym(RTLD_NEXT, name))(file);
+}
+int fsync(int file) { return syncs("fsync", file); }
+int fdatasync(int file) { return syncs("fdatasync", file); }
+
+static int opens(const char *name, const char *path, int flags, mode_t mode) {
+    if (counts(path) && fails())
+        return -1;
+    return ((open_call)dlsym(RTLD_NEXT, name))(path, flags, mode);
+}
+#define OPEN(NAME)                                                                                                                        \
+    int NAME(const char *path, int flags, ...) {                                                                                          \
+        va_list more;                                                                                                                     \
+        va_start(more, flags);                                                                                                            \
+        mode_t mode = va_arg(more, mode_t);                                                                                               \
+        va_end(more);                                                                                                                     \
+        return opens(#NAME, path, flags, mode);                                                                                           \
+    }
+OPEN(open)
+OPEN(open64)
+
+#define OPENAT(NAME)                                                                                                                      \
+    int NAME(int folder, const char *path, int flags, ...) {                                                                              \
+        va_list more;                                                                                                                     \
+        va_start(more, flags);                                                                                                            \
+        mode_t mode = va_arg(more, mode_t);                                                                                               \
+        va_end(more);                                                                                                                     \
+        if (counts(path) && fails())                                                                                                      \
+            return -1;                                                                                                                    \
+        return ((openat_call)dlsym(RTLD_NEXT, #NAME))(folder, path, flags, mode);                                                         \
+    }
+OPENAT(openat)
+OPENAT(openat64)
+
+int mkdir(const char *path, mode_t mode) {
+    if (counts(path) && fails())
+        return -1;
+    return ((mkdir_call)dlsym(RTLD_NEXT, "mkdir"))(path, mode);
+}

@@ -1,0 +1,179 @@
+#!/usr/bin/env python3
+"""Each call on a real journal file fails in turn, alone and with all later ones, and each is the one at which the program is killed.
+
+usage: bench/failing_disk.py     (PROGRAM=FILE tries another build than tools/build's). Needs cc.
+It counts the calls of `init`, and of a run of three asks that goes on behind one earlier answer, and then runs each again with one call
+that fails, with all from that one on, and with a kill in the place of the call (a write has then put half of its bytes). Judged by
+a second reader (tools/journal.py) and the second implementation of lines (tools/reference.py):
+
+- `init` ends with 6 and its line, or is killed; what is left is no journal, or an empty one;
+- an opening that fails ends with 6 and its line, and leaves the file as it was;
+- where a record can't be written its ask is told 52 and all later ones 42; the lines behind, which recall and ask what is left, tell
+  of the acknowledged records alone;
+- whatever happened, the next opening finds every record that was acknowledged, at most one more, and `audit` counts them;
+- an answer that was printed stands settled with its value.
+
+It ends with status 1 at the first difference, and where one of the ends was never met.
+"""
+import os
+import subprocess
+import sys
+import tempfile
+from collections import Counter
+
+TOP = os.path.dirname(os.path.dirname(os.path.abspath(__file__)))
+PROGRAM = os.path.abspath(os.environ.get("PROGRAM", f"{TOP}/out/hitchseason"))
+sys.path.insert(0, f"{TOP}/tools")
+from catalog import census, read  # noqa: E402
+from journal import Refused, book_of, contents, header  # noqa: E402
+from reference import ROWS, Server, key_words, with_rows  # noqa: E402
+
+ASK = "ask census 1 size people"
+ASKED = ["hello ann", *[ASK] * 3, "left census", *[f"recall census {number}" for number in range(5)]]
+DISK = (6, "disk census\n")
+
+
+class Wrong(Exception):
+    pass
+
+
+class Room:
+    def __init__(self, folder):
+        os.chdir(folder)
+        self.came = Counter()
+        for name, data in (("key", bytes(32)), ("cat.json", census()), ("people.csv", b"age\n20\n30\n40\n")):
+            with open(name, "wb") as file:
+                file.write(data)
+        subprocess.run(["cc", "-O1", "-shared", "-fPIC", "-o", "fail.so", f"{TOP}/bench/fail_disk.c", "-ldl"], check=True)
+        self.head, self.entry = header(census(), 0, bytes(32), contents), read(census())["owners"][0]
+
+    def ran(self, command, script="", **faults):
+        given = {**os.environ, **faults}
+        if faults:
+            given["LD_PRELOAD"] = os.path.abspath("fail.so")
+        return subprocess.run([PROGRAM, command, "cat.json", "key"], input=script, capture_output=True, text=True, env=given)
+
+    def anew(self):
+        """One journal with an earlier answer."""
+        subprocess.run(["rm", "-rf", "journals"], check=True)
+        self.ran("init")
+        self.ran("run", f"hello ann\n{ASK}\n")
+        self.before = contents("journals/0.bud")
+
+    def book(self):
+        return book_of(contents("journals/0.bud"), self.head, self.entry, 2)
+
+    def counted(self):
+        """What a next opening finds, which `audit` counts."""
+        book, said = self.book(), self.ran("audit")
+        if (said.returncode, said.stdout) != (0, book.counts() + "\n"):
+            raise Wrong(f"audit: {said.returncode} {said.stdout}, wanted {book.counts()}")
+        return book
+
+
+def judge_init(room, ran):
+    if ran.returncode not in (-9, 6) or (ran.returncode == 6 and (ran.returncode, ran.stdout) != DISK):
+        raise Wrong(f"status {ran.returncode} and {ran.stdout!r}")
+    if not os.path.exists("journals/0.bud"):
+        room.came["init: no file"] += 1
+        return
+    try:
+        if room.counted().records:
+            raise Wrong("records")
+        room.came["init: a journal that nobody was told of"] += 1
+    except Refused as refusal:
+        said = room.ran("audit")
+        if (said.returncode, said.stdout) != (4, f"journal census {refusal}\n") or not str(refusal).startswith("uninitialised"):
+            raise Wrong(f"{refusal}, and audit said {said.stdout!r}") from None
+        room.came["init: a file to be removed"] += 1
+
+
+def due(first, failed):
+    """The replies of a run in which the record `failed` (from 0, of those it adds) can't be written, and how many are acknowledged."""
+    server = Server(with_rows(ROWS), key_words(bytes(32)))
+    server.reply(b"hello ann")
+    for _ in range(first):
+        server.reply(ASK.encode())
+    owner = server.owners[b"census"]
+    owner.goes_on(owner.spent, owner.records, owner.reservations)
+    replies = [server.reply(b"hello ann")]
+    for at in range(3):
+        if failed > 2 * at + 1:
+            replies.append(server.reply(ASK.encode()))
+        elif failed >= 2 * at:
+            replies.append("no 52")
+            if failed % 2:
+                owner.spent, owner.records = owner.spent + 10**6, owner.records + 1
+                owner.reservations.append((b"ann", None))
+        else:
+            replies.append("no 42 1")
+    replies += [server.reply(line.encode()) for line in ASKED[4:]]
+    return replies, owner.records
+
+
+def judge_run(room, ran):
+    acknowledged = 2
+    if ran.returncode == 6:
+        if (ran.returncode, ran.stdout) != DISK or contents("journals/0.bud") != room.before:
+            raise Wrong(f"{ran.stdout!r}, or the file isn't as it was")
+        room.came["run: not opened"] += 1
+    elif ran.returncode == 0:
+        told = ran.stdout.splitlines()
+        found = [failed for failed in range(6) if told == due(1, failed)[0]]
+        if not found:
+            raise Wrong(f"told {told}")
+        acknowledged = due(1, found[0])[1]
+        room.came["run: 52 of a reservation" if found[0] % 2 == 0 else "run: 52 of a settlement"] += 1
+    elif ran.returncode != -9 or ran.stdout:
+        raise Wrong(f"status {ran.returncode} and {ran.stdout!r}")
+    book = room.counted()
+    more = len(book.records) - acknowledged
+    if contents("journals/0.bud")[: 128 + 64 * 2] != room.before[: 128 + 64 * 2] or (ran.returncode != -9 and more not in (0, 1)):
+        raise Wrong(f"{len(book.records)} records")
+    room.came["one record more" if ran.returncode == 0 and more else "killed" if ran.returncode == -9 else "no record more"] += 1
+    for line in ran.stdout.splitlines():
+        words = line.split()
+        if words[0] == "answer" and (int(words[1]) not in book.settled or book.settled[int(words[1])].answer != int(words[2])):
+            raise Wrong(f"{line} isn't settled so")
+    # The next run goes on with a new number.
+    said = room.ran("run", f"hello ann\n{ASK}\n").stdout.splitlines()[-1]
+    if said.split()[:2] != ["answer", str(len(book.reserved))]:
+        raise Wrong(f"the next run said {said}")
+
+
+def turns(room, command, script, prepare, judge):
+    prepare()
+    ran = room.ran(command, script, TELL="1")
+    count = int(ran.stderr)
+    for faults in ({"FAIL": ""}, {"FAIL": "", "FAIL_ALL": "1"}, {"STOP": ""}):
+        for number in range(1, count + 1):
+            prepare()
+            try:
+                judge(room, room.ran(command, script, **{name: value or str(number) for name, value in faults.items()}))
+            except (Wrong, Refused) as fault:
+                print(f"{command}, call {number} of {count}, {' '.join(faults)}: {fault}")
+                sys.exit(1)
+    return count
+
+
+ENDS = ["init: no file", "init: a file to be removed", "run: not opened", "run: 52 of a reservation", "run: 52 of a settlement", "killed", "one record more"]
+
+
+def main():
+    if "PROGRAM" not in os.environ:
+        subprocess.run([f"{TOP}/tools/build"], check=True)
+    os.makedirs(f"{TOP}/out", exist_ok=True)
+    with tempfile.TemporaryDirectory(dir=f"{TOP}/out") as folder:
+        room = Room(folder)
+        made = turns(room, "init", "", lambda: subprocess.run(["rm", "-rf", "journals"], check=True), judge_init)
+        asked = turns(room, "run", "".join(f"{line}\n" for line in ASKED), room.anew, judge_run)
+        os.chdir(TOP)
+    print(f"{made} calls of init and {asked} of a run, each failing, failing with all later ones, and killed: as wanted")
+    print(", ".join(f"{end} {many}" for end, many in sorted(room.came.items())))
+    lacking = [end for end in ENDS if not room.came[end]]
+    if lacking:
+        print("never met: " + ", ".join(lacking))
+        sys.exit(1)
+
+
+main()
