@@ -2,8 +2,6 @@
 #![tactic(auto)]
 
 #[cfg(test)]
-mod listed;
-#[cfg(test)]
 mod plain;
 #[cfg(test)]
 mod scripts;

@@ -262,7 +262,8 @@ fn plain_transcripts_agree(rt: HostRuntime) -> Result<(), Fail> {
     for (place, byte) in key.iter_mut().enumerate() {
         *byte = place as u8;
     }
-    let held = census_files(TABLE, "key", &key);
+    let lent = key;
+    let held = census_files(TABLE, "key", &lent);
     for first in telling {
         for second in telling {
             for third in telling {
