@@ -211,23 +211,26 @@ class Server:
             return f"no 61 {number} {owner.records}"
         return f"recall {number} {owner.standing(number)} {owner.records}"
 
-    def left(self, words):
+    @staticmethod
+    def fault_of_one(words, known):
+        """Returns why a line of one name among these is refused, or None."""
         if len(words) < 2 or words[1] == b"":
             return "no 10 1"
         if len(words) > 2:
             return "no 10 2"
-        if words[1] not in self.owners:
-            return "no 12 1"
+        return None if words[1] in known else "no 12 1"
+
+    def left(self, words):
+        fault = self.fault_of_one(words, self.owners)
+        if fault:
+            return fault
         owner = self.owners[words[1]]
         return f"left {owner.spent} {owner.entry['budget']} {owner.records}"
 
     def hello(self, words):
-        if len(words) < 2 or words[1] == b"":
-            return "no 10 1"
-        if len(words) > 2:
-            return "no 10 2"
-        if words[1] not in self.analysts:
-            return "no 12 1"
+        fault = self.fault_of_one(words, self.analysts)
+        if fault:
+            return fault
         self.who = words[1]
         return "hello " + words[1].decode()
 
