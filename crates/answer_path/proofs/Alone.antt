@@ -2,6 +2,7 @@
 use Rattle.std.proofs.Common.{◌≡◌, List, [], ◌∷◌, ◌++◌, length, refl, sym, ◌∙◌, ap, subst, arith, append-nil, length-append, inl, inr}
 use Rattle.journal_records.specs.declared.records.Record.{Record}
 use Rattle.journal_records.specs.declared.records.Record.TheVariants.{Settle}
+use Rattle.answer_path.specs.Owner.{signature_of_view}
 use Rattle.answer_path.specs.Verdict.{program_refused, money_refused, granted, IsVerdict}
 use Rattle.answer_path.specs.Answered.{granted_record, IsAnswered, IsAsked}
 use Rattle.answer_path.specs.Pass.{records_told}
@@ -40,18 +41,18 @@ pub alone_is_answered : AloneIsAnswered
 unfolding IsAsked IsAnswered
 alone_is_answered owner draws start query seen reply told after (g, begins, inl (program_refused refusal, is, (said, none, rest))) whole =
     let same : g ≡ seen = sym rest ∙ whole ∙ ap (λ ts. seen ++ records_told ts) none ∙ append-nil seen in
-    inl (program_refused refusal, subst (λ rs. IsVerdict owner.entry owner.tables start rs query (program_refused refusal)) same is, (said, ap records_told none))
+    inl (program_refused refusal, subst (λ rs. IsVerdict owner.entry (signature_of_view owner query.view) start rs query (program_refused refusal)) same is, (said, ap records_told none))
 alone_is_answered owner draws start query seen reply told after (g, begins, inl (money_refused refusal, is, (said, none, rest))) whole =
     let same : g ≡ seen = sym rest ∙ whole ∙ ap (λ ts. seen ++ records_told ts) none ∙ append-nil seen in
-    inl (money_refused refusal, subst (λ rs. IsVerdict owner.entry owner.tables start rs query (money_refused refusal)) same is, (said, ap records_told none))
+    inl (money_refused refusal, subst (λ rs. IsVerdict owner.entry (signature_of_view owner query.view) start rs query (money_refused refusal)) same is, (said, ap records_told none))
 alone_is_answered owner draws start query seen reply told after (g, begins, inl (granted asking grant, is, inl two)) whole =
     let same : g ≡ seen = tight seen begins.0 two.reserved.0 g two.u after (granted_record asking grant) (Settle grant.number two.outcome) begins.1 two.reserved.1 two.after_is
     (whole ∙ ap (λ ts. seen ++ records_told ts) two.told_is) in
-    inl (granted asking grant, subst (λ rs. IsVerdict owner.entry owner.tables start rs query (granted asking grant)) same is, inl (two.outcome, two.settled, two.reply_is, ap records_told two.told_is))
+    inl (granted asking grant, subst (λ rs. IsVerdict owner.entry (signature_of_view owner query.view) start rs query (granted asking grant)) same is, inl (two.outcome, two.settled, two.reply_is, ap records_told two.told_is))
 alone_is_answered owner draws start query seen reply told after (g, begins, inl (granted asking grant, is, inr (refusal, said, inl (none, rest)))) whole =
     let same : g ≡ seen = sym rest ∙ whole ∙ ap (λ ts. seen ++ records_told ts) none ∙ append-nil seen in
-    inl (granted asking grant, subst (λ rs. IsVerdict owner.entry owner.tables start rs query (granted asking grant)) same is, inr (refusal, said, inl (ap records_told none)))
+    inl (granted asking grant, subst (λ rs. IsVerdict owner.entry (signature_of_view owner query.view) start rs query (granted asking grant)) same is, inr (refusal, said, inl (ap records_told none)))
 alone_is_answered owner draws start query seen reply told after (g, begins, inl (granted asking grant, is, inr (refusal, said, inr (one, ahead)))) whole =
     let same : g ≡ seen = tight_one seen begins.0 ahead.0 g after (granted_record asking grant) begins.1 ahead.1 (whole ∙ ap (λ ts. seen ++ records_told ts) one) in
-    inl (granted asking grant, subst (λ rs. IsVerdict owner.entry owner.tables start rs query (granted asking grant)) same is, inr (refusal, said, inr (ap records_told one)))
+    inl (granted asking grant, subst (λ rs. IsVerdict owner.entry (signature_of_view owner query.view) start rs query (granted asking grant)) same is, inr (refusal, said, inr (ap records_told one)))
 alone_is_answered owner draws start query seen reply told after (g, begins, inr (said, none, rest)) whole = inr (said, ap records_told none)

@@ -2,8 +2,6 @@
 use Rattle.std.proofs.Common.{◌≡◌, ℕ, ◌+◌, Bool, true, false, cond, List, [], length, refl, sym, ◌∙◌, ap, subst, append-nil, inl, inr, Option, Some, None}
 use Rattle.std.specs.Prelude.{ℤ, nat_lt, Result, Ok, Err}
 use mathlib.Core.List.{IsPrefix}
-use Rattle.partition_charge.specs.declared.view.View.{View}
-use Rattle.partition_charge.specs.declared.view.View.TheVariants.{Whole}
 use Rattle.journal_records.specs.declared.records.Outcome.{Outcome}
 use Rattle.journal_records.specs.declared.records.Record.{Record}
 use Rattle.journal_records.specs.declared.records.Record.TheVariants.{Reserve}
@@ -15,8 +13,6 @@ use Rattle.budget_core.specs.Entries.{Entry}
 use Rattle.budget_core.specs.Cost.{cost_of}
 use Rattle.budget_core.specs.Counts.{open_from}
 use Rattle.budget_core.specs.Ledger.{money_verdict, reservation_for, reservation_numbered, next_number, cost_with, rise_of}
-use Rattle.fz_frac.specs.Distance.{Fin}
-use Rattle.fz_ast.specs.Signature.{Signature}
 use Rattle.fz_ast.specs.Terms.{Term}
 use Rattle.metric_law.specs.Means.{Means}
 use Rattle.metric_values.specs.Tables.{rows_of}
@@ -26,22 +22,19 @@ use Rattle.fz_outside.specs.Draws.{first_draws}
 use Rattle.exact_bernoulli.specs.Meter.{draw_limit}
 use Rattle.discrete_laplace.specs.Noise.{noise_of}
 use Rattle.answer_path.specs.Reading.{read, IsReading}
-use Rattle.answer_path.specs.Judgement.{Judgement, accepted, judgement_of, HasValue}
-use Rattle.answer_path.specs.Owner.{Owner, Holding, IsOwnerOf}
+use Rattle.answer_path.specs.Judgement.{Judgement, HasValue}
+use Rattle.part_views.specs.Holding.{Holding}
+use Rattle.answer_path.specs.Owner.{Owner, IsOwnerOf, signature_of_view, rows_of_view}
 use Rattle.answer_path.specs.Query.{Query}
-use Rattle.answer_path.specs.Program.{HasValueIn}
+use Rattle.answer_path.specs.Program.{IsCharged}
 use Rattle.answer_path.specs.Noise.{noise_at, scale_numerator, scale_denominator}
 use Rattle.answer_path.specs.Verdict.{program_refused, ask_for, verdict_by_money, IsVerdictBy, IsVerdict}
-use Rattle.answer_path.specs.Answered.{IsSettledAt, IsSettledBy, granted_record}
+use Rattle.answer_path.specs.Answered.{HasWorthIn, IsSettledAt, IsSettledBy, granted_record}
 use Rattle.answer_path.specs.Code.{IsRefusedFor}
 
--- the program is accepted where it is asked, at p/q
-abbrev pub IsAcceptedAt : Signature → List ℕ → (p q : ℕ) → Type 0
-IsAcceptedAt tables program p q = (e : Term) × IsReading program (read e) × (judgement_of tables (read e) ≡ accepted e (Fin p q))
-
--- the reading of a program that is accepted gives the verdict on the budget
-pub money_says : (owner : Owner) (start : ℕ) (records : List Record) (query : Query) (p q : ℕ) (money : Result Grant ReserveFault) → IsAcceptedAt owner.tables query.program p q
-    → money_verdict owner.entry start records (ask_for query p q) ≡ money → IsVerdict owner.entry owner.tables start records query (verdict_by_money (ask_for query p q) money)
+-- the reading of a program that is charged gives the verdict on the budget
+pub money_says : (owner : Owner) (start : ℕ) (records : List Record) (query : Query) (p q : ℕ) (money : Result Grant ReserveFault) → IsCharged (signature_of_view owner query.view) query.program p q
+    → money_verdict owner.entry start records (ask_for query p q) ≡ money → IsVerdict owner.entry (signature_of_view owner query.view) start records query (verdict_by_money (ask_for query p q) money)
 unfolding IsVerdict
 money_says owner start records query p q money c is = (
   read c.0,
@@ -51,8 +44,8 @@ money_says owner start records query p q money c is = (
 )
 
 -- a program that is refused
-pub program_says : (owner : Owner) (start : ℕ) (records : List Record) (query : Query) (refusal : ProgramRefusal) → IsRefusedFor owner.tables query.program refusal
-    → IsVerdict owner.entry owner.tables start records query (program_refused refusal)
+pub program_says : (owner : Owner) (start : ℕ) (records : List Record) (query : Query) (refusal : ProgramRefusal) → IsRefusedFor (signature_of_view owner query.view) query.program refusal
+    → IsVerdict owner.entry (signature_of_view owner query.view) start records query (program_refused refusal)
 unfolding IsVerdict
 program_says owner start records query refusal h = (h.0, h.1, subst (λ (j : Judgement). IsVerdictBy owner.entry start records query j (program_refused refusal)) (sym h.2) refl)
 
@@ -86,22 +79,24 @@ settlement_map A B (Some noise) outcome gives (inl (value, has, is)) = inl (valu
 settlement_map A B (Some noise) outcome gives (inr lost) = inr lost
 
 -- a reservation that is settled by the number of a program's term is settled by the program
-pub settled_by_term : (owner : Owner) (draws : ℕ → ℕ → ℕ) (query : Query) (number : ℕ) (e : Term) (outcome : Outcome) → query.view ≡ Whole → IsReading query.program (read e)
-    → IsSettledAt (λ value. Means (rows_of owner.tables owner.rows) e (NumV value)) (noise_at query.e (draws number)) outcome → IsSettledBy owner draws query number outcome
+pub settled_by_term : (owner : Owner) (draws : ℕ → ℕ → ℕ) (query : Query) (number : ℕ) (e : Term) (outcome : Outcome) → IsReading query.program (read e)
+    → IsSettledAt (λ value. Means (rows_of (signature_of_view owner query.view) (rows_of_view owner query.view)) e (NumV value)) (noise_at query.e (draws number)) outcome
+    → IsSettledBy owner draws query number outcome
 unfolding HasValue
-settled_by_term owner draws query number e outcome whole reads is =
-    settlement_map (λ value. Means (rows_of owner.tables owner.rows) e (NumV value)) (HasValueIn owner.tables owner.rows query.view query.program) (noise_at query.e (draws number)) outcome
-    (λ value means. subst (λ (view : View). HasValueIn owner.tables owner.rows view query.program value) (sym whole) (e, reads, means)) is
+settled_by_term owner draws query number e outcome reads is =
+    settlement_map (λ value. Means (rows_of (signature_of_view owner query.view) (rows_of_view owner query.view)) e (NumV value)) (HasWorthIn owner query) (noise_at query.e (draws number)) outcome
+    (λ value means. (e, reads, means)) is
 
 -- an owner of this entry and holding
 abbrev pub owner_with : List ℕ → Entry → Holding → Owner
-owner_with name entry holding = record { name = name; entry = entry; tables = holding.tables; rows = holding.rows }
+owner_with name entry holding = record { name = name; entry = entry; tables = holding.tables; rows = holding.rows; partitions = holding.partitions }
 
 pub owner_is : (entry : Entry) (holding : Holding) (owner : Owner) → IsOwnerOf entry holding owner → owner_with owner.name entry holding ≡ owner
 owner_is entry holding owner is =
     ap (λ e. owner_with owner.name e holding) (sym is.entry_is)
-    ∙ ap (λ ts. record { name = owner.name; entry = owner.entry; tables = ts; rows = holding.rows }) (sym is.tables_are)
-    ∙ ap (λ X. record { name = owner.name; entry = owner.entry; tables = owner.tables; rows = X }) (sym is.rows_are)
+    ∙ ap (λ ts. record { name = owner.name; entry = owner.entry; tables = ts; rows = holding.rows; partitions = holding.partitions }) (sym is.tables_are)
+    ∙ ap (λ X. record { name = owner.name; entry = owner.entry; tables = owner.tables; rows = X; partitions = holding.partitions }) (sym is.rows_are)
+    ∙ ap (λ ps. record owner { partitions = ps }) (sym is.partitions_are)
 
 -- the noise of a number's draws is what the sampler gives for its scale
 pub noise_is : (e p q : ℕ) (draws words : ℕ → ℕ) → p ≡ scale_numerator e → q ≡ scale_denominator e → words ≡ draws → noise_at e draws ≡ noise_of p q (first_draws draw_limit words)

@@ -1,8 +1,6 @@
 -- what is known of programs that are charged, and of their values in a view
 use Rattle.std.proofs.Common.{◌≡◌, ℕ, ◌<◌, ◌^◌, false, List, refl, sym, subst}
 use Rattle.std.specs.Int.{IsGcd}
-use Rattle.partition_charge.specs.declared.view.View.{View}
-use Rattle.partition_charge.specs.declared.view.View.TheVariants.{Whole, Part}
 use Rattle.budget_core.specs.Entries.{IsEpsilon}
 use Rattle.journal_records.specs.Encoding.{AreTerms}
 use Rattle.fz_frac.specs.Distance.{Distance, Fin, Inf}
@@ -12,29 +10,31 @@ use Rattle.fz_ast.specs.Signature.{Signature}
 use Rattle.fz_ast.specs.Terms.{Term}
 use Rattle.linear_types.specs.Program.{is_endless}
 use Rattle.linear_types.proofs.Scope.{accepted_is_bounded}
+use Rattle.part_views.specs.Views.{signature_in, rows_in}
+use Rattle.part_views.proofs.Laws.{views_are_datasets}
 use Rattle.answer_path.specs.Reading.{read, IsReading}
 use Rattle.answer_path.specs.Judgement.{accepted, judgement_of}
 use Rattle.answer_path.specs.Program.{IsCharged}
-use Rattle.answer_path.specs.Laws.{ChargedHaveValues, OneValueIn}
-use Rattle.answer_path.proofs.Programs.{accepted_is, read_limits, accepted_have_values, one_value}
+use Rattle.answer_path.specs.Laws.{ChargedAreBounded, ChargedHaveValues}
+use Rattle.answer_path.proofs.Programs.{accepted_are_bounded, accepted_have_values, accepted_is, read_limits}
 use Rattle.answer_path.proofs.Ranges.{accepted_in, in_is_narrow}
 
 pub charged_have_values : ChargedHaveValues
-charged_have_values tables rows Whole program p q well are c =
-    let v = accepted_have_values tables program c.0 c.0 (Fin p q) well c.1 c.2 rows are in
-    (v.0, v.1)
-charged_have_values tables rows (Part partition part) program p q well are c = absurd c
+charged_have_values tables partitions rows view program p q well divided are c =
+    let seen = views_are_datasets tables partitions view rows well divided are in
+    accepted_have_values (signature_in tables partitions view) program c.0 c.0 (Fin p q) seen.0 c.1 c.2 (rows_in partitions view rows) seen.1
 
-pub one_value_in : OneValueIn
-one_value_in tables rows Whole program y z f g = one_value tables rows program y z f g
-one_value_in tables rows (Part partition part) program y z f g = absurd f
+pub charged_are_bounded : ChargedAreBounded
+charged_are_bounded tables partitions rows other view program p q y z well divided are others c has has_other =
+    let seen = views_are_datasets tables partitions view rows well divided are in
+    let seen_other = views_are_datasets tables partitions view other well divided others in
+    accepted_are_bounded (signature_in tables partitions view) program c.0 c.0 (Fin p q) seen.0 c.1 c.2 (rows_in partitions view rows) (rows_in partitions view other) seen.1 seen_other.1 y z has has_other
 
 -- what is charged has halves of 32 bits
-pub charged_narrow : (tables : Signature) (view : View) (program : List ℕ) (p q : ℕ) → IsCharged tables view program p q → (p < 2 ^ 32) × (q < 2 ^ 32)
-charged_narrow tables Whole program p q c =
+pub charged_narrow : (tables : Signature) (program : List ℕ) (p q : ℕ) → IsCharged tables program p q → (p < 2 ^ 32) × (q < 2 ^ 32)
+charged_narrow tables program p q c =
     let i = accepted_is tables c.0 c.0 (Fin p q) c.2 in
     in_is_narrow i.1 p q (sym i.4) (accepted_in tables c.0 i.0 i.1 (read_limits program c.0 c.1) i.2)
-charged_narrow tables (Part partition part) program p q c = absurd c
 
 -- epsilon and a sensitivity in lowest terms
 pub terms_of : (e p q : ℕ) → IsEpsilon e → 0 < q → gcd p q ≡ 1 → AreTerms e p q

@@ -34,13 +34,14 @@ use Rattle.answer_path.specs.Reading.{unlexed, stuck, nested, read}
 use Rattle.answer_path.specs.Judgement.{refused_for, accepted, fault_refusal, shape_refusal, judgement_of, HasValue}
 use Rattle.answer_path.specs.Owner.{Owner}
 use Rattle.answer_path.specs.Query.{Query}
-use Rattle.answer_path.specs.Program.{IsCharged, HasValueIn}
+use Rattle.part_views.specs.Views.{signature_in, rows_in}
+use Rattle.answer_path.specs.Program.{IsCharged}
 use Rattle.answer_path.specs.Noise.{scale_numerator, scale_denominator, noise_at}
 use Rattle.answer_path.specs.Verdict.{program_refused, money_refused, granted, ask_for, money_refusal, IsVerdict}
-use Rattle.answer_path.specs.Answered.{IsSettledAt, IsSettledBy, HasSmallAnswer, answer_limit, outcome_reply, grant_records, IsAsked}
+use Rattle.answer_path.specs.Answered.{HasWorthIn, IsSettledAt, IsSettledBy, HasSmallAnswer, answer_limit, outcome_reply, grant_records, IsAsked}
 use Rattle.budget_ledger.specs.Account.{Storage}
 use Rattle.answer_path.specs.Pass.{first_of_run, told_behind, records_told}
-use Rattle.answer_path.proofs.Answering.{IsAcceptedAt, money_says, noise_is}
+use Rattle.answer_path.proofs.Answering.{money_says, noise_is}
 use Rattle.answer_path.proofs.Scales.{scale_is}
 use Rattle.answer_path.proofs.SizePeople.{size_people, size_term, size_reads, span}
 
@@ -124,7 +125,7 @@ table_alone = refl
 abbrev pub rows : List Flat
 rows = NumF (pos 20) ∷ NumF (pos 30) ∷ NumF (pos 40) ∷ []
 
-three_value : HasValueIn (people ∷ []) (rows ∷ []) Whole size_people (pos 3)
+three_value : HasValue (people ∷ []) (rows ∷ []) size_people (pos 3)
 unfolding HasValue
 three_value = (size_term, size_reads, (2, (rows, refl, refl)))
 
@@ -262,33 +263,32 @@ owner budget capacity = record {
   entry = record { budget = budget; capacity = capacity; analysts = 6; keys = [] };
   tables = people ∷ [];
   rows = rows ∷ [];
+  partitions = [];
 }
 
-pub size_accepted : IsAcceptedAt (people ∷ []) size_people 1 1
-size_accepted = (size_term, size_reads, size_judged)
-
-pub charged : IsCharged (people ∷ []) Whole size_people 1 1
+pub charged : IsCharged (people ∷ []) size_people 1 1
 charged = (size_term, size_reads, size_judged)
 
 just_enough : IsVerdict (owner 1000000 2).entry (people ∷ []) 0 [] (a_query size_people) (granted an_ask (a_grant 0 1000000 1))
-unfolding cost_of cost_of_charges partition_cost
-just_enough = money_says (owner 1000000 2) 0 [] (a_query size_people) 1 1 _ size_accepted refl
+unfolding cost_of cost_of_charges partition_cost signature_in
+just_enough = money_says (owner 1000000 2) 0 [] (a_query size_people) 1 1 _ charged refl
 
 over_budget : IsVerdict (owner 999999 2).entry (people ∷ []) 0 [] (a_query size_people) (money_refused (NoBudget 0 1000000 999999 0))
-unfolding cost_of cost_of_charges partition_cost
-over_budget = money_says (owner 999999 2) 0 [] (a_query size_people) 1 1 _ size_accepted refl
+unfolding cost_of cost_of_charges partition_cost signature_in
+over_budget = money_says (owner 999999 2) 0 [] (a_query size_people) 1 1 _ charged refl
 
 no_room : IsVerdict (owner 2000000 3).entry (people ∷ []) 0 (reserved 0 ∷ Settle 0 Exhausted ∷ []) (a_query size_people) (money_refused (JournalFull 2 0 3))
-unfolding cost_of cost_of_charges partition_cost
-no_room = money_says (owner 2000000 3) 0 (reserved 0 ∷ Settle 0 Exhausted ∷ []) (a_query size_people) 1 1 _ size_accepted refl
+unfolding cost_of cost_of_charges partition_cost signature_in
+no_room = money_says (owner 2000000 3) 0 (reserved 0 ∷ Settle 0 Exhausted ∷ []) (a_query size_people) 1 1 _ charged refl
 
 -- the program's value and the noise settle its reservation, and so does want of memory
 pub settled_by_three : noise_at 1000000 draws_of_minus_one ≡ Some (negsuc 0) → IsSettledBy (owner 9000000 100) (λ number. draws_of_minus_one) (a_query size_people) 1 (Answered (pos 2))
+unfolding signature_in rows_in
 settled_by_three noise =
-    subst (λ (k : Option ℤ). IsSettledAt (HasValueIn (people ∷ []) (rows ∷ []) Whole size_people) k (Answered (pos 2))) (sym noise) (inl (pos 3, three_value, refl))
+    subst (λ (k : Option ℤ). IsSettledAt (HasWorthIn (owner 9000000 100) (a_query size_people)) k (Answered (pos 2))) (sym noise) (inl (pos 3, three_value, refl))
 
 pub settled_as_lost : IsSettledBy (owner 9000000 100) (λ number. draws_of_minus_one) (a_query size_people) 1 Lost
-settled_as_lost = subst (λ (k : Option ℤ). IsSettledAt (HasValueIn (people ∷ []) (rows ∷ []) Whole size_people) k Lost) (sym minus_one) (inr refl)
+settled_as_lost = subst (λ (k : Option ℤ). IsSettledAt (HasWorthIn (owner 9000000 100) (a_query size_people)) k Lost) (sym minus_one) (inr refl)
 
 -- A line that saw nothing, where another line reserved and settled before it, and a third reserves meanwhile.
 abbrev pub before : List Record
@@ -299,13 +299,13 @@ meanwhile = before ++ reserved 1 ∷ reserved 2 ∷ []
 
 asked_among_others : IsAsked (owner 9000000 100) (λ number. draws_of_minus_one) 0 (a_query size_people) [] (answered 1 (pos 2) 1000000)
     ((2, reserved 1) ∷ (4, Settle 1 (Answered (pos 2))) ∷ []) (meanwhile ++ Settle 1 (Answered (pos 2)) ∷ [])
-unfolding IsAsked cost_of cost_of_charges partition_cost
+unfolding IsAsked cost_of cost_of_charges partition_cost signature_in
 asked_among_others = (
   before,
   (before, refl),
   inl (
     granted an_ask (a_grant 1 1000000 3),
-    money_says (owner 9000000 100) 0 before (a_query size_people) 1 1 _ size_accepted refl,
+    money_says (owner 9000000 100) 0 before (a_query size_people) 1 1 _ charged refl,
     inl (record {
       outcome = Answered (pos 2);
       u = meanwhile;
@@ -321,13 +321,13 @@ asked_among_others = (
 -- the same line where memory ran out after its reservation
 asked_and_lost : IsAsked (owner 9000000 100) (λ number. draws_of_minus_one) 0 (a_query size_people) [] (refused (by_number (NoAnswer 1)))
     ((2, reserved 1) ∷ (4, Settle 1 Lost) ∷ []) (meanwhile ++ Settle 1 Lost ∷ [])
-unfolding IsAsked cost_of cost_of_charges partition_cost
+unfolding IsAsked cost_of cost_of_charges partition_cost signature_in
 asked_and_lost = (
   before,
   (before, refl),
   inl (
     granted an_ask (a_grant 1 1000000 3),
-    money_says (owner 9000000 100) 0 before (a_query size_people) 1 1 _ size_accepted refl,
+    money_says (owner 9000000 100) 0 before (a_query size_people) 1 1 _ charged refl,
     inl (record {
       outcome = Lost;
       u = meanwhile;

@@ -1,7 +1,6 @@
 -- Verdicts and what is answered by them, at worked queries, and wrong ones refused.
 use Rattle.std.proofs.Common.{◌≡◌, ℕ, List, [], ◌∷◌, ◌++◌, None, Option, codes, refl, sym, ◌∙◌, subst, pos, inl, inr}
 use Rattle.std.specs.Prelude.{ℤ}
-use Rattle.partition_charge.specs.declared.view.View.TheVariants.{Whole, Part}
 use Rattle.journal_records.specs.declared.records.Outcome.{Outcome}
 use Rattle.journal_records.specs.declared.records.Outcome.TheVariants.{Answered, Exhausted, Lost}
 use Rattle.journal_records.specs.declared.records.Record.{Record}
@@ -21,14 +20,15 @@ use Rattle.answer_path.specs.Reading.{Reading, read, IsReading}
 use Rattle.answer_path.specs.Judgement.{Judgement, refused_for, accepted, judgement_of}
 use Rattle.answer_path.specs.Owner.{Owner}
 use Rattle.answer_path.specs.Query.{Query}
-use Rattle.answer_path.specs.Program.{IsCharged, HasValueIn}
+use Rattle.part_views.specs.Views.{signature_in}
+use Rattle.answer_path.specs.Program.{IsCharged}
 use Rattle.answer_path.specs.Noise.{noise_at}
 use Rattle.answer_path.specs.Verdict.{Verdict, program_refused, money_refused, granted, IsVerdict, IsVerdictBy}
-use Rattle.answer_path.specs.Answered.{IsAnswered, IsAsked, IsSettledAt, IsSettledBy, IsUnanswered, Told, outcome_reply}
+use Rattle.answer_path.specs.Answered.{HasWorthIn, IsAnswered, IsAsked, IsSettledAt, IsSettledBy, IsUnanswered, Told, outcome_reply}
 use Rattle.answer_path.proofs.Answering.{money_says, program_says}
 use Rattle.answer_path.proofs.Readings.{one_reading}
 use Rattle.answer_path.proofs.SizePeople.{size_people, size_term, size_reads}
-use Rattle.answer_path.proofs.Examples.{a_grant, a_query, an_ask, before, draws_of_minus_one, minus_one, no_table, owner, people, reserved, settled_as_lost, settled_by_three, size_accepted, size_judged, words}
+use Rattle.answer_path.proofs.Examples.{a_grant, a_query, an_ask, before, draws_of_minus_one, minus_one, no_table, owner, people, reserved, settled_as_lost, settled_by_three, charged, size_judged, words}
 
 abbrev query : Query
 query = a_query size_people
@@ -40,6 +40,7 @@ stranger budget capacity = record {
   entry = record { budget = budget; capacity = capacity; analysts = 6; keys = [] };
   tables = words ∷ [];
   rows = [] ∷ [];
+  partitions = [];
 }
 
 abbrev unknown : ProgramRefusal
@@ -47,9 +48,11 @@ unknown = ill_typed Unbound 5 11
 
 -- The program is refused, and before the budget is asked: also where nothing is left, and no room.
 refused_program : IsVerdict (stranger 9000000 100).entry (words ∷ []) 0 before query (program_refused unknown)
+unfolding signature_in
 refused_program = program_says (stranger 9000000 100) 0 before query unknown (read size_term, size_reads, no_table)
 
 refused_before_the_budget : IsVerdict (stranger 0 0).entry (words ∷ []) 0 before query (program_refused unknown)
+unfolding signature_in
 refused_before_the_budget = program_says (stranger 0 0) 0 before query unknown (read size_term, size_reads, no_table)
 
 -- what the program's one reading comes to
@@ -69,17 +72,17 @@ not_another_fault h = absurd (cc (verdict_on_a_stranger 9000000 100 (program_ref
 
 -- A query is answered by its verdict: as exhausted, refused for its program, and refused by the budget.
 exhausted_at : (draws : ℕ → ℕ) → noise_at 1000000 draws ≡ None → IsSettledBy (owner 9000000 100) (λ number. draws) query 1 Exhausted
-exhausted_at draws none = subst (λ (k : Option ℤ). IsSettledAt (HasValueIn (people ∷ []) (owner 9000000 100).rows Whole size_people) k Exhausted) (sym none) refl
+exhausted_at draws none = subst (λ (k : Option ℤ). IsSettledAt (HasWorthIn (owner 9000000 100) query) k Exhausted) (sym none) refl
 
 asked_and_exhausted : (draws : ℕ → ℕ) → noise_at 1000000 draws ≡ None → IsAsked (owner 9000000 100) (λ number. draws) 0 query [] (refused (by_number (NoNoise 1)))
     ((2, reserved 1) ∷ (3, Settle 1 Exhausted) ∷ []) (before ++ reserved 1 ∷ Settle 1 Exhausted ∷ [])
-unfolding IsAsked cost_of cost_of_charges partition_cost
+unfolding IsAsked cost_of cost_of_charges partition_cost signature_in
 asked_and_exhausted draws none = (
   before,
   (before, refl),
   inl (
     granted an_ask (a_grant 1 1000000 3),
-    money_says (owner 9000000 100) 0 before query 1 1 _ size_accepted refl,
+    money_says (owner 9000000 100) 0 before query 1 1 _ charged refl,
     inl (record {
       outcome = Exhausted;
       u = before ++ reserved 1 ∷ [];
@@ -93,27 +96,27 @@ asked_and_exhausted draws none = (
 )
 
 asked_of_a_stranger : (draws : ℕ → ℕ → ℕ) → IsAsked (stranger 0 0) draws 0 query [] (refused (by_program unknown)) [] before
-unfolding IsAsked
+unfolding IsAsked signature_in
 asked_of_a_stranger draws = (before, (before, refl), inl (program_refused unknown, refused_before_the_budget, (refl, refl, refl)))
 
 asked_over_budget : (draws : ℕ → ℕ → ℕ) → IsAsked (owner 1999999 100) draws 0 query [] (refused (by_money (NoBudget 1000000 2000000 1999999 2))) [] before
-unfolding IsAsked cost_of cost_of_charges partition_cost
+unfolding IsAsked cost_of cost_of_charges partition_cost signature_in
 asked_over_budget draws = (
   before,
   (before, refl),
   inl (
     money_refused (NoBudget 1000000 2000000 1999999 2),
-    money_says (owner 1999999 100) 0 before query 1 1 _ size_accepted refl,
+    money_says (owner 1999999 100) 0 before query 1 1 _ charged refl,
     (refl, refl, refl),
   ),
 )
 
 asked_without_room : (draws : ℕ → ℕ → ℕ) → IsAsked (owner 2000000 3) draws 0 query [] (refused (by_money (JournalFull 2 0 3))) [] before
-unfolding IsAsked cost_of cost_of_charges partition_cost
+unfolding IsAsked cost_of cost_of_charges partition_cost signature_in
 asked_without_room draws = (
   before,
   (before, refl),
-  inl (money_refused (JournalFull 2 0 3), money_says (owner 2000000 3) 0 before query 1 1 _ size_accepted refl, (refl, refl, refl)),
+  inl (money_refused (JournalFull 2 0 3), money_says (owner 2000000 3) 0 before query 1 1 _ charged refl, (refl, refl, refl)),
 )
 
 -- Only a refusal for the disk comes of a reservation without its settlement.
@@ -182,30 +185,30 @@ unfolding IsAsked
 not_lost_without_noise draws none told after (g, begins, inl (program_refused refusal, is, (said, nothing, rest))) = absurd (cc (said))
 not_lost_without_noise draws none told after (g, begins, inl (money_refused refusal, is, (said, nothing, rest))) = absurd (cc (said))
 not_lost_without_noise draws none told after (g, begins, inl (granted asking grant, is, inl two)) =
-    lost_has_noise (HasValueIn (people ∷ []) (owner 9000000 100).rows Whole size_people) grant two.outcome 1
-    (subst (λ (k : Option ℤ). IsSettledAt (HasValueIn (people ∷ []) (owner 9000000 100).rows Whole size_people) k two.outcome) (none grant.number) two.settled) two.reply_is
+    lost_has_noise (HasWorthIn (owner 9000000 100) query) grant two.outcome 1
+    (subst (λ (k : Option ℤ). IsSettledAt (HasWorthIn (owner 9000000 100) query) k two.outcome) (none grant.number) two.settled) two.reply_is
 not_lost_without_noise draws none told after (g, begins, inl (granted asking grant, is, inr (unkept, said, rest))) = absurd (cc (said))
 not_lost_without_noise draws none told after (g, begins, inr (said, nothing, rest)) = absurd (cc (said))
 
 -- The same of a line among which no other adds records: answered, lost and refused; and want of memory adds nothing.
 answered_alone : IsAnswered (owner 9000000 100) (λ number. draws_of_minus_one) 0 before query (answered 1 (pos 2) 1000000) (reserved 1 ∷ Settle 1 (Answered (pos 2)) ∷ [])
-unfolding IsAnswered cost_of cost_of_charges partition_cost
+unfolding IsAnswered cost_of cost_of_charges partition_cost signature_in
 answered_alone = (
   granted an_ask (a_grant 1 1000000 3),
-  money_says (owner 9000000 100) 0 before query 1 1 _ size_accepted refl,
+  money_says (owner 9000000 100) 0 before query 1 1 _ charged refl,
   inl (Answered (pos 2), settled_by_three minus_one, refl, refl),
 )
 
 lost_alone : IsAnswered (owner 9000000 100) (λ number. draws_of_minus_one) 0 before query (refused (by_number (NoAnswer 1))) (reserved 1 ∷ Settle 1 Lost ∷ [])
-unfolding IsAnswered cost_of cost_of_charges partition_cost
+unfolding IsAnswered cost_of cost_of_charges partition_cost signature_in
 lost_alone = (
   granted an_ask (a_grant 1 1000000 3),
-  money_says (owner 9000000 100) 0 before query 1 1 _ size_accepted refl,
+  money_says (owner 9000000 100) 0 before query 1 1 _ charged refl,
   inl (Lost, settled_as_lost, refl, refl),
 )
 
 refused_alone : (draws : ℕ → ℕ → ℕ) → IsAnswered (stranger 0 0) draws 0 before query (refused (by_program unknown)) []
-unfolding IsAnswered
+unfolding IsAnswered signature_in
 refused_alone draws = (program_refused unknown, refused_before_the_budget, (refl, refl))
 
 unanswered : IsUnanswered (refused no_memory) []
@@ -217,18 +220,15 @@ not_unanswered first h = absurd (cc (h.1))
 not_unanswered_otherwise : IsUnanswered (refused (by_number (NoAnswer 0))) [] → ⊥
 not_unanswered_otherwise h = absurd (cc (h.0))
 
--- A program is charged by its own sensitivity, and no part is charged yet.
+-- A program is charged by its own sensitivity.
 judged_at_one : (reading : Reading) → IsReading size_people reading → judgement_of (people ∷ []) reading ≡ accepted size_term (Fin 1 1)
 judged_at_one reading reads =
     subst (λ (r : Reading). judgement_of (people ∷ []) r ≡ accepted size_term (Fin 1 1)) (one_reading size_people (read size_term) reading size_reads reads) size_judged
 
-not_charged_twice : IsCharged (people ∷ []) Whole size_people 2 1 → ⊥
+not_charged_twice : IsCharged (people ∷ []) size_people 2 1 → ⊥
 not_charged_twice (e, reads, is) =
     let both : accepted size_term (Fin 1 1) ≡ accepted e (Fin 2 1) = sym (judged_at_one (read e) reads) ∙ is in absurd (cc (both))
 
-not_charged_half : IsCharged (people ∷ []) Whole size_people 1 2 → ⊥
+not_charged_half : IsCharged (people ∷ []) size_people 1 2 → ⊥
 not_charged_half (e, reads, is) =
     let both : accepted size_term (Fin 1 1) ≡ accepted e (Fin 1 2) = sym (judged_at_one (read e) reads) ∙ is in absurd (cc (both))
-
-not_charged_of_a_part : IsCharged (people ∷ []) (Part 0 0) size_people 1 1 → ⊥
-not_charged_of_a_part h = h

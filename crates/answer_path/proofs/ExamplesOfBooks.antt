@@ -13,6 +13,7 @@ use Rattle.wire_lines.specs.Refusal.{by_disk, by_number, no_memory}
 use Rattle.wire_lines.specs.declared.refusal.DiskRefusal.TheVariants.{Closed, Fault}
 use Rattle.wire_lines.specs.declared.refusal.NumberRefusal.TheVariants.{Unknown as NoNumber, NotYours as AnotherAnalysts}
 use Rattle.wire_lines.specs.declared.reply.Standing.TheVariants.{Answered as StandsAnswered, Open as StandsOpen, Lost as StandsLost, Exhausted as StandsExhausted}
+use Rattle.part_views.specs.Views.{signature_in}
 use Rattle.answer_path.specs.Query.{Query}
 use Rattle.answer_path.specs.Verdict.{ask_for, granted}
 use Rattle.answer_path.specs.Answered.{IsAnswered, IsAsked, granted_record}
@@ -20,7 +21,7 @@ use Rattle.answer_path.specs.Closing.{Closes}
 use Rattle.answer_path.specs.Standing.{IsBalance, IsRecalled}
 use Rattle.answer_path.proofs.Answering.{money_says}
 use Rattle.answer_path.proofs.SizePeople.{size_people}
-use Rattle.answer_path.proofs.Examples.{a_grant, a_query, an_ask, before, charged, draws_of_minus_one, minus_one, owner, reserved, settled_by_three, size_accepted}
+use Rattle.answer_path.proofs.Examples.{a_grant, a_query, an_ask, before, charged, draws_of_minus_one, minus_one, owner, reserved, settled_by_three}
 
 abbrev query : Query
 query = a_query size_people
@@ -31,38 +32,39 @@ failed next = record { failed_at = 3; pending = next }
 
 -- 52 at the reservation: nothing was added, and the book is closed with that reservation pending.
 fault_at_reservation : (draws : ℕ → ℕ → ℕ) → IsAsked (owner 9000000 100) draws 0 query [] (refused (by_disk Fault)) [] before
-unfolding IsAsked cost_of cost_of_charges partition_cost
+unfolding IsAsked cost_of cost_of_charges partition_cost signature_in
 fault_at_reservation draws = (
   before,
   (before, refl),
   inl (
     granted an_ask (a_grant 1 1000000 3),
-    money_says (owner 9000000 100) 0 before query 1 1 _ size_accepted refl,
+    money_says (owner 9000000 100) 0 before query 1 1 _ charged refl,
     inr (Fault, refl, inl (refl, refl)),
   ),
 )
 
 closed_at_reservation : (draws : ℕ → ℕ → ℕ) → Closes (owner 9000000 100) draws query (refused (by_disk Fault)) [] None (Some (failed (reserved 1)))
+unfolding signature_in
 closed_at_reservation draws = (failed (reserved 1), refl, refl, (1, 1, charged, a_grant 1 1000000 3, refl))
 
 -- 52 at the settlement: the reservation was added, and its settlement is pending.
 fault_at_settlement : (draws : ℕ → ℕ → ℕ) → IsAsked (owner 9000000 100) draws 0 query [] (refused (by_disk Fault)) ((2, reserved 1) ∷ []) (before ++ reserved 1 ∷ [])
-unfolding IsAsked cost_of cost_of_charges partition_cost
+unfolding IsAsked cost_of cost_of_charges partition_cost signature_in
 fault_at_settlement draws = (
   before,
   (before, refl),
   inl (
     granted an_ask (a_grant 1 1000000 3),
-    money_says (owner 9000000 100) 0 before query 1 1 _ size_accepted refl,
+    money_says (owner 9000000 100) 0 before query 1 1 _ charged refl,
     inr (Fault, refl, inr (refl, ([], refl))),
   ),
 )
 
 fault_alone : (draws : ℕ → ℕ → ℕ) → IsAnswered (owner 9000000 100) draws 0 before query (refused (by_disk Fault)) (reserved 1 ∷ [])
-unfolding IsAnswered cost_of cost_of_charges partition_cost
+unfolding IsAnswered cost_of cost_of_charges partition_cost signature_in
 fault_alone draws = (
   granted an_ask (a_grant 1 1000000 3),
-  money_says (owner 9000000 100) 0 before query 1 1 _ size_accepted refl,
+  money_says (owner 9000000 100) 0 before query 1 1 _ charged refl,
   inr (Fault, refl, inr refl),
 )
 
@@ -150,11 +152,11 @@ recalled_of_before = (history, ([], refl), refl, refl)
 
 -- what is spent and left, and before any record
 left_of_it : IsBalance (owner 9000000 100).entry before (remaining 1000000 9000000 2) before
-unfolding IsBalance cost_of cost_of_charges partition_cost
+unfolding IsBalance cost_of cost_of_charges partition_cost signature_in
 left_of_it = (before, ([], refl), refl, refl)
 
 left_at_first : IsBalance (owner 9000000 100).entry [] (remaining 0 9000000 0) []
-unfolding IsBalance cost_of cost_of_charges partition_cost
+unfolding IsBalance cost_of cost_of_charges partition_cost signature_in
 left_at_first = ([], ([], refl), refl, refl)
 
 not_left_unseen : IsBalance (owner 9000000 100).entry before (remaining 0 9000000 0) [] → ⊥

@@ -1,6 +1,7 @@
 mod Examples
 mod ExamplesOfAnswers
 mod ExamplesOfBooks
+mod ExamplesOfParts
 mod Limits
 pub mod Told
 pub mod Readings

@@ -1,7 +1,9 @@
 -- Which refusal each fault is told by.
-use Rattle.std.proofs.Common.{◌≡◌, ℕ, zero, suc, List, [], ◌∷◌, refl, sym, ◌∙◌, ap, subst, slice_get, Some, inl, inr}
+use Rattle.std.proofs.Common.{◌≡◌, ℕ, zero, suc, List, [], ◌∷◌, refl, sym, ◌∙◌, ap, subst, slice_get, Option, Some, None, inl, inr}
 use Rattle.std.specs.Prelude.{IsTrue}
 use Rattle.std.proofs.lemmas.Option.{slice_get_within, same_Some}
+use Rattle.partition_charge.specs.declared.view.View.{View}
+use Rattle.partition_charge.specs.declared.view.View.TheVariants.{Whole, Part}
 use Rattle.fz_frac.specs.Sens.{distance_of}
 use Rattle.fz_ast.specs.Signature.{Signature, TableType}
 use Rattle.fz_ast.specs.Terms.{Term}
@@ -18,6 +20,8 @@ use Rattle.sensitivity_check.specs.declared.checker.Checked.{Checked}
 use Rattle.sensitivity_check.specs.declared.fault.CheckFault.{CheckFault}
 use Rattle.sensitivity_check.specs.declared.fault.CheckFault.TheVariants.{Unbound, Mismatch, NotGround, NotFlat, TooSensitive, Range, Unbounded, NotNum, NoMemory as NoPlace}
 use Rattle.sensitivity_check.specs.Answered.{IsChecked, IsFirstFault}
+use Rattle.owner_catalog.specs.Entries.{PartitionEntry}
+use Rattle.part_views.specs.Views.{alone, divided_table, signature_in}
 use Rattle.wire_lines.specs.Name.{is_name}
 use Rattle.shape_law.specs.Walk.{shape}
 use Rattle.shape_run.specs.declared.plan.Plan.{Plan}
@@ -34,6 +38,20 @@ pub named : (ts : Signature) (i : ℕ) (t : TableType) → AreNames ts → slice
 named [] i t h e = absurd (cc e)
 named (u ∷ ts) zero t h e = subst (λ x. IsTrue (is_name x.name)) (same_Some u t e) h.0
 named (u ∷ ts) (suc i) t h e = named ts i t h.1 e
+
+-- so can those of a view's tables
+pub names_in_view : (ts : Signature) (partitions : List PartitionEntry) (view : View) → AreNames ts → AreNames (signature_in ts partitions view)
+unfolding signature_in
+names_in_view ts partitions Whole h = h
+names_in_view ts partitions (Part p j) h = divided (slice_get partitions p)
+  where
+    one : (i : ℕ) (o : Option TableType) → slice_get ts i ≡ o → AreNames (alone o)
+    one i None is = tt
+    one i (Some t) is = (named ts i t h is, tt)
+
+    divided : (o : Option PartitionEntry) → AreNames (divided_table ts o)
+    divided None = tt
+    divided (Some partition) = one partition.table (slice_get ts partition.table) refl
 
 pub unlexed_refused : (w : List ℕ) (fault : LexFault) (refusal : Refusal) → ExplainsLex w fault → refusal ≡ lex_refusal fault → (ts : Signature) → IsProgramRefusal ts w refusal
 unfolding IsReading judgement_of

@@ -4,8 +4,6 @@ use Rattle.std.specs.Prelude.{Result, Ok, Err}
 use Rattle.journal_records.specs.declared.records.Outcome.{Outcome}
 use Rattle.journal_records.specs.declared.records.Outcome.TheVariants.{Answered, Exhausted, Lost}
 use Rattle.journal_records.specs.declared.records.Record.TheVariants.{Settle}
-use Rattle.partition_charge.specs.declared.view.View.{View}
-use Rattle.partition_charge.specs.declared.view.View.TheVariants.{Whole}
 use Rattle.budget_core.specs.declared.entry.Ask.{Ask}
 use Rattle.budget_core.specs.declared.entry.Grant.{Grant}
 use Rattle.budget_ledger.specs.declared.failure.Failure.{Failure}
@@ -16,7 +14,9 @@ use Rattle.budget_ledger.specs.declared.book.BookFault.TheVariants.{Refused, Unw
 use Rattle.wire_lines.specs.Reply.{Replied, refused}
 use Rattle.wire_lines.specs.Refusal.{Refusal, by_line, by_program, by_money, by_disk, by_number, no_memory}
 use Rattle.wire_lines.specs.declared.refusal.DiskRefusal.TheVariants.{Closed as IsClosed, Fault}
-use Rattle.answer_path.specs.Owner.{Owner, Holding, IsOwnerOf}
+use Rattle.part_views.specs.Holding.{Holding}
+use Rattle.part_views.specs.Views.{signature_in}
+use Rattle.answer_path.specs.Owner.{Owner, IsOwnerOf, signature_of_view}
 use Rattle.answer_path.specs.Query.{Query}
 use Rattle.answer_path.specs.Program.{IsCharged}
 use Rattle.answer_path.specs.Verdict.{program_refused, money_refused, granted, ask_for, money_refusal}
@@ -26,10 +26,10 @@ use Rattle.answer_path.specs.Pass.{Pass, first_of_run}
 use Rattle.answer_path.specs.Turn.{IsTurn, HasReserved, HasSettled, book_refusal, settled_reply}
 use Rattle.answer_path.specs.Code.{IsProgramRefusal}
 use Rattle.answer_path.proofs.Passes.{both, nothing, same_told}
-use Rattle.answer_path.proofs.Answering.{IsAcceptedAt, money_says, owner_is, owner_with, program_says, self}
+use Rattle.answer_path.proofs.Answering.{money_says, owner_is, owner_with, program_says, self}
 
 -- a refusal before the budget is asked adds nothing
-pub refused_turn : (owner : Owner) (draws : ℕ → ℕ → ℕ) (query : Query) (pass : Pass) (refusal : Refusal) → IsProgramRefusal owner.tables query.program refusal
+pub refused_turn : (owner : Owner) (draws : ℕ → ℕ → ℕ) (query : Query) (pass : Pass) (refusal : Refusal) → IsProgramRefusal (signature_of_view owner query.view) query.program refusal
     → IsTurn owner draws query pass (refused refusal) pass
 unfolding IsAsked
 refused_turn owner draws query pass (by_program refusal) h = record {
@@ -44,15 +44,12 @@ refused_turn owner draws query pass (by_money refusal) h = absurd h
 refused_turn owner draws query pass (by_disk refusal) h = absurd h
 refused_turn owner draws query pass (by_number refusal) h = absurd h
 
-charged_in : (owner : Owner) (query : Query) (p q : ℕ) → query.view ≡ Whole → IsAcceptedAt owner.tables query.program p q → IsCharged owner.tables query.view query.program p q
-charged_in owner query p q whole c = subst (λ (view : View). IsCharged owner.tables view query.program p q) (sym whole) c
-
 -- no reservation is made
-pub unreserved_turn : (name : List ℕ) (holding : Holding) (draws : ℕ → ℕ → ℕ) (query : Query) (before after : Pass) (p q : ℕ) (fault : BookFault) → query.view ≡ Whole
-    → IsAcceptedAt holding.tables query.program p q → HasReserved before (ask_for query p q) (Err fault) after
+pub unreserved_turn : (name : List ℕ) (holding : Holding) (draws : ℕ → ℕ → ℕ) (query : Query) (before after : Pass) (p q : ℕ) (fault : BookFault)
+    → IsCharged (signature_in holding.tables holding.partitions query.view) query.program p q → HasReserved before (ask_for query p q) (Err fault) after
     → IsTurn (owner_with name before.entry holding) draws query before (refused (book_refusal fault)) after
 unfolding IsAsked
-unreserved_turn name holding draws query before after p q (Refused fault) whole c (verdict, (stays, added)) = record {
+unreserved_turn name holding draws query before after p q (Refused fault) c (verdict, (stays, added)) = record {
   told = [];
   asked = (
     before.seen,
@@ -66,7 +63,7 @@ unreserved_turn name holding draws query before after p q (Refused fault) whole 
   added = added;
   closes = stays;
 }
-unreserved_turn name holding draws query before after p q (Unwritten (Closed failed_at)) whole c (grant, verdict, (failure, was, said, (stays, added))) = record {
+unreserved_turn name holding draws query before after p q (Unwritten (Closed failed_at)) c (grant, verdict, (failure, was, said, (stays, added))) = record {
   told = [];
   asked = (
     before.seen,
@@ -80,7 +77,7 @@ unreserved_turn name holding draws query before after p q (Unwritten (Closed fai
   added = added;
   closes = (failure, was, said, refl, stays);
 }
-unreserved_turn name holding draws query before after p q (Unwritten DiskFault) whole c (grant, verdict, (failure, free, shut, pending, added)) = record {
+unreserved_turn name holding draws query before after p q (Unwritten DiskFault) c (grant, verdict, (failure, free, shut, pending, added)) = record {
   told = [];
   asked = (
     before.seen,
@@ -92,7 +89,7 @@ unreserved_turn name holding draws query before after p q (Unwritten DiskFault) 
     ),
   );
   added = added;
-  closes = (failure, free, shut, (p, q, charged_in (owner_with name before.entry holding) query p q whole c, grant, pending));
+  closes = (failure, free, shut, (p, q, c, grant, pending));
 }
 
 stays_open : (owner : Owner) (draws : ℕ → ℕ → ℕ) (query : Query) (grant : Grant) (outcome : Outcome) (told : List Told) (before after : Option Failure) → StaysOpen before after
@@ -103,7 +100,7 @@ stays_open owner draws query grant Lost told before after stays = stays
 
 -- a reservation is made, and settled or not
 pub settled_turn : (name : List ℕ) (holding : Holding) (draws : ℕ → ℕ → ℕ) (query : Query) (before mid after : Pass) (p q : ℕ) (grant : Grant) (outcome : Outcome) (kept : Result ℕ AppendFault)
-    → IsAcceptedAt holding.tables query.program p q → HasReserved before (ask_for query p q) (Ok grant) mid → IsSettledBy (owner_with name before.entry holding) draws query grant.number outcome
+    → IsCharged (signature_in holding.tables holding.partitions query.view) query.program p q → HasReserved before (ask_for query p q) (Ok grant) mid → IsSettledBy (owner_with name before.entry holding) draws query grant.number outcome
     → HasSettled mid grant.number outcome kept after → IsTurn (owner_with name before.entry holding) draws query before (settled_reply grant outcome kept) after
 unfolding IsAsked
 settled_turn name holding draws query before mid after p q grant outcome (Ok seen) c (verdict, (opened, first)) settles (free, second) =
@@ -160,7 +157,7 @@ of_owner P pass holding all owner is = subst P (owner_is pass.entry holding owne
 
 -- some owner of an entry and a holding
 pub some_owner : (pass : Pass) (holding : Holding) → IsOwnerOf pass.entry holding (owner_with [] pass.entry holding)
-some_owner pass holding = record { entry_is = refl; tables_are = refl; rows_are = refl }
+some_owner pass holding = record { entry_is = refl; tables_are = refl; rows_are = refl; partitions_are = refl }
 
 pub closes_by : (owner : Owner) (draws : ℕ → ℕ → ℕ) (query : Query) (before after : Pass) (reply : Replied) (turn : IsTurn owner draws query before reply after) (other : List Told) → after.own ≡ before.own ++ other
     → Closes owner draws query reply other before.storage.closed after.storage.closed

@@ -13,9 +13,9 @@ use Rattle.wire_lines.specs.Reply.{Replied, answered, refused}
 use Rattle.wire_lines.specs.Refusal.{Refusal, by_program, by_money, by_number, by_disk, no_memory}
 use Rattle.wire_lines.specs.declared.refusal.DiskRefusal.{DiskRefusal}
 use Rattle.wire_lines.specs.declared.refusal.NumberRefusal.TheVariants.{Exhausted as NoNoise, Lost as NoAnswer}
-use Rattle.answer_path.specs.Owner.{Owner}
+use Rattle.answer_path.specs.Owner.{Owner, signature_of_view, rows_of_view}
 use Rattle.answer_path.specs.Query.{Query}
-use Rattle.answer_path.specs.Program.{HasValueIn}
+use Rattle.answer_path.specs.Judgement.{HasValue}
 use Rattle.answer_path.specs.Noise.{noise_at}
 use Rattle.answer_path.specs.Verdict.{Verdict, program_refused, money_refused, granted, IsVerdict}
 
@@ -25,10 +25,13 @@ abbrev pub IsSettledAt : (HasWorth : ℤ → Type 0) → Option ℤ → Outcome 
 IsSettledAt HasWorth None outcome = outcome ≡ Exhausted
 IsSettledAt HasWorth (Some noise) outcome = ((value : ℤ) × HasWorth value × (outcome ≡ Answered (value +ℤ noise))) ⊎ (outcome ≡ Lost)
 
+-- what a query's program is worth: its value on the rows of the query's view
+abbrev pub HasWorthIn : Owner → Query → ℤ → Type 0
+HasWorthIn owner query value = HasValue (signature_of_view owner query.view) (rows_of_view owner query.view) query.program value
+
 -- this owner's reservation of this number may be settled so; the owner's numbers have these draws
 abbrev pub IsSettledBy : Owner → (ℕ → ℕ → ℕ) → Query → ℕ → Outcome → Type 0
-IsSettledBy owner draws query number outcome =
-    IsSettledAt (HasValueIn owner.tables owner.rows query.view query.program) (noise_at query.e (draws number)) outcome
+IsSettledBy owner draws query number outcome = IsSettledAt (HasWorthIn owner query) (noise_at query.e (draws number)) outcome
 
 abbrev pub outcome_reply : Grant → Outcome → Replied
 outcome_reply grant (Answered value) = answered grant.number value grant.taken
@@ -73,7 +76,7 @@ IsAnsweredBy owner draws query (granted asking grant) reply added =
 -- these records and those before start were found.
 unfoldable pub IsAnswered : Owner → (ℕ → ℕ → ℕ) → (start : ℕ) → List Record → Query → Replied → (added : List Record) → Type 0
 IsAnswered owner draws start records query reply added =
-    (verdict : Verdict) × IsVerdict owner.entry owner.tables start records query verdict
+    (verdict : Verdict) × IsVerdict owner.entry (signature_of_view owner query.view) start records query verdict
     × IsAnsweredBy owner draws query verdict reply added
 
 -- memory ran out before a reservation
@@ -120,5 +123,6 @@ unfoldable pub IsAsked :
     Owner → (ℕ → ℕ → ℕ) → (start : ℕ) → Query → (seen : List Record) → Replied → (told : List Told) → (after : List Record) → Type 0
 IsAsked owner draws start query seen reply told after =
     (g : List Record) × IsPrefix seen g
-    × (((verdict : Verdict) × IsVerdict owner.entry owner.tables start g query verdict × IsAskedBy owner draws query verdict g reply told after)
+    × (((verdict : Verdict) × IsVerdict owner.entry (signature_of_view owner query.view) start g query verdict
+    × IsAskedBy owner draws query verdict g reply told after)
     ⊎ AddsNothing g no_memory reply told after)

@@ -9,7 +9,7 @@ use Rattle.wire_lines.specs.Reply.{Replied, answered, refused}
 use Rattle.wire_lines.specs.Refusal.{by_number, by_disk}
 use Rattle.wire_lines.specs.declared.refusal.DiskRefusal.TheVariants.{Closed, Fault}
 use Rattle.wire_lines.specs.declared.refusal.NumberRefusal.TheVariants.{Exhausted as NoNoise, Lost as NoAnswer}
-use Rattle.answer_path.specs.Owner.{Owner}
+use Rattle.answer_path.specs.Owner.{Owner, signature_of_view}
 use Rattle.answer_path.specs.Query.{Query}
 use Rattle.answer_path.specs.Program.{IsCharged}
 use Rattle.answer_path.specs.Verdict.{ask_for}
@@ -19,7 +19,7 @@ use Rattle.answer_path.specs.Answered.{Told, IsSettledBy, granted_record}
 -- by the program, where the line added nothing; else the settlement of the reservation that it added.
 abbrev pub IsPendingOf : Owner → (ℕ → ℕ → ℕ) → Query → (told : List Told) → (pending : Record) → Type 0
 IsPendingOf owner draws query [] pending =
-    (p q : ℕ) × IsCharged owner.tables query.view query.program p q
+    (p q : ℕ) × IsCharged (signature_of_view owner query.view) query.program p q
     × (grant : Grant) × (pending ≡ granted_record (ask_for query p q) grant)
 IsPendingOf owner draws query ((place, Reserve reserved) ∷ []) pending =
     (outcome : Outcome) × IsSettledBy owner draws query reserved.number outcome × (pending ≡ Settle reserved.number outcome)

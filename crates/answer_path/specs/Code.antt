@@ -1,7 +1,7 @@
 -- What the code's answers mean.
-use Rattle.std.specs.Prelude.{◌≡◌, ◌<◌, ◌≤◌, ℕ, List, length, ⊤}
-use Rattle.budget_core.specs.Entries.{Entry, IsEpsilon}
-use Rattle.partition_charge.specs.declared.view.View.TheVariants.{Whole}
+use Rattle.std.specs.Prelude.{◌≡◌, ◌<◌, ◌≤◌, ℕ, ℤ, List, length, ⊤}
+use Rattle.partition_charge.specs.declared.view.View.{View}
+use Rattle.budget_core.specs.Entries.{Entry, HasView, IsEpsilon}
 use Rattle.fz_frac.specs.Sens.{distance_of}
 use Rattle.fz_ast.specs.Signature.{Signature}
 use Rattle.fz_ast.specs.Terms.{Term}
@@ -10,6 +10,11 @@ use Rattle.fz_lexer.specs.declared.token.LexFault.TheVariants.{Bad, TooManyToken
 use Rattle.fz_parser.specs.declared.fault.ParseFault.{ParseFault}
 use Rattle.fz_parser.specs.declared.fault.ParseFault.TheVariants.{Stuck, TooNested, NoMemory as NoSpace}
 use Rattle.linear_types.specs.Inferred.{Fault}
+use Rattle.metric_law.specs.Means.{Means}
+use Rattle.metric_values.specs.Tables.{rows_of}
+use Rattle.metric_values.specs.Values.{NumV}
+use Rattle.part_views.specs.Holding.{Holding}
+use Rattle.part_views.specs.Views.{signature_in, rows_in}
 use Rattle.sensitivity_check.specs.declared.fault.CheckFault.{CheckFault}
 use Rattle.sensitivity_check.specs.declared.fault.CheckFault.TheVariants.{Unbounded, NoMemory as NoPlace}
 use Rattle.sensitivity_check.specs.Answered.{IsChecked, IsCheckFault}
@@ -43,6 +48,15 @@ pub record IsJudged (ts : Signature) (e : Term) (judged : Judged) : Type 0 where
   pub checked : IsChecked ts e judged.checked
   pub planned : IsPlanOf ts e judged.plan
   pub accepts : judgement_of ts (read e) ≡ accepted e (distance_of judged.checked.sens)
+
+-- the term was judged over the tables of a view of this holding
+abbrev pub IsJudgedIn : Holding → View → Judged → Type 0
+IsJudgedIn holding view judged = IsJudged (signature_in holding.tables holding.partitions view) judged.checked.term.now judged
+
+-- a term's value on the rows of a view of this holding
+abbrev pub IsWorth : Holding → View → Term → ℤ → Type 0
+IsWorth holding view e value =
+    Means (rows_of (signature_in holding.tables holding.partitions view) (rows_in holding.partitions view holding.rows)) e (NumV value)
 
 -- a program that is this term is refused for this; memory may run out at any term
 abbrev pub IsTermRefusal : Signature → Term → Refusal → Type 0
@@ -88,8 +102,8 @@ TellsFault ts fault refusal = (f : Fault) → IsCheckFault ts fault f → refusa
 abbrev pub query_of : QueryAt → Query
 query_of query = record { owner = query.owner; analyst = query.analyst; view = query.view; e = query.epsilon; program = query.program.now }
 
--- a query is of an analyst of the entry, at an epsilon in its range, and of the whole: no part is asked yet
+-- a query is of an analyst and a view of the entry, at an epsilon in its range
 pub record IsQueryOf (entry : Entry) (query : Query) : Type 0 where
   pub analyst : query.analyst < entry.analysts
-  pub view : query.view ≡ Whole
+  pub view : HasView entry query.view
   pub epsilon : IsEpsilon query.e

@@ -6,6 +6,9 @@ use Rattle.journal_records.specs.declared.records.Outcome.TheVariants.{Lost}
 use Rattle.budget_core.specs.declared.entry.Ask.{Ask}
 use Rattle.budget_core.specs.Ledger.{reservation_numbered}
 use Rattle.partition_charge.specs.declared.view.View.{View}
+use Rattle.owner_catalog.specs.Entries.{PartitionEntry}
+use Rattle.part_views.specs.Partitions.{ArePartitions}
+use Rattle.part_views.specs.Views.{signature_in, rows_in}
 use Rattle.budget_core.specs.Bare.{without_answers}
 use Rattle.budget_core.specs.Entries.{Entry}
 use Rattle.fz_frac.specs.Distance.{Distance, Fin, mul, ◌⊑◌}
@@ -20,7 +23,7 @@ use Rattle.wire_lines.specs.Reply.{Replied, refused}
 use Rattle.wire_lines.specs.declared.refusal.NumberRefusal.TheVariants.{Lost as NoAnswer}
 use Rattle.answer_path.specs.Owner.{Owner}
 use Rattle.answer_path.specs.Query.{Query}
-use Rattle.answer_path.specs.Program.{IsCharged, HasValueIn}
+use Rattle.answer_path.specs.Program.{IsCharged}
 use Rattle.answer_path.specs.Verdict.{Verdict, IsVerdict}
 use Rattle.answer_path.specs.Answered.{Told, IsAsked, IsAnswered, IsUnanswered}
 use Rattle.answer_path.specs.Pass.{records_told}
@@ -52,18 +55,24 @@ AcceptedAreBounded =
     → (X Y : Dataset) → IsDataset ts X → IsDataset ts Y → (y z : ℤ) → HasValue ts X w y → HasValue ts Y w z
     → Fin (gap y z) 1 ⊑ mul r (Fin (apart X Y) 1)
 
--- a program that is accepted in a view has a value on each dataset of the tables, and only one
+-- a program that is accepted in a view has a number within -M..M on what the view shows of each dataset of the tables
 abbrev pub ChargedHaveValues : Type 0
 ChargedHaveValues =
-    (tables : Signature) (rows : Dataset) (view : View) (program : List ℕ) (p q : ℕ) → IsSignature tables → IsDataset tables rows
-    → IsCharged tables view program p q → (z : ℤ) × HasValueIn tables rows view program z
+    (tables : Signature) (partitions : List PartitionEntry) (rows : Dataset) (view : View) (program : List ℕ) (p q : ℕ)
+    → IsSignature tables → ArePartitions tables partitions → IsDataset tables rows → IsCharged (signature_in tables partitions view) program p q
+    → (z : ℤ) × HasValue (signature_in tables partitions view) (rows_in partitions view rows) program z × IsNumber z
 
-abbrev pub OneValueIn : Type 0
-OneValueIn =
-    (tables : Signature) (rows : Dataset) (view : View) (program : List ℕ) (y z : ℤ)
-    → HasValueIn tables rows view program y → HasValueIn tables rows view program z → y ≡ z
+-- Where the view's rows of two datasets are d apart, these numbers differ by at most p/q times d.
+abbrev pub ChargedAreBounded : Type 0
+ChargedAreBounded =
+    (tables : Signature) (partitions : List PartitionEntry) (rows other : Dataset) (view : View) (program : List ℕ) (p q : ℕ) (y z : ℤ)
+    → IsSignature tables → ArePartitions tables partitions → IsDataset tables rows → IsDataset tables other
+    → IsCharged (signature_in tables partitions view) program p q
+    → HasValue (signature_in tables partitions view) (rows_in partitions view rows) program y
+    → HasValue (signature_in tables partitions view) (rows_in partitions view other) program z
+    → Fin (gap y z) 1 ⊑ mul (Fin p q) (Fin (apart (rows_in partitions view rows) (rows_in partitions view other)) 1)
 
--- a verdict is the same with every answer in the records set to 0; rows and noise it isn't given
+-- a verdict, in any view, is the same with every answer in the records set to 0; rows and noise it isn't given
 abbrev pub VerdictsSeeNoAnswers : Type 0
 VerdictsSeeNoAnswers =
     (entry : Entry) (tables : Signature) (start : ℕ) (records : List Record) (query : Query) (verdict : Verdict)

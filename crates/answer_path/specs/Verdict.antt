@@ -43,7 +43,7 @@ IsVerdictBy entry start records query (accepted e (Fin p q)) verdict =
     verdict ≡ verdict_by_money (ask_for query p q) (money_verdict entry start records (ask_for query p q))
 IsVerdictBy entry start records query (accepted e Inf) verdict = ⊥
 
--- First the program is read and checked, then the budget is asked.
+-- First the program is read and checked over the tables of the query's view, then the budget is asked.
 unfoldable pub IsVerdict : Entry → Signature → (start : ℕ) → List Record → Query → Verdict → Type 0
 IsVerdict entry tables start records query verdict =
     (reading : Reading) × IsReading query.program reading × IsVerdictBy entry start records query (judgement_of tables reading) verdict

@@ -10,22 +10,20 @@ ghost use Rattle.fz_ast.specs.Limits.{IsNumber};
 ghost use Rattle.fz_frac.specs.Distance.{Fin};
 ghost use Rattle.fz_frac.specs.Sens.{distance_of};
 ghost use Rattle.linear_types.specs.Program.{is_endless};
-ghost use Rattle.metric_law.specs.Means.{Means};
-ghost use Rattle.metric_values.specs.Tables.{rows_of};
-ghost use Rattle.metric_values.specs.Values.{NumV};
 ghost use Rattle.wire_lines.specs.Refusal.{refusal_at};
 ghost use Rattle.wire_lines.specs.Reply.{replied};
+ghost use Rattle.part_views.specs.Partitions.{HasPart};
 ghost use Rattle.answer_path.specs.Owner.{Owner, IsOwnerOf};
 ghost use Rattle.answer_path.specs.Noise.{scale_numerator, scale_denominator, noise_at};
 ghost use Rattle.answer_path.specs.Verdict.{ask_for, money_refusal};
 ghost use Rattle.answer_path.specs.Answered.{Told, HasSmallAnswer, IsAsked, IsSettledAt, answer_limit, outcome_reply};
 ghost use Rattle.answer_path.specs.Closing.{Closes};
 ghost use Rattle.answer_path.specs.Pass.{first_of_run, ledger_of, records_told};
+ghost use Rattle.answer_path.specs.Judgement.{AreNames};
 ghost use Rattle.answer_path.specs.Reading.{read, IsReading};
 ghost use Rattle.answer_path.specs.Turn.{IsTurn, HasSettled, book_refusal, disk_refusal, settled_reply};
-ghost use Rattle.answer_path.specs.Code.{IsJudged, IsQueryOf, query_of};
+ghost use Rattle.answer_path.specs.Code.{IsJudgedIn, IsQueryOf, IsWorth, query_of};
 
-use crate::dataset::Dataset;
 use crate::pass::{Desk, Pass};
 use crate::program::{Judged, judge, read_program};
 use crate::query::Query;
@@ -37,6 +35,8 @@ use fz_frac::{Frac, Sens};
 use fz_outside::words::Streams;
 use journal_records::records::Outcome;
 use outside_disks::disk::Disk;
+use part_views::Dataset;
+use partition_charge::view::View;
 use sha2::{Digest, Sha256};
 use std::alloc::Global;
 use wire_lines::{DiskRefusal, MoneyRefusal, NumberRefusal, Refusal, Reply};
@@ -64,15 +64,21 @@ fn noisy(value: i64, noise: i64) -> i64
     value + noise
 }
 
-/// How a reservation with this noise is settled: by the program's value, or as lost where memory ran out.
-fn outcome_with(alloc: Global, judged: &Judged<'_>, dataset: &Dataset, noise: i64) -> Outcome
-    requires judged { IsJudged dataset.now.tables (judged.now.checked.term.now) judged.now }
+/// How a reservation with this noise is settled: by the program's value on the view's rows, or as lost where memory ran out.
+fn outcome_with(
+    alloc: Global,
+    judged: &Judged<'_>,
+    dataset: &Dataset,
+    view: View,
+    noise: i64,
+) -> Outcome
+    requires part { HasPart dataset.now.partitions view }
+    requires judged { IsJudgedIn dataset.now view judged.now }
     requires small { unsigned_abs noise < 2 ^ 33 }
-    ensures settled { IsSettledAt (λ value. Means (rows_of dataset.now.tables dataset.now.rows) (judged.now.checked.term.now) (NumV value))
-        (Some noise) result }
+    ensures settled { IsSettledAt (IsWorth dataset.now view (judged.now.checked.term.now)) (Some noise) result }
     ensures fits { (grant : Grant) → HasSmallAnswer (outcome_reply grant result) }
 {
-    match run(alloc, &judged.checked, &judged.plan, dataset.tables()) {
+    match run(alloc, &judged.checked, &judged.plan, dataset.tables(view)) {
         Ok(value) => Outcome::Answered(noisy(value, noise)),
         Err(_) => Outcome::Lost,
     }
@@ -87,16 +93,17 @@ fn outcome_at<S: Streams>(
     query: &Query<'_>,
     number: u32,
 ) -> Outcome
-    requires judged { IsJudged dataset.now.tables (judged.now.checked.term.now) judged.now }
+    requires part { HasPart dataset.now.partitions query.now.view }
+    requires judged { IsJudgedIn dataset.now query.now.view judged.now }
     requires epsilon { IsEpsilon query.now.epsilon }
-    ensures settled { IsSettledAt (λ value. Means (rows_of dataset.now.tables dataset.now.rows) (judged.now.checked.term.now) (NumV value))
+    ensures settled { IsSettledAt (IsWorth dataset.now query.now.view (judged.now.checked.term.now))
         (noise_at query.now.epsilon (S.given streams.now query.now.owner number)) result }
     ensures fits { (grant : Grant) → HasSmallAnswer (outcome_reply grant result) }
 {
     let scale = scale_of(query.epsilon);
     let mut words = streams.stream(query.owner, number);
     match sample(scale.p, scale.q, &mut words) {
-        Ok(noise) => outcome_with(alloc, judged, dataset, noise),
+        Ok(noise) => outcome_with(alloc, judged, dataset, query.view, noise),
         Err(_) => Outcome::Exhausted,
     }
 }
@@ -222,8 +229,9 @@ fn answer_judged<'a, D: Disk, S: Streams>(
     query: &Query<'_>,
 ) -> Reply<'a>
     requires query { IsQueryOf pass.old.entry (query_of query.now) }
+    requires part { HasPart dataset.now.partitions query.now.view }
     requires reads { IsReading query.now.program.now (read (judged.now.checked.term.now)) }
-    requires judged { IsJudged dataset.now.tables (judged.now.checked.term.now) judged.now }
+    requires judged { IsJudgedIn dataset.now query.now.view judged.now }
     ensures turn { (owner : Owner) → IsOwnerOf pass.old.entry dataset.now owner
         → IsTurn owner (S.given streams.now query.now.owner) (query_of query.now) pass.old (replied result) pass.new }
     ensures went { Went pass.old.seen pass.new.seen pass.old.storage pass.new.storage }
@@ -239,8 +247,9 @@ fn answer_judged<'a, D: Disk, S: Streams>(
     }
 }
 
-/// Answers a query: the program is read and judged, the budget is asked, the noise is drawn, the program is run, and the
-/// reservation is settled. Want of memory is said before a reservation, and an answer is lost after it.
+/// Answers a query: the program is read and judged over the tables of the query's view, the budget is asked, the noise is
+/// drawn, the program is run on the view's rows, and the reservation is settled. Want of memory is said before a
+/// reservation, and an answer is lost after it.
 pub fn ask<'d, D: Disk, S: Streams>(
     alloc: Global,
     _desk: &Desk,
@@ -249,7 +258,9 @@ pub fn ask<'d, D: Disk, S: Streams>(
     streams: &S,
     query: &Query<'_>,
 ) -> Reply<'d>
-    requires { IsQueryOf pass.old.entry (query_of query.now) }
+    requires query { IsQueryOf pass.old.entry (query_of query.now) }
+    requires parts { HasPart dataset.now.partitions query.now.view }
+    requires names { AreNames dataset.now.tables }
     // The stated reply on some records that begin with those seen, and what the line added.
     ensures step { (owner : Owner) → IsOwnerOf pass.old.entry dataset.now owner →
         (told : List Told)
@@ -270,7 +281,7 @@ pub fn ask<'d, D: Disk, S: Streams>(
         Ok(term) => term,
         Err(refusal) => return Reply::Refused(refusal),
     };
-    match judge(alloc, dataset.sig(), &term) {
+    match judge(alloc, dataset.sig(query.view), &term) {
         Ok(judged) => answer_judged(alloc, pass, &judged, dataset, streams, query),
         Err(refusal) => Reply::Refused(refusal),
     }

@@ -1,7 +1,7 @@
 //! What is proved of the definitions.
 
-ghost use Rattle.answer_path.specs.Laws.{AcceptedAreBounded, AcceptedHaveValues, AloneIsAnswered, ChargedHaveValues, EveryReading};
-ghost use Rattle.answer_path.specs.Laws.{LostAreCharged, OneReading, OneValue, OneValueIn, VerdictsSeeNoAnswers};
+ghost use Rattle.answer_path.specs.Laws.{AcceptedAreBounded, AcceptedHaveValues, AloneIsAnswered, ChargedAreBounded, ChargedHaveValues};
+ghost use Rattle.answer_path.specs.Laws.{EveryReading, LostAreCharged, OneReading, OneValue, VerdictsSeeNoAnswers};
 
 /// Any bytes come to just one term or one fault.
 pub fn programs_are_read_in_one_way()
@@ -17,11 +17,11 @@ pub fn programs_are_bounded()
     ensures bound { AcceptedAreBounded }
 {}
 
-/// A program that is accepted has a value on all rows of its tables, and only one, so one that is granted a reservation
-/// can be answered.
+/// A program that is accepted in a view has a number on the view's rows, so one that is granted a reservation can be
+/// answered; on two datasets these differ by at most its sensitivity times how far the view's rows are apart.
 pub fn accepted_programs_have_values()
     ensures value { ChargedHaveValues }
-    ensures one { OneValueIn }
+    ensures bound { ChargedAreBounded }
 {}
 
 /// A verdict is the same with every answer in the records set to 0; rows and noise it isn't given.

@@ -2,7 +2,6 @@
 #![tactic(auto)]
 
 mod answer;
-mod dataset;
 mod laws;
 mod pass;
 pub mod program;
@@ -11,11 +10,11 @@ mod refusals;
 mod standing;
 
 pub use answer::ask;
-pub use dataset::Dataset;
 pub use laws::{
     accepted_programs_have_values, lone_asks_are_answered, lost_answers_are_charged,
     programs_are_bounded, programs_are_read_in_one_way, verdicts_see_no_answers,
 };
+pub use part_views::Dataset;
 pub use pass::{Desk, Pass};
 pub use program::{Accepted, Judged, check_program, judge, read_program};
 pub use query::Query;

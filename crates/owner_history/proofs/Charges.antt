@@ -4,7 +4,6 @@ use Rattle.std.specs.Prelude.{ℤ}
 use Rattle.std.specs.Int.{IsGcd}
 use Rattle.std.proofs.Math.Nat.{mod-lt, mod-eq-sub-div-mul, mul-le-mul, le_of_mul-le-mul_left}
 use Rattle.partition_charge.specs.declared.view.View.{View}
-use Rattle.partition_charge.specs.declared.view.View.TheVariants.{Whole, Part}
 use Rattle.budget_core.specs.Cost.{charge_of}
 use Rattle.fz_frac.specs.Distance.{Distance, Fin, Inf, den, mul, ◌⊑◌}
 use Rattle.fz_frac.specs.Lowest.{lowest, gcd}
@@ -12,10 +11,14 @@ use Rattle.fz_frac.proofs.Laws.{den_pos, den_of}
 use Rattle.fz_frac.proofs.Lowest.{gcd_is, pos_of_IsGcd, pos_low, coprime}
 use Rattle.fz_ast.specs.Signature.{Signature, IsSignature}
 use Rattle.metric_values.specs.Distances.{gap}
-use Rattle.metric_values.specs.Tables.{Dataset, apart}
-use Rattle.metric_values.specs.Tables.{IsDataset}
-use Rattle.answer_path.proofs.Programs.{accepted_is, accepted_are_bounded}
-use Rattle.answer_path.specs.Program.{IsCharged, HasValueIn}
+use Rattle.metric_values.specs.Tables.{Dataset, IsDataset, apart}
+use Rattle.owner_catalog.specs.Entries.{PartitionEntry}
+use Rattle.part_views.specs.Partitions.{ArePartitions}
+use Rattle.part_views.specs.Views.{signature_in, rows_in}
+use Rattle.answer_path.specs.Judgement.{HasValue}
+use Rattle.answer_path.specs.Program.{IsCharged}
+use Rattle.answer_path.proofs.Programs.{accepted_is}
+use Rattle.answer_path.proofs.Charged.{charged_are_bounded}
 
 lowest_halves : (s : Distance) (p q : ℕ) → Fin p q ≡ lowest s → (0 < q) × (gcd p q ≡ 1)
 lowest_halves Inf p q is = cc
@@ -29,12 +32,11 @@ lowest_halves (Fin a b) p q is =
     (subst (λ n. 0 < n) under low, subst (λ n. gcd n q ≡ 1) over (subst (λ n. gcd (a / g) n ≡ 1) under one))
 
 -- Sensitivities are in lowest terms.
-pub charged_lowest : (tables : Signature) (view : View) (program : List ℕ) (p q : ℕ) → IsCharged tables view program p q → (1 ≤ q) × IsGcd p q 1
-charged_lowest tables Whole program p q c =
+pub charged_lowest : (tables : Signature) (program : List ℕ) (p q : ℕ) → IsCharged tables program p q → (1 ≤ q) × IsGcd p q 1
+charged_lowest tables program p q c =
     let i = accepted_is tables c.0 c.0 (Fin p q) c.2 in
     let h = lowest_halves i.1 p q i.4 in
     (omega (arith, h.0), subst (λ (g : ℕ). IsGcd p q g) h.1 (gcd_is p q))
-charged_lowest tables (Part partition part) program p q c = absurd c
 
 moves : (p q g n : ℕ) → 0 < q → Fin g 1 ⊑ mul (Fin p q) (Fin n 1) → g * q ≤ p * n
 moves p q g n above h =
@@ -44,14 +46,15 @@ moves p q g n above h =
     let there : g * q ≤ p * n * 1 = subst (λ k. g * k ≤ p * n * 1) product by in
     omega (arith, there)
 
--- A program's values on two datasets are at most p/q times as far apart as the datasets.
-pub charged_moves : (tables : Signature) (rows other : Dataset) (view : View) (program : List ℕ) (p q : ℕ) (y z : ℤ) → IsSignature tables → IsDataset tables rows → IsDataset tables other
-    → IsCharged tables view program p q → HasValueIn tables rows view program y → HasValueIn tables other view program z → gap y z * q ≤ p * apart rows other
-charged_moves tables rows other Whole program p q y z well are others c f g =
-    let low = charged_lowest tables Whole program p q c in
-    moves p q (gap y z) (apart rows other) (omega (arith, low.0))
-    (accepted_are_bounded tables program c.0 c.0 (Fin p q) well c.1 c.2 rows other are others y z f g)
-charged_moves tables rows other (Part partition part) program p q y z well are others c f g = absurd c
+-- A program's values on what a view shows of two datasets are at most p/q times as far apart as what it shows.
+pub charged_moves : (tables : Signature) (partitions : List PartitionEntry) (rows other : Dataset) (view : View) (program : List ℕ) (p q : ℕ) (y z : ℤ)
+    → IsSignature tables → ArePartitions tables partitions → IsDataset tables rows → IsDataset tables other → IsCharged (signature_in tables partitions view) program p q
+    → HasValue (signature_in tables partitions view) (rows_in partitions view rows) program y → HasValue (signature_in tables partitions view) (rows_in partitions view other) program z
+    → gap y z * q ≤ p * apart (rows_in partitions view rows) (rows_in partitions view other)
+charged_moves tables partitions rows other view program p q y z well are first second c f g =
+    let low = charged_lowest (signature_in tables partitions view) program p q c in
+    moves p q (gap y z) (apart (rows_in partitions view rows) (rows_in partitions view other)) (omega (arith, low.0))
+    (charged_are_bounded tables partitions rows other view program p q y z well are first second c f g)
 
 -- rounded up, a charge is at least p/q times epsilon
 charge_covers : (e p q : ℕ) → 0 < q → p * e ≤ charge_of e p q * q

@@ -13,6 +13,7 @@ use Rattle.fz_ast.specs.Types.{NumT}
 use Rattle.metric_values.specs.Values.{NumF}
 use Rattle.shape_law.specs.Walk.{depth_limit}
 use Rattle.metric_values.specs.Tables.{Dataset}
+use Rattle.part_views.specs.Views.{signature_in, rows_in}
 use Rattle.wire_lines.specs.Reply.{greeted, answered, recalled, remaining, ended, refused}
 use Rattle.wire_lines.specs.declared.reply.Standing.TheVariants.{Answered as WasAnswered, Exhausted as WasExhausted, Open as IsOpen, Lost as WasLost}
 use Rattle.wire_lines.specs.declared.refusal.DiskRefusal.TheVariants.{Fault}
@@ -24,9 +25,9 @@ use Rattle.sha2.specs.Sha256.{sha256}
 use Rattle.answer_path.specs.Owner.{Owner}
 use Rattle.answer_path.specs.Query.{Query}
 use Rattle.answer_path.specs.Judgement.{judgement_of, HasValue}
-use Rattle.answer_path.specs.Program.{IsCharged, HasValueIn}
+use Rattle.answer_path.specs.Program.{IsCharged}
 use Rattle.answer_path.specs.Noise.{noise_at}
-use Rattle.answer_path.proofs.Charged.{one_value_in}
+use Rattle.answer_path.proofs.Programs.{one_value}
 use Rattle.answer_path.proofs.SizePeople.{size_people, size_term, size_reads}
 use Rattle.owner_history.specs.Explains.{ExplainsOutcome, IsExplained, Explains}
 use Rattle.owner_history.specs.Shown.{IsShown}
@@ -42,20 +43,21 @@ three = record {
   entry = record { budget = 10000000; capacity = 100; analysts = 2; keys = [] };
   tables = people ∷ [];
   rows = (NumF (pos 20) ∷ NumF (pos 30) ∷ NumF (pos 40) ∷ []) ∷ [];
+  partitions = [];
 }
 
 abbrev pub two_rows : Dataset
 two_rows = (NumF (pos 30) ∷ NumF (pos 40) ∷ []) ∷ []
 
-pub size_charged : IsCharged (people ∷ []) Whole size_people 1 1
+pub size_charged : IsCharged (people ∷ []) size_people 1 1
 unfolding judgement_of depth_limit gcd gcd_in
 size_charged = (size_term, size_reads, refl)
 
-pub three_value : HasValueIn (people ∷ []) three.rows Whole size_people (pos 3)
+pub three_value : HasValue (people ∷ []) three.rows size_people (pos 3)
 unfolding HasValue
 three_value = (size_term, size_reads, (2, (NumF (pos 20) ∷ NumF (pos 30) ∷ NumF (pos 40) ∷ [], refl, refl)))
 
-pub two_value : HasValueIn (people ∷ []) two_rows Whole size_people (pos 2)
+pub two_value : HasValue (people ∷ []) two_rows size_people (pos 2)
 unfolding HasValue
 two_value = (size_term, size_reads, (2, (NumF (pos 30) ∷ NumF (pos 40) ∷ [], refl, refl)))
 
@@ -67,12 +69,14 @@ abbrev pub settled_as : Outcome → List Record
 settled_as outcome = Reserve reserved ∷ Settle 0 outcome ∷ []
 
 pub explained_two : (draws : ℕ → ℕ) → noise_at 1000000 draws ≡ Some (negsuc 0) → IsExplained three draws reserved size_people (Some (Answered (pos 2)))
+unfolding signature_in rows_in
 explained_two draws noise = record { digest = refl; charged = size_charged; settled = record { value = pos 3; noise = negsuc 0; has_value = three_value; has_noise = noise; sum = refl } }
 
 -- another answer isn't explained, nor is a number exhausted that has noise
 pub not_three : (draws : ℕ → ℕ) → noise_at 1000000 draws ≡ Some (negsuc 0) → ExplainsOutcome three draws reserved size_people (Some (Answered (pos 3))) → ⊥
+unfolding signature_in rows_in
 not_three draws noise h =
-    let value : h.value ≡ pos 3 = one_value_in (people ∷ []) three.rows Whole size_people h.value (pos 3) h.has_value three_value in
+    let value : h.value ≡ pos 3 = one_value (people ∷ []) three.rows size_people h.value (pos 3) h.has_value three_value in
     let both : Some h.noise ≡ Some (negsuc 0) = sym h.has_noise ∙ noise in
     let drawn : h.noise ≡ negsuc 0 = cc (both) in
     let sum : pos 3 ≡ pos 2 = h.sum ∙ ap (λ (v : ℤ). v +ℤ h.noise) value ∙ ap (λ (k : ℤ). pos 3 +ℤ k) drawn in
@@ -100,19 +104,19 @@ not_each : (draws : ℕ → ℕ → ℕ) → Explains three draws [] (settled_as
 not_each draws h = cc (h.each_has)
 
 -- one row less moves an answer at epsilon 1 by 1, in millionths; nothing is moved where nothing was answered
-shown_one : IsShown (people ∷ []) (size_people ∷ []) (settled_as (Answered (pos 2))) three.rows two_rows 1000000
-unfolding IsShown
+shown_one : IsShown (people ∷ []) [] (size_people ∷ []) (settled_as (Answered (pos 2))) three.rows two_rows 1000000
+unfolding IsShown signature_in rows_in
 shown_one = (1000000, 0, (pos 3, pos 2, three_value, two_value, refl), refl, refl)
 
-shown_exhausted : IsShown (people ∷ []) (size_people ∷ []) (settled_as Exhausted) three.rows two_rows 0
+shown_exhausted : IsShown (people ∷ []) [] (size_people ∷ []) (settled_as Exhausted) three.rows two_rows 0
 unfolding IsShown
 shown_exhausted = (0, 0, refl, refl, refl)
 
-shown_lost : IsShown (people ∷ []) (size_people ∷ []) (settled_as Lost) three.rows two_rows 0
+shown_lost : IsShown (people ∷ []) [] (size_people ∷ []) (settled_as Lost) three.rows two_rows 0
 unfolding IsShown
 shown_lost = (0, 0, refl, refl, refl)
 
-shown_open : IsShown (people ∷ []) (size_people ∷ []) (Reserve reserved ∷ []) three.rows two_rows 0
+shown_open : IsShown (people ∷ []) [] (size_people ∷ []) (Reserve reserved ∷ []) three.rows two_rows 0
 unfolding IsShown
 shown_open = (0, 0, refl, refl, refl)
 

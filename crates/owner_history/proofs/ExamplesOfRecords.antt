@@ -9,10 +9,11 @@ use Rattle.journal_records.specs.declared.records.Record.{Record}
 use Rattle.journal_records.specs.declared.records.Record.TheVariants.{Reserve, Settle}
 use Rattle.budget_core.specs.Counts.{outcome_of, reservations_of}
 use Rattle.metric_values.specs.Distances.{gap}
+use Rattle.part_views.specs.Views.{signature_in, rows_in}
 use Rattle.sha2.specs.Sha256.{sha256}
 use Rattle.answer_path.specs.Noise.{noise_at}
 use Rattle.answer_path.specs.Query.{Query}
-use Rattle.answer_path.proofs.Charged.{one_value_in}
+use Rattle.answer_path.proofs.Programs.{one_value}
 use Rattle.answer_path.proofs.SizePeople.{size_people}
 use Rattle.owner_history.specs.Explains.{IsExplained, Explains}
 use Rattle.owner_history.specs.Shown.{IsShown}
@@ -48,29 +49,29 @@ half_alone = Reserve (record at_half { number = 0 }) ∷ Settle 0 (Answered (pos
 abbrev two_answers : List Record
 two_answers = Reserve reserved ∷ Settle 0 (Answered (pos 2)) ∷ Reserve at_half ∷ Settle 1 (Answered (pos 4)) ∷ []
 
-shown_at_half : IsShown (people ∷ []) (size_people ∷ []) half_alone three.rows two_rows 500000
-unfolding IsShown
+shown_at_half : IsShown (people ∷ []) [] (size_people ∷ []) half_alone three.rows two_rows 500000
+unfolding IsShown signature_in rows_in
 shown_at_half = (500000, 0, (pos 3, pos 2, three_value, two_value, refl), refl, refl)
 
-shown_two : IsShown (people ∷ []) (size_people ∷ size_people ∷ []) two_answers three.rows two_rows 1500000
-unfolding IsShown
+shown_two : IsShown (people ∷ []) [] (size_people ∷ size_people ∷ []) two_answers three.rows two_rows 1500000
+unfolding IsShown signature_in rows_in
 shown_two = (1000000, 500000, (pos 3, pos 2, three_value, two_value, refl), (500000, 0, (pos 3, pos 2, three_value, two_value, refl), refl, refl), refl)
 
 -- the second alone was answered
-shown_second : IsShown (people ∷ []) (size_people ∷ size_people ∷ [])
+shown_second : IsShown (people ∷ []) [] (size_people ∷ size_people ∷ [])
     (Reserve reserved ∷ Reserve at_half ∷ Settle 1 (Answered (pos 4)) ∷ Settle 0 Exhausted ∷ []) three.rows two_rows 500000
-unfolding IsShown
+unfolding IsShown signature_in rows_in
 shown_second = (0, 500000, refl, (500000, 0, (pos 3, pos 2, three_value, two_value, refl), refl, refl), refl)
 
-not_shown_at_one : IsShown (people ∷ []) (size_people ∷ []) half_alone three.rows two_rows 1000000 → ⊥
-unfolding IsShown
+not_shown_at_one : IsShown (people ∷ []) [] (size_people ∷ []) half_alone three.rows two_rows 1000000 → ⊥
+unfolding IsShown signature_in rows_in
 not_shown_at_one (m, n, (v, w, first, second, is), rest, sum) =
-    let p : v ≡ pos 3 = one_value_in (people ∷ []) three.rows Whole size_people v (pos 3) first three_value in
-    let q : w ≡ pos 2 = one_value_in (people ∷ []) two_rows Whole size_people w (pos 2) second two_value in
+    let p : v ≡ pos 3 = one_value (people ∷ []) three.rows size_people v (pos 3) first three_value in
+    let q : w ≡ pos 2 = one_value (people ∷ []) two_rows size_people w (pos 2) second two_value in
     let moved : 500000 * gap v w ≡ 500000 = λ i. 500000 * gap (p i) (q i) in
     absurd (omega (arith, is, moved, rest, sum))
 
-not_shown_by_one : IsShown (people ∷ []) (size_people ∷ []) two_answers three.rows two_rows 1500000 → ⊥
+not_shown_by_one : IsShown (people ∷ []) [] (size_people ∷ []) two_answers three.rows two_rows 1500000 → ⊥
 unfolding IsShown
 not_shown_by_one (m, n, first, rest, sum) = rest
 

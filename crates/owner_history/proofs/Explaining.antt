@@ -15,9 +15,10 @@ use Rattle.budget_core.specs.Legal.{IsHistory}
 use Rattle.budget_core.proofs.Histories.{push_cases}
 use Rattle.budget_core.proofs.Numbers.{outcome_past, outcome_of-append-Reserve, outcome_of-append-Settle, outcome_of-append-new}
 use Rattle.sha2.specs.Sha256.{sha256}
-use Rattle.answer_path.specs.Owner.{Owner}
+use Rattle.answer_path.specs.Owner.{Owner, signature_of_view, rows_of_view}
 use Rattle.answer_path.specs.Query.{Query}
-use Rattle.answer_path.specs.Program.{IsCharged, HasValueIn}
+use Rattle.answer_path.specs.Judgement.{HasValue}
+use Rattle.answer_path.specs.Program.{IsCharged}
 use Rattle.answer_path.specs.Noise.{noise_at}
 use Rattle.answer_path.specs.Answered.{IsSettledAt, IsSettledBy}
 use Rattle.owner_history.specs.Explains.{ExplainsOutcome, IsExplained, Explains}
@@ -37,8 +38,8 @@ pub explains_none : (owner : Owner) (draws : ℕ → ℕ → ℕ) → Explains o
 explains_none owner draws = record { each_has = refl; explained = λ n program reserved at made. cc }
 
 module _ (owner : Owner) (draws : ℕ → ℕ → ℕ) (programs : List (List ℕ)) (records : List Record) (ex : Explains owner draws programs records) where
-  -- a reservation more, which has its program's digest and is charged its sensitivity
-  pub explains_reservation : (program : List ℕ) (reserved : Reservation) → IsHistory owner.entry records → reserved.program ≡ sha256 program → IsCharged owner.tables reserved.view program reserved.p reserved.q
+  -- a reservation more, which has its program's digest and is charged its sensitivity in its view
+  pub explains_reservation : (program : List ℕ) (reserved : Reservation) → IsHistory owner.entry records → reserved.program ≡ sha256 program → IsCharged (signature_of_view owner reserved.view) program reserved.p reserved.q
       → Explains owner draws (programs ++ program ∷ []) (records ++ Reserve reserved ∷ [])
   explains_reservation program reserved h digest charged =
       let made : reservations_of (records ++ Reserve reserved ∷ []) ≡ reservations_of records ++ Reserve reserved ∷ [] = filter-append is_reservation records (Reserve reserved ∷ []) in
@@ -94,7 +95,7 @@ module _ (owner : Owner) (draws : ℕ → ℕ → ℕ) (programs : List (List �
       }
 
 settled_explains : (owner : Owner) (draws : ℕ → ℕ) (reserved : Reservation) (program : List ℕ) (noise : Option ℤ) (outcome : Outcome) → noise_at reserved.e draws ≡ noise
-    → IsSettledAt (HasValueIn owner.tables owner.rows reserved.view program) noise outcome → ExplainsOutcome owner draws reserved program (Some outcome)
+    → IsSettledAt (HasValue (signature_of_view owner reserved.view) (rows_of_view owner reserved.view) program) noise outcome → ExplainsOutcome owner draws reserved program (Some outcome)
 settled_explains owner draws reserved program None outcome drawn is = subst (λ (o : Outcome). ExplainsOutcome owner draws reserved program (Some o)) (sym is) drawn
 settled_explains owner draws reserved program (Some k) outcome drawn (inl (v, has_v, is)) =
     subst (λ (o : Outcome). ExplainsOutcome owner draws reserved program (Some o)) (sym is) (record { value = v; noise = k; has_value = has_v; has_noise = drawn; sum = refl })
@@ -105,4 +106,4 @@ pub outcome_explains : (owner : Owner) (draws : ℕ → ℕ → ℕ) (query : Qu
     → IsSettledBy owner draws query n outcome → ExplainsOutcome owner (draws n) reserved query.program (Some outcome)
 outcome_explains owner draws query n outcome reserved view e settled =
     settled_explains owner (draws n) reserved query.program (noise_at query.e (draws n)) outcome (ap (λ (k : ℕ). noise_at k (draws n)) e)
-    (subst (λ v. IsSettledAt (HasValueIn owner.tables owner.rows v query.program) (noise_at query.e (draws n)) outcome) (sym view) settled)
+    (subst (λ v. IsSettledAt (HasValue (signature_of_view owner v) (rows_of_view owner v) query.program) (noise_at query.e (draws n)) outcome) (sym view) settled)

@@ -1,7 +1,6 @@
 -- what a verdict that grants says
 use Rattle.std.proofs.Common.{◌≡◌, ℕ, List, refl, sym, ap, subst}
 use Rattle.std.specs.Prelude.{Result, Ok, Err}
-use Rattle.partition_charge.specs.declared.view.View.TheVariants.{Whole}
 use Rattle.journal_records.specs.declared.records.Record.{Record}
 use Rattle.budget_core.specs.declared.entry.Ask.{Ask}
 use Rattle.budget_core.specs.declared.entry.Grant.{Grant}
@@ -10,7 +9,7 @@ use Rattle.budget_core.specs.Ledger.{money_verdict}
 use Rattle.fz_frac.specs.Distance.{Distance, Fin, Inf}
 use Rattle.fz_ast.specs.Signature.{Signature}
 use Rattle.fz_ast.specs.Terms.{Term}
-use Rattle.answer_path.specs.Owner.{Owner}
+use Rattle.answer_path.specs.Owner.{Owner, signature_of_view}
 use Rattle.answer_path.specs.Query.{Query}
 use Rattle.answer_path.specs.Program.{IsCharged}
 use Rattle.answer_path.specs.Reading.{Reading, unlexed, stuck, nested, read, IsReading}
@@ -28,11 +27,11 @@ accepted_as ts (read t) e r is =
     let same : e ≡ t = (accepted_is ts t e r is).3 in
     (ap read (sym same), subst (λ (u : Term). judgement_of ts (read u) ≡ accepted e r) (sym same) is)
 
--- an ask is granted by its sensitivity and the budget
+-- an ask is granted by its sensitivity in its view and the budget
 pub record IsGrantFor (owner : Owner) (start : ℕ) (records : List Record) (query : Query) (asking : Ask) (grant : Grant) : Type 0 where
   pub p : ℕ
   pub q : ℕ
-  pub charged : IsCharged owner.tables Whole query.program p q
+  pub charged : IsCharged (signature_of_view owner query.view) query.program p q
   pub asks : asking ≡ ask_for query p q
   pub money : money_verdict owner.entry start records (ask_for query p q) ≡ Ok grant
 
@@ -44,14 +43,14 @@ money_grants ask asking grant (Ok given) is =
 money_grants ask asking grant (Err fault) is = absurd (cc (is))
 
 pub verdict_grants : (owner : Owner) (start : ℕ) (records : List Record) (query : Query) (asking : Ask) (grant : Grant)
-    → IsVerdict owner.entry owner.tables start records query (granted asking grant) → IsGrantFor owner start records query asking grant
+    → IsVerdict owner.entry (signature_of_view owner query.view) start records query (granted asking grant) → IsGrantFor owner start records query asking grant
 unfolding IsVerdict
-verdict_grants owner start records query asking grant v = here (judgement_of owner.tables v.0) refl v.2
+verdict_grants owner start records query asking grant v = here (judgement_of (signature_of_view owner query.view) v.0) refl v.2
   where
-    here : (j : Judgement) → judgement_of owner.tables v.0 ≡ j → IsVerdictBy owner.entry start records query j (granted asking grant) → IsGrantFor owner start records query asking grant
+    here : (j : Judgement) → judgement_of (signature_of_view owner query.view) v.0 ≡ j → IsVerdictBy owner.entry start records query j (granted asking grant) → IsGrantFor owner start records query asking grant
     here (refused_for refusal) was by = absurd (cc (by))
     here (accepted e Inf) was by = absurd by
     here (accepted e (Fin p q)) was by =
-        let a = accepted_as owner.tables v.0 e (Fin p q) was in
+        let a = accepted_as (signature_of_view owner query.view) v.0 e (Fin p q) was in
         let m = money_grants (ask_for query p q) asking grant (money_verdict owner.entry start records (ask_for query p q)) by in
         record { p = p; q = q; charged = (e, subst (λ (r : Reading). IsReading query.program r) a.0 v.1, a.1); asks = m.0; money = m.1 }

@@ -1,5 +1,7 @@
 pub mod Prefixes
 pub mod Explaining
+pub mod Sums
+pub mod Apart
 pub mod Charges
 pub mod Bounded
 pub mod OneShown
@@ -9,3 +11,4 @@ pub mod Recalls
 pub mod Sound
 pub mod Examples
 mod ExamplesOfRecords
+mod ExamplesOfParts

@@ -1,9 +1,7 @@
 -- an owner's history with one reservation more, and with one settlement more
 use Rattle.std.specs.Prelude.{Ok}
-use Rattle.std.proofs.Common.{◌≡◌, ℕ, ◌+◌, ◌<◌, ◌≤◌, List, [], ◌∷◌, ◌++◌, length, slice_get, Some, refl, sym, ◌∙◌, ap, subst, arith, append_assoc}
+use Rattle.std.proofs.Common.{◌≡◌, ℕ, ◌+◌, ◌≤◌, List, [], ◌∷◌, ◌++◌, length, slice_get, Some, refl, sym, ◌∙◌, ap, subst, arith, append_assoc}
 use Rattle.std.proofs.lemmas.List.Elements.{filter-append}
-use Rattle.partition_charge.specs.declared.view.View.{View}
-use Rattle.partition_charge.specs.declared.view.View.TheVariants.{Whole}
 use Rattle.journal_records.specs.declared.records.Outcome.{Outcome}
 use Rattle.journal_records.specs.declared.records.Reservation.{Reservation}
 use Rattle.journal_records.specs.declared.records.Record.{Record}
@@ -12,14 +10,14 @@ use Rattle.budget_core.specs.declared.entry.Ask.{Ask}
 use Rattle.budget_core.specs.declared.entry.Grant.{Grant}
 use Rattle.budget_core.specs.Counts.{is_reservation, reservations_of, reservation_of}
 use Rattle.journal_records.specs.Encoding.{AreTerms}
-use Rattle.budget_core.specs.Entries.{IsEpsilon, HasView}
 use Rattle.budget_core.specs.Legal.{IsHistory, IsLegal}
 use Rattle.budget_core.specs.Ledger.{Ledger, IsAskOf, IsUnsettled, next_number, reservation_numbered, money_verdict}
 use Rattle.budget_core.proofs.Histories.{legal-history, slice_get-append-seam}
 use Rattle.budget_core.proofs.Numbers.{reservations_of-append-Reserve, reservations_of-append-Settle, reservation_of-append-old, reservation_of-next, outcome_of-append-new}
 use Rattle.budget_core.proofs.LegalLemmas.{granted as money_granted, legal-Reserve, legal-Settle, unsettled-Reserve}
-use Rattle.answer_path.specs.Owner.{Owner}
+use Rattle.answer_path.specs.Owner.{Owner, signature_of_view}
 use Rattle.answer_path.specs.Query.{Query}
+use Rattle.answer_path.specs.Code.{IsQueryOf}
 use Rattle.answer_path.specs.Program.{IsCharged}
 use Rattle.answer_path.specs.Verdict.{granted, ask_for, IsVerdict}
 use Rattle.sha2.specs.Sha256.{sha256}
@@ -33,23 +31,12 @@ use Rattle.owner_history.proofs.Charges.{charged_lowest}
 use Rattle.owner_history.proofs.Explaining.{explains_reservation, explains_settlement, outcome_explains}
 use Rattle.owner_history.proofs.Grants.{verdict_grants}
 
--- A query of the whole view, by one of the owner's analysts, at an epsilon in its range.
-pub record IsQueryOf (owner : Owner) (query : Query) : Type 0 where
-  pub whole : query.view ≡ Whole
-  pub analyst : query.analyst < owner.entry.analysts
-  pub epsilon : IsEpsilon query.e
-
 -- what is asked of the budget for an accepted program is of the entry
-asked_of : (owner : Owner) (query : Query) (p q : ℕ) → IsQueryOf owner query → IsCharged owner.tables Whole query.program p q → IsAskOf owner.entry (ask_for query p q)
+asked_of : (owner : Owner) (query : Query) (p q : ℕ) → IsQueryOf owner.entry query → IsCharged (signature_of_view owner query.view) query.program p q → IsAskOf owner.entry (ask_for query p q)
 asked_of owner query p q of charged =
-    let low = charged_lowest owner.tables Whole query.program p q charged in
+    let low = charged_lowest (signature_of_view owner query.view) query.program p q charged in
     let terms : AreTerms query.e p q = record { above = of.epsilon.least; most = of.epsilon.most; positive = low.0; lowest = low.1 } in
-    record {
-      analyst = of.analyst;
-      view = subst (λ (v : View). HasView owner.entry v) (sym of.whole) tt;
-      terms = terms;
-      digest = sha256_bytes query.program;
-    }
+    record { analyst = of.analyst; view = of.view; terms = terms; digest = sha256_bytes query.program }
 
 module _ (owner : Owner) (draws : ℕ → ℕ → ℕ) (found : List Record) where
   -- what holds of an owner's records before each line, whatever was found
@@ -79,11 +66,11 @@ module _ (owner : Owner) (draws : ℕ → ℕ → ℕ) (found : List Record) whe
     pub view : r.view ≡ query.view
     pub epsilon : r.e ≡ query.e
     pub digest : r.program ≡ sha256 query.program
-    pub charged : IsCharged owner.tables r.view query.program r.p r.q
+    pub charged : IsCharged (signature_of_view owner r.view) query.program r.p r.q
 
   -- the reservation that is granted for an ask
-  reserved_for : IsHistory owner.entry found → (records : List Record) → IsLawful records → (query : Query) → IsQueryOf owner query → (p q : ℕ) (grant : Grant)
-      → IsCharged owner.tables Whole query.program p q → money_verdict owner.entry (length (reservations_of found)) records (ask_for query p q) ≡ Ok grant
+  reserved_for : IsHistory owner.entry found → (records : List Record) → IsLawful records → (query : Query) → IsQueryOf owner.entry query → (p q : ℕ) (grant : Grant)
+      → IsCharged (signature_of_view owner query.view) query.program p q → money_verdict owner.entry (length (reservations_of found)) records (ask_for query p q) ≡ Ok grant
       → IsReserved records query grant.number (reservation_numbered grant.number (ask_for query p q) grant.taken) (records ++ granted_record (ask_for query p q) grant ∷ [])
   reserved_for begun records w query of p q grant charged money =
       let ask : Ask = ask_for query p q in
@@ -106,12 +93,12 @@ module _ (owner : Owner) (draws : ℕ → ℕ → ℕ) (found : List Record) whe
         view = refl;
         epsilon = refl;
         digest = refl;
-        charged = subst (λ (v : View). IsCharged owner.tables v query.program p q) (sym of.whole) charged;
+        charged = charged;
       }
 
   -- One reservation more.
-  pub reserve : IsHistory owner.entry found → (records : List Record) → IsLawful records → (query : Query) → IsQueryOf owner query → (asking : Ask) (grant : Grant)
-      → IsVerdict owner.entry owner.tables (length (reservations_of found)) records query (granted asking grant)
+  pub reserve : IsHistory owner.entry found → (records : List Record) → IsLawful records → (query : Query) → IsQueryOf owner.entry query → (asking : Ask) (grant : Grant)
+      → IsVerdict owner.entry (signature_of_view owner query.view) (length (reservations_of found)) records query (granted asking grant)
       → IsReserved records query grant.number (reservation_numbered grant.number asking grant.taken) (records ++ granted_record asking grant ∷ [])
   reserve begun records w query of asking grant is =
       let g = verdict_grants owner (length (reservations_of found)) records query asking grant is in
@@ -170,8 +157,8 @@ module _ (owner : Owner) (draws : ℕ → ℕ → ℕ) (found : List Record) whe
       }
 
   -- One grant more.
-  pub step : IsHistory owner.entry found → (programs : List (List ℕ)) (records : List Record) → IsWell programs records → (query : Query) → IsQueryOf owner query → (asking : Ask) (grant : Grant) (outcome : Outcome)
-      → IsVerdict owner.entry owner.tables (length (reservations_of found)) records query (granted asking grant) → IsSettledBy owner draws query grant.number outcome
+  pub step : IsHistory owner.entry found → (programs : List (List ℕ)) (records : List Record) → IsWell programs records → (query : Query) → IsQueryOf owner.entry query → (asking : Ask) (grant : Grant) (outcome : Outcome)
+      → IsVerdict owner.entry (signature_of_view owner query.view) (length (reservations_of found)) records query (granted asking grant) → IsSettledBy owner draws query grant.number outcome
       → IsStep programs records query grant.number outcome (records ++ grant_records asking grant outcome)
   step begun programs records w query of asking grant outcome is settles =
       let made = reserve begun records w.lawful query of asking grant is in
@@ -179,8 +166,8 @@ module _ (owner : Owner) (draws : ℕ → ℕ → ℕ) (found : List Record) whe
       (settled_step begun programs records w query grant.number (reservation_numbered grant.number asking grant.taken) (records ++ granted_record asking grant ∷ []) outcome made settles)
 
   -- The same of the records alone, whatever was found.
-  pub lawful_step : IsHistory owner.entry found → (records : List Record) → IsLawful records → (query : Query) → IsQueryOf owner query → (asking : Ask) (grant : Grant) (outcome : Outcome)
-      → IsVerdict owner.entry owner.tables (length (reservations_of found)) records query (granted asking grant) → IsLawful (records ++ grant_records asking grant outcome)
+  pub lawful_step : IsHistory owner.entry found → (records : List Record) → IsLawful records → (query : Query) → IsQueryOf owner.entry query → (asking : Ask) (grant : Grant) (outcome : Outcome)
+      → IsVerdict owner.entry (signature_of_view owner query.view) (length (reservations_of found)) records query (granted asking grant) → IsLawful (records ++ grant_records asking grant outcome)
   lawful_step begun records w query of asking grant outcome is =
       let made = reserve begun records w query of asking grant is in
       subst IsLawful (append_assoc records (granted_record asking grant ∷ []) (Settle grant.number outcome ∷ []))

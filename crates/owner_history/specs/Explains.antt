@@ -7,15 +7,16 @@ use Rattle.journal_records.specs.declared.records.Record.{Record}
 use Rattle.journal_records.specs.declared.records.Record.TheVariants.{Reserve}
 use Rattle.budget_core.specs.Counts.{reservations_of, outcome_of}
 use Rattle.sha2.specs.Sha256.{sha256}
-use Rattle.answer_path.specs.Owner.{Owner}
-use Rattle.answer_path.specs.Program.{IsCharged, HasValueIn}
+use Rattle.answer_path.specs.Judgement.{HasValue}
+use Rattle.answer_path.specs.Owner.{Owner, signature_of_view, rows_of_view}
+use Rattle.answer_path.specs.Program.{IsCharged}
 use Rattle.answer_path.specs.Noise.{noise_at}
 
--- An answer is the program's value plus the noise of the number's own draws.
+-- An answer is the program's value in the reservation's view, plus the noise of the number's own draws.
 pub record IsNoisedValue (owner : Owner) (draws : ℕ → ℕ) (reserved : Reservation) (program : List ℕ) (answer : ℤ) : Type 0 where
   pub value : ℤ
   pub noise : ℤ
-  pub has_value : HasValueIn owner.tables owner.rows reserved.view program value
+  pub has_value : HasValue (signature_of_view owner reserved.view) (rows_of_view owner reserved.view) program value
   pub has_noise : noise_at reserved.e draws ≡ Some noise
   pub sum : answer ≡ value +ℤ noise
 
@@ -26,10 +27,11 @@ ExplainsOutcome owner draws reserved program (Some (Answered answer)) = IsNoised
 ExplainsOutcome owner draws reserved program (Some Exhausted) = noise_at reserved.e draws ≡ None
 ExplainsOutcome owner draws reserved program (Some Lost) = ⊤
 
--- A reservation has its program's digest, is charged by its sensitivity, and settled by its value and noise.
+-- A reservation has its program's digest, is charged by its sensitivity over the tables of the reservation's view, and settled
+-- by its value and noise.
 pub record IsExplained (owner : Owner) (draws : ℕ → ℕ) (reserved : Reservation) (program : List ℕ) (outcome : Option Outcome) : Type 0 where
   pub digest : reserved.program ≡ sha256 program
-  pub charged : IsCharged owner.tables reserved.view program reserved.p reserved.q
+  pub charged : IsCharged (signature_of_view owner reserved.view) program reserved.p reserved.q
   pub settled : ExplainsOutcome owner draws reserved program outcome
 
 -- There is a program for each reservation, in order, and it explains it. The owner's numbers have these draws.

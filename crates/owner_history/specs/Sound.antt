@@ -1,19 +1,22 @@
 -- what is owed to an owner, whatever becomes of a run
-use Rattle.std.specs.Prelude.{ℕ, ◌*◌, ◌≤◌, List}
+use Rattle.std.specs.Prelude.{◌≡◌, ℕ, ◌*◌, ◌≤◌, List, length, map}
 use Rattle.journal_records.specs.declared.records.Record.{Record}
 use Rattle.budget_core.specs.Cost.{cost_of}
 use Rattle.budget_core.specs.Legal.{IsHistory, IsLegal}
 use Rattle.fz_ast.specs.Signature.{IsSignature}
 use Rattle.metric_values.specs.Tables.{Dataset, apart}
 use Rattle.metric_values.specs.Tables.{IsDataset}
+use Rattle.owner_catalog.specs.Entries.{PartitionEntry}
+use Rattle.part_views.specs.Partitions.{ArePartitions}
 use Rattle.answer_path.specs.Owner.{Owner}
 use Rattle.owner_history.specs.Explains.{Explains}
 use Rattle.owner_history.specs.Shown.{IsShown}
 
--- Against any second dataset of the owner's tables the displacement shown is at most the cost times the distance.
+-- Against any second dataset of the owner's tables the displacement shown is at most the cost times the distance, whatever
+-- views the records name.
 abbrev pub IsDisplacementBounded : Owner → (programs : List (List ℕ)) → List Record → Type 0
 IsDisplacementBounded owner programs records = (other : Dataset) → IsDataset owner.tables other
-    → (displaced : ℕ) × IsShown owner.tables programs records owner.rows other displaced
+    → (displaced : ℕ) × IsShown owner.tables owner.partitions programs records owner.rows other displaced
     × (displaced ≤ cost_of records * apart owner.rows other)
 
 -- what any run may find of an owner's records: each may follow those before it, and their cost is within the budget
@@ -39,7 +42,9 @@ pub record IsFound (owner : Owner) (draws : ℕ → ℕ → ℕ) (programs : Lis
   pub within : cost_of found ≤ owner.entry.budget
   pub explained : Explains owner draws programs found
 
--- the owner's rows are a dataset of its tables
+-- The owner's rows are a dataset of its tables, and its partitions are of these; each has as many keys as the entry says.
 pub record HasData (owner : Owner) : Type 0 where
   pub tables : IsSignature owner.tables
   pub rows : IsDataset owner.tables owner.rows
+  pub partitions : ArePartitions owner.tables owner.partitions
+  pub keys : owner.entry.keys ≡ map (λ (partition : PartitionEntry). length partition.keys) owner.partitions

@@ -4,13 +4,15 @@ ghost use Rattle.std.specs.Prelude.{◌≡◌, ℕ, List};
 ghost use Rattle.journal_records.specs.declared.records.Record.{Record};
 ghost use Rattle.fz_ast.specs.Signature.{Signature};
 ghost use Rattle.metric_values.specs.Tables.{Dataset};
+ghost use Rattle.owner_catalog.specs.Entries.{PartitionEntry};
 ghost use Rattle.answer_path.specs.Owner.{Owner};
 ghost use Rattle.owner_history.specs.Explains.{Explains};
 ghost use Rattle.owner_history.specs.Shown.{IsShown};
 ghost use Rattle.owner_history.specs.Sound.{HasData, IsDisplacementBounded};
 
 /// Whatever programs explain an owner's records, these show against any second dataset a displacement of at most their
-/// cost times the distance. (It is proved for programs of every sensitivity, and there is nothing to do.)
+/// cost times the distance, for records of the whole and of parts in any mix. (It is proved for programs of every sensitivity,
+/// and there is nothing to do.)
 pub fn explained_records_show_at_most_their_cost()
     ensures { (owner : Owner) (draws : ℕ → ℕ → ℕ) (programs : List (List ℕ)) (records : List Record) →
         HasData owner → Explains owner draws programs records → IsDisplacementBounded owner programs records }
@@ -19,6 +21,6 @@ pub fn explained_records_show_at_most_their_cost()
 /// Between two datasets records show one displacement at most, whatever its programs. (It is proved, and there is nothing
 /// to do.)
 pub fn records_show_one_displacement()
-    ensures { (tables : Signature) (programs : List (List ℕ)) (records : List Record) (rows other : Dataset) (d e : ℕ) →
-        IsShown tables programs records rows other d → IsShown tables programs records rows other e → d ≡ e }
+    ensures { (tables : Signature) (partitions : List PartitionEntry) (programs : List (List ℕ)) (records : List Record) (rows other : Dataset) (d e : ℕ) →
+        IsShown tables partitions programs records rows other d → IsShown tables partitions programs records rows other e → d ≡ e }
 {}

@@ -29,14 +29,16 @@ use Rattle.fz_ast.specs.Types.{NumT}
 use Rattle.metric_values.specs.Values.{NumF}
 use Rattle.owner_catalog.specs.Entries.{TableEntry, OwnerEntry}
 use Rattle.sha2.specs.Sha256.{sha256}
-use Rattle.answer_path.specs.Owner.{Owner, Holding}
+use Rattle.part_views.specs.Holding.{Holding}
+use Rattle.part_views.specs.Views.{signature_in, rows_in}
+use Rattle.answer_path.specs.Owner.{Owner, signature_of_view}
 use Rattle.answer_path.specs.Query.{Query}
 use Rattle.answer_path.specs.Judgement.{judgement_of, HasValue}
-use Rattle.answer_path.specs.Program.{HasValueIn}
+use Rattle.answer_path.specs.Program.{IsCharged}
 use Rattle.answer_path.specs.Noise.{noise_at}
 use Rattle.answer_path.specs.Verdict.{program_refused, money_refused, granted, ask_for, IsVerdict}
-use Rattle.answer_path.specs.Answered.{outcome_reply, grant_records, IsSettledAt, IsAnswered, IsAsked}
-use Rattle.answer_path.proofs.Answering.{IsAcceptedAt, money_says}
+use Rattle.answer_path.specs.Answered.{outcome_reply, grant_records, HasWorthIn, IsSettledAt, IsAnswered, IsAsked}
+use Rattle.answer_path.proofs.Answering.{money_says}
 use Rattle.answer_path.proofs.SizePeople.{size_people, size_term, size_reads}
 use Rattle.owner_history.specs.Granted.{settlement_in}
 use Rattle.session_core.specs.House.{Register, house_of}
@@ -54,7 +56,7 @@ abbrev pub people : TableType
 people = record { name = codes "people"; row = NumT }
 
 abbrev pub ages_held : List ℤ → Holding
-ages_held ages = record { tables = people ∷ []; rows = map (λ z. NumF z) ages ∷ [] }
+ages_held ages = record { tables = people ∷ []; rows = map (λ z. NumF z) ages ∷ []; partitions = [] }
 
 -- what a catalog says of that table, and of an owner; texts are left out
 abbrev pub people_entry : TableEntry
@@ -89,15 +91,15 @@ only records zero = records
 only records (suc o) = []
 
 -- the program is judged by the rules, and its value is how many rows there are
-pub size_asked : IsAcceptedAt (people ∷ []) size_people 1 1
+pub size_asked : IsCharged (people ∷ []) size_people 1 1
 unfolding judgement_of gcd gcd_in depth_limit
 size_asked = (size_term, size_reads, refl)
 
-pub three_value : HasValueIn (people ∷ []) (ages_held (pos 20 ∷ pos 30 ∷ pos 40 ∷ [])).rows Whole size_people (pos 3)
+pub three_value : HasValue (people ∷ []) (ages_held (pos 20 ∷ pos 30 ∷ pos 40 ∷ [])).rows size_people (pos 3)
 unfolding HasValue
 three_value = (size_term, size_reads, (2, (NumF (pos 20) ∷ NumF (pos 30) ∷ NumF (pos 40) ∷ [], refl, refl)))
 
-no_value : HasValueIn (people ∷ []) (ages_held []).rows Whole size_people (pos 0)
+no_value : HasValue (people ∷ []) (ages_held []).rows size_people (pos 0)
 unfolding HasValue
 no_value = (size_term, size_reads, (2, ([], refl, refl)))
 
@@ -126,8 +128,8 @@ abbrev outcome_of_size : (size : ℕ) → (ℕ → ℕ → ℕ → ℕ) → Outc
 outcome_of_size size draws = outcome_with size (noise_at 1000000 (draws 0 0))
 
 -- an ask that is granted is answered by its program's value and the noise of its number
-pub grant_answer : (owner : Owner) (draws : ℕ → ℕ → ℕ) (records : List Record) (query : Query) (grant : Grant) (size : ℕ) → IsAcceptedAt owner.tables query.program 1 1
-    → money_verdict owner.entry 0 records (ask_for query 1 1) ≡ Ok grant → HasValueIn owner.tables owner.rows query.view query.program (pos size)
+pub grant_answer : (owner : Owner) (draws : ℕ → ℕ → ℕ) (records : List Record) (query : Query) (grant : Grant) (size : ℕ) → IsCharged (signature_of_view owner query.view) query.program 1 1
+    → money_verdict owner.entry 0 records (ask_for query 1 1) ≡ Ok grant → HasWorthIn owner query (pos size)
     → let outcome : Outcome = outcome_with size (noise_at query.e (draws grant.number)) in
     IsAnswered owner draws 0 records query (outcome_reply grant outcome) (grant_records (ask_for query 1 1) grant outcome)
 unfolding IsAnswered
@@ -165,7 +167,7 @@ one_owner register one draws xs records leads zero owner at = leads
 one_owner register one draws xs records leads (suc o) owner at = let none : None ≡ Some owner = ap (λ (ws : List Owner). slice_get ws (suc o)) (sym one) ∙ at in absurd (cc (none))
 
 three_leads : (draws : ℕ → ℕ → ℕ → ℕ) → LeadExactly (house_of three_rows) draws 0 0 [] (one_ask (outcome_of_size 3 draws)) (made (outcome_of_size 3 draws))
-unfolding meant_by request_of cost_of cost_of_charges partition_cost
+unfolding meant_by request_of cost_of cost_of_charges partition_cost signature_in rows_in
 three_leads draws =
     let outcome = outcome_of_size 3 draws in
     (made outcome, (made outcome, inl (grant_answer (the_owner three_rows) (draws 0) [] a_query a_grant 3 size_asked refl three_value), refl, refl), refl)
@@ -196,9 +198,9 @@ without_memory draws =
 
 -- .. or after it, where the draws suffice: both records are added
 lost_leads : (draws : ℕ → ℕ → ℕ → ℕ) (noise : ℤ) → noise_at 1000000 (draws 0 0) ≡ Some noise → LeadExactly (house_of three_rows) draws 0 0 [] (one_ask Lost) (made Lost)
-unfolding meant_by request_of cost_of cost_of_charges partition_cost IsAnswered
+unfolding meant_by request_of cost_of cost_of_charges partition_cost IsAnswered signature_in rows_in
 lost_leads draws noise is =
-    let settled = subst (λ (k : Option ℤ). IsSettledAt (λ z. HasValueIn (people ∷ []) (the_owner three_rows).rows Whole size_people z) k Lost) (sym is) (inr refl) in
+    let settled = subst (λ (k : Option ℤ). IsSettledAt (HasWorthIn (the_owner three_rows) a_query) k Lost) (sym is) (inr refl) in
     (made Lost, (made Lost, inl (granted an_ask a_grant, money_says (the_owner three_rows) 0 [] a_query 1 1 _ size_asked refl, inl (Lost, settled, refl, refl)), refl, refl), refl)
 
 lost_run : (draws : ℕ → ℕ → ℕ → ℕ) (noise : ℤ) → noise_at 1000000 (draws 0 0) ≡ Some noise
@@ -214,11 +216,11 @@ lost_run draws noise is = record {
 
 -- a loss is charged, and the next number is one more
 behind_loss : IsVerdict (the_owner three_rows).entry (people ∷ []) 0 (made Lost) a_query (granted an_ask (record { number = 1; taken = 1000000; seen = 3 }))
-unfolding cost_of cost_of_charges partition_cost
+unfolding cost_of cost_of_charges partition_cost signature_in
 behind_loss = money_says (the_owner three_rows) 0 (made Lost) a_query 1 1 _ size_asked refl
 
 over_by_loss : IsVerdict (the_owner (house 1000000 100 [])).entry (people ∷ []) 0 (made Lost) a_query (money_refused (NoBudget 1000000 2000000 1000000 2))
-unfolding cost_of cost_of_charges partition_cost
+unfolding cost_of cost_of_charges partition_cost signature_in
 over_by_loss = money_says (the_owner (house 1000000 100 [])) 0 (made Lost) a_query 1 1 _ size_asked refl
 
 -- Of these replies 90 and 51 say that memory ran out, 52 and 42 that the disk failed, and 50 says nothing of the kind.
@@ -273,7 +275,7 @@ two_asks outcome reply = quiet None (codes "hello ann") (greeted (codes "ann")) 
 
 second_over : (draws : ℕ → ℕ → ℕ → ℕ) → let outcome : Outcome = outcome_of_size 0 draws in
     LeadExactly (house_of (house 1000000 100 [])) draws 0 0 [] (two_asks outcome (refused (by_money (NoBudget 1000000 2000000 1000000 2)))) (made outcome)
-unfolding meant_by request_of cost_of cost_of_charges partition_cost IsAnswered
+unfolding meant_by request_of cost_of cost_of_charges partition_cost IsAnswered signature_in rows_in
 second_over draws =
     let register = house 1000000 100 [] in
     let outcome = outcome_of_size 0 draws in (
@@ -284,7 +286,7 @@ second_over draws =
 
 second_full : (draws : ℕ → ℕ → ℕ → ℕ) → let outcome : Outcome = outcome_of_size 0 draws in
     LeadExactly (house_of (house 10000000 3 [])) draws 0 0 [] (two_asks outcome (refused (by_money (JournalFull 2 0 3)))) (made outcome)
-unfolding meant_by request_of cost_of cost_of_charges partition_cost IsAnswered
+unfolding meant_by request_of cost_of cost_of_charges partition_cost IsAnswered signature_in rows_in
 second_full draws =
     let register = house 10000000 3 [] in
     let outcome = outcome_of_size 0 draws in (
@@ -351,7 +353,7 @@ three_turns = turn None (codes "hello ann") ∷ turn (Some 0) ask_line ∷ turn 
 
 asked_at : IsAskedAt (house_of three_rows) 0 (the_owner three_rows) three_turns 1 size_people
 unfolding meant_by request_of
-asked_at = record { turn = turn (Some 0) ask_line; query = a_query; stands = refl; written = (codes "clinic", 1000000, refl); comes_to = refl; asks = refl }
+asked_at = record { turn = turn (Some 0) ask_line; query = a_query; stands = refl; written = inl (codes "clinic", 1000000, refl); comes_to = refl; asks = refl }
 
 asked_once : AreAskedBy (house_of three_rows) 0 (the_owner three_rows) three_turns (sources 1)
 asked_once = record { each_has = refl; once = λ m n below within same. absurd (omega arith); asked = λ n place program placed programmed. one n place program placed programmed }

@@ -16,6 +16,7 @@ use Rattle.wire_lines.specs.declared.refusal.LineRefusal.TheVariants.{Unknown, N
 use Rattle.wire_lines.specs.declared.refusal.DiskRefusal.TheVariants.{Closed, Fault}
 use Rattle.wire_lines.specs.declared.refusal.NumberRefusal.TheVariants.{Unknown as NoSuchNumber, NotYours}
 use Rattle.wire_lines.specs.declared.reply.Standing.TheVariants.{Answered as WasAnswered, Open as IsOpen, Lost as WasLost, Exhausted as WasExhausted}
+use Rattle.part_views.specs.Views.{signature_in, rows_in}
 use Rattle.answer_path.specs.Owner.{Owner}
 use Rattle.answer_path.specs.Noise.{noise_at}
 use Rattle.answer_path.specs.Verdict.{granted}
@@ -101,7 +102,7 @@ closed_lines =
     ∷ quiet None (codes "left clinic") (remaining 1000000 10000000 1) ∷ []
 
 closed_leads : (draws : ℕ → ℕ → ℕ → ℕ) → LeadExactly (house_of three_rows) draws 0 0 [] closed_lines opened
-unfolding meant_by request_of cost_of cost_of_charges partition_cost IsAnswered
+unfolding meant_by request_of cost_of cost_of_charges partition_cost IsAnswered signature_in
 closed_leads draws = (
   opened,
   (opened, inl (granted an_ask a_grant, money_says clinic 0 [] a_query 1 1 _ size_asked refl, inr (Fault, refl, inr refl)), refl, refl),
@@ -121,7 +122,7 @@ abbrev failure : Outcome → Failure
 failure outcome = record { failed_at = 3; pending = Settle 0 outcome }
 
 closed_by : (draws : ℕ → ℕ → ℕ → ℕ) → let outcome : Outcome = outcome_with 3 (noise_at 1000000 (draws 0 0)) in ClosesOn (house_of three_rows) draws 0 None closed_lines (Some (failure outcome))
-unfolding meant_by request_of
+unfolding meant_by request_of signature_in rows_in
 closed_by draws =
     let outcome : Outcome = outcome_with 3 (noise_at 1000000 (draws 0 0)) in
     let shut : Option Failure = Some (failure outcome) in (

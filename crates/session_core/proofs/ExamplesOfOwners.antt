@@ -11,7 +11,7 @@ use Rattle.budget_core.specs.declared.entry.Grant.{Grant}
 use Rattle.budget_core.specs.Cost.{cost_of}
 use Rattle.partition_charge.specs.Cost.{cost_of_charges, partition_cost}
 use Rattle.fz_frac.specs.Lowest.{gcd, gcd_in}
-use Rattle.fz_ast.specs.Signature.{TableType}
+use Rattle.fz_ast.specs.Signature.{Signature, TableType, IsSignature}
 use Rattle.fz_ast.specs.declared.row.Column.TheVariants.{Text}
 use Rattle.fz_ast.specs.Rows.{row_type}
 use Rattle.fz_ast.specs.Types.{NumT, TextT}
@@ -24,14 +24,17 @@ use Rattle.wire_lines.specs.declared.refusal.MoneyRefusal.TheVariants.{OverBudge
 use Rattle.metric_values.specs.Typed.{TypedFlat}
 use Rattle.metric_values.specs.Values.{NumF, TextF}
 use Rattle.owner_catalog.specs.Entries.{TableEntry, OwnerEntry}
-use Rattle.answer_path.specs.Owner.{Owner, Holding}
+use Rattle.part_views.specs.Holding.{Holding}
+use Rattle.part_views.specs.Partitions.{ArePartitions}
+use Rattle.part_views.specs.Views.{signature_in, rows_in}
+use Rattle.answer_path.specs.Owner.{Owner}
 use Rattle.answer_path.specs.Query.{Query}
 use Rattle.answer_path.specs.Judgement.{judgement_of, HasValue}
-use Rattle.answer_path.specs.Program.{HasValueIn}
+use Rattle.answer_path.specs.Program.{IsCharged}
 use Rattle.answer_path.specs.Noise.{noise_at}
 use Rattle.answer_path.specs.Verdict.{money_refused}
 use Rattle.answer_path.specs.Answered.{Told, outcome_reply, grant_records, IsAnswered}
-use Rattle.answer_path.proofs.Answering.{IsAcceptedAt, money_says}
+use Rattle.answer_path.proofs.Answering.{money_says}
 use Rattle.answer_path.proofs.SizePeople.{size_people, size_term, size_reads}
 use Rattle.session_core.specs.House.{Register, IsHeldBy, IsRegister, house_of, entry_of, owner_named}
 use Rattle.session_core.specs.Meant.{meant_by}
@@ -46,7 +49,7 @@ abbrev names : TableType
 names = record { name = codes "names"; row = TextT }
 
 abbrev school_held : Holding
-school_held = record { tables = people ∷ names ∷ []; rows = (NumF (pos 7) ∷ NumF (pos 8) ∷ []) ∷ (TextF (codes "eve") ∷ []) ∷ [] }
+school_held = record { tables = people ∷ names ∷ []; rows = (NumF (pos 7) ∷ NumF (pos 8) ∷ []) ∷ (TextF (codes "eve") ∷ []) ∷ []; partitions = [] }
 
 abbrev names_entry : TableEntry
 names_entry = record { name = codes "names"; file = codes "names.csv"; columns = record { name = codes "name"; kind = Text } ∷ [] }
@@ -64,13 +67,24 @@ clinic_held = ages_held (pos 20 ∷ pos 30 ∷ pos 40 ∷ [])
 abbrev two_owners : Register
 two_owners = register_of (clinic_entry ∷ school_entry ∷ []) (clinic_held ∷ school_held ∷ [])
 
+people_signed : IsSignature (people ∷ [])
+people_signed = (omega arith, tt, refl, refl, tt, tt)
+
+school_signed : IsSignature (people ∷ names ∷ [])
+school_signed = (omega arith, (refl, tt), refl, refl, tt, (omega arith, tt, refl, refl, tt, tt))
+
+no_partitions : (tables : Signature) → ArePartitions tables []
+no_partitions tables = record { few = omega arith; each = λ k d within. absurd (omega (arith, within)) }
+
 -- each holds the tables that the catalog says it has, with rows of them ..
 clinic_holds : IsHeldBy clinic_entry clinic_held
 unfolding row_type
 clinic_holds = record {
   tables = refl;
+  partitions = refl;
   rows = record {
-    names = (refl, tt);
+    signature = people_signed;
+    partitions = no_partitions (people ∷ []);
     dataset = (
       All-from_recursion (TypedFlat NumT) (NumF (pos 20) ∷ NumF (pos 30) ∷ NumF (pos 40) ∷ [])
           ((omega arith, omega arith), ((omega arith, omega arith), ((omega arith, omega arith), tt))),
@@ -83,8 +97,10 @@ school_holds : IsHeldBy school_entry school_held
 unfolding row_type
 school_holds = record {
   tables = refl;
+  partitions = refl;
   rows = record {
-    names = (refl, (refl, tt));
+    signature = school_signed;
+    partitions = no_partitions (people ∷ names ∷ []);
     dataset = (
       All-from_recursion (TypedFlat NumT) (NumF (pos 7) ∷ NumF (pos 8) ∷ []) ((omega arith, omega arith), ((omega arith, omega arith), tt)),
       (All-from_recursion (TypedFlat TextT) (TextF (codes "eve") ∷ []) (omega arith, tt), tt),
@@ -101,7 +117,7 @@ not_fewer : IsHeldBy school_entry clinic_held → ⊥
 unfolding row_type
 not_fewer h = cc (h.tables)
 
-not_texts : IsHeldBy clinic_entry (record { tables = people ∷ []; rows = (TextF (codes "eve") ∷ []) ∷ [] }) → ⊥
+not_texts : IsHeldBy clinic_entry (record { tables = people ∷ []; rows = (TextF (codes "eve") ∷ []) ∷ []; partitions = [] }) → ⊥
 not_texts h = All-head (TypedFlat NumT) (TextF (codes "eve")) [] h.rows.dataset.0
 
 -- a register in which what the owners hold has changed places, or one holds nothing, is none
@@ -193,22 +209,22 @@ records a b c (suc (suc o)) = []
 abbrev noise : (ℕ → ℕ → ℕ → ℕ) → (o n : ℕ) → Option ℤ
 noise draws o n = noise_at 1000000 (draws o n)
 
-clinic_value : HasValueIn clinic.tables clinic.rows Whole size_people (pos 3)
+clinic_value : HasValue clinic.tables clinic.rows size_people (pos 3)
 unfolding HasValue
 clinic_value = (size_term, size_reads, (2, (NumF (pos 20) ∷ NumF (pos 30) ∷ NumF (pos 40) ∷ [], refl, refl)))
 
 -- the school's `people`, of its two tables
-school_asked : IsAcceptedAt school.tables size_people 1 1
+school_asked : IsCharged school.tables size_people 1 1
 unfolding judgement_of gcd gcd_in depth_limit
 school_asked = (size_term, size_reads, refl)
 
-school_value : HasValueIn school.tables school.rows Whole size_people (pos 2)
+school_value : HasValue school.tables school.rows size_people (pos 2)
 unfolding HasValue
 school_value = (size_term, size_reads, (2, (NumF (pos 7) ∷ NumF (pos 8) ∷ [], refl, refl)))
 
 -- the clinic's budget suffices once ..
 clinic_leads : (draws : ℕ → ℕ → ℕ → ℕ) (b c : Option ℤ) → let a : Option ℤ = noise draws 0 0 in LeadExactly (house_of two_owners) draws 0 0 [] (exchanges a b c) (made (of_clinic a))
-unfolding meant_by request_of cost_of cost_of_charges partition_cost IsAnswered
+unfolding meant_by request_of cost_of cost_of_charges partition_cost IsAnswered signature_in rows_in
 clinic_leads draws b c =
     let made_first = made (of_clinic (noise draws 0 0)) in (
       made_first,
@@ -222,7 +238,7 @@ clinic_leads draws b c =
 
 -- .. and the school's, from its own number 0 on and by its own draws, twice
 school_leads : (draws : ℕ → ℕ → ℕ → ℕ) (a : Option ℤ) → let b : Option ℤ = noise draws 1 0 in let c : Option ℤ = noise draws 1 1 in LeadExactly (house_of two_owners) draws 1 0 [] (exchanges a b c) (school_records b c)
-unfolding meant_by request_of cost_of cost_of_charges partition_cost
+unfolding meant_by request_of cost_of cost_of_charges partition_cost signature_in rows_in
 school_leads draws a =
     let first = made (of_school (noise draws 1 0)) in
     let second = grant_records an_ask next_grant (of_school (noise draws 1 1)) in (

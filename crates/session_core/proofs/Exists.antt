@@ -3,8 +3,6 @@ use Rattle.std.proofs.Common.{◌≡◌, ℕ, ◌==◌, Bool, true, false, cond,
 use Rattle.std.specs.Prelude.{ℤ, ◌+ℤ◌, Result, Ok, Err, MatchBool}
 use Rattle.std.specs.List.{AllByRecursion}
 use mathlib.Core.Logic.{inl}
-use Rattle.partition_charge.specs.declared.view.View.{View}
-use Rattle.partition_charge.specs.declared.view.View.TheVariants.{Whole}
 use Rattle.journal_records.specs.declared.records.Outcome.{Outcome}
 use Rattle.journal_records.specs.declared.records.Outcome.TheVariants.{Answered, Exhausted}
 use Rattle.journal_records.specs.declared.records.Record.{Record}
@@ -17,14 +15,14 @@ use Rattle.budget_core.specs.Answers.{recalled_from, left_by}
 use Rattle.fz_frac.specs.Distance.{Fin, Inf}
 use Rattle.wire_lines.specs.Reply.{Replied, refused}
 use Rattle.wire_lines.specs.Refusal.{by_program, by_money}
-use Rattle.answer_path.specs.Owner.{Owner}
+use Rattle.answer_path.specs.Owner.{Owner, signature_of_view}
 use Rattle.answer_path.specs.Query.{Query}
 use Rattle.answer_path.specs.Reading.{Reading, IsReading}
 use Rattle.answer_path.specs.Judgement.{Judgement, refused_for, accepted, judgement_of}
-use Rattle.answer_path.specs.Program.{IsCharged, HasValueIn}
+use Rattle.answer_path.specs.Program.{IsCharged}
 use Rattle.answer_path.specs.Noise.{noise_at}
 use Rattle.answer_path.specs.Verdict.{program_refused, money_refused, granted, money_refusal, ask_for, verdict_by_money, IsVerdictBy, IsVerdict}
-use Rattle.answer_path.specs.Answered.{Told, outcome_reply, grant_records, IsSettledAt, IsAnswered}
+use Rattle.answer_path.specs.Answered.{Told, outcome_reply, grant_records, HasWorthIn, IsSettledAt, IsAnswered}
 use Rattle.answer_path.specs.Standing.{recall_reply, left_reply}
 use Rattle.answer_path.proofs.Charged.{charged_have_values, accepted_finite}
 use Rattle.owner_history.specs.Sound.{HasData}
@@ -57,15 +55,15 @@ settlement : (HasWorth : ℤ → Type 0) (noise : Option ℤ) (grant : Grant) (v
 settlement HasWorth None grant value has = record { outcome = Exhausted; settled = refl; had = tt }
 settlement HasWorth (Some noise) grant value has = record { outcome = Answered (value +ℤ noise); settled = inl (value, has, refl); had = tt }
 
-module _ (owner : Owner) (draws : ℕ → ℕ → ℕ) (start : ℕ) (records : List Record) (query : Query) (has : HasData owner) (whole : query.view ≡ Whole) where
-  by_money_verdict : (p q : ℕ) (money : Result Grant ReserveFault) → money_verdict owner.entry start records (ask_for query p q) ≡ money → IsCharged owner.tables query.view query.program p q
-      → ((v : _) → v ≡ verdict_by_money (ask_for query p q) money → IsVerdict owner.entry owner.tables start records query v) → IsAnswer owner draws start records query
+module _ (owner : Owner) (draws : ℕ → ℕ → ℕ) (start : ℕ) (records : List Record) (query : Query) (has : HasData owner) where
+  by_money_verdict : (p q : ℕ) (money : Result Grant ReserveFault) → money_verdict owner.entry start records (ask_for query p q) ≡ money → IsCharged (signature_of_view owner query.view) query.program p q
+      → ((v : _) → v ≡ verdict_by_money (ask_for query p q) money → IsVerdict owner.entry (signature_of_view owner query.view) start records query v) → IsAnswer owner draws start records query
   unfolding IsAnswered
   by_money_verdict p q (Err fault) is charged verdict =
       record { reply = refused (by_money (money_refusal fault)); added = []; answered = (money_refused (money_refusal fault), verdict _ refl, (refl, refl)); had = tt }
   by_money_verdict p q (Ok grant) is charged verdict =
-      let v = charged_have_values owner.tables owner.rows query.view query.program p q has.tables has.rows charged in
-      let made = settlement (λ z. HasValueIn owner.tables owner.rows query.view query.program z) (noise_at query.e (draws grant.number)) grant v.0 v.1 in
+      let v = charged_have_values owner.tables owner.partitions owner.rows query.view query.program p q has.tables has.partitions has.rows charged in
+      let made = settlement (HasWorthIn owner query) (noise_at query.e (draws grant.number)) grant v.0 v.1 in
       record {
         reply = outcome_reply grant made.outcome;
         added = grant_records (ask_for query p q) grant made.outcome;
@@ -73,7 +71,7 @@ module _ (owner : Owner) (draws : ℕ → ℕ → ℕ) (start : ℕ) (records : 
         had = made.had;
       }
 
-  by_judgement : (reading : Reading) → IsReading query.program reading → (j : Judgement) → judgement_of owner.tables reading ≡ j → IsAnswer owner draws start records query
+  by_judgement : (reading : Reading) → IsReading query.program reading → (j : Judgement) → judgement_of (signature_of_view owner query.view) reading ≡ j → IsAnswer owner draws start records query
   unfolding IsAnswered IsVerdict
   by_judgement reading reads (refused_for refusal) is = record {
     reply = refused (by_program refusal);
@@ -82,13 +80,12 @@ module _ (owner : Owner) (draws : ℕ → ℕ → ℕ) (start : ℕ) (records : 
     had = tt;
   }
   by_judgement reading reads (accepted e Inf) is =
-      let a = accepted_as owner.tables reading e Inf is in
-      let bounded = accepted_finite owner.tables query.program e Inf (subst (λ (r : Reading). IsReading query.program r) a.0 reads) (ap (judgement_of owner.tables) (sym a.0) ∙ is) in
+      let a = accepted_as (signature_of_view owner query.view) reading e Inf is in
+      let bounded = accepted_finite (signature_of_view owner query.view) query.program e Inf (subst (λ (r : Reading). IsReading query.program r) a.0 reads) (ap (judgement_of (signature_of_view owner query.view)) (sym a.0) ∙ is) in
       absurd (cc (bounded))
   by_judgement reading reads (accepted e (Fin p q)) is =
-      let a = accepted_as owner.tables reading e (Fin p q) is in
-      let charged : IsCharged owner.tables query.view query.program p q
-      = subst (λ (v : View). IsCharged owner.tables v query.program p q) (sym whole) (e, subst (λ (r : Reading). IsReading query.program r) a.0 reads, a.1) in
+      let a = accepted_as (signature_of_view owner query.view) reading e (Fin p q) is in
+      let charged : IsCharged (signature_of_view owner query.view) query.program p q = (e, subst (λ (r : Reading). IsReading query.program r) a.0 reads, a.1) in
       by_money_verdict p q (money_verdict owner.entry start records (ask_for query p q)) refl charged
       (λ v same. (reading, reads, subst (λ (j : Judgement). IsVerdictBy owner.entry start records query j v) (sym is) same))
 
@@ -138,7 +135,7 @@ module _ (house : House) (draws : ℕ → ℕ → ℕ → ℕ) (found : Journals
   met : (n : ℕ) (owner : Owner) (line : List ℕ) (demand : Demand) (seen : List Record) → AsksOnly house line (wants n owner demand) → IsMet n owner demand seen
   met n owner line (asks query) seen only =
       let r = every_reading query.program in
-      let a = by_judgement owner (draws n) (first_new (found n)) seen query (owners n owner only.stands).data_of only.whole r.0 r.1 (judgement_of owner.tables r.0) refl in
+      let a = by_judgement owner (draws n) (first_new (found n)) seen query (owners n owner only.stands).data_of r.0 r.1 (judgement_of (signature_of_view owner query.view) r.0) refl in
       record { reply = a.reply; told = placed_from (length seen) a.added; added = a.added; meets = λ turn. (a.added, inl a.answered, refl, refl); had = a.had }
   met n owner line (recalls analyst number) seen only =
       let r : Recall = recalled_from (first_new (found n)) seen number analyst in

@@ -52,7 +52,7 @@ module _ (house : House) (draws : ℕ → ℕ → ℕ → ℕ) (script : List �
   honoured_of xs records here turns leads =
       let known : AreKnown house (map (λ (x : Exchange). x.turn) xs) = subst (λ (ts : List Turn). AreKnown house ts) (sym turns) (turns_known house script) in
       let r : Ran house draws (turns_of house script) o owner found earlier 0 found nothing_asked xs records
-      = ran house draws (turns_of house script) o owner found earlier begun.history here of.analysts xs records 0 known turns found nothing_asked first_fine leads in
+      = ran house draws (turns_of house script) o owner found earlier begun.history here of xs records 0 known turns found nothing_asked first_fine leads in
       record {
         sources = r.sources;
         accounted = accounted_of records r.sources r.fine.well r.fine.asked;
@@ -82,7 +82,7 @@ run_owed house draws found script replies last owners founds run = λ o owner at
     let f = founds o owner at in
     let known : AreKnown house (map (λ (x : Exchange). x.turn) run.exchanges) = subst (λ (ts : List Turn). AreKnown house ts) (sym run.turns) (turns_known house script) in
     lawful_owed owner (draws o) (found o) (last o) f.within
-    (run_lawful house draws o owner (found o) f.history at (owners o owner at).analysts run.exchanges (found o) (last o) known (lawful_found owner (draws o) (found o) f) (run.owners o owner at))
+    (run_lawful house draws o owner (found o) f.history at (owners o owner at) run.exchanges (found o) (last o) known (lawful_found owner (draws o) (found o) f) (run.owners o owner at))
 
 -- What is written for a script keeps the headline.
 pub headline_of : (house : House) (draws : ℕ → ℕ → ℕ → ℕ) (found : Journals) (earlier : Programs) (script : List ℕ) (replies : List Replied) (last : Journals) → AreOwners house → AreFound house draws earlier found

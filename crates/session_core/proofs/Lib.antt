@@ -1,5 +1,6 @@
 pub mod Exchanges
 pub mod Turns
+pub mod Subjects
 pub mod Wants
 pub mod Exactly
 pub mod Runs
@@ -18,3 +19,4 @@ pub mod Others
 pub mod Examples
 pub mod ExamplesOfOwners
 mod ExamplesOfFaults
+mod ExamplesOfParts

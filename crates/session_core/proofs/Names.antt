@@ -1,14 +1,18 @@
 -- names of a catalog can be said in a reply, and the place of one
-use Rattle.std.proofs.Common.{◌≡◌, ℕ, Bool, true, false, List, [], ◌∷◌, Option, Some, None, length, ◌<◌, ◌==◌, bytes_eq, get_or, refl, sym, subst, eqb-true}
+use Rattle.std.proofs.Common.{◌≡◌, ℕ, Bool, true, false, List, [], ◌∷◌, Option, Some, None, length, map, ◌<◌, ◌==◌, bytes_eq, get_or, refl, sym, subst, eqb-true}
 use Rattle.std.specs.Prelude.{IfSome, IsTrue, not, ◌&&◌, nat_le}
 use Rattle.std.specs.List.{position, list_all, All}
+use Rattle.std.proofs.lemmas.List.Elements.{All-head, All-tail}
 use Rattle.std.proofs.lemmas.Bool.{and_parts, and_from}
 use Rattle.std.proofs.lemmas.List.Quantifiers.{position-Some}
 use Rattle.fz_lexer.specs.Bytes.{begins, every_byte, is_letter, is_digit, is_name_byte}
 use Rattle.wire_lines.specs.Lines.{lf, space}
 use Rattle.wire_lines.specs.Name.{is_name}
 use Rattle.owner_catalog.specs.Forms.{is_catalog_name}
-use Rattle.owner_catalog.specs.Lawful.{IsCatalogName}
+use Rattle.owner_catalog.specs.Entries.{TableEntry, table_type_of}
+use Rattle.owner_catalog.specs.Lawful.{IsCatalogName, IsTableEntry}
+use Rattle.answer_path.specs.Judgement.{AreNames}
+use Rattle.session_core.proofs.Signed.{table_named}
 use Rattle.metric_values.proofs.Elements.{text_is}
 
 -- a byte of a name parts no words and no lines
@@ -46,6 +50,11 @@ sayable text named =
     let parts = and_parts (begun && every) few named in
     let rest = and_parts begun every parts.0 in
     and_from few (list_all parts_nothing text) parts.1 (bytes_said text rest.1)
+
+-- The names of a catalog's tables can be said in a reply.
+pub tables_said : (tables : List TableEntry) → All IsTableEntry tables → AreNames (map table_type_of tables)
+tables_said [] all = tt
+tables_said (t ∷ tables) all = (sayable t.name (table_named t (All-head IsTableEntry t tables all)), tables_said tables (All-tail IsTableEntry t tables all))
 
 pub found_within : (names : List (List ℕ)) (name : List ℕ) (place : ℕ) → position (λ other. bytes_eq name other) names ≡ Some place → place < length names
 found_within names name place at = (position-Some (λ other. bytes_eq name other) names place [] at).0

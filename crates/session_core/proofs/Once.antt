@@ -13,7 +13,7 @@ use Rattle.fz_frac.specs.Distance.{Fin, Inf}
 use Rattle.fz_ast.specs.Signature.{Signature}
 use Rattle.wire_lines.specs.Reply.{Replied, refused}
 use Rattle.wire_lines.specs.Refusal.{no_memory}
-use Rattle.answer_path.specs.Owner.{Owner}
+use Rattle.answer_path.specs.Owner.{Owner, signature_of_view, rows_of_view}
 use Rattle.answer_path.specs.Query.{Query}
 use Rattle.answer_path.specs.Noise.{noise_at}
 use Rattle.answer_path.specs.Reading.{Reading}
@@ -21,7 +21,7 @@ use Rattle.answer_path.specs.Judgement.{Judgement, refused_for, accepted, judgem
 use Rattle.answer_path.specs.Verdict.{Verdict, program_refused, money_refused, granted, IsVerdictBy, IsVerdict}
 use Rattle.answer_path.specs.Answered.{outcome_reply, grant_records, IsSettledAt, IsSettledBy, IsUnrecorded, IsAnsweredBy, IsAnswered}
 use Rattle.answer_path.proofs.Readings.{one_reading}
-use Rattle.answer_path.proofs.Charged.{one_value_in}
+use Rattle.answer_path.proofs.Programs.{one_value}
 use Rattle.session_core.specs.House.{House}
 use Rattle.session_core.specs.Meant.{Demand, asks, recalls, balances, Meant, says, wants}
 use Rattle.session_core.specs.Turns.{Turn, meant_at}
@@ -54,7 +54,7 @@ settled_once HasWorth (Some noise) o u one kept held (inl f) (inl g) = f.2 ∙ a
 
 outcome_once : (owner : Owner) (draws : ℕ → ℕ → ℕ) (query : Query) (n : ℕ) (o u : Outcome) → (o ≡ Lost → ⊥) → (u ≡ Lost → ⊥) → IsSettledBy owner draws query n o → IsSettledBy owner draws query n u → o ≡ u
 outcome_once owner draws query n o u kept held f g =
-    settled_once _ (noise_at query.e (draws n)) o u (λ y z has had. one_value_in owner.tables owner.rows query.view query.program y z has had) kept held f g
+    settled_once _ (noise_at query.e (draws n)) o u (λ y z has had. one_value (signature_of_view owner query.view) (rows_of_view owner query.view) query.program y z has had) kept held f g
 
 -- a reply where nothing failed is of no lost answer
 not_lost : (grant : Grant) (reply : Replied) (outcome : Outcome) → NothingFailed reply → reply ≡ outcome_reply grant outcome → outcome ≡ Lost → ⊥
@@ -84,7 +84,7 @@ unfolding IsAnswered
 met_once draws start owner (asks query) seen x y a b had has (added, inr f, told, is) g = absurd (ran_out x.reply had f.0)
 met_once draws start owner (asks query) seen x y a b had has (added, inl f, told, is) (more, inr g, said, ends) = absurd (ran_out y.reply has g.0)
 met_once draws start owner (asks query) seen x y a b had has (added, inl f, told, is) (more, inl g, said, ends) =
-    let same : f.0 ≡ g.0 = verdict_once owner.entry owner.tables start seen query f.0 g.0 f.1 g.1 in
+    let same : f.0 ≡ g.0 = verdict_once owner.entry (signature_of_view owner query.view) start seen query f.0 g.0 f.1 g.1 in
     let both = answered_once owner draws query f.0 x.reply y.reply added more had has f.2 (subst (λ (v : Verdict). IsAnsweredBy owner draws query v y.reply more) (sym same) g.2) in
     (both.0, is ∙ ap (λ rs. seen ++ rs) both.1 ∙ sym ends)
 met_once draws start owner (recalls analyst number) seen x y a b had has f g = (f.0 ∙ sym g.0, f.2 ∙ sym g.2)

@@ -5,16 +5,22 @@ use Rattle.std.proofs.lemmas.Option.{slice_get_within, get_or_from_slice_get, sl
 use Rattle.std.proofs.lemmas.List.{length-map}
 use Rattle.std.proofs.Math.Seq.{take-length}
 use Rattle.std.specs.Prelude.{IfSome}
+use Rattle.std.proofs.lemmas.List.Quantifiers.{position-Some}
 use Rattle.std.specs.List.{All, zip, position, position_from}
-use Rattle.fz_ast.specs.Signature.{Signature, IsSignature}
+use Rattle.fz_ast.specs.Signature.{Signature}
 use Rattle.owner_catalog.specs.Entries.{Catalog, OwnerEntry, TableEntry, PartitionEntry, owner_entry_at as listed_at}
 use Rattle.owner_catalog.specs.Lawful.{IsOwner, IsPartition}
-use Rattle.budget_core.specs.Entries.{IsEntry}
-use Rattle.answer_path.specs.Owner.{Owner, Holding}
-use Rattle.session_core.specs.House.{Register, IsRegister, House, IsOwnerIn, AreOwners, house_of, entry_of, keys_of, owner_of, owner_from, owner_named}
+use Rattle.partition_charge.specs.declared.view.View.TheVariants.{Part}
+use Rattle.budget_core.specs.Entries.{Entry, IsEntry, HasView}
+use Rattle.owner_history.specs.Sound.{HasData}
+use Rattle.part_views.specs.Holding.{Holding}
+use Rattle.part_views.specs.Partitions.{HasPart}
+use Rattle.answer_path.specs.Judgement.{AreNames}
+use Rattle.answer_path.specs.Owner.{Owner, IsOwnerOf}
+use Rattle.session_core.specs.House.{Register, IsRegister, House, IsOwnerIn, AreOwners, house_of, entry_of, keys_of, owner_of, owner_from, owner_named, no_partition, partition_named, partition_at, key_named}
 use Rattle.session_core.specs.Code.{no_owner, owner_at, numbered}
-use Rattle.session_core.proofs.Wants.{owner_stands}
-use Rattle.session_core.proofs.Signed.{signature_signed}
+use Rattle.session_core.proofs.Subjects.{owner_stands, part_has_view}
+use Rattle.session_core.proofs.Names.{tables_said}
 
 -- an owner's entry and holding stand at its number
 pub record Stands (catalog : Catalog) (entries : List OwnerEntry) (holdings : List Holding) (o : ℕ) (owner : Owner) : Type 0 where
@@ -103,12 +109,56 @@ keys_all owner p is =
 pub owner_there : (register : Register) (o : ℕ) → o < length (house_of register).owners → slice_get (house_of register).owners o ≡ Some (owner_at (house_of register) o)
 owner_there register o within = slice_get-get_or (house_of register).owners o no_owner within
 
-pub owner_holds : (register : Register) (o : ℕ) (holding : Holding) → o < length (house_of register).owners → slice_get register.holdings o ≡ Some holding
-    → ((owner_at (house_of register) o).tables ≡ holding.tables) × ((owner_at (house_of register) o).rows ≡ holding.rows)
-owner_holds register o holding within held =
+-- The owner of a number, with what its pass is on and its dataset holds.
+pub owner_holds : (register : Register) (o : ℕ) (holding : Holding) (entry : Entry) → o < length (house_of register).owners → slice_get register.holdings o ≡ Some holding → entry ≡ (owner_at (house_of register) o).entry
+    → IsOwnerOf entry holding (owner_at (house_of register) o)
+owner_holds register o holding entry within held is =
     let s = owner_stands_at register o (owner_at (house_of register) o) (owner_there register o within) in
-    let same : s.holding ≡ holding = cc (s.held, held) in
-    (sym (ap (λ (w : Owner). w.tables) s.is) ∙ ap (λ (h : Holding). h.tables) same, sym (ap (λ (w : Owner). w.rows) s.is) ∙ ap (λ (h : Holding). h.rows) same)
+    let same : s.holding ≡ holding = cc (s.held, held) in record {
+      entry_is = sym is;
+      tables_are = sym (ap (λ (w : Owner). w.tables) s.is) ∙ ap (λ (h : Holding). h.tables) same;
+      rows_are = sym (ap (λ (w : Owner). w.rows) s.is) ∙ ap (λ (h : Holding). h.rows) same;
+      partitions_are = sym (ap (λ (w : Owner). w.partitions) s.is) ∙ ap (λ (h : Holding). h.partitions) same;
+    }
+
+-- The names of an owner's tables can be said in a reply.
+pub tables_named : (register : Register) → IsRegister register → (o : ℕ) (holding : Holding) → o < length (house_of register).owners → slice_get register.holdings o ≡ Some holding → AreNames holding.tables
+tables_named register of o holding within held =
+    let listed = slice_get-get_or register.catalog.owners o _ (in_catalog register of o within) in
+    let lawful : IsOwner (listed_at register.catalog o) = of.catalog.owners o _ (in_catalog register of o within) in
+    subst (λ (ts : Signature). AreNames ts) (sym (of.holds o (listed_at register.catalog o) holding listed held).tables) (tables_said (listed_at register.catalog o).tables lawful.tables)
+
+-- an owner's partitions are those that the catalog says
+pub partitions_are : (register : Register) → IsRegister register → (o : ℕ) → o < length (house_of register).owners → (listed_at register.catalog o).partitions ≡ (owner_at (house_of register) o).partitions
+partitions_are register of o within =
+    let s = owner_stands_at register o (owner_at (house_of register) o) (owner_there register o within) in
+    let held = of.holds o s.entry s.holding s.listed s.held in
+    ap (λ (e : OwnerEntry). e.partitions) (get_or_from_slice_get register.catalog.owners o s.entry _ s.listed) ∙ sym held.partitions ∙ ap (λ (w : Owner). w.partitions) s.is
+
+-- what is found is within the list
+place_within : {A : Type 0} → (p : A → Bool) (xs : List A) (d : A) (found : Option ℕ) → found ≡ position p xs → IfSome found (λ k. k < length xs)
+place_within p xs d None is = tt
+place_within p xs d (Some k) is = (position-Some p xs k d (sym is)).0
+
+-- what a look-up of the catalog finds is the number of the owner's partition of that name
+pub partition_by : (register : Register) → IsRegister register → (o : ℕ) → o < length (house_of register).owners → (name : List ℕ) (found : Option ℕ)
+    → found ≡ position (λ (partition : PartitionEntry). bytes_eq name partition.name) (listed_at register.catalog o).partitions
+    → (found ≡ partition_named (owner_at (house_of register) o) name) × IfSome found (λ p. p < length (owner_at (house_of register) o).partitions)
+partition_by register of o within name found is =
+    let named : found ≡ partition_named (owner_at (house_of register) o) name
+    = is ∙ ap (λ (ps : List PartitionEntry). position (λ (partition : PartitionEntry). bytes_eq name partition.name) ps) (partitions_are register of o within) in
+    (named, place_within (λ (partition : PartitionEntry). bytes_eq name partition.name) (owner_at (house_of register) o).partitions no_partition found named)
+
+-- a partition is one of the catalog's too, which has few keys
+pub in_partitions : (register : Register) → IsRegister register → (o p : ℕ) → o < length (house_of register).owners → p < length (owner_at (house_of register) o).partitions → p < length (listed_at register.catalog o).partitions
+in_partitions register of o p within less = omega (arith, less, ap (λ (ps : List PartitionEntry). length ps) (partitions_are register of o within))
+
+pub few_keys : (register : Register) → IsRegister register → (o p : ℕ) → o < length (house_of register).owners → p < length (owner_at (house_of register) o).partitions
+    → length (get_or (listed_at register.catalog o).partitions p no_partition).keys ≤ 250
+few_keys register of o p within less =
+    let lawful : IsOwner (listed_at register.catalog o) = of.catalog.owners o _ (in_catalog register of o within) in
+    let partition : IsPartition (listed_at register.catalog o).tables (get_or (listed_at register.catalog o).partitions p no_partition) = lawful.partitions p no_partition (in_partitions register of o p within less) in
+    partition.few
 
 pub owner_counts : (register : Register) (o : ℕ) → o < length (house_of register).owners → (owner_at (house_of register) o).entry.analysts ≡ length register.catalog.analysts
 owner_counts register o within =
@@ -164,11 +214,40 @@ named_by register of name found is =
 pub entry_is : (P : OwnerEntry → Type 0) (entries : List OwnerEntry) (o : ℕ) (entry : OwnerEntry) → All P entries → slice_get entries o ≡ Some entry → P entry
 entry_is P entries o entry all at = subst P (get_or_from_slice_get entries o entry entry at) (all o entry (slice_get_within entries o entry at))
 
--- A register's owners have rows of their tables, and count the house's analysts.
+-- A register's owners have rows of their tables and partitions of these, and count the house's analysts.
 pub register_owners : (register : Register) → IsRegister register → AreOwners (house_of register)
 register_owners register of o owner at =
     let s = owner_stands_at register o owner at in
     let held = of.holds o s.entry s.holding s.listed s.held in
-    let here : IsOwnerIn (house_of register) (owner_of register.catalog (s.entry, s.holding))
-    = record { data_of = record { tables = subst (λ (ts : Signature). IsSignature ts) (sym held.tables) (signature_signed s.entry (entry_is IsOwner register.catalog.owners o s.entry of.catalog.owners s.listed)); rows = held.rows.dataset }; analysts = refl } in
+    let here : IsOwnerIn (house_of register) (owner_of register.catalog (s.entry, s.holding)) = record {
+      data_of = record {
+        tables = held.rows.signature;
+        rows = held.rows.dataset;
+        partitions = held.rows.partitions;
+        keys = ap (λ (ps : List PartitionEntry). map (λ (partition : PartitionEntry). length partition.keys) ps) (sym held.partitions);
+      };
+      analysts = refl;
+    } in
     subst (λ (w : Owner). IsOwnerIn (house_of register) w) s.is here
+
+-- What a look-up of a key finds is its number in the owner's partition, and a view of the owner's.
+pub key_by : (register : Register) → IsRegister register → (o : ℕ) → o < length (house_of register).owners → (p : ℕ) (key : List ℕ) (found : Option ℕ) → p < length (owner_at (house_of register) o).partitions
+    → found ≡ position (λ (other : List ℕ). bytes_eq key other) (get_or (listed_at register.catalog o).partitions p no_partition).keys
+    → (found ≡ key_named (partition_at (owner_at (house_of register) o) p) key) × IfSome found (λ j. HasPart (owner_at (house_of register) o).partitions (Part p j))
+    × IfSome found (λ j. HasView (owner_at (house_of register) o).entry (Part p j))
+key_by register of o within p key found less is =
+    let owner : Owner = owner_at (house_of register) o in
+    let named : found ≡ key_named (partition_at owner p) key
+    = is ∙ ap (λ (ps : List PartitionEntry). position (λ (other : List ℕ). bytes_eq key other) (get_or ps p no_partition).keys) (partitions_are register of o within) in
+    let there : IfSome found (λ j. HasPart owner.partitions (Part p j)) = part_of (partition_at owner p) (slice_get-get_or owner.partitions p no_partition less) found named in
+    (named, there, view_of (register_owners register of o owner (owner_there register o within)).data_of found there)
+  where
+    part_of : (partition : PartitionEntry) → slice_get (owner_at (house_of register) o).partitions p ≡ Some partition → (found : Option ℕ) → found ≡ key_named partition key
+        → IfSome found (λ j. HasPart (owner_at (house_of register) o).partitions (Part p j))
+    part_of partition at None named = tt
+    part_of partition at (Some j) named = (partition, at, (position-Some (λ (other : List ℕ). bytes_eq key other) partition.keys j [] (sym named)).0)
+
+    view_of : HasData (owner_at (house_of register) o) → (found : Option ℕ) → IfSome found (λ j. HasPart (owner_at (house_of register) o).partitions (Part p j))
+        → IfSome found (λ j. HasView (owner_at (house_of register) o).entry (Part p j))
+    view_of has None there = tt
+    view_of has (Some j) there = part_has_view (owner_at (house_of register) o) has (Part p j) there

@@ -3,11 +3,11 @@ use Rattle.std.proofs.Common.{ℕ, List, Option, Some, None}
 use Rattle.std.specs.Prelude.{Result, Ok, Err, ⊤}
 use Rattle.wire_lines.specs.Reply.{Replied, greeted, ended, refused}
 use Rattle.wire_lines.specs.Refusal.{by_line}
-use Rattle.wire_lines.specs.Request.{Asked, hello, ask, recall, left, bye, request_of}
+use Rattle.wire_lines.specs.Request.{Asked, hello, ask, askpart, recall, left, bye, request_of}
 use Rattle.wire_lines.specs.declared.refusal.LineRefusal.{LineRefusal}
 use Rattle.answer_path.specs.Owner.{Owner}
 use Rattle.session_core.specs.House.{House, analyst_named, owner_named}
-use Rattle.session_core.specs.Meant.{Meant, says, wants, meant_by, meant_by_request, meant_by_hello, meant_by_ask, meant_by_recall, meant_by_left}
+use Rattle.session_core.specs.Meant.{Meant, Subject, says, wants, whole_named, part_named, meant_by, meant_by_request, meant_by_hello, meant_by_ask, meant_by_recall, meant_by_left}
 
 module _ (P : Replied → Type 0) (of_greeting : (name : List ℕ) → P (greeted name)) (of_end : P ended) (of_line : (refusal : LineRefusal) → P (refused (by_line refusal))) where
   abbrev pub Says : Meant → Type 0
@@ -18,11 +18,11 @@ module _ (P : Replied → Type 0) (of_greeting : (name : List ℕ) → P (greete
   hello_says house who name None = of_line _
   hello_says house who name (Some analyst) = of_greeting name
 
-  ask_says : (who : Option ℕ) (found : Option (ℕ × Owner)) (epsilon : Option ℕ) (program : List ℕ) → Says (meant_by_ask who found epsilon program)
-  ask_says who None epsilon program = of_line _
-  ask_says who (Some found) None program = of_line _
-  ask_says None (Some found) (Some e) program = of_line _
-  ask_says (Some analyst) (Some found) (Some e) program = tt
+  ask_says : (who : Option ℕ) (subject : Result Subject LineRefusal) (epsilon : Option ℕ) (program : List ℕ) → Says (meant_by_ask who subject epsilon program)
+  ask_says who (Err refusal) epsilon program = of_line refusal
+  ask_says who (Ok subject) None program = of_line _
+  ask_says None (Ok subject) (Some e) program = of_line _
+  ask_says (Some analyst) (Ok subject) (Some e) program = tt
 
   recall_says : (who : Option ℕ) (found : Option (ℕ × Owner)) (number : ℕ) → Says (meant_by_recall who found number)
   recall_says who None number = of_line _
@@ -36,7 +36,8 @@ module _ (P : Replied → Type 0) (of_greeting : (name : List ℕ) → P (greete
   request_says : (house : House) (who : Option ℕ) (request : Result Asked LineRefusal) → Says (meant_by_request house who request)
   request_says house who (Err refusal) = of_line refusal
   request_says house who (Ok (hello name)) = hello_says house who name (analyst_named house name)
-  request_says house who (Ok (ask name epsilon program)) = ask_says who (owner_named house name) epsilon program
+  request_says house who (Ok (ask name epsilon program)) = ask_says who (whole_named house name) epsilon program
+  request_says house who (Ok (askpart name partition key epsilon program)) = ask_says who (part_named house name partition key) epsilon program
   request_says house who (Ok (recall name number)) = recall_says who (owner_named house name) number
   request_says house who (Ok (left name)) = left_says who (owner_named house name)
   request_says house who (Ok bye) = of_end

@@ -17,22 +17,23 @@ use Rattle.wire_lines.specs.declared.refusal.DiskRefusal.{DiskRefusal}
 use Rattle.budget_core.specs.Counts.{reservations_of}
 use Rattle.budget_core.specs.Legal.{IsHistory}
 use Rattle.budget_core.proofs.Histories.{push_cases, slice_get-append-lt, slice_get-append-seam}
-use Rattle.answer_path.specs.Owner.{Owner}
+use Rattle.answer_path.specs.Owner.{Owner, signature_of_view}
 use Rattle.answer_path.specs.Query.{Query}
+use Rattle.answer_path.specs.Code.{IsQueryOf}
 use Rattle.answer_path.specs.Verdict.{Verdict, program_refused, money_refused, granted, IsVerdict}
 use Rattle.answer_path.specs.Answered.{Told, IsSettledBy, outcome_reply, grant_records, granted_record, IsAnsweredBy, IsAnswered}
 use Rattle.owner_history.specs.Granted.{settlement_in, IsGranted, IsRecallBorneOut}
 use Rattle.owner_history.proofs.Prefixes.{prefix_self, prefix_by, prefix_trans, slice_get_prefix}
-use Rattle.owner_history.proofs.Steps.{IsQueryOf, IsWell, IsReserved, IsStep, reserve, well_reserved, step, granted_on, settled_for_on}
+use Rattle.owner_history.proofs.Steps.{IsWell, IsReserved, IsStep, reserve, well_reserved, step, granted_on, settled_for_on}
 use Rattle.owner_history.proofs.Recalls.{recall_borne}
-use Rattle.session_core.specs.House.{House}
+use Rattle.session_core.specs.House.{House, IsOwnerIn}
 use Rattle.session_core.specs.Meant.{Demand, asks, recalls, balances, Meant, says, wants}
 use Rattle.session_core.specs.Turns.{Turn, meant_at}
 use Rattle.session_core.specs.Exchanges.{Exchange, TurnLeads}
 use Rattle.session_core.specs.Transcript.{placed_from, first_new, MeetsExactly, LeadExactly}
 use Rattle.session_core.specs.Served.{Sources, IsAskedAt, AreAskedBy, StandIn, IsBorneOutTo, IsHeldTo, AreHeldTo, SpeaksOf, LeavesOpen}
 use Rattle.session_core.proofs.Turns.{AreKnown}
-use Rattle.session_core.proofs.Wants.{AsksOnly, asks_only, only_stands, asked_in_range}
+use Rattle.session_core.proofs.Wants.{AsksOnly, asks_only, only_stands, query_within}
 use Rattle.session_core.proofs.Exactly.{placed_stand, stand_on, outcome_said, nothing_told, nothing_after}
 
 -- with the program of one turn more
@@ -225,9 +226,9 @@ module _ (house : House) (draws : ℕ → ℕ → ℕ → ℕ) (spoken : List Tu
 
   -- a query that is granted, where this is what it adds
   granted_first : IsHistory owner.entry found → (at : ℕ) (records after : List Record) (s : Sources) (query : Query) (x : Exchange) (xs : List Exchange) (last : List Record) (asking : Ask) (grant : Grant) (outcome : Outcome)
-      → IsVerdict owner.entry owner.tables (first_new found) records query (granted asking grant) → IsSettledBy owner (draws o) query grant.number outcome → x.reply ≡ outcome_reply grant outcome
+      → IsVerdict owner.entry (signature_of_view owner query.view) (first_new found) records query (granted asking grant) → IsSettledBy owner (draws o) query grant.number outcome → x.reply ≡ outcome_reply grant outcome
       → x.told ≡ placed_from (length records) (grant_records asking grant outcome) → after ≡ records ++ grant_records asking grant outcome → IsFine at records s → LeadExactly house draws o (first_new found) after xs last
-      → IsQueryOf owner query → IsAskedAt house o owner spoken at query.program → meant_at house x.turn ≡ wants o owner (asks query) → Runs (suc at) xs last → Ran at records s (x ∷ xs) last
+      → IsQueryOf owner.entry query → IsAskedAt house o owner spoken at query.program → meant_at house x.turn ≡ wants o owner (asks query) → Runs (suc at) xs last → Ran at records s (x ∷ xs) last
   granted_first begun at records after s query x xs last asking grant outcome is settles reply told ends fine more of asked meant rest =
       let n : ℕ = grant.number in
       let all : List Record = records ++ grant_records asking grant outcome in
@@ -242,9 +243,9 @@ module _ (house : House) (draws : ℕ → ℕ → ℕ → ℕ) (spoken : List Tu
 
   -- a query that is granted, where its settlement wasn't written
   opened_first : IsHistory owner.entry found → (at : ℕ) (records after : List Record) (s : Sources) (query : Query) (x : Exchange) (xs : List Exchange) (last : List Record) (asking : Ask) (grant : Grant) (refusal : DiskRefusal)
-      → IsVerdict owner.entry owner.tables (first_new found) records query (granted asking grant) → x.reply ≡ refused (by_disk refusal)
+      → IsVerdict owner.entry (signature_of_view owner query.view) (first_new found) records query (granted asking grant) → x.reply ≡ refused (by_disk refusal)
       → x.told ≡ placed_from (length records) (granted_record asking grant ∷ []) → after ≡ records ++ granted_record asking grant ∷ [] → IsFine at records s → LeadExactly house draws o (first_new found) after xs last
-      → IsQueryOf owner query → IsAskedAt house o owner spoken at query.program → meant_at house x.turn ≡ wants o owner (asks query) → Runs (suc at) xs last → Ran at records s (x ∷ xs) last
+      → IsQueryOf owner.entry query → IsAskedAt house o owner spoken at query.program → meant_at house x.turn ≡ wants o owner (asks query) → Runs (suc at) xs last → Ran at records s (x ∷ xs) last
   opened_first begun at records after s query x xs last asking grant refusal is reply told ends fine more of asked meant rest =
       let n : ℕ = grant.number in
       let r : Reservation = reservation_numbered n asking grant.taken in
@@ -258,9 +259,9 @@ module _ (house : House) (draws : ℕ → ℕ → ℕ → ℕ) (spoken : List Tu
       (subst (λ (rs : List Record). LeadExactly house draws o (first_new found) rs xs last) ends more))
 
   answered_first : IsHistory owner.entry found → (at : ℕ) (records added after : List Record) (s : Sources) (query : Query) (x : Exchange) (xs : List Exchange) (last : List Record) (v : Verdict)
-      → IsVerdict owner.entry owner.tables (first_new found) records query v → IsAnsweredBy owner (draws o) query v x.reply added
+      → IsVerdict owner.entry (signature_of_view owner query.view) (first_new found) records query v → IsAnsweredBy owner (draws o) query v x.reply added
       → x.told ≡ placed_from (length records) added → after ≡ records ++ added → IsFine at records s → LeadExactly house draws o (first_new found) after xs last
-      → IsQueryOf owner query → IsAskedAt house o owner spoken at query.program → meant_at house x.turn ≡ wants o owner (asks query) → Runs (suc at) xs last → Ran at records s (x ∷ xs) last
+      → IsQueryOf owner.entry query → IsAskedAt house o owner spoken at query.program → meant_at house x.turn ≡ wants o owner (asks query) → Runs (suc at) xs last → Ran at records s (x ∷ xs) last
   answered_first begun at records added after s query x xs last (program_refused refusal) is by told ends fine more of asked meant rest =
       refused_first at records added after s query x xs last meant by.1 (ap settlement_in by.0) told ends fine more rest
   answered_first begun at records added after s query x xs last (money_refused refusal) is by told ends fine more of asked meant rest =
@@ -274,31 +275,31 @@ module _ (house : House) (draws : ℕ → ℕ → ℕ → ℕ) (spoken : List Tu
 
   wants_first : IsHistory owner.entry found → (at : ℕ) (records after : List Record) (s : Sources) (demand : Demand) (x : Exchange) (xs : List Exchange) (last : List Record) → MeetsExactly (draws o) (first_new found) owner demand records x after
       → LeadExactly house draws o (first_new found) after xs last → IsFine at records s
-      → owner.entry.analysts ≡ length house.analysts → slice_get spoken at ≡ Some x.turn → AsksOnly house x.turn.line (wants o owner demand) → meant_at house x.turn ≡ wants o owner demand
+      → IsOwnerIn house owner → slice_get spoken at ≡ Some x.turn → AsksOnly house x.turn.line (wants o owner demand) → meant_at house x.turn ≡ wants o owner demand
       → Runs (suc at) xs last → Ran at records s (x ∷ xs) last
   unfolding IsAnswered
-  wants_first begun at records after s (asks query) x xs last (added, inr lack, told, ends) more fine sized stands only meant rest =
+  wants_first begun at records after s (asks query) x xs last (added, inr lack, told, ends) more fine inside stands only meant rest =
       refused_first at records added after s query x xs last meant lack.1 (ap settlement_in lack.0) told ends fine more rest
-  wants_first begun at records after s (asks query) x xs last (added, inl by, told, ends) more fine sized stands only meant rest =
+  wants_first begun at records after s (asks query) x xs last (added, inl by, told, ends) more fine inside stands only meant rest =
       answered_first begun at records added after s query x xs last by.0 by.1 by.2 told ends fine more
-      (record { whole = only.whole; analyst = subst (λ (k : ℕ). query.analyst < k) (sym sized) only.analyst; epsilon = asked_in_range x.turn.line only.name query.program query.e only.written })
-      (record { turn = x.turn; query = query; stands = stands; written = (only.name, query.e, only.written); comes_to = meant; asks = refl })
+      (query_within house owner inside x.turn.line o query only)
+      (record { turn = x.turn; query = query; stands = stands; written = only.written; comes_to = meant; asks = refl })
       meant rest
-  wants_first begun at records after s (recalls analyst number) x xs last (said, told, ends) more fine sized stands only meant rest =
+  wants_first begun at records after s (recalls analyst number) x xs last (said, told, ends) more fine inside stands only meant rest =
       let here : IsRecallBorneOut records analyst x.reply = subst (λ (r : Replied). IsRecallBorneOut records analyst r) (sym said) (recall_borne (first_new found) records number analyst) in
       nothing_first at records after s (recalls analyst number) x xs last meant
       (λ programs others later on_programs on n outcome is. settled_for_on records later analyst n outcome on (here n outcome is)) told ends fine more rest
-  wants_first begun at records after s balances x xs last (said, told, ends) more fine sized stands only meant rest =
+  wants_first begun at records after s balances x xs last (said, told, ends) more fine inside stands only meant rest =
       nothing_first at records after s balances x xs last meant (λ programs others later on_programs on. tt) told ends fine more rest
 
   first_turn : IsHistory owner.entry found → (at : ℕ) (records : List Record) (s : Sources) (m : Meant) (x : Exchange) (xs : List Exchange) (last : List Record) → slice_get house.owners o ≡ Some owner
-      → owner.entry.analysts ≡ length house.analysts → slice_get spoken at ≡ Some x.turn → AsksOnly house x.turn.line m → meant_at house x.turn ≡ m → IsFine at records s
+      → IsOwnerIn house owner → slice_get spoken at ≡ Some x.turn → AsksOnly house x.turn.line m → meant_at house x.turn ≡ m → IsFine at records s
       → TurnLeads house o (MeetsExactly (draws o) (first_new found)) m records x (λ after. LeadExactly house draws o (first_new found) after xs last)
       → Runs (suc at) xs last → Ran at records s (x ∷ xs) last
-  first_turn begun at records s (says reply next) x xs last here sized stands only meant fine leads rest =
+  first_turn begun at records s (says reply next) x xs last here inside stands only meant fine leads rest =
       quiet_first at records s x xs last (λ on programs w other is. absurd (let both : says reply next ≡ wants o w other = sym meant ∙ is in cc (both)))
       (rest records s (later_fine at records s fine) leads)
-  first_turn begun at records s (wants n asked demand) x xs last here sized stands only meant fine leads rest = either (n == o) refl leads
+  first_turn begun at records s (wants n asked demand) x xs last here inside stands only meant fine leads rest = either (n == o) refl leads
     where
       either : (b : Bool) → (n == o) ≡ b
           → MatchBool b ((after : List Record) × MeetsExactly (draws o) (first_new found) asked demand records x after × LeadExactly house draws o (first_new found) after xs last) (LeadExactly house draws o (first_new found) records xs last)
@@ -308,7 +309,7 @@ module _ (house : House) (draws : ℕ → ℕ → ℕ → ℕ) (spoken : List Tu
           let both : Some asked ≡ Some owner = sym (only_stands house x.turn.line n asked demand only) ∙ ap (λ k. slice_get house.owners k) same ∙ here in
           let ours : asked ≡ owner = cc in
           let whole : wants n asked demand ≡ wants o owner demand = ap (λ k. wants k asked demand) same ∙ ap (λ (w : Owner). wants o w demand) ours in
-          wants_first begun at records by.0 s demand x xs last (subst (λ (w : Owner). MeetsExactly (draws o) (first_new found) w demand records x by.0) ours by.1) by.2 fine sized stands
+          wants_first begun at records by.0 s demand x xs last (subst (λ (w : Owner). MeetsExactly (draws o) (first_new found) w demand records x by.0) ours by.1) by.2 fine inside stands
           (subst (λ (m : Meant). AsksOnly house x.turn.line m) whole only) (meant ∙ whole) rest
       either false miss by =
           quiet_first at records s x xs last
@@ -316,9 +317,9 @@ module _ (house : House) (draws : ℕ → ℕ → ℕ → ℕ) (spoken : List Tu
           (rest records s (later_fine at records s fine) by)
 
   -- One owner's part in a run.
-  pub ran : IsHistory owner.entry found → slice_get house.owners o ≡ Some owner → owner.entry.analysts ≡ length house.analysts → (xs : List Exchange) (last : List Record) (at : ℕ)
+  pub ran : IsHistory owner.entry found → slice_get house.owners o ≡ Some owner → IsOwnerIn house owner → (xs : List Exchange) (last : List Record) (at : ℕ)
       → AreKnown house (map (λ (x : Exchange). x.turn) xs) → map (λ (x : Exchange). x.turn) xs ≡ drop at spoken → Runs at xs last
-  ran begun here sized [] last at known drops g s fine leads =
+  ran begun here inside [] last at known drops g s fine leads =
       let same : g ≡ last = sym leads in record {
         sources = s;
         programs = prefix_self s.programs;
@@ -328,7 +329,7 @@ module _ (house : House) (draws : ℕ → ℕ → ℕ → ℕ) (spoken : List Tu
         held = tt;
         placed = λ n place past stands. absurd (let within = slice_get_within s.places n place stands in omega arith);
       }
-  ran begun here sized (x ∷ xs) last at known drops g s fine leads =
+  ran begun here inside (x ∷ xs) last at known drops g s fine leads =
       let left = drop_first spoken at x.turn (map (λ (y : Exchange). y.turn) xs) drops in
-      first_turn begun at g s (meant_at house x.turn) x xs last here sized left.0 (asks_only house x.turn.line x.turn.who known.0) refl fine leads
-      (λ g' s' fine' more. ran begun here sized xs last (suc at) known.1 left.1 g' s' fine' more)
+      first_turn begun at g s (meant_at house x.turn) x xs last here inside left.0 (asks_only house x.turn.line x.turn.who known.0) refl fine leads
+      (λ g' s' fine' more. ran begun here inside xs last (suc at) known.1 left.1 g' s' fine' more)

@@ -133,7 +133,7 @@ module _ (house : House) (draws : ℕ → ℕ → ℕ → ℕ) where
       lead_append house o (MeetsExactly (draws o) (first_of_run (pass_at a o))) (pass_at a o).seen xs (pass_at b o).seen ys (pass_at c o).seen (g o owner at)
       (subst (λ (k : ℕ). LeadExactly house draws o k (pass_at b o).seen ys (pass_at c o).seen) (same_start (pass_at a o) (pass_at b o) (f.owners o owner at).found) (h o owner at))
 
-  none_served : (a : List Pass) → AreServed house draws [] a a
+  pub none_served : (a : List Pass) → AreServed house draws [] a a
   none_served a = record {
     each_has = refl;
     plain = tt;

@@ -5,7 +5,7 @@ use Rattle.std.specs.Fmt.{digits}
 use Rattle.wire_lines.specs.Lines.{space}
 use Rattle.wire_lines.specs.Reply.{ended, refused, reply_text}
 use Rattle.wire_lines.specs.Refusal.{by_line, IsFormRefusal}
-use Rattle.wire_lines.specs.Request.{Asked, hello, ask, recall, left, request_of}
+use Rattle.wire_lines.specs.Request.{Asked, hello, ask, askpart, recall, left, request_of}
 use Rattle.wire_lines.specs.declared.refusal.LineRefusal.{LineRefusal}
 use Rattle.wire_lines.specs.declared.refusal.LineRefusal.TheVariants.{Malformed, TooLong, Unknown, NoEpsilon, NoHello}
 use Rattle.wire_lines.proofs.Requests.{grammar_from}
@@ -16,13 +16,15 @@ pub ended_short : length (reply_text ended) ≤ 8
 unfolding reply_text
 ended_short = omega arith
 
-short_word : (word : ℕ) → word ≤ 3 → length (reply_text (refused (by_line (Malformed word)))) ≤ 8
+short_word : (word : ℕ) → word ≤ 5 → length (reply_text (refused (by_line (Malformed word)))) ≤ 8
 unfolding reply_text digits
 short_word zero h = omega arith
 short_word (suc zero) h = omega arith
 short_word (suc (suc zero)) h = omega arith
 short_word (suc (suc (suc zero))) h = omega arith
-short_word (suc (suc (suc (suc word)))) h = absurd (omega arith)
+short_word (suc (suc (suc (suc zero)))) h = omega arith
+short_word (suc (suc (suc (suc (suc zero))))) h = omega arith
+short_word (suc (suc (suc (suc (suc (suc word)))))) h = absurd (omega arith)
 
 pub refusal_short : (refusal : LineRefusal) → IsFormRefusal refusal → length (reply_text (refused (by_line refusal))) ≤ 8
 unfolding reply_text
@@ -52,6 +54,14 @@ pub ask_long : (line owner program : List ℕ) (epsilon : Option ℕ) → reques
 ask_long line owner program epsilon reads few =
     let written = (grammar_from line (ask owner epsilon program) reads).1 in
     omega (arith, long_ask line (owner ++ (space ∷ written.0) ++ (space ∷ program)) written.4 (two_long owner written.0 program))
+
+long_askpart : (line rest : List ℕ) → line ≡ codes "askpart " ++ rest → 6 ≤ length line
+long_askpart line rest is = omega (arith, ap length is ∙ length-append (codes "askpart ") rest)
+
+pub askpart_long : (line owner partition key program : List ℕ) (epsilon : Option ℕ) → request_of line ≡ Ok (askpart owner partition key epsilon program) → length line < 6 → ⊥
+askpart_long line owner partition key program epsilon reads few =
+    let written = (grammar_from line (askpart owner partition key epsilon program) reads).1 in
+    omega (arith, long_askpart line (owner ++ (space ∷ partition) ++ (space ∷ key) ++ (space ∷ written.0) ++ (space ∷ program)) written.6)
 
 pub recall_long : (line owner : List ℕ) (number : ℕ) → request_of line ≡ Ok (recall owner number) → length line < 6 → ⊥
 recall_long line owner number reads few =

@@ -5,11 +5,11 @@ use Rattle.std.specs.Prelude.{Result, Ok, Err}
 use Rattle.std.proofs.lemmas.List.{map-append}
 use Rattle.std.proofs.lemmas.List.Quantifiers.{position-Some}
 use Rattle.wire_lines.specs.Lines.{lines_of}
-use Rattle.wire_lines.specs.Request.{Asked, hello, ask, recall, left, bye, request_of}
+use Rattle.wire_lines.specs.Request.{Asked, hello, ask, askpart, recall, left, bye, request_of}
 use Rattle.wire_lines.specs.declared.refusal.LineRefusal.{LineRefusal}
 use Rattle.answer_path.specs.Owner.{Owner}
 use Rattle.session_core.specs.House.{House, analyst_named, owner_named}
-use Rattle.session_core.specs.Meant.{meant_by, meant_by_request, meant_by_hello, meant_by_ask, meant_by_recall, meant_by_left, next_who}
+use Rattle.session_core.specs.Meant.{Subject, whole_named, part_named, meant_by, meant_by_request, meant_by_hello, meant_by_ask, meant_by_recall, meant_by_left, next_who}
 use Rattle.session_core.specs.Turns.{Turn, session_turns, blocks_of, turns_of, is_bye}
 use Rattle.session_core.specs.Code.{IsAnalyst}
 use Rattle.session_core.proofs.Exchanges.{all_append}
@@ -51,12 +51,12 @@ greeted_known : (house : House) (who : Option ℕ) (name : List ℕ) (found : Op
 greeted_known house who name None at known = known
 greeted_known house who name (Some analyst) at known = (position-Some (λ a. bytes_eq name a) house.analysts analyst [] at).0
 
-ask_known : (house : House) (who : Option ℕ) (found : Option (ℕ × Owner)) (epsilon : Option ℕ) (program : List ℕ) → IsAnalyst house who
-    → IsAnalyst house (next_who who (meant_by_ask who found epsilon program))
-ask_known house who None epsilon program known = known
-ask_known house who (Some found) None program known = known
-ask_known house None (Some found) (Some e) program known = known
-ask_known house (Some analyst) (Some found) (Some e) program known = known
+ask_known : (house : House) (who : Option ℕ) (subject : Result Subject LineRefusal) (epsilon : Option ℕ) (program : List ℕ) → IsAnalyst house who
+    → IsAnalyst house (next_who who (meant_by_ask who subject epsilon program))
+ask_known house who (Err refusal) epsilon program known = known
+ask_known house who (Ok subject) None program known = known
+ask_known house None (Ok subject) (Some e) program known = known
+ask_known house (Some analyst) (Ok subject) (Some e) program known = known
 
 recall_known : (house : House) (who : Option ℕ) (found : Option (ℕ × Owner)) (number : ℕ) → IsAnalyst house who → IsAnalyst house (next_who who (meant_by_recall who found number))
 recall_known house who None number known = known
@@ -71,7 +71,8 @@ request_known : (house : House) (who : Option ℕ) (request : Result Asked LineR
     → IsAnalyst house (next_who who (meant_by_request house who request))
 request_known house who (Err refusal) known = known
 request_known house who (Ok (hello name)) known = greeted_known house who name (analyst_named house name) refl known
-request_known house who (Ok (ask name epsilon program)) known = ask_known house who (owner_named house name) epsilon program known
+request_known house who (Ok (ask name epsilon program)) known = ask_known house who (whole_named house name) epsilon program known
+request_known house who (Ok (askpart name partition key epsilon program)) known = ask_known house who (part_named house name partition key) epsilon program known
 request_known house who (Ok (recall name number)) known = recall_known house who (owner_named house name) number known
 request_known house who (Ok (left name)) known = left_known house who (owner_named house name) known
 request_known house who (Ok bye) known = known

@@ -1,21 +1,25 @@
 -- what the code's values mean
-use Rattle.std.specs.Prelude.{◌≡◌, ℕ, ◌<◌, ◌≤◌, nat_lt, List, [], ◌∷◌, length, ◌++◌, Option, Some, None, ⊤, Bool, true, false}
+use Rattle.std.specs.Prelude.{◌≡◌, ℕ, ◌<◌, ◌≤◌, nat_lt, List, [], ◌∷◌, length, ◌++◌, Option, Some, None, Result, ⊤, Bool, true, false}
 use Rattle.std.specs.Prelude.{if◌then◌else◌, get_or, map, option_map, slice_get, sum_by}
 use Rattle.std.specs.List.{flat_map}
+use Rattle.std.specs.Result.{result_map_both}
 use Rattle.journal_records.specs.declared.records.Header.{Header}
-use Rattle.budget_core.specs.Entries.{Entry}
+use Rattle.budget_core.specs.Entries.{Entry, HasView}
 use Rattle.budget_ledger.specs.Account.{Storage, Went}
 use Rattle.wire_lines.specs.Reply.{Replied, greeted, answered, recalled, remaining, ended, refused, replied, reply_text}
+use Rattle.wire_lines.specs.declared.refusal.LineRefusal.{LineRefusal}
+use Rattle.part_views.specs.Partitions.{HasPart}
 use Rattle.answer_path.specs.Owner.{Owner}
 use Rattle.answer_path.specs.Answered.{Told}
 use Rattle.answer_path.specs.Pass.{Pass, first_of_run}
 use Rattle.answer_path.specs.Code.{query_of, IsQueryOf}
 use Rattle.session_core.specs.House.{House}
-use Rattle.session_core.specs.Meant.{Meant, says, wants, asks, recalls, balances, meant_by, next_who}
+use Rattle.session_core.specs.Meant.{Meant, Subject, says, wants, asks, recalls, balances, meant_by, next_who}
 use Rattle.session_core.specs.Turns.{Turn, session_turns, blocks_of, is_bye, turns_of}
 use Rattle.session_core.specs.Exchanges.{Exchange, ArePlain, AskOthers, told_of}
 use Rattle.session_core.specs.Served.{AnswersOn, ClosesOn}
 use Rattle.session_core.specs.Transcript.{Journals, LeadExactly}
+use Rattle.session_core.specs.declared.line.Subject.{Subject as SubjectAt}
 use Rattle.session_core.specs.declared.line.Meaning.{Meaning}
 use Rattle.session_core.specs.declared.line.Meaning.TheVariants.{Says, Asks, Recalls, Balances}
 
@@ -23,7 +27,7 @@ abbrev pub no_entry : Entry
 no_entry = record { budget = 0; capacity = 0; analysts = 0; keys = [] }
 
 abbrev pub no_owner : Owner
-no_owner = record { name = []; entry = no_entry; tables = []; rows = [] }
+no_owner = record { name = []; entry = no_entry; tables = []; rows = []; partitions = [] }
 
 -- the owner of this number
 abbrev pub owner_at : House → ℕ → Owner
@@ -32,6 +36,20 @@ owner_at house o = get_or house.owners o no_owner
 -- a number that was found, with its owner
 abbrev pub numbered : House → Option ℕ → Option (ℕ × Owner)
 numbered house found = option_map (λ o. (o, owner_at house o)) found
+
+-- what a query is to look at, in a house
+abbrev pub subject_of : House → SubjectAt → Subject
+subject_of house subject = record { number = subject.owner; owner = owner_at house subject.owner; view = subject.view }
+
+-- the owner is one of the house's, and the view is of its partitions and of its entry
+abbrev pub IsSubjectIn : House → SubjectAt → Type 0
+IsSubjectIn house subject =
+    (subject.owner < length house.owners) × HasPart (owner_at house subject.owner).partitions subject.view
+    × HasView (owner_at house subject.owner).entry subject.view
+
+-- what a search for a subject came to
+abbrev pub found_in : House → Result SubjectAt LineRefusal → Result Subject LineRefusal
+found_in house found = result_map_both (subject_of house) (λ refusal. refusal) found
 
 -- what a line comes to, in a house
 abbrev pub meaning_of : House → Meaning → Meant
@@ -45,10 +63,12 @@ abbrev pub IsAnalyst : House → Option ℕ → Type 0
 IsAnalyst house None = ⊤
 IsAnalyst house (Some analyst) = analyst < length house.analysts
 
--- a demand is of one of the house's owners, and a query of that owner's entry
+-- A demand is of one of the house's owners; a query is of that owner's entry, and its view one of that owner's.
 abbrev pub IsMeaningIn : House → Meaning → Type 0
 IsMeaningIn house (Says reply who) = IsAnalyst house who
-IsMeaningIn house (Asks query) = (query.owner < length house.owners) × IsQueryOf (owner_at house query.owner).entry (query_of query)
+IsMeaningIn house (Asks query) =
+    (query.owner < length house.owners) × IsQueryOf (owner_at house query.owner).entry (query_of query)
+    × HasPart (owner_at house query.owner).partitions query.view
 IsMeaningIn house (Recalls owner analyst number) = owner < length house.owners
 IsMeaningIn house (Balances owner) = owner < length house.owners
 

@@ -1,10 +1,11 @@
--- the house: its analysts, its owners, their tables
-use Rattle.std.specs.Prelude.{◌≡◌, ℕ, ◌+◌, List, [], ◌∷◌, length, Option, Some, None, cond, map}
+-- the house: its analysts, its owners, their tables and partitions
+use Rattle.std.specs.Prelude.{◌≡◌, ℕ, ◌+◌, List, [], ◌∷◌, length, Option, Some, None, cond, map, get_or}
 use Rattle.std.specs.Prelude.{position, bytes_eq, slice_get}
 use Rattle.std.specs.List.{zip}
 use Rattle.budget_core.specs.Entries.{Entry}
-use Rattle.owner_catalog.specs.Catalog.{Catalog, OwnerEntry, IsCatalog, owner_signature}
-use Rattle.answer_path.specs.Owner.{Owner, Holding, IsHolding}
+use Rattle.owner_catalog.specs.Catalog.{Catalog, OwnerEntry, PartitionEntry, IsCatalog, owner_signature}
+use Rattle.part_views.specs.Holding.{Holding, IsHolding}
+use Rattle.answer_path.specs.Owner.{Owner}
 use Rattle.owner_history.specs.Sound.{HasData}
 
 -- the analysts' names, in order, and the owners
@@ -25,7 +26,22 @@ owner_from n (owner ∷ owners) name = cond (bytes_eq name owner.name) (Some (n,
 abbrev pub owner_named : House → List ℕ → Option (ℕ × Owner)
 owner_named house name = owner_from 0 house.owners name
 
--- An owner's rows are a dataset of its tables, and its entry counts the house's analysts.
+-- the number of an owner's partition of this name
+abbrev pub partition_named : Owner → List ℕ → Option ℕ
+partition_named owner name = position (λ partition. bytes_eq name partition.name) owner.partitions
+
+abbrev pub no_partition : PartitionEntry
+no_partition = record { name = []; table = 0; column = 0; keys = [] }
+
+-- the owner's partition of this number
+abbrev pub partition_at : Owner → ℕ → PartitionEntry
+partition_at owner p = get_or owner.partitions p no_partition
+
+-- the number of this key of a partition
+abbrev pub key_named : PartitionEntry → List ℕ → Option ℕ
+key_named partition key = position (λ other. bytes_eq key other) partition.keys
+
+-- An owner's rows are a dataset of its tables, its partitions are of these, and its entry counts the house's analysts.
 pub record IsOwnerIn (house : House) (owner : Owner) : Type 0 where
   pub data_of : HasData owner
   pub analysts : owner.entry.analysts ≡ length house.analysts
@@ -53,18 +69,19 @@ entry_of catalog owner =
 -- an owner of the catalog, and what it holds
 abbrev pub owner_of : Catalog → OwnerEntry × Holding → Owner
 owner_of catalog (owner, holding) =
-    record { name = owner.name; entry = entry_of catalog owner; tables = holding.tables; rows = holding.rows }
+    record { name = owner.name; entry = entry_of catalog owner; tables = holding.tables; rows = holding.rows; partitions = holding.partitions }
 
 abbrev pub house_of : Register → House
 house_of register =
     record { analysts = register.catalog.analysts; owners = map (owner_of register.catalog) (zip register.catalog.owners register.holdings) }
 
--- The owner's tables are those that the catalog says it has, and there are rows of each.
+-- The owner's tables and partitions are those that the catalog says it has, and there are rows of each table.
 pub record IsHeldBy (owner : OwnerEntry) (holding : Holding) : Type 0 where
   pub tables : holding.tables ≡ owner_signature owner
+  pub partitions : holding.partitions ≡ owner.partitions
   pub rows : IsHolding holding
 
--- what a register may be: a catalog's owners, each of which holds rows of its tables
+-- what a register may be: a catalog's owners, each of which holds rows of its tables and its partitions
 pub record IsRegister (register : Register) : Type 0 where
   pub catalog : IsCatalog register.catalog
   pub each_has : length register.holdings ≡ length register.catalog.owners

@@ -1,14 +1,15 @@
 -- what a line comes to by itself
-use Rattle.std.specs.Prelude.{ℕ, List, Result, Ok, Err, Option, Some, None}
-use Rattle.partition_charge.specs.declared.view.View.TheVariants.{Whole}
+use Rattle.std.specs.Prelude.{ℕ, List, Result, Ok, Err, Option, Some, None, ok_or}
+use Rattle.partition_charge.specs.declared.view.View.{View}
+use Rattle.partition_charge.specs.declared.view.View.TheVariants.{Whole, Part}
 use Rattle.wire_lines.specs.Reply.{Replied, greeted, ended, refused}
-use Rattle.wire_lines.specs.Request.{Asked, hello, ask, recall, left, bye, request_of}
+use Rattle.wire_lines.specs.Request.{Asked, hello, ask, askpart, recall, left, bye, request_of, ◌>>=◌}
 use Rattle.wire_lines.specs.Refusal.{by_line}
 use Rattle.wire_lines.specs.declared.refusal.LineRefusal.{LineRefusal}
 use Rattle.wire_lines.specs.declared.refusal.LineRefusal.TheVariants.{Unknown, NoEpsilon, NoHello}
 use Rattle.answer_path.specs.Owner.{Owner}
 use Rattle.answer_path.specs.Query.{Query}
-use Rattle.session_core.specs.House.{House, analyst_named, owner_named}
+use Rattle.session_core.specs.House.{House, analyst_named, owner_named, partition_named, partition_at, key_named}
 
 -- what is demanded of an owner: an answer to a query, what became of a number that the analyst reserved, or what is left of
 -- the budget
@@ -27,12 +28,35 @@ abbrev pub meant_by_hello : House → Option ℕ → List ℕ → Option ℕ →
 meant_by_hello house who name None = says (refused (by_line (Unknown 1))) who
 meant_by_hello house who name (Some analyst) = says (greeted name) (Some analyst)
 
-abbrev pub meant_by_ask : Option ℕ → Option (ℕ × Owner) → Option ℕ → List ℕ → Meant
-meant_by_ask who None epsilon program = says (refused (by_line (Unknown 1))) who
-meant_by_ask who (Some found) None program = says (refused (by_line NoEpsilon)) who
-meant_by_ask None (Some found) (Some e) program = says (refused (by_line NoHello)) None
-meant_by_ask (Some analyst) (Some found) (Some e) program =
-    wants found.0 found.1 (asks (record { owner = found.0; analyst = analyst; view = Whole; e = e; program = program }))
+-- what a query is to look at: an owner, by its number, and the whole of its data or a part
+pub record Subject : Type 0 where
+  pub number : ℕ
+  pub owner : Owner
+  pub view : View
+
+-- the whole of the owner of this name
+abbrev pub whole_named : House → List ℕ → Result Subject LineRefusal
+whole_named house name = do
+  found ← ok_or (owner_named house name) (Unknown 1)
+  Ok (record { number = found.0; owner = found.1; view = Whole })
+
+-- A part, by the names of an owner and of one of its partitions, and by one of this partition's keys. The first of these
+-- words that is unknown is refused.
+abbrev pub part_named : House → (name partition key : List ℕ) → Result Subject LineRefusal
+part_named house name partition key = do
+  found ← ok_or (owner_named house name) (Unknown 1)
+  p ← ok_or (partition_named found.1 partition) (Unknown 2)
+  j ← ok_or (key_named (partition_at found.1 p) key) (Unknown 3)
+  Ok (record { number = found.0; owner = found.1; view = Part p j })
+
+-- The names come before the epsilon, and the epsilon before the analyst.
+abbrev pub meant_by_ask : Option ℕ → Result Subject LineRefusal → Option ℕ → List ℕ → Meant
+meant_by_ask who (Err refusal) epsilon program = says (refused (by_line refusal)) who
+meant_by_ask who (Ok subject) None program = says (refused (by_line NoEpsilon)) who
+meant_by_ask None (Ok subject) (Some e) program = says (refused (by_line NoHello)) None
+meant_by_ask (Some analyst) (Ok subject) (Some e) program =
+    wants subject.number subject.owner
+    (asks (record { owner = subject.number; analyst = analyst; view = subject.view; e = e; program = program }))
 
 -- An analyst recalls its own numbers, so a hello comes first.
 abbrev pub meant_by_recall : Option ℕ → Option (ℕ × Owner) → ℕ → Meant
@@ -48,7 +72,9 @@ meant_by_left who (Some found) = wants found.0 found.1 balances
 abbrev pub meant_by_request : House → Option ℕ → Result Asked LineRefusal → Meant
 meant_by_request house who (Err refusal) = says (refused (by_line refusal)) who
 meant_by_request house who (Ok (hello name)) = meant_by_hello house who name (analyst_named house name)
-meant_by_request house who (Ok (ask name epsilon program)) = meant_by_ask who (owner_named house name) epsilon program
+meant_by_request house who (Ok (ask name epsilon program)) = meant_by_ask who (whole_named house name) epsilon program
+meant_by_request house who (Ok (askpart name partition key epsilon program)) =
+    meant_by_ask who (part_named house name partition key) epsilon program
 meant_by_request house who (Ok (recall name number)) = meant_by_recall who (owner_named house name) number
 meant_by_request house who (Ok (left name)) = meant_by_left who (owner_named house name)
 meant_by_request house who (Ok bye) = says ended who

@@ -10,7 +10,7 @@ use Rattle.budget_ledger.specs.declared.failure.Failure.{Failure}
 use Rattle.wire_lines.specs.Reply.{Replied, refused}
 use Rattle.wire_lines.specs.Refusal.{by_disk}
 use Rattle.wire_lines.specs.declared.refusal.DiskRefusal.{DiskRefusal}
-use Rattle.wire_lines.specs.Request.{ask, request_of}
+use Rattle.wire_lines.specs.Request.{ask, askpart, request_of}
 use Rattle.answer_path.specs.Owner.{Owner}
 use Rattle.answer_path.specs.Query.{Query}
 use Rattle.answer_path.specs.Answered.{Told, IsAsked}
@@ -68,9 +68,11 @@ pub record Sources : Type 0 where
   pub programs : List (List ℕ)
   pub places : List ℕ
 
--- the line asks for this program
+-- the line asks for this program, of the whole of an owner's data or of a part
 abbrev pub IsAskFor : List ℕ → List ℕ → Type 0
-IsAskFor line program = (owner : List ℕ) × (e : ℕ) × (request_of line ≡ Ok (ask owner (Some e) program))
+IsAskFor line program =
+    ((owner : List ℕ) × (e : ℕ) × (request_of line ≡ Ok (ask owner (Some e) program)))
+    ⊎ ((owner partition key : List ℕ) × (e : ℕ) × (request_of line ≡ Ok (askpart owner partition key (Some e) program)))
 
 -- The line of the turn at a place asks for this program, and by who speaks it comes to a query of the owner of this
 -- number with that program: it isn't refused for its names, its epsilon or want of a `hello`.

@@ -2,18 +2,22 @@
 
 ghost use Rattle.std.specs.Prelude.{◌≡◌, ◌<◌, length, slice_get, Some, IfSome, IfOk, IsTrue};
 ghost use Rattle.wire_lines.specs.Name.{is_name};
+ghost use Rattle.partition_charge.specs.declared.view.View.TheVariants.{Part};
+ghost use Rattle.budget_core.specs.Entries.{HasView};
+ghost use Rattle.part_views.specs.Partitions.{HasPart};
 ghost use Rattle.answer_path.specs.Owner.{Owner};
 ghost use Rattle.owner_catalog.specs.Entries.{owner_entry_at};
 ghost use Rattle.session_core.specs.House.{IsRegister, register_with, house_of, keys_of, analyst_named, owner_named};
-ghost use Rattle.session_core.specs.Code.{numbered};
+ghost use Rattle.session_core.specs.House.{partition_named, partition_at, key_named};
+ghost use Rattle.session_core.specs.Code.{numbered, owner_at};
 
-use answer_path::Dataset;
 use budget_core::entry::Entry;
 use owner_catalog::Catalog;
+use part_views::Dataset;
 use std::alloc::{AllocError, Global};
 use std::marker::Model;
 
-/// A catalog, and the tables and rows of each of its owners, in order.
+/// A catalog, and the tables, rows and partitions of each of its owners, in order.
 #[derive(Drop)]
 pub struct House {
     catalog: Catalog,
@@ -22,7 +26,7 @@ pub struct House {
 
 impl Model for House {
     ghost use Rattle.std.specs.Coded.{codes};
-    ghost use Rattle.answer_path.specs.Owner.{holding_code};
+    ghost use Rattle.part_views.specs.Holding.{holding_code};
     ghost use Rattle.session_core.specs.House.{Register, IsRegister, register_with};
 
     ghost Value = { Register };
@@ -35,7 +39,7 @@ impl Model for House {
 }
 
 impl House {
-    /// A house of a catalog, where each owner's tables and rows stand at the owner's number.
+    /// A house of a catalog, where what each owner holds stands at the owner's number.
     pub fn new(catalog: Catalog, datasets: Vec<Dataset>) -> House
         requires { IsRegister (register_with catalog datasets.items) }
         ensures { result ≡ register_with catalog datasets.items }
@@ -86,10 +90,11 @@ impl House {
         ))
     }
 
-    /// An owner's tables and rows.
+    /// An owner's tables, their rows and the partitions of them.
     pub fn dataset(&self, owner: u32) -> &Dataset
         requires { owner < length (house_of self.now).owners }
-        ensures { slice_get self.now.holdings owner ≡ Some result.now }
+        ensures holding { slice_get self.now.holdings owner ≡ Some result.now }
+        ensures register { IsRegister self.now }
     {
         &self.datasets[owner as usize]
     }
@@ -109,5 +114,28 @@ impl House {
         ensures within { IfSome result (λ owner. owner < length (house_of self.now).owners) }
     {
         self.catalog.owner(name)
+    }
+
+    /// The number of the owner's partition of this name.
+    pub fn partition(&self, owner: u32, name: &[u8]) -> Option<u8>
+        requires { owner < length (house_of self.now).owners }
+        ensures named { result ≡ partition_named (owner_at (house_of self.now) owner) name.now }
+        ensures within { IfSome result (λ p. p < length (owner_at (house_of self.now) owner).partitions) }
+    {
+        self.catalog.partition(owner, name)
+    }
+
+    /// The number of this key of an owner's partition: that part is a view of the owner's.
+    pub fn key(&self, owner: u32, partition: u8, key: &[u8]) -> Option<u8>
+        requires owner { owner < length (house_of self.now).owners }
+        requires partition { partition < length (owner_at (house_of self.now) owner).partitions }
+        ensures named { result ≡ key_named (partition_at (owner_at (house_of self.now) owner) partition) key.now }
+        ensures part { IfSome result (λ j. HasPart (owner_at (house_of self.now) owner).partitions (Part partition j)) }
+        ensures view { IfSome result (λ j. HasView (owner_at (house_of self.now) owner).entry (Part partition j)) }
+    {
+        match self.catalog.key(owner, partition, key) {
+            Some(part) => Some(part as u8),
+            None => None,
+        }
     }
 }

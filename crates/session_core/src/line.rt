@@ -1,10 +1,10 @@
 //! What a line comes to by itself.
 
-ghost use Rattle.std.specs.Prelude.{◌≡◌, IfSome, Some, ◌<◌, length};
+ghost use Rattle.std.specs.Prelude.{◌≡◌, IfSome, IfOk, Some, ◌<◌, length};
 ghost use Rattle.budget_core.specs.Entries.{IsEpsilon};
 ghost use Rattle.session_core.specs.House.{house_of, analyst_named, owner_named};
-ghost use Rattle.session_core.specs.Meant.{meant_by, meant_by_ask, meant_by_hello, meant_by_left, meant_by_recall};
-ghost use Rattle.session_core.specs.Code.{meaning_of, IsAnalyst, IsMeaningIn, IsShort};
+ghost use Rattle.session_core.specs.Meant.{meant_by, meant_by_ask, meant_by_hello, meant_by_left, meant_by_recall, part_named, whole_named};
+ghost use Rattle.session_core.specs.Code.{found_in, meaning_of, IsAnalyst, IsMeaningIn, IsShort, IsSubjectIn};
 
 use crate::house::House;
 use answer_path::Query;
@@ -33,6 +33,13 @@ pub enum Meaning<'a> {
     },
 }
 
+/// What a query is to look at: an owner, and the whole of its data or a part.
+#[derive(Clone, Copy, Debug)]
+struct Subject {
+    owner: u32,
+    view: View,
+}
+
 /// What a line comes to, where this analyst speaks.
 pub fn read_line<'a>(house: &House, who: Option<u16>, line: &'a [u8]) -> Meaning<'a>
     requires { IsAnalyst (house_of house.now) who }
@@ -48,7 +55,19 @@ pub fn read_line<'a>(house: &House, who: Option<u16>, line: &'a [u8]) -> Meaning
                 epsilon,
                 program,
             },
-        ) => read_ask(house, who, owner, epsilon, program),
+        ) => read_ask(house, who, find_whole(house, owner), epsilon, program),
+        Ok(
+            Request::AskPart {
+                owner,
+                partition,
+                key,
+                epsilon,
+                program,
+            },
+        ) => {
+            let part = find_part(house, owner, partition, key);
+            read_ask(house, who, part, epsilon, program)
+        }
         Ok(Request::Recall { owner, number }) => read_recall(house, who, owner, number),
         Ok(Request::Left { owner }) => read_left(house, who, owner),
         Ok(Request::Bye) => Meaning::Says {
@@ -87,28 +106,65 @@ fn greet<'a>(house: &House, who: Option<u16>, name: &'a [u8]) -> Meaning<'a>
     }
 }
 
-// The owner is looked for before the epsilon, and the epsilon before the analyst.
+// The whole of an owner's data.
+fn find_whole(house: &House, owner: &[u8]) -> Result<Subject, LineRefusal>
+    ensures named { found_in (house_of house.now) result ≡ whole_named (house_of house.now) owner.now }
+    ensures there { IfOk result (IsSubjectIn (house_of house.now)) }
+{
+    let owner = house.owner(owner).ok_or(LineRefusal::Unknown { word: 1 })?;
+    Ok(Subject {
+        owner,
+        view: View::Whole,
+    })
+}
+
+// A part of an owner's data: the owner, its partition and the key are looked for in this order.
+fn find_part(
+    house: &House,
+    owner: &[u8],
+    partition: &[u8],
+    key: &[u8],
+) -> Result<Subject, LineRefusal>
+    ensures named { found_in (house_of house.now) result
+        ≡ part_named (house_of house.now) owner.now partition.now key.now }
+    ensures there { IfOk result (IsSubjectIn (house_of house.now)) }
+{
+    let owner = house.owner(owner).ok_or(LineRefusal::Unknown { word: 1 })?;
+    let partition = house
+        .partition(owner, partition)
+        .ok_or(LineRefusal::Unknown { word: 2 })?;
+    let part = house
+        .key(owner, partition, key)
+        .ok_or(LineRefusal::Unknown { word: 3 })?;
+    Ok(Subject {
+        owner,
+        view: View::Part { partition, part },
+    })
+}
+
+// The names come before the epsilon, and the epsilon before the analyst.
 fn read_ask<'a>(
     house: &House,
     who: Option<u16>,
-    owner: &[u8],
+    subject: Result<Subject, LineRefusal>,
     epsilon: Option<u32>,
     program: &'a [u8],
 ) -> Meaning<'a>
     requires known { IsAnalyst (house_of house.now) who }
     requires range { IfSome epsilon (λ e. IsEpsilon e) }
+    requires there { IfOk subject (IsSubjectIn (house_of house.now)) }
     ensures meaning { meaning_of (house_of house.now) result
-        ≡ meant_by_ask who (owner_named (house_of house.now) owner.now) epsilon program.now }
+        ≡ meant_by_ask who (found_in (house_of house.now) subject) epsilon program.now }
     ensures proper { IsMeaningIn (house_of house.now) result }
 {
-    match (house.owner(owner), epsilon, who) {
-        (None, _, _) => refuse(LineRefusal::Unknown { word: 1 }, who),
-        (Some(_), None, _) => refuse(LineRefusal::NoEpsilon, who),
-        (Some(_), Some(_), None) => refuse(LineRefusal::NoHello, who),
-        (Some(number), Some(epsilon), Some(analyst)) => Meaning::Asks(Query {
-            owner: number,
+    match (subject, epsilon, who) {
+        (Err(refusal), _, _) => refuse(refusal, who),
+        (Ok(_), None, _) => refuse(LineRefusal::NoEpsilon, who),
+        (Ok(_), Some(_), None) => refuse(LineRefusal::NoHello, who),
+        (Ok(subject), Some(epsilon), Some(analyst)) => Meaning::Asks(Query {
+            owner: subject.owner,
             analyst,
-            view: View::Whole,
+            view: subject.view,
             epsilon,
             program,
         }),

@@ -7,6 +7,7 @@ ghost use Rattle.wire_lines.specs.Reply.{replied, reply_text};
 ghost use Rattle.answer_path.specs.Answered.{Told};
 ghost use Rattle.session_core.specs.House.{house_of};
 ghost use Rattle.session_core.specs.Transcript.{IsScriptWritten};
+ghost use Rattle.session_core.specs.Turns.{is_bye};
 ghost use Rattle.session_core.specs.Code.{IsAnalyst, who_behind, is_ended, one_line, room_for_line, room_for_lines};
 ghost use Rattle.session_core.specs.Code.{ArePasses, AreServed, AreAlone, AreFresh, HasServed, seen_by, found_by};
 
@@ -63,11 +64,12 @@ fn push_reply(out: &mut Vec<u8>, reply: &Reply<'_>, len: usize)
     push_all(out, &text[..n]);
 }
 
-// A reply, and who speaks after its line.
+/// A reply, who speaks after its line, and whether that line ends its session.
 #[derive(Clone, Copy)]
-struct Answer<'a> {
-    reply: Reply<'a>,
-    who: Option<u16>,
+pub struct Answer<'a> {
+    pub reply: Reply<'a>,
+    pub who: Option<u16>,
+    pub ends: bool,
 }
 
 // Who speaks after a reply: nobody after `bye`.
@@ -80,8 +82,15 @@ fn who_after(reply: &Reply<'_>, who: Option<u16>) -> Option<u16>
     }
 }
 
-// Answers one line, where this analyst speaks. Nobody speaks behind a `bye`.
-fn answer_line<'a, D: Disk, S: Streams>(
+// Whether a reply is `bye`.
+fn is_end(reply: &Reply<'_>) -> bool
+    ensures { result ≡ is_ended (replied reply.now) }
+{
+    matches!(reply, Reply::Bye)
+}
+
+/// Answers one line, where this analyst speaks. Nobody speaks behind a `bye`.
+pub fn answer_line<'a, D: Disk, S: Streams>(
     alloc: Global,
     house: &'a House,
     desk: &Desk,
@@ -99,6 +108,7 @@ fn answer_line<'a, D: Disk, S: Streams>(
         AreServed (house_of house.now) (S.given streams.now) (one_line who line.now (replied result.reply) told) passes.old passes.new →
         AreAlone (house_of house.now) (S.given streams.now) (one_line who line.now (replied result.reply) told) passes.old passes.new }
     ensures who { result.who ≡ who_behind (house_of house.now) who line.now }
+    ensures ends { result.ends ≡ is_bye line.now }
     ensures known { IsAnalyst (house_of house.now) result.who }
     ensures short { length line.now < 6 → length (reply_text (replied result.reply)) ≤ 8 }
 {
@@ -113,6 +123,7 @@ fn answer_line<'a, D: Disk, S: Streams>(
                 &query,
             ),
             who,
+            ends: false,
         },
         Meaning::Recalls {
             owner,
@@ -121,14 +132,17 @@ fn answer_line<'a, D: Disk, S: Streams>(
         } => Answer {
             reply: recall(desk, &mut passes.each[owner as usize], number, analyst),
             who,
+            ends: false,
         },
         Meaning::Balances { owner } => Answer {
             reply: left(desk, &mut passes.each[owner as usize]),
             who,
+            ends: false,
         },
         Meaning::Says { reply, who } => Answer {
             reply,
             who: who_after(&reply, who),
+            ends: is_end(&reply),
         },
     }
 }

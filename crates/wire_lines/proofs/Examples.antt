@@ -6,7 +6,7 @@ use Rattle.wire_lines.specs.Lines.{lines_of, words_of, joined}
 use Rattle.wire_lines.specs.Name.{is_name}
 use Rattle.wire_lines.specs.Number.{number_of}
 use Rattle.wire_lines.specs.Epsilon.{epsilon_of}
-use Rattle.wire_lines.specs.Request.{hello, ask, recall, left, bye, line_limit, request_of, fault_of}
+use Rattle.wire_lines.specs.Request.{hello, ask, askpart, recall, left, bye, line_limit, request_of, fault_of}
 use Rattle.wire_lines.specs.Refusal.{by_line, by_program, by_money, by_disk, by_number, no_memory, no_token, no_term, too_nested, ill_typed, too_sensitive, out_of_range, unbounded, no_number, too_deep, too_long, too_wide}
 use Rattle.wire_lines.specs.Reply.{greeted, answered, recalled, remaining, ended, refused, reply_text}
 use Rattle.wire_lines.specs.declared.refusal.LineRefusal.TheVariants.{Malformed, TooLong, Unknown, NoEpsilon, NoHello}
@@ -225,6 +225,29 @@ no_epsilon : request_of (codes "ask census x 1") ≡ Ok (ask (codes "census") No
 unfolding request_of
 no_epsilon = refl
 
+-- a query of one part: a partition, one of its keys, and then as for the whole
+a_query_of_a_part : request_of (codes "askpart census area A 0.000006 size  people ") ≡ Ok (askpart (codes "census") (codes "area") (codes "A") (Some 6) (codes "size  people "))
+unfolding request_of
+a_query_of_a_part = refl
+
+-- a key is any word, whatever its bytes
+part_of_any_key : request_of (codes "askpart census area \"1,5\" 1 1") ≡ Ok (askpart (codes "census") (codes "area") (codes "\"1,5\"") (Some 1000000) (codes "1"))
+unfolding request_of
+part_of_any_key = refl
+
+empty_program_of_a_part : request_of (codes "askpart census area A 1 ") ≡ Ok (askpart (codes "census") (codes "area") (codes "A") (Some 1000000) [])
+unfolding request_of
+empty_program_of_a_part = refl
+
+no_epsilon_of_a_part : request_of (codes "askpart census area A 0 1") ≡ Ok (askpart (codes "census") (codes "area") (codes "A") None (codes "1"))
+unfolding request_of
+no_epsilon_of_a_part = refl
+
+-- an epsilon where a key is due is a key
+epsilon_for_a_key : request_of (codes "askpart census area 1 size people") ≡ Ok (askpart (codes "census") (codes "area") (codes "1") None (codes "people"))
+unfolding request_of
+epsilon_for_a_key = refl
+
 a_recall : request_of (codes "recall census 0") ≡ Ok (recall (codes "census") 0)
 unfolding request_of
 a_recall = refl
@@ -367,10 +390,51 @@ left_two_words : request_of (codes "left census 0") ≡ Err (Malformed 2)
 unfolding request_of
 left_two_words = refl
 
--- a line that asks of a part is no kind of line
-parts_not_asked : request_of (codes "askpart census area A 1 1") ≡ Err (Malformed 0)
+askpart_alone : request_of (codes "askpart") ≡ Err (Malformed 1)
 unfolding request_of
-parts_not_asked = refl
+askpart_alone = refl
+
+askpart_and_space : request_of (codes "askpart ") ≡ Err (Malformed 1)
+unfolding request_of
+askpart_and_space = refl
+
+askpart_empty_owner : request_of (codes "askpart  area A 1 1") ≡ Err (Malformed 1)
+unfolding request_of
+askpart_empty_owner = refl
+
+askpart_owner_alone : request_of (codes "askpart census") ≡ Err (Malformed 2)
+unfolding request_of
+askpart_owner_alone = refl
+
+askpart_empty_partition : request_of (codes "askpart census  A 1 1") ≡ Err (Malformed 2)
+unfolding request_of
+askpart_empty_partition = refl
+
+askpart_no_key : request_of (codes "askpart census area") ≡ Err (Malformed 3)
+unfolding request_of
+askpart_no_key = refl
+
+askpart_empty_key : request_of (codes "askpart census area  1 1") ≡ Err (Malformed 3)
+unfolding request_of
+askpart_empty_key = refl
+
+-- of two words that are missing the first is said
+askpart_no_epsilon : request_of (codes "askpart census area A") ≡ Err (Malformed 4)
+unfolding request_of
+askpart_no_epsilon = refl
+
+askpart_empty_epsilon : request_of (codes "askpart census area A  1") ≡ Err (Malformed 4)
+unfolding request_of
+askpart_empty_epsilon = refl
+
+askpart_no_program : request_of (codes "askpart census area A 1") ≡ Err (Malformed 5)
+unfolding request_of
+askpart_no_program = refl
+
+-- and its kind is told by the whole first word
+askpart_grown : request_of (codes "askparts census area A 1 1") ≡ Err (Malformed 0)
+unfolding request_of
+askpart_grown = refl
 
 bye_and_space : request_of (codes "bye ") ≡ Err (Malformed 1)
 unfolding request_of
@@ -382,6 +446,15 @@ bye_and_word = refl
 
 no_program_word : fault_of (codes "ask census 1") ≡ Some 3
 no_program_word = refl
+
+no_word_of_a_part : fault_of (codes "askpart census area A") ≡ Some 4
+no_word_of_a_part = refl
+
+no_program_word_of_a_part : fault_of (codes "askpart census area A 1") ≡ Some 5
+no_program_word_of_a_part = refl
+
+no_fault_of_a_part : fault_of (codes "askpart census area A 1 ") ≡ None
+no_fault_of_a_part = refl
 
 no_number_word : fault_of (codes "recall census 4294967296") ≡ Some 2
 no_number_word = refl

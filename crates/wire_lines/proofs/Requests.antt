@@ -11,9 +11,9 @@ use Rattle.std.proofs.lemmas.Slice.Eq.{bytes_eq-Decides}
 use Rattle.wire_lines.specs.Lines.{space, words_of, joined}
 use Rattle.wire_lines.specs.Number.{IsNumberText, is_number}
 use Rattle.wire_lines.specs.Epsilon.{epsilon_of}
-use Rattle.wire_lines.specs.Request.{Asked, hello, ask, recall, left, bye, IsWord, IsAmount, IsRequest, line_limit, one_word, one_number, all_rest, fault_from, fault_among, fault_of, word_at, rest_at, end_at, hello_from, ask_from, recall_from, left_from, bye_from, request_from, request_of, asked, reading, HasEpsilonInRange}
+use Rattle.wire_lines.specs.Request.{Asked, hello, ask, askpart, recall, left, bye, IsWord, IsAmount, IsRequest, line_limit, one_word, one_number, all_rest, fault_from, fault_among, fault_of, word_at, rest_at, end_at, hello_from, ask_from, askpart_from, recall_from, left_from, bye_from, request_from, request_of, asked, reading, HasEpsilonInRange}
 use Rattle.wire_lines.specs.declared.request.Request.{Request}
-use Rattle.wire_lines.specs.declared.request.Request.TheVariants.{Hello, Ask, Recall, Left, Bye}
+use Rattle.wire_lines.specs.declared.request.Request.TheVariants.{Hello, Ask, AskPart, Recall, Left, Bye}
 use Rattle.wire_lines.specs.declared.refusal.LineRefusal.{LineRefusal}
 use Rattle.wire_lines.specs.declared.refusal.LineRefusal.TheVariants.{Malformed, TooLong, Unknown, NoEpsilon, NoHello}
 use Rattle.wire_lines.specs.Refusal.{IsFormRefusal}
@@ -108,6 +108,32 @@ ask_found ((b ∷ bytes) ∷ (c ∷ amount) ∷ w ∷ words) r apart h =
     subst (λ q. IsRequest (joined (codes "ask" ∷ (b ∷ bytes) ∷ (c ∷ amount) ∷ w ∷ words)) q) same
     (c ∷ amount, a_word (b ∷ bytes) (omega arith) apart.0, a_word (c ∷ amount) (omega arith) apart.1.0, amount_is (c ∷ amount), ap (λ ys. codes "ask " ++ b ∷ ys) (sym (append_assoc bytes (space ∷ c ∷ amount) (space ∷ joined (w ∷ words)))))
 
+-- five pieces put together from the left, and from the right
+regrouped : (a b c d e : List ℕ) → a ++ b ++ c ++ d ++ e ≡ a ++ (b ++ (c ++ (d ++ e)))
+regrouped a b c d e = append_assoc (a ++ b ++ c) d e ∙ append_assoc (a ++ b) c (d ++ e) ∙ append_assoc a b (c ++ (d ++ e))
+
+askpart_found : (words : List (List ℕ)) (r : Asked) → AllByRecursion HasNoSpace words → askpart_from words ≡ Ok r → IsRequest (joined (codes "askpart" ∷ words)) r
+askpart_found [] r apart h = absurd cc
+askpart_found ([] ∷ words) r apart h = absurd cc
+askpart_found ((b ∷ bytes) ∷ []) r apart h = absurd cc
+askpart_found ((b ∷ bytes) ∷ [] ∷ words) r apart h = absurd cc
+askpart_found ((b ∷ bytes) ∷ (p ∷ partition) ∷ []) r apart h = absurd cc
+askpart_found ((b ∷ bytes) ∷ (p ∷ partition) ∷ [] ∷ words) r apart h = absurd cc
+askpart_found ((b ∷ bytes) ∷ (p ∷ partition) ∷ (k ∷ key) ∷ []) r apart h = absurd cc
+askpart_found ((b ∷ bytes) ∷ (p ∷ partition) ∷ (k ∷ key) ∷ [] ∷ words) r apart h = absurd cc
+askpart_found ((b ∷ bytes) ∷ (p ∷ partition) ∷ (k ∷ key) ∷ (c ∷ amount) ∷ []) r apart h = absurd cc
+askpart_found ((b ∷ bytes) ∷ (p ∷ partition) ∷ (k ∷ key) ∷ (c ∷ amount) ∷ w ∷ words) r apart h =
+    let same : askpart (b ∷ bytes) (p ∷ partition) (k ∷ key) (epsilon_of (c ∷ amount)) (joined (w ∷ words)) ≡ r = cc in
+    subst (λ q. IsRequest (joined (codes "askpart" ∷ (b ∷ bytes) ∷ (p ∷ partition) ∷ (k ∷ key) ∷ (c ∷ amount) ∷ w ∷ words)) q) same (
+      c ∷ amount,
+      a_word (b ∷ bytes) (omega arith) apart.0,
+      a_word (p ∷ partition) (omega arith) apart.1.0,
+      a_word (k ∷ key) (omega arith) apart.1.1.0,
+      a_word (c ∷ amount) (omega arith) apart.1.1.1.0,
+      amount_is (c ∷ amount),
+      ap (λ ys. codes "askpart " ++ ys) (sym (regrouped (b ∷ bytes) (space ∷ p ∷ partition) (space ∷ k ∷ key) (space ∷ c ∷ amount) (space ∷ joined (w ∷ words)))),
+    )
+
 recall_found : (words : List (List ℕ)) (r : Asked) → AllByRecursion HasNoSpace words → recall_from words ≡ Ok r → IsRequest (joined (codes "recall" ∷ words)) r
 recall_found [] r apart h = absurd cc
 recall_found ([] ∷ words) r apart h = absurd cc
@@ -150,16 +176,20 @@ from_found (kind ∷ words) r apart h = elim (cases_Bool (bytes_eq kind (codes "
   | inr not_hello ↦ elim (cases_Bool (bytes_eq kind (codes "ask"))) [
     | inl is_ask ↦
         subst (λ k. IsRequest (joined (k ∷ words)) r) (sym (kind_is kind (codes "ask") is_ask)) (ask_found words r apart.1 (rw (not_hello, is_ask) at h))
-    | inr not_ask ↦ elim (cases_Bool (bytes_eq kind (codes "recall"))) [
-      | inl is_recall ↦
-          subst (λ k. IsRequest (joined (k ∷ words)) r) (sym (kind_is kind (codes "recall") is_recall)) (recall_found words r apart.1 (rw (not_hello, not_ask, is_recall) at h))
-      | inr not_recall ↦ elim (cases_Bool (bytes_eq kind (codes "left"))) [
-        | inl is_left ↦
-            subst (λ k. IsRequest (joined (k ∷ words)) r) (sym (kind_is kind (codes "left") is_left)) (left_found words r apart.1 (rw (not_hello, not_ask, not_recall, is_left) at h))
-        | inr not_left ↦ elim (cases_Bool (bytes_eq kind (codes "bye"))) [
-          | inl is_bye ↦
-              subst (λ k. IsRequest (joined (k ∷ words)) r) (sym (kind_is kind (codes "bye") is_bye)) (bye_found words r (rw (not_hello, not_ask, not_recall, not_left, is_bye) at h))
-          | inr not_bye ↦ let none : Err (Malformed 0) ≡ Ok r = rw (not_hello, not_ask, not_recall, not_left, not_bye) at h in absurd cc
+    | inr not_ask ↦ elim (cases_Bool (bytes_eq kind (codes "askpart"))) [
+      | inl is_askpart ↦
+          subst (λ k. IsRequest (joined (k ∷ words)) r) (sym (kind_is kind (codes "askpart") is_askpart)) (askpart_found words r apart.1 (rw (not_hello, not_ask, is_askpart) at h))
+      | inr not_askpart ↦ elim (cases_Bool (bytes_eq kind (codes "recall"))) [
+        | inl is_recall ↦
+            subst (λ k. IsRequest (joined (k ∷ words)) r) (sym (kind_is kind (codes "recall") is_recall)) (recall_found words r apart.1 (rw (not_hello, not_ask, not_askpart, is_recall) at h))
+        | inr not_recall ↦ elim (cases_Bool (bytes_eq kind (codes "left"))) [
+          | inl is_left ↦
+              subst (λ k. IsRequest (joined (k ∷ words)) r) (sym (kind_is kind (codes "left") is_left)) (left_found words r apart.1 (rw (not_hello, not_ask, not_askpart, not_recall, is_left) at h))
+          | inr not_left ↦ elim (cases_Bool (bytes_eq kind (codes "bye"))) [
+            | inl is_bye ↦
+                subst (λ k. IsRequest (joined (k ∷ words)) r) (sym (kind_is kind (codes "bye") is_bye)) (bye_found words r (rw (not_hello, not_ask, not_askpart, not_recall, not_left, is_bye) at h))
+            | inr not_bye ↦ let none : Err (Malformed 0) ≡ Ok r = rw (not_hello, not_ask, not_askpart, not_recall, not_left, not_bye) at h in absurd cc
+          ]
         ]
       ]
     ]
@@ -188,6 +218,13 @@ ask_taken [] amount word words first second = absurd (omega arith)
 ask_taken (b ∷ bytes) [] word words first second = absurd (omega arith)
 ask_taken (b ∷ bytes) (c ∷ amount) word words first second = refl
 
+askpart_taken : (owner partition key amount word : List ℕ) (words : List (List ℕ)) → 0 < length owner → 0 < length partition → 0 < length key → 0 < length amount → askpart_from (owner ∷ partition ∷ key ∷ amount ∷ word ∷ words) ≡ Ok (askpart owner partition key (epsilon_of amount) (joined (word ∷ words)))
+askpart_taken [] partition key amount word words first second third fourth = absurd (omega arith)
+askpart_taken (b ∷ bytes) [] key amount word words first second third fourth = absurd (omega arith)
+askpart_taken (b ∷ bytes) (p ∷ partition) [] amount word words first second third fourth = absurd (omega arith)
+askpart_taken (b ∷ bytes) (p ∷ partition) (k ∷ key) [] word words first second third fourth = absurd (omega arith)
+askpart_taken (b ∷ bytes) (p ∷ partition) (k ∷ key) (c ∷ amount) word words first second third fourth = refl
+
 recall_taken : (owner digits : List ℕ) (n : ℕ) → 0 < length owner → IsNumberText digits n → recall_from (owner ∷ digits ∷ []) ≡ Ok (recall owner n)
 recall_taken [] digits n some written = absurd (omega arith)
 recall_taken (b ∷ bytes) [] n some ((there, short, all), same, small) = absurd (omega arith)
@@ -209,6 +246,19 @@ request_taken line (ask owner epsilon program) (amount, first, second, written, 
     ∙ ap ask_from behind ∙ ask_taken owner amount word words first.0 second.0
     ∙ ap (λ e. Ok (ask owner e (joined (word ∷ words)))) (epsilon_is amount epsilon written)
     ∙ ap (λ bytes. Ok (ask owner epsilon bytes)) (sym (ap joined e) ∙ join_with_byte-slice_split space program)
+request_taken line (askpart owner partition key epsilon program) (amount, first, second, third, fourth, written, spelled) =
+    let (word, words, e) = some_word program in
+    let from_amount : List ℕ = amount ++ (space ∷ program) in
+    let from_key : List ℕ = key ++ (space ∷ from_amount) in
+    let from_partition : List ℕ = partition ++ (space ∷ from_key) in
+    let behind : words_of (owner ++ (space ∷ from_partition)) ≡ owner ∷ partition ∷ key ∷ amount ∷ word ∷ words =
+    words_cut _ owner from_partition first.1 refl ∙ ap (λ ws. owner ∷ ws) (words_cut _ partition from_key second.1 refl
+    ∙ ap (λ ws. partition ∷ ws) (words_cut _ key from_amount third.1 refl ∙ ap (λ ws. key ∷ ws) (words_cut _ amount program fourth.1 refl ∙ ap (λ ws. amount ∷ ws) e))) in
+    ap request_from (words_cut line (codes "askpart") (owner ++ (space ∷ from_partition)) (literal_word (codes "askpart") refl)
+    (spelled ∙ ap (λ ys. codes "askpart " ++ ys) (regrouped owner (space ∷ partition) (space ∷ key) (space ∷ amount) (space ∷ program))))
+    ∙ ap askpart_from behind ∙ askpart_taken owner partition key amount word words first.0 second.0 third.0 fourth.0
+    ∙ ap (λ e. Ok (askpart owner partition key e (joined (word ∷ words)))) (epsilon_is amount epsilon written)
+    ∙ ap (λ bytes. Ok (askpart owner partition key epsilon bytes)) (sym (ap joined e) ∙ join_with_byte-slice_split space program)
 request_taken line (recall owner number) (digits, word, written, spelled) =
     ap request_from (words_cut line (codes "recall") (owner ++ (space ∷ digits)) (literal_word (codes "recall") refl) spelled)
     ∙ ap recall_from (words_cut _ owner digits word.1 refl ∙ ap (λ ws. owner ∷ ws) (words_one digits (digits_apart space refl digits written.0.2)))
@@ -218,10 +268,10 @@ request_taken line (left owner) (word, spelled) =
     ∙ left_taken (words_of owner) owner word (words_one owner word.1)
 request_taken line bye spelled = ap (λ bytes. request_from (words_of bytes)) spelled
 
--- A reading and a fault that say the same, the fault being one of the first four words.
+-- A reading and a fault that say the same, the fault being one of the first six words.
 Agree : Result Asked LineRefusal → Option ℕ → Type 0
 Agree (Ok r) None = ⊤
-Agree (Err (Malformed v)) (Some w) = (v ≡ w) × (v ≤ 3)
+Agree (Err (Malformed v)) (Some w) = (v ≡ w) × (v ≤ 5)
 Agree r o = ⊥
 
 hello_agrees : (words : List (List ℕ)) → Agree (hello_from words) (fault_from 1 (one_word ∷ []) words)
@@ -239,6 +289,19 @@ ask_agrees ((b ∷ bytes) ∷ []) = (refl, omega arith)
 ask_agrees ((b ∷ bytes) ∷ [] ∷ words) = (refl, omega arith)
 ask_agrees ((b ∷ bytes) ∷ (c ∷ amount) ∷ []) = (refl, omega arith)
 ask_agrees ((b ∷ bytes) ∷ (c ∷ amount) ∷ w ∷ words) = tt
+
+askpart_agrees : (words : List (List ℕ)) → Agree (askpart_from words) (fault_from 1 (one_word ∷ one_word ∷ one_word ∷ one_word ∷ all_rest ∷ []) words)
+unfolding Agree
+askpart_agrees [] = (refl, omega arith)
+askpart_agrees ([] ∷ words) = (refl, omega arith)
+askpart_agrees ((b ∷ bytes) ∷ []) = (refl, omega arith)
+askpart_agrees ((b ∷ bytes) ∷ [] ∷ words) = (refl, omega arith)
+askpart_agrees ((b ∷ bytes) ∷ (p ∷ partition) ∷ []) = (refl, omega arith)
+askpart_agrees ((b ∷ bytes) ∷ (p ∷ partition) ∷ [] ∷ words) = (refl, omega arith)
+askpart_agrees ((b ∷ bytes) ∷ (p ∷ partition) ∷ (k ∷ key) ∷ []) = (refl, omega arith)
+askpart_agrees ((b ∷ bytes) ∷ (p ∷ partition) ∷ (k ∷ key) ∷ [] ∷ words) = (refl, omega arith)
+askpart_agrees ((b ∷ bytes) ∷ (p ∷ partition) ∷ (k ∷ key) ∷ (c ∷ amount) ∷ []) = (refl, omega arith)
+askpart_agrees ((b ∷ bytes) ∷ (p ∷ partition) ∷ (k ∷ key) ∷ (c ∷ amount) ∷ w ∷ words) = tt
 
 recall_agrees : (words : List (List ℕ)) → Agree (recall_from words) (fault_from 1 (one_word ∷ one_number ∷ []) words)
 unfolding Agree
@@ -274,13 +337,16 @@ agree (kind ∷ words) = elim (cases_Bool (bytes_eq kind (codes "hello"))) [
   | inl is_hello ↦ rw is_hello (hello_agrees words)
   | inr not_hello ↦ elim (cases_Bool (bytes_eq kind (codes "ask"))) [
     | inl is_ask ↦ rw (not_hello, is_ask) (ask_agrees words)
-    | inr not_ask ↦ elim (cases_Bool (bytes_eq kind (codes "recall"))) [
-      | inl is_recall ↦ rw (not_hello, not_ask, is_recall) (recall_agrees words)
-      | inr not_recall ↦ elim (cases_Bool (bytes_eq kind (codes "left"))) [
-        | inl is_left ↦ rw (not_hello, not_ask, not_recall, is_left) (left_agrees words)
-        | inr not_left ↦ elim (cases_Bool (bytes_eq kind (codes "bye"))) [
-          | inl is_bye ↦ rw (not_hello, not_ask, not_recall, not_left, is_bye) (bye_agrees words)
-          | inr not_bye ↦ rw (not_hello, not_ask, not_recall, not_left, not_bye) (refl, omega arith)
+    | inr not_ask ↦ elim (cases_Bool (bytes_eq kind (codes "askpart"))) [
+      | inl is_askpart ↦ rw (not_hello, not_ask, is_askpart) (askpart_agrees words)
+      | inr not_askpart ↦ elim (cases_Bool (bytes_eq kind (codes "recall"))) [
+        | inl is_recall ↦ rw (not_hello, not_ask, not_askpart, is_recall) (recall_agrees words)
+        | inr not_recall ↦ elim (cases_Bool (bytes_eq kind (codes "left"))) [
+          | inl is_left ↦ rw (not_hello, not_ask, not_askpart, not_recall, is_left) (left_agrees words)
+          | inr not_left ↦ elim (cases_Bool (bytes_eq kind (codes "bye"))) [
+            | inl is_bye ↦ rw (not_hello, not_ask, not_askpart, not_recall, not_left, is_bye) (bye_agrees words)
+            | inr not_bye ↦ rw (not_hello, not_ask, not_askpart, not_recall, not_left, not_bye) (refl, omega arith)
+          ]
         ]
       ]
     ]
@@ -307,8 +373,8 @@ agree_to (Err NoEpsilon) (Some u) w both h = absurd both
 agree_to (Err NoHello) (Some u) w both h = absurd both
 agree_to (Ok r) (Some u) w both h = absurd both
 
--- a refusal that agrees with a fault is of one of the first four words
-agree_form : (refusal : LineRefusal) (o : Option ℕ) → Agree (Err refusal) o → (word : ℕ) × (refusal ≡ Malformed word) × (word ≤ 3)
+-- a refusal that agrees with a fault is of one of the first six words
+agree_form : (refusal : LineRefusal) (o : Option ℕ) → Agree (Err refusal) o → (word : ℕ) × (refusal ≡ Malformed word) × (word ≤ 5)
 unfolding Agree
 agree_form (Malformed v) (Some u) both = (v, refl, both.1)
 agree_form (Malformed v) None both = absurd both
@@ -347,7 +413,7 @@ malformed_from line w h = elim (cases_lt line_limit (length line)) [
 pub malformed_to : (line : List ℕ) (w : ℕ) → (length line ≤ line_limit) × (fault_of line ≡ Some w) → request_of line ≡ Err (Malformed w)
 malformed_to line w (short, fault) = looked_at line short ∙ agree_to (request_from (words_of line)) (fault_of line) w (agree (words_of line)) fault
 
-read_form : (line : List ℕ) (refusal : LineRefusal) → request_from (words_of line) ≡ Err refusal → (word : ℕ) × (refusal ≡ Malformed word) × (word ≤ 3)
+read_form : (line : List ℕ) (refusal : LineRefusal) → request_from (words_of line) ≡ Err refusal → (word : ℕ) × (refusal ≡ Malformed word) × (word ≤ 5)
 read_form line refusal h = agree_form refusal (fault_of line) (subst (λ r. Agree r (fault_of line)) h (agree (words_of line)))
 
 pub form_only : (line : List ℕ) (refusal : LineRefusal) → request_of line ≡ Err refusal → IsFormRefusal refusal
@@ -378,6 +444,8 @@ pub result_epsilon : (line : List ℕ) (r : Result Request LineRefusal) → read
 result_epsilon line (Ok (Hello analyst)) h = tt
 result_epsilon line (Ok (Ask owner None program)) h = tt
 result_epsilon line (Ok (Ask owner (Some n) program)) h = let (amount, first, second, (whole, fraction, numeral, written, value, low, high), spelled) = (grammar_from line (ask owner.now (Some n) program.now) (sym h)).1 in (low, high)
+result_epsilon line (Ok (AskPart owner partition key None program)) h = tt
+result_epsilon line (Ok (AskPart owner partition key (Some n) program)) h = let (amount, first, second, third, fourth, (whole, fraction, numeral, written, value, low, high), spelled) = (grammar_from line (askpart owner.now partition.now key.now (Some n) program.now) (sym h)).1 in (low, high)
 result_epsilon line (Ok (Recall owner number)) h = tt
 result_epsilon line (Ok (Left owner)) h = tt
 result_epsilon line (Ok Bye) h = tt

@@ -36,9 +36,9 @@ pub data Refusal : Type 0 where
   by_number : NumberRefusal → Refusal
   no_memory : Refusal
 
--- what the form of a line alone is refused for: one of its first four words, or its length
+-- what the form of a line alone is refused for: one of its first six words, or its length
 abbrev pub IsFormRefusal : LineRefusal → Type 0
-IsFormRefusal (Malformed word) = word ≤ 3
+IsFormRefusal (Malformed word) = word ≤ 5
 IsFormRefusal TooLong = ⊤
 IsFormRefusal refusal = ⊥
 

@@ -6,7 +6,7 @@ use Rattle.wire_lines.specs.Lines.{space, words_of, joined}
 use Rattle.wire_lines.specs.Number.{IsNumberText, is_number, number_of}
 use Rattle.wire_lines.specs.Epsilon.{IsEpsilonText, epsilon_of, GREATEST}
 use Rattle.wire_lines.specs.declared.request.Request.{Request}
-use Rattle.wire_lines.specs.declared.request.Request.TheVariants.{Hello, Ask, Recall, Left, Bye}
+use Rattle.wire_lines.specs.declared.request.Request.TheVariants.{Hello, Ask, AskPart, Recall, Left, Bye}
 use Rattle.wire_lines.specs.declared.refusal.LineRefusal.{LineRefusal}
 use Rattle.wire_lines.specs.declared.refusal.LineRefusal.TheVariants.{Malformed, TooLong}
 
@@ -18,6 +18,7 @@ line_limit = 16384
 pub data Asked : Type 0 where
   hello : List ℕ → Asked
   ask : List ℕ → Option ℕ → List ℕ → Asked
+  askpart : (owner partition key : List ℕ) → Option ℕ → (program : List ℕ) → Asked
   recall : (owner : List ℕ) (number : ℕ) → Asked
   left : (owner : List ℕ) → Asked
   bye : Asked
@@ -37,6 +38,9 @@ IsRequest line (hello analyst) = IsWord analyst × (line ≡ codes "hello " ++ a
 IsRequest line (ask owner epsilon program) =
     (amount : List ℕ) × IsWord owner × IsWord amount × IsAmount amount epsilon
     × (line ≡ codes "ask " ++ owner ++ (space ∷ amount) ++ (space ∷ program))
+IsRequest line (askpart owner partition key epsilon program) =
+    (amount : List ℕ) × IsWord owner × IsWord partition × IsWord key × IsWord amount × IsAmount amount epsilon
+    × (line ≡ codes "askpart " ++ owner ++ (space ∷ partition) ++ (space ∷ key) ++ (space ∷ amount) ++ (space ∷ program))
 IsRequest line (recall owner number) =
     (digits : List ℕ) × IsWord owner × IsNumberText digits number
     × (line ≡ codes "recall " ++ owner ++ (space ∷ digits))
@@ -54,9 +58,10 @@ abbrev pub slots_of : List ℕ → Option (List Slot)
 slots_of kind =
     if bytes_eq kind (codes "hello") then Some (one_word ∷ [])
     else (if bytes_eq kind (codes "ask") then Some (one_word ∷ one_word ∷ all_rest ∷ [])
+    else (if bytes_eq kind (codes "askpart") then Some (one_word ∷ one_word ∷ one_word ∷ one_word ∷ all_rest ∷ [])
     else (if bytes_eq kind (codes "recall") then Some (one_word ∷ one_number ∷ [])
     else (if bytes_eq kind (codes "left") then Some (one_word ∷ [])
-    else (if bytes_eq kind (codes "bye") then Some [] else None))))
+    else (if bytes_eq kind (codes "bye") then Some [] else None)))))
 
 -- from word number n on, the first word that is missing, empty, too many or no number where one is due
 abbrev pub fault_from : ℕ → List Slot → List (List ℕ) → Option ℕ
@@ -125,6 +130,15 @@ ask_from words = do
   program ← rest_at 3 amount.1
   Ok (ask owner.0 (epsilon_of amount.0) program)
 
+abbrev pub askpart_from : List (List ℕ) → Result Asked LineRefusal
+askpart_from words = do
+  owner ← word_at 1 words
+  partition ← word_at 2 owner.1
+  key ← word_at 3 partition.1
+  amount ← word_at 4 key.1
+  program ← rest_at 5 amount.1
+  Ok (askpart owner.0 partition.0 key.0 (epsilon_of amount.0) program)
+
 abbrev pub recall_from : List (List ℕ) → Result Asked LineRefusal
 recall_from words = do
   owner ← word_at 1 words
@@ -148,9 +162,10 @@ request_from [] = Err (Malformed 0)
 request_from (kind ∷ words) =
     if bytes_eq kind (codes "hello") then hello_from words
     else (if bytes_eq kind (codes "ask") then ask_from words
+    else (if bytes_eq kind (codes "askpart") then askpart_from words
     else (if bytes_eq kind (codes "recall") then recall_from words
     else (if bytes_eq kind (codes "left") then left_from words
-    else (if bytes_eq kind (codes "bye") then bye_from words else Err (Malformed 0)))))
+    else (if bytes_eq kind (codes "bye") then bye_from words else Err (Malformed 0))))))
 
 -- A line over the limit isn't looked at.
 unfoldable pub request_of : List ℕ → Result Asked LineRefusal
@@ -160,6 +175,7 @@ request_of line = if nat_lt line_limit (length line) then Err TooLong else reque
 abbrev pub asked : Request → Asked
 asked (Hello analyst) = hello analyst.now
 asked (Ask owner epsilon program) = ask owner.now epsilon program.now
+asked (AskPart owner partition key epsilon program) = askpart owner.now partition.now key.now epsilon program.now
 asked (Recall owner number) = recall owner.now number
 asked (Left owner) = left owner.now
 asked Bye = bye
@@ -185,6 +201,8 @@ abbrev pub HasEpsilonInRange : Request → Type 0
 HasEpsilonInRange (Hello analyst) = ⊤
 HasEpsilonInRange (Ask owner None program) = ⊤
 HasEpsilonInRange (Ask owner (Some n) program) = (0 < n) × (n ≤ GREATEST)
+HasEpsilonInRange (AskPart owner partition key None program) = ⊤
+HasEpsilonInRange (AskPart owner partition key (Some n) program) = (0 < n) × (n ≤ GREATEST)
 HasEpsilonInRange (Recall owner number) = ⊤
 HasEpsilonInRange (Left owner) = ⊤
 HasEpsilonInRange Bye = ⊤

@@ -23,6 +23,3 @@ pub use crate::refusal::{
 };
 pub use crate::reply::{REPLY_LIMIT, Reply, Standing, write_reply, write_sensitivity};
 pub use crate::request::{LINE_LIMIT, Request, read_request};
-
-#[cfg(test)]
-mod tests;

@@ -18,7 +18,7 @@ pub enum LineRefusal {
     Malformed { word: u32 },
     /// 11: the line has more than `LINE_LIMIT` bytes.
     TooLong,
-    /// 12: the number of the word that names no owner or analyst.
+    /// 12: the number of the word that names no analyst, owner, partition or key.
     Unknown { word: u32 },
     /// 13: the epsilon is no decimal from 0.000001 to 1000.
     NoEpsilon,

@@ -1,7 +1,7 @@
 //! A line is read as a request.
 
 ghost use Rattle.std.specs.Prelude.{◌≡◌, ◌≤◌, ◌<◌, ◌↔◌, ℕ, length, IfOk, IfErr, Ok, Err, Some, ◌∷◌};
-ghost use Rattle.wire_lines.specs.Request.{Asked, IsRequest, HasEpsilonInRange, line_limit, request_of, fault_of, reading, asked, word_at, number_at, end_at, hello_from, ask_from, recall_from, left_from, bye_from, words_behind, word_and_words, number_and_words};
+ghost use Rattle.wire_lines.specs.Request.{Asked, IsRequest, HasEpsilonInRange, line_limit, request_of, fault_of, reading, asked, word_at, number_at, end_at, hello_from, ask_from, askpart_from, recall_from, left_from, bye_from, words_behind, word_and_words, number_and_words};
 ghost use Rattle.wire_lines.specs.Lines.{words_of};
 ghost use Rattle.wire_lines.specs.Refusal.{IsFormRefusal};
 ghost use Rattle.std.specs.Result.{result_map_both};
@@ -25,6 +25,14 @@ pub enum Request<'a> {
     /// 0.000001 to 1000. The program is the whole rest of the line.
     Ask {
         owner: &'a [u8],
+        epsilon: Option<u32>,
+        program: &'a [u8],
+    },
+    /// `askpart OWNER PARTITION KEY EPS PROGRAM`: the same of one part of a partition.
+    AskPart {
+        owner: &'a [u8],
+        partition: &'a [u8],
+        key: &'a [u8],
         epsilon: Option<u32>,
         program: &'a [u8],
     },
@@ -110,6 +118,25 @@ fn read_ask(rest: Option<&[u8]>) -> Result<Request<'_>, LineRefusal>
     })
 }
 
+/// Reads what is left of a line behind `askpart`.
+#[tactic(auto, using(crate::proofs::Requests::rest_is))]
+fn read_askpart(rest: Option<&[u8]>) -> Result<Request<'_>, LineRefusal>
+    ensures { reading result ≡ askpart_from (words_behind rest.entry) }
+{
+    let (owner, rest) = next_word(rest, 1)?;
+    let (partition, rest) = next_word(rest, 2)?;
+    let (key, rest) = next_word(rest, 3)?;
+    let (amount, rest) = next_word(rest, 4)?;
+    let program = rest.ok_or(LineRefusal::Malformed { word: 5 })?;
+    Ok(Request::AskPart {
+        owner,
+        partition,
+        key,
+        epsilon: read_epsilon(amount),
+        program,
+    })
+}
+
 /// Reads what is left of a line behind `recall`.
 fn read_recall(rest: Option<&[u8]>) -> Result<Request<'_>, LineRefusal>
     ensures { reading result ≡ recall_from (words_behind rest.entry) }
@@ -150,6 +177,8 @@ fn read_line(line: &[u8]) -> Result<Request<'_>, LineRefusal>
         read_hello(rest)
     } else if kind == b"ask".as_slice() {
         read_ask(rest)
+    } else if kind == b"askpart".as_slice() {
+        read_askpart(rest)
     } else if kind == b"recall".as_slice() {
         read_recall(rest)
     } else if kind == b"left".as_slice() {

@@ -1,10 +1,8 @@
 use Rattle.std.proofs.Common.{◌∙◌, sym, ap, subst}
 use Rattle.std.specs.Prelude.{Result, Ok, Err}
 use Rattle.journal_records.specs.Encoding.{IsByteList}
-use Rattle.partition_charge.specs.declared.view.View.{View}
 use Rattle.budget_core.specs.declared.entry.Ask.{Ask}
 use Rattle.budget_core.specs.declared.entry.Grant.{Grant}
-use Rattle.budget_core.specs.Entries.{HasView}
 use Rattle.budget_core.specs.Ledger.{IsAskOf}
 use Rattle.budget_ledger.specs.declared.book.BookFault.{BookFault}
 use Rattle.budget_ledger.proofs.Wents.{went_then}
@@ -13,26 +11,28 @@ use Rattle.fz_frac.specs.Sens.{distance_of}
 use Rattle.wire_lines.specs.Refusal.{Refusal, refusal_at}
 use Rattle.wire_lines.specs.Reply.{Replied, refused, replied}
 use Rattle.answer_path.specs.Judgement.{accepted}
+use Rattle.part_views.specs.Views.{signature_in}
 use Rattle.answer_path.specs.Owner.{Owner}
+use Rattle.answer_path.specs.Program.{IsCharged}
 use Rattle.answer_path.specs.Verdict.{ask_for}
 use Rattle.answer_path.specs.Answered.{HasSmallAnswer, IsSettledBy}
 use Rattle.answer_path.specs.Pass.{Pass}
 use Rattle.answer_path.specs.Turn.{HasReserved, IsTurn}
 use Rattle.answer_path.specs.Code.{query_of}
 use Rattle.answer_path.proofs.Charged.{accepted_finite, terms_of}
-use Rattle.answer_path.proofs.Answering.{IsAcceptedAt, owner_with, settled_by_term}
+use Rattle.answer_path.proofs.Answering.{owner_with, settled_by_term}
 use Rattle.answer_path.proofs.Turns.{of_owner, settled_small, settled_turn, unreserved_turn}
 use Rattle.answer_path.proofs.answer.answer_judged.Goals as goal
 
 pub fraction_of-requires : goal.fraction_of-requires
 fraction_of-requires g c =
-    accepted_finite c.args.dataset.now.tables c.args.query.now.program.now (c.args.judged.now.checked.term.now) (distance_of c.args.judged.now.checked.sens) c.requires.reads c.requires.judged.accepts
+    accepted_finite (signature_in c.args.dataset.now.tables c.args.dataset.now.partitions c.args.query.now.view) c.args.query.now.program.now (c.args.judged.now.checked.term.now) (distance_of c.args.judged.now.checked.sens) c.requires.reads c.requires.judged.accepts
 
 pub reserve-requires : goal.reserve-requires
 reserve-requires g c =
     subst (λ (asking : Ask). IsAskOf c.args.pass.now.entry asking) (sym c.asking_of-asking.ensures.asking) (record {
       analyst = c.requires.query.analyst;
-      view = subst (λ (v : View). HasView c.args.pass.now.entry v) (sym c.requires.query.view) tt;
+      view = c.requires.query.view;
       terms = terms_of c.args.query.now.epsilon c.fraction_of.result.p c.fraction_of.result.q c.requires.query.epsilon c.fraction_of.result.above_zero c.fraction_of.result.lowest;
       digest = subst (λ (asking : Ask). IsByteList 32 asking.program) c.asking_of-asking.ensures.asking c.asking_of-asking.ensures.digest;
     })
@@ -46,14 +46,14 @@ returns-in-Err-clause-turn g c =
     let draws = g.S.Streams.given c.args.streams.now query.owner in
     let p = c.fraction_of.result.p in
     let q = c.fraction_of.result.q in
-    let accepts : IsAcceptedAt dataset.tables query.program p q =
+    let accepts : IsCharged (signature_in dataset.tables dataset.partitions query.view) query.program p q =
     (c.args.judged.now.checked.term.now, c.requires.reads, c.requires.judged.accepts ∙ ap (λ (r : Distance). accepted (c.args.judged.now.checked.term.now) r) c.fraction_of.ensures) in
     let why : HasReserved pass (ask_for query p q) (Err c.in-Err.fault) after =
     subst (λ (asking : Ask). HasReserved pass asking (Err c.in-Err.fault) after) c.asking_of-asking.ensures.asking
     (subst (λ (r : Result Grant BookFault). HasReserved pass c.asking_of-asking.result r after) c.in-Err.is c.reserve.ensures.reserved) in
     of_owner (λ (owner : Owner). IsTurn owner draws query pass (refused (refusal_at c.book_refusal_of.result)) after) pass dataset
     (λ name. subst (λ (r : Refusal). IsTurn (owner_with name pass.entry dataset) draws query pass (refused r) after) (sym c.book_refusal_of.ensures)
-    (unreserved_turn name dataset draws query pass after p q c.in-Err.fault c.requires.query.view accepts why))
+    (unreserved_turn name dataset draws query pass after p q c.in-Err.fault accepts why))
 
 pub returns-in-Ok-clause-turn : goal.returns-in-Ok-clause-turn
 returns-in-Ok-clause-turn g c =
@@ -69,14 +69,14 @@ returns-in-Ok-clause-turn g c =
     let grant = c.in-Ok.grant in
     let outcome = c.outcome_at-outcome.result in
     let settled = c.settle.ensures.settled in
-    let accepts : IsAcceptedAt dataset.tables query.program p q = (term, c.requires.reads, c.requires.judged.accepts ∙ ap (λ (r : Distance). accepted term r) c.fraction_of.ensures) in
+    let accepts : IsCharged (signature_in dataset.tables dataset.partitions query.view) query.program p q = (term, c.requires.reads, c.requires.judged.accepts ∙ ap (λ (r : Distance). accepted term r) c.fraction_of.ensures) in
     let made : HasReserved pass (ask_for query p q) (Ok grant) mid =
     subst (λ (asking : Ask). HasReserved pass asking (Ok grant) mid) c.asking_of-asking.ensures.asking
     (subst (λ (r : Result Grant BookFault). HasReserved pass c.asking_of-asking.result r mid) c.in-Ok.is c.reserve.ensures.reserved) in
     of_owner (λ (owner : Owner). IsTurn owner draws query pass (replied c.settle.result) after) pass dataset
     (λ name.
     let settles : IsSettledBy (owner_with name pass.entry dataset) draws query grant.number outcome =
-    settled_by_term (owner_with name pass.entry dataset) draws query grant.number term outcome c.requires.query.view c.requires.reads c.outcome_at-outcome.ensures.settled in
+    settled_by_term (owner_with name pass.entry dataset) draws query grant.number term outcome c.requires.reads c.outcome_at-outcome.ensures.settled in
     subst (λ (reply : Replied). IsTurn (owner_with name pass.entry dataset) draws query pass reply after) (sym settled.2)
     (settled_turn name dataset draws query pass mid after p q grant outcome settled.0 accepts made settles settled.1))
 

@@ -4,15 +4,20 @@ use Rattle.fz_ast.specs.Terms.{Term}
 use Rattle.wire_lines.specs.Refusal.{refusal_at}
 use Rattle.wire_lines.specs.Reply.{refused, replied}
 use Rattle.budget_ledger.proofs.Wents.{went_self}
+use Rattle.part_views.specs.Views.{signature_in}
 use Rattle.answer_path.specs.Reading.{read, IsReading}
+use Rattle.answer_path.specs.Judgement.{AreNames}
 use Rattle.answer_path.specs.Owner.{Owner}
 use Rattle.answer_path.specs.Turn.{IsTurn}
 use Rattle.answer_path.specs.Code.{IsJudged, IsTermRefusal, query_of}
 use Rattle.answer_path.proofs.Passes.{alone, nothing}
-use Rattle.answer_path.proofs.Told.{term_refused}
+use Rattle.answer_path.proofs.Told.{names_in_view, term_refused}
 use Rattle.answer_path.proofs.Turns.{closes_by, of_owner, refused_turn, some_owner}
 use Rattle.answer_path.proofs.Answering.{owner_with}
 use Rattle.answer_path.proofs.answer.ask.Goals as goal
+
+pub judge-requires : goal.judge-requires
+judge-requires g c = subst AreNames (sym c.sig.ensures.tables) (names_in_view c.args.dataset.now.tables c.args.dataset.now.partitions c.args.query.now.view c.requires.names)
 
 pub returns-in-Err-clause-step : goal.returns-in-Err-clause-step
 returns-in-Err-clause-step g c = λ owner is.
@@ -22,7 +27,7 @@ returns-in-Err-clause-step g c = λ owner is.
     let draws = g.S.Streams.given c.args.streams.now query.owner in
     let refusal = refusal_at c.in-Err.refusal in
     let turn = of_owner (λ (owner : Owner). IsTurn owner draws query pass (refused refusal) pass) pass dataset
-    (λ name. refused_turn (owner_with name pass.entry dataset) draws query pass refusal (c.in-Err.ensures.refused dataset.tables)) owner is in
+    (λ name. refused_turn (owner_with name pass.entry dataset) draws query pass refusal (c.in-Err.ensures.refused (signature_in dataset.tables dataset.partitions query.view))) owner is in
     (turn.told, turn.asked, turn.added.own)
 
 pub returns-in-Err-clause-closes : goal.returns-in-Err-clause-closes
@@ -34,7 +39,7 @@ returns-in-Err-clause-closes g c = λ owner is other own.
     let refusal = refusal_at c.in-Err.refusal in
     closes_by owner draws query pass pass (refused refusal)
     (of_owner (λ (owner : Owner). IsTurn owner draws query pass (refused refusal) pass) pass dataset
-    (λ name. refused_turn (owner_with name pass.entry dataset) draws query pass refusal (c.in-Err.ensures.refused dataset.tables)) owner is) other own
+    (λ name. refused_turn (owner_with name pass.entry dataset) draws query pass refusal (c.in-Err.ensures.refused (signature_in dataset.tables dataset.partitions query.view))) owner is) other own
 
 pub returns-in-Err-clause-alone : goal.returns-in-Err-clause-alone
 returns-in-Err-clause-alone g c = λ other is. alone c.args.pass.now c.args.pass.now [] other (nothing c.args.pass.now) is
@@ -75,7 +80,7 @@ returns-clause-step g c = λ owner is.
     let query = query_of c.args.query.now in
     let draws = g.S.Streams.given c.args.streams.now query.owner in
     let refusal = refusal_at c.in-Err-judge.refusal in
-    let why = term_refused dataset.tables query.program c.in-Ok.term refusal c.in-Ok.ensures.term
+    let why = term_refused (signature_in dataset.tables dataset.partitions query.view) query.program c.in-Ok.term refusal c.in-Ok.ensures.term
     (subst (λ (tables : Signature). IsTermRefusal tables c.in-Ok.term refusal) c.sig.ensures.tables c.in-Err-judge.ensures.refused) in
     let turn = of_owner (λ (owner : Owner). IsTurn owner draws query pass (refused refusal) pass) pass dataset
     (λ name. refused_turn (owner_with name pass.entry dataset) draws query pass refusal why) owner is in
@@ -88,7 +93,7 @@ returns-clause-closes g c = λ owner is other own.
     let query = query_of c.args.query.now in
     let draws = g.S.Streams.given c.args.streams.now query.owner in
     let refusal = refusal_at c.in-Err-judge.refusal in
-    let why = term_refused dataset.tables query.program c.in-Ok.term refusal c.in-Ok.ensures.term
+    let why = term_refused (signature_in dataset.tables dataset.partitions query.view) query.program c.in-Ok.term refusal c.in-Ok.ensures.term
     (subst (λ (tables : Signature). IsTermRefusal tables c.in-Ok.term refusal) c.sig.ensures.tables c.in-Err-judge.ensures.refused) in
     closes_by owner draws query pass pass (refused refusal)
     (of_owner (λ (owner : Owner). IsTurn owner draws query pass (refused refusal) pass) pass dataset

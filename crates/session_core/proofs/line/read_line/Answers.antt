@@ -1,9 +1,10 @@
 use Rattle.std.proofs.Common.{◌≡◌, ◌∙◌, sym, ap, subst, Ok, Err}
-use Rattle.wire_lines.specs.Request.{request_of, reading, hello, ask, recall, left, bye}
+use Rattle.wire_lines.specs.Request.{request_of, reading, hello, ask, askpart, recall, left, bye}
 use Rattle.session_core.specs.House.{house_of}
+use Rattle.session_core.specs.Meant.{meant_by_ask}
 use Rattle.session_core.specs.Code.{meaning_of, IsShort}
 use Rattle.session_core.specs.declared.line.Meaning.{Meaning}
-use Rattle.session_core.proofs.Short.{meant_of, ended_short, refusal_short, hello_long, ask_long, recall_long, left_long}
+use Rattle.session_core.proofs.Short.{meant_of, ended_short, refusal_short, hello_long, ask_long, askpart_long, recall_long, left_long}
 use Rattle.session_core.proofs.line.read_line.Goals as goal
 
 pub returns-in-Ok-Hello : goal.returns-in-Ok-Hello
@@ -20,9 +21,22 @@ returns-in-Ok-Ask c =
     let request = ask c.in-Ok-Ask.owner.now c.in-Ok-Ask.epsilon c.in-Ok-Ask.program.now in
     let reads : request_of c.args.line.now ≡ Ok request = sym c.read_request.ensures.exact ∙ ap reading c.in-Ok-Ask.is ∙ ap (λ r. reading (Ok r)) c.in-Ok-Ask.field-0-is in
     record {
-      meaning = c.read_ask.ensures.meaning ∙ meant_of (house_of c.args.house.now) c.args.who c.args.line.now (Ok request) reads;
+      meaning = c.read_ask.ensures.meaning ∙ ap (λ subject. meant_by_ask c.args.who subject c.in-Ok-Ask.epsilon c.in-Ok-Ask.program.now) c.find_whole.ensures.named
+          ∙ meant_of (house_of c.args.house.now) c.args.who c.args.line.now (Ok request) reads;
       proper = c.read_ask.ensures.proper;
       short = λ few. absurd (ask_long c.args.line.now c.in-Ok-Ask.owner.now c.in-Ok-Ask.program.now c.in-Ok-Ask.epsilon reads few);
+    }
+
+pub returns-in-Ok-AskPart : goal.returns-in-Ok-AskPart
+returns-in-Ok-AskPart c =
+    let line = c.in-Ok-AskPart in
+    let request = askpart line.owner.now line.partition.now line.key.now line.epsilon line.program.now in
+    let reads : request_of c.args.line.now ≡ Ok request = sym c.read_request.ensures.exact ∙ ap reading line.is ∙ ap (λ r. reading (Ok r)) line.field-0-is in
+    record {
+      meaning = c.read_ask-in-Ok-AskPart.ensures.meaning ∙ ap (λ subject. meant_by_ask c.args.who subject line.epsilon line.program.now) c.find_part-part.ensures.named
+          ∙ meant_of (house_of c.args.house.now) c.args.who c.args.line.now (Ok request) reads;
+      proper = c.read_ask-in-Ok-AskPart.ensures.proper;
+      short = λ few. absurd (askpart_long c.args.line.now line.owner.now line.partition.now line.key.now line.program.now line.epsilon reads few);
     }
 
 pub returns-in-Ok-Recall : goal.returns-in-Ok-Recall

@@ -1,8 +1,9 @@
 use Rattle.std.proofs.Common.{◌≡◌, ◌<◌, ◌∙◌, List, [], ◌∷◌, length, set, refl, sym, ap, subst}
 use Rattle.wire_lines.specs.Reply.{replied}
-use Rattle.answer_path.specs.Owner.{IsOwnerOf}
 use Rattle.answer_path.specs.Pass.{Pass}
 use Rattle.answer_path.specs.Code.{query_of}
+use Rattle.owner_catalog.specs.Entries.{PartitionEntry}
+use Rattle.part_views.specs.Partitions.{HasPart}
 use Rattle.session_core.specs.House.{house_of}
 use Rattle.budget_core.specs.Entries.{Entry}
 use Rattle.answer_path.specs.Standing.{IsBalance}
@@ -10,10 +11,20 @@ use Rattle.session_core.specs.Meant.{asks, recalls, balances}
 use Rattle.session_core.specs.Exchanges.{Exchange}
 use Rattle.session_core.specs.Code.{meaning_of, owner_at, pass_at, AreServed, AreAlone}
 use Rattle.session_core.specs.declared.line.Meaning.TheVariants.{Asks, Recalls, Balances, Says}
-use Rattle.session_core.proofs.Owners.{owner_there, owner_holds}
+use Rattle.session_core.proofs.Owners.{owner_there, owner_holds, tables_named}
 use Rattle.session_core.proofs.Serving.{served_plain, alone_plain, served_wants, alone_wants, added_nothing, went_nowhere, own_nowhere, pass_within, pass_there}
-use Rattle.session_core.proofs.Turning.{who_asks}
+use Rattle.session_core.proofs.Turning.{bye_means, who_asks}
 use Rattle.session_core.proofs.script.answer_line.Goals as goal
+
+pub ask-requires-clause-parts : goal.ask-requires-clause-parts
+ask-requires-clause-parts g c =
+    let proper = c.in-Asks.ensures.proper in
+    let owner = owner_at (house_of c.args.house.now) c.in-Asks.query.owner in
+    subst (λ (ps : List PartitionEntry). HasPart ps c.in-Asks.query.view)
+    (owner_holds c.args.house.now c.in-Asks.query.owner c.dataset.result.now owner.entry proper.0 c.dataset.ensures.holding refl).partitions_are proper.2
+
+pub ask-requires-clause-names : goal.ask-requires-clause-names
+ask-requires-clause-names g c = tables_named c.args.house.now c.dataset.ensures.register c.in-Asks.query.owner c.dataset.result.now c.in-Asks.ensures.proper.0 c.dataset.ensures.holding
 
 pub returns-in-Asks-clause-served : goal.returns-in-Asks-clause-served
 returns-in-Asks-clause-served g c =
@@ -27,8 +38,7 @@ returns-in-Asks-clause-served g c =
     let pass : Pass = c.index_mut.result.now in
     let old : pass ≡ pass_at items n = pass_there items n pass within c.index_mut.ensures.value in
     let entry = ap (λ (p : Pass). p.entry) old ∙ ap (λ (ps : List Pass). (pass_at ps n).entry) c.passes.view_is ∙ c.requires.passes.entries n (owner_at house n) there in
-    let holds = owner_holds c.args.house.now n c.dataset.result.now c.in-Asks.ensures.proper.0 c.dataset.ensures in
-    let of : IsOwnerOf pass.entry c.dataset.result.now (owner_at house n) = record { entry_is = sym entry; tables_are = holds.0; rows_are = holds.1 } in
+    let of = owner_holds c.args.house.now n c.dataset.result.now pass.entry c.in-Asks.ensures.proper.0 c.dataset.ensures.holding entry in
     let step = c.ask.ensures.step (owner_at house n) of in
     let x : Exchange = record { turn = record { who = c.args.who; line = c.args.line.now }; reply = replied c.ask.result; told = step.0 } in
     let is = sym c.read_line.ensures.meaning ∙ ap (meaning_of house) c.in-Asks.is in (
@@ -163,3 +173,23 @@ pub returns-in-Balances-clause-who : goal.returns-in-Balances-clause-who
 returns-in-Balances-clause-who g c =
     let wanted = sym c.read_line.ensures.meaning ∙ ap (meaning_of (house_of c.args.house.now)) c.in-Balances.is in
     who_asks (house_of c.args.house.now) c.args.who c.args.line.now (meaning_of (house_of c.args.house.now) (Balances c.in-Balances.owner)) wanted
+
+pub returns-in-Asks-clause-ends : goal.returns-in-Asks-clause-ends
+returns-in-Asks-clause-ends g c =
+    let comes_to = sym c.read_line.ensures.meaning ∙ ap (meaning_of (house_of c.args.house.now)) c.in-Asks.is in
+    bye_means (house_of c.args.house.now) c.args.who c.args.line.now (meaning_of (house_of c.args.house.now) (Asks c.in-Asks.query)) comes_to
+
+pub returns-in-Says-clause-ends : goal.returns-in-Says-clause-ends
+returns-in-Says-clause-ends g c =
+    let comes_to = sym c.read_line.ensures.meaning ∙ ap (meaning_of (house_of c.args.house.now)) c.in-Says.is in
+    c.is_end.ensures ∙ bye_means (house_of c.args.house.now) c.args.who c.args.line.now (meaning_of (house_of c.args.house.now) (Says c.in-Says.reply c.in-Says.who)) comes_to
+
+pub returns-in-Recalls-clause-ends : goal.returns-in-Recalls-clause-ends
+returns-in-Recalls-clause-ends g c =
+    let comes_to = sym c.read_line.ensures.meaning ∙ ap (meaning_of (house_of c.args.house.now)) c.in-Recalls.is in
+    bye_means (house_of c.args.house.now) c.args.who c.args.line.now (meaning_of (house_of c.args.house.now) (Recalls c.in-Recalls.owner c.in-Recalls.analyst c.in-Recalls.number)) comes_to
+
+pub returns-in-Balances-clause-ends : goal.returns-in-Balances-clause-ends
+returns-in-Balances-clause-ends g c =
+    let comes_to = sym c.read_line.ensures.meaning ∙ ap (meaning_of (house_of c.args.house.now)) c.in-Balances.is in
+    bye_means (house_of c.args.house.now) c.args.who c.args.line.now (meaning_of (house_of c.args.house.now) (Balances c.in-Balances.owner)) comes_to

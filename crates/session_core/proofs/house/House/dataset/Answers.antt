@@ -1,6 +1,6 @@
 use Rattle.std.proofs.Common.{◌<◌, ◌∙◌, length, slice_get, Some, sym, ap, subst, arith}
 use Rattle.std.proofs.lemmas.Option.{slice_get-get_or}
-use Rattle.answer_path.specs.Owner.{Holding}
+use Rattle.part_views.specs.Holding.{Holding}
 use Rattle.session_core.specs.House.{Register, register_with, house_of}
 use Rattle.session_core.proofs.Owners.{in_holdings}
 use Rattle.session_core.proofs.house.House.dataset.Goals as goal
@@ -11,8 +11,8 @@ index-requires c =
     (subst (λ (r : Register). c.args.owner < length (house_of r).owners) (sym c.self.view_is) c.requires) in
     omega (arith, within, c.self.inside.datasets.ok.0)
 
-pub returns : goal.returns
-returns c =
+pub returns-clause-holding : goal.returns-clause-holding
+returns-clause-holding c =
     let within = in_holdings (register_with c.self.inside.catalog c.self.inside.datasets.items) c.self.invariant c.args.owner
     (subst (λ (r : Register). c.args.owner < length (house_of r).owners) (sym c.self.view_is) c.requires) in
     ap (λ (r : Register). slice_get r.holdings c.args.owner) (sym c.self.view_is)
