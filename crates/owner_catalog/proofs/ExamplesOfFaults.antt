@@ -57,9 +57,25 @@ unfolding on_literals
 column_missing_before_unknown = refl
 
 -- what is unknown counts before the members
-column_unknown : read_as (column_in 3 1 2) (codes "{\"a\":0,\"name\":7,\"type\":7}") ≡ bad Unknown (place at.Column 3 1 2)
+column_unknown : read_as (column_in 3 1 2) (codes "{\"a\":0,\"name\":7,\"type\":7}") ≡ bad (Unknown (codes "a")) (place at.Column 3 1 2)
 unfolding on_literals
 column_unknown = refl
+
+-- of several that are unknown the first by their names' bytes counts, wherever it stands
+column_unknown_several : read_as (column_in 3 1 2) (codes "{\"z\":0,\"name\":7,\"b\":0,\"type\":7,\"Z\":0,\"names\":0}")
+    ≡ bad (Unknown (codes "Z")) (place at.Column 3 1 2)
+unfolding on_literals
+column_unknown_several = refl
+
+-- a name is known whole and by its case
+column_unknown_longer : read_as (column_in 3 1 2) (codes "{\"names\":0,\"name\":7,\"type\":7,\"type \":0}") ≡ bad (Unknown (codes "names")) (place at.Column 3 1 2)
+unfolding on_literals
+column_unknown_longer = refl
+
+-- an empty name is unknown, too
+column_unknown_empty : read_as (column_in 3 1 2) (codes "{\"type\":7,\"\":0,\"name\":7,\" \":0}") ≡ bad (Unknown []) (place at.Column 3 1 2)
+unfolding on_literals
+column_unknown_empty = refl
 
 column_name_kind : read_as (column_in 3 1 2) (codes "{\"name\":7,\"type\":\"x\"}") ≡ bad Kind (place at.ColumnName 3 1 2)
 unfolding on_literals
@@ -116,7 +132,7 @@ table_missing : read_as (table_in 3 1) (codes "{\"columns\":7,\"name\":7}") ≡ 
 unfolding on_literals
 table_missing = refl
 
-table_unknown : read_as (table_in 3 1) (codes "{\"columns\":7,\"name\":7,\"file\":7,\"size\":1}") ≡ bad Unknown (place at.Table 3 1 0)
+table_unknown : read_as (table_in 3 1) (codes "{\"columns\":7,\"name\":7,\"file\":7,\"size\":1}") ≡ bad (Unknown (codes "size")) (place at.Table 3 1 0)
 unfolding on_literals
 table_unknown = refl
 
@@ -235,7 +251,7 @@ unfolding on_literals
 partition_missing = refl
 
 partition_unknown : read_as (partition_in 3 tables 1) (codes "{\"name\":\"p\",\"table\":7,\"column\":7,\"keys\":7,\"z\":0}")
-    ≡ bad Unknown (place at.Partition 3 1 0)
+    ≡ bad (Unknown (codes "z")) (place at.Partition 3 1 0)
 unfolding on_literals
 partition_unknown = refl
 
@@ -366,7 +382,7 @@ unfolding on_literals
 owner_missing_last = refl
 
 owner_unknown : read_as (owner_in 3) (codes "{\"name\":7,\"budget\":7,\"capacity\":7,\"tables\":7,\"partitions\":7,\"a\":7}")
-    ≡ bad Unknown (place at.Owner 3 0 0)
+    ≡ bad (Unknown (codes "a")) (place at.Owner 3 0 0)
 unfolding on_literals
 owner_unknown = refl
 
@@ -526,7 +542,7 @@ catalog_missing : catalog_in_file (codes "{\"owners\":0,\"a\":0}") ≡ bad Missi
 unfolding on_literals
 catalog_missing = refl
 
-catalog_unknown : catalog_in_file (codes "{\"owners\":0,\"analysts\":0,\"z\":0}") ≡ bad Unknown (place at.Catalog 0 0 0)
+catalog_unknown : catalog_in_file (codes "{\"owners\":0,\"analysts\":0,\"z\":0}") ≡ bad (Unknown (codes "z")) (place at.Catalog 0 0 0)
 unfolding on_literals
 catalog_unknown = refl
 

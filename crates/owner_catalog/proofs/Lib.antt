@@ -2,6 +2,7 @@ mod ExamplesOfFaults
 pub mod Laws
 pub mod Lists
 pub mod OnLiterals
+pub mod Partitions
 mod Pieces
 pub mod Signatures
 pub mod Steps

@@ -1,8 +1,8 @@
 -- What is known of a JSON value by its parts.
-use Rattle.std.proofs.Common.{◌≡◌, ◌≤◌, ◌<◌, rules, tests, ℕ, Bool, true, false, not, ◌&&◌, ◌||◌, List, [], ◌∷◌, map, length, nat_le, if◌then◌else◌, is_some, IsSome, unwrap_or, Option, Some, None, Ok, bytes_eq, string_bytes, string_cmp, refl, sym, ap, ◌∙◌, true≢false, String, arith, Less}
+use Rattle.std.proofs.Common.{◌≡◌, ◌≤◌, ◌<◌, rules, tests, ℕ, Bool, true, false, not, ◌&&◌, ◌||◌, List, [], ◌∷◌, map, length, nat_le, if◌then◌else◌, is_some, IsSome, unwrap_or, cond, option_map, Option, Some, None, Ok, bytes_eq, string_bytes, string_cmp, refl, sym, ap, ◌∙◌, true≢false, String, arith, Less}
 use Rattle.std.proofs.lemmas.List.{length-map}
 use Rattle.std.specs.declared.alloc.Global.{Global}
-use Rattle.std.specs.List.{AllByRecursion, list_any}
+use Rattle.std.specs.List.{AllByRecursion, find, list_any}
 use Rattle.std.specs.List.Sorted.{IsStrictlySortedBy}
 use Rattle.std.specs.Map.{keys_of}
 use Rattle.std.specs.Ordering.{is_eq}
@@ -18,7 +18,7 @@ use Rattle.serde_json.specs.declared.value.Value.{Value}
 use Rattle.serde_json.proofs.Views.{Entry, member_here, member_later}
 use Rattle.owner_catalog.specs.Plain.{HasNoFloat}
 use Rattle.owner_catalog.specs.Members.{member_name}
-use Rattle.owner_catalog.specs.Fault.{the, bad, data_of, counted_in, first_missing, is_known, has_unknown}
+use Rattle.owner_catalog.specs.Fault.{the, bad, data_of, counted_in, first_missing, first_unknown, is_known}
 use Rattle.owner_catalog.specs.declared.fault.FaultKind.TheVariants.{Count}
 use Rattle.owner_catalog.specs.declared.fault.Member.{Member}
 use Rattle.owner_catalog.specs.declared.fault.Place.{Place}
@@ -60,11 +60,29 @@ pub all_there : (expected : List Member) (d : Data) → None ≡ first_missing e
 all_there [] d none = tt
 all_there (m ∷ ms) d none = there_at m ms d _ refl (all_there ms d) none
 
+one_more : (b : Bool) (k : String Global) (names : Option (List ℕ)) (keys : Option (String Global)) → names ≡ option_map string_bytes keys
+    → cond b (Some (string_bytes k)) names ≡ option_map string_bytes (cond b (Some k) keys)
+one_more true k names keys same = refl
+one_more false k names keys same = same
+
 -- the names of an object's members are the keys of its map
-pub unknown_of : (expected : List Member) (es : List Entry) → has_unknown expected (members_view es) ≡ list_any
-    (λ k. not (is_known expected (string_bytes k))) (keys_of es)
+pub unknown_of : (expected : List Member) (es : List Entry) → first_unknown expected (members_view es)
+    ≡ option_map string_bytes (find (λ k. not (is_known expected (string_bytes k))) (keys_of es))
 unknown_of expected [] = refl
-unknown_of expected (e ∷ es) = ap (λ b. not (is_known expected (string_bytes e.0)) || b) (unknown_of expected es)
+unknown_of expected (e ∷ es) = one_more (not (is_known expected (string_bytes e.0))) e.0 _ _ (unknown_of expected es)
+
+none_more : {X : Type 0} (b more : Bool) (x : X) (rest : Option X) → (None ≡ rest → more ≡ false) → None ≡ cond b (Some x) rest → (b || more) ≡ false
+none_more true more x rest h none = absurd cc
+none_more false more x rest h none = h none
+
+none_passes : {X : Type 0} (p : X → Bool) (xs : List X) → None ≡ find p xs → list_any p xs ≡ false
+none_passes p [] none = refl
+none_passes p (x ∷ xs) none = none_more (p x) (list_any p xs) x (find p xs) (none_passes p xs) none
+
+-- where a search finds none, no element passes its test
+pub none_found : {X Y : Type 0} (f : X → Y) (r : Option X) (p : Y → Bool) (ys : List Y) → option_map f r ≡ find p ys → r ≡ None → list_any p ys ≡ false
+none_found f None p ys is none = none_passes p ys is
+none_found f (Some x) p ys is none = absurd cc
 
 -- a name that no key is stands for nothing
 absent : (name : List ℕ) (es : List Entry) → AllByRecursion (λ k. bytes_eq name (string_bytes k) ≡ false) (keys_of es)

@@ -62,22 +62,27 @@ names_of (member name d ms) = name ∷ names_of ms
 abbrev pub is_known : List Member → List ℕ → Bool
 is_known expected name = list_any (λ m. bytes_eq name (member_name m)) expected
 
--- whether an object has a member beyond some
-abbrev pub has_unknown : List Member → Members → Bool
-has_unknown expected ms = list_any (λ name. not (is_known expected name)) (names_of ms)
+-- the first member beyond some that an object has
+abbrev pub first_unknown : List Member → Members → Option (List ℕ)
+first_unknown expected ms = find (λ name. not (is_known expected name)) (names_of ms)
 
 -- no member is missing, or the fault at the first that is
 abbrev pub none_missing : (Member → Place) → Option Member → Result ⊤ CatalogFault
 none_missing at None = Ok tt
 none_missing at (Some m) = bad Missing (at m)
 
+-- there is no member beyond, or the fault of the first, which names it
+abbrev pub none_unknown : Place → Option (List ℕ) → Result ⊤ CatalogFault
+none_unknown at None = Ok tt
+none_unknown at (Some name) = bad (Unknown name) at
+
 -- An object with just these members: it is an object, then lacks none of them in the order of the table, then has none beyond
--- them. A place doesn't tell which other member there is, so the order of several shows nothing.
+-- them in the order of their names' bytes.
 unfoldable pub object_in : List Member → (whole : Member) → (Member → Place) → Data → Result ⊤ CatalogFault
 object_in expected whole at d = do
   members ← or_bad Kind (at whole) (as_object d)
   none ← none_missing at (first_missing expected d)
-  if has_unknown expected members then bad Unknown (at whole) else Ok tt
+  none_unknown (at whole) (first_unknown expected members)
 
 abbrev pub data_of : Items → List Data
 data_of no_items = []

@@ -1,5 +1,5 @@
 //! A catalog that was read, and its look-ups.
-ghost use Rattle.std.specs.Prelude.{◌≡◌, ◌<◌, ◌≤◌, length, map, position, bytes_eq, IfOk, true};
+ghost use Rattle.std.specs.Prelude.{◌≡◌, ◌<◌, ◌≤◌, [], length, map, get_or, position, bytes_eq, IfOk, true};
 ghost use Rattle.std.specs.List.{All, IsDistinct};
 ghost use Rattle.fz_ast.specs.Types.{WellFormed, formed, is_flat};
 ghost use Rattle.table_store.specs.Schema.{row_of_schema};
@@ -203,6 +203,46 @@ impl Catalog {
         ensures few { result ≤ 250 }
     {
         self.owners[o as usize].partitions[p as usize].keys.len()
+    }
+
+    /// The name of a partition.
+    pub fn partition_name(&self, o: u32, p: u8) -> &str
+        requires owner { o < length self.now.owners }
+        requires partition { p < length (owner_entry_at self.now o).partitions }
+        ensures { result.now ≡ (partition_entry_at self.now o p).name }
+    {
+        self.owners[o as usize].partitions[p as usize].name.as_str()
+    }
+
+    /// The table that a partition is of, by its number.
+    pub fn partition_table(&self, o: u32, p: u8) -> u8
+        requires owner { o < length self.now.owners }
+        requires partition { p < length (owner_entry_at self.now o).partitions }
+        ensures table { result ≡ (partition_entry_at self.now o p).table }
+        ensures there { result < length (owner_entry_at self.now o).tables }
+    {
+        self.owners[o as usize].partitions[p as usize].table as u8
+    }
+
+    /// The text column that a partition goes by, by its number in the table.
+    pub fn partition_column(&self, o: u32, p: u8) -> u8
+        requires owner { o < length self.now.owners }
+        requires partition { p < length (owner_entry_at self.now o).partitions }
+        ensures { result ≡ (partition_entry_at self.now o p).column }
+    {
+        let owner: &Owner = &self.owners[o as usize];
+        let partition: &Partition = &owner.partitions[p as usize];
+        partition.column as u8
+    }
+
+    /// A key of a partition.
+    pub fn key_text(&self, o: u32, p: u8, j: u8) -> &str
+        requires owner { o < length self.now.owners }
+        requires partition { p < length (owner_entry_at self.now o).partitions }
+        requires key { j < length (partition_entry_at self.now o p).keys }
+        ensures { result.now ≡ get_or (partition_entry_at self.now o p).keys j [] }
+    {
+        self.owners[o as usize].partitions[p as usize].keys[j as usize].name()
     }
 
     /// The name of a table.

@@ -3,10 +3,11 @@ ghost use Rattle.std.specs.Prelude.{◌≡◌};
 ghost use Rattle.owner_catalog.specs.Fault.{here};
 ghost use Rattle.owner_catalog.specs.declared.fault.CatalogFault.TheVariants.{NoMemory};
 
+use crate::named::Label;
 use std::alloc::{AllocError, AllocFailed};
 
 /// What is wrong.
-#[derive(Clone, Copy, Debug, PartialEq, Eq)]
+#[derive(Debug, Drop)]
 pub enum FaultKind {
     /// The bytes are no JSON value.
     Syntax,
@@ -15,8 +16,8 @@ pub enum FaultKind {
     Kind,
     /// An object lacks a member.
     Missing,
-    /// An object has a member that belongs to none.
-    Unknown,
+    /// An object has a member of this name, which is none of its own. Of several it is the first by the order of their bytes.
+    Unknown(Label),
     /// A list has too few items or too many.
     Count,
     /// A whole number is outside its limits.
@@ -60,7 +61,7 @@ pub enum Member {
 /// Where a fault is. Numbers count from 0, and are 0 where there is none.
 #[derive(Clone, Copy, Debug, PartialEq, Eq)]
 pub struct Place {
-    /// The member or item that is at fault, or that is missing.
+    /// The member or item that is at fault, or that is missing; of an unknown member the object that it is in.
     pub member: Member,
     /// The number of the owner.
     pub owner: u32,
@@ -71,7 +72,7 @@ pub struct Place {
 }
 
 /// Why there is no catalog.
-#[derive(Clone, Copy, Debug, PartialEq, Eq)]
+#[derive(Debug, Drop)]
 pub enum CatalogFault {
     /// The first fault of the file.
     Bad { kind: FaultKind, at: Place },

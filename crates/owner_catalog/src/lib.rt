@@ -16,4 +16,5 @@ mod text;
 pub use catalog::Catalog;
 pub use fault::{CatalogFault, FaultKind, Member, Place};
 pub use hashing::digest;
+pub use named::Label;
 pub use reading::read;

@@ -5,8 +5,8 @@ ghost use Rattle.std.specs.List.{list_any};
 use std::marker::Model;
 
 /// A name or a key.
-#[derive(Drop)]
-pub(crate) struct Label {
+#[derive(Debug, Drop)]
+pub struct Label {
     text: String,
 }
 
@@ -27,6 +27,12 @@ impl Label {
     {
         Label { text }
     }
+
+    pub fn as_str(&self) -> &str
+        ensures { result.now ≡ self.now }
+    {
+        self.text.as_str()
+    }
 }
 
 /// What has a name.
@@ -41,7 +47,7 @@ impl Named for Label {
     ghost name_of = { λ label. label };
 
     fn name(&self) -> &str {
-        self.text.as_str()
+        self.as_str()
     }
 }
 

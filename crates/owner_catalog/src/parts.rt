@@ -1,19 +1,20 @@
 //! The parts of a catalog, read from JSON values.
-ghost use Rattle.std.specs.Prelude.{◌≡◌, ◌⊎◌, ◌≤◌, ℕ, List, map, true, false, length, IfOk, IfErr, IsSome, Ok, Err, not, string_bytes, string_cmp};
-ghost use Rattle.std.specs.List.{AllByRecursion, list_any};
+ghost use Rattle.std.specs.Prelude.{◌≡◌, ◌⊎◌, ◌≤◌, ℕ, List, map, true, false, length, IfOk, IfErr, IsSome, Ok, Err, not, option_map, string_bytes, string_cmp};
+ghost use Rattle.std.specs.List.{AllByRecursion, find};
 ghost use Rattle.std.specs.List.Sorted.{IsStrictlySortedBy};
 ghost use Rattle.std.specs.Map.{keys_of};
 ghost use Rattle.serde_json.specs.Data.{Data};
 ghost use Rattle.serde_json.specs.Find.{get};
-ghost use Rattle.serde_json.specs.View.{view, members_view};
+ghost use Rattle.serde_json.specs.View.{view};
 ghost use Rattle.serde_json.specs.Written.{has_float};
 ghost use Rattle.owner_catalog.specs.Members.{member_name};
 ghost use Rattle.owner_catalog.specs.Forms.{has_form};
 ghost use Rattle.owner_catalog.specs.Plain.{HasNoFloat};
-ghost use Rattle.owner_catalog.specs.Fault.{here, the, formed_text_in, bounded_number_in, object_in, counted_in, first_missing, is_known, has_unknown};
+ghost use Rattle.owner_catalog.specs.Fault.{here, the, formed_text_in, bounded_number_in, object_in, counted_in, first_missing, is_known};
 
 use crate::fault::{CatalogFault, FaultKind, Member, Place};
 use crate::member::member_name;
+use crate::named::Label;
 use crate::text::{Form, has_form};
 use serde_json::{Map, Value};
 use std::alloc::Global;
@@ -123,20 +124,25 @@ fn is_known(expected: &[Member], name: &str) -> bool
     expected.iter().any(|member| name == member_name(*member))
 }
 
-fn has_unknown(expected: &[Member], members: &Map<String, Value>) -> bool
-    ensures unknown { result ≡ list_any (λ k. not (is_known expected.now (string_bytes k))) (keys_of members.now.entries) }
+fn first_unknown<'a>(expected: &[Member], members: &'a Map<String, Value>) -> Option<&'a String>
+    ensures unknown { option_map (λ k. k.now) result ≡ find (λ k. not (is_known expected.now (string_bytes k))) (keys_of members.now.entries) }
     ensures ordered { IsStrictlySortedBy string_cmp (keys_of members.now.entries) }
 {
     members
         .keys()
-        .any(|name| !is_known(expected, name.as_str()))
+        .find(|name| !is_known(expected, name.as_str()))
 }
 
 /// Whether an object has just these members. `at` is the object's own place.
 #[tactic(auto, using(crate::proofs::Values::all_there, crate::proofs::Values::unknown_of), unfolding(crate::specs::Fault::object_in))]
-pub(crate) fn object(expected: &[Member], value: &Value, at: Place) -> Result<(), CatalogFault>
+pub(crate) fn object(
+    alloc: Global,
+    expected: &[Member],
+    value: &Value,
+    at: Place,
+) -> Result<(), CatalogFault>
     ensures object { IfOk result (λ done. object_in expected.now at.member (here at) (view value.now) ≡ Ok done) }
-    ensures fault { IfErr result (λ f. object_in expected.now at.member (here at) (view value.now) ≡ Err f) }
+    ensures fault { IfErr result (λ f. (f ≡ CatalogFault.NoMemory) ⊎ (object_in expected.now at.member (here at) (view value.now) ≡ Err f)) }
     ensures there { IfOk result (λ _. AllByRecursion (λ m. IsSome (get (member_name m) (view value.now))) expected.now) }
     ensures plain { IfOk result (λ _. AllByRecursion (λ m. has_float (the m (view value.now)) ≡ false) expected.now → HasNoFloat value.now) }
 {
@@ -152,9 +158,10 @@ pub(crate) fn object(expected: &[Member], value: &Value, at: Place) -> Result<()
             at: at.of(member),
         });
     }
-    if has_unknown(expected, members) {
+    if let Some(name) = first_unknown(expected, members) {
+        let name = Label::new(String::from_str(alloc, name.as_str())?);
         return Err(CatalogFault::Bad {
-            kind: FaultKind::Unknown,
+            kind: FaultKind::Unknown(name),
             at,
         });
     }

@@ -154,7 +154,7 @@ impl Item<InTable> for NamedColumn {
             item: within.table,
             sub_item: number,
         };
-        object(&COLUMN, value, at)?;
+        object(alloc, &COLUMN, value, at)?;
         let name = member_text(alloc, value, Member::ColumnName, Form::Name, at)?;
         let kind = kind(value, at)?;
         Ok(NamedColumn::new(name, kind))
@@ -186,7 +186,7 @@ impl Item<u32> for Table {
             item: number,
             sub_item: 0,
         };
-        object(&TABLE, value, at)?;
+        object(alloc, &TABLE, value, at)?;
         let name = member_text(alloc, value, Member::TableName, Form::TableName, at)?;
         let file = member_text(alloc, value, Member::File, Form::FileName, at)?;
         let within = InTable {
@@ -308,7 +308,7 @@ impl Item<InOwner<'_>> for Partition {
             item: number,
             sub_item: 0,
         };
-        object(&PARTITION, value, at)?;
+        object(alloc, &PARTITION, value, at)?;
         let name = member_text(alloc, value, Member::PartitionName, Form::Name, at)?;
         let table = table_number(value, within.tables, at)?;
         let column = column_number(value, columns_of(within.tables, table), at)?;
@@ -351,7 +351,7 @@ impl Item<()> for Owner {
             item: 0,
             sub_item: 0,
         };
-        object(&OWNER, value, at)?;
+        object(alloc, &OWNER, value, at)?;
         let name = member_text(alloc, value, Member::OwnerName, Form::Name, at)?;
         let budget = member_number(value, Member::Budget, 1, MOST_BUDGET, at)?;
         let capacity = member_number(value, Member::Capacity, 2, MOST_CAPACITY, at)? as u32;
@@ -384,7 +384,7 @@ fn read_value(alloc: Global, value: &Value) -> Result<Catalog, CatalogFault>
         item: 0,
         sub_item: 0,
     };
-    object(&CATALOG, value, at)?;
+    object(alloc, &CATALOG, value, at)?;
     let analysts = list(alloc, value, Member::Analysts, 1, 64, at, &Labels::Analysts)?;
     let owners = list(alloc, value, Member::Owners, 1, 16, at, &())?;
     let text = the(Member::Analysts, value).to_string(alloc)?;
