@@ -1,6 +1,6 @@
 //! Catalogs that are read: each fault with its kind and place, and the calls on a catalog.
 
-use owner_catalog::{CatalogFault, digest, read};
+use owner_catalog::{CatalogFault, FaultKind, digest, read};
 use std::alloc::Global;
 use std::test::Fail;
 
@@ -28,7 +28,7 @@ const PARTS: [(&[&str], &[Case], &str); 7] = [
         ("{\"owners\":", "Syntax Catalog 0 0 0"),
         ("[]", "Kind Catalog 0 0 0"),
         ("{\"owners\":0,\"a\":0}", "Missing Analysts 0 0 0"),
-        ("{\"owners\":0,\"analysts\":0,\"z\":0}", "Unknown Catalog 0 0 0"),
+        ("{\"owners\":0,\"analysts\":0,\"z\":0}", "Unknown z Catalog 0 0 0"),
         ("{\"owners\":0,\"analysts\":0}", "Kind Analysts 0 0 0"),
         ("{\"owners\":0,\"analysts\":[]}", "Count Analysts 0 0 0"),
         ("{\"owners\":0,\"analysts\":[\"ann\",1]}", "Kind Analyst 0 1 0"),
@@ -40,7 +40,7 @@ const PARTS: [(&[&str], &[Case], &str); 7] = [
     // members of the second owner
     (&[FIRST, OWNER, ",{"], &[
         ("\"name\":7,\"z\":7}", "Missing Budget 1 0 0"),
-        ("\"name\":\"p\",\"budget\":1,\"capacity\":2,\"tables\":7,\"partitions\":7,\"z\":7}", "Unknown Owner 1 0 0"),
+        ("\"name\":\"p\",\"budget\":1,\"capacity\":2,\"tables\":7,\"partitions\":7,\"z\":7}", "Unknown z Owner 1 0 0"),
         ("\"name\":7,\"budget\":1,\"capacity\":2,\"tables\":7,\"partitions\":7}", "Kind OwnerName 1 0 0"),
         ("\"name\":\"1\",\"budget\":1,\"capacity\":2,\"tables\":7,\"partitions\":7}", "Form OwnerName 1 0 0"),
         ("\"name\":\"p\",\"budget\":1.0,\"capacity\":2,\"tables\":7,\"partitions\":7}", "Kind Budget 1 0 0"),
@@ -59,7 +59,7 @@ const PARTS: [(&[&str], &[Case], &str); 7] = [
     (&[FIRST, OWNER, SECOND, "\"partitions\":7,\"tables\":[", TABLE, ","], &[
         ("7", "Kind Table 1 1 0"),
         ("{\"name\":7,\"columns\":7,\"z\":7}", "Missing File 1 1 0"),
-        ("{\"name\":7,\"columns\":7,\"file\":7,\"z\":7}", "Unknown Table 1 1 0"),
+        ("{\"name\":7,\"columns\":7,\"file\":7,\"z\":7}", "Unknown z Table 1 1 0"),
         ("{\"name\":7,\"columns\":7,\"file\":7}", "Kind TableName 1 1 0"),
         ("{\"name\":\"union\",\"columns\":7,\"file\":7}", "Form TableName 1 1 0"),
         ("{\"name\":\"u\",\"columns\":7,\"file\":7}", "Kind File 1 1 0"),
@@ -73,7 +73,7 @@ const PARTS: [(&[&str], &[Case], &str); 7] = [
     (&[FIRST, OWNER, SECOND, "\"partitions\":7,\"tables\":[", TABLE, ",{\"name\":\"u\",\"file\":\"g\",\"columns\":[{\"name\":\"a\",\"type\":\"num\"},"], &[
         ("7", "Kind Column 1 1 1"),
         ("{\"z\":7}", "Missing ColumnName 1 1 1"),
-        ("{\"name\":7,\"type\":7,\"z\":7}", "Unknown Column 1 1 1"),
+        ("{\"name\":7,\"type\":7,\"z\":7}", "Unknown z Column 1 1 1"),
         ("{\"name\":7,\"type\":7}", "Kind ColumnName 1 1 1"),
         ("{\"name\":\"\",\"type\":7}", "Form ColumnName 1 1 1"),
         ("{\"name\":\"b\",\"type\":7}", "Kind ColumnType 1 1 1"),
@@ -83,7 +83,7 @@ const PARTS: [(&[&str], &[Case], &str); 7] = [
     // members of the second partition of the second owner
     (&[FIRST, OWNER, SECOND, "\"tables\":[", TABLE, "],\"partitions\":[", PARTITION, ",{"], &[
         ("\"name\":7,\"column\":7,\"keys\":7,\"z\":7}", "Missing PartitionTable 1 1 0"),
-        ("\"name\":\"r\",\"table\":\"t\",\"column\":\"a\",\"keys\":7,\"z\":7}", "Unknown Partition 1 1 0"),
+        ("\"name\":\"r\",\"table\":\"t\",\"column\":\"a\",\"keys\":7,\"z\":7}", "Unknown z Partition 1 1 0"),
         ("\"name\":7,\"table\":\"t\",\"column\":\"a\",\"keys\":7}", "Kind PartitionName 1 1 0"),
         ("\"name\":\"r s\",\"table\":\"t\",\"column\":\"a\",\"keys\":7}", "Form PartitionName 1 1 0"),
         ("\"name\":\"r\",\"table\":7,\"column\":\"a\",\"keys\":7}", "Kind PartitionTable 1 1 0"),
@@ -112,7 +112,13 @@ fn said(alloc: Global, text: &str) -> Result<String, Fail> {
         Err(CatalogFault::NoMemory) => Ok(String::from_str(alloc, "no memory")?),
         Err(CatalogFault::Bad { kind, at }) => {
             let (member, owner, item, sub_item) = (at.member, at.owner, at.item, at.sub_item);
-            Ok(format!(in alloc; "{kind:?} {member:?} {owner} {item} {sub_item}")?)
+            match kind {
+                FaultKind::Unknown(name) => {
+                    let name = name.as_str();
+                    Ok(format!(in alloc; "Unknown {name} {member:?} {owner} {item} {sub_item}")?)
+                }
+                kind => Ok(format!(in alloc; "{kind:?} {member:?} {owner} {item} {sub_item}")?),
+            }
         }
     }
 }

@@ -8,26 +8,26 @@ use Rattle.fz_ast.specs.Signature.{Signature, IsSignature}
 use Rattle.metric_values.specs.Tables.{Dataset, IsDataset}
 use Rattle.owner_catalog.specs.Catalog.{Catalog, IsCatalog, owner_signature}
 use Rattle.owner_catalog.specs.Entries.{OwnerEntry, owner_entry_at}
-use Rattle.answer_path.specs.Owner.{Holding}
+use Rattle.part_views.specs.Holding.{Holding}
 use Rattle.session_core.specs.House.{IsHeldBy, Register}
 use Rattle.session_core.proofs.Signed.{signature_signed}
 use Rattle.command_words.specs.Command.{Command, init, run, audit, check, gap, command_of}
-use Rattle.query_server.specs.Files.{Reads}
-use Rattle.query_server.specs.Steps.{Step, ◌>>=◌, continued, done, file_read, from}
-use Rattle.query_server.specs.Loaded.{catalog_read, entry_named, holding_in, loaded, owner_loaded}
-use Rattle.query_server.specs.Fit.{fitting, if_fitting, same_table}
+use Rattle.catalog_loading.specs.Files.{ReadsToCome}
+use Rattle.catalog_loading.specs.Steps.{FileStep, ◌>>=◌, continued, done, file_read, from}
+use Rattle.catalog_loading.specs.Loaded.{catalog_read, entry_named, holding_in, loaded, owner_loaded}
+use Rattle.catalog_loading.specs.Fit.{fitting, if_fitting, same_table}
 use Rattle.query_server.specs.Ending.{Ending, ended, refused, to_answer, to_make, to_count, to_compare}
 use Rattle.query_server.specs.Gap.{gap_steps}
-use Rattle.query_server.specs.Due.{ending_of, steps_of}
+use Rattle.query_server.specs.Due.{ending_of, command_steps}
 use Rattle.query_server.specs.Laws.{GapsAreOfDatasets}
-use Rattle.query_server.proofs.Pairs.{inverted}
-use Rattle.query_server.proofs.Owners.{find_place}
-use Rattle.query_server.proofs.Fits.{same_signature}
-use Rattle.query_server.proofs.Loaded.{catalog_lawful, loaded_register}
+use Rattle.catalog_loading.proofs.Pairs.{inverted}
+use Rattle.catalog_loading.proofs.Owners.{find_place}
+use Rattle.catalog_loading.proofs.Fits.{same_signature}
+use Rattle.catalog_loading.proofs.Loaded.{catalog_lawful, loaded_register}
 use Rattle.query_server.proofs.Endings.{check_cases, house_cases}
 
 -- What holds of a refused name, and of what the next steps come to with what a step gave, holds of both.
-then_known : {A : Type 0} (P : Ending → Type 0) → ((name : List ℕ) → P (refused name)) → (step : Step A) (next : A → Step Ending) (reads : Reads)
+then_known : {A : Type 0} (P : Ending → Type 0) → ((name : List ℕ) → P (refused name)) → (step : FileStep A) (next : A → FileStep Ending) (reads : ReadsToCome)
     → ((a : A) → (step reads).given ≡ Ok a → P (ended (next a (step reads).rest).given)) → P (ended ((step >>= next) reads).given)
 unfolding ◌>>=◌
 then_known {A} P by_name step next reads by_work = here (step reads).given refl
@@ -62,7 +62,7 @@ record IsKnown (entry : OwnerEntry) (holding : Holding) : Type 0 where
   held : IsHeldBy entry holding
   signed : IsSignature (owner_signature entry)
 
-known : (catalog : Catalog) (name : List ℕ) (reads : Reads) (entry : OwnerEntry) (holding : Holding) → IsCatalog catalog → entry_named catalog name ≡ Ok entry → (owner_loaded catalog name reads).given ≡ Ok holding → IsKnown entry holding
+known : (catalog : Catalog) (name : List ℕ) (reads : ReadsToCome) (entry : OwnerEntry) (holding : Holding) → IsCatalog catalog → entry_named catalog name ≡ Ok entry → (owner_loaded catalog name reads).given ≡ Ok holding → IsKnown entry holding
 known catalog name reads entry holding lawful named is =
     let load = inverted (loaded catalog) (λ loading. from (holding_in loading.register name)) reads holding is in
     let loading = loaded_register catalog reads load.0 lawful load.1 in
@@ -104,7 +104,7 @@ both_known entry other first second bytes same one two tables X Y program is =
       subst (λ (ts : Signature). IsDataset ts Y) its (subst (λ (Z : Dataset). IsDataset first.tables Z) second_rows (subst (λ (ts : Signature). IsDataset ts second.rows) second_tables second_data)),
     )
 
-gap_known : (catalog owner second_catalog file : List ℕ) (reads : Reads) → IsOfDatasets (ended (gap_steps catalog owner second_catalog file reads).given)
+gap_known : (catalog owner second_catalog file : List ℕ) (reads : ReadsToCome) → IsOfDatasets (ended (gap_steps catalog owner second_catalog file reads).given)
 gap_known catalog owner second_catalog file reads =
     let by_name : (name : List ℕ) → IsOfDatasets (refused name) = λ name tables X Y program is. cc in
     then_known IsOfDatasets by_name (catalog_read catalog) _ reads
@@ -122,7 +122,7 @@ pub gaps_of_datasets : GapsAreOfDatasets
 unfolding ending_of
 gaps_of_datasets words reads = here (command_of words)
   where
-    here : (command : Option Command) → IsOfDatasets (ended (steps_of command reads).given)
+    here : (command : Option Command) → IsOfDatasets (ended (command_steps command reads).given)
     here None = λ tables X Y program is. cc
     here (Some (run catalog key workers)) = house_cases IsOfDatasets (λ name tables X Y program is. cc) to_answer (λ loading key tables X Y program is. cc) catalog key reads
     here (Some (init catalog key)) = house_cases IsOfDatasets (λ name tables X Y program is. cc) to_make (λ loading key tables X Y program is. cc) catalog key reads

@@ -15,18 +15,17 @@ use Rattle.journal_records.specs.declared.records.Header.{Header}
 use Rattle.journal_records.specs.declared.records.Record.{Record}
 use Rattle.budget_core.specs.Entries.{Entry}
 use Rattle.owner_catalog.specs.Entries.{OwnerEntry}
-use Rattle.query_server.specs.Loaded.{Loading, header_of}
+use Rattle.catalog_loading.specs.Loaded.{Loading, header_of, owners_in, entry_at}
 use Rattle.session_core.specs.Transcript.{Journals}
-use Rattle.query_server.specs.Opened.{owners_in}
 use Rattle.query_server.specs.Shelves.{Shelf, Became, IsOnlySynced, SomeRose, bytes_on}
-use Rattle.query_server.specs.Opened.{AreOpened, IsOpened, IsUnopened, entry_at}
+use Rattle.query_server.specs.Opened.{AreOpened, IsOpened, IsUnopened}
 use Rattle.query_server.specs.Ending.{to_count}
 use Rattle.query_server.specs.Count.{counted_line, counted_text}
 use Rattle.query_server.specs.Ends.{IsEndOf, end_by}
 use Rattle.query_server.specs.declared.end.End.TheVariants.{Listed}
 use Rattle.query_server.specs.Books.{IsBookStop, IsOpenStop, LeftDisk}
-use Rattle.query_server.specs.declared.end.Stop.{Stop}
-use Rattle.query_server.specs.declared.end.Stop.TheVariants.{Usage, Refused, Journal, Disk, Fault, NoMemory}
+use Rattle.catalog_loading.specs.declared.stops.Stop.{Stop}
+use Rattle.catalog_loading.specs.declared.stops.Stop.TheVariants.{Usage, Refused, Journal, Disk, Fault, NoMemory}
 
 -- the pieces of a line, put one after another
 pub one_line : (old name a n b m c k d l e s f t end : List ℕ)

@@ -3,7 +3,7 @@ use Rattle.std.proofs.Common.{◌≡◌, ℕ, List, Option, refl, sym, ◌∙◌
 use Rattle.std.specs.Prelude.{Vec}
 use Rattle.std.specs.declared.alloc.Global.{Global}
 use mathlib.Core.Logic.{◌⊎◌, inl, inr}
-use Rattle.query_server.specs.Files.{Contents}
+use Rattle.catalog_loading.specs.Files.{Contents}
 use Rattle.query_server.specs.Ending.{Ending, refused, to_check, to_compare}
 use Rattle.query_server.specs.Shelves.{Shelf}
 use Rattle.query_server.specs.Check.{check_steps}
@@ -12,7 +12,7 @@ use Rattle.query_server.specs.Due.{ForContents, IsDiskLine}
 use Rattle.query_server.specs.Ends.{IsCut, IsEndOf, IsEndingWith, IsStepEnd, status_at, text_at}
 use Rattle.query_server.specs.declared.end.Status.{Status}
 use Rattle.query_server.specs.declared.end.Status.TheVariants as code
-use Rattle.query_server.specs.declared.end.Stop.TheVariants.{Usage, Refused, Journal, Disk, Fault, NoMemory}
+use Rattle.catalog_loading.specs.declared.stops.Stop.TheVariants.{Usage, Refused, Journal, Disk, Fault, NoMemory}
 use Rattle.query_server.specs.declared.end.End.{End}
 use Rattle.query_server.specs.declared.end.End.TheVariants.{Stopped, Run, Listed, Check, Gap}
 use Rattle.query_server.specs.declared.running.RunEnd.TheVariants.{Answered, TooLong}

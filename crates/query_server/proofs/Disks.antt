@@ -1,11 +1,11 @@
 -- what may become of the owners' disks
-use Rattle.std.proofs.Common.{ℕ, ◌≤◌, refl, arith}
+use Rattle.std.proofs.Common.{ℕ, ◌≤◌, List, refl, arith}
 use mathlib.Core.Logic.{inl}
 use Rattle.outside_disks.specs.Disks.{Shown}
-use Rattle.query_server.specs.Loaded.{Loading}
+use Rattle.catalog_loading.specs.Loaded.{Loading}
 use Rattle.query_server.specs.Ending.{Ending, usage, refused, to_answer, to_make, to_count, to_check, to_compare}
 use Rattle.query_server.specs.Shelves.{Shelf, Became, IsOnlySynced}
-use Rattle.query_server.specs.Make.{AreMadeBefore}
+use Rattle.query_server.specs.Make.{AreMadeBefore, MayHaveFailed}
 use Rattle.query_server.specs.Due.{MayStop}
 
 pub synced_same : (shown : Shown) → IsOnlySynced shown shown
@@ -15,10 +15,10 @@ synced_same shown = record { synced = inl refl; counts = omega arith }
 pub became_same : (n : ℕ) (shelf : Shelf) → Became n (λ _. IsOnlySynced) shelf shelf
 became_same n shelf = record { owned = λ o before less at. (before, at, synced_same before); others = λ o past. refl }
 
-none_made : (loading : Loading) (key : _) (shelf : Shelf) → AreMadeBefore loading key 0 (λ before after. before.faults ≤ after.faults) shelf shelf
+pub none_made : (loading : Loading) (key : List ℕ) (shelf : Shelf) → AreMadeBefore loading key 0 MayHaveFailed shelf shelf
 none_made loading key shelf = record {
   made = λ p before less at. absurd (omega (arith, less));
-  here = λ before at. (before, at, omega arith);
+  here = λ before at. (before, at, (omega arith, inl (synced_same before)));
   behind = λ p past. refl;
 }
 

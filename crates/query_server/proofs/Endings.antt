@@ -11,22 +11,22 @@ use Rattle.session_core.specs.Headline.{AreFound, Headline, Programs}
 use Rattle.session_core.proofs.Owners.{register_owners}
 use Rattle.session_core.proofs.Headlines.{headline_of}
 use Rattle.command_words.specs.Command.{Command, init, run, audit, check, gap, command_of}
-use Rattle.query_server.specs.Files.{Contents, Reads, always}
-use Rattle.query_server.specs.Steps.{Step, ◌>>=◌, continued, done, file_read, from}
-use Rattle.query_server.specs.Loaded.{Loading, IsLoading, catalog_read, key_read, loaded, entry_named, owner_loaded, with_house}
-use Rattle.query_server.specs.Fit.{fitting}
+use Rattle.catalog_loading.specs.Files.{Contents, ReadsToCome, always}
+use Rattle.catalog_loading.specs.Steps.{FileStep, ◌>>=◌, continued, done, file_read, from}
+use Rattle.catalog_loading.specs.Loaded.{Loading, IsLoading, catalog_read, key_read, loaded, entry_named, owner_loaded, with_house}
+use Rattle.catalog_loading.specs.Fit.{fitting}
 use Rattle.query_server.specs.Ending.{Ending, ended, refused, to_answer, to_make, to_count, to_check, to_compare}
 use Rattle.query_server.specs.Run.{run_steps}
 use Rattle.query_server.specs.Check.{check_steps}
 use Rattle.query_server.specs.Gap.{gap_steps}
-use Rattle.query_server.specs.Due.{ending_of, steps_of}
+use Rattle.query_server.specs.Due.{ending_of, command_steps}
 use Rattle.query_server.specs.Promise.{IsHouseOf}
-use Rattle.query_server.proofs.Pairs.{inverted}
-use Rattle.query_server.proofs.Told.{keeps_catalog, keeps_key}
-use Rattle.query_server.proofs.Loaded.{catalog_lawful, loaded_register}
+use Rattle.catalog_loading.proofs.Pairs.{inverted}
+use Rattle.catalog_loading.proofs.Told.{keeps_catalog, keeps_key}
+use Rattle.catalog_loading.proofs.Loaded.{catalog_lawful, loaded_register}
 
 -- what the steps to a house gave
-pub house_gives : {A : Type 0} (work : Loading → List ℕ → A) (catalog key : List ℕ) (reads : Reads) (a : A) → (with_house work catalog key reads).given ≡ Ok a
+pub house_gives : {A : Type 0} (work : Loading → List ℕ → A) (catalog key : List ℕ) (reads : ReadsToCome) (a : A) → (with_house work catalog key reads).given ≡ Ok a
     → (house : Catalog) × (bytes : List ℕ) × (loading : Loading) × ((catalog_read catalog reads).given ≡ Ok house) × ((key_read key (catalog_read catalog reads).rest).given ≡ Ok bytes)
     × ((loaded house (key_read key (catalog_read catalog reads).rest).rest).given ≡ Ok loading) × (work loading bytes ≡ a)
 house_gives work catalog key reads a is =
@@ -37,8 +37,8 @@ house_gives work catalog key reads a is =
     (house.0, bytes.0, loading.0, house.1, bytes.1, loading.1, same)
 
 -- What holds of a refused name, and of all that a step's next ones come to, holds of what it comes to with them.
-then_cases : {A : Type 0} (P : Ending → Type 0) → ((name : List ℕ) → P (refused name)) → (step : Step A) (next : A → Step Ending) → ((a : A) (reads : Reads) → P (ended (next a reads).given))
-    → (reads : Reads) → P (ended ((step >>= next) reads).given)
+then_cases : {A : Type 0} (P : Ending → Type 0) → ((name : List ℕ) → P (refused name)) → (step : FileStep A) (next : A → FileStep Ending) → ((a : A) (reads : ReadsToCome) → P (ended (next a reads).given))
+    → (reads : ReadsToCome) → P (ended ((step >>= next) reads).given)
 unfolding ◌>>=◌
 then_cases {A} P by_name step next each reads = here (step reads).given
   where
@@ -48,7 +48,7 @@ then_cases {A} P by_name step next each reads = here (step reads).given
 
 -- of a `run`, an `init` and an `audit`, what is to be done with each house
 pub house_cases : (P : Ending → Type 0) → ((name : List ℕ) → P (refused name)) → (work : Loading → List ℕ → Ending) → ((loading : Loading) (key : List ℕ) → P (work loading key))
-    → (catalog key : List ℕ) (reads : Reads) → P (ended (with_house work catalog key reads).given)
+    → (catalog key : List ℕ) (reads : ReadsToCome) → P (ended (with_house work catalog key reads).given)
 house_cases P by_name work by_work catalog key =
     then_cases P by_name (catalog_read catalog) (λ house. key_read key >>= (λ bytes. loaded house >>= (λ loading. done (work loading bytes))))
     (λ house. then_cases P by_name (key_read key) (λ bytes. loaded house >>= (λ loading. done (work loading bytes)))
@@ -56,7 +56,7 @@ house_cases P by_name work by_work catalog key =
 
 -- of a `check`, each program to be checked
 pub check_cases : (P : Ending → Type 0) → ((name : List ℕ) → P (refused name)) → ((tables : Signature) (program : List ℕ) → P (to_check tables program))
-    → (catalog owner file : List ℕ) (reads : Reads) → P (ended (check_steps catalog owner file reads).given)
+    → (catalog owner file : List ℕ) (reads : ReadsToCome) → P (ended (check_steps catalog owner file reads).given)
 check_cases P by_name by_work catalog owner file =
     then_cases P by_name (catalog_read catalog) (λ house. from (entry_named house owner) >>= (λ entry. owner_loaded house owner >>= (λ holding. file_read file >>= (λ program. done (to_check holding.tables program)))))
     (λ house. then_cases P by_name (from (entry_named house owner)) (λ entry. owner_loaded house owner >>= (λ holding. file_read file >>= (λ program. done (to_check holding.tables program))))
@@ -65,7 +65,7 @@ check_cases P by_name by_work catalog owner file =
 
 -- and of a `gap`, each program to be compared
 pub gap_cases : (P : Ending → Type 0) → ((name : List ℕ) → P (refused name)) → ((tables : Signature) (X Y : Dataset) (program : List ℕ) → P (to_compare tables X Y program))
-    → (catalog owner second_catalog file : List ℕ) (reads : Reads) → P (ended (gap_steps catalog owner second_catalog file reads).given)
+    → (catalog owner second_catalog file : List ℕ) (reads : ReadsToCome) → P (ended (gap_steps catalog owner second_catalog file reads).given)
 gap_cases P by_name by_work catalog owner second_catalog file =
     then_cases P by_name (catalog_read catalog) _
     (λ house. then_cases P by_name (from (entry_named house owner)) _
@@ -84,9 +84,9 @@ house_of_run words held catalog name workers loading key commanded is =
     let same : found.2 ≡ loading = cc in
     let bytes : found.1 ≡ key = cc in
     let first = keeps_catalog held catalog in
-    let key_found = subst (λ (rest : Reads). (key_read name rest).given ≡ Ok found.1) first found.4 in
-    let rest_of_key : (key_read name (catalog_read catalog (always held)).rest).rest ≡ always held = ap (λ (rest : Reads). (key_read name rest).rest) first ∙ keeps_key held name in
-    let loads = subst (λ (rest : Reads). (loaded found.0 rest).given ≡ Ok found.2) rest_of_key found.5 in
+    let key_found = subst (λ (rest : ReadsToCome). (key_read name rest).given ≡ Ok found.1) first found.4 in
+    let rest_of_key : (key_read name (catalog_read catalog (always held)).rest).rest ≡ always held = ap (λ (rest : ReadsToCome). (key_read name rest).rest) first ∙ keeps_key held name in
+    let loads = subst (λ (rest : ReadsToCome). (loaded found.0 rest).given ≡ Ok found.2) rest_of_key found.5 in
     let lawful = loaded_register found.0 (always held) found.2 (catalog_lawful catalog (always held) found.0 found.3) loads in
     let its : found.0 ≡ loading.register.catalog = sym lawful.0 ∙ ap (λ (l : Loading). l.register.catalog) same in
     record {
@@ -106,21 +106,21 @@ given_answer (Ok ending) loading key is = ap Ok is
 given_answer (Err name) loading key is = cc
 
 -- no other command comes to a script
-other_house : (loading : Loading) (key : List ℕ) (work : Loading → List ℕ → Ending) → ((l : Loading) (k : List ℕ) → work l k ≡ to_answer loading key → ⊥) → (catalog name : List ℕ) (reads : Reads)
+other_house : (loading : Loading) (key : List ℕ) (work : Loading → List ℕ → Ending) → ((l : Loading) (k : List ℕ) → work l k ≡ to_answer loading key → ⊥) → (catalog name : List ℕ) (reads : ReadsToCome)
     → ended (with_house work catalog name reads).given ≡ to_answer loading key → ⊥
 other_house loading key work other = house_cases (λ ending. ending ≡ to_answer loading key → ⊥) (λ name is. cc) work other
 
-check_answers : (loading : Loading) (key catalog owner file : List ℕ) (reads : Reads) → ended (check_steps catalog owner file reads).given ≡ to_answer loading key → ⊥
+check_answers : (loading : Loading) (key catalog owner file : List ℕ) (reads : ReadsToCome) → ended (check_steps catalog owner file reads).given ≡ to_answer loading key → ⊥
 check_answers loading key = check_cases (λ ending. ending ≡ to_answer loading key → ⊥) (λ name is. cc) (λ tables program is. cc)
 
-gap_answers : (loading : Loading) (key catalog owner second_catalog file : List ℕ) (reads : Reads) → ended (gap_steps catalog owner second_catalog file reads).given ≡ to_answer loading key → ⊥
+gap_answers : (loading : Loading) (key catalog owner second_catalog file : List ℕ) (reads : ReadsToCome) → ended (gap_steps catalog owner second_catalog file reads).given ≡ to_answer loading key → ⊥
 gap_answers loading key = gap_cases (λ ending. ending ≡ to_answer loading key → ⊥) (λ name is. cc) (λ tables X Y program is. cc)
 
 pub house_by : (words : List (List ℕ)) (held : Contents) (loading : Loading) (key : List ℕ) → ending_of words (always held) ≡ to_answer loading key → IsHouseOf words held loading key
 unfolding ending_of
 house_by words held loading key is = here (command_of words) refl is
   where
-    here : (command : Option Command) → command_of words ≡ command → ended (steps_of command (always held)).given ≡ to_answer loading key → IsHouseOf words held loading key
+    here : (command : Option Command) → command_of words ≡ command → ended (command_steps command (always held)).given ≡ to_answer loading key → IsHouseOf words held loading key
     here None was is = cc
     here (Some (run catalog name workers)) was is = house_of_run words held catalog name workers loading key was (given_answer (run_steps catalog name (always held)).given loading key is)
     here (Some (init catalog name)) was is = absurd (other_house loading key to_make (λ l k wrong. cc) catalog name (always held) is)
@@ -129,9 +129,9 @@ house_by words held loading key is = here (command_of words) refl is
     here (Some (check catalog owner file)) was is = absurd (check_answers loading key catalog owner file (always held) is)
 
 -- the ending of the words that are this command, or none
-pub ending_by : (words : List (List ℕ)) (reads : Reads) (command : Option Command) → command_of words ≡ command → ending_of words reads ≡ ended (steps_of command reads).given
+pub ending_by : (words : List (List ℕ)) (reads : ReadsToCome) (command : Option Command) → command_of words ≡ command → ending_of words reads ≡ ended (command_steps command reads).given
 unfolding ending_of
-ending_by words reads command is = ap (λ c. ended (steps_of c reads).given) is
+ending_by words reads command is = ap (λ c. ended (command_steps c reads).given) is
 
 -- a `run` checks no program, and compares none
 pub no_check : (words : List (List ℕ)) (held : Contents) (catalog key : List ℕ) (workers : ℕ) (tables : Signature) (program : List ℕ) → command_of words ≡ Some (run catalog key workers) → ending_of words (always held) ≡ to_check tables program → ⊥

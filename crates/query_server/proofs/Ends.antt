@@ -4,25 +4,27 @@ use Rattle.std.specs.Prelude.{Result, Ok, Err, IsErrAnd}
 use Rattle.std.specs.Io.KnownBytes.{prepend_known, IsAtEnd}
 use mathlib.Core.Logic.{inl, inr}
 use Rattle.query_server.specs.Ending.{Ending, ended}
-use Rattle.query_server.specs.Files.{Contents, IsLeft}
-use Rattle.query_server.specs.Steps.{Outcome, Step}
+use Rattle.catalog_loading.specs.Files.{Contents}
+use Rattle.query_server.specs.Due.{IsLeft}
+use Rattle.catalog_loading.specs.Steps.{StepOutcome, FileStep}
 use Rattle.query_server.specs.Shelves.{Shelf}
 use Rattle.query_server.specs.Run.{script_limit}
 use Rattle.query_server.specs.Due.{AreRead, ForContents, IsDue}
 use Rattle.query_server.specs.Status.{refused_text}
-use Rattle.query_server.specs.Ends.{IsEndOf, IsStepEnd, IsStopAt, end_by, stop_status}
+use Rattle.catalog_loading.specs.Given.{IsStopAt}
+use Rattle.query_server.specs.Ends.{IsEndOf, IsStepEnd, end_by, stop_status}
 use Rattle.query_server.specs.Taken.{IsTaken}
 use Rattle.query_server.specs.declared.end.Status.TheVariants as code
-use Rattle.query_server.specs.declared.end.Stop.{Stop}
-use Rattle.query_server.specs.declared.end.Stop.TheVariants.{Usage, Refused, Journal, Disk, Fault, NoMemory}
+use Rattle.catalog_loading.specs.declared.stops.Stop.{Stop}
+use Rattle.catalog_loading.specs.declared.stops.Stop.TheVariants.{Usage, Refused, Journal, Disk, Fault, NoMemory}
 use Rattle.query_server.specs.declared.end.End.{End}
 use Rattle.query_server.specs.declared.end.End.TheVariants.{Stopped}
 use Rattle.query_server.proofs.Disks.{may_stop_same}
-use Rattle.query_server.proofs.Reached.{IsDone, IsStopped, any_reads}
+use Rattle.catalog_loading.proofs.Reached.{IsDone, IsStopped, any_reads}
 use Rattle.query_server.proofs.Contents.{any_left}
 
 -- What stops a command is due, and its files were read. No disk was taken.
-stop_end : (o : Outcome Ending) (old new : List (List ℕ)) (shelf : Shelf) (script : List ℕ) (stop : Stop) → IsStopAt o old new stop
+stop_end : (o : StepOutcome Ending) (old new : List (List ℕ)) (shelf : Shelf) (script : List ℕ) (stop : Stop) → IsStopAt o old new stop
     → IsEndOf (ended o.given) shelf shelf script (Stopped stop) × AreRead (stop_status stop) o.names old new
 stop_end o old new shelf script Usage is = absurd is
 stop_end o old new shelf script (Journal line) is = absurd is
@@ -36,7 +38,7 @@ stop_end o old new shelf script Fault (some, more, is, both) =
 stop_end o old new shelf script NoMemory (some, more, is, both) =
     (inr (inr (inl refl), may_stop_same (ended o.given) shelf), record { names = some; is = is; some = (more, both); all = inr (inl refl) })
 
-pub stopped_end : (held : Option Contents) (left : Option (List ℕ)) (old new : List (List ℕ)) (shelf : Shelf) (steps : Step Ending) (stop : Stop) → IsStopped held old new steps stop
+pub stopped_end : (held : Option Contents) (left : Option (List ℕ)) (old new : List (List ℕ)) (shelf : Shelf) (steps : FileStep Ending) (stop : Stop) → IsStopped held old new steps stop
     → ForContents held left (IsStepEnd old new shelf shelf steps (Stopped stop))
 stopped_end held left old new shelf steps stop is =
     let some = any_reads held in
@@ -45,14 +47,14 @@ stopped_end held left old new shelf steps stop is =
     (one.0, script.0, one.1, script.1, stop_end (steps one.0) old new shelf script.0 stop one.2)
 
 -- a stop that is passed on
-pub passed_end : {T : Type 0} (held : Option Contents) (left : Option (List ℕ)) (old new : List (List ℕ)) (shelf : Shelf) (steps : Step Ending) (make : T → End) (stop : Stop) (result : Result T Stop)
+pub passed_end : {T : Type 0} (held : Option Contents) (left : Option (List ℕ)) (old new : List (List ℕ)) (shelf : Shelf) (steps : FileStep Ending) (make : T → End) (stop : Stop) (result : Result T Stop)
     → IsStopped held old new steps stop → IsErrAnd result (λ e. e ≡ stop) → ForContents held left (IsStepEnd old new shelf shelf steps (end_by make result))
 passed_end held left old new shelf steps make stop (Ok x) is wrong = absurd wrong
 passed_end held left old new shelf steps make stop (Err other) is same =
     subst (λ (s : Stop). ForContents held left (IsStepEnd old new shelf shelf steps (Stopped s))) (sym same) (stopped_end held left old new shelf steps stop is)
 
 -- What ends the work that the steps gave ends the command.
-pub done_end : (held : Option Contents) (left : Option (List ℕ)) (old new : List (List ℕ)) (before after : Shelf) (steps : Step Ending) (ending : Ending) (script : List ℕ) (end : End)
+pub done_end : (held : Option Contents) (left : Option (List ℕ)) (old new : List (List ℕ)) (before after : Shelf) (steps : FileStep Ending) (ending : Ending) (script : List ℕ) (end : End)
     → IsDone held old new steps ending → IsLeft left script → IsEndOf ending before after script end → ForContents held left (IsStepEnd old new before after steps end)
 done_end held left old new before after steps ending script end is told due =
     let some = any_reads held in
@@ -68,7 +70,7 @@ done_end held left old new before after steps ending script end is told due =
     )
 
 -- Work that fails is no end of its own.
-pub failed_end : (held : Option Contents) (left : Option (List ℕ)) (old new : List (List ℕ)) (before after : Shelf) (steps : Step Ending) (ending : Ending) (end : End) → IsDone held old new steps ending
+pub failed_end : (held : Option Contents) (left : Option (List ℕ)) (old new : List (List ℕ)) (before after : Shelf) (steps : FileStep Ending) (ending : Ending) (end : End) → IsDone held old new steps ending
     → ((script : List ℕ) → IsEndOf ending before after script end) → ForContents held left (IsStepEnd old new before after steps end)
 failed_end held left old new before after steps ending end is due = let script = any_left left in done_end held left old new before after steps ending script.0 end is script.1 (due script.0)
 

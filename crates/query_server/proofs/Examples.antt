@@ -13,10 +13,9 @@ use Rattle.answer_path.specs.Reading.{IsReading, unlexed}
 use Rattle.answer_path.specs.Judgement.{judgement_of, refused_for}
 use Rattle.query_server.specs.Status.{code_of, refused_text, usage_text}
 use Rattle.query_server.specs.Ending.{usage, refused}
-use Rattle.query_server.specs.Steps.{◌>>=◌}
-use Rattle.query_server.specs.Files.{always, readable}
-use Rattle.query_server.specs.Loaded.{Loading, key_read}
-use Rattle.query_server.specs.Opened.{owners_in}
+use Rattle.catalog_loading.specs.Steps.{◌>>=◌}
+use Rattle.catalog_loading.specs.Files.{always, readable}
+use Rattle.catalog_loading.specs.Loaded.{Loading, key_read, owners_in}
 use Rattle.query_server.specs.Shelves.{Shelf, Became, IsOnlySynced}
 use Rattle.query_server.specs.Run.{script_limit, IsAnswerDue, IsScriptDue}
 use Rattle.session_core.specs.Transcript.{Journals}

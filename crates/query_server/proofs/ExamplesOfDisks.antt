@@ -1,5 +1,5 @@
 -- worked examples of journals on the owners' disks: their lines, which are opened, refused, made and counted
-use Rattle.std.proofs.Common.{◌≡◌, ℕ, zero, suc, ◌+◌, ◌*◌, ◌<◌, ◌≤◌, List, [], ◌∷◌, length, Option, Some, None, replicate, true, false, true≢false, refl, sym, ap, subst, arith}
+use Rattle.std.proofs.Common.{◌≡◌, ℕ, zero, suc, ◌+◌, ◌*◌, ◌<◌, ◌≤◌, List, [], ◌∷◌, length, Option, Some, None, replicate, true, false, true≢false, refl, sym, ap, subst, arith, lit<}
 use Rattle.std.specs.Prelude.{codes, pos, slice_index, IfSome}
 use Rattle.std.specs.Fmt.{digits}
 use mathlib.Core.Logic.{inl, inr}
@@ -16,10 +16,10 @@ use Rattle.budget_core.specs.Entries.{Entry}
 use Rattle.owner_catalog.specs.Catalog.{Catalog, OwnerEntry}
 use Rattle.owner_catalog.specs.Digest.{digest_of}
 use Rattle.session_core.specs.Transcript.{Journals}
-use Rattle.query_server.specs.Loaded.{Loading, header_of}
+use Rattle.catalog_loading.specs.Loaded.{Loading, header_of, owner_name_at}
 use Rattle.query_server.specs.Shelves.{Shelf, bytes_on, TellBytes, AreAtHome, Became, IsOnlySynced}
-use Rattle.query_server.specs.Opened.{name_at, IsUnopened, IsRefusedAt, IsRefusalDue}
-use Rattle.query_server.specs.Make.{IsMade, IsExistingDue, made_line}
+use Rattle.query_server.specs.Opened.{IsUnopened, IsRefusedAt, IsRefusalDue}
+use Rattle.query_server.specs.Make.{IsMade, IsExistingDue, MayHaveFailed, made_line}
 use Rattle.query_server.specs.Count.{counted_line, counted_text}
 use Rattle.query_server.specs.Due.{IsDiskLine, IsStopLine}
 use Rattle.query_server.specs.Ending.{refused, to_make, to_count}
@@ -253,12 +253,27 @@ made_over_a_byte header after is = let none : 7 ∷ [] ≡ [] = (is.made (record
 made_with_a_fault : (header : Header) (trace : Option Trace) → IsMade header (shown []) (record { trace = trace; faults = 1 }) → ⊥
 made_with_a_fault header trace is = omega (arith, is.counts)
 
+-- ---- the disk at which an `init` ended: where its count rose it may hold anything, and else nothing was written
+
+abbrev wrote : (bytes more : List ℕ) (faults : ℕ) → Shown
+wrote bytes more faults = record { trace = Some (record { start = bytes; steps = Wrote 0 more ∷ [] }); faults = faults }
+
+failed_disk_may_be_written : (bytes more : List ℕ) → MayHaveFailed (shown bytes) (wrote bytes more 1)
+failed_disk_may_be_written bytes more = (omega arith, inr (λ below. omega arith))
+
+synced_disk : (bytes : List ℕ) → MayHaveFailed (shown bytes) (record { trace = Some (record { start = bytes; steps = Synced ∷ [] }); faults = 0 })
+synced_disk bytes = (omega arith, inl (synced bytes))
+
+written_without_a_fault : (bytes more : List ℕ) → MayHaveFailed (shown bytes) (wrote bytes more 0) → ⊥
+written_without_a_fault bytes more (count, inl only) = written bytes more only
+written_without_a_fault bytes more (count, inr risen) = let no : 0 < 0 = risen (lit< tt) in omega (arith, no)
+
 -- ---- a disk's line is of an owner
 
 second_disk : IsDiskLine (to_count loading key) (codes "disk b\n")
 second_disk = (1, omega arith, refl)
 
-other_at : (o : ℕ) → o < 2 → codes "disk c\n" ≡ disk_text (name_at loading o) → ⊥
+other_at : (o : ℕ) → o < 2 → codes "disk c\n" ≡ disk_text (owner_name_at loading o) → ⊥
 other_at zero lt is = let wrong : 10 ≡ 101 = ap (λ text. slice_index text 6) is in omega (arith, wrong)
 other_at (suc zero) lt is = let wrong : 99 ≡ 98 = ap (λ text. slice_index text 5) is in omega (arith, wrong)
 other_at (suc (suc o)) lt is = omega (arith, lt)

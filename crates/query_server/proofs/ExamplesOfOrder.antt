@@ -4,17 +4,17 @@ use Rattle.std.specs.Prelude.{Result, Ok, Err, codes, pos, ok_or}
 use Rattle.fz_ast.specs.declared.row.Column.TheVariants.{Num}
 use Rattle.owner_catalog.specs.Catalog.{OwnerEntry, TableEntry, Catalog, owner_signature}
 use Rattle.query_server.specs.Ending.{usage, Ending, to_answer, to_make, to_count, to_check, to_compare}
-use Rattle.query_server.specs.Files.{Reads, always, readable, Contents}
-use Rattle.query_server.specs.Steps.{Outcome, ◌>>=◌, behind, each, file_read, Step, continued}
-use Rattle.query_server.specs.Loaded.{LoadedTable, LoadedOwner, Loading, key_read, catalog_read, table_read, owner_read, loaded, with_house}
+use Rattle.catalog_loading.specs.Files.{ReadsToCome, always, readable, Contents}
+use Rattle.catalog_loading.specs.Steps.{StepOutcome, ◌>>=◌, behind, one_by_one, file_read, FileStep, continued}
+use Rattle.catalog_loading.specs.Loaded.{LoadedTable, LoadedOwner, Loading, key_read, catalog_read, table_read, owner_read, loaded, with_house}
 use Rattle.query_server.specs.Run.{run_steps}
 use Rattle.query_server.specs.Make.{make_steps}
 use Rattle.query_server.specs.Count.{count_steps}
 use Rattle.query_server.specs.Check.{check_steps}
 use Rattle.query_server.specs.Gap.{gap_steps}
-use Rattle.query_server.specs.Due.{files_of, steps_of}
+use Rattle.query_server.specs.Due.{files_of, command_steps}
 use Rattle.metric_values.specs.Values.{Flat, NumF}
-use Rattle.answer_path.specs.Owner.{Holding}
+use Rattle.part_views.specs.Holding.{Holding}
 use Rattle.command_words.specs.Command.{Command, check, command_of}
 use Rattle.command_words.proofs.Plain.{plain_is_tabled}
 
@@ -25,14 +25,14 @@ abbrev b : List ℕ
 b = codes "b"
 
 -- what each of two reads finds in a file: first these bytes, and then no such file
-once : List ℕ → Reads
+once : List ℕ → ReadsToCome
 once bytes zero name = Some bytes
 once bytes (suc n) name = None
 
-abbrev came_to : {A : Type 0} → A → (names : List (List ℕ)) → Reads → Outcome A
+abbrev came_to : {A : Type 0} → A → (names : List (List ℕ)) → ReadsToCome → StepOutcome A
 came_to x names reads = record { given = Ok x; names = names; rest = reads }
 
-abbrev stopped_at : {A : Type 0} → (name : List ℕ) → (names : List (List ℕ)) → Reads → Outcome A
+abbrev stopped_at : {A : Type 0} → (name : List ℕ) → (names : List (List ℕ)) → ReadsToCome → StepOutcome A
 stopped_at name names reads = record { given = Err name; names = names; rest = reads }
 
 -- a file that is read twice is read by its name twice, and may have changed
@@ -41,30 +41,30 @@ unfolding ◌>>=◌ once
 read_twice = refl
 
 -- nothing is read behind a step that refuses a name
-one_refused : each file_read (a ∷ b ∷ a ∷ []) (once (1 ∷ [])) ≡ stopped_at b (a ∷ b ∷ []) (λ n name. None)
-unfolding ◌>>=◌ each once
+one_refused : one_by_one file_read (a ∷ b ∷ a ∷ []) (once (1 ∷ [])) ≡ stopped_at b (a ∷ b ∷ []) (λ n name. None)
+unfolding ◌>>=◌ one_by_one once
 one_refused = refl
 
-all_given : (each file_read (a ∷ b ∷ []) (always (λ name. Some name))) ≡ came_to (a ∷ b ∷ []) (a ∷ b ∷ []) (always (λ name. Some name))
-unfolding ◌>>=◌ each
+all_given : (one_by_one file_read (a ∷ b ∷ []) (always (λ name. Some name))) ≡ came_to (a ∷ b ∷ []) (a ∷ b ∷ []) (always (λ name. Some name))
+unfolding ◌>>=◌ one_by_one
 all_given = refl
 
 -- ---- the order of work: each step is refused where all before it are done
 
 -- over these files a step comes to this, and reads these names
-abbrev Comes : {A : Type 0} → Step A → Contents → Result A (List ℕ) → (names : List (List ℕ)) → Type 0
+abbrev Comes : {A : Type 0} → FileStep A → Contents → Result A (List ℕ) → (names : List (List ℕ)) → Type 0
 Comes step held given names = step (always held) ≡ record { given = given; names = names; rest = always held }
 
-goes_on : {A B : Type 0} → (step : Step A) (next : A → Step B) (held : Contents) (x : A) (given : Result B (List ℕ)) (names more : List (List ℕ))
+goes_on : {A B : Type 0} → (step : FileStep A) (next : A → FileStep B) (held : Contents) (x : A) (given : Result B (List ℕ)) (names more : List (List ℕ))
     → Comes step held (Ok x) names → Comes (next x) held given more → Comes (step >>= next) held given (names ++ more)
 unfolding ◌>>=◌
 goes_on {A = A} {B = B} step next held x given names more is comes =
-    ap (λ (o : Outcome A). continued o.given o.names o.rest next) is ∙ ap (λ (o : Outcome B). behind names o) comes
+    ap (λ (o : StepOutcome A). continued o.given o.names o.rest next) is ∙ ap (λ (o : StepOutcome B). behind names o) comes
 
-stops : {A B : Type 0} → (step : Step A) (next : A → Step B) (held : Contents) (name : List ℕ) (names : List (List ℕ))
+stops : {A B : Type 0} → (step : FileStep A) (next : A → FileStep B) (held : Contents) (name : List ℕ) (names : List (List ℕ))
     → Comes step held (Err name) names → Comes (step >>= next) held (Err name) names
 unfolding ◌>>=◌
-stops {A = A} step next held name names is = ap (λ (o : Outcome A). continued o.given o.names o.rest next) is
+stops {A = A} step next held name names is = ap (λ (o : StepOutcome A). continued o.given o.names o.rest next) is
 
 abbrev cat : List ℕ
 cat = codes "cat.json"
@@ -110,7 +110,7 @@ abbrev rows : List Flat
 rows = NumF (pos 1) ∷ []
 
 abbrev holding : (name file : List ℕ) → Holding
-holding name file = record { tables = owner_signature (with_table name file); rows = rows ∷ [] }
+holding name file = record { tables = owner_signature (with_table name file); rows = rows ∷ []; partitions = [] }
 
 -- the SHA-256 of a table's file
 abbrev hash : List ℕ
@@ -132,7 +132,7 @@ abbrev HasSecond : Contents → Type 0
 HasSecond held = Comes (catalog_read second) held (Ok one) (second ∷ [])
 
 -- a file as a table of these owners: it holds rows, or is refused
-abbrev rows_in : (file : List ℕ) → Step LoadedTable
+abbrev rows_in : (file : List ℕ) → FileStep LoadedTable
 rows_in file = table_read (table_in file)
 
 abbrev HasRows : Contents → (file : List ℕ) → Type 0
@@ -143,37 +143,37 @@ HasNone held file = Comes (rows_in file) held (Err file) (file ∷ [])
 
 -- what an owner of one table holds
 held_by : (held : Contents) (name file : List ℕ) → HasRows held file → Comes (owner_read (with_table name file)) held (Ok (owner_held name file)) (file ∷ [])
-unfolding each
+unfolding one_by_one
 held_by held name csv has = goes_on _ _ held _ _ _ _ (goes_on _ _ held _ _ _ _ has (goes_on _ _ held _ _ _ _ refl refl)) refl
 
 unheld_by : (held : Contents) (name file : List ℕ) → HasNone held file → Comes (owner_read (with_table name file)) held (Err file) (file ∷ [])
-unfolding each
+unfolding one_by_one
 unheld_by held name csv has = stops _ _ held _ _ (stops _ _ held _ _ has)
 
 -- the tables of all owners, in order
 all_loaded : (held : Contents) → HasRows held a_csv → HasRows held b_csv
     → Comes (loaded both) held (Ok loading) (a_csv ∷ b_csv ∷ [])
-unfolding each
+unfolding one_by_one
 all_loaded held first second =
     goes_on _ _ held _ _ _ _ (goes_on _ _ held _ _ _ _ (held_by held a a_csv first)
     (goes_on _ _ held _ _ _ _ (goes_on _ _ held _ _ _ _ (held_by held b b_csv second) (goes_on _ _ held _ _ _ _ refl refl)) refl)) refl
 
 first_table_refused : (held : Contents) → HasNone held a_csv → Comes (loaded both) held (Err a_csv) (a_csv ∷ [])
-unfolding each
+unfolding one_by_one
 first_table_refused held first = stops _ _ held _ _ (stops _ _ held _ _ (unheld_by held a a_csv first))
 
 second_table_refused : (held : Contents) → HasRows held a_csv → HasNone held b_csv
     → Comes (loaded both) held (Err b_csv) (a_csv ∷ b_csv ∷ [])
-unfolding each
+unfolding one_by_one
 second_table_refused held first second =
     stops _ _ held _ _ (goes_on _ _ held _ _ _ _ (held_by held a a_csv first) (stops _ _ held _ _ (stops _ _ held _ _ (unheld_by held b b_csv second))))
 
 all_of_second : (held : Contents) → HasRows held c_csv → Comes (loaded one) held (Ok (record { register = record { catalog = one; holdings = holding a c_csv ∷ [] }; hashes = (hash ∷ []) ∷ [] })) (c_csv ∷ [])
-unfolding each
+unfolding one_by_one
 all_of_second held has = goes_on _ _ held _ _ _ _ (goes_on _ _ held _ _ _ _ (held_by held a c_csv has) (goes_on _ _ held _ _ _ _ refl refl)) refl
 
 none_of_second : (held : Contents) → HasNone held c_csv → Comes (loaded one) held (Err c_csv) (c_csv ∷ [])
-unfolding each
+unfolding one_by_one
 none_of_second held none = stops _ _ held _ _ (stops _ _ held _ _ (unheld_by held a c_csv none))
 
 -- a program's file
@@ -260,7 +260,7 @@ gap_whole held has has_second first other third file =
     (goes_on _ _ held _ _ _ _ (program_read held (Some (codes "1")) file) refl))))))
 
 -- faulty words read nothing, and the names of the others are those of their steps
-no_words : (held : Contents) → Comes (steps_of None) held (Ok usage) []
+no_words : (held : Contents) → Comes (command_steps None) held (Ok usage) []
 no_words held = refl
 
 is_check : command_of (codes "check" ∷ cat ∷ a ∷ program ∷ []) ≡ Some (check cat a program)
@@ -270,5 +270,5 @@ check_words : (held : Contents) → HasCatalog held → HasRows held a_csv → H
     → files_of (codes "check" ∷ cat ∷ a ∷ program ∷ []) (always held) ≡ cat ∷ a_csv ∷ b_csv ∷ program ∷ []
 unfolding files_of
 check_words held has first second none =
-    ap (λ (command : Option Command). (steps_of command (always held)).names) is_check
-    ∙ ap (λ (o : Outcome Ending). o.names) (check_file held has first second none)
+    ap (λ (command : Option Command). (command_steps command (always held)).names) is_check
+    ∙ ap (λ (o : StepOutcome Ending). o.names) (check_file held has first second none)

@@ -10,13 +10,13 @@ use Rattle.journal_records.specs.declared.records.Record.{Record}
 use Rattle.budget_core.specs.Entries.{Entry}
 use Rattle.session_core.specs.Transcript.{Journals}
 use Rattle.command_words.specs.Command.{Command, init, run, audit, check, gap, command_of}
-use Rattle.query_server.specs.Files.{Reads}
-use Rattle.query_server.specs.Loaded.{Loading, header_of}
+use Rattle.catalog_loading.specs.Files.{ReadsToCome}
+use Rattle.catalog_loading.specs.Loaded.{Loading, header_of, entry_at, owners_in}
 use Rattle.query_server.specs.Ending.{ended, refused, to_answer, to_make, to_count}
 use Rattle.query_server.specs.Shelves.{Shelf, AreAtHome, Became, TellBytes, bytes_on}
-use Rattle.query_server.specs.Opened.{AreOpened, IsOpened, IsUnopened, entry_at, owners_in}
+use Rattle.query_server.specs.Opened.{AreOpened, IsOpened, IsUnopened}
 use Rattle.query_server.specs.Make.{AreMadeBefore}
-use Rattle.query_server.specs.Due.{IfFinished, IsDue, IsOfDisks, ending_of, steps_of}
+use Rattle.query_server.specs.Due.{IfFinished, IsDue, IsOfDisks, ending_of, command_steps}
 use Rattle.query_server.specs.Ends.{IsEndOf}
 use Rattle.query_server.specs.declared.refusals.JournalRefusal.{JournalRefusal}
 use Rattle.query_server.specs.declared.refusals.JournalRefusal.TheVariants.{Uninitialised, Changed, Damaged, Exists}
@@ -24,7 +24,7 @@ use Rattle.query_server.specs.declared.end.Status.{Status}
 use Rattle.query_server.specs.declared.end.Status.TheVariants as code
 use Rattle.query_server.specs.declared.end.End.{End}
 use Rattle.query_server.specs.declared.end.End.TheVariants.{Stopped}
-use Rattle.query_server.specs.declared.end.Stop.TheVariants.{Fault}
+use Rattle.catalog_loading.specs.declared.stops.Stop.TheVariants.{Fault}
 use Rattle.query_server.proofs.Endings.{house_cases}
 use Rattle.query_server.proofs.Unopened.{not_refused}
 
@@ -89,7 +89,7 @@ count_back b a script end loading key (inl (inl refusal)) = became_back _ _ b a 
 count_back b a script end loading key (inl (inr (found, opened, done, text, disks))) = became_back _ _ b a disks
 count_back b a script end loading key (inr (cut, disks)) = became_back _ _ b a disks
 
-command_back : (command : Option Command) (reads : Reads) (b a : Shelf) (script : List ℕ) (end : End) → IsOfDisks command → IsEndOf (ended (steps_of command reads).given) b a script end → AreBack b a
+command_back : (command : Option Command) (reads : ReadsToCome) (b a : Shelf) (script : List ℕ) (end : End) → IsOfDisks command → IsEndOf (ended (command_steps command reads).given) b a script end → AreBack b a
 command_back None reads b a script end takes due = absurd takes
 command_back (Some (run catalog key workers)) reads b a script end takes due =
     house_cases (λ e. IsEndOf e b a script end → AreBack b a) (λ name. refused_back name b a script end) to_answer (answer_back b a script end) catalog key reads due
@@ -101,7 +101,7 @@ command_back (Some (check catalog owner file)) reads b a script end takes due = 
 command_back (Some (gap catalog owner second_catalog file)) reads b a script end takes due = absurd takes
 
 -- Every disk is at home again.
-pub home_again : {T : Type 0} (shelf : T → Shelf) (words : List (List ℕ)) (old new : T) (reads : Reads) (script : List ℕ) (end : End) → IsOfDisks (command_of words) ⊎ (new ≡ old)
+pub home_again : {T : Type 0} (shelf : T → Shelf) (words : List (List ℕ)) (old new : T) (reads : ReadsToCome) (script : List ℕ) (end : End) → IsOfDisks (command_of words) ⊎ (new ≡ old)
     → IsEndOf (ending_of words reads) (shelf old) (shelf new) script end → AreBack (shelf old) (shelf new)
 unfolding ending_of
 home_again shelf words old new reads script end (inl takes) due = command_back (command_of words) reads (shelf old) (shelf new) script end takes due

@@ -1,20 +1,20 @@
 -- Journals made up to one that isn't.
-use Rattle.std.proofs.Common.{◌≡◌, ◌<◌, ◌≤◌, ◌∙◌, ℕ, List, length, Option, Some, None, refl, subst, arith}
-use Rattle.std.specs.Prelude.{◌≢◌, IfSome, option_map, option_and_then}
+use Rattle.std.proofs.Common.{◌≡◌, ◌<◌, ◌≤◌, ◌∙◌, ℕ, List, length, Option, Some, None, refl, subst, sym, arith}
+use Rattle.std.specs.Prelude.{◌≢◌, Err, IfErr, IfSome, IsErrAnd, IsSome, Ok, Result, option_map, option_and_then}
 use mathlib.Core.Logic.{inl, inr}
 use Rattle.outside_disks.specs.Disks.{Shown, Trace, seen_of}
 use Rattle.budget_journal.specs.declared.making.InitFault.{InitFault}
 use Rattle.budget_journal.specs.declared.making.InitFault.TheVariants.{AlreadyThere, DiskFault}
-use Rattle.query_server.specs.Loaded.{Loading, header_of}
-use Rattle.query_server.specs.Opened.{name_at, owners_in}
+use Rattle.catalog_loading.specs.Loaded.{Loading, header_of, owner_name_at, owners_in}
 use Rattle.query_server.specs.Shelves.{Shelf, Became, IsOnlySynced}
-use Rattle.query_server.specs.Make.{AreMadeBefore, IsMade}
+use Rattle.query_server.specs.Make.{AreMadeBefore, IsMade, MayHaveFailed}
 use Rattle.query_server.specs.Ending.{to_make}
 use Rattle.query_server.specs.Ends.{IsEndOf}
 use Rattle.query_server.specs.declared.end.End.TheVariants.{Stopped}
+use Rattle.query_server.proofs.Disks.{none_made, synced_same}
 use Rattle.query_server.specs.Making.{IsMakeStop, IsUnmade, IsUnmadeStop, Turned}
-use Rattle.query_server.specs.declared.end.Stop.{Stop}
-use Rattle.query_server.specs.declared.end.Stop.TheVariants.{Usage, Refused, Journal, Disk, Fault, NoMemory}
+use Rattle.catalog_loading.specs.declared.stops.Stop.{Stop}
+use Rattle.catalog_loading.specs.declared.stops.Stop.TheVariants.{Usage, Refused, Journal, Disk, Fault, NoMemory}
 
 abbrev Goings : Type 1
 Goings = Shown → Shown → Type 0
@@ -53,13 +53,22 @@ there n (Some b) (Some a) unmade = (unmade.0, told_long n b.trace unmade.1)
 there n (Some b) None unmade = absurd unmade
 there n None new unmade = absurd unmade
 
-later : (fault : InitFault) (b a : Shown) → IsUnmade fault b a → b.faults ≤ a.faults
-later (AlreadyThere n) b a unmade = unmade.2.counts
-later DiskFault b a unmade = unmade
+failed : (fault : InitFault) (b a : Shown) → IsUnmade fault b a → MayHaveFailed b a
+failed (AlreadyThere n) b a unmade = (unmade.2.counts, inl unmade.2)
+failed DiskFault b a unmade = unmade
+
+-- a disk that the bay didn't give is as it was
+pub untaken : (fault : InitFault) (old new : Option Shown) → IsSome old → new ≡ old → fault ≡ DiskFault → Turned (IsUnmade fault) old new
+untaken (AlreadyThere n) old new home same is = cc is
+untaken DiskFault (Some b) (Some a) home same is =
+    let one : a ≡ b = cc same in
+    subst (λ (s : Shown). MayHaveFailed b s) (sym one) (omega arith, inl (synced_same b))
+untaken DiskFault (Some b) None home same is = cc same
+untaken DiskFault None new home same is = cc home
 
 pub making_stopped : (loading : Loading) (key : List ℕ) (o : ℕ) (old mid new : Shelf) (fault : InitFault) (stop : Stop)
     → Became o (λ p. IsMade (header_of loading key p)) old mid → Turned (IsUnmade fault) (mid o) (new o) → ((p : ℕ) → p ≢ o → new p ≡ mid p)
-    → o < owners_in loading → IsUnmadeStop (name_at loading o) fault stop → IsMakeStop loading key old new stop
+    → o < owners_in loading → IsUnmadeStop (owner_name_at loading o) fault stop → IsMakeStop loading key old new stop
 making_stopped loading key o old mid new (AlreadyThere n) (Journal line) made turn others within is =
     let long = there n (mid o) (new o) turn in (
       o,
@@ -80,12 +89,18 @@ making_stopped loading key o old mid new DiskFault Fault made turn others within
 making_stopped loading key o old mid new (AlreadyThere n) (Disk line) made turn others within is = absurd is
 making_stopped loading key o old mid new DiskFault (Journal line) made turn others within is = absurd is
 making_stopped loading key o old mid new DiskFault (Disk line) made turn others within is =
-    (o, within, is, made_before loading key o (λ b a. b.faults ≤ a.faults) old mid new made turn others)
+    (o, within, is, made_before loading key o MayHaveFailed old mid new made turn others)
 making_stopped loading key o old mid new fault NoMemory made turn others within is = (
   o,
-  made_before loading key o (λ b a. b.faults ≤ a.faults) old mid new made
-      (turned_more (IsUnmade fault) (λ b a. b.faults ≤ a.faults) (mid o) (new o) (later fault) turn) others,
+  made_before loading key o MayHaveFailed old mid new made
+      (turned_more (IsUnmade fault) MayHaveFailed (mid o) (new o) (failed fault) turn) others,
 )
+
+-- where memory ran out before any was made
+pub none_stopped : {T : Type 0} (loading : Loading) (key : List ℕ) (shelf : Shelf) (stop : Stop) (result : Result T Stop) → stop ≡ NoMemory → IsErrAnd result (λ e. e ≡ stop)
+    → IfErr result (IsMakeStop loading key shelf shelf)
+none_stopped loading key shelf stop (Ok x) is same = tt
+none_stopped loading key shelf stop (Err e) is same = subst (IsMakeStop loading key shelf shelf) (sym (same ∙ is)) (0, none_made loading key shelf)
 
 -- what stops the making ends an `init`
 pub make_stop_end : (loading : Loading) (key : List ℕ) (old new : Shelf) (stop : Stop) (script : List ℕ) → IsMakeStop loading key old new stop

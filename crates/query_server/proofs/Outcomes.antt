@@ -11,21 +11,21 @@ use Rattle.metric_values.specs.Tables.{Dataset}
 use Rattle.session_core.specs.Transcript.{Journals}
 use Rattle.command_words.specs.Command.{Command, init, run, audit, check, gap, command_of}
 use Rattle.query_server.specs.Ending.{Ending, ended, usage, refused, to_answer, to_make, to_count, to_check, to_compare}
-use Rattle.query_server.specs.Files.{Contents, Reads, always}
-use Rattle.query_server.specs.Loaded.{Loading}
+use Rattle.catalog_loading.specs.Files.{Contents, ReadsToCome, always}
+use Rattle.catalog_loading.specs.Loaded.{Loading, owners_in}
 use Rattle.query_server.specs.Shelves.{Shelf, Became, IsOnlySynced}
-use Rattle.query_server.specs.Opened.{AreOpened, owners_in}
+use Rattle.query_server.specs.Opened.{AreOpened}
 use Rattle.query_server.specs.Run.{IsScriptAnswered, IsScriptDue, script_limit}
 use Rattle.query_server.specs.Check.{status_by}
 use Rattle.query_server.specs.Gap.{IsGapDue}
 use Rattle.query_server.specs.Status.{refused_text, memory_text}
-use Rattle.query_server.specs.Due.{AreRead, ForContents, IfFinished, IsDiskLine, IsDue, IsFaultyWordsEnd, IsForProgram, IsOfDisks, IsOfProgram, IsOfRun, IsPrefix, IsStopLine, IsToWrite, IsWrittenAt, MayStop, ending_of, files_of, steps_of}
+use Rattle.query_server.specs.Due.{AreRead, ForContents, IfFinished, IsDiskLine, IsDue, IsFaultyWordsEnd, IsForProgram, IsOfDisks, IsOfProgram, IsOfRun, IsPrefix, IsStopLine, IsToWrite, IsWrittenAt, MayStop, ending_of, files_of, command_steps}
 use Rattle.query_server.specs.Promise.{IsAnsweredScript, IsRunLeft}
 use Rattle.query_server.specs.Ends.{IsCut, IsEndOf, IsEndingWith, IsStepEnd, status_at, text_at}
 use Rattle.query_server.specs.Taken.{IsTakenAt}
 use Rattle.query_server.specs.declared.end.Status.{Status}
 use Rattle.query_server.specs.declared.end.Status.TheVariants as code
-use Rattle.query_server.specs.declared.end.Stop.TheVariants.{Usage, Fault, NoMemory}
+use Rattle.catalog_loading.specs.declared.stops.Stop.TheVariants.{Usage, Fault, NoMemory}
 use Rattle.query_server.specs.declared.end.End.{End}
 use Rattle.query_server.specs.declared.end.End.TheVariants.{Stopped}
 use Rattle.query_server.proofs.Judged.{gap_status}
@@ -207,7 +207,7 @@ verdict_by ending b a tables program script reading status text is reads written
     finished_map status (IsDue ending b a script status text) (status ≡ status_by (judgement_of tables reading)) (verdict_due ending b a tables program script reading status text is reads)
     (finished_due ending b a script status text written)
 
-usage_of : (command : Option Command) (reads : Reads) → IsStatusOf (ended (steps_of command reads).given) code.Usage → command ≡ None
+usage_of : (command : Option Command) (reads : ReadsToCome) → IsStatusOf (ended (command_steps command reads).given) code.Usage → command ≡ None
 usage_of None reads is = refl
 usage_of (Some (run catalog key workers)) reads is = absurd (house_cases (λ ending. IsStatusOf ending code.Usage → ⊥) (λ name is. cc) to_answer
     (λ loading key is. one_of_three code.Usage code.Done code.ScriptTooLong code.JournalRefused (λ w. cc) (λ w. cc) (λ w. cc) is) catalog key reads is)
@@ -220,7 +220,7 @@ usage_of (Some (check catalog owner file)) reads is =
 usage_of (Some (gap catalog owner second_catalog file)) reads is =
     absurd (gap_cases (λ ending. IsStatusOf ending code.Usage → ⊥) (λ name is. cc) (λ tables X Y program is. either code.Usage code.Done code.ProgramRefused (λ w. cc) (λ w. cc) is) catalog owner second_catalog file reads is)
 
-program_of : (command : Option Command) (reads : Reads) → IsStatusOf (ended (steps_of command reads).given) code.ProgramRefused → IsOfProgram command
+program_of : (command : Option Command) (reads : ReadsToCome) → IsStatusOf (ended (command_steps command reads).given) code.ProgramRefused → IsOfProgram command
 program_of None reads is = let wrong : code.ProgramRefused ≡ code.Usage = is in cc
 program_of (Some (run catalog key workers)) reads is = absurd (house_cases (λ ending. IsStatusOf ending code.ProgramRefused → ⊥) (λ name is. cc) to_answer
     (λ loading key is. one_of_three code.ProgramRefused code.Done code.ScriptTooLong code.JournalRefused (λ w. cc) (λ w. cc) (λ w. cc) is) catalog key reads is)
@@ -231,7 +231,7 @@ program_of (Some (audit catalog key)) reads is = absurd (house_cases (λ ending.
 program_of (Some (check catalog owner file)) reads is = tt
 program_of (Some (gap catalog owner second_catalog file)) reads is = tt
 
-run_of : (command : Option Command) (reads : Reads) → IsStatusOf (ended (steps_of command reads).given) code.ScriptTooLong → IsOfRun command
+run_of : (command : Option Command) (reads : ReadsToCome) → IsStatusOf (ended (command_steps command reads).given) code.ScriptTooLong → IsOfRun command
 run_of None reads is = let wrong : code.ScriptTooLong ≡ code.Usage = is in cc
 run_of (Some (run catalog key workers)) reads is = tt
 run_of (Some (init catalog key)) reads is = absurd (house_cases (λ ending. IsStatusOf ending code.ScriptTooLong → ⊥) (λ name is. cc) to_make
@@ -244,7 +244,7 @@ run_of (Some (gap catalog owner second_catalog file)) reads is =
     absurd (gap_cases (λ ending. IsStatusOf ending code.ScriptTooLong → ⊥) (λ name is. cc) (λ tables X Y program is. either code.ScriptTooLong code.Done code.ProgramRefused (λ w. cc) (λ w. cc) is) catalog owner second_catalog file reads is)
 
 -- a journal is refused to a command that takes the owners' disks
-disks_of : (command : Option Command) (reads : Reads) → IsStatusOf (ended (steps_of command reads).given) code.JournalRefused → IsOfDisks command
+disks_of : (command : Option Command) (reads : ReadsToCome) → IsStatusOf (ended (command_steps command reads).given) code.JournalRefused → IsOfDisks command
 disks_of None reads is = let wrong : code.JournalRefused ≡ code.Usage = is in cc
 disks_of (Some (run catalog key workers)) reads is = tt
 disks_of (Some (init catalog key)) reads is = tt
@@ -255,30 +255,30 @@ disks_of (Some (gap catalog owner second_catalog file)) reads is =
     absurd (gap_cases (λ ending. IsStatusOf ending code.JournalRefused → ⊥) (λ name is. cc) (λ tables X Y program is. either code.JournalRefused code.Done code.ProgramRefused (λ w. cc) (λ w. cc) is) catalog owner second_catalog file reads is)
 
 -- the status of what is written, where it is of no failure
-status_written : (words : List (List ℕ)) (reads : Reads) (b a : Shelf) (script : List ℕ) (status wanted : Status) (text : List ℕ) → status ≡ wanted → (wanted ≡ code.Fault → ⊥) → (wanted ≡ code.NoMemory → ⊥)
+status_written : (words : List (List ℕ)) (reads : ReadsToCome) (b a : Shelf) (script : List ℕ) (status wanted : Status) (text : List ℕ) → status ≡ wanted → (wanted ≡ code.Fault → ⊥) → (wanted ≡ code.NoMemory → ⊥)
     → (wanted ≡ code.DiskFault → ⊥) → IsWrittenAt (ending_of words reads) b a script status text → IsStatusOf (ending_of words reads) wanted
 status_written words reads b a script status wanted text is fault memory disk written =
     subst (IsStatusOf (ending_of words reads)) is
     (written_status (ending_of words reads) b a script status text (λ w. fault (sym is ∙ w)) (λ w. memory (sym is ∙ w)) (λ w. disk (sym is ∙ w)) written)
 
-pub usage_by : (words : List (List ℕ)) (reads : Reads) (b a : Shelf) (script : List ℕ) (status : Status) (text : List ℕ) → status ≡ code.Usage → IsWrittenAt (ending_of words reads) b a script status text → command_of words ≡ None
+pub usage_by : (words : List (List ℕ)) (reads : ReadsToCome) (b a : Shelf) (script : List ℕ) (status : Status) (text : List ℕ) → status ≡ code.Usage → IsWrittenAt (ending_of words reads) b a script status text → command_of words ≡ None
 unfolding ending_of
 usage_by words reads b a script status text is written =
     usage_of (command_of words) reads (status_written words reads b a script status code.Usage text is (λ w. cc) (λ w. cc) (λ w. cc) written)
 
-pub of_program_by : (words : List (List ℕ)) (reads : Reads) (b a : Shelf) (script : List ℕ) (status : Status) (text : List ℕ) → status ≡ code.ProgramRefused → IsWrittenAt (ending_of words reads) b a script status text
+pub of_program_by : (words : List (List ℕ)) (reads : ReadsToCome) (b a : Shelf) (script : List ℕ) (status : Status) (text : List ℕ) → status ≡ code.ProgramRefused → IsWrittenAt (ending_of words reads) b a script status text
     → IsOfProgram (command_of words)
 unfolding ending_of
 of_program_by words reads b a script status text is written =
     program_of (command_of words) reads (status_written words reads b a script status code.ProgramRefused text is (λ w. cc) (λ w. cc) (λ w. cc) written)
 
-pub of_run_by : (words : List (List ℕ)) (reads : Reads) (b a : Shelf) (script : List ℕ) (status : Status) (text : List ℕ) → status ≡ code.ScriptTooLong → IsWrittenAt (ending_of words reads) b a script status text
+pub of_run_by : (words : List (List ℕ)) (reads : ReadsToCome) (b a : Shelf) (script : List ℕ) (status : Status) (text : List ℕ) → status ≡ code.ScriptTooLong → IsWrittenAt (ending_of words reads) b a script status text
     → IsOfRun (command_of words)
 unfolding ending_of
 of_run_by words reads b a script status text is written =
     run_of (command_of words) reads (status_written words reads b a script status code.ScriptTooLong text is (λ w. cc) (λ w. cc) (λ w. cc) written)
 
-pub of_disks_by : (words : List (List ℕ)) (reads : Reads) (b a : Shelf) (script : List ℕ) (status : Status) (text : List ℕ) → status ≡ code.JournalRefused → IsWrittenAt (ending_of words reads) b a script status text
+pub of_disks_by : (words : List (List ℕ)) (reads : ReadsToCome) (b a : Shelf) (script : List ℕ) (status : Status) (text : List ℕ) → status ≡ code.JournalRefused → IsWrittenAt (ending_of words reads) b a script status text
     → IsOfDisks (command_of words)
 unfolding ending_of
 of_disks_by words reads b a script status text is written =
@@ -357,10 +357,10 @@ read_with end status text files old new with is = here with.whole
     here (inr fault) = record { names = is.names; is = is.is; some = is.some; all = inl fault }
 
 -- How words end over some contents, and what is written at that.
-abbrev pub Ends : (words : List (List ℕ)) → (old new : List (List ℕ)) → (b a : Shelf) → End → Reads → (script : List ℕ) → Type 0
+abbrev pub Ends : (words : List (List ℕ)) → (old new : List (List ℕ)) → (b a : Shelf) → End → ReadsToCome → (script : List ℕ) → Type 0
 Ends words old new b a end reads script = IsEndOf (ending_of words reads) b a script end × AreRead (status_at end) (files_of words reads) old new
 
-abbrev pub Comes : (words : List (List ℕ)) → (old new : List (List ℕ)) → (b a : Shelf) → (status : Status) → (text : List ℕ) → Reads → (script : List ℕ) → Type 0
+abbrev pub Comes : (words : List (List ℕ)) → (old new : List (List ℕ)) → (b a : Shelf) → (status : Status) → (text : List ℕ) → ReadsToCome → (script : List ℕ) → Type 0
 Comes words old new b a status text reads script = IsWrittenAt (ending_of words reads) b a script status text × AreRead status (files_of words reads) old new
 
 pub all_written : (words : List (List ℕ)) (held : Option Contents) (left : Option (List ℕ)) (old new : List (List ℕ)) (b a : Shelf) (end : End) (status : Status) (text : List ℕ) → IsEndingWith end status text
@@ -370,14 +370,14 @@ all_written words held left old new b a end status text with = for_contents held
 
 -- A command's steps end so: so do its words.
 pub command_end : (words : List (List ℕ)) (command : Option Command) (held : Option Contents) (left : Option (List ℕ)) (old new : List (List ℕ)) (b a : Shelf) (end : End) → command_of words ≡ command
-    → ForContents held left (IsStepEnd old new b a (steps_of command) end) → ForContents held left (Ends words old new b a end)
+    → ForContents held left (IsStepEnd old new b a (command_steps command) end) → ForContents held left (Ends words old new b a end)
 unfolding ending_of files_of
-command_end words command held left old new b a end is = subst (λ (c : Option Command). ForContents held left (IsStepEnd old new b a (steps_of c) end) → ForContents held left (Ends words old new b a end)) is (λ ends. ends)
+command_end words command held left old new b a end is = subst (λ (c : Option Command). ForContents held left (IsStepEnd old new b a (command_steps c) end) → ForContents held left (Ends words old new b a end)) is (λ ends. ends)
 
 -- Faulty words, and want of memory before anything is read.
 pub faulty_end : (words : List (List ℕ)) (held : Option Contents) (left : Option (List ℕ)) (old : List (List ℕ)) (shelf : Shelf) → command_of words ≡ None → ForContents held left (Ends words old old shelf shelf (Stopped Usage))
 faulty_end words held left old shelf none = command_end words None held left old old shelf shelf (Stopped Usage) none
-    (at_some held left (IsStepEnd old old shelf shelf (steps_of None) (Stopped Usage))
+    (at_some held left (IsStepEnd old old shelf shelf (command_steps None) (Stopped Usage))
     (λ reads script. (inl (refl, refl, λ n. refl), record { names = []; is = sym (append-nil old); some = ([], refl); all = inr (inr (inr refl)) })))
 
 pub unread_end : (words : List (List ℕ)) (held : Option Contents) (left : Option (List ℕ)) (old : List (List ℕ)) (shelf : Shelf) → ForContents held left (Ends words old old shelf shelf (Stopped NoMemory))

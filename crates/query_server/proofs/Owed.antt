@@ -16,7 +16,7 @@ use Rattle.session_core.specs.Headline.{AreHistories, AreOwed}
 use Rattle.session_core.specs.Transcript.{Journals, IsScriptRun}
 use Rattle.session_core.proofs.Headlines.{run_owed}
 use Rattle.session_core.proofs.Owners.{entry_said, in_catalog, register_owners}
-use Rattle.query_server.specs.Loaded.{IsLoading, Loading}
+use Rattle.catalog_loading.specs.Loaded.{IsLoading, Loading}
 use Rattle.query_server.specs.Shelves.{Shelf}
 use Rattle.query_server.specs.Opened.{AreOpened}
 

@@ -19,15 +19,15 @@ use Rattle.session_core.specs.Served.{ClosesOn}
 use Rattle.session_core.specs.Transcript.{LeadExactly, first_new}
 use Rattle.session_core.proofs.Owners.{entry_said, in_catalog, owner_there, owners_length}
 use Rattle.std.proofs.lemmas.Option.{slice_get_within}
-use Rattle.query_server.specs.Loaded.{IsLoading, Loading, header_of}
+use Rattle.catalog_loading.specs.Loaded.{IsLoading, Loading, header_of, entry_at, owners_in}
 use Rattle.query_server.specs.Ending.{to_answer}
 use Rattle.query_server.specs.Shelves.{Shelf, Became, IsOnlySynced}
-use Rattle.query_server.specs.Opened.{AreOpened, entry_at, owners_in}
+use Rattle.query_server.specs.Opened.{AreOpened}
 use Rattle.query_server.specs.Run.{IsScriptAnswered, WentOn}
 use Rattle.query_server.specs.Books.{ArePassesOn, ArePutBack, IsNewPass, IsOpenStop, IsStored, shown_by}
 use Rattle.query_server.specs.Ends.{IsAnsweredOn, IsEndOf, IsFailing, end_by}
-use Rattle.query_server.specs.declared.end.Stop.{Stop}
-use Rattle.query_server.specs.declared.end.Stop.TheVariants.{Usage, Refused, Journal, Disk, Fault, NoMemory}
+use Rattle.catalog_loading.specs.declared.stops.Stop.{Stop}
+use Rattle.catalog_loading.specs.declared.stops.Stop.TheVariants.{Usage, Refused, Journal, Disk, Fault, NoMemory}
 use Rattle.query_server.specs.declared.end.End.TheVariants.{Stopped, Run}
 use Rattle.query_server.specs.declared.running.RunEnd.{RunEnd}
 use Rattle.query_server.specs.declared.running.RunEnd.TheVariants.{Answered, TooLong}

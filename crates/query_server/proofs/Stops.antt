@@ -18,18 +18,18 @@ use Rattle.answer_path.specs.Owner.{Owner}
 use Rattle.session_core.specs.Code.{owner_at, pass_at}
 use Rattle.session_core.specs.House.{house_of}
 use Rattle.session_core.proofs.Owners.{entry_said, owner_there, owners_length}
-use Rattle.query_server.specs.Files.{Contents}
-use Rattle.query_server.specs.Steps.{Step}
-use Rattle.query_server.specs.Loaded.{IsLoading, Loading, header_of}
+use Rattle.catalog_loading.specs.Files.{Contents}
+use Rattle.catalog_loading.specs.Steps.{FileStep}
+use Rattle.catalog_loading.specs.Loaded.{IsLoading, Loading, header_of, entry_at, owner_name_at, owners_in}
 use Rattle.query_server.specs.Shelves.{Shelf, bytes_on}
-use Rattle.query_server.specs.Opened.{IsOpened, IsUnopened, entry_at, name_at, owners_in}
+use Rattle.query_server.specs.Opened.{IsOpened, IsUnopened}
 use Rattle.query_server.specs.Status.{disk_text, journal_text}
 use Rattle.query_server.specs.Books.{ArePassesOn, IsBookFaultStop, IsBookStop, IsDiskStop, IsJournalStop, IsNewBook, IsNewPass, IsOpenStop}
-use Rattle.query_server.proofs.Reached.{IsStopped, any_reads}
+use Rattle.catalog_loading.proofs.Reached.{IsStopped, any_reads}
 use Rattle.query_server.specs.declared.refusals.JournalRefusal.TheVariants.{Uninitialised, Changed, Damaged}
 use Rattle.query_server.specs.declared.refusals.JournalRefusal.{JournalRefusal}
-use Rattle.query_server.specs.declared.end.Stop.{Stop}
-use Rattle.query_server.specs.declared.end.Stop.TheVariants.{Usage, Refused, Journal, Disk, Fault, NoMemory}
+use Rattle.catalog_loading.specs.declared.stops.Stop.{Stop}
+use Rattle.catalog_loading.specs.declared.stops.Stop.TheVariants.{Usage, Refused, Journal, Disk, Fault, NoMemory}
 
 -- what a disk that shows this tells
 abbrev pub bytes_shown : Option Shown → Option (List ℕ)
@@ -72,7 +72,7 @@ open_stopped loading key k old mid passes NoMemory within on is = is
 
 -- ---- one book
 
-pub disk_stopped : (loading : Loading) (key : List ℕ) (shelf : Shelf) (o : ℕ) (name : List ℕ) (stop : Stop) → name ≡ name_at loading o → IsDiskStop name stop → IsBookStop loading key shelf o stop
+pub disk_stopped : (loading : Loading) (key : List ℕ) (shelf : Shelf) (o : ℕ) (name : List ℕ) (stop : Stop) → name ≡ owner_name_at loading o → IsDiskStop name stop → IsBookStop loading key shelf o stop
 disk_stopped loading key shelf o name Usage named is = is
 disk_stopped loading key shelf o name (Refused other) named is = is
 disk_stopped loading key shelf o name (Journal line) named is = absurd is
@@ -80,7 +80,7 @@ disk_stopped loading key shelf o name (Disk line) named is = is ∙ ap disk_text
 disk_stopped loading key shelf o name Fault named is = is
 disk_stopped loading key shelf o name NoMemory named is = is
 
-journal_stopped : (loading : Loading) (key : List ℕ) (shelf : Shelf) (o : ℕ) (name : List ℕ) (refusal : JournalRefusal) (stop : Stop) → name ≡ name_at loading o
+journal_stopped : (loading : Loading) (key : List ℕ) (shelf : Shelf) (o : ℕ) (name : List ℕ) (refusal : JournalRefusal) (stop : Stop) → name ≡ owner_name_at loading o
     → IsUnopened (entry_at loading o) (header_of loading key o) (bytes_on shelf o) refusal → IsJournalStop name refusal stop → IsBookStop loading key shelf o stop
 journal_stopped loading key shelf o name refusal Usage named unopened is = is
 journal_stopped loading key shelf o name refusal (Refused other) named unopened is = is
@@ -93,7 +93,7 @@ if_some : {A : Type 0} (P Q : A → Type 0) (x : Option A) → ((a : A) → P a 
 if_some P Q (Some a) f p = f a p
 if_some P Q None f p = tt
 
-pub fault_stopped : (loading : Loading) (key : List ℕ) (shelf : Shelf) (o : ℕ) (name : List ℕ) (fault : OpenFault) (stop : Stop) → name ≡ name_at loading o
+pub fault_stopped : (loading : Loading) (key : List ℕ) (shelf : Shelf) (o : ℕ) (name : List ℕ) (fault : OpenFault) (stop : Stop) → name ≡ owner_name_at loading o
     → IfSome (bytes_on shelf o) (λ bytes. IsBookFault (entry_at loading o) (header_of loading key o) bytes fault) → IsBookFaultStop name fault stop → IsBookStop loading key shelf o stop
 fault_stopped loading key shelf o name open_fault.DiskFault stop named told is = disk_stopped loading key shelf o name stop named is
 fault_stopped loading key shelf o name open_fault.NoMemory stop named told is = subst (IsBookStop loading key shelf o) (sym is) tt
@@ -134,7 +134,7 @@ entry_is loading o entry lawful within is =
     is (owner_at (house_of loading.register) o) there ∙ sym (entry_said loading.register o (owner_at (house_of loading.register) o) there)
 
 -- steps over files name no disk
-pub step_no_disk : {A B : Type 0} (held : Option Contents) (old new : List (List ℕ)) (step : Step A) (stop : Stop) (line : Vec ℕ Global) → IsStopped held old new step stop → stop ≡ Disk line → B
+pub step_no_disk : {A B : Type 0} (held : Option Contents) (old new : List (List ℕ)) (step : FileStep A) (stop : Stop) (line : Vec ℕ Global) → IsStopped held old new step stop → stop ≡ Disk line → B
 step_no_disk held old new step stop line is same =
     let some = any_reads held in
     let wrong = (subst (λ (s : Stop). IsStopped held old new step s) same is) some.0 some.1 in

@@ -3,7 +3,7 @@ use Rattle.std.proofs.Common.{◌≡◌, ℕ, List, Option}
 use Rattle.std.specs.Prelude.{Result, Ok, Err, IsErrAnd}
 use Rattle.query_server.specs.Ends.{end_by, status_at}
 use Rattle.query_server.specs.Taken.{IsTaken}
-use Rattle.query_server.specs.declared.end.Stop.{Stop}
+use Rattle.catalog_loading.specs.declared.stops.Stop.{Stop}
 use Rattle.query_server.specs.declared.end.End.{End}
 use Rattle.query_server.proofs.Ends.{took_nothing}
 

@@ -9,16 +9,16 @@ use Rattle.budget_ledger.specs.declared.failure.Failure.{Failure}
 use Rattle.budget_ledger.specs.Account.{Account, IsKeptNow}
 use Rattle.answer_path.specs.Pass.{Pass}
 use Rattle.session_core.specs.Code.{pass_at}
-use Rattle.query_server.specs.Loaded.{Loading, header_of}
+use Rattle.catalog_loading.specs.Loaded.{Loading, header_of, entry_at, owner_name_at, owners_in}
 use Rattle.query_server.specs.Shelves.{Shelf, IsOnlySynced, bytes_on}
-use Rattle.query_server.specs.Opened.{IsRefusedAt, IsUnopened, entry_at, name_at, owners_in}
+use Rattle.query_server.specs.Opened.{IsRefusedAt, IsUnopened}
 use Rattle.query_server.specs.Status.{disk_text, journal_text}
 use Rattle.query_server.specs.declared.refusals.JournalRefusal.{JournalRefusal}
 use Rattle.query_server.specs.declared.refusals.JournalRefusal.TheVariants.{Uninitialised, Changed, Damaged}
 use Rattle.budget_journal.specs.declared.opening.OpenFault.{OpenFault}
 use Rattle.budget_journal.specs.declared.opening.OpenFault.TheVariants as open_fault
-use Rattle.query_server.specs.declared.end.Stop.{Stop}
-use Rattle.query_server.specs.declared.end.Stop.TheVariants.{Usage, Refused, Journal, Disk, Fault, NoMemory}
+use Rattle.catalog_loading.specs.declared.stops.Stop.{Stop}
+use Rattle.catalog_loading.specs.declared.stops.Stop.TheVariants.{Usage, Refused, Journal, Disk, Fault, NoMemory}
 
 -- A book that was just opened on a disk that showed this.
 pub record IsNewBook (entry : Entry) (header : Header) (before : Option Shown) (book : Account) : Type 0 where
@@ -67,8 +67,8 @@ abbrev pub IsBookStop : Loading → (key : List ℕ) → Shelf → (o : ℕ) →
 IsBookStop loading key old o Usage = ⊥
 IsBookStop loading key old o (Refused name) = ⊥
 IsBookStop loading key old o (Journal line) = (refusal : JournalRefusal)
-    × IsUnopened (entry_at loading o) (header_of loading key o) (bytes_on old o) refusal × (line.items ≡ journal_text (name_at loading o) refusal)
-IsBookStop loading key old o (Disk line) = line.items ≡ disk_text (name_at loading o)
+    × IsUnopened (entry_at loading o) (header_of loading key o) (bytes_on old o) refusal × (line.items ≡ journal_text (owner_name_at loading o) refusal)
+IsBookStop loading key old o (Disk line) = line.items ≡ disk_text (owner_name_at loading o)
 IsBookStop loading key old o Fault = ⊥
 IsBookStop loading key old o NoMemory = ⊤
 
@@ -77,8 +77,8 @@ abbrev pub IsOpenStop : Loading → (key : List ℕ) → Shelf → Stop → Type
 IsOpenStop loading key old Usage = ⊥
 IsOpenStop loading key old (Refused name) = ⊥
 IsOpenStop loading key old (Journal line) = (o : ℕ) × (refusal : JournalRefusal) × IsRefusedAt loading key old o refusal
-    × (line.items ≡ journal_text (name_at loading o) refusal)
-IsOpenStop loading key old (Disk line) = (o : ℕ) × (o < owners_in loading) × (line.items ≡ disk_text (name_at loading o))
+    × (line.items ≡ journal_text (owner_name_at loading o) refusal)
+IsOpenStop loading key old (Disk line) = (o : ℕ) × (o < owners_in loading) × (line.items ≡ disk_text (owner_name_at loading o))
 IsOpenStop loading key old Fault = ⊥
 IsOpenStop loading key old NoMemory = ⊤
 

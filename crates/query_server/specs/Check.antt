@@ -6,14 +6,14 @@ use Rattle.wire_lines.specs.Refusal.{by_program}
 use Rattle.wire_lines.specs.Reply.{refused as refused_reply, sensitivity_text, reply_text}
 use Rattle.answer_path.specs.Reading.{Reading, IsReading}
 use Rattle.answer_path.specs.Judgement.{Judgement, refused_for, accepted, judgement_of}
-use Rattle.query_server.specs.Steps.{Step, ◌>>=◌, done, file_read, from}
-use Rattle.query_server.specs.Loaded.{catalog_read, entry_named, owner_loaded}
+use Rattle.catalog_loading.specs.Steps.{FileStep, ◌>>=◌, done, file_read, from}
+use Rattle.catalog_loading.specs.Loaded.{catalog_read, entry_named, owner_loaded}
 use Rattle.query_server.specs.Ending.{Ending, to_check}
 use Rattle.query_server.specs.declared.end.Status.{Status}
 use Rattle.query_server.specs.declared.end.Status.TheVariants.{Done, ProgramRefused}
 
 -- CATALOG, then OWNER in it, then the tables of all owners, then FILE
-abbrev pub check_steps : (catalog owner file : List ℕ) → Step Ending
+abbrev pub check_steps : (catalog owner file : List ℕ) → FileStep Ending
 check_steps catalog owner file = do
   house ← catalog_read catalog
   entry ← from (entry_named house owner)

@@ -6,16 +6,16 @@ use Rattle.budget_core.specs.Answers.{counts_of}
 use Rattle.budget_core.specs.Cost.{cost_of}
 use Rattle.owner_catalog.specs.Entries.{OwnerEntry}
 use Rattle.session_core.specs.Transcript.{Journals}
-use Rattle.query_server.specs.Steps.{Step}
-use Rattle.query_server.specs.Loaded.{Loading, with_house}
+use Rattle.catalog_loading.specs.Steps.{FileStep}
+use Rattle.catalog_loading.specs.Loaded.{Loading, with_house, owners_in}
 use Rattle.query_server.specs.Ending.{Ending, to_count}
 use Rattle.query_server.specs.Shelves.{Shelf, Became, IsOnlySynced}
-use Rattle.query_server.specs.Opened.{AreOpened, IsRefusalDue, owners_in}
+use Rattle.query_server.specs.Opened.{AreOpened, IsRefusalDue}
 use Rattle.query_server.specs.declared.end.Status.{Status}
 use Rattle.query_server.specs.declared.end.Status.TheVariants.{Done}
 
 -- CATALOG, then KEY, then the tables of all owners
-abbrev pub count_steps : (catalog key : List ℕ) → Step Ending
+abbrev pub count_steps : (catalog key : List ℕ) → FileStep Ending
 count_steps catalog key = with_house to_count catalog key
 
 -- the line of an owner with these records

@@ -1,15 +1,15 @@
 -- what is due, and what is written
-use Rattle.std.specs.Prelude.{◌≡◌, ◌⊎◌, ℕ, ◌<◌, ◌≤◌, List, ◌++◌, Option, Some, None, ⊤}
+use Rattle.std.specs.Prelude.{◌≡◌, ◌⊎◌, ℕ, ◌<◌, ◌≤◌, List, ◌++◌, Option, Some, None, IfSome, ⊤}
 use Rattle.fz_ast.specs.Signature.{Signature}
 use Rattle.command_words.specs.Command.{Command, init, run, audit, check, gap, command_of}
 use Rattle.query_server.specs.Ending.{Ending, ended, usage, refused, to_answer, to_make, to_count, to_check, to_compare}
-use Rattle.query_server.specs.Files.{Contents, Reads, AreTold, IsLeft}
-use Rattle.query_server.specs.Steps.{Step, done}
+use Rattle.catalog_loading.specs.Files.{Contents, ReadsToCome, AreTold}
+use Rattle.catalog_loading.specs.Steps.{FileStep, done}
 use Rattle.outside_bays.specs.Bays.{Same}
 use Rattle.query_server.specs.Shelves.{Shelf, Became, IsOnlySynced}
-use Rattle.query_server.specs.Opened.{name_at, owners_in}
+use Rattle.catalog_loading.specs.Loaded.{owner_name_at, owners_in}
 use Rattle.query_server.specs.Run.{run_steps, IsScriptDue}
-use Rattle.query_server.specs.Make.{make_steps, AreMadeBefore, IsMakingDue}
+use Rattle.query_server.specs.Make.{make_steps, AreMadeBefore, IsMakingDue, MayHaveFailed}
 use Rattle.query_server.specs.Count.{count_steps, IsCountDue}
 use Rattle.query_server.specs.Check.{check_steps, IsProgramDue}
 use Rattle.query_server.specs.Gap.{gap_steps, IsGapDue}
@@ -18,21 +18,21 @@ use Rattle.query_server.specs.declared.end.Status.{Status}
 use Rattle.query_server.specs.declared.end.Status.TheVariants.{Usage, Refused, Fault, DiskFault, NoMemory}
 
 -- The steps of a command: the words decide first.
-abbrev pub steps_of : Option Command → Step Ending
-steps_of None = done usage
-steps_of (Some (run catalog key workers)) = run_steps catalog key
-steps_of (Some (init catalog key)) = make_steps catalog key
-steps_of (Some (audit catalog key)) = count_steps catalog key
-steps_of (Some (check catalog owner file)) = check_steps catalog owner file
-steps_of (Some (gap catalog owner second_catalog file)) = gap_steps catalog owner second_catalog file
+abbrev pub command_steps : Option Command → FileStep Ending
+command_steps None = done usage
+command_steps (Some (run catalog key workers)) = run_steps catalog key
+command_steps (Some (init catalog key)) = make_steps catalog key
+command_steps (Some (audit catalog key)) = count_steps catalog key
+command_steps (Some (check catalog owner file)) = check_steps catalog owner file
+command_steps (Some (gap catalog owner second_catalog file)) = gap_steps catalog owner second_catalog file
 
 -- What words come to over what files hold when they are read.
-unfoldable pub ending_of : (words : List (List ℕ)) → Reads → Ending
-ending_of words reads = ended (steps_of (command_of words) reads).given
+unfoldable pub ending_of : (words : List (List ℕ)) → ReadsToCome → Ending
+ending_of words reads = ended (command_steps (command_of words) reads).given
 
 -- the files that are read for it, in order: those that the words name, and those that the catalogs of these name
-unfoldable pub files_of : (words : List (List ℕ)) → Reads → List (List ℕ)
-files_of words reads = (steps_of (command_of words) reads).names
+unfoldable pub files_of : (words : List (List ℕ)) → ReadsToCome → List (List ℕ)
+files_of words reads = (command_steps (command_of words) reads).names
 
 -- Where nothing fails and memory suffices, this status and this text may be due, and this may become of the owners' disks.
 abbrev pub IsDue : Ending → (old new : Shelf) → (script : List ℕ) → (status : Status) → (text : List ℕ) → Type 0
@@ -45,12 +45,12 @@ IsDue (to_check tables program) old new script status text = IsProgramDue tables
 IsDue (to_compare tables X Y program) old new script status text = IsGapDue tables X Y program status text
 
 -- What may become of the owners' disks where a failure or want of memory ends the work: nothing is written to any; by an `init`
--- the first owners' journals are made, and one may be made in part.
+-- the first owners' journals are made, and the next one's disk may have failed.
 abbrev pub MayStop : Ending → (old new : Shelf) → Type 0
 MayStop usage old new = Same old new
 MayStop (refused name) old new = Same old new
 MayStop (to_answer loading key) old new = Became (owners_in loading) (λ _. IsOnlySynced) old new
-MayStop (to_make loading key) old new = (o : ℕ) × AreMadeBefore loading key o (λ before after. before.faults ≤ after.faults) old new
+MayStop (to_make loading key) old new = (o : ℕ) × AreMadeBefore loading key o MayHaveFailed old new
 MayStop (to_count loading key) old new = Became (owners_in loading) (λ _. IsOnlySynced) old new
 MayStop (to_check tables program) old new = Same old new
 MayStop (to_compare tables X Y program) old new = Same old new
@@ -59,9 +59,9 @@ MayStop (to_compare tables X Y program) old new = Same old new
 abbrev pub IsDiskLine : Ending → (text : List ℕ) → Type 0
 IsDiskLine usage text = ⊥
 IsDiskLine (refused name) text = ⊥
-IsDiskLine (to_answer loading key) text = (o : ℕ) × (o < owners_in loading) × (text ≡ disk_text (name_at loading o))
-IsDiskLine (to_make loading key) text = (o : ℕ) × (o < owners_in loading) × (text ≡ disk_text (name_at loading o))
-IsDiskLine (to_count loading key) text = (o : ℕ) × (o < owners_in loading) × (text ≡ disk_text (name_at loading o))
+IsDiskLine (to_answer loading key) text = (o : ℕ) × (o < owners_in loading) × (text ≡ disk_text (owner_name_at loading o))
+IsDiskLine (to_make loading key) text = (o : ℕ) × (o < owners_in loading) × (text ≡ disk_text (owner_name_at loading o))
+IsDiskLine (to_count loading key) text = (o : ℕ) × (o < owners_in loading) × (text ≡ disk_text (owner_name_at loading o))
 IsDiskLine (to_check tables program) text = ⊥
 IsDiskLine (to_compare tables X Y program) text = ⊥
 
@@ -103,9 +103,13 @@ pub record AreRead (status : Status) (files old new : List (List ℕ)) : Type 0 
   pub some : (rest : List (List ℕ)) × (files ≡ names ++ rest)
   pub all : IfFinished status (names ≡ files)
 
+-- the source has these bytes, where it tells them
+abbrev pub IsLeft : (left : Option (List ℕ)) → (script : List ℕ) → Type 0
+IsLeft left script = IfSome left (λ told. script ≡ told)
+
 -- It comes so at some contents of the files, at each read, and of the source: those that are told, where they are.
-abbrev pub ForContents : (held : Option Contents) → (left : Option (List ℕ)) → (Comes : Reads → (script : List ℕ) → Type 0) → Type 0
-ForContents held left Comes = (reads : Reads) × (script : List ℕ) × AreTold held reads × IsLeft left script × Comes reads script
+abbrev pub ForContents : (held : Option Contents) → (left : Option (List ℕ)) → (Comes : ReadsToCome → (script : List ℕ) → Type 0) → Type 0
+ForContents held left Comes = (reads : ReadsToCome) × (script : List ℕ) × AreTold held reads × IsLeft left script × Comes reads script
 
 abbrev pub IsOfRun : Option Command → Type 0
 IsOfRun None = ⊥

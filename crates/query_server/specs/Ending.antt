@@ -2,7 +2,7 @@
 use Rattle.std.specs.Prelude.{ℕ, List, Result, Ok, Err}
 use Rattle.fz_ast.specs.Signature.{Signature}
 use Rattle.metric_values.specs.Tables.{Dataset}
-use Rattle.query_server.specs.Loaded.{Loading}
+use Rattle.catalog_loading.specs.Loaded.{Loading}
 
 -- Faulty words; a name that is refused; or work to be done, a case a command.
 pub data Ending : Type 0 where

@@ -1,45 +1,30 @@
 -- what the code's ends mean
 use Rattle.std.specs.declared.alloc.Global.{Global}
-use Rattle.std.specs.Prelude.{Vec, map, ◌≡◌, ◌⊎◌, ℕ, List, [], ◌++◌, Option, Some, MatchResult, Result, Ok, Err, ⊤, string_bytes, bytes_eq, position, length, ◌<◌, ◌≤◌}
+use Rattle.std.specs.Prelude.{Vec, ◌≡◌, ◌⊎◌, ℕ, List, [], ◌++◌, Result, Ok, Err, string_bytes, length, ◌<◌, ◌≤◌}
 use Rattle.fz_ast.specs.Signature.{Signature}
 use Rattle.metric_values.specs.Tables.{Dataset}
 use Rattle.query_server.specs.Check.{IsProgramDue}
 use Rattle.query_server.specs.Gap.{IsGapDue}
-use Rattle.query_server.specs.Files.{Contents, Reads, AreTold}
-use Rattle.owner_catalog.specs.Entries.{Catalog, owner_entry_at}
-use Rattle.answer_path.specs.Owner.{Holding}
+use Rattle.catalog_loading.specs.Files.{ReadsToCome}
 use Rattle.answer_path.specs.Pass.{Pass}
 use Rattle.session_core.specs.Code.{AreAlone, HasServed}
-use Rattle.session_core.specs.House.{House, Register, register_with}
+use Rattle.session_core.specs.House.{House}
 use Rattle.query_server.specs.Run.{script_limit}
-use Rattle.query_server.specs.Loaded.{LoadedOwner, Loading, entry_named}
-use Rattle.query_server.specs.Steps.{Outcome, Step}
+use Rattle.catalog_loading.specs.Steps.{FileStep}
 use Rattle.query_server.specs.Ending.{Ending, ended}
 use Rattle.query_server.specs.Status.{usage_text, refused_text, memory_text, too_long_text}
 use Rattle.query_server.specs.Due.{AreRead, IsDiskLine, IsDue, IsPrefix, MayStop}
 use Rattle.query_server.specs.Shelves.{Shelf}
 use Rattle.query_server.specs.declared.end.Status.{Status}
 use Rattle.query_server.specs.declared.end.Status.TheVariants as code
-use Rattle.query_server.specs.declared.end.Stop.{Stop}
-use Rattle.query_server.specs.declared.end.Stop.TheVariants.{Usage, Refused, Journal, Disk, Fault, NoMemory}
+use Rattle.catalog_loading.specs.declared.stops.Stop.{Stop}
+use Rattle.catalog_loading.specs.declared.stops.Stop.TheVariants.{Usage, Refused, Journal, Disk, Fault, NoMemory}
 use Rattle.query_server.specs.declared.end.End.{End}
 use Rattle.query_server.specs.declared.end.End.TheVariants.{Stopped, Run, Listed, Check, Gap}
 use Rattle.query_server.specs.declared.running.RunEnd.{RunEnd}
 use Rattle.query_server.specs.declared.running.RunEnd.TheVariants.{Answered, TooLong}
 use Rattle.query_server.specs.declared.programs.ProgramEnd.{ProgramEnd}
 use Rattle.query_server.specs.declared.programs.ProgramEnd.TheVariants.{Accepted, Refused as Unaccepted}
-
--- what an owner's tables and the SHA-256 of their files are
-abbrev pub owner_loaded_of : Signature → Dataset → List (List ℕ) → LoadedOwner
-owner_loaded_of tables rows hashes = record { holding = record { tables = tables; rows = rows }; hashes = hashes }
-
--- what a house and the SHA-256 of its owners' table files are
-abbrev pub loading_by : Register → List (Vec (List ℕ) Global) → Loading
-loading_by register hashes = record { register = register; hashes = map (λ of_owner. of_owner.items) hashes }
-
--- the same of all owners of a catalog
-abbrev pub loading_of : Catalog → List Holding → List (Vec (List ℕ) Global) → Loading
-loading_of catalog holdings hashes = loading_by (register_with catalog holdings) hashes
 
 -- The status and the text of what stops a command, and of each command's end.
 abbrev pub stop_status : Stop → Status
@@ -93,61 +78,9 @@ abbrev pub end_by : {T : Type 0} → (T → End) → Result T Stop → End
 end_by end_of (Ok end) = end_of end
 end_by end_of (Err stop) = Stopped stop
 
--- What a step that is done comes to: it gives this, and leaves these reads to come; the names read so far went on by its files.
-pub record IsGiven {A : Type 0} (o : Outcome A) (rest : Reads) (old new : List (List ℕ)) (a : A) : Type 0 where
-  pub given : o.given ≡ Ok a
-  pub rests : o.rest ≡ rest
-  pub names : new ≡ old ++ o.names
-
--- some of its files were read
-abbrev pub AreBegun : {A : Type 0} → Outcome A → (old new : List (List ℕ)) → Type 0
-AreBegun o old new = (names : List (List ℕ)) × (rest : List (List ℕ)) × (new ≡ old ++ names) × (o.names ≡ names ++ rest)
-
--- What stops a command at a step: the name that it refuses; or something failed, or memory ran out, when some of its files were read.
-abbrev pub IsStopAt : {A : Type 0} → Outcome A → (old new : List (List ℕ)) → Stop → Type 0
-IsStopAt o old new Usage = ⊥
-IsStopAt o old new (Refused name) = (o.given ≡ Err (string_bytes name)) × (new ≡ old ++ o.names)
-IsStopAt o old new (Journal line) = ⊥
-IsStopAt o old new (Disk line) = ⊥
-IsStopAt o old new Fault = AreBegun o old new
-IsStopAt o old new NoMemory = AreBegun o old new
-
--- A step that was done or stopped: whatever is read after it, it comes to this at some reads, the ones that are told.
-abbrev pub IsStep : {A T : Type 0} → (held : Option Contents) → (old new : List (List ℕ)) → Step A → (T → A) → Result T Stop → Type 0
-IsStep held old new step value result = (rest : Reads) → AreTold held rest
-    → (reads : Reads) × AreTold held reads
-    × MatchResult result (λ x. IsGiven (step reads) rest old new (value x)) (IsStopAt (step reads) old new)
-
--- The same of what is decided without a read.
-abbrev pub IsRefusedBy : {A : Type 0} → Result A (List ℕ) → Stop → Type 0
-IsRefusedBy given Usage = ⊥
-IsRefusedBy given (Refused name) = given ≡ Err (string_bytes name)
-IsRefusedBy given (Journal line) = ⊥
-IsRefusedBy given (Disk line) = ⊥
-IsRefusedBy given Fault = ⊥
-IsRefusedBy given NoMemory = ⊤
-
-abbrev pub IsDecided : {A T : Type 0} → Result A (List ℕ) → (T → A) → Result T Stop → Type 0
-IsDecided given value result = MatchResult result (λ x. given ≡ Ok (value x)) (IsRefusedBy given)
-
--- the owner of this name has this number
-pub record IsOwnerAt (catalog : Catalog) (name : List ℕ) (o : ℕ) : Type 0 where
-  pub place : position (λ owner. bytes_eq name owner.name) catalog.owners ≡ Some o
-  pub within : o < length catalog.owners
-  pub is : entry_named catalog name ≡ Ok (owner_entry_at catalog o)
-
 -- The work was ended before: files, source or an owner's disk failed, or memory ran out.
 abbrev pub IsCut : Ending → End → Type 0
 IsCut ending end = (end ≡ Stopped Fault) ⊎ (end ≡ Stopped NoMemory) ⊎ ((line : Vec ℕ Global) × (end ≡ Stopped (Disk line)) × IsDiskLine ending line.items)
-
--- this name is refused, or memory ran out
-abbrev pub IsRefusalOf : (name : List ℕ) → Stop → Type 0
-IsRefusalOf name Usage = ⊥
-IsRefusalOf name (Refused other) = string_bytes other ≡ name
-IsRefusalOf name (Journal line) = ⊥
-IsRefusalOf name (Disk line) = ⊥
-IsRefusalOf name Fault = ⊥
-IsRefusalOf name NoMemory = ⊤
 
 abbrev pub IsFailing : Stop → Type 0
 IsFailing stop = (stop ≡ Fault) ⊎ (stop ≡ NoMemory)
@@ -166,7 +99,7 @@ abbrev pub IsGapOn : (tables : Signature) → (X Y : Dataset) → (program : Lis
 IsGapOn tables X Y program end = IsGapDue tables X Y program (program_status end) (program_text end)
 
 -- A command that reads by these steps ends so, where files and source held this.
-abbrev pub IsStepEnd : (old new : List (List ℕ)) → (before after : Shelf) → Step Ending → End → Reads → (script : List ℕ) → Type 0
+abbrev pub IsStepEnd : (old new : List (List ℕ)) → (before after : Shelf) → FileStep Ending → End → ReadsToCome → (script : List ℕ) → Type 0
 IsStepEnd old new before after steps end reads script =
     IsEndOf (ended (steps reads).given) before after script end × AreRead (status_at end) (steps reads).names old new
 

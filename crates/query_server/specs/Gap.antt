@@ -9,16 +9,16 @@ use Rattle.wire_lines.specs.Refusal.{by_program}
 use Rattle.wire_lines.specs.Reply.{refused as refused_reply, sensitivity_text, reply_text}
 use Rattle.answer_path.specs.Reading.{Reading, IsReading}
 use Rattle.answer_path.specs.Judgement.{Judgement, HasValue, refused_for, accepted, judgement_of}
-use Rattle.query_server.specs.Steps.{Step, ◌>>=◌, done, file_read, from}
-use Rattle.query_server.specs.Loaded.{catalog_read, entry_named, owner_loaded}
-use Rattle.query_server.specs.Fit.{fitting}
+use Rattle.catalog_loading.specs.Steps.{FileStep, ◌>>=◌, done, file_read, from}
+use Rattle.catalog_loading.specs.Loaded.{catalog_read, entry_named, owner_loaded}
+use Rattle.catalog_loading.specs.Fit.{fitting}
 use Rattle.query_server.specs.Ending.{Ending, to_compare}
 use Rattle.query_server.specs.declared.end.Status.{Status}
 use Rattle.query_server.specs.declared.end.Status.TheVariants.{Done, ProgramRefused}
 
 -- CATALOG, then OWNER in it, then CATALOG2, then OWNER in it with the same tables, then the tables of all owners of CATALOG, then
 -- those of CATALOG2, then FILE
-abbrev pub gap_steps : (catalog owner second_catalog file : List ℕ) → Step Ending
+abbrev pub gap_steps : (catalog owner second_catalog file : List ℕ) → FileStep Ending
 gap_steps catalog owner second_catalog file = do
   house ← catalog_read catalog
   entry ← from (entry_named house owner)

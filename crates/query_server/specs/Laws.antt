@@ -14,17 +14,16 @@ use Rattle.session_core.specs.Meant.{asks, wants}
 use Rattle.session_core.specs.Turns.{meant_at}
 use Rattle.session_core.specs.Exchanges.{Exchange}
 use Rattle.session_core.specs.Transcript.{Journals}
-use Rattle.query_server.specs.Files.{Reads}
-use Rattle.query_server.specs.Loaded.{Loading}
+use Rattle.catalog_loading.specs.Files.{ReadsToCome}
+use Rattle.catalog_loading.specs.Loaded.{Loading, owners_in}
 use Rattle.query_server.specs.Ending.{to_compare}
 use Rattle.query_server.specs.Shelves.{Shelf}
-use Rattle.query_server.specs.Opened.{owners_in}
 use Rattle.query_server.specs.Run.{IsScriptAnswered}
 use Rattle.query_server.specs.Due.{ending_of}
 
 -- A `gap` compares a program on two datasets of the tables that it may name.
 abbrev pub GapsAreOfDatasets : Type 0
-GapsAreOfDatasets = (words : List (List ℕ)) (reads : Reads) (tables : Signature) (X Y : Dataset) (program : List ℕ)
+GapsAreOfDatasets = (words : List (List ℕ)) (reads : ReadsToCome) (tables : Signature) (X Y : Dataset) (program : List ℕ)
     → ending_of words reads ≡ to_compare tables X Y program → IsSignature tables × IsDataset tables X × IsDataset tables Y
 
 -- A query is refused for its owner's disk (42 or 52) only where the count of faults of that disk rose in the run.

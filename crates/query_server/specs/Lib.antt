@@ -1,8 +1,4 @@
 pub mod Status
-pub mod Files
-pub mod Steps
-pub mod Loaded
-pub mod Fit
 pub mod Ending
 pub mod Shelves
 pub mod Opened

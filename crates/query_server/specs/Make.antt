@@ -1,28 +1,33 @@
 -- `init`: the owners' journals are made
 use Rattle.std.specs.Prelude.{◌≡◌, ◌⊎◌, ℕ, ◌<◌, ◌≤◌, List, [], ◌++◌, length, Some, IfSome, codes, decimal}
 use Rattle.std.specs.List.{flat_map}
+use Rattle.fz_outside.specs.Faults.{HasRisen}
 use Rattle.outside_disks.specs.Disks.{Shown, Trace, seen_of}
 use Rattle.journal_records.specs.declared.records.Header.{Header}
 use Rattle.budget_journal.specs.Journals.{IsAtRest, TellsSome}
 use Rattle.owner_catalog.specs.Entries.{OwnerEntry}
-use Rattle.query_server.specs.Steps.{Step}
-use Rattle.query_server.specs.Loaded.{Loading, header_of, with_house}
+use Rattle.catalog_loading.specs.Steps.{FileStep}
+use Rattle.catalog_loading.specs.Loaded.{Loading, header_of, with_house, owner_name_at, owners_in}
 use Rattle.query_server.specs.Ending.{Ending, to_make}
 use Rattle.query_server.specs.Shelves.{Shelf, Became, IsOnlySynced, bytes_on}
-use Rattle.query_server.specs.Opened.{name_at, owners_in}
 use Rattle.query_server.specs.Status.{journal_text}
 use Rattle.query_server.specs.declared.end.Status.{Status}
 use Rattle.query_server.specs.declared.end.Status.TheVariants.{Done, JournalRefused}
 use Rattle.query_server.specs.declared.refusals.JournalRefusal.TheVariants.{Exists}
 
 -- CATALOG, then KEY, then the tables of all owners
-abbrev pub make_steps : (catalog key : List ℕ) → Step Ending
+abbrev pub make_steps : (catalog key : List ℕ) → FileStep Ending
 make_steps catalog key = with_house to_make catalog key
 
 -- A journal was made on an empty disk: now a stop leaves a file of no records under this header, and no other.
 pub record IsMade (header : Header) (before after : Shown) : Type 0 where
   pub made : (t : Trace) → before.trace ≡ Some t → (seen_of t ≡ []) × TellsSome (IsAtRest header []) after.trace
   pub counts : after.faults ≡ before.faults
+
+-- The disk at hand where the making was ended: it was only synced, or its count rose. Then its file may hold anything, and it is
+-- given up.
+abbrev pub MayHaveFailed : (before after : Shown) → Type 0
+MayHaveFailed before after = (before.faults ≤ after.faults) × (IsOnlySynced before after ⊎ HasRisen before.faults after.faults)
 
 -- The journals of the owners before this one are made, its disk went on like this, and those behind it are as they were.
 pub record AreMadeBefore (loading : Loading) (key : List ℕ) (o : ℕ) (Goes : Shown → Shown → Type 0) (old new : Shelf) : Type 0 where
@@ -42,7 +47,7 @@ pub record IsExistingDue (loading : Loading) (key : List ℕ) (old new : Shelf) 
   pub some : 1 ≤ n
   pub long : IfSome (bytes_on old o) (λ bytes. length bytes ≡ n)
   pub is_status : status ≡ JournalRefused
-  pub is_text : text ≡ journal_text (name_at loading o) (Exists n)
+  pub is_text : text ≡ journal_text (owner_name_at loading o) (Exists n)
   pub disks : AreMadeBefore loading key o IsOnlySynced old new
 
 -- What is due to `init`: a line for each owner, whose journal is made; or the line of the first whose disk isn't empty.

@@ -1,15 +1,14 @@
 -- what making a journal leaves, in the program
 use Rattle.std.specs.Prelude.{◌≡◌, ◌<◌, ◌≤◌, ℕ, List, length, Option, None, Some, IfSome}
 use Rattle.outside_disks.specs.Disks.{Shown, seen_of}
-use Rattle.query_server.specs.Loaded.{Loading}
+use Rattle.catalog_loading.specs.Loaded.{Loading, owner_name_at, owners_in}
 use Rattle.query_server.specs.Shelves.{Shelf, bytes_on, IsOnlySynced}
-use Rattle.query_server.specs.Make.{AreMadeBefore}
+use Rattle.query_server.specs.Make.{AreMadeBefore, MayHaveFailed}
 use Rattle.query_server.specs.Books.{IsDiskStop, IsJournalStop}
-use Rattle.query_server.specs.Opened.{name_at, owners_in}
 use Rattle.query_server.specs.Status.{disk_text, journal_text}
 use Rattle.query_server.specs.declared.refusals.JournalRefusal.TheVariants.{Exists}
-use Rattle.query_server.specs.declared.end.Stop.{Stop}
-use Rattle.query_server.specs.declared.end.Stop.TheVariants.{Usage, Refused, Journal, Disk, Fault, NoMemory}
+use Rattle.catalog_loading.specs.declared.stops.Stop.{Stop}
+use Rattle.catalog_loading.specs.declared.stops.Stop.TheVariants.{Usage, Refused, Journal, Disk, Fault, NoMemory}
 use Rattle.budget_journal.specs.declared.making.InitFault.{InitFault}
 use Rattle.budget_journal.specs.declared.making.InitFault.TheVariants.{AlreadyThere, DiskFault}
 
@@ -19,10 +18,10 @@ Turned Goes (Some before) (Some after) = Goes before after
 Turned Goes (Some before) None = ⊥
 Turned Goes None new = ⊥
 
--- Why no journal was made on a disk: it isn't empty, and nothing was done to it; or a call failed, and it may hold anything.
+-- Why no journal was made on a disk: it isn't empty, and nothing was done to it; or the bay failed and it wasn't taken, or its count rose.
 abbrev pub IsUnmade : InitFault → (before after : Shown) → Type 0
 IsUnmade (AlreadyThere n) before after = (1 ≤ n) × IfSome before.trace (λ t. length (seen_of t) ≡ n) × IsOnlySynced before after
-IsUnmade DiskFault before after = before.faults ≤ after.faults
+IsUnmade DiskFault before after = MayHaveFailed before after
 
 -- what stops a command where no journal was made for this
 abbrev pub IsUnmadeStop : (owner : List ℕ) → InitFault → Stop → Type 0
@@ -32,11 +31,11 @@ IsUnmadeStop owner DiskFault stop = IsDiskStop owner stop
 -- What stops the making of journals: memory ran out before any was made; or an owner's disk isn't empty, or failed.
 abbrev pub IsMakeStop : Loading → (key : List ℕ) → (old new : Shelf) → Stop → Type 0
 IsMakeStop loading key old new (Journal line) = (o : ℕ) × (n : ℕ) × (o < owners_in loading) × (1 ≤ n)
-    × IfSome (bytes_on old o) (λ bytes. length bytes ≡ n) × (line.items ≡ journal_text (name_at loading o) (Exists n))
+    × IfSome (bytes_on old o) (λ bytes. length bytes ≡ n) × (line.items ≡ journal_text (owner_name_at loading o) (Exists n))
     × AreMadeBefore loading key o IsOnlySynced old new
-IsMakeStop loading key old new (Disk line) = (o : ℕ) × (o < owners_in loading) × (line.items ≡ disk_text (name_at loading o))
-    × AreMadeBefore loading key o (λ before after. before.faults ≤ after.faults) old new
+IsMakeStop loading key old new (Disk line) = (o : ℕ) × (o < owners_in loading) × (line.items ≡ disk_text (owner_name_at loading o))
+    × AreMadeBefore loading key o MayHaveFailed old new
 IsMakeStop loading key old new Usage = ⊥
 IsMakeStop loading key old new (Refused name) = ⊥
 IsMakeStop loading key old new Fault = ⊥
-IsMakeStop loading key old new NoMemory = (o : ℕ) × AreMadeBefore loading key o (λ before after. before.faults ≤ after.faults) old new
+IsMakeStop loading key old new NoMemory = (o : ℕ) × AreMadeBefore loading key o MayHaveFailed old new

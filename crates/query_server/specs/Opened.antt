@@ -7,26 +7,14 @@ use Rattle.budget_journal.specs.declared.opening.OpenFault.TheVariants as open_f
 use Rattle.budget_core.specs.Entries.{Entry}
 use Rattle.budget_core.specs.Legal.{IsHistory}
 use Rattle.budget_ledger.specs.Opened.{IsBookFault}
-use Rattle.owner_catalog.specs.Entries.{owner_entry_at}
-use Rattle.session_core.specs.House.{entry_of}
 use Rattle.session_core.specs.Transcript.{Journals}
-use Rattle.query_server.specs.Loaded.{Loading, header_of}
+use Rattle.catalog_loading.specs.Loaded.{Loading, entry_at, header_of, owner_name_at, owners_in}
 use Rattle.query_server.specs.Shelves.{Shelf, Became, IsOnlySynced, bytes_on}
 use Rattle.query_server.specs.Status.{journal_text}
 use Rattle.query_server.specs.declared.end.Status.{Status}
 use Rattle.query_server.specs.declared.end.Status.TheVariants.{JournalRefused}
 use Rattle.query_server.specs.declared.refusals.JournalRefusal.{JournalRefusal}
 use Rattle.query_server.specs.declared.refusals.JournalRefusal.TheVariants.{Uninitialised, Changed, Damaged, Exists}
-
--- how many owners there are, and what is known of each by its number
-abbrev pub owners_in : Loading → ℕ
-owners_in loading = length loading.register.catalog.owners
-
-abbrev pub name_at : Loading → (o : ℕ) → List ℕ
-name_at loading o = (owner_entry_at loading.register.catalog o).name
-
-abbrev pub entry_at : Loading → (o : ℕ) → Entry
-entry_at loading o = entry_of loading.register.catalog (owner_entry_at loading.register.catalog o)
 
 -- A journal is opened with the records that its bytes stand for, of which each may follow those before it.
 pub record IsOpened (entry : Entry) (header : Header) (bytes : Option (List ℕ)) (found : List Record) : Type 0 where
@@ -58,5 +46,5 @@ pub record IsRefusalDue (loading : Loading) (key : List ℕ) (old new : Shelf) (
   pub refusal : JournalRefusal
   pub at : IsRefusedAt loading key old o refusal
   pub is_status : status ≡ JournalRefused
-  pub is_text : text ≡ journal_text (name_at loading o) refusal
+  pub is_text : text ≡ journal_text (owner_name_at loading o) refusal
   pub disks : Became (owners_in loading) (λ _. IsOnlySynced) old new

@@ -6,10 +6,10 @@ use Rattle.session_core.specs.Headline.{Programs, AreFound, AreOwed, Headline}
 use Rattle.session_core.specs.Transcript.{Journals}
 use Rattle.command_words.specs.Command.{run, command_of}
 use Rattle.query_server.specs.Ending.{to_answer}
-use Rattle.query_server.specs.Files.{Contents, always}
-use Rattle.query_server.specs.Loaded.{Loading, IsLoading, catalog_read, key_read, loaded}
+use Rattle.catalog_loading.specs.Files.{Contents, always}
+use Rattle.catalog_loading.specs.Loaded.{Loading, IsLoading, catalog_read, key_read, loaded, owners_in}
 use Rattle.query_server.specs.Shelves.{Shelf, Became, IsOnlySynced}
-use Rattle.query_server.specs.Opened.{AreOpened, owners_in}
+use Rattle.query_server.specs.Opened.{AreOpened}
 use Rattle.query_server.specs.Run.{IsScriptAnswered, script_limit}
 use Rattle.query_server.specs.Due.{ending_of, IsPrefix}
 

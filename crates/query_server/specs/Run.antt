@@ -16,11 +16,11 @@ use Rattle.wire_lines.specs.Reply.{Replied, reply_text}
 use Rattle.session_core.specs.House.{house_of}
 use Rattle.session_core.specs.Served.{ClosesOn}
 use Rattle.session_core.specs.Transcript.{Journals, IsScriptRun}
-use Rattle.query_server.specs.Steps.{Step}
-use Rattle.query_server.specs.Loaded.{Loading, header_of, with_house}
+use Rattle.catalog_loading.specs.Steps.{FileStep}
+use Rattle.catalog_loading.specs.Loaded.{Loading, header_of, with_house, entry_at, owners_in}
 use Rattle.query_server.specs.Ending.{Ending, to_answer}
 use Rattle.query_server.specs.Shelves.{Shelf, Became, IsOnlySynced}
-use Rattle.query_server.specs.Opened.{AreOpened, IsRefusalDue, entry_at, owners_in}
+use Rattle.query_server.specs.Opened.{AreOpened, IsRefusalDue}
 use Rattle.query_server.specs.Status.{too_long_text}
 use Rattle.query_server.specs.declared.end.Status.{Status}
 use Rattle.query_server.specs.declared.end.Status.TheVariants.{Done, ScriptTooLong}
@@ -30,7 +30,7 @@ abbrev pub script_limit : ℕ
 script_limit = 2 ^ 24
 
 -- CATALOG, then KEY, then the tables of all owners
-abbrev pub run_steps : (catalog key : List ℕ) → Step Ending
+abbrev pub run_steps : (catalog key : List ℕ) → FileStep Ending
 run_steps catalog key = with_house to_answer catalog key
 
 -- An owner's disk through a run. Each file that a stop may have left since its journal was opened, which synced the disk, stands

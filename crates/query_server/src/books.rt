@@ -3,19 +3,17 @@
 ghost use Rattle.std.specs.Prelude.{◌≡◌, ◌⊎◌, ℕ, Vec, ◌<◌, ◌≤◌, length, Err, None, IfErr, IfOk, IsSome, OnErr, OnOk};
 ghost use Rattle.std.specs.declared.alloc.Global.{Global as Heap};
 ghost use Rattle.fz_outside.specs.Faults.{HasRisen};
-ghost use Rattle.query_server.specs.Loaded.{IsLoading, header_of};
-ghost use Rattle.query_server.specs.Ends.{loading_by};
+ghost use Rattle.catalog_loading.specs.Loaded.{IsLoading, header_of};
+ghost use Rattle.catalog_loading.specs.Given.{loading_by};
 ghost use Rattle.query_server.specs.Shelves.{AreAtHome, Became, IsOnlySynced, SomeRose};
-ghost use Rattle.query_server.specs.Opened.{entry_at, owners_in};
+ghost use Rattle.catalog_loading.specs.Loaded.{entry_at, owners_in};
 ghost use Rattle.query_server.specs.Books.{ArePassesOn, ArePutBack, IsBookFaultStop, IsBookStop, IsDiskStop, IsJournalStop, IsNewBook, IsOpenStop, LeftDisk, TookDisk};
 
-use crate::end::Stop;
-use crate::headers::headers_of;
-use crate::opening::Opened;
 use crate::refusals::{JournalRefusal, disk_line, journal_line};
 use answer_path::Pass;
 use budget_journal::opening::OpenFault;
 use budget_ledger::book::Book;
+use catalog_loading::{Opened, Stop, headers_of};
 use journal_records::records::Header;
 use outside_bays::bay::Bay;
 use std::alloc::Global;

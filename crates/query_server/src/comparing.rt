@@ -4,28 +4,29 @@ ghost use Rattle.std.specs.Prelude.{◌≡◌, ◌++◌, ℕ, List, Option, IfOk
 ghost use Rattle.std.specs.Fmt.{signed_decimal};
 ghost use Rattle.fz_frac.specs.Sens.{distance_of};
 ghost use Rattle.metric_law.specs.Means.{Means};
-ghost use Rattle.metric_values.specs.Tables.{apart, rows_of};
+ghost use Rattle.metric_values.specs.Tables.{apart, rows_of as tables_rows};
 ghost use Rattle.metric_values.specs.Values.{NumV};
 ghost use Rattle.answer_path.specs.Code.{IsJudged};
+ghost use Rattle.answer_path.specs.Judgement.{AreNames};
 ghost use Rattle.fz_outside.specs.Faults.{HasCause};
 ghost use Rattle.query_server.specs.Ending.{to_compare};
 ghost use Rattle.query_server.specs.Gap.{gap_steps, gap_text};
 ghost use Rattle.query_server.specs.Shelves.{Shelf};
 ghost use Rattle.query_server.specs.Due.{ForContents};
-ghost use Rattle.query_server.specs.Ends.{IsEndOf, IsGapOn, IsStep, IsStepEnd, end_by};
+ghost use Rattle.catalog_loading.specs.Given.{IsStep};
+ghost use Rattle.query_server.specs.Ends.{IsEndOf, IsGapOn, IsStepEnd, end_by};
 
-use crate::end::{End, Stop};
-use crate::fitting::find_fitting;
-use crate::loading::{load_for, open_catalog};
+use crate::end::End;
 use crate::numbers::put_number;
-use crate::opening::find_owner;
 use crate::programs::{ProgramEnd, refuse};
-use crate::reading::read_file;
-use answer_path::{Dataset, Judged, judge, read_program};
+use crate::whole::{rows_of, tables_of};
+use answer_path::{Judged, judge, read_program};
+use catalog_loading::{Stop, find_fitting, find_owner, load_for, open_catalog, read_file};
 use fuzz_eval::run::run;
 use fz_frac::Sens;
 use fz_outside::files::Files;
 use itoa::Buffer;
+use part_views::Dataset;
 use std::alloc::{AllocError, Global};
 use value_distance::tables_apart;
 use wire_lines::{REPLY_LIMIT, write_sensitivity};
@@ -79,9 +80,9 @@ fn comparison_lines(alloc: Global, found: &Comparison) -> Result<Vec<u8>, AllocE
 /// The program's value on a dataset of its tables.
 fn value_on(alloc: Global, judged: &Judged<'_>, dataset: &Dataset) -> Result<i64, AllocError>
     requires { IsJudged dataset.now.tables (judged.now.checked.term.now) judged.now }
-    ensures { IfOk result (λ value. Means (rows_of dataset.now.tables dataset.now.rows) (judged.now.checked.term.now) (NumV value)) }
+    ensures { IfOk result (λ value. Means (tables_rows dataset.now.tables dataset.now.rows) (judged.now.checked.term.now) (NumV value)) }
 {
-    match run(alloc, &judged.checked, &judged.plan, dataset.tables()) {
+    match run(alloc, &judged.checked, &judged.plan, rows_of(dataset)) {
         Ok(value) => Ok(value),
         Err(_) => Err(AllocError),
     }
@@ -98,10 +99,10 @@ fn comparison_on(
     requires tables { second.now.tables ≡ first.now.tables }
     ensures distance { IfOk result (λ found. found.distance ≡ apart first.now.rows second.now.rows) }
     ensures sens { IfOk result (λ found. found.sens ≡ judged.now.checked.sens) }
-    ensures first { IfOk result (λ found. Means (rows_of first.now.tables first.now.rows) (judged.now.checked.term.now) (NumV found.first)) }
-    ensures second { IfOk result (λ found. Means (rows_of first.now.tables second.now.rows) (judged.now.checked.term.now) (NumV found.second)) }
+    ensures first { IfOk result (λ found. Means (tables_rows first.now.tables first.now.rows) (judged.now.checked.term.now) (NumV found.first)) }
+    ensures second { IfOk result (λ found. Means (tables_rows first.now.tables second.now.rows) (judged.now.checked.term.now) (NumV found.second)) }
 {
-    let Ok(distance) = tables_apart(alloc, first.tables(), second.tables()) else {
+    let Ok(distance) = tables_apart(alloc, rows_of(first), rows_of(second)) else {
         return Err(AllocError);
     };
     let first_value = value_on(alloc, judged, first)?;
@@ -121,14 +122,15 @@ fn compare(
     second: &Dataset,
     program: &[u8],
 ) -> Result<ProgramEnd, AllocError>
-    requires { second.now.tables ≡ first.now.tables }
+    requires tables { second.now.tables ≡ first.now.tables }
+    requires names { AreNames first.now.tables }
     ensures { IfOk result (IsGapOn first.now.tables first.now.rows second.now.rows program.now) }
 {
     let term = match read_program(alloc, program) {
         Ok(term) => term,
         Err(refusal) => return refuse(alloc, &refusal),
     };
-    let judged = match judge(alloc, first.sig(), &term) {
+    let judged = match judge(alloc, tables_of(first), &term) {
         Ok(judged) => judged,
         Err(refusal) => return refuse(alloc, &refusal),
     };
@@ -149,6 +151,7 @@ fn read_operands<F: Files>(
     ensures step { IsStep (F.held files.old) (F.names files.old) (F.names files.new) (gap_steps catalog.now owner.now second_catalog.now file.now)
         (λ found. to_compare found.first.tables found.first.rows found.second.rows found.program.items) result }
     ensures tables { IfOk result (λ found. found.second.tables ≡ found.first.tables) }
+    ensures names { IfOk result (λ found. AreNames found.first.tables) }
     ensures same { F.held files.new ≡ F.held files.old }
     ensures cause { HasCause (F.faults files.old) (F.faults files.new) (IsErrOf result Stop.Fault) }
 {

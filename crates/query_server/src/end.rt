@@ -2,10 +2,11 @@
 
 ghost use Rattle.std.specs.Prelude.{◌≡◌};
 ghost use Rattle.query_server.specs.Status.{code_of};
+ghost use Rattle.query_server.specs.Ends.{stop_status};
 
 use crate::programs::ProgramEnd;
 use crate::running::RunEnd;
-use std::alloc::Global;
+use catalog_loading::Stop;
 
 /// The status of a command.
 #[derive(Clone, Copy, Debug, PartialEq, Eq)]
@@ -50,47 +51,17 @@ impl Status {
     }
 }
 
-/// What stops a command before its work is done.
-#[derive(Drop)]
-pub enum Stop {
-    /// The words are no command.
-    Usage,
-    /// The file or the owner of this name is refused.
-    Refused(String),
-    /// An owner's journal is refused, with this line.
-    Journal(Vec<u8>),
-    /// The bay or an owner's disk has failed, with this line.
-    Disk(Vec<u8>),
-    /// Files or the source have failed.
-    Fault,
-    /// Memory ran out.
-    NoMemory,
-}
-
-impl Stop {
-    ghost use Rattle.query_server.specs.Ends.{IsRefusalOf, stop_status};
-
-    /// A name is refused.
-    pub(crate) fn refuse(alloc: Global, name: &str) -> Stop
-        ensures { IsRefusalOf name.now result }
-    {
-        match String::from_str(alloc, name) {
-            Ok(name) => Stop::Refused(name),
-            Err(_) => Stop::NoMemory,
-        }
-    }
-
-    pub(crate) fn status(&self) -> Status
-        ensures { result ≡ stop_status self.now }
-    {
-        match self {
-            Stop::Usage => Status::Usage,
-            Stop::Refused(_) => Status::Refused,
-            Stop::Journal(_) => Status::JournalRefused,
-            Stop::Disk(_) => Status::DiskFault,
-            Stop::Fault => Status::Fault,
-            Stop::NoMemory => Status::NoMemory,
-        }
+/// The status of what stops a command.
+fn status_of_stop(stop: &Stop) -> Status
+    ensures { result ≡ stop_status stop.now }
+{
+    match stop {
+        Stop::Usage => Status::Usage,
+        Stop::Refused(_) => Status::Refused,
+        Stop::Journal(_) => Status::JournalRefused,
+        Stop::Disk(_) => Status::DiskFault,
+        Stop::Fault => Status::Fault,
+        Stop::NoMemory => Status::NoMemory,
     }
 }
 
@@ -112,7 +83,7 @@ impl End {
         ensures { result ≡ status_at self.now }
     {
         match self {
-            End::Stopped(stop) => stop.status(),
+            End::Stopped(stop) => status_of_stop(stop),
             End::Run(end) => end.status(),
             End::Listed(_) => Status::Done,
             End::Check(end) => end.status(),

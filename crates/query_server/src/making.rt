@@ -8,23 +8,23 @@ ghost use Rattle.outside_disks.specs.Disks.{Shown};
 ghost use Rattle.journal_records.specs.Encoding.{IsHeader};
 ghost use Rattle.budget_journal.specs.declared.making.InitFault.TheVariants.{DiskFault};
 ghost use Rattle.owner_catalog.specs.Entries.{owner_entry_at};
-ghost use Rattle.query_server.specs.Loaded.{IsLoading, header_of};
-ghost use Rattle.query_server.specs.Opened.{owners_in};
+ghost use Rattle.catalog_loading.specs.Loaded.{IsLoading, header_of};
+ghost use Rattle.catalog_loading.specs.Loaded.{owners_in};
 ghost use Rattle.query_server.specs.Shelves.{AreAtHome, Became, SomeRose};
 ghost use Rattle.query_server.specs.Ending.{to_make};
 ghost use Rattle.query_server.specs.Make.{IsMade, made_line, make_steps};
 ghost use Rattle.query_server.specs.Due.{ForContents};
-ghost use Rattle.query_server.specs.Ends.{IsEndOf, IsStepEnd, end_by, loading_by};
+ghost use Rattle.catalog_loading.specs.Given.{loading_by};
+ghost use Rattle.query_server.specs.Ends.{IsEndOf, IsStepEnd, end_by};
 ghost use Rattle.query_server.specs.Making.{IsMakeStop, IsUnmade, IsUnmadeStop, Turned};
 
 use crate::books::{disk_stop, journal_stop};
-use crate::end::{End, Stop};
-use crate::headers::headers_of;
+use crate::end::End;
 use crate::numbers::put_field;
-use crate::opening::{Opened, open_house};
 use crate::refusals::JournalRefusal;
 use budget_journal::journal::Journal;
 use budget_journal::making::InitFault;
+use catalog_loading::{Opened, Stop, headers_of, open_house};
 use fz_outside::files::Files;
 use journal_records::records::Header;
 use outside_bays::bay::Bay;
@@ -55,6 +55,7 @@ fn made_lines(alloc: Global, catalog: &Catalog) -> Result<Vec<u8>, AllocError>
 }
 
 /// Makes the journal of an owner: its disk is taken, and put back.
+#[tactic(auto, using(crate::proofs::Made::untaken))]
 fn make_journal<B: Bay>(bay: &mut B, owner: u32, header: &Header) -> Result<(), InitFault>
     requires owner { owner < B.owners bay.old }
     requires home { IsSome (B.shelf bay.old owner) }

@@ -10,11 +10,12 @@ ghost use Rattle.answer_path.specs.Reading.{Reading, IsReading};
 ghost use Rattle.answer_path.specs.Judgement.{judgement_of};
 ghost use Rattle.command_words.specs.Command.{run, command_of};
 ghost use Rattle.session_core.specs.Transcript.{Journals};
-ghost use Rattle.query_server.specs.Files.{Contents, always};
-ghost use Rattle.query_server.specs.Loaded.{Loading};
+ghost use Rattle.catalog_loading.specs.Files.{Contents, always};
+ghost use Rattle.catalog_loading.specs.Loaded.{Loading};
 ghost use Rattle.query_server.specs.Ending.{refused, to_answer, to_check, to_compare};
 ghost use Rattle.query_server.specs.Shelves.{AreAtHome, SomeRose, TellBytes};
-ghost use Rattle.query_server.specs.Opened.{AreOpened, owners_in};
+ghost use Rattle.catalog_loading.specs.Loaded.{owners_in};
+ghost use Rattle.query_server.specs.Opened.{AreOpened};
 ghost use Rattle.query_server.specs.Check.{status_by};
 ghost use Rattle.query_server.specs.Status.{refused_text};
 ghost use Rattle.query_server.specs.Due.{AreRead, ForContents, IfFinished, IsDue, IsForProgram, IsFaultyWordsEnd, IsOfDisks, IsOfProgram, IsOfRun, IsWrittenAt, ending_of, files_of};
@@ -25,10 +26,11 @@ ghost use Rattle.query_server.specs.Taken.{IsTakenAt};
 use crate::auditing::count_records;
 use crate::checking::check_file;
 use crate::comparing::compare_files;
-use crate::end::{End, Status, Stop};
+use crate::end::{End, Status};
 use crate::making::make_journals;
 use crate::running::run_script;
 use crate::writing::finish;
+use catalog_loading::Stop;
 use command_words::{Command, WordsFault, read_words};
 use fz_outside::files::Files;
 use fz_outside::sink::Sink;
@@ -145,7 +147,7 @@ pub fn run_server<F: Files, B: Bay, S: Source, K: Sink>(
         × AreRead result (files_of (map string_bytes words.now) reads) (F.names files.old) (F.names files.new)) }
     // At status Done a transcript of the script, for the house that the files give, or the program's line; at another status
     // its line alone; at Fault a prefix of what is due or of the line for want of memory. A script has just one transcript in
-    // which no line is answered 90 or 51.
+    // which no line is answered 90, 51, 42 or 52.
     ensures exact { (held : Contents) (script before : List ℕ) →
         F.held files.old ≡ Some held → S.left source.old ≡ Some script → K.contents sink.old ≡ Some before →
         (text : List ℕ) × (K.contents sink.new ≡ Some (before ++ text))

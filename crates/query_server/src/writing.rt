@@ -7,7 +7,8 @@ ghost use Rattle.query_server.specs.Status.{refused_text};
 ghost use Rattle.query_server.specs.Due.{IsPrefix};
 ghost use Rattle.query_server.specs.Ends.{IsEndingWith, stop_text, text_at};
 
-use crate::end::{End, Status, Stop};
+use crate::end::{End, Status};
+use catalog_loading::Stop;
 use fz_outside::Failed;
 use fz_outside::sink::{Sink, put};
 

@@ -2,10 +2,10 @@
 use Rattle.std.proofs.Common.{◌≡◌, ℕ, List, [], ◌∷◌, Option, Some, refl, ◌∙◌, ap, codes}
 use Rattle.command_words.specs.Command.{Command, command_of, run}
 use Rattle.command_words.proofs.Plain.{plain_is_tabled}
-use Rattle.query_server.specs.Due.{ending_of, steps_of}
+use Rattle.query_server.specs.Due.{ending_of, command_steps}
 use Rattle.query_server.specs.Ending.{Ending, ended, to_answer}
-use Rattle.query_server.specs.Files.{Contents, always}
-use Rattle.query_server.specs.Steps.{Outcome}
+use Rattle.catalog_loading.specs.Files.{Contents, always}
+use Rattle.catalog_loading.specs.Steps.{StepOutcome}
 use Rattle.worked_row.specs.Row.{catalog_text, table_text}
 use Rattle.worked_row.specs.Held.{loading, zeros}
 use Rattle.worked_row.proofs.RowSteps.{run_given}
@@ -21,6 +21,6 @@ pub row_ending : (given : List (List ℕ)) (held : Contents) → given ≡ words
     → held (codes "people.csv") ≡ Some table_text → ending_of given (always held) ≡ to_answer loading zeros
 unfolding ending_of
 row_ending given held are_words has_catalog has_key has_table =
-    ap (λ given. ended (steps_of (command_of given) (always held)).given) are_words
-    ∙ ap (λ (command : Option Command). ended (steps_of command (always held)).given) is_run
-    ∙ ap (λ (o : Outcome Ending). ended o.given) (run_given held has_catalog has_key has_table).1
+    ap (λ given. ended (command_steps (command_of given) (always held)).given) are_words
+    ∙ ap (λ (command : Option Command). ended (command_steps command (always held)).given) is_run
+    ∙ ap (λ (o : StepOutcome Ending). ended o.given) (run_given held has_catalog has_key has_table).1

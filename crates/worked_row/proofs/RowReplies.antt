@@ -13,6 +13,7 @@ use Rattle.budget_core.specs.declared.entry.Grant.{Grant}
 use Rattle.journal_records.specs.declared.records.Outcome.{Outcome}
 use Rattle.journal_records.specs.declared.records.Record.{Record}
 use Rattle.partition_charge.specs.declared.view.View.TheVariants.{Whole}
+use Rattle.part_views.specs.Views.{rows_in, signature_in}
 use Rattle.journal_records.specs.declared.records.Outcome.TheVariants.{Answered, Lost}
 use Rattle.fz_frac.specs.Distance.{Fin}
 use Rattle.wire_lines.specs.Lines.{lines_of}
@@ -24,12 +25,11 @@ use Rattle.wire_lines.specs.declared.refusal.NumberRefusal.TheVariants.{Lost as 
 use Rattle.wire_lines.specs.Reply.{Replied, greeted, answered, ended, refused, reply_text}
 use Rattle.answer_path.specs.Reading.{Reading, read}
 use Rattle.answer_path.specs.Judgement.{Judgement, accepted, judgement_of}
-use Rattle.answer_path.specs.Owner.{Owner}
+use Rattle.answer_path.specs.Owner.{Owner, signature_of_view}
 use Rattle.answer_path.specs.Query.{Query}
 use Rattle.answer_path.specs.Noise.{noise_at}
-use Rattle.answer_path.specs.Program.{HasValueIn}
 use Rattle.answer_path.specs.Verdict.{Verdict, granted, IsVerdict, IsVerdictBy}
-use Rattle.answer_path.specs.Answered.{IsAnswered, IsAnsweredBy, IsSettledAt, outcome_reply}
+use Rattle.answer_path.specs.Answered.{HasWorthIn, IsAnswered, IsAnsweredBy, IsSettledAt, outcome_reply}
 use Rattle.answer_path.proofs.Readings.{one_reading}
 use Rattle.answer_path.proofs.SizePeople.{size_people, size_term, size_reads}
 use Rattle.session_core.specs.House.{House, house_of, owner_of}
@@ -96,12 +96,12 @@ granted_by found verdict same is =
     here : IsVerdictBy owner.entry 0 [] query (accepted size_term (Fin 1 1)) verdict → verdict ≡ granted asking grant
     here is = is
 
-is_granted : (verdict : Verdict) → IsVerdict owner.entry owner.tables 0 [] query verdict → verdict ≡ granted asking grant
-unfolding IsVerdict
+is_granted : (verdict : Verdict) → IsVerdict owner.entry (signature_of_view owner query.view) 0 [] query verdict → verdict ≡ granted asking grant
+unfolding IsVerdict signature_in
 is_granted verdict (found, reads, is) = granted_by found verdict (one_reading size_people found (read size_term) reads size_reads) is
 
 abbrev HasWorth : ℤ → Type 0
-HasWorth z = HasValueIn owner.tables owner.rows Whole size_people z
+HasWorth z = HasWorthIn owner query z
 
 -- what the second line is told
 abbrev IsSaid : Replied → Type 0
@@ -112,6 +112,7 @@ abbrev IsTold : Replied → Type 0
 IsTold reply = IsSaid reply ⊎ ((n : ℕ) × (reply ≡ refused (by_disk (Closed n))))
 
 settled_to : (outcome : Outcome) → IsSettledAt HasWorth (Some (pos 2)) outcome → (outcome ≡ Answered (pos 5)) ⊎ (outcome ≡ Lost)
+unfolding rows_in signature_in
 settled_to outcome (inl (value, has, is)) = inl (is ∙ ap (λ (z : ℤ). Answered (z +ℤ pos 2)) (size_is_three value has))
 settled_to outcome (inr is) = inr is
 

@@ -11,14 +11,14 @@ use Rattle.query_server.proofs.Unopened.{not_refused as never_refused}
 use Rattle.session_core.specs.Transcript.{Journals}
 use Rattle.query_server.specs.Ending.{Ending, to_answer}
 use Rattle.query_server.specs.Run.{IsScriptDue}
-use Rattle.query_server.specs.Opened.{AreOpened, IsRefusalDue, IsUnopened, entry_at, name_at}
-use Rattle.query_server.specs.Loaded.{header_of}
+use Rattle.catalog_loading.specs.Loaded.{entry_at, owner_name_at, header_of}
+use Rattle.query_server.specs.Opened.{AreOpened, IsRefusalDue, IsUnopened}
 use Rattle.query_server.specs.Shelves.{Shelf, bytes_on}
 use Rattle.query_server.specs.Due.{IsPrefix, IsToWrite, IsStopLine, IsWrittenAt}
 use Rattle.query_server.specs.Status.{disk_text, memory_text}
 use Rattle.query_server.specs.declared.end.Status.{Status}
 use Rattle.query_server.specs.declared.end.Status.TheVariants.{Done, Fault, DiskFault, NoMemory}
-use Rattle.worked_row.specs.Held.{IsMade, loading, zeros}
+use Rattle.worked_row.specs.Held.{IsJournalMade, loading, zeros}
 use Rattle.worked_row.specs.Row.{script, row, row_without, row_lost, row_failed, IsRowText}
 use Rattle.worked_row.proofs.RowReplies.{answered_is}
 
@@ -27,7 +27,7 @@ no_records : (entry : Entry) → IsHistory entry []
 no_records entry = record { follows = λ k next is. absurd (cc is) }
 
 -- it isn't refused
-not_refused : (old new : Shelf) (status : Status) (text : List ℕ) → IsMade old → IsRefusalDue loading zeros old new status text → ⊥
+not_refused : (old new : Shelf) (status : Status) (text : List ℕ) → IsJournalMade old → IsRefusalDue loading zeros old new status text → ⊥
 not_refused old new status text (bytes, told, made) due =
     let first : due.o ≡ 0 = omega (arith, due.at.known) in
     let refused : IsUnopened (entry_at loading 0) (header_of loading zeros 0) (bytes_on old 0) due.refusal =
@@ -35,7 +35,7 @@ not_refused old new status text (bytes, told, made) due =
     never_refused (entry_at loading 0) (header_of loading zeros 0) [] bytes due.refusal made (no_records (entry_at loading 0)) (subst (λ (b : Option (List ℕ)). IsUnopened (entry_at loading 0) (header_of loading zeros 0) b due.refusal) told refused)
 
 -- it is opened without records
-none_there : (old : Shelf) (found : Journals) → IsMade old → AreOpened loading zeros old found → found 0 ≡ []
+none_there : (old : Shelf) (found : Journals) → IsJournalMade old → AreOpened loading zeros old found → found 0 ≡ []
 none_there old found (bytes, told, made) opened =
     let stands : Stands (header_of loading zeros 0) (found 0) bytes =
     subst (λ (b : Option (List ℕ)). IfSome b (Stands (header_of loading zeros 0) (found 0))) told (opened 0 (omega arith)).stands in
@@ -45,7 +45,7 @@ script_length : length script ≡ 39
 script_length = refl
 
 -- so what is due is the row
-due_is : (old new : Shelf) (status : Status) (text : List ℕ) → IsMade old → IsScriptDue loading zeros old new script status text → (status ≡ Done) × IsRowText text
+due_is : (old new : Shelf) (status : Status) (text : List ℕ) → IsJournalMade old → IsScriptDue loading zeros old new script status text → (status ≡ Done) × IsRowText text
 due_is old new status text made (inl refusal) = absurd (not_refused old new status text made refusal)
 due_is old new status text made (inr (found, opened, inl (done, few, answered))) = (done, answered_is old new found text (none_there old found made opened) answered)
 due_is old new status text made (inr (found, opened, inr (over, many, is, disks))) = absurd (omega (arith, many, script_length))
@@ -65,7 +65,7 @@ failed_length = refl
 memory_length : length memory_text ≡ 7
 memory_length = refl
 
-disk_length : length (disk_text (name_at loading 0)) ≡ 12
+disk_length : length (disk_text (owner_name_at loading 0)) ≡ 12
 disk_length = refl
 
 row_short : (text : List ℕ) → IsRowText text → length text < 64
@@ -83,19 +83,19 @@ stop_short : (status : Status) (text : List ℕ) → IsStopLine (to_answer loadi
 stop_short status text (inl (memory, is)) = let e : length text ≡ length memory_text = ap length is in omega (arith, memory_length)
 stop_short status text (inr (disk, (o, few, is))) =
     let first : o ≡ 0 = omega (arith, few) in
-    let e : length text ≡ length (disk_text (name_at loading 0)) = ap length (is ∙ ap (λ (o : ℕ). disk_text (name_at loading o)) first) in omega (arith, disk_length)
+    let e : length text ≡ length (disk_text (owner_name_at loading 0)) = ap length (is ∙ ap (λ (o : ℕ). disk_text (owner_name_at loading o)) first) in omega (arith, disk_length)
 
-to_write_short : (old new : Shelf) (status : Status) (text : List ℕ) → IsMade old → IsToWrite (to_answer loading zeros) old new script status text → length text < 64
+to_write_short : (old new : Shelf) (status : Status) (text : List ℕ) → IsJournalMade old → IsToWrite (to_answer loading zeros) old new script status text → length text < 64
 to_write_short old new status text made (inl due) = row_short text (due_is old new status text made due).1
 to_write_short old new status text made (inr (stop, more)) = stop_short status text stop
 
 -- At any status fewer bytes are written than there is room for.
-pub short : (old new : Shelf) (status : Status) (text : List ℕ) → IsMade old → IsWrittenAt (to_answer loading zeros) old new script status text → length text < 64
+pub short : (old new : Shelf) (status : Status) (text : List ℕ) → IsJournalMade old → IsWrittenAt (to_answer loading zeros) old new script status text → length text < 64
 short old new status text made (inl whole) = to_write_short old new status text made whole
 short old new status text made (inr (fault, (other, due, is, prefix))) = prefix_short text due prefix (to_write_short old new other due made is)
 
 -- So a sink that fails only where it is full hasn't failed.
-pub none_failed : (ending : Ending) (old new : Shelf) (status : Status) (text written : List ℕ) (faults : ℕ) → IsMade old → ending ≡ to_answer loading zeros → IsWrittenAt ending old new script status text
+pub none_failed : (ending : Ending) (old new : Shelf) (status : Status) (text written : List ℕ) (faults : ℕ) → IsJournalMade old → ending ≡ to_answer loading zeros → IsWrittenAt ending old new script status text
     → Some written ≡ Some ([] ++ text) → (0 < faults → length written ≡ 64) → faults ≡ 0
 none_failed ending old new status text written faults made due is whole full =
     let few : length text < 64 = short old new status text made (subst (λ (e : Ending). IsWrittenAt e old new script status text) due is) in
@@ -104,7 +104,7 @@ none_failed ending old new status text written faults made due is whole full =
     grind arith
 
 -- where files, source and sink don't fail
-finished_row : (old new : Shelf) (status : Status) (text : List ℕ) → IsMade old → IsWrittenAt (to_answer loading zeros) old new script status text → (status ≡ Fault → ⊥)
+finished_row : (old new : Shelf) (status : Status) (text : List ℕ) → IsJournalMade old → IsWrittenAt (to_answer loading zeros) old new script status text → (status ≡ Fault → ⊥)
     → (status ≡ NoMemory) ⊎ (status ≡ DiskFault) ⊎ ((status ≡ Done) × IsRowText text)
 finished_row old new status text made (inl (inl due)) sound = inr (inr (due_is old new status text made due))
 finished_row old new status text made (inl (inr (inl (memory, is), more))) sound = inl memory
@@ -122,7 +122,7 @@ written_row text written whole (inr (inr (inl is))) = inr (inr (inl (whole ∙ a
 written_row text written whole (inr (inr (inr is))) = inr (inr (inr (whole ∙ ap Some is)))
 
 -- Where those don't fail, the row is written, or memory is wanting, or the disk fails at the opening.
-pub finished : (ending : Ending) (old new : Shelf) (status : Status) (text written : List ℕ) → IsMade old → ending ≡ to_answer loading zeros → IsWrittenAt ending old new script status text
+pub finished : (ending : Ending) (old new : Shelf) (status : Status) (text written : List ℕ) → IsJournalMade old → ending ≡ to_answer loading zeros → IsWrittenAt ending old new script status text
     → Some written ≡ Some ([] ++ text) → (status ≡ Fault → ⊥)
     → (status ≡ NoMemory) ⊎ (status ≡ DiskFault) ⊎ ((status ≡ Done) × IsRowWritten written)
 finished ending old new status text written made due is whole sound = here (finished_row old new status text made (subst (λ (e : Ending). IsWrittenAt e old new script status text) due is) sound)

@@ -3,9 +3,9 @@ use Rattle.std.proofs.Common.{◌≡◌, ℕ, List, [], ◌∷◌, ◌++◌, Opt
 use Rattle.std.specs.Prelude.{Result, Ok, Err, ok_or, codes, length, nat_eq, if◌then◌else◌}
 use Rattle.table_store.specs.Table.{table_in_file}
 use Rattle.owner_catalog.specs.Catalog.{catalog_in_file}
-use Rattle.query_server.specs.Files.{Contents, always, readable}
-use Rattle.query_server.specs.Steps.{Step, Outcome, from, done, file_read, behind, continued, each, ◌>>=◌}
-use Rattle.query_server.specs.Loaded.{catalog_read, key_read, loaded, loading_with, or_refused, owner_read, owner_with, table_read, table_with}
+use Rattle.catalog_loading.specs.Files.{Contents, always, readable}
+use Rattle.catalog_loading.specs.Steps.{FileStep, StepOutcome, from, done, file_read, behind, continued, one_by_one, ◌>>=◌}
+use Rattle.catalog_loading.specs.Loaded.{catalog_read, key_read, loaded, loading_with, or_refused, owner_read, owner_with, table_read, table_with}
 use Rattle.query_server.specs.Ending.{Ending, to_answer}
 use Rattle.query_server.specs.Run.{run_steps}
 use Rattle.worked_row.specs.Row.{catalog_text, table_text}
@@ -14,7 +14,7 @@ use Rattle.worked_row.proofs.RowCatalog.{has_catalog as catalog_is_read}
 use Rattle.worked_row.proofs.RowTable.{has_rows}
 
 -- a step gives this, and the files tell the same as before
-abbrev pub Gives : {A : Type 0} → Step A → Contents → A → Type 0
+abbrev pub Gives : {A : Type 0} → FileStep A → Contents → A → Type 0
 Gives step held a = (names : List (List ℕ)) × (step (always held) ≡ record { given = Ok a; names = names; rest = always held })
 
 gives : {A : Type 0} → (held : Contents) (r : Result A (List ℕ)) (a : A) → r ≡ Ok a → Gives (from r) held a
@@ -27,20 +27,20 @@ reads held name bytes has short = (
       ∙ ap (λ (found : Option (List ℕ)). record { given = ok_or found name; names = name ∷ []; rest = always held }) short,
 )
 
-goes_on : {A B : Type 0} → (step : Step A) (next : A → Step B) (held : Contents) (a : A) (b : B) → Gives step held a → Gives (next a) held b → Gives (step >>= next) held b
+goes_on : {A B : Type 0} → (step : FileStep A) (next : A → FileStep B) (held : Contents) (a : A) (b : B) → Gives step held a → Gives (next a) held b → Gives (step >>= next) held b
 unfolding ◌>>=◌
 goes_on {A = A} {B = B} step next held a b (names, is) (more, comes) =
-    (names ++ more, ap (λ (o : Outcome A). continued o.given o.names o.rest next) is ∙ ap (λ (o : Outcome B). behind names o) comes)
+    (names ++ more, ap (λ (o : StepOutcome A). continued o.given o.names o.rest next) is ∙ ap (λ (o : StepOutcome B). behind names o) comes)
 
-none : {A B : Type 0} → (step : A → Step B) (held : Contents) → Gives (each step []) held []
-unfolding each
+none : {A B : Type 0} → (step : A → FileStep B) (held : Contents) → Gives (one_by_one step []) held []
+unfolding one_by_one
 none step held = ([], refl)
 
-one : {A B : Type 0} → (step : A → Step B) (held : Contents) (x : A) (y : B) → Gives (step x) held y → Gives (each step (x ∷ [])) held (y ∷ [])
-unfolding each
+one : {A B : Type 0} → (step : A → FileStep B) (held : Contents) (x : A) (y : B) → Gives (step x) held y → Gives (one_by_one step (x ∷ [])) held (y ∷ [])
+unfolding one_by_one
 one step held x y is =
-    goes_on (step x) (λ y. each step [] >>= (λ ys. done (y ∷ ys))) held y (y ∷ []) is
-    (goes_on (each step []) (λ ys. done (y ∷ ys)) held [] (y ∷ []) (none step held) (gives held (Ok (y ∷ [])) (y ∷ []) refl))
+    goes_on (step x) (λ y. one_by_one step [] >>= (λ ys. done (y ∷ ys))) held y (y ∷ []) is
+    (goes_on (one_by_one step []) (λ ys. done (y ∷ ys)) held [] (y ∷ []) (none step held) (gives held (Ok (y ∷ [])) (y ∷ []) refl))
 
 abbrev ending : Ending
 ending = to_answer loading zeros
@@ -61,13 +61,13 @@ table_given held has =
 
 owner_given : (held : Contents) → held (codes "people.csv") ≡ Some table_text → Gives (owner_read census) held loaded_owner
 owner_given held has =
-    goes_on (each table_read census.tables) (λ tables. done (owner_with census tables)) held (loaded_table ∷ []) loaded_owner
+    goes_on (one_by_one table_read census.tables) (λ tables. done (owner_with census tables)) held (loaded_table ∷ []) loaded_owner
     (one table_read held people loaded_table (table_given held has))
     (gives held (Ok loaded_owner) loaded_owner refl)
 
 loaded_given : (held : Contents) → held (codes "people.csv") ≡ Some table_text → Gives (loaded catalog) held loading
 loaded_given held has =
-    goes_on (each owner_read catalog.owners) (λ owners. done (loading_with catalog owners)) held (loaded_owner ∷ []) loading
+    goes_on (one_by_one owner_read catalog.owners) (λ owners. done (loading_with catalog owners)) held (loaded_owner ∷ []) loading
     (one owner_read held census loaded_owner (owner_given held has))
     (gives held (Ok loading) loading refl)
 

@@ -4,7 +4,7 @@ use Rattle.budget_journal.specs.Journals.{Stands}
 use Rattle.fz_ast.specs.declared.row.Column.TheVariants.{Num}
 use Rattle.metric_values.specs.Values.{Flat, NumF}
 use Rattle.owner_catalog.specs.Catalog.{Catalog, OwnerEntry, TableEntry}
-use Rattle.query_server.specs.Loaded.{LoadedOwner, LoadedTable, Loading, header_of, loading_with, owner_with, table_with}
+use Rattle.catalog_loading.specs.Loaded.{LoadedOwner, LoadedTable, Loading, header_of, loading_with, owner_with, table_with}
 use Rattle.query_server.specs.Shelves.{Shelf, bytes_on}
 use Rattle.worked_row.specs.Row.{table_text}
 
@@ -44,5 +44,5 @@ abbrev pub loading : Loading
 loading = loading_with catalog (loaded_owner ∷ [])
 
 -- the owner's journal was made for these files and this key, and has no records yet
-abbrev pub IsMade : Shelf → Type 0
-IsMade shelf = (bytes : List ℕ) × (bytes_on shelf 0 ≡ Some bytes) × Stands (header_of loading zeros 0) [] bytes
+abbrev pub IsJournalMade : Shelf → Type 0
+IsJournalMade shelf = (bytes : List ℕ) × (bytes_on shelf 0 ≡ Some bytes) × Stands (header_of loading zeros 0) [] bytes

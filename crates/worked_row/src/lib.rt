@@ -4,7 +4,7 @@
 ghost use Rattle.std.specs.Prelude.{◌≡◌, ◌⊎◌, Some, [], ◌∷◌, codes, map, string_bytes, replicate, IfOk};
 ghost use Rattle.fz_outside.specs.Files.{bytes_of};
 ghost use Rattle.query_server.specs.Shelves.{AreAtHome};
-ghost use Rattle.worked_row.specs.Held.{IsMade};
+ghost use Rattle.worked_row.specs.Held.{IsJournalMade};
 ghost use Rattle.worked_row.specs.Row.{catalog_text, table_text, row, row_without, row_lost, row_failed};
 
 use fz_outside::files::{MemFile, MemFiles};
@@ -62,7 +62,7 @@ fn files_of_row() -> [MemFile<'static>; 3]
 /// after its reservation; or the owner's disk failed, as its journal was opened or as a record was appended; nothing else can come.
 pub fn row_one<B: Bay>(alloc: Global, bay: &mut B) -> Result<Ran, AllocError>
     requires home { AreAtHome (B.owners bay.old) (B.shelf bay.old) }
-    requires made { IsMade (B.shelf bay.old) }
+    requires made { IsJournalMade (B.shelf bay.old) }
     ensures { IfOk result (λ ran. (ran.status ≡ Status.NoMemory) ⊎ (ran.status ≡ Status.DiskFault)
         ⊎ ((ran.status ≡ Status.Done)
         × ((⟦<MemSink<ROOM> as Sink>⟧.contents ran.sink ≡ Some row)

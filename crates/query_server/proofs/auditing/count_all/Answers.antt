@@ -1,10 +1,9 @@
 use Rattle.std.proofs.Common.{◌≡◌, ◌∙◌, ◌<◌, [], refl, rules, arith}
 use Rattle.owner_catalog.specs.Entries.{OwnerEntry}
-use Rattle.query_server.specs.Loaded.{header_of}
-use Rattle.query_server.specs.Ends.{loading_by}
-use Rattle.query_server.specs.Opened.{owners_in}
+use Rattle.catalog_loading.specs.Loaded.{header_of, owners_in, entry_at}
+use Rattle.catalog_loading.specs.Given.{loading_by}
 use Rattle.query_server.specs.Shelves.{bytes_on}
-use Rattle.query_server.specs.Opened.{IsOpened, entry_at}
+use Rattle.query_server.specs.Opened.{IsOpened}
 use Rattle.query_server.proofs.Counted.{count_stopped, none_counted, one_counted, one_left, opened_as, rose_since}
 use Rattle.query_server.proofs.auditing.count_all.Goals as goal
 

@@ -1,8 +1,8 @@
 use Rattle.std.proofs.Common.{◌≡◌, ◌≤◌}
-use Rattle.query_server.specs.Loaded.{header_of}
-use Rattle.query_server.specs.Ends.{loading_by}
+use Rattle.catalog_loading.specs.Loaded.{header_of, entry_at}
+use Rattle.catalog_loading.specs.Given.{loading_by}
 use Rattle.query_server.specs.Shelves.{Became, IsOnlySynced, bytes_on}
-use Rattle.query_server.specs.Opened.{IsOpened, entry_at}
+use Rattle.query_server.specs.Opened.{IsOpened}
 use Rattle.query_server.proofs.Counted.{AreCounted}
 use Rattle.query_server.proofs.auditing.count_all.Given as goal
 

@@ -5,9 +5,8 @@ use Rattle.owner_catalog.specs.Entries.{Catalog, owner_entry_at}
 use Rattle.budget_core.specs.Entries.{Entry}
 use Rattle.budget_ledger.specs.Opened.{IsBookFault}
 use Rattle.session_core.proofs.Owners.{owners_length}
-use Rattle.query_server.specs.Loaded.{header_of}
-use Rattle.query_server.specs.Opened.{entry_at}
-use Rattle.query_server.specs.Ends.{loading_by}
+use Rattle.catalog_loading.specs.Loaded.{header_of, entry_at}
+use Rattle.catalog_loading.specs.Given.{loading_by}
 use Rattle.query_server.proofs.Stops.{entry_is, fault_stopped, new_book, told_shown}
 use Rattle.query_server.proofs.books.open_book.Goals as goal
 

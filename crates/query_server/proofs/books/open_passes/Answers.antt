@@ -1,10 +1,9 @@
 use Rattle.std.proofs.Common.{rules, ◌≡◌, ◌∙◌, ◌<◌, ◌+◌, List, refl, sym, ap, subst, arith}
 use Rattle.std.specs.Prelude.{Err, IsSome}
-use Rattle.query_server.specs.declared.end.Stop.TheVariants.{Disk}
+use Rattle.catalog_loading.specs.declared.stops.Stop.TheVariants.{Disk}
 use Rattle.answer_path.specs.Pass.{Pass}
-use Rattle.query_server.specs.Loaded.{header_of}
-use Rattle.query_server.specs.Opened.{entry_at, owners_in}
-use Rattle.query_server.specs.Ends.{loading_by}
+use Rattle.catalog_loading.specs.Loaded.{header_of, entry_at, owners_in}
+use Rattle.catalog_loading.specs.Given.{loading_by}
 use Rattle.query_server.specs.Books.{ArePassesOn}
 use Rattle.query_server.proofs.Passes.{one_opened, opened_pass, risen_from, rose_by, rose_still, some_back}
 use Rattle.query_server.proofs.Stops.{err_same, open_stopped}

@@ -1,8 +1,7 @@
 use Rattle.std.proofs.Common.{◌≡◌, ◌≤◌, length}
 use Rattle.std.specs.Prelude.{vec_capacity}
-use Rattle.query_server.specs.Loaded.{header_of}
-use Rattle.query_server.specs.Opened.{entry_at}
-use Rattle.query_server.specs.Ends.{loading_by}
+use Rattle.catalog_loading.specs.Loaded.{header_of, entry_at}
+use Rattle.catalog_loading.specs.Given.{loading_by}
 use Rattle.query_server.specs.Books.{ArePassesOn}
 use Rattle.query_server.proofs.books.open_passes.Given as goal
 

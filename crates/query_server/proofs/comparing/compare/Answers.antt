@@ -25,7 +25,7 @@ returns c =
     let r = distance_of c.in-Ok-judge.judged.checked.sens in
     let found = c.in_ok-comparison.comparison in
     gap_accepted tables X Y c.args.program.now _ e r found.first found.second c.in-Ok.ensures.term
-    (subst (λ (ts : Signature). judgement_of ts (read e) ≡ accepted e r) c.sig.ensures.tables judged.accepts)
+    (subst (λ (ts : Signature). judgement_of ts (read e) ≡ accepted e r) c.tables_of.ensures.tables judged.accepts)
     (subst (λ (d : Term). Means (rows_of tables X) d (NumV found.first)) judged.checked.term c.in_ok-comparison.ensures.first)
     (subst (λ (d : Term). Means (rows_of tables Y) d (NumV found.second)) judged.checked.term c.in_ok-comparison.ensures.second)
     (c.in_ok-comparison_lines.ensures ∙ ap (λ distance. gap_text distance (distance_of found.sens) found.first found.second) c.in_ok-comparison.ensures.distance

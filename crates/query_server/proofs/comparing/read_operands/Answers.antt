@@ -1,8 +1,8 @@
 use Rattle.std.proofs.Common.{◌∙◌, refl, sym}
 use Rattle.owner_catalog.specs.Entries.{owner_entry_at}
 use Rattle.query_server.specs.Gap.{gap_steps}
-use Rattle.query_server.proofs.Fits.{opened_lawful, same_signature}
-use Rattle.query_server.proofs.Reached.{all_done, begun, decided, one_more, passed, stopped, undecided}
+use Rattle.catalog_loading.proofs.Fits.{opened_lawful, same_signature}
+use Rattle.catalog_loading.proofs.Reached.{all_done, begun, decided, one_more, passed, stopped, undecided}
 use Rattle.query_server.proofs.comparing.read_operands.Goals as goal
 
 pub find_fitting-requires-clause-legal : goal.find_fitting-requires-clause-legal

@@ -4,7 +4,7 @@ use Rattle.std.specs.List.{flat_map}
 use Rattle.owner_catalog.specs.Catalog.{Catalog}
 use Rattle.query_server.specs.Make.{made_line}
 use Rattle.query_server.specs.Ending.{to_make}
-use Rattle.query_server.specs.Ends.{loading_by}
+use Rattle.catalog_loading.specs.Given.{loading_by}
 use Rattle.query_server.proofs.Disks.{may_stop_same}
 use Rattle.query_server.proofs.Made.{make_stop_end}
 use Rattle.query_server.proofs.making.list_made.Goals as goal

@@ -1,6 +1,6 @@
 use Rattle.std.proofs.Common.{◌≡◌}
-use Rattle.query_server.specs.Loaded.{header_of}
-use Rattle.query_server.specs.Ends.{loading_by}
+use Rattle.catalog_loading.specs.Loaded.{header_of}
+use Rattle.catalog_loading.specs.Given.{loading_by}
 use Rattle.query_server.specs.Shelves.{Became}
 use Rattle.query_server.specs.Make.{IsMade}
 use Rattle.query_server.proofs.making.make_all.Given as goal

@@ -3,8 +3,9 @@ use Rattle.word_streams.specs.Draws.{draws_of}
 use Rattle.answer_path.specs.Pass.{Pass}
 use Rattle.session_core.specs.House.{house_of}
 use Rattle.session_core.specs.Code.{ArePasses}
-use Rattle.query_server.specs.Opened.{owners_in}
-use Rattle.query_server.specs.Ends.{IsAnsweredOn, loading_by}
+use Rattle.catalog_loading.specs.Loaded.{owners_in}
+use Rattle.catalog_loading.specs.Given.{loading_by}
+use Rattle.query_server.specs.Ends.{IsAnsweredOn}
 use Rattle.query_server.proofs.Contents.{any_left}
 use Rattle.query_server.proofs.Ran.{answered_count, answered_no_disk, few_owners, open_passed, opened_passes, run_ends}
 use Rattle.query_server.proofs.running.answer.Goals as goal

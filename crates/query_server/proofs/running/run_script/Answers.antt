@@ -1,6 +1,8 @@
+use Rattle.catalog_loading.proofs.Houses.{house_done, house_stopped}
 use Rattle.query_server.specs.Ending.{to_answer}
 use Rattle.query_server.specs.Run.{run_steps}
-use Rattle.query_server.specs.Ends.{end_by, loading_by}
+use Rattle.catalog_loading.specs.Given.{loading_by}
+use Rattle.query_server.specs.Ends.{end_by}
 use Rattle.query_server.specs.declared.end.End.TheVariants.{Run}
 use Rattle.query_server.proofs.Ends.{done_end, passed_end}
 use Rattle.query_server.proofs.Ran.{passed_disk}
@@ -10,7 +12,7 @@ use Rattle.query_server.proofs.running.run_script.Goals as goal
 
 pub returns-in_err-opened-clause-end : goal.returns-in_err-opened-clause-end
 returns-in_err-opened-clause-end g c =
-    passed_end _ _ _ _ (g.B.Bay.shelf c.args.bay.now) (run_steps c.args.catalog.now c.args.key.now) Run _ c.from_residual.result (c.in_err-opened.ensures.step to_answer) c.from_residual.ensures.1
+    passed_end _ _ _ _ (g.B.Bay.shelf c.args.bay.now) (run_steps c.args.catalog.now c.args.key.now) Run _ c.from_residual.result (house_stopped _ _ _ to_answer c.args.catalog.now c.args.key.now _ c.in_err-opened.ensures.step) c.from_residual.ensures.1
 
 pub returns-in_err-opened-clause-taken : goal.returns-in_err-opened-clause-taken
 returns-in_err-opened-clause-taken g c = took_passed _ Run _ c.from_residual.result c.from_residual.ensures.1
@@ -19,8 +21,8 @@ pub returns-clause-end : goal.returns-clause-end
 returns-clause-end g c =
     let opened = c.in_ok-opened.opened in
     let due = c.answer.ensures.end in
-    done_end _ _ _ _ _ _ (run_steps c.args.catalog.now c.args.key.now) (to_answer (loading_by opened.house opened.hashes.items) opened.key) due.0 (end_by Run c.answer.result) (c.in_ok-opened.ensures.step to_answer) due.1 due.2
+    done_end _ _ _ _ _ _ (run_steps c.args.catalog.now c.args.key.now) (to_answer (loading_by opened.house opened.hashes.items) opened.key) due.0 (end_by Run c.answer.result) (house_done _ _ _ to_answer c.args.catalog.now c.args.key.now _ _ c.in_ok-opened.ensures.step) due.1 due.2
 
 pub returns-in_err-opened-clause-disk : goal.returns-in_err-opened-clause-disk
 returns-in_err-opened-clause-disk g c = λ line is.
-    step_no_disk _ _ _ (run_steps c.args.catalog.now c.args.key.now) c.in_err-opened.field-0.0 line (c.in_err-opened.ensures.step to_answer) (passed_disk c.in_err-opened.field-0.0 c.from_residual.result line c.from_residual.ensures.1 is)
+    step_no_disk _ _ _ (run_steps c.args.catalog.now c.args.key.now) c.in_err-opened.field-0.0 line (house_stopped _ _ _ to_answer c.args.catalog.now c.args.key.now _ c.in_err-opened.ensures.step) (passed_disk c.in_err-opened.field-0.0 c.from_residual.result line c.from_residual.ensures.1 is)

@@ -1,7 +1,7 @@
 use Rattle.std.proofs.Common.{◌∙◌, Some, ap, map, string_bytes, subst}
 use Rattle.std.specs.Io.KnownBytes.{append_known}
 use Rattle.command_words.specs.Command.{command_of}
-use Rattle.query_server.specs.Files.{always}
+use Rattle.catalog_loading.specs.Files.{always}
 use Rattle.query_server.specs.Ending.{Ending}
 use Rattle.query_server.specs.Due.{IfFinished, IsDue, ending_of}
 use Rattle.query_server.proofs.Contents.{at_held, at_told}

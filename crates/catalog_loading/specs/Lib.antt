@@ -1,0 +1,5 @@
+pub mod Files
+pub mod Steps
+pub mod Loaded
+pub mod Fit
+pub mod Given

@@ -1,0 +1,134 @@
+-- the files of a catalog: itself, and the tables of its owners
+use Rattle.std.specs.Prelude.{◌≡◌, ◌<◌, ℕ, List, [], length, map, nat_eq, Result, Ok, Err, find, get_or, position, slice_get, ok_or, option_and_then, bytes_eq, if◌then◌else◌}
+use Rattle.sha2.specs.Sha256.{sha256}
+use Rattle.journal_records.specs.declared.records.Header.{Header}
+use Rattle.budget_core.specs.Entries.{Entry}
+use Rattle.metric_values.specs.Values.{Flat}
+use Rattle.table_store.specs.Table.{table_in_file}
+use Rattle.owner_catalog.specs.Catalog.{Catalog, OwnerEntry, TableEntry, catalog_in_file, owner_signature}
+use Rattle.owner_catalog.specs.Digest.{digest_of}
+use Rattle.owner_catalog.specs.Entries.{owner_entry_at}
+use Rattle.part_views.specs.Holding.{Holding}
+use Rattle.session_core.specs.House.{Register, IsRegister, entry_of}
+use Rattle.catalog_loading.specs.Steps.{FileStep, ◌>>=◌, done, one_by_one, file_read, from}
+
+-- this name is refused, where something is wrong
+abbrev pub or_refused : {A F : Type 0} → (name : List ℕ) → Result A F → Result A (List ℕ)
+or_refused name (Ok a) = Ok a
+or_refused name (Err fault) = Err name
+
+-- the bytes of a file of 32 of them
+abbrev pub key_read : (name : List ℕ) → FileStep (List ℕ)
+key_read name = do
+  key ← file_read name
+  from (if nat_eq (length key) 32 then Ok key else Err name)
+
+-- a file within the definition of a catalog
+abbrev pub catalog_read : (name : List ℕ) → FileStep Catalog
+catalog_read name = do
+  bytes ← file_read name
+  from (or_refused name (catalog_in_file bytes))
+
+-- a table's rows, and the SHA-256 of the file that they stand in
+pub record LoadedTable : Type 0 where
+  pub rows : List Flat
+  pub hash : List ℕ
+
+-- what these bytes, in which these rows stand, are of a table
+abbrev pub table_with : List Flat → (bytes : List ℕ) → LoadedTable
+table_with rows bytes = record { rows = rows; hash = sha256 bytes }
+
+-- a table, in the file that its entry names
+abbrev pub table_read : TableEntry → FileStep LoadedTable
+table_read table = do
+  bytes ← file_read table.file
+  rows ← from (or_refused table.file (table_in_file table.columns bytes))
+  done (table_with rows bytes)
+
+-- an owner's tables, their rows and its partitions, and the SHA-256 of each of its table files, in order
+pub record LoadedOwner : Type 0 where
+  pub holding : Holding
+  pub hashes : List (List ℕ)
+
+-- what these tables are of this owner
+abbrev pub owner_with : OwnerEntry → List LoadedTable → LoadedOwner
+owner_with owner tables =
+    record {
+      holding = record { tables = owner_signature owner; rows = map (λ t. t.rows) tables; partitions = owner.partitions };
+      hashes = map (λ t. t.hash) tables;
+    }
+
+abbrev pub owner_read : OwnerEntry → FileStep LoadedOwner
+owner_read owner = do
+  tables ← one_by_one table_read owner.tables
+  done (owner_with owner tables)
+
+-- What all owners of a catalog hold, and the SHA-256 of each one's table files. Every command loads both, though the digests
+-- of journals alone need the SHA-256.
+pub record Loading : Type 0 where
+  pub register : Register
+  pub hashes : List (List (List ℕ))
+
+-- what these owners are of this catalog
+abbrev pub loading_with : Catalog → List LoadedOwner → Loading
+loading_with catalog owners =
+    record { register = record { catalog = catalog; holdings = map (λ o. o.holding) owners }; hashes = map (λ o. o.hashes) owners }
+
+-- what all owners of a catalog hold
+abbrev pub loaded : Catalog → FileStep Loading
+loaded catalog = do
+  owners ← one_by_one owner_read catalog.owners
+  done (loading_with catalog owners)
+
+-- what is to be done with a house: CATALOG, then KEY, then the tables of all owners
+abbrev pub with_house : {A : Type 0} → (Loading → (key : List ℕ) → A) → (catalog key : List ℕ) → FileStep A
+with_house work catalog key = do
+  house ← catalog_read catalog
+  bytes ← key_read key
+  loading ← loaded house
+  done (work loading bytes)
+
+-- a house, with the key of its draws
+abbrev pub house_read : (catalog key : List ℕ) → FileStep (Loading × List ℕ)
+house_read = with_house (λ loading key. (loading, key))
+
+-- what may be loaded: a register, and the SHA-256 of each of an owner's tables
+pub record IsLoading (loading : Loading) : Type 0 where
+  pub register : IsRegister loading.register
+  pub hashed : (o : ℕ) → o < length loading.register.catalog.owners
+      → length (get_or loading.hashes o []) ≡ length (owner_entry_at loading.register.catalog o).tables
+
+-- how many owners there are, and what is known of each by its number
+abbrev pub owners_in : Loading → ℕ
+owners_in loading = length loading.register.catalog.owners
+
+abbrev pub owner_name_at : Loading → (o : ℕ) → List ℕ
+owner_name_at loading o = (owner_entry_at loading.register.catalog o).name
+
+abbrev pub entry_at : Loading → (o : ℕ) → Entry
+entry_at loading o = entry_of loading.register.catalog (owner_entry_at loading.register.catalog o)
+
+-- The header of an owner's journal under a key: the owner's number, its budget and capacity, and the digest of the key, its
+-- entry and its table files.
+abbrev pub header_of : Loading → (key : List ℕ) → (o : ℕ) → Header
+header_of loading key o = record {
+  owner = o;
+  budget = (owner_entry_at loading.register.catalog o).budget;
+  capacity = (owner_entry_at loading.register.catalog o).capacity;
+  digest = digest_of loading.register.catalog o key (get_or loading.hashes o []);
+}
+
+-- the owner of this name
+abbrev pub entry_named : Catalog → (name : List ℕ) → Result OwnerEntry (List ℕ)
+entry_named catalog name = ok_or (find (λ owner. bytes_eq name owner.name) catalog.owners) name
+
+-- what it holds: the holding at its number
+abbrev pub holding_in : Register → (name : List ℕ) → Result Holding (List ℕ)
+holding_in register name =
+    ok_or (option_and_then (slice_get register.holdings) (position (λ owner. bytes_eq name owner.name) register.catalog.owners)) name
+
+-- all owners are loaded, and this one is taken
+abbrev pub owner_loaded : Catalog → (name : List ℕ) → FileStep Holding
+owner_loaded catalog name = do
+  loading ← loaded catalog
+  from (holding_in loading.register name)

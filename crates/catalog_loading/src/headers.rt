@@ -1,0 +1,56 @@
+//! The headers of the owners' journals.
+
+ghost use Rattle.std.specs.Prelude.{◌≡◌, ◌<◌, ◌≤◌, ℕ, get_or, length, IfErr, IfOk};
+ghost use Rattle.std.specs.List.{All};
+ghost use Rattle.journal_records.specs.Encoding.{IsHeader};
+ghost use Rattle.journal_records.specs.declared.records.Header.{Header as HeaderModel};
+ghost use Rattle.catalog_loading.specs.Loaded.{IsLoading, header_of};
+ghost use Rattle.catalog_loading.specs.Loaded.{owners_in};
+ghost use Rattle.catalog_loading.specs.Given.{loading_by};
+
+use crate::opening::Opened;
+use crate::stops::Stop;
+use journal_records::records::Header;
+use owner_catalog::digest;
+use std::alloc::Global;
+
+/// The header of an owner's journal.
+fn header_for(opened: &Opened, owner: u32) -> Result<Header, Stop>
+    requires loaded { IsLoading (loading_by opened.now.house opened.now.hashes.items) }
+    requires owner { owner < owners_in (loading_by opened.now.house opened.now.hashes.items) }
+    ensures header { IfOk result (λ header. header ≡ header_of (loading_by opened.now.house opened.now.hashes.items) opened.now.key owner) }
+    ensures valid { IfOk result IsHeader }
+    ensures memory { IfErr result (λ stop. stop ≡ Stop.NoMemory) }
+{
+    let catalog = opened.house.catalog();
+    let hashes = &opened.hashes[owner as usize];
+    let Ok(digest) = digest(catalog, owner, &opened.key, hashes) else {
+        return Err(Stop::NoMemory);
+    };
+    Ok(Header {
+        owner,
+        budget: catalog.budget(owner),
+        capacity: catalog.capacity(owner),
+        digest,
+    })
+}
+
+/// The header of each owner's journal, in order.
+pub fn headers_of(alloc: Global, opened: &Opened) -> Result<Vec<Header>, Stop>
+    requires { IsLoading (loading_by opened.now.house opened.now.hashes.items) }
+    ensures count { IfOk result (λ headers. length headers.items ≡ owners_in (loading_by opened.now.house opened.now.hashes.items)) }
+    ensures few { IfOk result (λ headers. length headers.items ≤ 16) }
+    ensures headers { IfOk result (λ headers. (o : ℕ) (d : HeaderModel) → o < owners_in (loading_by opened.now.house opened.now.hashes.items) →
+        get_or headers.items o d ≡ header_of (loading_by opened.now.house opened.now.hashes.items) opened.now.key o) }
+    ensures valid { IfOk result (λ headers. All IsHeader headers.items) }
+    ensures memory { IfErr result (λ stop. stop ≡ Stop.NoMemory) }
+{
+    let mut headers = Vec::new(alloc);
+    for owner in 0..opened.house.catalog().owners() as u32 {
+        let header = header_for(opened, owner)?;
+        let Ok(()) = headers.push(header) else {
+            return Err(Stop::NoMemory);
+        };
+    }
+    Ok(headers)
+}

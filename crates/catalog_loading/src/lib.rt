@@ -1,0 +1,16 @@
+//! Catalogs and the files that they name are read, in order, up to the first that is refused.
+#![tactic(auto)]
+
+mod fitting;
+mod headers;
+mod loading;
+mod opening;
+mod reading;
+mod stops;
+
+pub use crate::fitting::find_fitting;
+pub use crate::headers::headers_of;
+pub use crate::loading::{load_for, open_catalog};
+pub use crate::opening::{Opened, find_owner, open_house};
+pub use crate::reading::read_file;
+pub use crate::stops::Stop;
