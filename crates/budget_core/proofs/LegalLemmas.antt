@@ -62,7 +62,7 @@ legal-append entry found records next l may terms ours room = record {
 }
 
 -- which way two tests went
-chosen : {T E : Type 0} → (over full : Bool) (e f : E) (v w : T) → cond over (Err e) (cond full (Err f) (Ok v)) ≡ Ok w → (over ≡ false) × (full ≡ false) × (w ≡ v)
+pub chosen : {T E : Type 0} → (over full : Bool) (e f : E) (v w : T) → cond over (Err e) (cond full (Err f) (Ok v)) ≡ Ok w → (over ≡ false) × (full ≡ false) × (w ≡ v)
 chosen true full e f v w h = absurd cc
 chosen false true e f v w h = absurd cc
 chosen false false e f v w h = (refl, refl, cc)

@@ -9,6 +9,7 @@ pub mod KeptLemmas
 pub mod SoundLemmas
 pub mod RunLemmas
 pub mod Asks
+pub mod Grants
 pub mod EventLemmas
 mod Examples
 mod LegalExamples

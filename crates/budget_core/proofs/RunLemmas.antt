@@ -1,5 +1,5 @@
 -- what a ledger keeps, over its calls
-use Rattle.std.proofs.Common.{◌≡◌, ℕ, ◌+◌, ◌-◌, ◌<◌, List, [], ◌∷◌, ◌++◌, length, length-append, take, Ok, refl, sym, ◌∙◌, ap, subst, arith}
+use Rattle.std.proofs.Common.{◌≡◌, ℕ, ◌+◌, ◌-◌, List, [], ◌∷◌, ◌++◌, length, length-append, take, Ok, refl, sym, ◌∙◌, ap, subst, arith}
 use Rattle.std.proofs.lemmas.List.{take-append-le}
 use Rattle.std.proofs.Math.Seq.{take-length}
 use Rattle.journal_records.specs.declared.records.Outcome.{Outcome}
@@ -9,15 +9,13 @@ use Rattle.budget_core.specs.declared.entry.Ask.{Ask}
 use Rattle.budget_core.specs.declared.entry.Grant.{Grant}
 use Rattle.budget_core.specs.declared.ledger.Ledger.TheInside.{Inside}
 use Rattle.budget_core.specs.Counts.{reservations_of, open_from}
-use Rattle.budget_core.specs.Legal.{MayFollow}
 use Rattle.budget_core.specs.Ledger.{Ledger, start_of, next_number, reservation_numbered, reservation_for, money_verdict, IsAskOf, IsUnsettled}
 use Rattle.budget_core.specs.Past.{Past}
 use Rattle.budget_core.specs.Run.{ledger_in, HoldsRun}
 use Rattle.budget_core.specs.Sound.{IsSound}
-use Rattle.budget_core.proofs.Histories.{history-append}
 use Rattle.budget_core.proofs.LegalLemmas.{granted, open-granted, unsettled-Reserve, reservations_within}
 use Rattle.budget_core.proofs.Standings.{open-past}
-use Rattle.budget_core.proofs.SoundLemmas.{sound-history, sound-Reserve, sound-Settle, open-settled, sound-found, follow-within}
+use Rattle.budget_core.proofs.SoundLemmas.{sound-history, sound-Reserve, sound-Settle, open-settled, sound-found}
 
 -- how many are open
 pub run-open : (l : Inside) → HoldsRun l → l.unsettled ≡ open_from (start_of (ledger_in l)) l.history.records
@@ -71,16 +69,6 @@ run-found history found start s is count =
       unsettled = sym (ap (λ (n : ℕ). open_from n history.records) count ∙ open-past history.entry history.records s.found);
       sound = subst (λ (found : List Record). IsSound (record { entry = history.entry; found = found; records = history.records })) whole s;
     }
-
--- after a record more was found
-pub sound-restored : (l : Inside) (history : Past) (next : Record) → HoldsRun l → MayFollow l.history.entry l.history.records next → length l.history.records < l.history.entry.capacity
-    → Grew l.history history next → IsSound (record { entry = history.entry; found = history.records; records = history.records })
-sound-restored l history next k may short grew =
-    let all : List Record = l.history.records ++ next ∷ [] in
-    let h = sound-history (ledger_in l) k.sound in
-    subst (λ (p : Past). IsSound (record { entry = p.entry; found = p.records; records = p.records })) (sym grew)
-    (sound-found l.history.entry all k.sound.entry (history-append l.history.entry l.history.records next h may) (follow-within l.history.entry l.history.records next k.sound.within may)
-    (omega (arith, short, length-append l.history.records (next ∷ []))))
 
 -- what contracts see with one record more
 run-view : (l : Inside) (history : Past) (next : Record) (unsettled : ℕ) → HoldsRun l → Grew l.history history next

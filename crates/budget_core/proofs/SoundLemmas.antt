@@ -7,14 +7,14 @@ use Rattle.partition_charge.specs.Cost.{cost_of_charges}
 use Rattle.journal_records.specs.declared.records.Outcome.{Outcome}
 use Rattle.journal_records.specs.declared.records.Outcome.TheVariants.{Lost}
 use Rattle.journal_records.specs.declared.records.Record.{Record}
-use Rattle.journal_records.specs.declared.records.Record.TheVariants.{Reserve, Settle}
+use Rattle.journal_records.specs.declared.records.Record.TheVariants.{Settle}
 use Rattle.budget_core.specs.declared.entry.Ask.{Ask}
 use Rattle.budget_core.specs.declared.entry.Grant.{Grant}
 use Rattle.budget_core.specs.declared.entry.ReserveFault.TheVariants.{OverBudget, Full}
 use Rattle.budget_core.specs.Cost.{charge_of, charges_in, cost_of}
 use Rattle.budget_core.specs.Counts.{open_from}
 use Rattle.budget_core.specs.Entries.{Entry, IsEntry}
-use Rattle.budget_core.specs.Legal.{MayFollow, IsHistory, IsLegal}
+use Rattle.budget_core.specs.Legal.{IsHistory, IsLegal}
 use Rattle.budget_core.specs.Ledger.{Ledger, start_of, next_number, reservation_numbered, reservation_for, cost_with, money_verdict, IsAskOf, IsUnsettled}
 use Rattle.budget_core.specs.Sound.{IsSound}
 use Rattle.budget_core.proofs.Costs.{cost_of-append-Reserve, cost_of-append-Settle}
@@ -78,11 +78,6 @@ sound-found entry records valid h within fits = record {
   within = within;
   room = omega (arith, fits, open-past entry records h);
 }
-
--- A record that may follow keeps to the budget.
-pub follow-within : (entry : Entry) (records : List Record) (next : Record) → cost_of records ≤ entry.budget → MayFollow entry records next → cost_of (records ++ next ∷ []) ≤ entry.budget
-follow-within entry records (Reserve reservation) before may = may.within
-follow-within entry records (Settle number outcome) before may = omega (arith, before, cost_of-append-Settle records number outcome)
 
 -- ---- verdicts
 

@@ -11,7 +11,7 @@ use Rattle.journal_records.specs.declared.records.Outcome.TheVariants.{Answered,
 use Rattle.journal_records.specs.declared.records.Reservation.{Reservation}
 use Rattle.journal_records.specs.declared.records.Record.{Record}
 use Rattle.journal_records.specs.declared.records.Record.TheVariants.{Reserve, Settle}
-use Rattle.budget_core.specs.declared.history.Row.{Row}
+use Rattle.budget_core.specs.declared.totals.Row.{Row}
 use Rattle.budget_core.specs.Kept.{IsRowOf, HasRows}
 use Rattle.budget_core.specs.Counts.{is_reservation, reservations_of, reservation_of, outcome_of, analyst_of, asker_of, open_from}
 use Rattle.budget_core.specs.Answers.{is_answered, is_exhausted}

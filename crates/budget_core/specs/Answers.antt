@@ -1,5 +1,5 @@
 -- what a ledger answers about its records
-use Rattle.std.specs.Prelude.{ℕ, ◌+◌, ◌-◌, ◌==◌, nat_le, Bool, true, false, List, length, count_by, Option, Some, None, if◌then◌else◌}
+use Rattle.std.specs.Prelude.{ℕ, ◌+◌, ◌-◌, ◌==◌, nat_le, Bool, true, false, List, length, count_by, Option, Some, None, if◌then◌else◌, ⊤}
 use Rattle.journal_records.specs.declared.records.Outcome.{Outcome}
 use Rattle.journal_records.specs.declared.records.Outcome.TheVariants.{Answered, Exhausted, Lost}
 use Rattle.journal_records.specs.declared.records.Record.{Record}
@@ -8,10 +8,13 @@ use Rattle.budget_core.specs.declared.answers.Recall.{Recall}
 use Rattle.budget_core.specs.declared.answers.Recall.TheVariants.{Unknown, NotYours, Answer, Open, Lost as IsLost, Exhausted as IsExhausted}
 use Rattle.budget_core.specs.declared.answers.Left.{Left}
 use Rattle.budget_core.specs.declared.answers.Counts.{Counts}
+use Rattle.budget_core.specs.declared.answers.FoundFault.{FoundFault}
+use Rattle.budget_core.specs.declared.answers.FoundFault.TheVariants.{NoMemory, Astray}
 use Rattle.budget_core.specs.Cost.{cost_of}
 use Rattle.budget_core.specs.Counts.{reservations_of, outcome_of, asker_of}
 use Rattle.budget_core.specs.Entries.{Entry}
 use Rattle.budget_core.specs.Ledger.{Ledger, start_of}
+use Rattle.budget_core.specs.Legal.{IsFirstAstray}
 
 -- How a reservation stands: by its settlement; without one it is open where it is of this run, and lost otherwise.
 abbrev pub standing : (start number seen : ℕ) → Option Outcome → Recall
@@ -64,3 +67,8 @@ counts_of records = record {
   exhausted = count_by is_exhausted records;
   lost = length (reservations_of records) - (count_by is_answered records + count_by is_exhausted records);
 }
+
+-- why found records make no ledger
+abbrev pub IsFoundFault : Entry → List Record → FoundFault → Type 0
+IsFoundFault entry records NoMemory = ⊤
+IsFoundFault entry records (Astray k) = IsFirstAstray entry records k

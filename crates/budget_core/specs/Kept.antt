@@ -1,14 +1,15 @@
 -- what a history keeps beside its records
-use Rattle.std.specs.Prelude.{◌≡◌, ℕ, ◌≤◌, List, length, count_by, slice_get, Some, vec_capacity}
+use Rattle.std.specs.Prelude.{◌≡◌, ℕ, ◌<◌, ◌≤◌, List, [], ◌∷◌, ◌++◌, length, count_by, slice_get, Some, vec_capacity}
 use Rattle.partition_charge.specs.Totals.{Stands}
 use Rattle.journal_records.specs.declared.records.Record.{Record}
-use Rattle.budget_core.specs.declared.history.Row.{Row}
+use Rattle.budget_core.specs.declared.totals.Row.{Row}
+use Rattle.budget_core.specs.declared.totals.Totals.{Totals}
 use Rattle.budget_core.specs.declared.history.History.TheInside.{Inside}
 use Rattle.budget_core.specs.Answers.{is_answered, is_exhausted}
 use Rattle.budget_core.specs.Cost.{charges_in, cost_of}
 use Rattle.budget_core.specs.Counts.{reservations_of, asker_of, outcome_of}
-use Rattle.budget_core.specs.Entries.{IsEntry}
-use Rattle.budget_core.specs.Legal.{IsHistory}
+use Rattle.budget_core.specs.Entries.{Entry, IsEntry}
+use Rattle.budget_core.specs.Legal.{MayFollow, IsHistory}
 
 -- The row says who reserved the number, and how it was settled.
 pub record IsRowOf (records : List Record) (number : ℕ) (row : Row) : Type 0 where
@@ -20,14 +21,31 @@ pub record HasRows (rows : List Row) (records : List Record) : Type 0 where
   pub count : length rows ≡ length (reservations_of records)
   pub each : (number : ℕ) (row : Row) → slice_get rows number ≡ Some row → IsRowOf records number row
 
+-- The totals are those of these records, each of which may follow those before it.
+pub record IsTotalOf (entry : Entry) (records : List Record) (totals : Totals) : Type 0 where
+  pub valid : IsEntry entry
+  pub history : IsHistory entry records
+  pub within : cost_of records ≤ entry.budget
+  pub costs : Stands totals.costs (charges_in records)
+  pub rows : HasRows totals.rows.items records
+  pub answered : totals.answered ≡ count_by is_answered records
+  pub exhausted : totals.exhausted ≡ count_by is_exhausted records
+  pub fits : length records ≤ entry.capacity
+  pub row_room : entry.capacity ≤ vec_capacity totals.rows
+
+-- The totals are those of some records.
+abbrev pub IsTotal : Entry → Totals → Type 0
+IsTotal entry totals = (records : List Record) × IsTotalOf entry records totals
+
+-- The record may follow some records of which these are the totals, and there is room for it.
+abbrev pub MayCount : Totals → Record → Type 0
+MayCount totals next = (entry : Entry) × (records : List Record) × IsTotalOf entry records totals × MayFollow entry records next × (length records < entry.capacity)
+
+-- The record was counted behind all that may stand before it.
+abbrev pub HasCounted : Totals → Record → Totals → Type 0
+HasCounted old next new = (entry : Entry) (records : List Record) → IsTotalOf entry records old → MayFollow entry records next
+    → length records < entry.capacity → IsTotalOf entry (records ++ next ∷ []) new
+
 pub record HoldsTotals (h : Inside) : Type 0 where
-  pub entry : IsEntry h.entry
-  pub history : IsHistory h.entry h.records.items
-  pub within : cost_of h.records.items ≤ h.entry.budget
-  pub costs : Stands h.costs (charges_in h.records.items)
-  pub rows : HasRows h.rows.items h.records.items
-  pub answered : h.answered ≡ count_by is_answered h.records.items
-  pub exhausted : h.exhausted ≡ count_by is_exhausted h.records.items
-  pub fits : length h.records.items ≤ h.entry.capacity
+  pub totals : IsTotalOf h.entry h.records.items h.totals
   pub record_room : h.entry.capacity ≤ vec_capacity h.records
-  pub row_room : h.entry.capacity ≤ vec_capacity h.rows

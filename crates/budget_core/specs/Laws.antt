@@ -1,8 +1,12 @@
 -- the laws of legal records
-use Rattle.std.specs.Prelude.{◌≡◌, ℕ, ◌+◌, ◌≤◌, List, [], length, map, count_by, sum_by, IsTrue, ◌↔◌}
+use Rattle.std.specs.Prelude.{◌≡◌, ℕ, ◌+◌, ◌≤◌, ◌<◌, List, [], length, map, count_by, sum_by, slice_get, Some, Ok, IsTrue, ◌↔◌}
+use mathlib.Core.List.{IsPrefix}
 use Rattle.std.specs.List.{range_with_len}
 use Rattle.journal_records.specs.declared.records.Record.{Record}
+use Rattle.journal_records.specs.declared.records.Reservation.{Reservation}
+use Rattle.journal_records.specs.declared.records.Record.TheVariants.{Reserve}
 use Rattle.budget_core.specs.declared.entry.Ask.{Ask}
+use Rattle.budget_core.specs.declared.entry.Grant.{Grant}
 use Rattle.budget_core.specs.Bare.{without_answers}
 use Rattle.budget_core.specs.Cost.{cost_of}
 use Rattle.budget_core.specs.Counts.{reservations_of, settles, number_of, taken_of, open_from}
@@ -11,7 +15,7 @@ use Rattle.budget_core.specs.declared.events.Event.{Event}
 use Rattle.budget_core.specs.Events.{is_ask_of, ran}
 use Rattle.budget_core.specs.Safe.{IsSafe}
 use Rattle.budget_core.specs.Legal.{IsHistory, IsLegal}
-use Rattle.budget_core.specs.Ledger.{money_verdict, IsAskOf}
+use Rattle.budget_core.specs.Ledger.{money_verdict, records_after, IsAskOf}
 
 -- Legal records cost at most the budget, where the found ones do.
 abbrev pub StaysWithinBudget : Type 0
@@ -27,6 +31,17 @@ StaysHistory = (entry : Entry) (found records : List Record) → IsHistory entry
 abbrev pub NumbersInOrder : Type 0
 NumbersInOrder = (entry : Entry) (records : List Record) → IsHistory entry records
     → map number_of (reservations_of records) ≡ range_with_len 0 (length (reservations_of records))
+
+-- Two reservations of a history never share a number.
+abbrev pub NumbersNeverShared : Type 0
+NumbersNeverShared = (entry : Entry) (records : List Record) (j k : ℕ) (one other : Reservation) → IsHistory entry records
+    → slice_get records j ≡ Some (Reserve one) → slice_get records k ≡ Some (Reserve other) → one.number ≡ other.number → j ≡ k
+
+-- Behind the reservation of a grant, in its run or a later one, each grant has a greater number.
+abbrev pub NumbersGrow : Type 0
+NumbersGrow = (entry : Entry) (start later_start : ℕ) (records later : List Record) (ask other : Ask) (grant next : Grant)
+    → money_verdict entry start records ask ≡ Ok grant → IsPrefix (records_after records ask (Ok grant)) later
+    → money_verdict entry later_start later other ≡ Ok next → grant.number < next.number
 
 -- A history settles each number at most once.
 abbrev pub SettlesOnce : Type 0

@@ -32,6 +32,11 @@ MayFollow entry records (Settle number outcome) = IsSettlementAfter records numb
 pub record IsHistory (entry : Entry) (records : List Record) : Type 0 where
   pub follows : (k : ℕ) (next : Record) → slice_get records k ≡ Some next → MayFollow entry (take k records) next
 
+-- record k is the first that may not follow those before it
+pub record IsFirstAstray (entry : Entry) (records : List Record) (k : ℕ) : Type 0 where
+  pub astray : (next : Record) × (slice_get records k ≡ Some next) × (MayFollow entry (take k records) next → ⊥)
+  pub first : IsHistory entry (take k records)
+
 -- a reservation's numbers are an epsilon in millionths and a sensitivity in lowest terms
 abbrev pub HasTerms : Record → Type 0
 HasTerms (Reserve reservation) = AreTerms reservation.e reservation.p reservation.q

@@ -35,3 +35,12 @@ pub struct Counts {
     /// All others.
     pub lost: u32,
 }
+
+/// Why found records make no ledger.
+#[derive(Clone, Copy, Debug, Drop, PartialEq, Eq)]
+pub enum FoundFault {
+    /// Memory is wanting.
+    NoMemory,
+    /// The first record that may not follow those before it.
+    Astray(u32),
+}

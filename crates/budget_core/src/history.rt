@@ -1,40 +1,29 @@
-//! The records of one owner, with running totals and a table by number: no call but `new` goes over a list.
+//! The records of one owner, with running totals and a table by number: no call but `new` and `found` goes over a list.
 
-ghost use Rattle.std.specs.Prelude.{◌≡◌, ℕ, ◌<◌, ◌≤◌, ◌∷◌, ◌++◌, [], ◌↔◌, ◌^◌, length, slice_get, Some, IsTrue, IfOk};
+ghost use Rattle.std.specs.Prelude.{◌≡◌, ℕ, ◌<◌, ◌≤◌, ◌∷◌, ◌++◌, [], ◌^◌, length, IfOk, IfErr};
+ghost use Rattle.std.specs.List.{All};
 ghost use Rattle.partition_charge.specs.Cost.{cost_of_charges};
-ghost use Rattle.journal_records.specs.Encoding.{AreTerms, IsReservation, IsValid};
-ghost use Rattle.journal_records.specs.declared.records.Record.TheVariants.{Reserve, Settle};
-ghost use Rattle.budget_core.specs.declared.history.Row.{Row as Known};
-ghost use Rattle.budget_core.specs.Answers.{is_answered, is_exhausted, counts_of};
-ghost use Rattle.budget_core.specs.Cost.{charge_of, charges_in, cost_of};
+ghost use Rattle.journal_records.specs.Encoding.{IsValid};
+ghost use Rattle.budget_core.specs.Answers.{counts_of, IsFoundFault};
+ghost use Rattle.budget_core.specs.Cost.{charges_in, cost_of};
 ghost use Rattle.budget_core.specs.Counts.{reservations_of, asker_of, outcome_of};
 ghost use Rattle.budget_core.specs.Entries.{IsEntry, HasView};
-ghost use Rattle.budget_core.specs.Legal.{MayFollow, HasTerms, IsReservationAfter, IsSettlementAfter};
+ghost use Rattle.budget_core.specs.Legal.{MayFollow, HasTerms, IsHistory};
 
-use crate::answers::Counts;
+use crate::answers::{Counts, FoundFault};
 use crate::entry::Entry;
-use journal_records::records::{Outcome, Record, Reservation};
-use partition_charge::costs::Costs;
+use crate::totals::Totals;
+use journal_records::records::{Outcome, Record};
 use partition_charge::view::View;
 use std::alloc::{AllocError, Global};
 use std::marker::Model;
-
-// What is known of a number.
-#[derive(Clone, Copy, Drop)]
-struct Row {
-    analyst: u16,
-    outcome: Option<Outcome>,
-}
 
 /// An owner's records, each of which may follow those before it, with room for as many as the entry allows.
 #[derive(Drop)]
 pub(crate) struct History {
     entry: Entry,
     records: Vec<Record>,
-    costs: Costs,
-    rows: Vec<Row>,
-    answered: u32,
-    exhausted: u32,
+    totals: Totals,
 }
 
 impl Model for History {
@@ -49,36 +38,6 @@ impl Model for History {
     ghost invariant = { HoldsTotals };
 }
 
-/// What a query of sensitivity p/q costs at epsilon e, in millionths: p * e / q, rounded up.
-pub(crate) fn charge_for(e: u32, p: u32, q: u32) -> u64
-    requires { AreTerms e p q }
-    ensures charge { result ≡ charge_of e p q }
-    ensures bounded { result ≤ 2 ^ 62 }
-{
-    (u64::from(p) * u64::from(e)).div_ceil(u64::from(q))
-}
-
-fn is_answer(outcome: Outcome) -> bool
-    ensures { (number : ℕ) → result ≡ is_answered (Settle number outcome) }
-{
-    matches!(outcome, Outcome::Answered(_))
-}
-
-fn is_exhaustion(outcome: Outcome) -> bool
-    ensures { (number : ℕ) → result ≡ is_exhausted (Settle number outcome) }
-{
-    matches!(outcome, Outcome::Exhausted)
-}
-
-// Writes how a number was settled.
-fn settle_row(rows: &mut [Row], number: u32, outcome: Outcome)
-    requires { number < length rows.old }
-    ensures settled { (row : Known) → slice_get rows.old number ≡ Some row → slice_get rows.new number ≡ Some (record row { outcome = Some outcome }) }
-    ensures others { (k : ℕ) → (k ≡ number → ⊥) → slice_get rows.new k ≡ slice_get rows.old k }
-{
-    rows[number as usize].outcome = Some(outcome);
-}
-
 impl History {
     /// No records, with room for the whole capacity.
     pub fn new(alloc: Global, entry: Entry) -> Result<History, AllocError>
@@ -87,15 +46,40 @@ impl History {
     {
         let capacity = entry.capacity() as usize;
         let records = Vec::with_capacity(alloc, capacity)?;
-        let rows = Vec::with_capacity(alloc, capacity)?;
+        let totals = Totals::new(alloc, &entry)?;
         Ok(History {
             entry,
             records,
-            costs: Costs::new(),
-            rows,
-            answered: 0,
-            exhausted: 0,
+            totals,
         })
+    }
+
+    /// These records, where they lie, with room for the whole capacity.
+    pub fn found(alloc: Global, entry: Entry, records: Vec<Record>) -> Result<History, FoundFault>
+        requires room { length records.items ≤ entry.capacity }
+        requires valid { All IsValid records.items }
+        ensures found { IfOk result (λ history. history ≡ record { entry = entry; records = records.items }) }
+        ensures history { IfOk result (λ _. IsHistory entry records.items) }
+        ensures within { IfOk result (λ _. cost_of records.items ≤ entry.budget) }
+        ensures refused { IfErr result (IsFoundFault entry records.items) }
+        ensures valid { IsEntry entry }
+    {
+        let mut records = records;
+        let capacity = entry.capacity() as usize;
+        if records.reserve_exact(capacity - records.len()).is_err() {
+            return Err(FoundFault::NoMemory);
+        }
+        let Ok(mut totals) = Totals::new(alloc, &entry) else {
+            return Err(FoundFault::NoMemory);
+        };
+        match totals.count_all(&entry, &records) {
+            Ok(()) => Ok(History {
+                entry,
+                records,
+                totals,
+            }),
+            Err(slot) => Err(FoundFault::Astray(slot)),
+        }
     }
 
     pub fn entry(&self) -> &Entry
@@ -121,14 +105,14 @@ impl History {
     pub fn reservations(&self) -> u32
         ensures { result ≡ length (reservations_of self.now.records) }
     {
-        self.rows.len() as u32
+        self.totals.rows.len() as u32
     }
 
     /// What the records cost.
     pub fn spent(&self) -> u64
         ensures { result ≡ cost_of self.now.records }
     {
-        self.costs.spent()
+        self.totals.costs.spent()
     }
 
     /// What they cost with one charge more.
@@ -138,73 +122,7 @@ impl History {
         ensures cost { result ≡ cost_of_charges (charges_in self.now.records ++ record { view = view; amount = charge } ∷ []) }
         ensures grows { cost_of self.now.records ≤ result }
     {
-        self.costs.after(view, charge)
-    }
-
-    // Whether this reservation may follow.
-    fn may_reserve(&self, reservation: &Reservation) -> bool
-        requires { IsReservation reservation.now }
-        ensures { IsTrue result ↔ IsReservationAfter self.now.entry self.now.records reservation.now }
-    {
-        if reservation.number != self.reservations()
-            || reservation.analyst >= self.entry.analysts()
-            || !self.entry.has_view(reservation.view)
-        {
-            return false;
-        }
-        let charge = charge_for(reservation.e, reservation.p, reservation.q);
-        let after = self.cost_after(reservation.view, charge);
-        after <= self.entry.budget() && after - self.spent() == reservation.taken
-    }
-
-    // Whether a settlement of this number may follow.
-    fn may_settle(&self, number: u32) -> bool
-        ensures { IsTrue result ↔ IsSettlementAfter self.now.records number }
-    {
-        match self.rows.get(number as usize) {
-            Some(row) => row.outcome.is_none(),
-            None => false,
-        }
-    }
-
-    /// Whether this record may follow.
-    pub fn may_follow(&self, next: &Record) -> bool
-        requires { IsValid next.now }
-        ensures { IsTrue result ↔ MayFollow self.now.entry self.now.records next.now }
-    {
-        match next {
-            Record::Reserve(reservation) => self.may_reserve(reservation),
-            Record::Settle { number, .. } => self.may_settle(*number),
-        }
-    }
-
-    // Adds a reservation.
-    fn add_reservation(&mut self, reservation: &Reservation)
-        requires follows { IsReservationAfter self.old.entry self.old.records reservation.now }
-        requires terms { AreTerms reservation.now.e reservation.now.p reservation.now.q }
-        requires room { length self.old.records < self.old.entry.capacity }
-        ensures { self.new ≡ record self.old { records = self.old.records ++ Reserve reservation.now ∷ [] } }
-    {
-        let charge = charge_for(reservation.e, reservation.p, reservation.q);
-        self.costs.add(reservation.view, charge);
-        self.rows.push_reserved(Row {
-            analyst: reservation.analyst,
-            outcome: None,
-        });
-        self.records.push_reserved(Record::Reserve(*reservation));
-    }
-
-    // Adds a settlement.
-    fn add_settlement(&mut self, number: u32, outcome: Outcome)
-        requires follows { IsSettlementAfter self.old.records number }
-        requires room { length self.old.records < self.old.entry.capacity }
-        ensures { self.new ≡ record self.old { records = self.old.records ++ Settle number outcome ∷ [] } }
-    {
-        settle_row(&mut self.rows, number, outcome);
-        self.answered += u32::from(is_answer(outcome));
-        self.exhausted += u32::from(is_exhaustion(outcome));
-        self.records
-            .push_reserved(Record::Settle { number, outcome });
+        self.totals.costs.after(view, charge)
     }
 
     /// Adds a record that may follow.
@@ -214,17 +132,15 @@ impl History {
         requires room { length self.old.records < self.old.entry.capacity }
         ensures { self.new ≡ record self.old { records = self.old.records ++ next.now ∷ [] } }
     {
-        match next {
-            Record::Reserve(reservation) => self.add_reservation(reservation),
-            Record::Settle { number, outcome } => self.add_settlement(*number, *outcome),
-        }
+        self.totals.count(next);
+        self.records.push_reserved(*next);
     }
 
     /// Who reserved this number.
     pub fn asker(&self, number: u32) -> Option<u16>
         ensures { result ≡ asker_of self.now.records number }
     {
-        match self.rows.get(number as usize) {
+        match self.totals.rows.get(number as usize) {
             Some(row) => Some(row.analyst),
             None => None,
         }
@@ -234,7 +150,7 @@ impl History {
     pub fn outcome(&self, number: u32) -> Option<Outcome>
         ensures { result ≡ outcome_of self.now.records number }
     {
-        match self.rows.get(number as usize) {
+        match self.totals.rows.get(number as usize) {
             Some(row) => row.outcome,
             None => None,
         }
@@ -247,9 +163,9 @@ impl History {
         let reservations = self.reservations();
         Counts {
             reservations,
-            answered: self.answered,
-            exhausted: self.exhausted,
-            lost: reservations - (self.answered + self.exhausted),
+            answered: self.totals.answered,
+            exhausted: self.totals.exhausted,
+            lost: reservations - (self.totals.answered + self.totals.exhausted),
         }
     }
 

@@ -1,6 +1,6 @@
 //! The laws of legal records. Each function does nothing: its contract is the law.
 
-ghost use Rattle.budget_core.specs.Laws.{StaysWithinBudget, StaysHistory, NumbersInOrder, SettlesOnce, AddsUp, KeepsRoom, IgnoresAnswers, AsksAreTested, EventsAreSafe};
+ghost use Rattle.budget_core.specs.Laws.{StaysWithinBudget, StaysHistory, NumbersInOrder, NumbersNeverShared, NumbersGrow, SettlesOnce, AddsUp, KeepsRoom, IgnoresAnswers, AsksAreTested, EventsAreSafe};
 
 /// Legal records cost at most the budget, where those found at the start do.
 pub fn stays_within_budget()
@@ -15,6 +15,16 @@ pub fn stays_history()
 /// Reservations are numbered 0, 1, 2, .. in order.
 pub fn numbers_in_order()
     ensures { NumbersInOrder }
+{}
+
+/// Two reservations never share a number.
+pub fn numbers_never_shared()
+    ensures { NumbersNeverShared }
+{}
+
+/// Behind the reservation of a grant, in its run or a later one, each grant has a greater number.
+pub fn numbers_grow()
+    ensures { NumbersGrow }
 {}
 
 /// Each reservation is settled at most once.

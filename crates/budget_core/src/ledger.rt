@@ -1,9 +1,10 @@
 //! One owner's records in memory: what may be reserved and settled, and what is told of it.
 
-ghost use Rattle.std.specs.Prelude.{◌≡◌, ℕ, ◌<◌, ◌∷◌, ◌++◌, [], ◌↔◌, length, IsTrue, IfOk, Ok, if◌then◌else◌};
+ghost use Rattle.std.specs.Prelude.{◌≡◌, ℕ, ◌<◌, ◌≤◌, ◌∷◌, ◌++◌, [], ◌↔◌, length, IsTrue, IfOk, IfErr, Ok};
+ghost use Rattle.std.specs.List.{All};
 ghost use Rattle.journal_records.specs.declared.records.Record.TheVariants.{Settle};
 ghost use Rattle.journal_records.specs.Encoding.{IsValid};
-ghost use Rattle.budget_core.specs.Answers.{standing, recalled, left_of, counts_of};
+ghost use Rattle.budget_core.specs.Answers.{standing, recalled, left_of, counts_of, IsFoundFault};
 ghost use Rattle.budget_core.specs.Cost.{cost_of};
 ghost use Rattle.budget_core.specs.Counts.{outcome_of};
 ghost use Rattle.budget_core.specs.Entries.{IsEntry};
@@ -12,15 +13,16 @@ ghost use Rattle.budget_core.specs.Legal.{MayFollow};
 ghost use Rattle.budget_core.specs.Ledger.{start_of, money_verdict, reservation_for, IsAskOf, IsUnsettled};
 ghost use Rattle.budget_core.specs.Sound.{IsSound};
 
-use crate::answers::{Counts, Left, Recall};
+use crate::answers::{Counts, FoundFault, Left, Recall};
 use crate::entry::{Ask, Entry, Grant, ReserveFault};
-use crate::history::{History, charge_for};
+use crate::history::History;
+use crate::totals::charge_for;
 use journal_records::records::{Outcome, Record, Reservation};
 use std::alloc::{AllocError, Global};
 use std::marker::Model;
 
-/// One owner's records, those found when it was opened and those added since. No call but `new` takes memory or
-/// goes over the records.
+/// One owner's records, those found when it was opened and those added since. No call but `new` and `found` takes
+/// memory or goes over the records.
 #[derive(Drop)]
 pub struct Ledger {
     history: History,
@@ -60,23 +62,24 @@ impl Ledger {
         })
     }
 
-    /// Adds a found record, exactly where it may follow those before it; else nothing changes.
-    pub fn restore(&mut self, next: &Record) -> bool
-        requires found { self.old.records ≡ self.old.found }
-        requires room { length self.old.records < self.old.entry.capacity }
-        requires valid { IsValid next.now }
-        ensures exactly { IsTrue result ↔ MayFollow self.old.entry self.old.records next.now }
-        ensures after { self.new ≡ (if result then record self.old { found = self.old.records ++ next.now ∷ []; records = self.old.records ++ next.now ∷ [] } else self.old) }
-        ensures sound { IsSound self.new }
+    /// Found records, where they lie, with room for the whole capacity; or the first that may not follow those before it.
+    pub fn found(alloc: Global, entry: Entry, records: Vec<Record>) -> Result<Ledger, FoundFault>
+        requires room { length records.items ≤ entry.capacity }
+        requires valid { All IsValid records.items }
+        ensures found { IfOk result (λ ledger. ledger ≡ record { entry = entry; found = records.items; records = records.items }) }
+        ensures refused { IfErr result (IsFoundFault entry records.items) }
+        ensures sound { IfOk result IsSound }
+        ensures valid { IsEntry entry }
     {
-        if !self.history.may_follow(next) {
-            return false;
+        match History::found(alloc, entry, records) {
+            Ok(history) => Ok(Ledger {
+                found: history.len(),
+                start: history.reservations(),
+                history,
+                unsettled: 0,
+            }),
+            Err(fault) => Err(fault),
         }
-        self.history.add(next);
-        self.found = self.history.len();
-        self.start = self.history.reservations();
-        self.unsettled = 0;
-        true
     }
 
     /// Whether an ask is granted: over budget comes first, then full.

@@ -7,5 +7,4 @@ pub mod events;
 mod history;
 pub mod laws;
 pub mod ledger;
-#[cfg(test)]
-mod tests;
+mod totals;

@@ -168,7 +168,7 @@ fn read_slots<D: Disk>(
     ensures cause { HasCause (D.faults disk.old) (D.faults disk.new) (IsErrOf result DiskFault) }
     ensures passed { OnOk result (D.faults disk.new ≡ D.faults disk.old) }
 {
-    let mut records = Vec::new(alloc);
+    let mut records = Vec::with_capacity(alloc, capacity as usize)?;
     for slot in 0..capacity {
         if let Err(fault) = add_slot(disk, size, slot, &mut records) {
             return Err(fault);

@@ -3,17 +3,21 @@ use Rattle.std.proofs.Common.{◌≡◌, ℕ, ◌++◌, List, [], ◌∷◌, len
 use Rattle.outside_disks.specs.Disks.{Trace}
 use Rattle.journal_records.specs.declared.records.Outcome.TheVariants.{Lost}
 use Rattle.journal_records.specs.declared.records.Record.{Record}
-use Rattle.journal_records.specs.declared.records.Record.TheVariants.{Settle}
+use Rattle.journal_records.specs.declared.records.Record.TheVariants.{Reserve, Settle}
 use Rattle.journal_records.specs.declared.records.Header.{Header}
 use Rattle.budget_journal.specs.Journals.{Stands}
 use Rattle.budget_journal.proofs.One.{stands-one}
+use Rattle.partition_charge.specs.declared.view.View.TheVariants.{Whole}
+use Rattle.partition_charge.specs.Cost.{cost_of_charges, partition_cost}
+use Rattle.budget_core.specs.declared.entry.Ask.{Ask}
 use Rattle.budget_core.specs.Entries.{Entry}
-use Rattle.budget_core.specs.Ledger.{Ledger}
-use Rattle.budget_core.specs.Legal.{MayFollow}
+use Rattle.budget_core.specs.Cost.{cost_of}
+use Rattle.budget_core.specs.Ledger.{Ledger, money_verdict, records_after}
+use Rattle.budget_core.specs.Legal.{MayFollow, IsFirstAstray}
 use Rattle.budget_core.proofs.Histories.{history-nil}
 use Rattle.budget_ledger.specs.Account.{Failure, Storage, Account, IsMoment, Went}
 use Rattle.budget_ledger.specs.Booked.{IsSettlementOf}
-use Rattle.budget_ledger.specs.Opened.{IsFirstAstray}
+use Rattle.budget_ledger.specs.Laws.{LeadTo}
 use Rattle.budget_ledger.specs.declared.book.AppendFault.TheVariants.{Closed, DiskFault}
 
 abbrev lost : Record
@@ -21,6 +25,16 @@ lost = Settle 0 Lost
 
 abbrev other : Record
 other = Settle 1 Lost
+
+-- an ask of the whole at sensitivity 1, and the reservation that it makes first, for a budget of 20
+abbrev one : Ask
+one = record { analyst = 0; view = Whole; e = 6; p = 1; q = 1; program = [] }
+
+abbrev left_open : List Record
+left_open = Reserve (record { number = 0; view = Whole; e = 6; p = 1; q = 1; taken = 6; analyst = 0; program = [] }) ∷ []
+
+abbrev small : Entry
+small = record { budget = 20; capacity = 10; analysts = 1; keys = [] }
 
 -- ---- closed or not
 
@@ -105,3 +119,23 @@ module _ (entry : Entry) where
 
   not_the_second : IsFirstAstray entry (lost ∷ other ∷ []) 1 → ⊥
   not_the_second second = let may : MayFollow entry [] lost = second.first.follows 0 lost refl in let reserved = may.reserved in cc
+
+-- ---- numbers over stops
+
+module _ (header : Header) (bytes : List ℕ) (before after : Storage) (head : before.header ≡ header) (open_still : after.closed ≡ None)
+    (went : Went left_open left_open before after) (stands : Stands header left_open bytes) where
+  -- a stop behind a reservation without its settlement, and an opening
+  one_stop : LeadTo header left_open (record { new = left_open; before = before; after = after; left = bytes } ∷ []) left_open
+  one_stop = (head, went, inl (left_open, ([], refl), ([], refl), stands), (left_open, stands, ([], refl)))
+
+-- the first grant has number 0 and leads to those records, and the grant behind the stop has number 1
+first_grant : money_verdict small 0 [] one ≡ Ok (record { number = 0; taken = 6; seen = 1 })
+unfolding cost_of cost_of_charges partition_cost
+first_grant = refl
+
+first_records : records_after [] one (Ok (record { number = 0; taken = 6; seen = 1 })) ≡ left_open
+first_records = refl
+
+grant_behind_the_stop : money_verdict small 1 left_open one ≡ Ok (record { number = 1; taken = 6; seen = 2 })
+unfolding cost_of cost_of_charges partition_cost
+grant_behind_the_stop = refl

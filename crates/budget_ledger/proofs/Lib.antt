@@ -1,4 +1,5 @@
 mod Examples
+pub mod Grants
 pub mod Opens
 pub mod Standing
 pub mod Wents

@@ -9,8 +9,9 @@ use Rattle.budget_journal.specs.declared.opening.OpenFault.{OpenFault}
 use Rattle.budget_journal.specs.declared.opening.OpenFault.TheVariants.{NotInitialised, Changed, Damaged, DiskFault, NoMemory}
 use Rattle.budget_journal.specs.Journals.{Stands, IsAtRest, Found, IsOpenFault, MayHaveSynced}
 use Rattle.budget_core.specs.Entries.{Entry}
+use Rattle.budget_core.specs.Legal.{IsFirstAstray}
 use Rattle.budget_ledger.specs.Account.{Storage, IsMoment, IsPassed, Went}
-use Rattle.budget_ledger.specs.Opened.{IsFirstAstray, IsBookFault}
+use Rattle.budget_ledger.specs.Opened.{IsBookFault}
 use Rattle.budget_ledger.proofs.Wents.{prefix_self}
 
 -- a journal that was opened has synced its disk

@@ -12,8 +12,8 @@ use Rattle.budget_journal.specs.Journals.{slot_place, gate_of, Stands, IsDamaged
 use Rattle.budget_journal.proofs.One.{stands-one}
 use Rattle.budget_journal.proofs.Scans.{element, holds-gate}
 use Rattle.budget_core.specs.Entries.{Entry}
-use Rattle.budget_core.specs.Legal.{IsHistory}
-use Rattle.budget_ledger.specs.Opened.{IsFirstAstray, IsBookFault}
+use Rattle.budget_core.specs.Legal.{IsHistory, IsFirstAstray}
+use Rattle.budget_ledger.specs.Opened.{IsBookFault}
 
 module _ (header : Header) (records : List Record) (bytes : List ℕ) (stands : Stands header records bytes) where
   open_gate : (k : ℕ) → k < length records → gate_of bytes k ≡ gate

@@ -1,12 +1,16 @@
 -- The laws of a book's states.
-use Rattle.std.specs.Prelude.{◌≡◌, ◌⊎◌, ℕ, List, IfSome}
+use Rattle.std.specs.Prelude.{◌≡◌, ◌⊎◌, ℕ, ◌<◌, List, [], ◌∷◌, IfSome, Ok}
+use mathlib.Core.List.{IsPrefix}
 use Rattle.outside_disks.specs.Disks.{Passes, WhereTold}
 use Rattle.journal_records.specs.declared.records.Record.{Record}
 use Rattle.journal_records.specs.declared.records.Header.{Header}
 use Rattle.budget_journal.specs.declared.opening.OpenFault.{OpenFault}
 use Rattle.budget_journal.specs.declared.opening.OpenFault.TheVariants.{DiskFault, NoMemory}
 use Rattle.budget_journal.specs.Journals.{Stands, IsAtRest}
+use Rattle.budget_core.specs.declared.entry.Ask.{Ask}
+use Rattle.budget_core.specs.declared.entry.Grant.{Grant}
 use Rattle.budget_core.specs.Entries.{Entry}
+use Rattle.budget_core.specs.Ledger.{money_verdict, records_after}
 use Rattle.budget_core.specs.Legal.{IsHistory}
 use Rattle.budget_ledger.specs.Account.{Storage, IsMoment, Went}
 use Rattle.budget_ledger.specs.Opened.{IsBookFault}
@@ -28,3 +32,24 @@ LeavesMoments = (old new : List Record) (before after : Storage) → IfSome befo
 abbrev pub OpensWhatStands : Type 0
 OpensWhatStands = (entry : Entry) (header : Header) (records : List Record) (bytes : List ℕ) → Stands header records bytes → IsHistory entry records
     → (fault : OpenFault) → IsBookFault entry header bytes fault → (fault ≡ DiskFault) ⊎ (fault ≡ NoMemory)
+
+-- What is left of a run that a stop ended: the records that it came to, its storage before and at the stop, and the file
+-- that the stop left.
+pub record Interrupted : Type 0 where
+  pub new : List Record
+  pub before : Storage
+  pub after : Storage
+  pub left : List ℕ
+
+-- From these records run after run, each opened on the file that the stop of the one before left, lead to the later ones.
+abbrev pub LeadTo : Header → List Record → List Interrupted → List Record → Type 0
+LeadTo header records [] later = IsPrefix records later
+LeadTo header records (run ∷ runs) later = (run.before.header ≡ header) × Went records run.new run.before run.after
+    × IsMoment header records run.new run.after.closed run.left
+    × ((found : List Record) × Stands header found run.left × LeadTo header found runs later)
+
+-- Over however many runs and stops no grant has the number of an earlier one: it is greater.
+abbrev pub GrantsNeverShare : Type 0
+GrantsNeverShare = (entry : Entry) (header : Header) (start later_start : ℕ) (records later : List Record) (runs : List Interrupted) (ask other : Ask) (grant next : Grant)
+    → money_verdict entry start records ask ≡ Ok grant → LeadTo header (records_after records ask (Ok grant)) runs later
+    → money_verdict entry later_start later other ≡ Ok next → grant.number < next.number

@@ -1,17 +1,12 @@
 -- Why a book isn't opened.
-use Rattle.std.specs.Prelude.{◌≡◌, ◌⊎◌, ℕ, List, take, slice_get, Some}
+use Rattle.std.specs.Prelude.{◌⊎◌, ℕ, List}
 use Rattle.journal_records.specs.declared.records.Record.{Record}
 use Rattle.journal_records.specs.declared.records.Header.{Header}
 use Rattle.budget_journal.specs.declared.opening.OpenFault.{OpenFault}
 use Rattle.budget_journal.specs.declared.opening.OpenFault.TheVariants.{NotInitialised, Changed, Damaged, DiskFault, NoMemory}
 use Rattle.budget_journal.specs.Journals.{Stands, IsOpenFault}
 use Rattle.budget_core.specs.Entries.{Entry}
-use Rattle.budget_core.specs.Legal.{MayFollow, IsHistory}
-
--- record k is the first that may not follow those before it
-pub record IsFirstAstray (entry : Entry) (records : List Record) (k : ℕ) : Type 0 where
-  pub astray : (next : Record) × (slice_get records k ≡ Some next) × (MayFollow entry (take k records) next → ⊥)
-  pub first : IsHistory entry (take k records)
+use Rattle.budget_core.specs.Legal.{IsFirstAstray}
 
 -- Why these bytes aren't a book of this entry: as a journal they aren't opened, or they stand for records of which one may not
 -- follow those before it.

@@ -1,6 +1,6 @@
 //! How a book's states follow one another. Each function does nothing: its contract is the law.
 
-ghost use Rattle.budget_ledger.specs.Laws.{FollowsItself, FollowOn, LeavesMoments, OpensWhatStands};
+ghost use Rattle.budget_ledger.specs.Laws.{FollowsItself, FollowOn, LeavesMoments, OpensWhatStands, GrantsNeverShare};
 
 /// Each state follows itself.
 pub fn a_state_follows_itself()
@@ -20,4 +20,9 @@ pub fn since_rest_each_file_is_a_moment()
 /// Bytes that stand for records each of which may follow are refused for the disk or for want of memory alone.
 pub fn what_stands_is_opened()
     ensures { OpensWhatStands }
+{}
+
+/// Over however many runs and stops no grant has the number of an earlier one.
+pub fn grants_never_share_a_number()
+    ensures { GrantsNeverShare }
 {}

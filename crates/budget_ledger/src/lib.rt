@@ -5,5 +5,3 @@ pub mod book;
 pub mod failure;
 pub mod laws;
 pub mod opening;
-#[cfg(test)]
-mod tests;

@@ -1,43 +1,22 @@
 //! Opening a book that a stop may have left.
 
-ghost use Rattle.std.specs.Prelude.{◌≡◌, ℕ, ◌≤◌, ◌<◌, [], Some, None, List, length, take, slice_get, IfOk, IfErr};
-ghost use Rattle.std.specs.List.{All};
+ghost use Rattle.std.specs.Prelude.{◌≡◌, Some, None, IfOk, IfErr};
 ghost use Rattle.fz_outside.specs.Faults.{HasCause};
 ghost use Rattle.outside_disks.specs.Disks.{Trace, WhereTold, seen_of};
-ghost use Rattle.journal_records.specs.Encoding.{IsValid};
 ghost use Rattle.budget_journal.specs.Journals.{Found, MayHaveSynced};
 ghost use Rattle.budget_journal.specs.declared.opening.OpenFault.TheVariants.{DiskFault};
-ghost use Rattle.budget_core.specs.Sound.{IsSound};
 ghost use Rattle.budget_ledger.specs.Account.{IsBook};
-ghost use Rattle.budget_ledger.specs.Opened.{IsBookFault, IsFirstAstray};
+ghost use Rattle.budget_ledger.specs.Opened.{IsBookFault};
 
 use crate::book::Book;
+use budget_core::answers::FoundFault;
 use budget_core::entry::Entry;
 use budget_core::ledger::Ledger;
 use budget_journal::journal::Journal;
 use budget_journal::opening::OpenFault;
-use journal_records::records::{Header, Record};
+use journal_records::records::Header;
 use outside_disks::disk::Disk;
 use std::alloc::Global;
-
-// Takes the found records into an empty ledger, up to the first that may not follow those before it.
-fn restore_all(ledger: &mut Ledger, records: &[Record]) -> Result<(), u32>
-    requires found { ledger.old.found ≡ [] }
-    requires records { ledger.old.records ≡ [] }
-    requires room { length records.now ≤ ledger.old.entry.capacity }
-    requires valid { All IsValid records.now }
-    requires sound { IsSound ledger.old }
-    ensures restored { IfOk result (λ _. ledger.new ≡ record { entry = ledger.old.entry; found = records.now; records = records.now }) }
-    ensures astray { IfErr result (λ k. IsFirstAstray ledger.old.entry records.now k) }
-    ensures sound { IsSound ledger.new }
-{
-    for slot in 0..records.len() {
-        if !ledger.restore(&records[slot]) {
-            return Err(slot as u32);
-        }
-    }
-    Ok(())
-}
 
 impl<D: Disk> Book<D> {
     /// Opens the book of this entry and header that a stop may have left. The room for the whole capacity is taken here.
@@ -58,21 +37,22 @@ impl<D: Disk> Book<D> {
         ensures kept { IfErr result (λ refused. MayHaveSynced (D.trace disk) (D.trace refused.0)) }
         ensures cause { IfErr result (λ refused. HasCause (D.faults disk) (D.faults refused.0) (refused.1 ≡ DiskFault)) }
     {
-        let Ok(mut ledger) = Ledger::new(alloc, entry) else {
-            return Err((disk, OpenFault::NoMemory));
-        };
         let (journal, records) = match Journal::open(alloc, disk, header) {
             Ok(opened) => opened,
             Err(refused) => return Err(refused),
         };
-        match restore_all(&mut ledger, &records) {
-            Ok(()) => Ok(Book {
+        match Ledger::found(alloc, entry, records) {
+            Ok(ledger) => Ok(Book {
                 journal,
                 ledger,
                 header: *header,
                 failure: None,
             }),
-            Err(slot) => Err((journal.into_disk(), OpenFault::Damaged { slot })),
+            Err(FoundFault::Astray(slot)) => Err((
+                journal.into_disk(),
+                OpenFault::Damaged { slot },
+            )),
+            Err(FoundFault::NoMemory) => Err((journal.into_disk(), OpenFault::NoMemory)),
         }
     }
 }

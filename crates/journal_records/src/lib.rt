@@ -6,5 +6,3 @@ pub mod decoding;
 mod fields;
 pub mod laws;
 pub mod records;
-#[cfg(test)]
-mod tests;

@@ -3,6 +3,4 @@
 
 pub mod costs;
 pub mod laws;
-#[cfg(test)]
-mod tests;
 pub mod view;

@@ -9,5 +9,5 @@ pub returns-in-None : goal.returns-in-None
 returns-in-None c =
     let h = c.self.inside in
     let past : length (reservations_of h.records.items) ≤ c.args.number
-    = omega (arith, ltb-false c.args.number (length c.deref.result.now) (sym c.in-None.ensures.lookup.0), ap length c.deref.ensures.value, c.self.invariant.rows.count) in
-    sym (ap (λ (p : Past). asker_of p.records c.args.number) (sym c.self.view_is) ∙ asker-past h.entry h.records.items c.self.invariant.history c.args.number past)
+    = omega (arith, ltb-false c.args.number (length c.deref.result.now) (sym c.in-None.ensures.lookup.0), ap length c.deref.ensures.value, c.self.invariant.totals.rows.count) in
+    sym (ap (λ (p : Past). asker_of p.records c.args.number) (sym c.self.view_is) ∙ asker-past h.entry h.records.items c.self.invariant.totals.history c.args.number past)

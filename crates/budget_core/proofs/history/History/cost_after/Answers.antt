@@ -7,8 +7,8 @@ use Rattle.budget_core.proofs.history.History.cost_after.Goals as goal
 
 pub after-requires-clause-room : goal.after-requires-clause-room
 after-requires-clause-room c =
-    kept-charging c.self.inside c.args.view c.args.charge c.self.invariant (subst (λ (p : Past). HasView p.entry c.args.view) (sym c.self.view_is) c.requires.view) c.requires.bounded
+    kept-charging c.self.inside.entry c.self.inside.records.items c.self.inside.totals c.args.view c.args.charge c.self.invariant.totals (subst (λ (p : Past). HasView p.entry c.args.view) (sym c.self.view_is) c.requires.view) c.requires.bounded
 
 pub returns-clause-grows : goal.returns-clause-grows
 returns-clause-grows c =
-    rw (← c.self.view_is) omega (arith, kept-grows c.self.inside c.args.view c.args.charge, c.after.ensures (charges_in c.self.inside.records.items) c.self.invariant.costs)
+    rw (← c.self.view_is) omega (arith, kept-grows c.self.inside.records.items c.args.view c.args.charge, c.after.ensures (charges_in c.self.inside.records.items) c.self.invariant.totals.costs)

@@ -9,9 +9,9 @@ overflow_sub-result c =
     let h = c.self.inside in
     omega (
       arith,
-      settled-within h.entry h.records.items c.self.invariant.history,
-      c.self.invariant.answered,
-      c.self.invariant.exhausted,
+      settled-within h.entry h.records.items c.self.invariant.totals.history,
+      c.self.invariant.totals.answered,
+      c.self.invariant.totals.exhausted,
       c.reservations-reservations.ensures,
       ap (λ (p : Past). length (reservations_of p.records)) c.self.view_is,
     )

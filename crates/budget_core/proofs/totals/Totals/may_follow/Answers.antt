@@ -1,0 +1,9 @@
+use Rattle.std.proofs.Common.{IsTrue, sym, subst}
+use Rattle.journal_records.specs.declared.records.Record.{Record}
+use Rattle.budget_core.specs.Legal.{MayFollow}
+use Rattle.budget_core.proofs.totals.Totals.may_follow.Goals as goal
+
+pub returns-in-Settle : goal.returns-in-Settle
+returns-in-Settle c records told =
+    subst (λ (r : Record). (IsTrue c.may_settle.result → MayFollow c.args.entry.now records r) × (MayFollow c.args.entry.now records r → IsTrue c.may_settle.result))
+    (sym c.in-Settle.is) (c.may_settle.ensures c.args.entry.now records told)

@@ -1,0 +1,23 @@
+use Rattle.std.proofs.Common.{List, [], sym, subst, arith, refl}
+use Rattle.budget_core.specs.declared.totals.Row.{Row}
+use Rattle.budget_core.specs.Kept.{HasRows}
+use Rattle.budget_core.proofs.Costs.{cost_of-nil}
+use Rattle.budget_core.proofs.Histories.{history-nil}
+use Rattle.budget_core.proofs.totals.Totals.new.Goals as goal
+
+no-rows : HasRows [] []
+no-rows = record { count = refl; each = λ n row at. cc }
+
+pub returns : goal.returns
+returns c =
+    record {
+      valid = c.capacity.ensures.valid;
+      history = history-nil c.args.entry.now;
+      within = omega (arith, cost_of-nil);
+      costs = c.new.ensures;
+      rows = subst (λ (rows : List Row). HasRows rows []) (sym c.in_ok-rows.ensures.items) no-rows;
+      answered = refl;
+      exhausted = refl;
+      fits = omega arith;
+      row_room = omega (arith, c.capacity.ensures.capacity, c.in_ok-rows.ensures.capacity);
+    }
