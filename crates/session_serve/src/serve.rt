@@ -1,0 +1,264 @@
+//! A session on a connection.
+
+ghost use Rattle.std.specs.Prelude.{◌≡◌, ◌≤◌, ◌∷◌, [], List, ℕ, length};
+ghost use Rattle.outside_links.specs.Links.{Connection, HasGiven, shown};
+ghost use Rattle.wire_lines.specs.Lines.{lines_of};
+ghost use Rattle.answer_path.specs.Pass.{Pass as Seen};
+ghost use Rattle.answer_path.specs.Answered.{Told};
+ghost use Rattle.wire_lines.specs.Reply.{replied};
+ghost use Rattle.session_core.specs.House.{house_of};
+ghost use Rattle.session_core.specs.Turns.{is_bye};
+ghost use Rattle.session_core.specs.Code.{IsAnalyst, ArePasses, AreServed, AreAlone, one_line, who_behind};
+ghost use Rattle.std.specs.Io.KnownBytes.{IsAtEnd};
+ghost use Rattle.session_serve.specs.Session.{IsSession, session_limit};
+ghost use Rattle.session_serve.specs.Code.{Keeps, IsReplied, GoesOnWith, Leads};
+ghost use Rattle.session_serve.specs.declared.serve.SessionEnd.TheVariants.{NoMemory};
+
+use crate::line::Line;
+use answer_path::Desk;
+use fz_outside::Failed;
+use fz_outside::words::Streams;
+use outside_disks::disk::Disk;
+use outside_links::link::{Link, send};
+use session_core::house::House;
+use session_core::passes::Passes;
+use session_core::script::{Answer, answer_line};
+use std::alloc::Global;
+use wire_lines::{LineRefusal, REPLY_LIMIT, Refusal, Reply, write_reply};
+
+/// The most bytes whose lines a session answers.
+pub const SESSION_LIMIT: usize = 1 << 24;
+
+// How many bytes are asked for at once.
+const PIECE: usize = 8192;
+
+/// How a session ends.
+#[derive(Clone, Copy, Debug, PartialEq, Eq)]
+pub enum SessionEnd {
+    /// A `bye` was answered.
+    Bye,
+    /// The connection gave all of its bytes, and none of its lines was `bye`.
+    EndOfInput,
+    /// A read failed.
+    ReadFault,
+    /// A write failed.
+    WriteFault,
+    /// There are bytes over the limit. The lines that end before it were answered.
+    TooLong { taken: u32 },
+    /// Memory is wanting. Nothing was read.
+    NoMemory,
+}
+
+// By what lines are answered.
+#[derive(Drop)]
+struct Server<'a, S> {
+    alloc: Global,
+    house: &'a House,
+    desk: &'a Desk,
+    streams: &'a S,
+}
+
+// Who speaks, and the line that isn't ended yet.
+#[derive(Drop)]
+struct Session {
+    who: Option<u16>,
+    line: Line,
+}
+
+// Answers a line that has ended. A line over the limit wasn't kept, and is refused as such.
+fn answer<'a, D: Disk, S: Streams>(
+    server: &'a Server<'_, S>,
+    passes: &mut Passes<D>,
+    who: Option<u16>,
+    line: &'a Line,
+) -> Answer<'a>
+    requires passes { ArePasses (house_of server.now.house.now) passes.old }
+    requires known { IsAnalyst (house_of server.now.house.now) who }
+    ensures served { (raw text : List ℕ) → Keeps line.now raw → lines_of raw ≡ text ∷ [] → (told : List Told) ×
+        AreServed (house_of server.now.house.now) (S.given server.now.streams.now) (one_line who text (replied result.reply) told) passes.old passes.new
+        × AreAlone (house_of server.now.house.now) (S.given server.now.streams.now) (one_line who text (replied result.reply) told) passes.old passes.new }
+    ensures who { (raw text : List ℕ) → Keeps line.now raw → lines_of raw ≡ text ∷ [] → result.who ≡ who_behind (house_of server.now.house.now) who text }
+    ensures ends { (raw text : List ℕ) → Keeps line.now raw → lines_of raw ≡ text ∷ [] → result.ends ≡ is_bye text }
+    ensures known { IsAnalyst (house_of server.now.house.now) result.who }
+    ensures passes { ArePasses (house_of server.now.house.now) passes.new }
+{
+    match line.text() {
+        Some(text) => answer_line(
+            server.alloc,
+            server.house,
+            server.desk,
+            passes,
+            server.streams,
+            who,
+            text,
+        ),
+        None => Answer {
+            reply: Reply::Refused(Refusal::Line(LineRefusal::TooLong)),
+            who,
+            ends: false,
+        },
+    }
+}
+
+// Answers the line that has ended and writes its reply: whether the session ends with it.
+fn reply<L: Link, D: Disk, S: Streams>(
+    server: &Server<'_, S>,
+    link: &mut L,
+    passes: &mut Passes<D>,
+    session: &mut Session,
+) -> Result<bool, Failed>
+    requires passes { ArePasses (house_of server.now.house.now) passes.old }
+    requires known { IsAnalyst (house_of server.now.house.now) session.old.who }
+    ensures replied { (raw text : List ℕ) → Keeps session.old.line raw → lines_of raw ≡ text ∷ [] →
+        IsReplied (house_of server.now.house.now) (S.given server.now.streams.now) result text session.old.who session.new.who
+        (shown (L.left link.old) (L.written link.old) (L.faults link.old)) (shown (L.left link.new) (L.written link.new) (L.faults link.new))
+        passes.old passes.new }
+    ensures cleared { Keeps session.new.line [] }
+    ensures apart { L.left link.new ≡ L.left link.old }
+    ensures known { IsAnalyst (house_of server.now.house.now) session.new.who }
+    ensures passes { ArePasses (house_of server.now.house.now) passes.new }
+{
+    let answer = answer(server, passes, session.who, &session.line);
+    let mut text = [0u8; REPLY_LIMIT];
+    let n = write_reply(&answer.reply, &mut text);
+    let ends = answer.ends;
+    session.who = answer.who;
+    session.line.clear();
+    send(link, &text[..n])?;
+    Ok(ends)
+}
+
+// Takes one byte. At an LF the line is answered.
+fn take_byte<L: Link, D: Disk, S: Streams>(
+    server: &Server<'_, S>,
+    link: &mut L,
+    passes: &mut Passes<D>,
+    session: &mut Session,
+    byte: u8,
+) -> Result<bool, Failed>
+    requires passes { ArePasses (house_of server.now.house.now) passes.old }
+    requires known { IsAnalyst (house_of server.now.house.now) session.old.who }
+    ensures leads { (start : List Seen) (begin : Connection) (given : List ℕ) →
+        GoesOnWith (house_of server.now.house.now) (S.given server.now.streams.now) start begin given session.old
+        (shown (L.left link.old) (L.written link.old) (L.faults link.old)) passes.old →
+        Leads (house_of server.now.house.now) (S.given server.now.streams.now) start begin given (byte ∷ []) result session.new
+        (shown (L.left link.new) (L.written link.new) (L.faults link.new)) passes.new }
+    ensures apart { L.left link.new ≡ L.left link.old }
+    ensures known { IsAnalyst (house_of server.now.house.now) session.new.who }
+    ensures passes { ArePasses (house_of server.now.house.now) passes.new }
+{
+    session.line.push(byte);
+    if byte == b'\n' {
+        reply(server, link, passes, session)
+    } else {
+        Ok(false)
+    }
+}
+
+// Takes the bytes of a piece, up to a `bye`.
+fn take_piece<L: Link, D: Disk, S: Streams>(
+    server: &Server<'_, S>,
+    link: &mut L,
+    passes: &mut Passes<D>,
+    session: &mut Session,
+    piece: &[u8],
+) -> Result<bool, Failed>
+    requires passes { ArePasses (house_of server.now.house.now) passes.old }
+    requires known { IsAnalyst (house_of server.now.house.now) session.old.who }
+    ensures leads { (start : List Seen) (begin : Connection) (given : List ℕ) →
+        GoesOnWith (house_of server.now.house.now) (S.given server.now.streams.now) start begin given session.old
+        (shown (L.left link.old) (L.written link.old) (L.faults link.old)) passes.old →
+        Leads (house_of server.now.house.now) (S.given server.now.streams.now) start begin given piece.now result session.new
+        (shown (L.left link.new) (L.written link.new) (L.faults link.new)) passes.new }
+    ensures apart { L.left link.new ≡ L.left link.old }
+    ensures known { IsAnalyst (house_of server.now.house.now) session.new.who }
+    ensures passes { ArePasses (house_of server.now.house.now) passes.new }
+{
+    for &byte in piece {
+        if take_byte(server, link, passes, session, byte)? {
+            return Ok(true);
+        }
+    }
+    Ok(false)
+}
+
+// At the end of the input a line needs no LF.
+fn finish<L: Link, D: Disk, S: Streams>(
+    server: &Server<'_, S>,
+    link: &mut L,
+    passes: &mut Passes<D>,
+    session: &mut Session,
+) -> SessionEnd
+    requires passes { ArePasses (house_of server.now.house.now) passes.old }
+    requires known { IsAnalyst (house_of server.now.house.now) session.old.who }
+    ensures session { (start : List Seen) (begin : Connection) (given : List ℕ) →
+        GoesOnWith (house_of server.now.house.now) (S.given server.now.streams.now) start begin given session.old
+        (shown (L.left link.old) (L.written link.old) (L.faults link.old)) passes.old →
+        HasGiven begin.left given (L.left link.old) → IsAtEnd (L.left link.old) → length given ≤ session_limit →
+        IsSession (house_of server.now.house.now) (S.given server.now.streams.now) result begin
+        (shown (L.left link.new) (L.written link.new) (L.faults link.new)) start passes.new }
+    ensures memory { result ≡ NoMemory → ⊥ }
+{
+    if session.line.is_empty() {
+        return SessionEnd::EndOfInput;
+    }
+    match reply(server, link, passes, session) {
+        Ok(false) => SessionEnd::EndOfInput,
+        Ok(true) => SessionEnd::Bye,
+        Err(_) => SessionEnd::WriteFault,
+    }
+}
+
+/// Serves a connection: answers its lines one after another from no analyst, to a `bye`, to the end, or to the limit. All lines
+/// that have come are answered before more is read, and all memory of its own is taken before the first read.
+///
+/// The passes have the owners' books for as long as the session goes on.
+pub fn serve<L: Link, D: Disk, S: Streams>(
+    alloc: Global,
+    link: &mut L,
+    house: &House,
+    desk: &Desk,
+    passes: &mut Passes<D>,
+    streams: &S,
+) -> SessionEnd
+    requires passes { ArePasses (house_of house.now) passes.old }
+    ensures session { IsSession (house_of house.now) (S.given streams.now) result
+        (shown (L.left link.old) (L.written link.old) (L.faults link.old)) (shown (L.left link.new) (L.written link.new) (L.faults link.new))
+        passes.old passes.new }
+    ensures memory { result ≡ NoMemory → passes.new ≡ passes.old }
+{
+    let Ok(line) = Line::new(alloc) else {
+        return SessionEnd::NoMemory;
+    };
+    let server = Server {
+        alloc,
+        house,
+        desk,
+        streams,
+    };
+    let mut session = Session { who: None, line };
+    let mut piece = [0u8; PIECE];
+    let mut taken = 0usize;
+    loop {
+        // At the limit one byte more is asked for.
+        let room = PIECE.min(SESSION_LIMIT - taken).max(1);
+        let n = match link.read(&mut piece[..room]) {
+            Ok(n) => n,
+            Err(_) => return SessionEnd::ReadFault,
+        };
+        if n == 0 {
+            return finish(&server, link, passes, &mut session);
+        }
+        if taken == SESSION_LIMIT {
+            return SessionEnd::TooLong {
+                taken: SESSION_LIMIT as u32 + 1,
+            };
+        }
+        taken += n;
+        match take_piece(&server, link, passes, &mut session, &piece[..n]) {
+            Ok(false) => {}
+            Ok(true) => return SessionEnd::Bye,
+            Err(_) => return SessionEnd::WriteFault,
+        }
+    }
+}
