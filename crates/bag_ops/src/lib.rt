@@ -8,6 +8,3 @@ pub mod slices;
 
 pub use numbers::clipped;
 pub use slices::{clipped_sum, filter, map, size, split, union};
-
-#[cfg(test)]
-mod tests;

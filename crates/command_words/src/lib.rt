@@ -10,6 +10,3 @@ pub use crate::laws::{
     workers_are_said_by_a_number,
 };
 pub use crate::words::{Command, WordsFault, read_words};
-
-#[cfg(test)]
-mod tests;

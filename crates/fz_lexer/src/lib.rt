@@ -10,6 +10,3 @@ mod word;
 
 pub use lexer::{every_text_is_lexed, lex, one_cut, one_fault, refused_is_none};
 pub use token::{Kind, LexFault, Lexeme, Sign, Token, Word};
-
-#[cfg(test)]
-mod tests;

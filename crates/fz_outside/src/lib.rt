@@ -15,8 +15,6 @@ pub mod names;
 pub mod real;
 pub mod sink;
 pub mod source;
-#[cfg(test)]
-mod tests;
 pub mod words;
 
 /// The outside has failed, and its count of faults has risen.

@@ -15,8 +15,3 @@ pub use parser::{
     every_list_of_tokens_is_parsed, one_fault, one_term, parse, products_as_written,
     refused_is_none, terms_keep_limits, what_is_written_reads_back,
 };
-
-#[cfg(test)]
-mod plain;
-#[cfg(test)]
-mod tests;

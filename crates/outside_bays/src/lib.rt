@@ -6,5 +6,3 @@
 pub mod bay;
 pub mod memory;
 pub mod real;
-#[cfg(test)]
-mod tests;

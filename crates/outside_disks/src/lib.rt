@@ -14,8 +14,6 @@ pub mod failing;
 pub mod laws;
 pub mod memory;
 pub mod real;
-#[cfg(test)]
-mod tests;
 
 /// Counts a fault.
 pub fn fault(count: &mut u64) -> Failed

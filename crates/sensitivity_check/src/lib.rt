@@ -13,6 +13,3 @@ pub mod written;
 pub use checker::{Checked, check};
 pub use fault::CheckFault;
 pub use typing_rows::Wanted;
-
-#[cfg(test)]
-mod tests;

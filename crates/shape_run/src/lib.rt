@@ -9,6 +9,3 @@ mod walk;
 
 pub use plan::{Plan, ShapeFault};
 pub use program::shape;
-
-#[cfg(test)]
-mod tests;

@@ -72,6 +72,3 @@ pub fn load(alloc: Global, bytes: &[u8], schema: &Schema) -> Result<Table, Table
         Err(_) => Err(TableFault::NoMemory),
     }
 }
-
-#[cfg(test)]
-mod tests;

@@ -14,6 +14,3 @@ pub use dist::{Dist, DistFault};
 pub use ratio::Ratio;
 pub use rows::{table_apart, tables_apart};
 pub use values::distance;
-
-#[cfg(test)]
-mod tests;

@@ -1,0 +1,221 @@
+//! A book on disks in memory: stops, faults and refusals.
+
+ghost use Rattle.std.specs.Prelude.{◌≡◌, ◌≤◌, IfOk};
+ghost use Rattle.journal_records.specs.Encoding.{IsHeader, IsValid};
+ghost use Rattle.budget_core.specs.Ledger.{IsUnsettled};
+
+use budget_core::answers::{Counts, Left, Recall};
+use budget_core::entry::{Ask, Entry, Grant, ReserveFault};
+use budget_journal::journal::Journal;
+use budget_journal::opening::OpenFault;
+use budget_ledger::book::{AppendFault, Book, BookFault};
+use journal_records::coding::encode;
+use journal_records::records::{Header, Outcome, Record};
+use outside_disks::disk::Disk;
+use outside_disks::failing::{BlipDisk, FuseDisk};
+use outside_disks::memory::{Limits, MemDisk};
+use partition_charge::view::View;
+use std::alloc::{AllocError, Global};
+
+const LIMITS: Limits = Limits {
+    length: 8192,
+    calls: 4096,
+    written: 16_384,
+};
+
+fn header_of(capacity: u32) -> Header
+    ensures valid { IsHeader result }
+    ensures budget { result.budget ≡ 10000000 }
+    ensures capacity { result.capacity ≡ capacity }
+{
+    Header {
+        owner: 0,
+        budget: 10_000_000,
+        capacity,
+        digest: [1; 32],
+    }
+}
+
+/// Opens the book of an owner with this capacity.
+fn opened<D: Disk>(alloc: Global, disk: D, capacity: u32) -> Result<Book<D>, (D, OpenFault)>
+    requires least { 2 ≤ capacity }
+    requires most { capacity ≤ 100 }
+{
+    let entry = Entry::new(10_000_000, capacity, 2, Vec::new(alloc));
+    Book::open(alloc, disk, entry, &header_of(capacity))
+}
+
+/// A first analyst's ask about the whole, at epsilon 1.
+fn ask<D: Disk>(book: &mut Book<D>) -> Result<Grant, BookFault>
+    ensures { IfOk result (λ grant. IsUnsettled book.new.ledger grant.number) }
+{
+    let _spent = book.spent();
+    book.reserve(&Ask {
+        analyst: 0,
+        view: View::Whole,
+        e: 1_000_000,
+        p: 1,
+        q: 1,
+        program: [0; 32],
+    })
+}
+
+/// Asks, and settles the answer 5 where it is granted.
+fn ask_and_settle<D: Disk>(book: &mut Book<D>) -> Result<Result<u32, AppendFault>, BookFault> {
+    match ask(book) {
+        Ok(grant) => Ok(book.settle(grant.number, Outcome::Answered(5))),
+        Err(fault) => Err(fault),
+    }
+}
+
+/// The disk of a book in which was asked and settled, as far as that went.
+fn used<D: Disk>(alloc: Global, disk: D) -> D {
+    match opened(alloc, disk, 100) {
+        Ok(mut book) => {
+            let _answer = ask_and_settle(&mut book);
+            book.into_disk()
+        }
+        Err((disk, _)) => disk,
+    }
+}
+
+fn second_settlement() -> Record
+    ensures { IsValid result }
+{
+    Record::Settle {
+        number: 0,
+        outcome: Outcome::Lost,
+    }
+}
+
+// A stop between a reservation and its settlement. It is lost, it counts, and the next number is new. With a torn gate
+// the record isn't there.
+#[test]
+fn a_stop_after_a_reservation(rt: HostRuntime) -> Result<(), AllocError> {
+    let alloc = rt.alloc();
+    let mut disk = MemDisk::new(alloc, &[], LIMITS, &[])?;
+    assert_eq!(rt; Journal::init(&mut disk, &header_of(100)), Ok(()));
+    let mut book = opened(alloc, disk, 100).ok().expect(&rt, "a book");
+    let mut grant = Grant {
+        number: 0,
+        taken: 1_000_000,
+        seen: 1,
+    };
+    assert_eq!(rt; ask(&mut book), Ok(grant));
+    assert_eq!(rt; book.recall(0, 0), Recall::Open { seen: 1 });
+
+    let stopped = book.into_disk();
+    let disk = MemDisk::new(alloc, stopped.bytes(), LIMITS, &[])?;
+    let mut book = opened(alloc, disk, 100).ok().expect(&rt, "a book");
+    let left = Left {
+        spent: 1_000_000,
+        budget: 10_000_000,
+        seen: 1,
+    };
+    assert_eq!(rt; book.left(), left);
+    assert_eq!(rt; book.recall(0, 0), Recall::Lost { seen: 1 });
+    assert_eq!(rt; book.recall(0, 1), Recall::NotYours { seen: 1 });
+    assert_eq!(rt; book.recall(1, 0), Recall::Unknown { seen: 1 });
+    grant.number = 1;
+    grant.seen = 2;
+    assert_eq!(rt; ask(&mut book), Ok(grant));
+
+    let mut torn = MemDisk::new(alloc, stopped.bytes(), LIMITS, &[])?;
+    assert_eq!(rt; torn.write_at(128, &[0x25]), Ok(()));
+    let mut book = opened(alloc, torn, 100).ok().expect(&rt, "a book");
+    grant.number = 0;
+    grant.seen = 1;
+    assert_eq!(rt; ask(&mut book), Ok(grant));
+    Ok(())
+}
+
+// A capacity of 3 has room for one reservation and its settlement.
+#[test]
+fn full(rt: HostRuntime) -> Result<(), AllocError> {
+    let alloc = rt.alloc();
+    let mut disk = MemDisk::new(alloc, &[], LIMITS, &[])?;
+    assert_eq!(rt; Journal::init(&mut disk, &header_of(3)), Ok(()));
+    let mut book = opened(alloc, disk, 3).ok().expect(&rt, "a book");
+    assert_eq!(rt; ask_and_settle(&mut book), Ok(Ok(2)));
+    let refusal = ReserveFault::Full {
+        used: 2,
+        unsettled: 0,
+        capacity: 3,
+    };
+    assert_eq!(rt; ask_and_settle(&mut book), Err(BookFault::Refused(refusal)));
+    assert!(rt; !book.is_closed());
+    Ok(())
+}
+
+// The second sync fails, the opening's own being the first: nothing is answered from then on.
+#[test]
+fn the_second_sync_fails(rt: HostRuntime) -> Result<(), AllocError> {
+    let alloc = rt.alloc();
+    let mut disk = MemDisk::new(alloc, &[], LIMITS, &[])?;
+    assert_eq!(rt; Journal::init(&mut disk, &header_of(100)), Ok(()));
+    let mut book = opened(alloc, BlipDisk::new(disk, 104), 100)
+        .ok()
+        .expect(&rt, "a book");
+    for fault in [
+        AppendFault::DiskFault,
+        AppendFault::Closed { failed_at: 1 },
+        AppendFault::Closed { failed_at: 1 },
+    ] {
+        assert_eq!(rt; ask(&mut book), Err(BookFault::Unwritten(fault)));
+    }
+    let counts = Counts {
+        reservations: 0,
+        answered: 0,
+        exhausted: 0,
+        lost: 0,
+    };
+    assert_eq!(rt; book.counts(), counts);
+    assert!(rt; book.is_closed());
+    assert_eq!(rt; book.fault_count(), 1);
+    assert_eq!(rt; book.records().len(), 0);
+    Ok(())
+}
+
+// A fault, and a stop, at each disk call of a reservation and its settlement. Opened again nothing is there that
+// wasn't asked for, an answer is there only after its settlement, and the next number is new.
+#[test]
+fn a_fault_at_each_call(rt: HostRuntime) -> Result<(), AllocError> {
+    let alloc = rt.alloc();
+    for (call, standing) in [
+        (103, Recall::Unknown { seen: 0 }),
+        (104, Recall::Unknown { seen: 0 }),
+        (105, Recall::Unknown { seen: 0 }),
+        (106, Recall::Lost { seen: 1 }),
+        (107, Recall::Lost { seen: 1 }),
+        (108, Recall::Lost { seen: 1 }),
+        (109, Recall::Lost { seen: 1 }),
+        (110, Recall::Answer { value: 5, seen: 2 }),
+    ] {
+        let mut disk = MemDisk::new(alloc, &[], LIMITS, &[])?;
+        assert_eq!(rt; Journal::init(&mut disk, &header_of(100)), Ok(()));
+        let stopped = MemDisk::new(alloc, disk.bytes(), LIMITS, &[])?;
+        let by_fault = used(alloc, BlipDisk::new(disk, call)).into_inner();
+        let by_stop = used(alloc, FuseDisk::new(stopped, call)).into_inner();
+        assert_eq!(rt; by_fault.bytes(), by_stop.bytes());
+        let mut book = opened(alloc, by_fault, 100).ok().expect(&rt, "a book");
+        assert_eq!(rt; book.recall(0, 0), standing);
+        let next = if book.records().is_empty() { 0 } else { 1 };
+        assert_eq!(rt; ask(&mut book).map(|grant| grant.number), Ok(next));
+    }
+    Ok(())
+}
+
+// A second settlement of a number may not follow the first.
+#[test]
+fn a_record_that_may_not_follow(rt: HostRuntime) -> Result<(), AllocError> {
+    let alloc = rt.alloc();
+    let mut disk = MemDisk::new(alloc, &[], LIMITS, &[])?;
+    assert_eq!(rt; Journal::init(&mut disk, &header_of(100)), Ok(()));
+    let mut disk = used(alloc, disk);
+    let mut slot = [0; 64];
+    encode(&second_settlement(), &mut slot);
+    assert_eq!(rt; disk.write_at(256, &slot), Ok(()));
+    let refused = opened(alloc, disk, 100).err().expect(&rt, "a fault");
+    assert_eq!(rt; refused.1, OpenFault::Damaged { slot: 2 });
+    Ok(())
+}

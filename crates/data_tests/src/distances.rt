@@ -1,0 +1,103 @@
+//! The calls at worked tables, bags and values.
+ghost use Rattle.std.specs.Prelude.{◌≡◌, ◌<◌, IfOk};
+ghost use Rattle.fz_ast.specs.Types.{BangT, NumT};
+ghost use Rattle.fz_frac.specs.Distance.{Fin};
+
+use fz_ast::{NoMemory, Ty, TypeForm, Types};
+use fz_frac::Sens;
+use metric_values::{Column, Table, Tables, Texts};
+use run_values::Value;
+use std::alloc::Global;
+use std::test::Fail;
+use value_distance::{Dist, DistFault, bag_distance, distance, table_apart, tables_apart};
+
+fn numbers(alloc: Global, cells: &[i64]) -> Result<Table, NoMemory> {
+    Table::numbers(alloc, Vec::from_slice(alloc, cells)?)
+}
+
+fn people(alloc: Global, ages: [i64; 2], town: &[u8]) -> Result<Table, NoMemory> {
+    let mut towns = Texts::new(alloc);
+    towns.push(town)?;
+    towns.push(b"oslo")?;
+    let mut numbers = Vec::new(alloc);
+    numbers.extend_from_slice(&ages)?;
+    let mut columns = Vec::new(alloc);
+    if columns.push(Column::Numbers(numbers)).is_err()
+        || columns.push(Column::Texts(towns)).is_err()
+    {
+        return Err(NoMemory);
+    }
+    Table::new(alloc, columns)
+}
+
+#[test]
+fn tables(rt: HostRuntime) -> Result<(), Fail> {
+    let alloc = rt.alloc();
+    let most = 1 << 50;
+    let worked: [(&[i64], &[i64], u64); 5] = [
+        (&[], &[], 0),
+        (&[], &[7, 7], 2),
+        (&[2, 3], &[1, 2, 2], 3),
+        (&[3, 1, 2], &[2, 3, 1], 0),
+        (&[-most, most], &[most, 0], 2),
+    ];
+    for (left, right, apart) in worked {
+        let (x, y) = (numbers(alloc, left)?, numbers(alloc, right)?);
+        assert_eq!(rt; table_apart(alloc, &x, &y)?, apart, "{left:?} {right:?}");
+        assert_eq!(rt; table_apart(alloc, &y, &x)?, apart, "{right:?} {left:?}");
+    }
+    let (x, y) = (
+        people(alloc, [30, 41], b"ny")?,
+        people(alloc, [41, 30], b"oslo")?,
+    );
+    assert_eq!(rt; table_apart(alloc, &x, &y)?, 2);
+    Ok(())
+}
+
+#[test]
+fn datasets(rt: HostRuntime) -> Result<(), Fail> {
+    let alloc = rt.alloc();
+    let (mut x, mut y) = (Tables::new(alloc), Tables::new(alloc));
+    x.push(numbers(alloc, &[1, 2])?)?;
+    y.push(numbers(alloc, &[2, 2])?)?;
+    x.push(numbers(alloc, &[5])?)?;
+    y.push(numbers(alloc, &[])?)?;
+    assert_eq!(rt; tables_apart(alloc, &x, &y)?, 3);
+    Ok(())
+}
+
+#[test]
+fn bags(rt: HostRuntime) -> Result<(), Fail> {
+    let alloc = rt.alloc();
+    let two = Value::bang(alloc, Value::num(2))?;
+    let left = vec![in alloc; two.copy()?, Value::truth(true)]?;
+    let right = vec![in alloc; Value::num(2), two.copy()?, two]?;
+    assert_eq!(rt; bag_distance(alloc, left.as_slice(), right.as_slice())?, 3);
+    assert_eq!(rt; Dist::whole(1 << 63), None);
+    Ok(())
+}
+
+#[tactic(auto, using(fz_frac::proofs::Lowest::gcd_one), unfolding(fz_ast::specs::TypeNodes::type_at))]
+fn scaled_number(alloc: Global, factor: u32) -> Result<Ty, NoMemory>
+    requires { 0 < factor }
+    ensures { IfOk result (λ ty. ty ≡ BangT (Fin factor 1) NumT) }
+{
+    let mut types = Types::new(alloc);
+    let number = types.push(TypeForm::Num)?;
+    let root = types.push(TypeForm::Bang(Sens::whole(factor), number))?;
+    Ok(Ty::new(types, root))
+}
+
+// 454279 times 20303320287433 is 2^63 - 1.
+#[test]
+fn values(rt: HostRuntime) -> Result<(), Fail> {
+    let alloc = rt.alloc();
+    let ty = scaled_number(alloc, 454279)?;
+    let zero = Value::bang(alloc, Value::num(0))?;
+    let most = Value::bang(alloc, Value::num(20303320287433))?;
+    let over = Value::bang(alloc, Value::num(20303320287434))?;
+    let greatest = Dist::whole((1 << 63) - 1).ok_or(DistFault::Range);
+    assert_eq!(rt; distance(alloc, &ty, &most, &zero), greatest);
+    assert_eq!(rt; distance(alloc, &ty, &over, &zero), Err(DistFault::Range));
+    Ok(())
+}

@@ -1,0 +1,292 @@
+//! Lines with texts from the protocol's description.
+
+ghost use Rattle.std.specs.Prelude.{◌<◌};
+
+use fz_frac::{Frac, Sens};
+use wire_lines::{
+    DiskRefusal, LINE_LIMIT, LineRefusal, MoneyRefusal, Name, NumberRefusal, ProgramRefusal,
+    REPLY_LIMIT, Refusal, Reply, Request, Standing, TypeFault, epsilons_are_read_by_the_grammar,
+    lines_are_read_by_the_grammar, next_line, read_request, replies_differ_in_their_texts,
+    write_reply,
+};
+
+fn ask(epsilon: Option<u32>, program: &[u8]) -> Result<Request<'_>, LineRefusal> {
+    Ok(Request::Ask {
+        owner: b"census",
+        epsilon,
+        program,
+    })
+}
+
+fn ask_part(epsilon: Option<u32>, program: &[u8]) -> Result<Request<'_>, LineRefusal> {
+    Ok(Request::AskPart {
+        owner: b"census",
+        partition: b"area",
+        key: b"A",
+        epsilon,
+        program,
+    })
+}
+
+fn malformed(word: u32) -> Result<Request<'static>, LineRefusal> {
+    Err(LineRefusal::Malformed { word })
+}
+
+#[test]
+fn reads_requests(rt: HostRuntime) {
+    let rows: [(&[u8], Result<Request<'_>, LineRefusal>); 34] = [
+        (b"hello ann", Ok(Request::Hello { analyst: b"ann" })),
+        (b"hello", malformed(1)),
+        (b"hello ", malformed(1)),
+        (b"hello  ann", malformed(1)),
+        (b"hello ann ", malformed(2)),
+        (b"hello ann x", malformed(2)),
+        (
+            b"ask census 0.5 size people",
+            ask(Some(500_000), b"size people"),
+        ),
+        (b"ask census 0.000001 a  b ", ask(Some(1), b"a  b ")),
+        (b"ask census 1000 1", ask(Some(1_000_000_000), b"1")),
+        (b"ask census 0001.0 1", ask(Some(1_000_000), b"1")),
+        (b"ask census 0 size people", ask(None, b"size people")),
+        (b"ask census 1. 1", ask(None, b"1")),
+        (b"ask census 0.0000001 1", ask(None, b"1")),
+        (b"ask census 1000.000001 1", ask(None, b"1")),
+        (b"ask census 00001 1", ask(None, b"1")),
+        (b"ask census 1 ", ask(Some(1_000_000), b"")),
+        (b"ask census 1", malformed(3)),
+        (b"ask census  1 x", malformed(2)),
+        (b"ask", malformed(1)),
+        (b"ASK census 1 1", malformed(0)),
+        (
+            b"recall census 0000000012",
+            Ok(Request::Recall {
+                owner: b"census",
+                number: 12,
+            }),
+        ),
+        (b"recall census", malformed(2)),
+        (b"recall census 4294967296", malformed(2)),
+        (b"recall census 00000000012", malformed(2)),
+        (b"recall census 1 2", malformed(3)),
+        (b"left census", Ok(Request::Left { owner: b"census" })),
+        (b"left", malformed(1)),
+        (
+            b"askpart census area A 0.000006 size people",
+            ask_part(Some(6), b"size people"),
+        ),
+        (b"askpart census area A 1 ", ask_part(Some(1_000_000), b"")),
+        (b"askpart census area A 1", malformed(5)),
+        (b"askpart census area A", malformed(4)),
+        (b"bye", Ok(Request::Bye)),
+        (b"bye ", malformed(1)),
+        (b"", malformed(0)),
+    ];
+    for (line, want) in rows {
+        assert!(rt; read_request(line) == want);
+    }
+}
+
+#[test]
+fn skips_long_lines(rt: HostRuntime) {
+    let line = [b'x'; LINE_LIMIT + 1];
+    assert!(rt; read_request(&line) == Err(LineRefusal::TooLong));
+    assert!(rt; read_request(&line[1..]) == malformed(0));
+}
+
+#[test]
+fn cuts_scripts(rt: HostRuntime) {
+    let mut script: &[u8] = b"hello ann\r\n\na\rb\r\r\nbye\n\r";
+    let lines: [&[u8]; 5] = [b"hello ann", b"", b"a\rb\r", b"bye", b""];
+    for want in lines {
+        if let Some((line, after)) = next_line(script) {
+            assert!(rt; line == want);
+            script = after;
+        }
+    }
+    assert!(rt; script.is_empty());
+    assert!(rt; next_line(script).is_none());
+    assert!(rt; matches!(next_line(b"bye"), Some((b"bye", b""))));
+}
+
+fn writes(reply: Reply<'_>, want: &[u8]) -> bool {
+    let mut out = [0; REPLY_LIMIT];
+    let len = write_reply(&reply, &mut out);
+    &out[..len] == want
+}
+
+#[test]
+fn writes_replies(rt: HostRuntime) {
+    let analyst = Name { bytes: b"ann" };
+    let table = Name {
+        bytes: b"a_name_of_thirty_two_bytes_00001",
+    };
+    assert!(rt; writes(Reply::Hello { analyst }, b"hello ann\n"));
+    let answer = Reply::Answer {
+        number: 0,
+        value: -5,
+        taken: 1_000_000,
+    };
+    assert!(rt; writes(answer, b"answer 0 -5 1000000\n"));
+    let lowest = Reply::Answer {
+        number: u32::MAX,
+        value: i64::MIN,
+        taken: 1,
+    };
+    assert!(rt; writes(lowest, b"answer 4294967295 -9223372036854775808 1\n"));
+    let standings: [(Standing, &[u8]); 4] = [
+        (Standing::Answered(5), b"recall 0 answer 5 2\n"),
+        (Standing::Open, b"recall 0 open 2\n"),
+        (Standing::Lost, b"recall 0 lost 2\n"),
+        (Standing::Exhausted, b"recall 0 exhausted 2\n"),
+    ];
+    for (standing, want) in standings {
+        let reply = Reply::Recalled {
+            number: 0,
+            standing,
+            seen: 2,
+        };
+        assert!(rt; writes(reply, want));
+    }
+    let left = Reply::Left {
+        spent: 1_000_000,
+        budget: 10_000_000,
+        seen: 1,
+    };
+    assert!(rt; writes(left, b"left 1000000 10000000 1\n"));
+    assert!(rt; writes(Reply::Bye, b"bye\n"));
+    assert!(rt;
+        writes(
+            Reply::Refused(Refusal::Program(ProgramRefusal::Unbounded { table })),
+            b"no 33 a_name_of_thirty_two_bytes_00001\n"
+        )
+    );
+}
+
+fn frac(p: u64, q: u64) -> Sens
+    requires { 0 < q }
+{
+    match Frac::new(p, q) {
+        Ok(sens) => Sens::Finite(sens),
+        Err(_) => Sens::Inf,
+    }
+}
+
+fn ill_typed(fault: TypeFault) -> Refusal<'static> {
+    Refusal::Program(ProgramRefusal::IllTyped {
+        fault,
+        from: 0,
+        to: 4,
+    })
+}
+
+fn too_sensitive(sens: Sens) -> Refusal<'static> {
+    Refusal::Program(ProgramRefusal::TooSensitive {
+        from: 1,
+        to: 9,
+        sens,
+    })
+}
+
+#[test]
+fn writes_refusals(rt: HostRuntime) {
+    let half = frac(3, 2);
+    let rows: [(Refusal<'_>, &[u8]); 29] = [
+        (
+            Refusal::Line(LineRefusal::Malformed { word: 2 }),
+            b"no 10 2\n",
+        ),
+        (Refusal::Line(LineRefusal::TooLong), b"no 11\n"),
+        (
+            Refusal::Line(LineRefusal::Unknown { word: 1 }),
+            b"no 12 1\n",
+        ),
+        (Refusal::Line(LineRefusal::NoEpsilon), b"no 13\n"),
+        (Refusal::Line(LineRefusal::NoHello), b"no 14\n"),
+        (
+            Refusal::Program(ProgramRefusal::NoToken { place: 12 }),
+            b"no 20 12\n",
+        ),
+        (
+            Refusal::Program(ProgramRefusal::NoTerm { token: 1 }),
+            b"no 21 1\n",
+        ),
+        (
+            Refusal::Program(ProgramRefusal::TooNested { depth: 65 }),
+            b"no 22 65\n",
+        ),
+        (ill_typed(TypeFault::Unbound), b"no 30 unbound 0 4\n"),
+        (ill_typed(TypeFault::Mismatch), b"no 30 mismatch 0 4\n"),
+        (ill_typed(TypeFault::NotGround), b"no 30 notground 0 4\n"),
+        (ill_typed(TypeFault::NotFlat), b"no 30 notflat 0 4\n"),
+        (too_sensitive(half), b"no 31 1 9 3/2\n"),
+        (too_sensitive(Sens::whole(2)), b"no 31 1 9 2\n"),
+        (too_sensitive(Sens::Inf), b"no 31 1 9 inf\n"),
+        (
+            Refusal::Program(ProgramRefusal::OutOfRange { from: 0, to: 14 }),
+            b"no 32 0 14\n",
+        ),
+        (Refusal::Program(ProgramRefusal::NoNumber), b"no 34\n"),
+        (
+            Refusal::Program(ProgramRefusal::TooDeep { from: 3, to: 11 }),
+            b"no 35 3 11\n",
+        ),
+        (
+            Refusal::Program(ProgramRefusal::TooLong { from: 0, to: 15999 }),
+            b"no 36 0 15999\n",
+        ),
+        (
+            Refusal::Program(ProgramRefusal::TooWide {
+                from: 4,
+                to: 11,
+                width: 65,
+            }),
+            b"no 37 4 11 65\n",
+        ),
+        (
+            Refusal::Money(MoneyRefusal::OverBudget {
+                spent: 1,
+                after: 3,
+                budget: 2,
+                seen: 4,
+            }),
+            b"no 40 1 3 2 4\n",
+        ),
+        (
+            Refusal::Money(MoneyRefusal::JournalFull {
+                used: 100,
+                open: 0,
+                capacity: 100,
+            }),
+            b"no 41 100 0 100\n",
+        ),
+        (
+            Refusal::Number(NumberRefusal::Exhausted { number: 7 }),
+            b"no 50 7\n",
+        ),
+        (
+            Refusal::Number(NumberRefusal::Lost { number: 8 }),
+            b"no 51 8\n",
+        ),
+        (
+            Refusal::Disk(DiskRefusal::Closed { failed_at: 1 }),
+            b"no 42 1\n",
+        ),
+        (Refusal::Disk(DiskRefusal::Fault), b"no 52\n"),
+        (
+            Refusal::Number(NumberRefusal::Unknown { number: 1, seen: 2 }),
+            b"no 60 1 2\n",
+        ),
+        (
+            Refusal::Number(NumberRefusal::NotYours { number: 0, seen: 2 }),
+            b"no 61 0 2\n",
+        ),
+        (Refusal::NoMemory, b"no 90\n"),
+    ];
+    for (refusal, want) in rows {
+        assert!(rt; writes(Reply::Refused(refusal), want));
+    }
+    lines_are_read_by_the_grammar();
+    epsilons_are_read_by_the_grammar();
+    replies_differ_in_their_texts();
+}

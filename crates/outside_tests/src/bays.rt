@@ -1,0 +1,58 @@
+//! Each bay once.
+
+use fz_outside::Failed;
+use outside_bays::bay::Bay;
+use outside_bays::memory::MemBay;
+use outside_bays::real::RealBay;
+use outside_disks::disk::Disk;
+use outside_disks::memory::{Limits, MemDisk};
+use std::fs;
+use std::test::Fail;
+
+const LIMITS: Limits = Limits {
+    length: 8,
+    calls: 9,
+    written: 10,
+};
+
+// Call 1 fails, and the disk is there still.
+#[test]
+fn disks_in_memory(rt: HostRuntime) -> Result<(), Fail> {
+    let mut disks = Vec::new(rt.alloc());
+    disks.push(Some(MemDisk::new(rt.alloc(), b"ab", LIMITS, &[])?))?;
+    let mut bay = MemBay::new(disks, &[1]);
+    let mut disk = bay.take(0).ok().expect(&rt, "a disk");
+    assert_eq!(rt; disk.write_at(2, b"c"), Ok(()));
+    bay.put_back(0, disk);
+    assert!(rt; bay.take(0).is_err());
+    let disk = bay.take(0).ok().expect(&rt, "a disk");
+    assert_eq!(rt; disk.bytes(), b"abc".as_slice());
+    Ok(())
+}
+
+// Taking a disk makes nothing. The first write makes the file and its folder, and the file is found again.
+#[test]
+fn files_of_the_system(rt: HostRuntime) -> Result<(), Fail> {
+    let mut bay = RealBay::new(rt.alloc(), &rt, "outside_bays_test", 2)?;
+    let mut made = bay.take(1).ok().expect(&rt, "a disk");
+    assert_eq!(rt; made.len(), Ok(0));
+    assert!(rt; fs::metadata(&rt, "outside_bays_test").is_err());
+    assert_eq!(rt; made.write_at(0, b"abc"), Ok(()));
+    bay.put_back(1, made);
+    let mut found = bay.take(1).ok().expect(&rt, "a disk");
+    assert_eq!(rt; found.len(), Ok(3));
+    assert_eq!(rt; fs::metadata(&rt, "outside_bays_test/1.bud")?.len(), 3);
+
+    // A folder of that name can't be opened, and stays as it is.
+    fs::create_dir(&rt, "outside_bays_test/0.bud")?;
+    assert!(rt; bay.take(0).is_err());
+    assert!(rt; fs::metadata(&rt, "outside_bays_test/0.bud")?.is_dir());
+    fs::remove_dir_all(&rt, "outside_bays_test")?;
+
+    // Where no folder can be made the first write fails.
+    let mut nowhere = RealBay::new(rt.alloc(), &rt, "/proc/none", 1)?;
+    let mut disk = nowhere.take(0).ok().expect(&rt, "a disk");
+    assert_eq!(rt; disk.write_at(0, b"abc"), Err(Failed));
+    assert_eq!(rt; disk.fault_count(), 1);
+    Ok(())
+}
