@@ -1,5 +1,5 @@
 #!/usr/bin/env python3
-"""Tries tools/explain on refused programs of every code: the refusal, the part that is marked, and what is said of it.
+"""Tries tools/explain on refused programs of every code: the refusal, the part that is marked, and what is said of it; and on other lines.
 
 usage: bench/explain.py [--alone]    (PROGRAM=FILE tries another build than tools/build's; --alone tries none)
 The tables are those of examples/survey. Each refusal is compared with a second implementation's, and with what the program's `check` says.
@@ -23,7 +23,21 @@ from tables import signature  # noqa: E402
 CODES = "20 21 22 30 31 32 33 34 35 36 37".split()
 ROW = "text * num * text * num"
 AGES = f"let ages = map (fn (p : {ROW}) => let (region, p) = p in let (age, p) = p in age) persons in\n"
+AGE = f"let age = fun (p : {ROW}) => let (region, p) = p in let (age, p) = p in age in\n"
+REGION = f"let region = fun (p : {ROW}) => let (region, p) = p in region in\n"
 PEOPLE = "let people = persons in "
+TOTAL = "a total can't be: ask for it"
+
+
+def chosen(condition, word="filter"):
+    """Rows that are chosen by a condition."""
+    return f"size ({word} (fn (p : {ROW}) => {condition}) persons)"
+
+
+def chosen_ages(condition):
+    return f"{AGES}size (filter (fn (x : num) => {condition}) ages)"
+
+
 
 # A program, its refusal, what is marked, and words that stand in the explanation.
 CASES = [
@@ -111,8 +125,74 @@ CASES = [
     ('"text"', "34", None, ["found:  a text"]),
     (chain(43, "0 + x", "0 + @ x", 1).decode(), "35 65 67", "f0", ["in halves"]),
     (chain(16, "x", "@ (@ x)", 1).decode(), "36 61 63", "f0", ["twice its turns"]),
+    (chosen("let (a, b, c, d) = p in b <= 3"), "21 22", ",", ["A `let` takes two names: `let (a, p) = p in let (b, p) = p in ..`"]),
+    (chosen("let (a, (b, c)) = p in b <= 3"), "21 21", "(", ["A `let` takes two names"]),
+    ("size (filter (fn (a, b) => a <= 3) persons)", "21 7", ",", ["a `let` takes two names", f"`fn (p : {ROW}) =>"]),
+    (chosen_ages("15 <= x and x <= 64"), "21 56", "<=", ["`a AND b` is `if a then b else false`"]),
+    (AGE + REGION + chosen('region p == "north" OR age p <= 64'), "21 87", "<=", ["`a OR b` is `if a then true else b`"]),
+    (chosen("p.age <= 29"), "20 51", ".", ["Columns have no names", "let (age, p) = p in age`"]),
+    ("size persons.region", "20 12", ".", ["Columns have no names", "let (region, p) = p in region`"]),
+    (chosen("p.wages <= 29"), "20 51", ".", ["Columns have no names", "takes the first one off a row"]),
+    (REGION + chosen('region p <= "m"'), "30 mismatch 133 141", "region p", ["Texts have no order"]),
+    (AGES + 'size (filter (fn (x : num) => x <= "30") ages)', "30 mismatch 146 150", '"30"', ["with: `30`, `\"30\"`"]),
+    ("COUNT(*)", "21 2", "*", ["Counting is `size persons`"]),
+    ("SELECT COUNT(*) FROM persons", "21 3", "*", ["Counting is `size persons`"]),
+    ("select * from persons", "21 1", "*", ["shows no row"]),
+    ("size persons > 10", "21 2", ">", ["`x > 10` is `11 <= x`", TOTAL]),
+    ("size persons >= 10", "21 2", ">", ["no `>=`", TOTAL]),
+    ("size persons < 10", "21 2", "<", ["`x < 10` is `x <= 9`", TOTAL]),
+    ("size persons = 10", "21 2", "=", ["`==` compares", TOTAL]),
+    ("let (x, y = (1, 2) in x", "21 5", "=", ["`=` stands in `let` alone.\n"]),
+    ("let x y = 3 in x", "21 2", "y", None),
+    ("size persons <> 10", "21 2", "<", ["`<>` is none", TOTAL]),
+    ("size persons != 10", "21 2", "!", ["no `!=`", TOTAL]),
+    ("let n = size persons in if n < 10 then 1 else 0", "21 10", "then", ["`x < 10` is `x <= 9`", TOTAL]),
+    (chosen_ages("x BETWEEN 15 AND 64"), "30 unbound 143 150", "BETWEEN", ["`if 15 <= x then x <= 64 else false`"]),
+    ("greatest <size persons>", "21 4", ">", ["`greatest <a, b>`", "no greatest element of a bag"]),
+    ("fst <size persons>", "21 4", ">", ["A pair has two halves: `fst <a, b>`"]),
+    ("least persons", "30 mismatch 6 13", "persons", ["no least element of a bag"]),
+    (AGES + "size (filter (age <= 29) ages)", "30 unbound 125 128", "age", ["`filter` takes a function", "`fn (age : num) => age <= 29`"]),
+    (AGES + "size (filter age ages)", "30 unbound 124 127", "age", ["`fn (age : num) => ..`"]),
+    ("size (filter (age <= 29) persons)", "30 unbound 14 17", "age", ["`filter` takes a function", "let (age, p) = p in age <= 29`"]),
+    ("size (filter true persons)", "30 mismatch 13 17", "true", ["`filter` takes a function", f"`fn (x : {ROW}) => ..`"]),
+    (AGE + "size (filter (age <= 29) persons)", "30 mismatch 111 114", "age", [f"`filter (fn (p : {ROW}) => age p <= 29) ..`"]),
+    (REGION + chosen('region p in ("north", "south")'), "21 46", "in", ['`if x == "a" then true else x == "b"`']),
+    (chosen_ages("15 <= x && x <= 64"), "21 54", "&", ["`a && b` is `if a then b else false`"]),
+    (chosen_ages("x <= 15 || 64 <= x"), "21 54", "|", ["`a || b` is `if a then true else b`"]),
+    ("size persons where age <= 29", "21 2", "where", ["Rows are chosen by `filter"]),
+    ("size (distinct persons)", "30 unbound 6 14", "distinct", ["no `DISTINCT`"]),
+    ("size distinct persons", "21 2", "persons", ["no `DISTINCT`"]),
+    ("size persons -- all", "21 4", "all", ["no comments"]),
+    ("-- all\nsize persons", "21 1", "-", ["no comments"]),
+    ("size persons // all", "21 2", "/", ["no comments"]),
+    ("size persons -- that's all", "20 20", "'", ["no comments"]),
+    ('size persons "--" $', "20 18", "$", ["stands in texts alone"]),
+    (AGE + chosen("age == 30"), "30 mismatch 147 150", "age", ["`age` is a function: call it, as in `age p`"]),
+    (AGE + chosen("30 <= age"), "30 mismatch 153 156", "age", ["`age` is a function: call it, as in `age p`"]),
+    (AGE + chosen("age", "map"), "30 notflat 108 147", None, ["`age` is a function: call it, as in `age p`"]),
+    (AGES + "let old = fn (x : num) => 65 <= x in size (filter (fn (x : num) => if old then true else false) ages)", "30 mismatch 181 184", "old", ["`old (![inf] x)`"]),
+    ("let n = size persons\nsize persons + n", "21 5", "size", ["its `in`: is it missing before this"]),
+    ("let n = size persons\nn + 1", "21 5", "n", ["its `in`: is it missing before this"]),
+    (chosen("let (region, p) = p let (age, p) = p in age <= 29"), "21 25", "let", ["its `in`: is it missing before this"]),
+    ("let n = size persons size persons in n", "21 5", "size", ["`(size ..)`. Or is the `in`"]),
+    ("sum[5000] persons", "21 3", "]", ["The bounds of `sum` are two whole numbers"]),
+    ("sum[-inf,inf] persons", "21 3", "inf", ["The bounds of `sum` are two whole numbers"]),
     (PEOPLE + unions(7).decode(), "37 185 196 128", "union a5 a5", ["would be 128 tables wide", "`2 * size ..`"]),
 ]  # fmt: skip
+
+# Refusals that aren't a program's.
+OTHERS = [
+    ("no 12 1", "the owner isn't in the catalog"),
+    ("no 12 2", "no partition of this name"),
+    ("no 12 3", "no key of this name"),
+    ("no 13", "write 0.5 and 0.001"),
+    ("no 14", "nobody has said hello"),
+    ("no 40 1000000 1001000000 20000000 4", "of 20000000 millionths 1000000 are spent, and with this ask it would be 1001000000"),
+    ("no 61 7 20", "another analyst made reservation 7"),
+    ("no 40 1", "README.md has the other lines"),
+    ("no 10 2", "README.md has the other lines"),
+    ("no", "README.md has the other lines"),
+]
 
 
 class Trial:
@@ -155,8 +235,21 @@ class Trial:
         if ran.stdout != f"no {refusal}\n":
             self.differ("check", program, ran.stdout, refusal)
 
+    def piped(self):
+        """Replies of a script, of which the first refusal counts."""
+        with open(self.file, "w") as file:
+            file.write("size persons * 2")
+        replies = "hello mia\nanswer 0 1004 500000\nno 21 2\nno 13\nbye"
+        ran = self.explain(replies)
+        if ran.returncode != 0 or not ran.stdout.startswith("no 21 2: "):
+            self.differ("replies", replies, f"{ran.returncode} {ran.stdout}{ran.stderr}", "no 21 2")
+
     def others(self):
-        """Lines that aren't the program's refusal."""
+        """Lines that aren't the program's refusal, and words that are said of some."""
+        for line, words in OTHERS:
+            ran = self.explain(line)
+            if ran.returncode != 2 or not ran.stderr.startswith(f"tools/explain: `{line}`") or words not in ran.stderr or ran.stderr.count("\n") != 1:
+                self.differ("words", line, f"{ran.returncode} {ran.stderr}", words)
         with open(self.file, "w") as file:
             file.write("size persons")
         for line, status in (("ok 1", 0), ("no 21 2", 1), ("no 40 1 2 3 4", 2), ("answer 0 1 2", 2), ("", 2)):
@@ -174,6 +267,7 @@ def main():
             trial.one(program, refusal, marked, said)
             if not alone:
                 trial.by_program(program, refusal)
+        trial.piped()
         trial.others()
     lacking = [code for code in CODES if code not in trial.codes]
     print(f"{len(CASES)} refusals of {len(trial.codes)} codes, {trial.differences} differences")

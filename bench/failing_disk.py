@@ -95,7 +95,7 @@ def due(first, failed):
     for _ in range(first):
         server.reply(ASK.encode())
     owner = server.owners[b"census"]
-    owner.goes_on(owner.spent, owner.records, owner.reservations)
+    owner.goes_on(owner.charges, owner.records, owner.reservations)
     replies = [server.reply(b"hello ann")]
     for at in range(3):
         if failed > 2 * at + 1:
@@ -103,7 +103,7 @@ def due(first, failed):
         elif failed >= 2 * at:
             replies.append("no 52")
             if failed % 2:
-                owner.spent, owner.records = owner.spent + 10**6, owner.records + 1
+                owner.charges, owner.records = owner.with_charge(None, 10**6), owner.records + 1
                 owner.reservations.append((b"ann", None))
         else:
             replies.append("no 42 1")

@@ -3,8 +3,9 @@
 
 usage: bench/first_programs.py [--alone | --write]    (PROGRAM=FILE tries another build than tools/build's)
 --alone tries no build. --write puts what the second implementation says into the page and the example, and tries nothing.
-The page's programs stand in blocks named `program`, each with a line behind it, and are asked in one script, in the page's order. Those of
-the example stand in its table. It ends with status 1 where one differs, or where the example's tables aren't those of tools/make_survey.
+The page's programs stand in blocks named `program`, each with a line behind it, and its asks of parts, `left` and `recall` in tables of a line
+and its reply; they are asked in one script, in the page's order. The programs of the example stand in
+its table. It ends with status 1 where one differs, or where the example's tables aren't those of tools/make_survey.
 """
 import os
 import re
@@ -25,6 +26,7 @@ SURVEY = "examples/survey"
 CATALOG, KEY = f"{SURVEY}/catalog.json", f"{SURVEY}/key"
 BLOCK = re.compile(r"```program\n(.*?)\n```\n\n`check` says `(.*?)`(?:\. Asked at EPS ([0-9.]+), the reply is `(.*?)`)?\.\n", re.S)
 ROW = re.compile(r"\| `(\w+)` \| ([^|]*) \| `(.*?)` \| `(\w+)` \| ([0-9.]+) \| `(.*?)` \|\n")
+PART = re.compile(r"^\| `((?:askpart|left|recall) .*?)` \| `(.*?)` \|$", re.M)
 FIRST = re.compile(r"^\| `((?:hello|ask|bye).*?)` \| `(.*?)` \|$", re.M)
 ASK = "tools/ask {0} {1} mia {2} {3} {4}/programs/{5}\n"
 
@@ -63,20 +65,27 @@ def script_of(lines):
 # The page. A program is (program, what check says, EPS or nothing, the reply or nothing).
 
 
-def page_script(programs):
-    return script_of(asked("labour", epsilon, program) for program, _, epsilon, _ in programs if epsilon)
+def page_script(text):
+    """What the page asks, in its order."""
+    asks = [(found.start(), asked("labour", found[3], found[1])) for found in BLOCK.finditer(text) if found[3]]
+    asks += [(found.start(), found[1] + "\n") for found in PART.finditer(text)]
+    return script_of(line for _, line in sorted(asks))
 
 
 def page_now(house, text):
     """The page as it should be."""
-    replies = iter(house.replies(page_script(BLOCK.findall(text))).splitlines()[1:])
+    replies = iter(house.replies(page_script(text)).splitlines()[1:])
+
+    def one(found):
+        part = PART.fullmatch(found[0])
+        return f"| `{part[1]}` | `{next(replies)}` |" if part else block(BLOCK.fullmatch(found[0]))
 
     def block(found):
         program, _, epsilon, _ = found.groups()
         said = f"`check` says `{house.check('labour', program)}`"
         return f"```program\n{program}\n```\n\n{said}{f'. Asked at EPS {epsilon}, the reply is `{next(replies)}`' if epsilon else ''}.\n"
 
-    return BLOCK.sub(block, text)
+    return re.sub(f"(?:{BLOCK.pattern})|(?:{PART.pattern})", one, text, flags=re.S | re.M)
 
 
 # The example. A row is (name, what it asks, what check says, owner, EPS, the reply).
@@ -185,7 +194,7 @@ def main():
         if "PROGRAM" not in os.environ:
             subprocess.run([f"{TOP}/tools/build"], check=True)
         trial.checks(house, [("labour", program[0]) for program in programs] + [(row[3], program_of(row)) for row in rows])
-        for script in (page_script(programs), survey_script(rows), text_of(f"{SURVEY}/first")):
+        for script in (page_script(page), survey_script(rows), text_of(f"{SURVEY}/first")):
             trial.by_run(script, house.replies(script))
         trial.commands(house, rows)
     if page.count("```program") != len(programs):

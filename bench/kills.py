@@ -3,7 +3,7 @@
 
 usage: bench/kills.py [COUNT [SEED [FOLDER]]]     (PROGRAM=FILE tries another build than tools/build's); 1,000 kills, and a folder on the
 disk of this repository, unless said.
-Runs of 40 asks continue one journal, and each is ended by SIGKILL at a random moment between its start and a little after its usual
+Runs of 40 asks, of the whole and of parts of two partitions, continue one journal, and each is ended by SIGKILL at a random moment between its start and a little after its usual
 end. After each one, by a second reader (tools/journal.py) that shares nothing with the program but the rules:
 
 - the journal's bytes are a journal: its records are legal, and cost at most the budget;
@@ -27,9 +27,10 @@ TOP = os.path.dirname(os.path.dirname(os.path.abspath(__file__)))
 PROGRAM = os.path.abspath(os.environ.get("PROGRAM", f"{TOP}/out/hitchseason"))
 sys.path.insert(0, f"{TOP}/tools")
 from catalog import catalog, owner, read  # noqa: E402
-from journal import HEAD, SLOT, Refused, book_of, contents, header  # noqa: E402
+from journal import HEAD, SLOT, Refused, book_of, contents, header, slots  # noqa: E402
 
 ASKS = 40
+PARTITIONS = (("area", "people", "town", ("A", "B")), ("age", "people", "town", ("A",)))
 BUDGET = 10**18
 
 
@@ -41,8 +42,9 @@ class Trial:
     def __init__(self, folder, runs, rng):
         self.folder, self.rng, self.came, self.length = folder, rng, Counter(), 0.0
         os.chdir(folder)
-        made = catalog(owner(budget=BUDGET, capacity=2 * ASKS * (runs + 2)))
-        for name, data in (("cat.json", made), ("key", rng.randbytes(32)), ("people.csv", b"age\n20\n30\n40\n")):
+        tables = (("people", "people.csv", (("town", "text"), ("age", "num"))),)
+        made = catalog(owner(tables=tables, budget=BUDGET, capacity=2 * ASKS * (runs + 2 + runs // 100), partitions=PARTITIONS))
+        for name, data in (("cat.json", made), ("key", rng.randbytes(32)), ("people.csv", b"town,age\nA,20\nB,30\nA,40\n")):
             with open(name, "wb") as file:
                 file.write(data)
         self.head, self.entry = header(made, 0, contents("key"), contents), read(made)["owners"][0]
@@ -61,16 +63,21 @@ class Trial:
     def look(self):
         """Reads the journal, compares it with what was there before and with `audit`, and keeps it."""
         now = contents("journals/0.bud")
-        book = book_of(now, self.head, self.entry, 2)
-        before = self.book.records if self.book else []
-        end = HEAD + SLOT * len(before)
-        if len(book.records) < len(before) or now[:end] != self.kept[:end]:
+        if self.book is None:
+            self.book = book_of(now, self.head, self.entry, 2)
+        before = len(self.book.records)
+        end = HEAD + SLOT * before
+        if now[:end] != self.kept[:end]:
             raise Wrong("an earlier record isn't what it was")
+        book = self.book
+        for record in slots(now, self.entry["capacity"], before):
+            if not book.add(record):
+                raise Wrong(f"record {len(book.records)} may not follow those before it")
         said = self.ended("audit")
         if said != book.counts() + "\n":
             raise Wrong(f"audit said {said}, wanted {book.counts()}")
-        self.kept, self.book = now, book
-        return len(book.records) - len(before)
+        self.kept = now
+        return len(book.records) - before
 
     def script(self):
         """What is asked, and what the first lines must be told."""
@@ -81,7 +88,8 @@ class Trial:
             lines.append(f"recall census {last}")
             due.append(f"recall {last} {settled.standing() if settled else 'lost'} {len(self.book.records)}")
         epsilon = lambda: f"{self.rng.randint(0, 9)}.{self.rng.randint(1, 999_999):06}"
-        lines += [f"ask census {epsilon()} size people" for _ in range(ASKS)]
+        asked = lambda: self.rng.choice(["ask census", "askpart census area A", "askpart census area B", "askpart census age A"])
+        lines += [f"{asked()} {epsilon()} size people" for _ in range(ASKS)]
         return lines, due
 
     def killed(self, lines):

@@ -1,5 +1,6 @@
 #!/usr/bin/env python3
-"""Refuses allocation 1, 2, 3, .. of the proved program while it answers asks of programs over bags, alone and with all later ones.
+"""Refuses allocation 1, 2, 3, .. of the proved program while it answers asks of programs over bags, of the whole and of parts, alone and
+with all later ones.
 
 usage: bench/refused_runs.py     (PROGRAM=FILE tries another build). Needs cc. `bench/refused_memory.sh --runs` calls it.
 Each run must end with status 7 and the line 'memory' (or no line), before any ask was answered, or with status 0 and a reply to
@@ -19,9 +20,9 @@ TOP = os.path.dirname(os.path.dirname(os.path.abspath(__file__)))
 PROGRAM = os.path.abspath(os.environ.get("PROGRAM", f"{TOP}/crates/hitchseason/out/hitchseason"))
 sys.path.insert(0, f"{TOP}/tools")
 from afresh import renew  # noqa: E402
-from catalog import census  # noqa: E402
+from catalog import catalog, census, owner  # noqa: E402
 from programs import Refused  # noqa: E402
-from reference import BUDGET, ROWS, Server, key_words, millionths, with_rows  # noqa: E402
+from reference import BUDGET, Server, cost_of, house_of, key_words, millionths  # noqa: E402
 from runs import asked  # noqa: E402
 
 DOUBLED = "let a = union people people in let b = union a a in let c = union b b in sum[0,100] c"
@@ -41,6 +42,19 @@ PROGRAMS = [
 ]
 
 
+# A table with a partition, the asks of its parts and of the whole, and programs.
+OF_TOWNS = (
+    catalog(owner(tables=(("people", "people.csv", (("town", "text"), ("age", "num"))),), partitions=(("area", "people", "town", ("A", "B")),))),
+    b"town,age\nA,20\nB,30\nA,40\nC,5\n",
+)
+OF_PARTS = ("askpart census area A 0.02", "askpart census area B 0.03", "ask census 0.01")
+OF_PEOPLE = [
+    "size people",
+    "sum[0,100] (map (fn (p : text * num) => let (town, age) = p in age + 1) people)",
+    "size (filter (fn (p : text * num) => let (town, age) = p in town == \"A\") people)",
+]
+
+
 class Wrong(Exception):
     pass
 
@@ -49,16 +63,17 @@ def ask_is(server, line, found):
     """Judges the reply to an ask, and moves the server by it: 'right', 'no 90' or 'no 51'."""
     if found == "no 90":
         return "no 90"
-    _, _, epsilon, program = line.split(b" ", 3)
     owner = server.owners[b"census"]
+    words = line.split(b" ", 5 if line.startswith(b"askpart ") else 3)
+    view, epsilon, program = owner.part(words[2], words[3]) if len(words) == 6 else None, *words[-2:]
     if found == f"no 51 {len(owner.reservations)}":
         try:
-            cost = ceil(asked(program)[1] * millionths(epsilon))
+            charges = owner.with_charge(view, ceil(asked(program, owner.shown(view)[0])[1] * millionths(epsilon)))
         except Refused:
             raise Wrong("no 51 of a refused program") from None
-        if owner.spent + cost > BUDGET:
+        if cost_of(charges) > BUDGET:
             raise Wrong("no 51 over the budget")
-        owner.spent, owner.records = owner.spent + cost, owner.records + 2
+        owner.charges, owner.records = charges, owner.records + 2
         owner.reservations.append((server.who, "lost"))
         return "no 51"
     want = server.reply(line)
@@ -67,16 +82,16 @@ def ask_is(server, line, found):
     return "right"
 
 
-def judge(script, status, said):
+def judge(house, script, status, said):
     """What a run came to: 'memory', or what each ask was told."""
     if status == 7 and said in ("memory\n", ""):
         return ["memory"]
     lines, replies = script.splitlines(), said.splitlines()
     if status != 0 or len(lines) != len(replies):
         raise Wrong(f"status {status} and {said!r}")
-    server, told = Server(with_rows(ROWS), key_words(bytes(32))), []
+    server, told = Server(house, key_words(bytes(32))), []
     for line, found in zip(lines, replies):
-        if line.startswith(b"ask "):
+        if line.startswith((b"ask ", b"askpart ")):
             told.append(ask_is(server, line, found))
         elif found != server.reply(line):
             raise Wrong(f"{found} to {line.decode()}")
@@ -86,11 +101,16 @@ def judge(script, status, said):
 class Room:
     def __init__(self, folder):
         self.folder = folder
-        for name, data in (("key", bytes(32)), ("cat.json", census()), ("people.csv", b"age\n20\n30\n40\n")):
-            with open(f"{folder}/{name}", "wb") as file:
-                file.write(data)
         words = ["cc", "-O1", "-shared", "-fPIC", "-o", f"{folder}/refuse.so", f"{TOP}/bench/refuse_allocation.c", "-ldl"]
         subprocess.run(words, check=True)
+
+    def hold(self, catalog, table):
+        """From here on runs are over this catalog and table."""
+        files = {"key": bytes(32), "cat.json": catalog, "people.csv": table}
+        for name, data in files.items():
+            with open(f"{self.folder}/{name}", "wb") as file:
+                file.write(data)
+        self.house = house_of(catalog, files.__getitem__)
 
     def run(self, script, **refusals):
         renew(PROGRAM, "cat.json", "key", self.folder)
@@ -99,15 +119,16 @@ class Room:
         return ran.returncode, ran.stdout.decode("latin-1"), ran.stderr.decode("latin-1")
 
 
-def turns(room, program):
-    """Each allocation of a script with this program refused in turn. Gives how many runs were wrong, and prints a row."""
-    script = f"hello ann\nask census 0.01 {program}\nask census 0.01 {program}\nask census 1000 size people\nbye\n".encode()
+def turns(room, program, asks=("ask census 0.01", "ask census 0.01")):
+    """Each allocation of a script that asks this program so refused in turn. Gives how many runs were wrong, and prints a row."""
+    lines = ["hello ann", *[f"{ask} {program}" for ask in asks], "ask census 1000 size people", "bye"]
+    script = "".join(f"{line}\n" for line in lines).encode()
     count, wrong, came = int(room.run(script, TELL="1")[2]), 0, Counter()
     for later in ({}, {"REFUSE_ALL": "1"}):
         for number in range(1, count + 1):
             status, said, _ = room.run(script, REFUSE=str(number), **later)
             try:
-                told = judge(script, status, said)
+                told = judge(room.house, script, status, said)
             except Wrong as fault:
                 wrong += 1
                 print(f"allocation {number} {'and all later' if later else ''}: {fault}")
@@ -124,7 +145,10 @@ def main():
         sys.exit(2)
     with tempfile.TemporaryDirectory() as folder:
         room = Room(folder)
-        sys.exit(1 if sum(turns(room, program) for program in PROGRAMS) else 0)
+        room.hold(census(), b"age\n20\n30\n40\n")
+        wrong = sum(turns(room, program) for program in PROGRAMS)
+        room.hold(*OF_TOWNS)
+        sys.exit(1 if wrong + sum(turns(room, program, OF_PARTS) for program in OF_PEOPLE) else 0)
 
 
 main()

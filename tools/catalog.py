@@ -229,7 +229,9 @@ def owner(name="census", tables=(("people", "people.csv", (("age", "num"),)),), 
             {"name": table, "file": file, "columns": [{"name": column, "type": kind} for column, kind in columns]}
             for table, file, columns in tables
         ],
-        "partitions": list(partitions),
+        "partitions": [
+            {"name": partition, "table": table, "column": column, "keys": list(keys)} for partition, table, column, keys in partitions
+        ],
     }
 
 
@@ -250,7 +252,7 @@ def changed(path, value):
         catalog(
             owner(
                 tables=(("people", "people.csv", (("town", "text"), ("age", "num"))),),
-                partitions=({"name": "area", "table": "people", "column": "town", "keys": ["A", "B"]},),
+                partitions=(("area", "people", "town", ("A", "B")),),
             )
         )
     )

@@ -1,12 +1,13 @@
 #!/usr/bin/env python3
 """Journals, read apart from the server.
 
-    journal.py CATALOG KEY [FOLDER]     each owner's journal in FOLDER/journals (in ./journals): its records, and the line of an audit
+    journal.py CATALOG KEY [FOLDER]     each owner's journal in FOLDER/journals (in ./journals): its records, and the line of an audit.
+                                        A reservation's charge is r times e, rounded up; taken is by how much the owner's spent grew
     journal.py --check                  the values that are known from outside
 
 It shares nothing with the server but the rules. A journal is the file N.bud of owner N: a header of 128 bytes and a slot of 64
 bytes for each record that there is room for, whole numbers highest byte first. A slot is open where its first byte is 0xA5.
-A file that is no journal of this catalog, key and tables is refused in the server's words.
+A file that is no journal of this catalog, key and tables is refused in the server's words, and the end is with status 1.
 """
 import hashlib
 import json
@@ -37,9 +38,14 @@ class Reservation:
         numbers = [(self.number, 4), (self.e, 4), (self.p, 4), (self.q, 4), (self.taken, 8), (self.analyst, 2), (0, 2)]
         return bytes([GATE, 1, *self.view]) + b"".join(n.to_bytes(k, "big") for n, k in numbers) + self.program
 
-    def __str__(self):
-        view = "whole" if self.view == WHOLE else f"partition {self.view[0]} part {self.view[1]}"
-        return f"reservation {self.number} {view} e {self.e} r {self.p}/{self.q} taken {self.taken} analyst {self.analyst} program {self.program.hex()}"
+    def said(self, entry, analysts):
+        """In words, by the names of the owner's partitions and of the analysts."""
+        view = "whole"
+        if self.view != WHOLE:
+            partition = entry["partitions"][self.view[0]]
+            view = f"part {partition['keys'][self.view[1]]} of {partition['name']}"
+        charge = f"e {self.e} r {self.p}/{self.q} charge {self.charge()} taken {self.taken}"
+        return f"reservation {self.number} {view} {charge} analyst {analysts[self.analyst]} program {self.program.hex()}"
 
 
 class Settlement:
@@ -53,7 +59,7 @@ class Settlement:
         """What a `recall` says of it."""
         return f"answer {self.answer}" if self.outcome == 1 else OUTCOMES[self.outcome]
 
-    def __str__(self):
+    def said(self, entry, analysts):
         return f"settlement {self.number} {self.standing()}"
 
 
@@ -92,13 +98,13 @@ def header(data, order, key, file):
     return head
 
 
-def slots(data, capacity):
-    """The records of the slots before the first closed one. The least slot that isn't wholly there, is past the capacity, or is open
-    and no record or behind a closed one is damaged."""
+def slots(data, capacity, first=0):
+    """The records of the slots before the first closed one, from slot `first` on. The least slot that isn't wholly there, is past the
+    capacity, or is open and no record or behind a closed one is damaged."""
     found, whole = [], (len(data) - HEAD) // SLOT
     wrong = [] if len(data) == HEAD + SLOT * capacity else [min(capacity, whole)]
     gates = data[HEAD : HEAD + SLOT * min(capacity, whole) : SLOT]
-    for k, gate in enumerate(gates):
+    for k, gate in enumerate(gates[first:], first):
         if gate != GATE:
             behind = gates.find(GATE, k)
             wrong += [behind] if behind >= 0 else []
@@ -113,12 +119,8 @@ def slots(data, capacity):
     return found
 
 
-def cost(records):
-    """The whole view's charges, and for each partition its dearest part's."""
-    sums = {}
-    for one in records:
-        if isinstance(one, Reservation):
-            sums[one.view] = sums.get(one.view, 0) + one.charge()
+def cost(sums):
+    """The whole view's charges, and for each partition its dearest part's, by the sum of each view's charges."""
     parts = {partition: max(sums[view] for view in sums if view[0] == partition) for partition, _ in sums if partition != 255}
     return sums.get(WHOLE, 0) + sum(parts.values())
 
@@ -133,7 +135,7 @@ class Book:
     def spent_with(self, one):
         sums = dict(self.sums)
         sums[one.view] = sums.get(one.view, 0) + one.charge()
-        return sums, self.spent + one.charge() if one.view == WHOLE else cost(self.records + [one])
+        return sums, cost(sums)
 
     def has_view(self, view):
         partitions = self.entry["partitions"]
@@ -258,13 +260,16 @@ def main():
         return
     if len(sys.argv) not in (3, 4):
         sys.exit(__doc__)
+    analysts, refused = read(contents(sys.argv[1]))["analysts"], 0
     for book in books(*sys.argv[1:]):
         if isinstance(book, str):
             print(book)
+            refused = 1
             continue
         for record in book.records:
-            print(record)
+            print(record.said(book.entry, analysts))
         print(book.counts())
+    sys.exit(refused)
 
 
 if __name__ == "__main__":

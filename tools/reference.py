@@ -24,10 +24,10 @@ from math import ceil
 
 from cryptography.hazmat.primitives.ciphers import Cipher, algorithms
 
-from catalog import census, read
+from catalog import catalog, census, owner, read
 from programs import Refused
 from runs import asked, judgement, value
-from tables import held, signature
+from tables import cells, held, signature
 
 BUDGET = 10_000_000
 CAPACITY = 100
@@ -121,18 +121,56 @@ def whole_number(text):
     return int(text) if int(text) < 2**32 else None
 
 
+def cost_of(charges):
+    """The whole view's charges, and for each partition the charges of its dearest part."""
+    dearest = {}
+    for view, amount in charges.items():
+        if view is not None:
+            dearest[view[0]] = max(dearest.get(view[0], 0), amount)
+    return charges.get(None, 0) + sum(dearest.values())
+
+
 class Owner:
-    """An owner's entry, tables and rows, and what was charged and recorded: of each reservation who made it, and what became of it."""
+    """An owner's entry, tables and rows, and what was charged and recorded: of each reservation who made it, and what became of it.
+
+    A view is None for the whole, else a partition's number and a key's."""
 
     def __init__(self, entry, rows):
         self.entry, self.rows, self.tables = entry, rows, signature(entry)
-        self.spent = self.records = self.start = 0
+        self.charges, self.records, self.start = {}, 0, 0
         self.reservations = []
 
-    def goes_on(self, spent, records, reservations):
-        """From here on a later run is answered, behind so many records. A reservation is who made it, and its standing or None."""
-        self.spent, self.records, self.reservations = spent, records, list(reservations)
+    def goes_on(self, charges, records, reservations):
+        """From here on a later run is answered, behind so many records, where each view was charged so much. A reservation is who
+        made it, and its standing or None."""
+        self.charges, self.records, self.reservations = dict(charges), records, list(reservations)
         self.start = len(self.reservations)
+
+    @property
+    def spent(self):
+        return cost_of(self.charges)
+
+    def with_charge(self, view, amount):
+        return {**self.charges, view: self.charges.get(view, 0) + amount}
+
+    def part(self, partition, key):
+        """The view of a partition and a key by their names, or the word's number that is unknown."""
+        names = [found["name"].encode() for found in self.entry["partitions"]]
+        if partition not in names:
+            return 2
+        keys = [found.encode() for found in self.entry["partitions"][names.index(partition)]["keys"]]
+        return (names.index(partition), keys.index(key)) if key in keys else 3
+
+    def shown(self, view):
+        """The tables and the rows of a view."""
+        if view is None:
+            return self.tables, self.rows
+        partition = self.entry["partitions"][view[0]]
+        name, key = partition["table"], partition["keys"][view[1]].encode()
+        columns = next(table["columns"] for table in self.entry["tables"] if table["name"] == name)
+        place = [column["name"] for column in columns].index(partition["column"])
+        rows = [row for row in self.rows[name] if cells(row, len(columns))[place] == key]
+        return [table for table in self.tables if table[0] == name], {name: rows}
 
     def standing(self, number):
         said = self.reservations[number][1]
@@ -181,6 +219,8 @@ class Server:
             return self.hello(words)
         if kind == b"ask":
             return self.ask(line.split(b" ", 3))
+        if kind == b"askpart":
+            return self.ask(line.split(b" ", 5))
         if kind == b"recall":
             return self.recall(words)
         if kind == b"left":
@@ -235,38 +275,44 @@ class Server:
         return "hello " + words[1].decode()
 
     def ask(self, words):
-        for place in (1, 2):
+        """An ask of the whole, or of a part, whose line has two words more."""
+        last = 5 if words[0] == b"askpart" else 3
+        for place in range(1, last):
             if len(words) <= place or words[place] == b"":
                 return f"no 10 {place}"
-        if len(words) < 4:
-            return "no 10 3"
-        _, name, epsilon, program = words
+        if len(words) <= last:
+            return f"no 10 {last}"
+        name, epsilon, program = words[1], words[last - 1], words[last]
         if name not in self.owners:
             return "no 12 1"
+        owner = self.owners[name]
+        view = owner.part(words[2], words[3]) if last == 5 else None
+        if isinstance(view, int):
+            return f"no 12 {view}"
         e = millionths(epsilon)
         if e is None:
             return "no 13"
         if self.who is None:
             return "no 14"
-        owner = self.owners[name]
         try:
-            return self.query(owner, list(self.owners).index(name), e, *asked(program, owner.tables))
+            return self.query(owner, list(self.owners).index(name), view, e, *asked(program, owner.shown(view)[0]))
         except Refused as refusal:
             return f"no {refusal}"
 
-    def query(self, owner, order, e, term, sensitivity):
-        cost, budget, capacity = ceil(sensitivity * e), owner.entry["budget"], owner.entry["capacity"]
-        if owner.spent + cost > budget:
-            return f"no 40 {owner.spent} {owner.spent + cost} {budget} {owner.records}"
+    def query(self, owner, order, view, e, term, sensitivity):
+        charges, budget, capacity = owner.with_charge(view, ceil(sensitivity * e)), owner.entry["budget"], owner.entry["capacity"]
+        spent, after = owner.spent, cost_of(charges)
+        if after > budget:
+            return f"no 40 {spent} {after} {budget} {owner.records}"
         if owner.records + 2 > capacity:
             return f"no 41 {owner.records} 0 {capacity}"
         number = len(owner.reservations)
-        owner.spent += cost
+        owner.charges = charges
         owner.records += 2
         try:
-            answer = value(term, owner.rows) + noise(e, self.draws(order, number))
+            answer = value(term, owner.shown(view)[1]) + noise(e, self.draws(order, number))
             owner.reservations.append((self.who, f"answer {answer}"))
-            return f"answer {number} {answer} {cost}"
+            return f"answer {number} {answer} {after - spent}"
         except Exhausted:
             owner.reservations.append((self.who, "exhausted"))
             return f"no 50 {number}"
@@ -399,6 +445,25 @@ def check():
     assert transcript(hello + one, with_rows([]), lambda *_: followed([0, 0, 0, 0, 1, 0, 1, 0])).endswith(
         "answer 0 -1 1000000\n"
     )
+    # Parts worked by hand: the dearest part of each partition is charged.
+    towns = owner(tables=(("people", "people.csv", (("town", "text"), ("age", "num"))),), budget=10,
+                  partitions=(("area", "people", "town", ("A", "B")),))
+    house = House(read(catalog(towns)), [{"people": [(b"A", 20), (b"B", 30), (b"A", 40), (b"C", 5)]}])
+    parts = b"askpart census area A 0.000006 1\naskpart census area B 0.000006 2\naskpart census area A 0.000004 3\n"
+    said = transcript(hello + parts + b"ask census 0.000001 size people\nleft census\n", house).splitlines()
+    assert [line.split()[-1] for line in said[1:4]] == ["0", "0", "0"]
+    parts = parts.replace(b" 1\n", b" size people\n").replace(b" 2\n", b" size people\n").replace(b" 3\n", b" size people\n")
+    said = transcript(hello + parts + b"ask census 0.000001 size people\nleft census\n", house).splitlines()
+    assert [line.split()[-1] for line in said[1:4]] == ["6", "0", "4"]
+    assert said[4:] == ["no 40 10 11 10 6", "left 10 10 6"]
+    exact = transcript(hello + b"askpart census area A 1 size people\n", House(read(catalog({**towns, "budget": 10**7})), house.rows))
+    assert exact.splitlines()[1] == "answer 0 4 1000000"
+    for line, said in [
+        ("askpart census area A 1", "no 10 5"), ("askpart census area A", "no 10 4"), ("askpart census area  1 1", "no 10 3"),
+        ("askpart census nowhere A 1 1", "no 12 2"), ("askpart census area C 1 1", "no 12 3"), ("askpart eve nowhere C 1 1", "no 12 1"),
+        ("askpart census area A x 1", "no 13"), ("askpart census area A 1 1", "no 14"),
+    ]:
+        assert transcript(line.encode() + b"\n", house) == said + "\n", line
     # Programs worked by hand.
     for program, said in KNOWN_PROGRAMS:
         assert judgement(program) == said, (program, judgement(program), said)

@@ -110,6 +110,15 @@ def nested(parts, join):
     return made
 
 
+def cells(row, columns):
+    """The cells of a row, which is nested pairs."""
+    found = []
+    for _ in range(columns - 1):
+        first, row = row
+        found.append(first)
+    return found + [row]
+
+
 def row_type(columns):
     return nested([TYPES[column["type"]] for column in columns], lambda pair: ("*", *pair))
 
