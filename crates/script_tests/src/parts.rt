@@ -42,21 +42,24 @@ fn catalog<'t>(alloc: Global, budget: &'t [u8], towns: &'t [u8]) -> Result<Vec<u
     )
 }
 
-// Scripts that follow one another on one journal, each with its transcript.
-type Runs = &'static [(&'static [u8], &'static [u8])];
+// A script, and its transcript.
+type Run = (&'static [u8], &'static [u8]);
 
-// The budget in millionths, and the runs.
+// A script without lines.
+const NOTHING: Run = (b"", b"");
+
+// The budget in millionths, and two runs that follow one another on one journal.
 #[rattlefmt::skip]
-const CASES: [(&[u8], Runs); 5] = [
+const CASES: [(&[u8], [Run; 2]); 5] = [
     // 6 for A; B is within the 6 of A; A has 10 then; 10 and 1 for the whole are over the budget
-    (b"10", &[(
+    (b"10", [(
         b"hello ann\naskpart census area A 0.000006 size people\naskpart census area B 0.000006 size people\n\
         askpart census area A 0.000004 size people\nask census 0.000001 size people\nleft census\n",
-        b"hello ann\nanswer 0 406612 6\nanswer 1 87368 0\nanswer 2 497864 4\nno 40 10 11 10 6\nleft 10 10 6\n")]),
+        b"hello ann\nanswer 0 406612 6\nanswer 1 87368 0\nanswer 2 497864 4\nno 40 10 11 10 6\nleft 10 10 6\n"), NOTHING]),
     // Spent is the dearest of area, of team and of place, and the whole:
     // 300000 of A; 200000 of B beside it; 100000 of x; 9 * 50000 of the visits of A; 100000 of the whole; 400000 of A would be
     // 100000 more, which is over the budget; 350000 of B is 50000 over those of A, which fits exactly; 100000 of y beside x; no more
-    (b"1000000", &[(
+    (b"1000000", [(
         b"hello ann\nleft census\naskpart census area A 0.3 size people\nleft census\naskpart census area B 0.2 size people\nleft census\n\
         askpart census team x 0.1 size people\nleft census\n\
         askpart census place A 0.05 sum[0,9] (map (fn (r : text * num) => let (a, b) = r in b) visits)\nleft census\n\
@@ -66,28 +69,28 @@ const CASES: [(&[u8], Runs); 5] = [
         answer 2 5 100000\nleft 400000 1000000 6\n\
         answer 3 -66 450000\nleft 850000 1000000 8\n\
         answer 4 8 100000\nleft 950000 1000000 10\nno 40 950000 1050000 1000000 10\nanswer 5 10 50000\nleft 1000000 1000000 12\n\
-        answer 6 4 0\nno 40 1000000 1000001 1000000 14\nbye\n")]),
+        answer 6 4 0\nno 40 1000000 1000001 1000000 14\nbye\n"), NOTHING]),
     // A key with no rows is answered, noise alone, and charged as any: 500000, and 2 * 250000; then A has 1000000 beside it, and
     // what costs nothing is answered still
-    (b"1000000", &[(
+    (b"1000000", [(
         b"hello ann\naskpart census area Z 0.5 size people\n\
         askpart census area Z 0.25 sum[0,2] (map (fn (r : text * (text * num)) => let (a, b) = r in let (c, d) = b in d) people)\n\
         askpart census area Z 0.000001 size people\naskpart census area A 1 size people\nask census 0.000001 1\nleft census\n",
         b"hello ann\nanswer 0 4 500000\nanswer 1 7 500000\nno 40 1000000 1000001 1000000 4\nanswer 2 2 0\nanswer 3 1600265 0\n\
-        left 1000000 1000000 8\n")]),
+        left 1000000 1000000 8\n"), NOTHING]),
     // words that are missing, names that are unknown, in the line's order, and then the epsilon and the analyst; of a part its
     // partition's table alone can be named
-    (b"1000000", &[(
+    (b"1000000", [(
         b"askpart\naskpart census\naskpart census area\naskpart census area A\naskpart census area A 1\n\
         askpart nobody area A 1 x\naskpart census nowhere A 1 x\naskpart census area C 1 x\naskpart nobody nowhere C 0 x\n\
         askpart census nowhere C 0 x\naskpart census area x 0 x\naskpart census team A 0 x\naskpart census area A 0 x\n\
         askpart census area A 1 x\nhello ann\naskpart census area A 0.5 size visits\naskpart census place A 0.5 size people\n\
         askpart census area A 0.5 \naskpart  area A 1 x\naskpart census  A 1 x\nleft census\n",
         b"no 10 1\nno 10 2\nno 10 3\nno 10 4\nno 10 5\nno 12 1\nno 12 2\nno 12 3\nno 12 1\nno 12 2\nno 12 3\nno 12 3\nno 13\n\
-        no 14\nhello ann\nno 30 unbound 5 11\nno 30 unbound 5 11\nno 21 0\nno 10 1\nno 10 2\nleft 0 1000000 0\n")]),
+        no 14\nhello ann\nno 30 unbound 5 11\nno 30 unbound 5 11\nno 21 0\nno 10 1\nno 10 2\nleft 0 1000000 0\n"), NOTHING]),
     // What was asked of parts is there in the next run: 500000 of A and 250000 of y; B is beside A up to 500000, and 250000 more of
     // it use up the budget
-    (b"1000000", &[(
+    (b"1000000", [(
         b"hello ann\naskpart census area A 0.5 size people\nhello bob\naskpart census team y 0.25 size people\nrecall census 0\n\
         recall census 1\n",
         b"hello ann\nanswer 0 6 500000\nhello bob\nanswer 1 9 250000\nno 61 0 4\nrecall 1 answer 9 4\n"), (
@@ -113,7 +116,7 @@ fn parts(rt: HostRuntime) -> Result<(), Fail> {
         for (script, wanted) in runs {
             let (status, out) = journals.ran(alloc, &["run", "cat.json", "key"], &held, script)?;
             assert_eq!(rt; status, Status::Done, "{script:?}");
-            assert!(rt; out.as_slice() == *wanted, "{script:?}: {out:?}");
+            assert!(rt; out.as_slice() == wanted, "{script:?}: {out:?}");
         }
     }
     Ok(())
