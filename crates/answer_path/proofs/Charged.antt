@@ -2,7 +2,7 @@
 use Rattle.std.proofs.Common.{◌≡◌, ℕ, ◌<◌, ◌^◌, false, List, refl, sym, subst}
 use Rattle.std.specs.Int.{IsGcd}
 use Rattle.budget_core.specs.Entries.{IsEpsilon}
-use Rattle.journal_records.specs.Encoding.{AreTerms}
+use Rattle.journal_records.specs.Encoding.{AreChargeTerms}
 use Rattle.fz_frac.specs.Distance.{Distance, Fin, Inf}
 use Rattle.fz_frac.specs.Lowest.{lowest, gcd}
 use Rattle.fz_frac.proofs.Lowest.{gcd_is}
@@ -37,7 +37,7 @@ charged_narrow tables program p q c =
     in_is_narrow i.1 p q (sym i.4) (accepted_in tables c.0 i.0 i.1 (read_limits program c.0 c.1) i.2)
 
 -- epsilon and a sensitivity in lowest terms
-pub terms_of : (e p q : ℕ) → IsEpsilon e → 0 < q → gcd p q ≡ 1 → AreTerms e p q
+pub terms_of : (e p q : ℕ) → IsEpsilon e → 0 < q → gcd p q ≡ 1 → AreChargeTerms e p q
 terms_of e p q epsilon above one = record { above = epsilon.least; most = epsilon.most; positive = above; lowest = subst (λ g. IsGcd p q g) one (gcd_is p q) }
 
 -- An accepted program's sensitivity is finite.

@@ -4,7 +4,7 @@ use Rattle.fz_frac.specs.Distance.{Distance}
 use Rattle.fz_frac.specs.Lowest.{lowest}
 use Rattle.fz_ast.specs.Signature.{Signature}
 use Rattle.fz_ast.specs.Terms.{Term}
-use Rattle.linear_types.specs.Program.{Answer, Accepted, Rejected, sensitivity_of}
+use Rattle.linear_types.specs.Program.{Acceptance, Accepted, Rejected, sensitivity_of}
 use Rattle.linear_types.specs.Inferred.{Fault, Unbound, Mismatch, NotGround, NotFlat, TooSensitive, Range, Unbounded, NotNum}
 use Rattle.metric_values.specs.Tables.{Dataset, rows_of}
 use Rattle.metric_values.specs.Values.{NumV}
@@ -43,7 +43,7 @@ abbrev pub shaped_by : Term → Distance → WalkOutcome → Judgement
 shaped_by e r (Shaped s k) = accepted e r
 shaped_by e r (Stops fault) = refused_for (shape_refusal fault)
 
-abbrev pub judged_by : Signature → Term → Answer → Judgement
+abbrev pub judged_by : Signature → Term → Acceptance → Judgement
 judged_by ts e (Accepted D r) = shaped_by e (lowest r) (shape ts e)
 judged_by ts e (Rejected fault) = refused_for (fault_refusal fault)
 

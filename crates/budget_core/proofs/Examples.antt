@@ -10,7 +10,7 @@ use Rattle.budget_core.specs.declared.entry.ReserveFault.TheVariants.{OverBudget
 use Rattle.partition_charge.specs.Cost.{cost_of_charges, partition_cost}
 use Rattle.budget_core.specs.Cost.{charge_of, charges_in, cost_of}
 use Rattle.budget_core.specs.Bare.{without_answers}
-use Rattle.budget_core.specs.Counts.{reservations_of, reservation_of, outcome_of, asker_of, settles, number_of, taken_of, open_from}
+use Rattle.budget_core.specs.Counts.{reservations_of, reservation_of, outcome_of, asker_of, settles, reservation_number, taken_of, open_from}
 use Rattle.budget_core.specs.Entries.{Entry}
 use Rattle.budget_core.specs.Ledger.{start_of, money_verdict, records_after}
 
@@ -190,10 +190,10 @@ refused = refl
 abbrev records : List Record
 records = part_a ++ made 1 Whole 4 4 ∷ made 2 Whole 1 1 ∷ Settle 2 Lost ∷ []
 
-numbered : map number_of (reservations_of records) ≡ 0 ∷ 1 ∷ 2 ∷ []
+numbered : map reservation_number (reservations_of records) ≡ 0 ∷ 1 ∷ 2 ∷ []
 numbered = refl
 
-numbers : map number_of records ≡ 0 ∷ 0 ∷ 1 ∷ 2 ∷ 2 ∷ []
+numbers : map reservation_number records ≡ 0 ∷ 0 ∷ 1 ∷ 2 ∷ 2 ∷ []
 numbers = refl
 
 took : map taken_of records ≡ 6 ∷ 0 ∷ 4 ∷ 1 ∷ 0 ∷ []

@@ -3,7 +3,7 @@ use Rattle.std.proofs.Common.{◌≡◌, ℕ, ◌+◌, ◌-◌, ◌≤◌, ◌<�
 use Rattle.partition_charge.specs.declared.costs.Costs.{Costs}
 use Rattle.partition_charge.specs.declared.view.View.{View}
 use Rattle.partition_charge.specs.Cost.{Charge, cost_of_charges}
-use Rattle.partition_charge.specs.Totals.{Stands, HasRoom}
+use Rattle.partition_charge.specs.Totals.{AreTotalsOf, HasRoom}
 use Rattle.partition_charge.proofs.Charges.{never-falls}
 use Rattle.std.proofs.lemmas.Bool.{eqb-true, eq-eqb, ltb-true}
 use Rattle.std.proofs.lemmas.List.Sums.{sum_by_push, count_by-le-length}
@@ -69,7 +69,7 @@ may-not-reserve entry records r charge after is cost over may =
 
 -- after a reservation
 pub kept-Reserve : (entry : Entry) (records : List Record) (totals : Totals) (r : Reservation) (charge : ℕ) (costs : Costs) (rows : Vec Row Global) → IsTotalOf entry records totals
-    → IsReservationAfter entry records r → charge ≡ charge_of r.e r.p r.q → length records < entry.capacity → Stands costs (charges_in records ++ record { view = r.view; amount = charge } ∷ [])
+    → IsReservationAfter entry records r → charge ≡ charge_of r.e r.p r.q → length records < entry.capacity → AreTotalsOf costs (charges_in records ++ record { view = r.view; amount = charge } ∷ [])
     → rows.items ≡ totals.rows.items ++ new-row r ∷ [] → vec_capacity rows ≡ vec_capacity totals.rows
     → IsTotalOf entry (records ++ Reserve r ∷ []) (record totals { costs = costs; rows = rows })
 kept-Reserve entry records totals r charge costs rows k may is short stand lines broad =
@@ -80,7 +80,7 @@ kept-Reserve entry records totals r charge costs rows k may is short stand lines
       valid = k.valid;
       history = history-append entry records (Reserve r) k.history may;
       within = may.within;
-      costs = subst (Stands costs) charged stand;
+      costs = subst (AreTotalsOf costs) charged stand;
       rows = subst (λ (ys : List Row). HasRows ys all) (sym lines) (rows-Reserve entry records totals.rows.items r k.history may k.rows);
       answered = k.answered ∙ sym (sum_by_push (λ x. one_if (is_answered x)) records (Reserve r) ∙ add-zero (count_by is_answered records));
       exhausted = k.exhausted ∙ sym (sum_by_push (λ x. one_if (is_exhausted x)) records (Reserve r) ∙ add-zero (count_by is_exhausted records));
@@ -98,7 +98,7 @@ kept-Settle entry records totals number outcome rows one other k may short has b
   valid = k.valid;
   history = history-append entry records (Settle number outcome) k.history may;
   within = omega (arith, k.within, cost_of-append-Settle records number outcome);
-  costs = subst (Stands totals.costs) (sym (charges_in-append-Settle records number outcome)) k.costs;
+  costs = subst (AreTotalsOf totals.costs) (sym (charges_in-append-Settle records number outcome)) k.costs;
   rows = has;
   answered = omega (arith, k.answered, answers, sum_by_push (λ x. one_if (is_answered x)) records (Settle number outcome));
   exhausted = omega (arith, k.exhausted, exhausts, sum_by_push (λ x. one_if (is_exhausted x)) records (Settle number outcome));

@@ -12,7 +12,7 @@ use Rattle.journal_records.specs.declared.records.Outcome.{Outcome}
 use Rattle.journal_records.specs.declared.records.Reservation.{Reservation}
 use Rattle.journal_records.specs.declared.records.Record.{Record}
 use Rattle.journal_records.specs.declared.records.Record.TheVariants.{Reserve, Settle}
-use Rattle.budget_core.specs.Counts.{is_reservation, reservations_of, reserves, reservation_of, outcome_of, settles, number_of, is_open_in, open_from}
+use Rattle.budget_core.specs.Counts.{is_reservation, reservations_of, reserves, reservation_of, outcome_of, settles, reservation_number, is_open_in, open_from}
 use Rattle.budget_core.specs.Entries.{Entry}
 use Rattle.budget_core.specs.Legal.{MayFollow, IsHistory}
 use Rattle.budget_core.proofs.Histories.{history-induction}
@@ -255,20 +255,20 @@ range-push a (suc n) =
     ap (range_with_len a) more ∙ ap (λ rest. a ∷ rest) (range-push (a + 1) n) ∙ ap (λ x. a ∷ (range_with_len (a + 1) n ++ x ∷ [])) last
 
 -- The reservations of a history are numbered 0, 1, 2, .. in order.
-pub numbered_in_order : (entry : Entry) (records : List Record) → IsHistory entry records → map number_of (reservations_of records) ≡ range_with_len 0 (length (reservations_of records))
-numbered_in_order entry = history-induction entry (λ records. map number_of (reservations_of records) ≡ range_with_len 0 (length (reservations_of records))) refl step
+pub numbered_in_order : (entry : Entry) (records : List Record) → IsHistory entry records → map reservation_number (reservations_of records) ≡ range_with_len 0 (length (reservations_of records))
+numbered_in_order entry = history-induction entry (λ records. map reservation_number (reservations_of records) ≡ range_with_len 0 (length (reservations_of records))) refl step
   where
-    step : (xs : List Record) (x : Record) → IsHistory entry xs → MayFollow entry xs x → map number_of (reservations_of xs) ≡ range_with_len 0 (length (reservations_of xs))
-        → map number_of (reservations_of (xs ++ x ∷ [])) ≡ range_with_len 0 (length (reservations_of (xs ++ x ∷ [])))
+    step : (xs : List Record) (x : Record) → IsHistory entry xs → MayFollow entry xs x → map reservation_number (reservations_of xs) ≡ range_with_len 0 (length (reservations_of xs))
+        → map reservation_number (reservations_of (xs ++ x ∷ [])) ≡ range_with_len 0 (length (reservations_of (xs ++ x ∷ [])))
     step xs (Reserve reservation) h may before =
         let next : Record = Reserve reservation in
         let count : ℕ = length (reservations_of xs) in
-        ap (map number_of) (filter-append is_reservation xs (next ∷ [])) ∙ map-append number_of (reservations_of xs) (next ∷ [])
+        ap (map reservation_number) (filter-append is_reservation xs (next ∷ [])) ∙ map-append reservation_number (reservations_of xs) (next ∷ [])
         ∙ ap (λ all. all ++ reservation.number ∷ []) before ∙ ap (λ m. range_with_len 0 count ++ m ∷ []) (may.numbered ∙ sym (zero-add count))
         ∙ sym (range-push 0 count) ∙ ap (range_with_len 0) (sym (reservations_of-append-Reserve xs reservation))
     step xs (Settle number outcome) h may before =
         let next : Record = Settle number outcome in
-        ap (map number_of) (filter-append is_reservation xs (next ∷ []) ∙ append-nil (reservations_of xs)) ∙ before ∙ ap (range_with_len 0) (sym (reservations_of-append-Settle xs number outcome))
+        ap (map reservation_number) (filter-append is_reservation xs (next ∷ []) ∙ append-nil (reservations_of xs)) ∙ before ∙ ap (range_with_len 0) (sym (reservations_of-append-Settle xs number outcome))
 
 settles_more : {X : Type 0} → (old : Option X) (hit : Bool) (v : X) → (hit ≡ true → old ≡ None) → one_if (is_some old) + one_if hit ≡ one_if (is_some (option_or old (cond hit (Some v) None)))
 settles_more None true v fresh = refl

@@ -33,9 +33,9 @@ settles n (Reserve reservation) = false
 settles n (Settle number outcome) = n == number
 
 -- the number of the reservation that a record makes or settles
-abbrev pub number_of : Record → ℕ
-number_of (Reserve reservation) = reservation.number
-number_of (Settle number outcome) = number
+abbrev pub reservation_number : Record → ℕ
+reservation_number (Reserve reservation) = reservation.number
+reservation_number (Settle number outcome) = number
 
 -- the analyst who asked for what a record reserves
 abbrev pub analyst_of : Record → ℕ

@@ -1,6 +1,6 @@
 -- what a history keeps beside its records
 use Rattle.std.specs.Prelude.{◌≡◌, ℕ, ◌<◌, ◌≤◌, List, [], ◌∷◌, ◌++◌, length, count_by, slice_get, Some, vec_capacity}
-use Rattle.partition_charge.specs.Totals.{Stands}
+use Rattle.partition_charge.specs.Totals.{AreTotalsOf}
 use Rattle.journal_records.specs.declared.records.Record.{Record}
 use Rattle.budget_core.specs.declared.totals.Row.{Row}
 use Rattle.budget_core.specs.declared.totals.Totals.{Totals}
@@ -26,7 +26,7 @@ pub record IsTotalOf (entry : Entry) (records : List Record) (totals : Totals) :
   pub valid : IsEntry entry
   pub history : IsHistory entry records
   pub within : cost_of records ≤ entry.budget
-  pub costs : Stands totals.costs (charges_in records)
+  pub costs : AreTotalsOf totals.costs (charges_in records)
   pub rows : HasRows totals.rows.items records
   pub answered : totals.answered ≡ count_by is_answered records
   pub exhausted : totals.exhausted ≡ count_by is_exhausted records

@@ -9,7 +9,7 @@ use Rattle.budget_core.specs.declared.entry.Ask.{Ask}
 use Rattle.budget_core.specs.declared.entry.Grant.{Grant}
 use Rattle.budget_core.specs.Bare.{without_answers}
 use Rattle.budget_core.specs.Cost.{cost_of}
-use Rattle.budget_core.specs.Counts.{reservations_of, settles, number_of, taken_of, open_from}
+use Rattle.budget_core.specs.Counts.{reservations_of, settles, reservation_number, taken_of, open_from}
 use Rattle.budget_core.specs.Entries.{Entry, IsEntry}
 use Rattle.budget_core.specs.declared.events.Event.{Event}
 use Rattle.budget_core.specs.Events.{is_ask_of, ran}
@@ -30,7 +30,7 @@ StaysHistory = (entry : Entry) (found records : List Record) → IsHistory entry
 -- The reservations of a history are numbered 0, 1, 2, .. in order.
 abbrev pub NumbersInOrder : Type 0
 NumbersInOrder = (entry : Entry) (records : List Record) → IsHistory entry records
-    → map number_of (reservations_of records) ≡ range_with_len 0 (length (reservations_of records))
+    → map reservation_number (reservations_of records) ≡ range_with_len 0 (length (reservations_of records))
 
 -- Two reservations of a history never share a number.
 abbrev pub NumbersNeverShared : Type 0

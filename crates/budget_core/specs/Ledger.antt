@@ -10,7 +10,7 @@ use Rattle.budget_core.specs.declared.entry.ReserveFault.TheVariants.{OverBudget
 use Rattle.budget_core.specs.Cost.{cost_of}
 use Rattle.budget_core.specs.Counts.{reservations_of, reservation_of, outcome_of, open_from}
 use Rattle.budget_core.specs.Entries.{Entry, HasView}
-use Rattle.journal_records.specs.Encoding.{IsByteList, AreTerms}
+use Rattle.journal_records.specs.Encoding.{IsByteList, AreChargeTerms}
 
 -- an owner's entry, the records found when the book was opened, and all records
 pub record Ledger : Type 0 where
@@ -57,7 +57,7 @@ money_verdict entry start records ask =
 pub record IsAskOf (entry : Entry) (ask : Ask) : Type 0 where
   pub analyst : ask.analyst < entry.analysts
   pub view : HasView entry ask.view
-  pub terms : AreTerms ask.e ask.p ask.q
+  pub terms : AreChargeTerms ask.e ask.p ask.q
   pub digest : IsByteList 32 ask.program
 
 -- the records after an ask was answered

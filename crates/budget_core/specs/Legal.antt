@@ -7,7 +7,7 @@ use Rattle.journal_records.specs.declared.records.Record.TheVariants.{Reserve, S
 use Rattle.budget_core.specs.Cost.{cost_of}
 use Rattle.budget_core.specs.Counts.{reservations_of, reservation_of, outcome_of, open_from}
 use Rattle.budget_core.specs.Entries.{Entry, HasView}
-use Rattle.journal_records.specs.Encoding.{AreTerms}
+use Rattle.journal_records.specs.Encoding.{AreChargeTerms}
 
 -- A reservation is numbered by those before it, names an analyst and a view of the entry, says by how much
 -- the cost rose, and keeps to the budget.
@@ -39,7 +39,7 @@ pub record IsFirstAstray (entry : Entry) (records : List Record) (k : ℕ) : Typ
 
 -- a reservation's numbers are an epsilon in millionths and a sensitivity in lowest terms
 abbrev pub HasTerms : Record → Type 0
-HasTerms (Reserve reservation) = AreTerms reservation.e reservation.p reservation.q
+HasTerms (Reserve reservation) = AreChargeTerms reservation.e reservation.p reservation.q
 HasTerms (Settle number outcome) = ⊤
 
 -- Records are legal after those found at the start: they begin with the found ones; each later record may follow

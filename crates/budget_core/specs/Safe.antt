@@ -2,7 +2,7 @@
 use Rattle.std.specs.Prelude.{◌≡◌, ℕ, ◌+◌, ◌≤◌, length, map, count_by, Contains, IsTrue}
 use Rattle.std.specs.List.{range_with_len}
 use Rattle.budget_core.specs.Cost.{cost_of}
-use Rattle.budget_core.specs.Counts.{reservations_of, outcome_of, settles, number_of, open_from}
+use Rattle.budget_core.specs.Counts.{reservations_of, outcome_of, settles, reservation_number, open_from}
 use Rattle.budget_core.specs.Entries.{Entry}
 use Rattle.budget_core.specs.Events.{World, is_answer}
 
@@ -11,7 +11,7 @@ use Rattle.budget_core.specs.Events.{World, is_answer}
 -- fit into the capacity.
 pub record IsSafe (entry : Entry) (world : World) : Type 0 where
   pub within : cost_of world.records ≤ entry.budget
-  pub numbered : map number_of (reservations_of world.records) ≡ range_with_len 0 (length (reservations_of world.records))
+  pub numbered : map reservation_number (reservations_of world.records) ≡ range_with_len 0 (length (reservations_of world.records))
   pub once : (number : ℕ) → count_by (settles number) world.records ≤ 1
   pub answered : (number : ℕ) → Contains world.sent number → IsTrue (is_answer (outcome_of world.records number))
   pub room : length world.records + open_from world.start world.records ≤ entry.capacity

@@ -2,7 +2,7 @@
 
 ghost use Rattle.std.specs.Prelude.{◌≡◌, ℕ, ◌<◌, ◌≤◌, ◌∷◌, ◌++◌, [], ◌↔◌, ◌^◌, List, length, slice_get, Some, IsTrue, IfOk, IfErr};
 ghost use Rattle.std.specs.List.{All};
-ghost use Rattle.journal_records.specs.Encoding.{AreTerms, IsReservation, IsValid};
+ghost use Rattle.journal_records.specs.Encoding.{AreChargeTerms, IsReservation, IsValid};
 ghost use Rattle.journal_records.specs.declared.records.Record.{Record as Entered};
 ghost use Rattle.journal_records.specs.declared.records.Record.TheVariants.{Reserve, Settle};
 ghost use Rattle.budget_core.specs.declared.totals.Row.{Row as Known};
@@ -35,7 +35,7 @@ pub(crate) struct Totals {
 
 /// What a query of sensitivity p/q costs at epsilon e, in millionths: p * e / q, rounded up.
 pub(crate) fn charge_for(e: u32, p: u32, q: u32) -> u64
-    requires { AreTerms e p q }
+    requires { AreChargeTerms e p q }
     ensures charge { result ≡ charge_of e p q }
     ensures bounded { result ≤ 2 ^ 62 }
 {
@@ -120,7 +120,7 @@ impl Totals {
     // Counts a reservation.
     fn count_reservation(&mut self, reservation: &Reservation)
         requires follows { MayCount self.old (Reserve reservation.now) }
-        requires terms { AreTerms reservation.now.e reservation.now.p reservation.now.q }
+        requires terms { AreChargeTerms reservation.now.e reservation.now.p reservation.now.q }
         ensures { HasCounted self.old (Reserve reservation.now) self.new }
     {
         let charge = charge_for(reservation.e, reservation.p, reservation.q);

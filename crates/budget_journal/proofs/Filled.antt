@@ -11,7 +11,7 @@ use Rattle.journal_records.specs.Encoding.{gate, encoded, IsValid}
 use Rattle.journal_records.specs.declared.records.Record.{Record}
 use Rattle.journal_records.specs.declared.records.Header.{Header}
 use Rattle.journal_records.proofs.Shapes.{length-encoded}
-use Rattle.budget_journal.specs.Journals.{slot_place, gate_of, Stands, IsAtRest, IsBeforeOrAfter, Appended, Refused}
+use Rattle.budget_journal.specs.Journals.{slot_place, gate_of, Stands, IsAtRest, IsBeforeOrAfter, Appended, AppendFailed}
 use Rattle.budget_journal.proofs.Slots.{SameBut, torn-but, stands-shut, stands-more, slot-filled}
 
 -- what a stop in a write leaves of a file at rest
@@ -145,21 +145,21 @@ module _ (k : ℕ) (next : Record) (valid : IsValid next) (body : List ℕ) (is 
       (opened n (behind n body t))) here
       (opened-rest next valid body is header records t rest in_room, passes-opened next valid body is header records t rest in_room)
 
-  pub refused-first : (t : Trace) → Refused k next t t
+  pub refused-first : (t : Trace) → AppendFailed k next t t
   refused-first t header records rest here room = passes-first next valid body is header records t rest (omega arith)
 
-  pub refused-behind : (t : Trace) (bytes : List ℕ) → length bytes ≤ 63 → Refused k next t (after (Wrote (slot_place k + 1) bytes) t)
+  pub refused-behind : (t : Trace) (bytes : List ℕ) → length bytes ≤ 63 → AppendFailed k next t (after (Wrote (slot_place k + 1) bytes) t)
   refused-behind t bytes le header records rest here room =
       let in_room : length records < header.capacity = omega arith in
       subst (λ (n : ℕ). Passes (IsBeforeOrAfter header records next) t (after (Wrote (slot_place n + 1) bytes) t)) here
       (passes-tried-behind next valid body is header records t rest in_room bytes le)
 
-  pub refused-stable : (t : Trace) → Refused k next t (behind k body t)
+  pub refused-stable : (t : Trace) → AppendFailed k next t (behind k body t)
   refused-stable t header records rest here room =
       let in_room : length records < header.capacity = omega arith in
       subst (λ (n : ℕ). Passes (IsBeforeOrAfter header records next) t (behind n body t)) here (passes-behind next valid body is header records t rest in_room)
 
-  pub refused-gate : (t : Trace) (bytes : List ℕ) → length bytes ≤ 1 → Refused k next t (after (Wrote (slot_place k) bytes) (behind k body t))
+  pub refused-gate : (t : Trace) (bytes : List ℕ) → length bytes ≤ 1 → AppendFailed k next t (after (Wrote (slot_place k) bytes) (behind k body t))
   refused-gate t bytes le header records rest here room =
       let in_room : length records < header.capacity = omega arith in
       subst (λ (n : ℕ). Passes (IsBeforeOrAfter header records next) t (after (Wrote (slot_place n) bytes) (behind n body t))) here
@@ -172,13 +172,13 @@ module _ (k : ℕ) (next : Record) (valid : IsValid next) (body : List ℕ) (is 
   one-put put = put ∙ ap (λ (o : Option Trace). noted Synced (noted (Wrote (slot_place k + 1) body) o)) (same-map old)
       ∙ noted-twice (λ t. t) (Wrote (slot_place k + 1) body) Synced old
 
-  pub told-refused-first : MayHaveWritten (slot_place k + 1) 63 old new → WhereTold (Refused k next) old new
-  told-refused-first may = told-tried (Refused k next) (λ t. t) (slot_place k + 1) 63 old old new (same-map old) may (refused-first k next valid body is)
+  pub told-refused-first : MayHaveWritten (slot_place k + 1) 63 old new → WhereTold (AppendFailed k next) old new
+  told-refused-first may = told-tried (AppendFailed k next) (λ t. t) (slot_place k + 1) 63 old old new (same-map old) may (refused-first k next valid body is)
       (refused-behind k next valid body is)
 
   pub told-refused : mid ≡ noted Synced (noted (Wrote (slot_place k + 1) body) old) → MayHaveWritten (slot_place k) 1 mid new
-      → WhereTold (Refused k next) old new
-  told-refused put may = told-tried (Refused k next) (behind k body) (slot_place k) 1 old mid new (one-put put) may (refused-stable k next valid body is)
+      → WhereTold (AppendFailed k next) old new
+  told-refused put may = told-tried (AppendFailed k next) (behind k body) (slot_place k) 1 old mid new (one-put put) may (refused-stable k next valid body is)
       (refused-gate k next valid body is)
 
   pub told-appended : mid ≡ noted Synced (noted (Wrote (slot_place k + 1) body) old) → new ≡ noted Synced (noted (Wrote (slot_place k) (gate ∷ [])) mid)

@@ -70,8 +70,8 @@ Appended slots next t u =
     → IsAtRest header (records ++ next ∷ []) u × Passes (IsBeforeOrAfter header records next) t u
 
 -- The same of an append that failed: all that was or may be left has the records from before, with the next one or without.
-abbrev pub Refused : ℕ → Record → Trace → Trace → Type 0
-Refused slots next t u =
+abbrev pub AppendFailed : ℕ → Record → Trace → Trace → Type 0
+AppendFailed slots next t u =
     (header : Header) (records : List Record) → IsAtRest header records t → length records ≡ slots → slots < header.capacity
     → Passes (IsBeforeOrAfter header records next) t u
 

@@ -8,7 +8,7 @@ ghost use Rattle.fz_outside.specs.Faults.{HasCause};
 ghost use Rattle.outside_disks.specs.Disks.{WhereTold, MayHaveWritten, noted};
 ghost use Rattle.outside_disks.specs.Disks.Step.{Wrote, Synced};
 ghost use Rattle.journal_records.specs.Encoding.{IsValid};
-ghost use Rattle.budget_journal.specs.Journals.{disk_of, used, is_closed, capacity_of, Appended, Refused};
+ghost use Rattle.budget_journal.specs.Journals.{disk_of, used, is_closed, capacity_of, Appended, AppendFailed};
 
 use fz_outside::Failed;
 use journal_records::coding::{GATE, encode};
@@ -52,7 +52,7 @@ pub(crate) fn put_stable<D: Disk>(disk: &mut D, place: u64, bytes: &[u8]) -> Res
 fn fill_slot<D: Disk>(disk: &mut D, used: u32, record_in: &Record) -> Result<(), Failed>
     requires { IsValid record_in.now }
     ensures appended { OnOk result (WhereTold (Appended used record_in.now) (D.trace disk.old) (D.trace disk.new)) }
-    ensures refused { OnErr result (WhereTold (Refused used record_in.now) (D.trace disk.old) (D.trace disk.new)) }
+    ensures refused { OnErr result (WhereTold (AppendFailed used record_in.now) (D.trace disk.old) (D.trace disk.new)) }
     ensures cause { HasCause (D.faults disk.old) (D.faults disk.new) (IsErr result) }
     ensures passed { OnOk result (D.faults disk.new ≡ D.faults disk.old) }
 {
@@ -73,7 +73,7 @@ impl<D: Disk> Journal<D> {
         requires valid { IsValid record_in.now }
 
         ensures appended { OnOk result (WhereTold (Appended (used self.old) record_in.now) (D.trace (disk_of self.old)) (D.trace (disk_of self.new))) }
-        ensures refused { OnErr result (WhereTold (Refused (used self.old) record_in.now) (D.trace (disk_of self.old)) (D.trace (disk_of self.new))) }
+        ensures refused { OnErr result (WhereTold (AppendFailed (used self.old) record_in.now) (D.trace (disk_of self.old)) (D.trace (disk_of self.new))) }
 
         ensures open { OnOk result (is_closed self.new ≡ false) }
         ensures closed { OnErr result (is_closed self.new ≡ true) }

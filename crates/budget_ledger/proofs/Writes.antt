@@ -8,7 +8,7 @@ use Rattle.journal_records.specs.declared.records.Outcome.{Outcome}
 use Rattle.journal_records.specs.declared.records.Record.{Record}
 use Rattle.journal_records.specs.declared.records.Header.{Header}
 use Rattle.budget_journal.specs.declared.journal.Journal.{Journal}
-use Rattle.budget_journal.specs.Journals.{IsAtRest, IsBeforeOrAfter, Appended, Refused, disk_of, used, capacity_of}
+use Rattle.budget_journal.specs.Journals.{IsAtRest, IsBeforeOrAfter, Appended, AppendFailed, disk_of, used, capacity_of}
 use Rattle.budget_core.specs.Legal.{MayFollow}
 use Rattle.budget_core.specs.Ledger.{Ledger, start_of, IsUnsettled}
 use Rattle.budget_core.specs.Sound.{IsSound}
@@ -56,7 +56,7 @@ module _ (header : Header) (records : List Record) (next : Record) where
 
   -- an append that failed
   told_failed : (failed_at slots : ℕ) (before after : Option Trace) → length records ≡ slots → slots < header.capacity → IfSome before (IsAtRest header records)
-      → WhereTold (Refused slots next) before after
+      → WhereTold (AppendFailed slots next) before after
       → IfSome after (IsKeptNow header records (Some (record { failed_at = failed_at; pending = next })))
       × WhereTold (IsPassed header records records (Some (record { failed_at = failed_at; pending = next }))) before after
   told_failed failed_at slots None None at room rest refused = (tt, tt)

@@ -5,7 +5,7 @@ use Rattle.outside_disks.specs.Disks.{Trace, WhereTold}
 use Rattle.journal_records.specs.declared.records.Record.{Record}
 use Rattle.journal_records.specs.declared.records.Header.{Header}
 use Rattle.budget_journal.specs.declared.journal.Journal.{Journal}
-use Rattle.budget_journal.specs.Journals.{disk_of, used, is_closed, capacity_of, Appended, Refused}
+use Rattle.budget_journal.specs.Journals.{disk_of, used, is_closed, capacity_of, Appended, AppendFailed}
 use Rattle.budget_core.specs.Ledger.{Ledger}
 use Rattle.budget_ledger.specs.Account.{Failure, Account, IsBook}
 use Rattle.budget_ledger.specs.declared.book.AppendFault.{AppendFault}
@@ -40,7 +40,7 @@ module _ {D : Type 0} (trace : D → Option Trace) (faults : D → ℕ) where
   pub record HasFailed (next : Record) (old new : Journal D) (was is : Option Failure) : Type 0 where
     pub open_before : was ≡ None
     pub closed : is ≡ Some (record { failed_at = faults (disk_of new); pending = next })
-    pub refused : WhereTold (Refused (used old) next) (trace (disk_of old)) (trace (disk_of new))
+    pub refused : WhereTold (AppendFailed (used old) next) (trace (disk_of old)) (trace (disk_of new))
     pub later : faults (disk_of old) ≤ faults (disk_of new)
     pub risen : HasRisen (faults (disk_of old)) (faults (disk_of new))
 

@@ -2,18 +2,18 @@
 use Rattle.std.proofs.Common.{◌≡◌, ◌∙◌, sym, ap, ℕ, ◌+◌, ◌*◌, ◌/◌, Bool, true, false, List, Option, Some, None}
 use Rattle.std.specs.Prelude.{ℤ}
 use Rattle.discrete_laplace.specs.DiscreteLaplace.{signed_size}
-use Rattle.exact_bernoulli.specs.Readers.{Reader, give, then_read, read_uniform, read_bernoulli, read_bernoulli_exp}
+use Rattle.exact_bernoulli.specs.Readers.{DrawReader, give, then_read, read_uniform, read_bernoulli, read_bernoulli_exp}
 use Rattle.discrete_laplace.specs.Readers.{read_geometric, read_attempt}
 use Rattle.exact_bernoulli.proofs.Exact.{then_complete, then_none}
 
 module _ (t s : ℕ) (before : List ℕ) where
-  last : ℕ → ℕ → Reader (Option ℤ)
+  last : ℕ → ℕ → DrawReader (Option ℤ)
   last u v = then_read (read_bernoulli 1 2) (λ negative. give (signed_size negative ((u + t * v) / s)))
 
-  middle : ℕ → Bool → Reader (Option ℤ)
+  middle : ℕ → Bool → DrawReader (Option ℤ)
   middle u goes_on = elim goes_on [ false ↦ give None | true ↦ then_read read_geometric (last u) ]
 
-  whole : ℕ → Reader (Option ℤ)
+  whole : ℕ → DrawReader (Option ℤ)
   whole u = then_read (read_bernoulli_exp u t) (middle u)
 
   pub attempt_none_first : read_uniform t before ≡ None → read_attempt t s before ≡ None

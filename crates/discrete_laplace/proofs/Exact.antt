@@ -3,7 +3,7 @@ use Rattle.std.proofs.Common.{◌≡◌, ◌∙◌, sym, ap, subst, refl, ℕ, �
 use Rattle.std.proofs.lemmas.List.{append-nil}
 use Rattle.std.specs.Prelude.{ℤ, is_none}
 use Rattle.exact_bernoulli.specs.ExactBernoulli.{IsUniform, IsBernoulli, IsSegmentRun, IsBernoulliExp}
-use Rattle.exact_bernoulli.specs.Readers.{Reader, give, then_read, read_uniform, read_bernoulli, read_run, read_bernoulli_exp}
+use Rattle.exact_bernoulli.specs.Readers.{DrawReader, give, then_read, read_uniform, read_bernoulli, read_run, read_bernoulli_exp}
 use Rattle.exact_bernoulli.proofs.Exact.{IsReader, some_inj, then_complete, then_cases, same_segments, map_reads, run_reads, ones_reads, uniform_reads, uniform_takes, bernoulli_reads, bernoulli_exp_reads, bernoulli_exp_takes}
 use Rattle.discrete_laplace.specs.DiscreteLaplace.{IsGeometric, IsAttempt, IsSample, signed_size}
 use Rattle.discrete_laplace.specs.Readers.{read_geometric, read_attempt, given, read_sample}
@@ -12,7 +12,7 @@ use Rattle.discrete_laplace.specs.Readers.{read_geometric, read_attempt, given, 
 pub Then : {A B : Type 0} → (List ℕ → A → Type 0) → (A → List ℕ → B → Type 0) → List ℕ → B → Type 0
 Then {A} S T draws b = (a : A) × (one two : List ℕ) × (draws ≡ one ++ two) × S one a × T a two b
 
-pub then_reads : {A B : Type 0} (first : Reader A) (second : A → Reader B) (S : List ℕ → A → Type 0) (T : A → List ℕ → B → Type 0) → IsReader first S → ((a : A) → IsReader (second a) (T a)) → IsReader (then_read first second) (Then S T)
+pub then_reads : {A B : Type 0} (first : DrawReader A) (second : A → DrawReader B) (S : List ℕ → A → Type 0) (T : A → List ℕ → B → Type 0) → IsReader first S → ((a : A) → IsReader (second a) (T a)) → IsReader (then_read first second) (Then S T)
 unfolding Then
 then_reads first second S T f s = record {
   sound = λ draws found e. let c = then_cases first second draws found e in let p = f.sound draws c.0 c.1 in let q = (s c.0.0).sound c.0.1 found c.2 in
@@ -41,7 +41,7 @@ Follows t s u goes_on draws outcome = elim goes_on [
   | true ↦ Then IsGeometric (λ v draws outcome. (negative : Bool) × IsBernoulli 1 2 draws negative × (outcome ≡ signed_size negative ((u + t * v) / s))) draws outcome
 ]
 
-read_follows : ℕ → ℕ → ℕ → Bool → Reader (Option ℤ)
+read_follows : ℕ → ℕ → ℕ → Bool → DrawReader (Option ℤ)
 read_follows t s u goes_on = elim goes_on [
   | false ↦ give None
   | true ↦ then_read read_geometric λ v. then_read (read_bernoulli 1 2) λ negative. give (signed_size negative ((u + t * v) / s))

@@ -1,12 +1,12 @@
 -- The loop that counts ones of exp(-1), one trial at a time.
 use Rattle.std.proofs.Common.{◌≡◌, ◌∙◌, ap, ℕ, ◌+◌, Bool, true, false, List, Some, None, arith}
-use Rattle.exact_bernoulli.specs.Readers.{Reader, give, read_run, read_bernoulli_exp}
+use Rattle.exact_bernoulli.specs.Readers.{DrawReader, give, read_run, read_bernoulli_exp}
 use Rattle.exact_bernoulli.proofs.Exact.{then_complete, then_none, bernoulli_exp_reads, bernoulli_exp_takes}
 use Rattle.exact_bernoulli.proofs.Runs.{Shrinks, shrinks_from, run_again, run_last, run_none}
 use Rattle.discrete_laplace.specs.Readers.{read_geometric}
 
 -- the ones of exp(-1) from number k on
-abbrev pub ones_from : ℕ → Reader (ℕ × Bool)
+abbrev pub ones_from : ℕ → DrawReader (ℕ × Bool)
 ones_from k = read_run (λ _. read_bernoulli_exp 1 1) (λ one. one) k
 
 one_shrinks : Shrinks (read_bernoulli_exp 1 1)

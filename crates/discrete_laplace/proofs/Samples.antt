@@ -7,7 +7,7 @@ use Rattle.std.proofs.lemmas.List.{take_all}
 use Rattle.fz_outside.specs.Draws.{first_draws, HasDrawn}
 use Rattle.fz_outside.proofs.Drawn.{length-first}
 use Rattle.exact_bernoulli.specs.Meter.{draw_limit, Took, Takes}
-use Rattle.exact_bernoulli.specs.Readers.{Reader, read_run}
+use Rattle.exact_bernoulli.specs.Readers.{DrawReader, read_run}
 use Rattle.discrete_laplace.specs.DiscreteLaplace.{IsSample, IsNoise}
 use Rattle.discrete_laplace.specs.Readers.{read_attempt, given, read_sample}
 use Rattle.discrete_laplace.specs.Noise.{noise_of, draws_taken}
@@ -18,7 +18,7 @@ use Rattle.exact_bernoulli.proofs.Metered.{none_from_segments}
 use Rattle.exact_bernoulli.proofs.Runs.{Shrinks, shrinks_from, run_again, run_last, run_none}
 
 -- the attempts from number k on
-pub attempts_from : ℕ → ℕ → ℕ → Reader (ℕ × Option ℤ)
+pub attempts_from : ℕ → ℕ → ℕ → DrawReader (ℕ × Option ℤ)
 attempts_from t s k = read_run (λ _. read_attempt t s) is_none k
 
 attempt_shrinks : (t s : ℕ) → Shrinks (read_attempt t s)

@@ -4,7 +4,7 @@ use Rattle.std.specs.Prelude.{◌==◌, nat_lt}
 use Rattle.std.specs.List.{AllByRecursion}
 use Rattle.std.proofs.lemmas.Bool.{cases_Bool, ltb-true, ltb-false, lt-ltb, le-ltb}
 use Rattle.exact_bernoulli.specs.ExactBernoulli.{uniform_limit, IsUniform, IsBernoulli, IsSegmentRun, IsBernoulliExp}
-use Rattle.exact_bernoulli.specs.Readers.{Reader, give, then_read, read_uniform, read_bernoulli, read_run_within, read_run, read_bernoulli_exp}
+use Rattle.exact_bernoulli.specs.Readers.{DrawReader, give, then_read, read_uniform, read_bernoulli, read_run_within, read_run, read_bernoulli_exp}
 
 -- what is found stands in front as a segment, and a segment that stands in front is found
 pub record IsReader {A : Type 0} (read : List ℕ → Option (A × List ℕ)) (Segment : List ℕ → A → Type 0) : Type 0 where
@@ -41,35 +41,35 @@ pub uniform_reads : (m : ℕ) → IsReader (read_uniform m) (IsUniform m)
 uniform_reads m = record { sound = uniform_sound m; complete = λ one rest a h. rw (h.cut, h.gives) (uniform_found m h.kept h.run rest h.above h.below) }
 
 -- one reader and then another
-pub then_complete : {A B : Type 0} (first : Reader A) (second : A → Reader B) (draws rest : List ℕ) (a : A) → first draws ≡ Some (a, rest) → then_read first second draws ≡ second a rest
+pub then_complete : {A B : Type 0} (first : DrawReader A) (second : A → DrawReader B) (draws rest : List ℕ) (a : A) → first draws ≡ Some (a, rest) → then_read first second draws ≡ second a rest
 then_complete first second draws rest a e = rw (e, then_read) refl
 
-pub then_none : {A B : Type 0} (first : Reader A) (second : A → Reader B) (draws : List ℕ) → first draws ≡ None → then_read first second draws ≡ None
+pub then_none : {A B : Type 0} (first : DrawReader A) (second : A → DrawReader B) (draws : List ℕ) → first draws ≡ None → then_read first second draws ≡ None
 then_none first second draws e = rw (e, then_read) refl
 
-pub then_cases : {A B : Type 0} (first : Reader A) (second : A → Reader B) (draws : List ℕ) (found : B × List ℕ) → then_read first second draws ≡ Some found → (p : A × List ℕ) × (first draws ≡ Some p) × (second p.0 p.1 ≡ Some found)
+pub then_cases : {A B : Type 0} (first : DrawReader A) (second : A → DrawReader B) (draws : List ℕ) (found : B × List ℕ) → then_read first second draws ≡ Some found → (p : A × List ℕ) × (first draws ≡ Some p) × (second p.0 p.1 ≡ Some found)
 then_cases {A} {B} first second draws found e = go (first draws) refl
   where
     go : (o : Option (A × List ℕ)) → first draws ≡ o → (p : A × List ℕ) × (first draws ≡ Some p) × (second p.0 p.1 ≡ Some found)
     go None h = absurd (cc (sym (then_none first second draws h) ∙ e))
     go (Some p) h = (p, h, sym (then_complete first second draws p.1 p.0 h) ∙ e)
 
-pub same_segments : {A : Type 0} {read : Reader A} {S : List ℕ → A → Type 0} (T : List ℕ → A → Type 0) → IsReader read S → ((one : List ℕ) (a : A) → S one a → T one a) → ((one : List ℕ) (a : A) → T one a → S one a) → IsReader read T
+pub same_segments : {A : Type 0} {read : DrawReader A} {S : List ℕ → A → Type 0} (T : List ℕ → A → Type 0) → IsReader read S → ((one : List ℕ) (a : A) → S one a → T one a) → ((one : List ℕ) (a : A) → T one a → S one a) → IsReader read T
 same_segments T reads to from = record {
   sound = λ draws found e. let r = reads.sound draws found e in (r.0, r.1, to _ _ r.2);
   complete = λ one rest a h. reads.complete one rest a (from one a h);
 }
 
 -- one segment, and a value of its value
-pub map_reads : {A B : Type 0} (first : Reader A) (S : List ℕ → A → Type 0) (value : A → B) → IsReader first S → IsReader (then_read first (λ a. give (value a))) (λ draws b. (a : A) × S draws a × (b ≡ value a))
+pub map_reads : {A B : Type 0} (first : DrawReader A) (S : List ℕ → A → Type 0) (value : A → B) → IsReader first S → IsReader (then_read first (λ a. give (value a))) (λ draws b. (a : A) × S draws a × (b ≡ value a))
 map_reads first S value f = record {
   sound = λ draws found e. let c = then_cases first (λ a. give (value a)) draws found e in let p = f.sound draws c.0 c.1 in let q = some_inj c.2 in
       (p.0, p.1 ∙ ap (λ x. p.0 ++ x.1) q, (c.0.0, p.2, sym (ap (λ x. x.0) q)));
   complete = λ one rest b h. then_complete first (λ a. give (value a)) (one ++ rest) rest h.0 (f.complete one rest h.0 h.1) ∙ ap (λ v. Some (v, rest)) (sym h.2);
 }
 
-module _ {B : Type 0} (read : ℕ → Reader B) (is_again : B → Bool) (Segment : ℕ → List ℕ → B → Type 0) (again : B) (reads : (k : ℕ) → IsReader (read k) (Segment k)) (only : (b : B) → is_again b ≡ true → b ≡ again) (it : is_again again ≡ true) (takes : (k : ℕ) (one : List ℕ) (b : B) → Segment k one b → 0 < length one) where
-  after : ℕ → ℕ → B → Reader (ℕ × B)
+module _ {B : Type 0} (read : ℕ → DrawReader B) (is_again : B → Bool) (Segment : ℕ → List ℕ → B → Type 0) (again : B) (reads : (k : ℕ) → IsReader (read k) (Segment k)) (only : (b : B) → is_again b ≡ true → b ≡ again) (it : is_again again ≡ true) (takes : (k : ℕ) (one : List ℕ) (b : B) → Segment k one b → 0 < length one) where
+  after : ℕ → ℕ → B → DrawReader (ℕ × B)
   after most k b = elim (is_again b) [ true ↦ read_run_within read is_again most (suc k) | false ↦ give (k, b) ]
 
   after_again : (most k : ℕ) (b : B) (draws : List ℕ) → is_again b ≡ true → after most k b draws ≡ read_run_within read is_again most (suc k) draws
@@ -133,7 +133,7 @@ pub bernoulli_takes : (n d : ℕ) (one : List ℕ) (a : Bool) → IsBernoulli n 
 bernoulli_takes n d one a h = uniform_takes d one h.number h.uniform
 
 -- a run of trials, up to the first zero
-pub ones_reads : (read : ℕ → Reader Bool) (Segment : ℕ → List ℕ → Bool → Type 0) → ((k : ℕ) → IsReader (read k) (Segment k)) → ((k : ℕ) (one : List ℕ) (b : Bool) → Segment k one b → 0 < length one) → (k : ℕ) → IsReader (read_run read (λ one. one) k) (λ draws r. (n : ℕ) × (r.0 ≡ k + n) × (r.1 ≡ false) × IsSegmentRun Segment true r.1 k n draws)
+pub ones_reads : (read : ℕ → DrawReader Bool) (Segment : ℕ → List ℕ → Bool → Type 0) → ((k : ℕ) → IsReader (read k) (Segment k)) → ((k : ℕ) (one : List ℕ) (b : Bool) → Segment k one b → 0 < length one) → (k : ℕ) → IsReader (read_run read (λ one. one) k) (λ draws r. (n : ℕ) × (r.0 ≡ k + n) × (r.1 ≡ false) × IsSegmentRun Segment true r.1 k n draws)
 ones_reads read Segment reads takes k = run_reads read (λ one. one) Segment true reads (λ b e. e) refl takes k
 
 pub bernoulli_exp_reads : (u t : ℕ) → IsReader (read_bernoulli_exp u t) (IsBernoulliExp u t)

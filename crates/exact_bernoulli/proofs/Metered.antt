@@ -5,7 +5,7 @@ use Rattle.std.proofs.Math.Nat.{mod-add-mod}
 use Rattle.fz_outside.specs.Draws.{HasDrawn}
 use Rattle.fz_outside.proofs.Drawn.{HasDrawn-+}
 use Rattle.exact_bernoulli.specs.ExactBernoulli.{uniform_limit}
-use Rattle.exact_bernoulli.specs.Readers.{Reader, read_uniform}
+use Rattle.exact_bernoulli.specs.Readers.{DrawReader, read_uniform}
 use Rattle.exact_bernoulli.specs.Meter.{Took, Takes}
 use Rattle.exact_bernoulli.proofs.Exact.{IsReader, uniform_kept, uniform_again}
 
@@ -37,14 +37,14 @@ unfolding read_uniform
 uniform_none m draws e = ap (read_uniform m) e
 
 -- what a call says of its segment, and what its reader finds
-pub Takes-err : {A E : Type 0} {read : Reader A} {Segment : List ℕ → A → Type 0} → IsReader read Segment → (r : Result A E) (before behind : List ℕ) → IsErr r → read before ≡ None → behind ≡ [] → Takes Segment r before behind
+pub Takes-err : {A E : Type 0} {read : DrawReader A} {Segment : List ℕ → A → Type 0} → IsReader read Segment → (r : Result A E) (before behind : List ℕ) → IsErr r → read before ≡ None → behind ≡ [] → Takes Segment r before behind
 Takes-err reads (Ok a) before behind i e f = absurd (cc i)
 Takes-err {A = A} {read = read} reads (Err x) before behind i e f = (f, λ one rest a cut segment. let found = ap read cut ∙ reads.complete one rest a segment in cc (e, found))
 
-pub found_from_segment : {A : Type 0} {read : Reader A} {Segment : List ℕ → A → Type 0} → IsReader read Segment → (a : A) (before behind : List ℕ) → (one : List ℕ) × (before ≡ one ++ behind) × Segment one a → read before ≡ Some (a, behind)
+pub found_from_segment : {A : Type 0} {read : DrawReader A} {Segment : List ℕ → A → Type 0} → IsReader read Segment → (a : A) (before behind : List ℕ) → (one : List ℕ) × (before ≡ one ++ behind) × Segment one a → read before ≡ Some (a, behind)
 found_from_segment {read = read} reads a before behind h = ap read h.1 ∙ reads.complete h.0 behind a h.2
 
-pub none_from_segments : {A : Type 0} {read : Reader A} {Segment : List ℕ → A → Type 0} → IsReader read Segment → (before : List ℕ) → ((one rest : List ℕ) (a : A) → before ≡ one ++ rest → ¬ Segment one a) → read before ≡ None
+pub none_from_segments : {A : Type 0} {read : DrawReader A} {Segment : List ℕ → A → Type 0} → IsReader read Segment → (before : List ℕ) → ((one rest : List ℕ) (a : A) → before ≡ one ++ rest → ¬ Segment one a) → read before ≡ None
 none_from_segments {A} {read} {Segment} reads before none = go (read before) refl
   where
     go : (o : Option (A × List ℕ)) → read before ≡ o → read before ≡ None

@@ -1,19 +1,19 @@
 -- Runs of segments, one segment at a time.
 use Rattle.std.proofs.Common.{◌≡◌, ◌∙◌, sym, ap, refl, ℕ, zero, suc, ◌<◌, ◌≤◌, Bool, true, false, List, [], ◌∷◌, length, Option, Some, None, arith, inl, inr, length-append}
 use Rattle.std.proofs.lemmas.Bool.{cases_Bool}
-use Rattle.exact_bernoulli.specs.Readers.{Reader, give, read_run_within, read_run}
+use Rattle.exact_bernoulli.specs.Readers.{DrawReader, give, read_run_within, read_run}
 use Rattle.exact_bernoulli.proofs.Exact.{IsReader, then_complete, then_none}
 
 -- each segment takes a draw
-pub Shrinks : {A : Type 0} → Reader A → Type 0
+pub Shrinks : {A : Type 0} → DrawReader A → Type 0
 Shrinks {A} read = (draws : List ℕ) (found : A × List ℕ) → read draws ≡ Some found → length found.1 < length draws
 
-pub shrinks_from : {A : Type 0} {read : Reader A} {Segment : List ℕ → A → Type 0} → IsReader read Segment → ((one : List ℕ) (a : A) → Segment one a → 0 < length one) → Shrinks read
+pub shrinks_from : {A : Type 0} {read : DrawReader A} {Segment : List ℕ → A → Type 0} → IsReader read Segment → ((one : List ℕ) (a : A) → Segment one a → 0 < length one) → Shrinks read
 unfolding Shrinks
 shrinks_from reads takes draws found e = let r = reads.sound draws found e in let l = takes r.0 found.0 r.2 in omega (arith, l, ap length r.1 ∙ length-append r.0 found.1)
 
-module _ {B : Type 0} (read : ℕ → Reader B) (is_again : B → Bool) (shrinks : (k : ℕ) → Shrinks (read k)) where
-  after : ℕ → ℕ → B → Reader (ℕ × B)
+module _ {B : Type 0} (read : ℕ → DrawReader B) (is_again : B → Bool) (shrinks : (k : ℕ) → Shrinks (read k)) where
+  after : ℕ → ℕ → B → DrawReader (ℕ × B)
   after most k b = elim (is_again b) [ true ↦ read_run_within read is_again most (suc k) | false ↦ give (k, b) ]
 
   after_again : (most k : ℕ) (b : B) (draws : List ℕ) → is_again b ≡ true → after most k b draws ≡ read_run_within read is_again most (suc k) draws

@@ -1,7 +1,7 @@
 -- A trial, and the loop over trials of the code, one at a time.
 use Rattle.std.proofs.Common.{◌≡◌, ◌∙◌, ap, ℕ, ◌+◌, ◌*◌, ◌%◌, Bool, true, false, List, Some, None, arith}
 use Rattle.std.specs.Prelude.{◌==◌, nat_lt}
-use Rattle.exact_bernoulli.specs.Readers.{Reader, give, read_uniform, read_run, read_bernoulli, read_bernoulli_exp}
+use Rattle.exact_bernoulli.specs.Readers.{DrawReader, give, read_uniform, read_run, read_bernoulli, read_bernoulli_exp}
 use Rattle.exact_bernoulli.proofs.Exact.{then_complete, then_none, bernoulli_reads, bernoulli_takes}
 use Rattle.exact_bernoulli.proofs.Runs.{Shrinks, shrinks_from, run_again, run_last, run_none}
 
@@ -15,7 +15,7 @@ unfolding read_bernoulli
 bernoulli_none n d before e = then_none (read_uniform d) (λ number. give (nat_lt number n)) before e
 
 -- the trials of u/(t*k) from number k on
-abbrev pub trials_from : ℕ → ℕ → ℕ → Reader (ℕ × Bool)
+abbrev pub trials_from : ℕ → ℕ → ℕ → DrawReader (ℕ × Bool)
 trials_from u t k = read_run (λ k. read_bernoulli u (t * k)) (λ one. one) k
 
 trial_shrinks : (u t k : ℕ) → Shrinks (read_bernoulli u (t * k))

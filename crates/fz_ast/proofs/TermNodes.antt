@@ -12,7 +12,7 @@ use Rattle.fz_ast.specs.Depth.{depth}
 use Rattle.fz_ast.specs.Names.{name_of, text_of}
 use Rattle.fz_ast.specs.TypeNodes.{type_at, type_of, IsKnownType, HasBang}
 use Rattle.fz_ast.specs.declared.types.TypeForm.{TypeForm}
-use Rattle.fz_ast.specs.TermNodes.{term_at, unary, binary, form_of, term_of, IsKnown, FormLimits, terms_after, TermNotes, Stands, AreTerms}
+use Rattle.fz_ast.specs.TermNodes.{term_at, unary, binary, form_of, term_of, IsKnown, FormLimits, terms_after, TermNotes, StandsForTerm, AreTerms}
 use Rattle.fz_ast.specs.declared.name.Name.{Name}
 use Rattle.fz_ast.specs.declared.name.Text.{Text as Words}
 use Rattle.fz_ast.specs.declared.term.Unary.{Unary}
@@ -154,7 +154,7 @@ terms_after_push ty N (m ∷ ns) n = terms_after_push ty (N ++ term_of ty (term_
 
 -- more terms
 
-pub stands_more : (T : List Ty) (N U : List Term) (k : ℕ) (n : Node) → k < length N → Stands T N k n → Stands T (N ++ U) k n
+pub stands_more : (T : List Ty) (N U : List Term) (k : ℕ) (n : Node) → k < length N → StandsForTerm T N k n → StandsForTerm T (N ++ U) k n
 stands_more T N U k n h d =
     let e = term_at_old N U k h in
     record {
@@ -163,7 +163,7 @@ stands_more T N U k n h d =
       notes = subst (λ (a : Term). TermNotes a k n) (sym e) d.notes;
     }
 
-pub stands_new : (T : List Ty) (N : List Term) (n : Node) → IsKnown (length T) (length N) n.form → TermNotes (term_of (type_at T) (term_at N) n.span n.form) (length N) n → Stands T (N ++ term_of (type_at T) (term_at N) n.span n.form ∷ []) (length N) n
+pub stands_new : (T : List Ty) (N : List Term) (n : Node) → IsKnown (length T) (length N) n.form → TermNotes (term_of (type_at T) (term_at N) n.span n.form) (length N) n → StandsForTerm T (N ++ term_of (type_at T) (term_at N) n.span n.form ∷ []) (length N) n
 stands_new T N n h d =
     let a = term_of (type_at T) (term_at N) n.span n.form in
     let e = term_at_new N a in
@@ -180,13 +180,13 @@ are_terms_push T N ns n a h d = record {
   each = λ k m l. pick k m (split_last (length ns) k (let j : length (ns ++ n ∷ []) ≡ length ns + 1 = length-append ns (n ∷ []) in omega arith));
 }
   where
-    pick : (k : ℕ) (m : Node) → (k < length ns) ⊎ (k ≡ length ns) → Stands T (N ++ term_of (type_at T) (term_at N) n.span n.form ∷ []) k (get_or (ns ++ n ∷ []) k m)
+    pick : (k : ℕ) (m : Node) → (k < length ns) ⊎ (k ≡ length ns) → StandsForTerm T (N ++ term_of (type_at T) (term_at N) n.span n.form ∷ []) k (get_or (ns ++ n ∷ []) k m)
     pick k m (inl l) = rw (get_or-append ns (n ∷ []) m k l) (stands_more T N (term_of (type_at T) (term_at N) n.span n.form ∷ []) k (get_or ns k m) (let i = a.size in omega arith) (a.each k m l))
     pick k m (inr e) = rw (e, get_or-append_seam ns n [] m, ← a.size) (stands_new T N n h d)
 
 -- more types
 
-stands_types : (T U : List Ty) (N : List Term) (k : ℕ) (n : Node) → Stands T N k n → Stands (T ++ U) N k n
+stands_types : (T U : List Ty) (N : List Term) (k : ℕ) (n : Node) → StandsForTerm T N k n → StandsForTerm (T ++ U) N k n
 stands_types T U N k n d = record {
   form = d.form ∙ term_same (type_at T) (type_at (T ++ U)) (term_at N) (term_at N) (length T) k (λ j i. sym (type_at_old T U j i)) (λ j i. refl) n.span n.form d.known;
   known = is_known_more (length T) (length (T ++ U)) k k n.form (omega (arith, length-append T U)) (omega arith) d.known;

@@ -110,7 +110,7 @@ pub record TermNotes (e : Term) (k : ℕ) (n : Node) : Type 0 where
   pub shallow : n.depth ≤ k + 4294967296
 
 -- node k stands for term number k of N
-pub record Stands (T : List Ty) (N : List Term) (k : ℕ) (n : Node) : Type 0 where
+pub record StandsForTerm (T : List Ty) (N : List Term) (k : ℕ) (n : Node) : Type 0 where
   pub form : term_at N k ≡ term_of (type_at T) (term_at N) n.span n.form
   pub known : IsKnown (length T) k n.form
   pub notes : TermNotes (term_at N k) k n
@@ -118,4 +118,4 @@ pub record Stands (T : List Ty) (N : List Term) (k : ℕ) (n : Node) : Type 0 wh
 pub record AreTerms (T : List Ty) (N : List Term) (ns : List Node) : Type 0 where
   pub types : (k : ℕ) → k < length T → TypeLimits (type_at T k)
   pub size : length N ≡ length ns
-  pub each : (k : ℕ) (n : Node) → k < length ns → Stands T N k (get_or ns k n)
+  pub each : (k : ℕ) (n : Node) → k < length ns → StandsForTerm T N k (get_or ns k n)

@@ -4,7 +4,7 @@ use Rattle.fz_lexer.specs.declared.token.Token.{Token}
 use Rattle.fz_parser.specs.declared.grammar.Item.{Item}
 use Rattle.fz_parser.specs.declared.grammar.Item.TheVariants.{Take, Read, Make}
 use Rattle.fz_parser.specs.Parts.{State, shift, build}
-use Rattle.fz_parser.specs.Grammar.{body, StandsFor, Row, DerivesIn, Derives}
+use Rattle.fz_parser.specs.Grammar.{body, StandsFor, InTurn, DerivesIn, Derives}
 use Rattle.fz_parser.specs.Reads.{ReadsIn, Reads}
 
 -- what is read by the one and then by the other is read by both
@@ -29,7 +29,7 @@ module _ (D : List Item → List Token → State → State → Type 0) (ih : (σ
       let g = ih (body h.0) w s r h.3 in
       (suc g.0, (h.0, h.1, h.2, subst (λ σ. ReadsIn g.0 σ w s r) (sym (append-nil (body h.0))) g.1))
 
-  row_down : (σ : List Item) (w : List Token) (s r : State) → Row D σ w s r → Reads σ w s r
+  row_down : (σ : List Item) (w : List Token) (s r : State) → InTurn D σ w s r → Reads σ w s r
   row_down [] w s r h = subst (λ w. Reads [] w s r) (sym h.0) (0, sym h.1)
   row_down (i ∷ σ) w s r h =
       let x = item_down i h.0 s h.2 h.4 in
@@ -47,7 +47,7 @@ module _ (D E : List Item → List Token → State → State → Type 0) (up : (
   item_up (Make a) w s r h = h
   item_up (Read a) w s r h = (h.0, h.1, h.2, up (body h.0) w s r h.3)
 
-  row_up : (σ : List Item) (w : List Token) (s r : State) → Row D σ w s r → Row E σ w s r
+  row_up : (σ : List Item) (w : List Token) (s r : State) → InTurn D σ w s r → InTurn E σ w s r
   row_up [] w s r h = h
   row_up (i ∷ σ) w s r h = (h.0, h.1, h.2, h.3, item_up i h.0 s h.2 h.4, row_up σ h.1 h.2 r h.5)
 
@@ -55,8 +55,8 @@ higher : (n : ℕ) (σ : List Item) (w : List Token) (s r : State) → DerivesIn
 higher zero σ w s r h = absurd h
 higher (suc n) σ w s r h = row_up (DerivesIn n) (DerivesIn (suc n)) (higher n) σ w s r h
 
-row_split : (D : List Item → List Token → State → State → Type 0) (α β : List Item) (w : List Token) (s r : State) → Row D (α ++ β) w s r →
-    (u : List Token) × (v : List Token) × (q : State) × (w ≡ u ++ v) × Row D α u s q × Row D β v q r
+row_split : (D : List Item → List Token → State → State → Type 0) (α β : List Item) (w : List Token) (s r : State) → InTurn D (α ++ β) w s r →
+    (u : List Token) × (v : List Token) × (q : State) × (w ≡ u ++ v) × InTurn D α u s q × InTurn D β v q r
 row_split D [] β w s r h = ([], w, s, refl, (refl, refl), h)
 row_split D (i ∷ α) β w s r h =
     let x = row_split D α β h.1 h.2 r h.5 in

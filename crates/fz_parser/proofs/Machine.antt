@@ -18,7 +18,7 @@ use Rattle.fz_parser.specs.Reads.{Reads}
 use Rattle.fz_parser.specs.Classes.{class, terminal_number, may_stand, phrase_number}
 use Rattle.fz_parser.specs.Tests.{choice, follows, phrase_takes, phrase_gives}
 use Rattle.fz_parser.specs.Rows.{follow_rows, need_rows, gift_rows}
-use Rattle.fz_parser.specs.Steps.{Good, front, sorts_of, sorts, Level, START, Sound, At, Refused}
+use Rattle.fz_parser.specs.Steps.{Good, front, sorts_of, sorts, Level, START, Sound, At, IsDeadEnd}
 use Rattle.fz_parser.proofs.Cutting.{one}
 use Rattle.fz_parser.proofs.Numbers.{class_positive, may_from}
 use Rattle.fz_parser.proofs.Theory.{front_end, picked, good_rule, unique}
@@ -102,13 +102,13 @@ end_token k σ s r [] (zero, g) e = g
 end_token k σ s r [] (suc n, g) e = g
 end_token k σ s r (u ∷ v) g e = cc e
 
-pub refused_token : (read rest : List Token) (t : Token) (k : Terminal) (σ : List Item) (s : State) → may_stand (terminal_number k) (class t) ≡ false → At read (t ∷ rest) (Take k ∷ σ) s → Refused read (t ∷ rest)
+pub refused_token : (read rest : List Token) (t : Token) (k : Terminal) (σ : List Item) (s : State) → may_stand (terminal_number k) (class t) ≡ false → At read (t ∷ rest) (Take k ∷ σ) s → IsDeadEnd read (t ∷ rest)
 refused_token read rest t k σ s f h = record {
   viable = h.viable;
   never = λ v r e g. never_token t k σ s r v f e (h.down v r e g);
 }
 
-pub refused_name : (read rest : List Token) (a : Phrase) (σ : List Item) (s : State) → Good (Read a ∷ σ) → choice a (front rest) ≡ 0 → At read rest (Read a ∷ σ) s → Refused read rest
+pub refused_name : (read rest : List Token) (a : Phrase) (σ : List Item) (s : State) → Good (Read a ∷ σ) → choice a (front rest) ≡ 0 → At read rest (Read a ∷ σ) s → IsDeadEnd read rest
 refused_name read rest a σ s good c h = record {
   viable = h.viable;
   never = λ v r e g.
@@ -171,7 +171,7 @@ done read s h =
 pub viable_from : (read : List Token) → ((v : List Token) × (r : State) × Reads START (read ++ v) empty r) → BeginsTerm read
 viable_from read h = let q = term_of (read ++ h.0) h.1 h.2 in (h.0, q.1, q.3)
 
-pub refused_more : (read : List Token) (t : Token) (rest : List Token) (s : State) → At read (t ∷ rest) [] s → Refused read (t ∷ rest)
+pub refused_more : (read : List Token) (t : Token) (rest : List Token) (s : State) → At read (t ∷ rest) [] s → IsDeadEnd read (t ∷ rest)
 refused_more read t rest s h = record {
   viable = h.viable;
   never = λ v r e g.
@@ -179,13 +179,13 @@ refused_more read t rest s h = record {
       absurd (omega (arith, class_positive t, e, ap front d));
 }
 
-pub refused_end : (read : List Token) (k : Terminal) (σ : List Item) (s : State) → At read [] (Take k ∷ σ) s → Refused read []
+pub refused_end : (read : List Token) (k : Terminal) (σ : List Item) (s : State) → At read [] (Take k ∷ σ) s → IsDeadEnd read []
 refused_end read k σ s h = record {
   viable = h.viable;
   never = λ v r e g. end_token k σ s r v (h.down v r e g) (front_end v e);
 }
 
-pub stuck_here : (read : List Token) (t : Token) (rest : List Token) → Refused read (t ∷ rest) → BeginsTerm read × (BeginsTerm (read ++ t ∷ []) → ⊥)
+pub stuck_here : (read : List Token) (t : Token) (rest : List Token) → IsDeadEnd read (t ∷ rest) → BeginsTerm read × (BeginsTerm (read ++ t ∷ []) → ⊥)
 stuck_here read t rest h = (
   viable_from read h.viable,
   λ b.
@@ -193,7 +193,7 @@ stuck_here read t rest h = (
       h.never (t ∷ b.0) (only x.0 x.1 b.1) refl (subst (λ w. Reads START w empty (only x.0 x.1 b.1)) (append_assoc read (t ∷ []) b.0) x.2),
 )
 
-pub stuck_end : (read : List Token) → Refused read [] → BeginsTerm read × ((e : Term) → IsTerm read e → ⊥)
+pub stuck_end : (read : List Token) → IsDeadEnd read [] → BeginsTerm read × ((e : Term) → IsTerm read e → ⊥)
 stuck_end read h = (
   viable_from read h.viable,
   λ e b.

@@ -18,7 +18,7 @@ use Rattle.fz_parser.specs.Grammar.{head, body, empty, only, IsTerm}
 use Rattle.fz_parser.specs.Reading.{IsStuck, IsParsedOrRefused}
 use Rattle.fz_parser.specs.Classes.{class, terminal_number, may_stand}
 use Rattle.fz_parser.specs.Tests.{choice, lead}
-use Rattle.fz_parser.specs.Steps.{front, Sound, At, Outcome, Left, START}
+use Rattle.fz_parser.specs.Steps.{front, Sound, At, ComesTo, AreInOrder, START}
 use Rattle.fz_parser.proofs.Numbers.{class_bound, may_means}
 use Rattle.fz_parser.proofs.Words.{lead_rule}
 use Rattle.fz_parser.proofs.Machine.{at_start, at_act, at_rule, refused_name, done, sound_start, sound_act, sound_rule}
@@ -43,7 +43,7 @@ settled (suc n) c (Make a ∷ σ) s = settled n c σ (build a s)
 settled (suc n) c (Read a ∷ σ) s = by_choice (choice a c) (λ p. settled n c (body p ++ σ) s) σ s
 
 abbrev Holds : ℕ → List Item → State → Settled → Type 0
-Holds c σ s r = Left r.top r.items r.state × ((read rest : List Token) → front rest ≡ c → At read rest σ s → Outcome r.top read rest r.items r.state)
+Holds c σ s r = AreInOrder r.top r.items r.state × ((read rest : List Token) → front rest ≡ c → At read rest σ s → ComesTo r.top read rest r.items r.state)
 
 module _ (n c : ℕ) (b : c < 64) (ih : (σ : List Item) (s : State) → lead σ < n → Sound σ s → Holds c σ s (settled n c σ s)) where
   rule_holds : (a : Phrase) (σ : List Item) (s : State) (x : ℕ) → choice a c ≡ x → lead (Read a ∷ σ) < suc n → Sound (Read a ∷ σ) s → Holds c (Read a ∷ σ) s (by_choice x (λ p. settled n c (body p ++ σ) s) σ s)
@@ -100,12 +100,12 @@ AnswerHolds ts (Whole s) = (from : ℕ) × (e : Term) × (s ≡ only s.last from
 AnswerHolds ts (StuckAt k) = IsStuck ts k
 
 module _ (ts : List Token) (i : ℕ) (σ : List Item) (s : State) where
-  last_holds : (top : Top) → i ≡ length ts → Outcome top (take i ts) (drop i ts) σ s → AnswerHolds ts (at_last top s i)
+  last_holds : (top : Top) → i ≡ length ts → ComesTo top (take i ts) (drop i ts) σ s → AnswerHolds ts (at_last top s i)
   last_holds Empty e o = done ts s (at_end ts i [] s (omega arith) o)
   last_holds (Wants k) e o = end_wanted ts i k σ s e o
   last_holds Refuses e o = end_refused ts i e o
 
-  token_holds : (top : Top) (t : Token) (go : State → Answer) → i < length ts → t ≡ get_or ts i t → Left top σ s → Outcome top (take i ts) (drop i ts) σ s →
+  token_holds : (top : Top) (t : Token) (go : State → Answer) → i < length ts → t ≡ get_or ts i t → AreInOrder top σ s → ComesTo top (take i ts) (drop i ts) σ s →
       ((u : State) → Sound σ u → At (take (i + 1) ts) (drop (i + 1) ts) σ u → AnswerHolds ts (go u)) → AnswerHolds ts (at_token top s i t go)
   token_holds Empty t go l w d o ih = empty_before ts i t Empty σ s l w refl o
   token_holds Refuses t go l w d o ih = refuses_before ts i t Refuses σ s l w refl o

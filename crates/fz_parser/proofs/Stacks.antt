@@ -20,7 +20,7 @@ use Rattle.fz_parser.specs.Grammar.{Fits, head, body, empty, IsTerm, BeginsTerm}
 use Rattle.fz_parser.specs.Reading.{IsStuck}
 use Rattle.fz_parser.specs.Classes.{class, phrase_number, terminal_number, may_stand}
 use Rattle.fz_parser.specs.Tests.{phrase_at, choice, lead, is_rule, below, begins_with}
-use Rattle.fz_parser.specs.Steps.{front, sorts, Sound, At, Refused, Outcome, Left, START}
+use Rattle.fz_parser.specs.Steps.{front, sorts, Sound, At, IsDeadEnd, ComesTo, AreInOrder, START}
 use Rattle.fz_parser.specs.Kept.{state_of, IsInOrder, IsReadAsTerm}
 use Rattle.fz_parser.proofs.Checks.{ruled, tabled}
 use Rattle.fz_parser.proofs.Numbers.{class_bound, may_means, phrase_below, phrase_same, phrase_is}
@@ -85,7 +85,7 @@ pub non_lead : (old new newer : List Item) (i : Item) (a : Phrase) (p : ℕ) →
     old ≡ new ++ i ∷ [] → i ≡ Read a → reverse newer ≡ body p ++ reverse new → p < rule_count → head p ≡ a → lead (reverse newer) < lead (reverse old)
 non_lead old new newer i a p h e n l d = rw (n, top_of old new i (Read a) h e) (lead_rule p a (reverse new) l d)
 
-pub non_refused : (read rest : List Token) (old new : List Item) (i : Item) (a : Phrase) (c x : ℕ) (s : State) → Sound (reverse old) s → old ≡ new ++ i ∷ [] → i ≡ Read a → front rest ≡ c → x ≡ choice a c → x ≡ 0 → At read rest (reverse old) s → Refused read rest
+pub non_refused : (read rest : List Token) (old new : List Item) (i : Item) (a : Phrase) (c x : ℕ) (s : State) → Sound (reverse old) s → old ≡ new ++ i ∷ [] → i ≡ Read a → front rest ≡ c → x ≡ choice a c → x ≡ 0 → At read rest (reverse old) s → IsDeadEnd read rest
 non_refused read rest old new i a c x s q h e f g z t =
     refused_name read rest a (reverse new) s (sound_top old new i (Read a) s h e q).good (ap (choice a) f ∙ sym g ∙ z) (subst (λ σ. At read rest σ s) (top_of old new i (Read a) h e) t)
 
@@ -122,9 +122,9 @@ goes_on ts i t k σ s l e f a =
     rw (read_more ts i t l e) (at_token (take i ts) t (drop (i + 1) ts) k σ s f a')
 
 -- a refusal is where the tokens are stuck
-stuck_before : (ts : List Token) (i : ℕ) (t : Token) → i < length ts → t ≡ get_or ts i t → Refused (take i ts) (drop i ts) → IsStuck ts i
+stuck_before : (ts : List Token) (i : ℕ) (t : Token) → i < length ts → t ≡ get_or ts i t → IsDeadEnd (take i ts) (drop i ts) → IsStuck ts i
 stuck_before ts i t l e r =
-    let r' : Refused (take i ts) (t ∷ drop (i + 1) ts) = subst (λ w. Refused (take i ts) w) (rest_at ts i t l e) r in
+    let r' : IsDeadEnd (take i ts) (t ∷ drop (i + 1) ts) = subst (λ w. IsDeadEnd (take i ts) w) (rest_at ts i t l e) r in
     let s = stuck_here (take i ts) t (drop (i + 1) ts) r' in
     let never : BeginsTerm (take (i + 1) ts) → ⊥ = subst (λ w. BeginsTerm w → ⊥) (sym (read_more ts i t l e)) s.1 in
     record { within = omega arith; before = s.0; not_with = λ _. never; none = λ x h. never (drop (i + 1) ts, x, subst (λ w. IsTerm w x) (sym (take-append-drop (i + 1) ts)) h) }
@@ -133,23 +133,23 @@ stuck_wanted : (ts : List Token) (i : ℕ) (t : Token) (k : Terminal) (σ : List
     At (take i ts) (drop i ts) (Take k ∷ σ) s → IsStuck ts i
 stuck_wanted ts i t k σ s l e f a =
     let a' : At (take i ts) (t ∷ drop (i + 1) ts) (Take k ∷ σ) s = subst (λ w. At (take i ts) w (Take k ∷ σ) s) (rest_at ts i t l e) a in
-    stuck_before ts i t l e (subst (λ w. Refused (take i ts) w) (sym (rest_at ts i t l e)) (refused_token (take i ts) (drop (i + 1) ts) t k σ s f a'))
+    stuck_before ts i t l e (subst (λ w. IsDeadEnd (take i ts) w) (sym (rest_at ts i t l e)) (refused_token (take i ts) (drop (i + 1) ts) t k σ s f a'))
 
 stuck_more : (ts : List Token) (i : ℕ) (t : Token) (s : State) → i < length ts → t ≡ get_or ts i t → At (take i ts) (drop i ts) [] s → IsStuck ts i
 stuck_more ts i t s l e a =
     let a' : At (take i ts) (t ∷ drop (i + 1) ts) [] s = subst (λ w. At (take i ts) w [] s) (rest_at ts i t l e) a in
-    stuck_before ts i t l e (subst (λ w. Refused (take i ts) w) (sym (rest_at ts i t l e)) (refused_more (take i ts) t (drop (i + 1) ts) s a'))
+    stuck_before ts i t l e (subst (λ w. IsDeadEnd (take i ts) w) (sym (rest_at ts i t l e)) (refused_more (take i ts) t (drop (i + 1) ts) s a'))
 
 -- at the end
 pub at_end : (ts : List Token) (n : ℕ) (σ : List Item) (s : State) → length ts ≤ n → At (take n ts) (drop n ts) σ s → At ts [] σ s
 at_end ts n σ s l a = rw (take_all n ts l, drop_all n ts l) at a
 
-stuck_after : (ts : List Token) → Refused ts [] → IsStuck ts (length ts)
+stuck_after : (ts : List Token) → IsDeadEnd ts [] → IsStuck ts (length ts)
 stuck_after ts r =
     let s = stuck_end ts r in
     record { within = omega arith; before = rw (take_all (length ts) ts (omega arith)) s.0; not_with = λ h. absurd (omega arith); none = s.1 }
 
-pub end_refused : (ts : List Token) (n : ℕ) → n ≡ length ts → Refused (take n ts) (drop n ts) → IsStuck ts n
+pub end_refused : (ts : List Token) (n : ℕ) → n ≡ length ts → IsDeadEnd (take n ts) (drop n ts) → IsStuck ts n
 end_refused ts n e r =
     let l : length ts ≤ n = omega arith in
     rw e (stuck_after ts (rw (take_all n ts l, drop_all n ts l) at r))
@@ -167,36 +167,36 @@ class_end ts n l = rw (drop_all n ts l) refl
 pub class_below : (t : Token) (x : ℕ) → x ≡ class t → x < 64
 class_below t x e = omega (arith, class_bound t)
 
-pub empty_before : (ts : List Token) (i : ℕ) (t : Token) (top : Top) (σ : List Item) (s : State) → i < length ts → t ≡ get_or ts i t → top ≡ Empty → Outcome top (take i ts) (drop i ts) σ s → IsStuck ts i
-empty_before ts i t top σ s l w e o = stuck_more ts i t s l w (subst (λ x. Outcome x (take i ts) (drop i ts) σ s) e o)
+pub empty_before : (ts : List Token) (i : ℕ) (t : Token) (top : Top) (σ : List Item) (s : State) → i < length ts → t ≡ get_or ts i t → top ≡ Empty → ComesTo top (take i ts) (drop i ts) σ s → IsStuck ts i
+empty_before ts i t top σ s l w e o = stuck_more ts i t s l w (subst (λ x. ComesTo x (take i ts) (drop i ts) σ s) e o)
 
-pub refuses_before : (ts : List Token) (i : ℕ) (t : Token) (top : Top) (σ : List Item) (s : State) → i < length ts → t ≡ get_or ts i t → top ≡ Refuses → Outcome top (take i ts) (drop i ts) σ s → IsStuck ts i
-refuses_before ts i t top σ s l w e o = stuck_before ts i t l w (subst (λ x. Outcome x (take i ts) (drop i ts) σ s) e o)
+pub refuses_before : (ts : List Token) (i : ℕ) (t : Token) (top : Top) (σ : List Item) (s : State) → i < length ts → t ≡ get_or ts i t → top ≡ Refuses → ComesTo top (take i ts) (drop i ts) σ s → IsStuck ts i
+refuses_before ts i t top σ s l w e o = stuck_before ts i t l w (subst (λ x. ComesTo x (take i ts) (drop i ts) σ s) e o)
 
 pub wanted_before : (ts : List Token) (i : ℕ) (t : Token) (k : Terminal) (x : ℕ) (b : Bool) (top : Top) (σ : List Item) (s : State) → i < length ts → t ≡ get_or ts i t → x ≡ class t → b ≡ may_stand (terminal_number k) x → b ≡ false → top ≡ Wants k →
-    Outcome top (take i ts) (drop i ts) σ s → IsStuck ts i
+    ComesTo top (take i ts) (drop i ts) σ s → IsStuck ts i
 wanted_before ts i t k x b top σ s l w d f n e o =
     let f' : may_stand (terminal_number k) (class t) ≡ false = cc (f, n, d) in
-    stuck_wanted ts i t k σ s l w f' (subst (λ x. Outcome x (take i ts) (drop i ts) σ s) e o)
+    stuck_wanted ts i t k σ s l w f' (subst (λ x. ComesTo x (take i ts) (drop i ts) σ s) e o)
 
 pub wanted_fits : (t : Token) (k : Terminal) (x : ℕ) (b : Bool) → x ≡ class t → b ≡ may_stand (terminal_number k) x → b ≡ true → Fits k t.kind
 wanted_fits t k x b d f n = may_means k t.kind (cc (f, n, d))
 
 pub wanted_on : (ts : List Token) (i : ℕ) (t : Token) (k : Terminal) (top : Top) (σ : List Item) (s u : State) → i < length ts → t ≡ get_or ts i t → Fits k t.kind → top ≡ Wants k → u ≡ shift k t s →
-    Outcome top (take i ts) (drop i ts) σ s → At (take (i + 1) ts) (drop (i + 1) ts) σ u
-wanted_on ts i t k top σ s u l w f e g o = subst (λ x. At (take (i + 1) ts) (drop (i + 1) ts) σ x) (sym g) (goes_on ts i t k σ s l w f (subst (λ x. Outcome x (take i ts) (drop i ts) σ s) e o))
+    ComesTo top (take i ts) (drop i ts) σ s → At (take (i + 1) ts) (drop (i + 1) ts) σ u
+wanted_on ts i t k top σ s u l w f e g o = subst (λ x. At (take (i + 1) ts) (drop (i + 1) ts) σ x) (sym g) (goes_on ts i t k σ s l w f (subst (λ x. ComesTo x (take i ts) (drop i ts) σ s) e o))
 
-pub wanted_sound : (t : Token) (k : Terminal) (top : Top) (σ : List Item) (s u : State) → top ≡ Wants k → u ≡ shift k t s → Left top σ s → Sound σ u
-wanted_sound t k top σ s u e g o = subst (λ x. Sound σ x) (sym g) (sound_token k σ s t (subst (λ x. Left x σ s) e o))
+pub wanted_sound : (t : Token) (k : Terminal) (top : Top) (σ : List Item) (s u : State) → top ≡ Wants k → u ≡ shift k t s → AreInOrder top σ s → Sound σ u
+wanted_sound t k top σ s u e g o = subst (λ x. Sound σ x) (sym g) (sound_token k σ s t (subst (λ x. AreInOrder x σ s) e o))
 
-pub empty_end : (ts : List Token) (n : ℕ) (top : Top) (σ : List Item) (r : Reader) → n ≡ length ts → top ≡ Empty → IsInOrder r → Outcome top (take n ts) (drop n ts) σ (state_of r) → IsReadAsTerm ts r
+pub empty_end : (ts : List Token) (n : ℕ) (top : Top) (σ : List Item) (r : Reader) → n ≡ length ts → top ≡ Empty → IsInOrder r → ComesTo top (take n ts) (drop n ts) σ (state_of r) → IsReadAsTerm ts r
 unfolding state_of
 empty_end ts n top σ r l e k o =
-    let d = done ts (state_of r) (at_end ts n [] (state_of r) (omega arith) (subst (λ x. Outcome x (take n ts) (drop n ts) σ (state_of r)) e o)) in
+    let d = done ts (state_of r) (at_end ts n [] (state_of r) (omega arith) (subst (λ x. ComesTo x (take n ts) (drop n ts) σ (state_of r)) e o)) in
     (d.0, d.1, d.2, k, d.3)
 
-pub refuses_end : (ts : List Token) (n : ℕ) (top : Top) (σ : List Item) (s : State) → n ≡ length ts → top ≡ Refuses → Outcome top (take n ts) (drop n ts) σ s → IsStuck ts (length ts)
-refuses_end ts n top σ s l e o = let r = end_refused ts n l (subst (λ x. Outcome x (take n ts) (drop n ts) σ s) e o) in subst (λ n. IsStuck ts n) l r
+pub refuses_end : (ts : List Token) (n : ℕ) (top : Top) (σ : List Item) (s : State) → n ≡ length ts → top ≡ Refuses → ComesTo top (take n ts) (drop n ts) σ s → IsStuck ts (length ts)
+refuses_end ts n top σ s l e o = let r = end_refused ts n l (subst (λ x. ComesTo x (take n ts) (drop n ts) σ s) e o) in subst (λ n. IsStuck ts n) l r
 
-pub wants_end : (ts : List Token) (n : ℕ) (k : Terminal) (top : Top) (σ : List Item) (s : State) → n ≡ length ts → top ≡ Wants k → Outcome top (take n ts) (drop n ts) σ s → IsStuck ts (length ts)
-wants_end ts n k top σ s l e o = let r = end_wanted ts n k σ s l (subst (λ x. Outcome x (take n ts) (drop n ts) σ s) e o) in subst (λ n. IsStuck ts n) l r
+pub wants_end : (ts : List Token) (n : ℕ) (k : Terminal) (top : Top) (σ : List Item) (s : State) → n ≡ length ts → top ≡ Wants k → ComesTo top (take n ts) (drop n ts) σ s → IsStuck ts (length ts)
+wants_end ts n k top σ s l e o = let r = end_wanted ts n k σ s l (subst (λ x. ComesTo x (take n ts) (drop n ts) σ s) e o) in subst (λ n. IsStuck ts n) l r

@@ -40,14 +40,14 @@ StandsFor D (Make a) w s r = (w ≡ []) × (r ≡ build a s)
 StandsFor D (Read a) w s r = (p : ℕ) × (p < rule_count) × (head p ≡ a) × D (body p) w s r
 
 -- the items of a list, one after another
-abbrev pub Row : (List Item → List Token → State → State → Type 0) → List Item → List Token → State → State → Type 0
-Row D [] w s r = (w ≡ []) × (r ≡ s)
-Row D (i ∷ σ) w s r = (u : List Token) × (v : List Token) × (m : State) × (w ≡ u ++ v) × StandsFor D i u s m × Row D σ v m r
+abbrev pub InTurn : (List Item → List Token → State → State → Type 0) → List Item → List Token → State → State → Type 0
+InTurn D [] w s r = (w ≡ []) × (r ≡ s)
+InTurn D (i ∷ σ) w s r = (u : List Token) × (v : List Token) × (m : State) × (w ≡ u ++ v) × StandsFor D i u s m × InTurn D σ v m r
 
 -- by derivations of height at most n
 abbrev pub DerivesIn : ℕ → List Item → List Token → State → State → Type 0
 DerivesIn zero σ w s r = ⊥
-DerivesIn (suc n) σ w s r = Row (DerivesIn n) σ w s r
+DerivesIn (suc n) σ w s r = InTurn (DerivesIn n) σ w s r
 
 abbrev pub Derives : List Item → List Token → State → State → Type 0
 Derives σ w s r = (n : ℕ) × DerivesIn n σ w s r

@@ -55,17 +55,17 @@ pub record At (read rest : List Token) (σ : List Item) (s : State) : Type 0 whe
   pub viable : (v : List Token) × (r : State) × Reads START (read ++ v) empty r
 
 -- nothing that begins like the rest goes on to a term
-pub record Refused (read rest : List Token) : Type 0 where
+pub record IsDeadEnd (read rest : List Token) : Type 0 where
   pub viable : (v : List Token) × (r : State) × Reads START (read ++ v) empty r
   pub never : (v : List Token) (r : State) → front v ≡ front rest → Reads START (read ++ v) empty r → ⊥
 
-abbrev pub Outcome : Top → List Token → List Token → List Item → State → Type 0
-Outcome Empty read rest σ s = At read rest [] s
-Outcome (Wants k) read rest σ s = At read rest (Take k ∷ σ) s
-Outcome Refuses read rest σ s = Refused read rest
+abbrev pub ComesTo : Top → List Token → List Token → List Item → State → Type 0
+ComesTo Empty read rest σ s = At read rest [] s
+ComesTo (Wants k) read rest σ s = At read rest (Take k ∷ σ) s
+ComesTo Refuses read rest σ s = IsDeadEnd read rest
 
 -- the items are in order where a token is wanted
-abbrev pub Left : Top → List Item → State → Type 0
-Left Empty σ s = Sound [] s
-Left (Wants k) σ s = Sound (Take k ∷ σ) s
-Left Refuses σ s = ⊤
+abbrev pub AreInOrder : Top → List Item → State → Type 0
+AreInOrder Empty σ s = Sound [] s
+AreInOrder (Wants k) σ s = Sound (Take k ∷ σ) s
+AreInOrder Refuses σ s = ⊤

@@ -13,7 +13,7 @@ ghost use Rattle.fz_parser.specs.Printer.{written};
 ghost use Rattle.fz_parser.specs.declared.grammar.Item.{Item};
 ghost use Rattle.fz_parser.specs.declared.grammar.Phrase.{Phrase};
 ghost use Rattle.fz_parser.specs.Reading.{IsParsed, IsStuck, ExplainsParse, IsParsedOrRefused};
-ghost use Rattle.fz_parser.specs.Steps.{front, Sound, At, Outcome, Left, START};
+ghost use Rattle.fz_parser.specs.Steps.{front, Sound, At, ComesTo, AreInOrder, START};
 ghost use Rattle.fz_parser.specs.Kept.{state_of, IsInOrder, IsReadAsTerm};
 ghost use Rattle.fz_parser.specs.declared.fault.ParseFault.{ParseFault};
 
@@ -46,9 +46,9 @@ fn settle(class: u8, stack: &mut Vec<Item>, reader: &mut Reader) -> Result<Top, 
     requires kept { IsInOrder reader.old }
     requires sound { Sound (reverse stack.old.items) (state_of reader.old) }
     ensures kept { OnOk result (IsInOrder reader.new) }
-    ensures left { IfOk result (λ top. Left top (reverse stack.new.items) (state_of reader.new)) }
+    ensures left { IfOk result (λ top. AreInOrder top (reverse stack.new.items) (state_of reader.new)) }
     ensures outcome { IfOk result (λ top. (read rest : List Token) → front rest ≡ class →
-        At read rest (reverse stack.old.items) (state_of reader.old) → Outcome top read rest (reverse stack.new.items) (state_of reader.new)) }
+        At read rest (reverse stack.old.items) (state_of reader.old) → ComesTo top read rest (reverse stack.new.items) (state_of reader.new)) }
 {
     while let Some(item) = stack.pop() {
         match item {

@@ -6,7 +6,7 @@ use Rattle.partition_charge.specs.declared.view.View.TheVariants.{Whole, Part}
 use Rattle.journal_records.specs.declared.records.Outcome.TheVariants.{Answered, Exhausted, Lost}
 use Rattle.journal_records.specs.declared.records.Reservation.{Reservation}
 use Rattle.journal_records.specs.declared.records.Record.TheVariants.{Reserve, Settle}
-use Rattle.journal_records.specs.Encoding.{encoded, encoded_header, AreTerms, IsReservation, IsSettlement, IsHeader}
+use Rattle.journal_records.specs.Encoding.{encoded, encoded_header, AreChargeTerms, IsReservation, IsSettlement, IsHeader}
 use Rattle.journal_records.proofs.Shapes.{digest-replicate}
 
 -- ---- reservations
@@ -80,10 +80,10 @@ header_bytes = refl
 -- ---- what is valid
 
 -- epsilon 1 to 10^9 millionths, and lowest terms, of which 0 is 0/1
-nothing_asked : AreTerms 1 0 1
+nothing_asked : AreChargeTerms 1 0 1
 nothing_asked = record { above = omega arith; most = omega arith; positive = omega arith; lowest = IsGcd-from_mod 0 1 1 (IsGcd-from_zero 1 0 refl) }
 
-lowest_terms : AreTerms 1000000000 3 2
+lowest_terms : AreChargeTerms 1000000000 3 2
 lowest_terms = record {
   above = omega arith;
   most = omega arith;
@@ -94,19 +94,19 @@ lowest_terms = record {
 two_of_four : IsGcd 2 4 2
 two_of_four = IsGcd-from_mod 2 4 2 (IsGcd-from_mod 4 2 2 (IsGcd-from_zero 2 0 refl))
 
-not_lowest : AreTerms 1 2 4 → ⊥
+not_lowest : AreChargeTerms 1 2 4 → ⊥
 not_lowest terms = let h : 1 ≡ 2 = same_from_IsGcd 2 4 1 2 terms.lowest two_of_four in omega (arith, h)
 
-two_for_nothing : AreTerms 1 0 2 → ⊥
+two_for_nothing : AreChargeTerms 1 0 2 → ⊥
 two_for_nothing terms = let h : 1 ≡ 2 = same_from_IsGcd 0 2 1 2 terms.lowest (IsGcd-from_mod 0 2 2 (IsGcd-from_zero 2 0 refl)) in omega (arith, h)
 
-no_epsilon : AreTerms 0 1 1 → ⊥
+no_epsilon : AreChargeTerms 0 1 1 → ⊥
 no_epsilon terms = let h = terms.above in omega (arith, h)
 
-too_much_epsilon : AreTerms 1000000001 1 1 → ⊥
+too_much_epsilon : AreChargeTerms 1000000001 1 1 → ⊥
 too_much_epsilon terms = let h = terms.most in omega (arith, h)
 
-no_denominator : AreTerms 1 1 0 → ⊥
+no_denominator : AreChargeTerms 1 1 0 → ⊥
 no_denominator terms = let h = terms.positive in omega (arith, h)
 
 first_valid : IsReservation first

@@ -52,7 +52,7 @@ IsOutcome Exhausted = ⊤
 IsOutcome Lost = ⊤
 
 -- an epsilon in millionths, and a sensitivity p/q in lowest terms
-pub record AreTerms (e p q : ℕ) : Type 0 where
+pub record AreChargeTerms (e p q : ℕ) : Type 0 where
   pub above : 1 ≤ e
   pub most : e ≤ 1000000000
   pub positive : 1 ≤ q
@@ -62,7 +62,7 @@ pub record AreTerms (e p q : ℕ) : Type 0 where
 pub record IsReservation (r : Reservation) : Type 0 where
   pub numbered : r.number < 2 ^ 32
   pub viewed : IsView r.view
-  pub terms : AreTerms r.e r.p r.q
+  pub terms : AreChargeTerms r.e r.p r.q
   pub narrow : (r.p < 2 ^ 32) × (r.q < 2 ^ 32)
   pub charged : r.taken < 2 ^ 64
   pub asked : r.analyst < 2 ^ 16

@@ -8,7 +8,7 @@ ghost use Rattle.journal_records.specs.declared.records.Record.{Record as Record
 ghost use Rattle.journal_records.specs.declared.records.Reservation.{Reservation as Reservations};
 ghost use Rattle.journal_records.specs.declared.records.Header.{Header as Headers};
 ghost use Rattle.journal_records.specs.declared.records.Record.TheVariants.{Reserve, Settle};
-ghost use Rattle.journal_records.specs.Encoding.{encoded, encoded_header, IsHeader, partition_byte, part_byte, outcome_byte, answer_number, IsOutcome, AreTerms, IsReservation, IsSettlement, IsValid};
+ghost use Rattle.journal_records.specs.Encoding.{encoded, encoded_header, IsHeader, partition_byte, part_byte, outcome_byte, answer_number, IsOutcome, AreChargeTerms, IsReservation, IsSettlement, IsValid};
 
 use crate::coding::{encode, encode_header};
 use crate::fields::{common_divisor, digest_at, u16_at, u32_at, u64_at};
@@ -44,7 +44,7 @@ fn outcome_of(kind: u8, answer: u64) -> Option<Outcome>
 
 /// Whether these are an epsilon in millionths and a sensitivity in lowest terms.
 pub fn are_terms(e: u32, p: u32, q: u32) -> bool
-    ensures { IsTrue result ↔ AreTerms e p q }
+    ensures { IsTrue result ↔ AreChargeTerms e p q }
 {
     if e == 0 || e > 1_000_000_000 || q == 0 {
         return false;

@@ -6,7 +6,7 @@ use Rattle.outside_disks.proofs.Images.{passes-none, passes-both, passes-weaker}
 use Rattle.outside_disks.proofs.Told.{told-both}
 use Rattle.journal_records.specs.declared.records.Record.{Record}
 use Rattle.journal_records.specs.declared.records.Header.{Header}
-use Rattle.budget_journal.specs.Journals.{Stands, IsAtRest, IsBeforeOrAfter, Appended, Refused}
+use Rattle.budget_journal.specs.Journals.{Stands, IsAtRest, IsBeforeOrAfter, Appended, AppendFailed}
 use Rattle.journal_runs.specs.Runs.{StandsForSome, HasRun, Stopped}
 
 -- a run of so many, on a journal that was at rest
@@ -59,7 +59,7 @@ module _ (slots capacity : ℕ) (records : List Record) (n : ℕ) (next : Record
         each = further header found records n next lt is t u v so_far step.1;
       }
 
-  pub run-stopped : (t u v : Trace) → RunOf slots capacity records n t u → Refused (slots + n) next u v → Stopped slots capacity records n t v
+  pub run-stopped : (t u v : Trace) → RunOf slots capacity records n t u → AppendFailed (slots + n) next u v → Stopped slots capacity records n t v
   run-stopped t u v run refused header found rest here of =
       let so_far = run header found rest here of in
       further header found records n next lt is t u v so_far (refused header (found ++ take n records) so_far.rest (reached found here) (omega (arith, of)))
@@ -80,8 +80,8 @@ module _ (slots capacity : ℕ) (records : List Record) (n k : ℕ) (d : Record)
       (run-more slots capacity records n next lt next-is room) old mid new run
       (subst (λ (i : ℕ). WhereTold (Appended i next) mid new) at appended)
 
-  pub told-stopped : WhereTold (Refused k (get_or records n d)) mid new → WhereTold (Stopped slots capacity records n) old new
+  pub told-stopped : WhereTold (AppendFailed k (get_or records n d)) mid new → WhereTold (Stopped slots capacity records n) old new
   told-stopped refused =
-      told-both (RunOf slots capacity records n) (Refused (slots + n) next) (Stopped slots capacity records n)
+      told-both (RunOf slots capacity records n) (AppendFailed (slots + n) next) (Stopped slots capacity records n)
       (run-stopped slots capacity records n next lt next-is room) old mid new run
-      (subst (λ (i : ℕ). WhereTold (Refused i next) mid new) at refused)
+      (subst (λ (i : ℕ). WhereTold (AppendFailed i next) mid new) at refused)

@@ -33,19 +33,19 @@ abbrev pub sensitivity_to : Signature → Sensitivities → Name → Distance
 sensitivity_to [] D x = none
 sensitivity_to (t ∷ ts) D x = cond (bytes_eq t.name x) (first D) (sensitivity_to ts (rest D) x)
 
-pub data Answer : Type 0 where
+pub data Acceptance : Type 0 where
   -- the sensitivity to each table in order, and the greatest
-  Accepted : (D : Sensitivities) (r : Distance) → Answer
-  Rejected : (f : Fault) → Answer
+  Accepted : (D : Sensitivities) (r : Distance) → Acceptance
+  Rejected : (f : Fault) → Acceptance
 
 -- a bounded number
-abbrev pub number_rule : Ty → Sensitivities → Option Name → Answer
+abbrev pub number_rule : Ty → Sensitivities → Option Name → Acceptance
 number_rule A D (Some x) = Rejected (Unbounded x)
 number_rule A D None = cond (same_type A NumT) (Accepted D (greatest_of D)) (Rejected (NotNum A))
 
-abbrev pub program_rule : Signature → Inferred → Answer
+abbrev pub program_rule : Signature → Inferred → Acceptance
 program_rule ts (Has A D) = number_rule A D (first_unbounded ts D)
 program_rule ts (Refused f) = Rejected f
 
-abbrev pub sensitivity_of : Signature → Term → Answer
+abbrev pub sensitivity_of : Signature → Term → Acceptance
 sensitivity_of ts t = program_rule ts (rule (context_of ts) t)

@@ -5,9 +5,9 @@ use Rattle.fz_ast.specs.Types.{ArrowT, BagT, BangT, NumT, SumT, TensorT, TextT, 
 use Rattle.linear_types.proofs.Written.{and_is}
 use Rattle.metric_values.specs.Typed.{TypedFlat, TypedGround}
 use Rattle.metric_values.specs.Values.{BagV, BangF, BangV, Flat, InlF, InlV, InrF, InrV, NumF, NumV, PairF, PairV, TextF, TextV, UnitF, UnitV, Value, value_of}
-use Rattle.metric_law.specs.Near.{Kind, Typed, TypedBag, typed_bag, typed_bang, typed_inl, typed_inr, typed_num, typed_pair, typed_text, typed_unit}
+use Rattle.metric_law.specs.Near.{ValueSet, Typed, TypedBag, typed_bag, typed_bang, typed_inl, typed_inr, typed_num, typed_pair, typed_text, typed_unit}
 
-no_bag : (P : Kind) (x : Flat) → TypedBag P (value_of x) → ⊥
+no_bag : (P : ValueSet) (x : Flat) → TypedBag P (value_of x) → ⊥
 no_bag P (NumF z) h = elim h [ ]
 no_bag P (TextF s) h = elim h [ ]
 no_bag P UnitF h = elim h [ ]

@@ -8,8 +8,8 @@ use Rattle.metric_values.specs.Pairing.{Differ}
 use Rattle.metric_values.specs.Values.{BagV, BangV, Flat, InlV, InrV, NumV, PairV, TextV, UnitV, Value, value_of}
 use Rattle.metric_law.specs.Means.{Applies, Means}
 
-abbrev pub Kind : Type 1
-Kind = Value → Type 0
+abbrev pub ValueSet : Type 1
+ValueSet = Value → Type 0
 
 pub data TypedNum : Value → Type 0 where
   typed_num : {z : ℤ} → IsNumber z → TypedNum (NumV z)
@@ -20,21 +20,21 @@ pub data TypedText : Value → Type 0 where
 pub data TypedUnit : Value → Type 0 where
   typed_unit : TypedUnit UnitV
 
-pub data TypedPair (P Q : Kind) : Value → Type 0 where
+pub data TypedPair (P Q : ValueSet) : Value → Type 0 where
   typed_pair : {a b : Value} → P a → Q b → TypedPair P Q (PairV a b)
 
-pub data TypedSum (P Q : Kind) : Value → Type 0 where
+pub data TypedSum (P Q : ValueSet) : Value → Type 0 where
   typed_inl : {a : Value} → P a → TypedSum P Q (InlV a)
   typed_inr : {a : Value} → Q a → TypedSum P Q (InrV a)
 
-pub data TypedBang (P : Kind) : Value → Type 0 where
+pub data TypedBang (P : ValueSet) : Value → Type 0 where
   typed_bang : {a : Value} → P a → TypedBang P (BangV a)
 
-pub data TypedBag (P : Kind) : Value → Type 0 where
+pub data TypedBag (P : ValueSet) : Value → Type 0 where
   typed_bag : {xs : List Flat} → All (λ x. P (value_of x)) xs → TypedBag P (BagV xs)
 
 -- a function has a result for each typed argument, and each result is typed
-pub record TypedFun (P Q : Kind) (f : Value) : Type 0 where
+pub record TypedFun (P Q : ValueSet) (f : Value) : Type 0 where
   pub has : (a : Value) → P a → (v : Value) × Applies Means f a v
   pub all : (a : Value) → P a → (v : Value) → Applies Means f a v → Q v
 
@@ -78,7 +78,7 @@ pub data NearSum (P Q : Apart) : Value → Value → Distance → Type 0 where
 pub data NearBang (r : Distance) (P : Apart) : Value → Value → Distance → Type 0 where
   near_bang : {a b : Value} {d : Distance} (c : Distance) → P a b c → mul r c ⊑ d → NearBang r P (BangV a) (BangV b) d
 
-pub record NearFun (S : Kind) (P Q : Apart) (f g : Value) (d : Distance) : Type 0 where
+pub record NearFun (S : ValueSet) (P Q : Apart) (f g : Value) (d : Distance) : Type 0 where
   pub by : (c : Distance) (a b : Value) → S a → S b → P a b c → (v w : Value) → Applies Means f a v → Applies Means g b w → Q v w (add c d)
 
 -- all but n of both are paired off

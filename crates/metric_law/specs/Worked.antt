@@ -21,8 +21,8 @@ span f t = record { from = f; to = t }
 abbrev pub name_at : ℕ → ℕ → Name → Term
 name_at f t x = at (span f t) (VarE x)
 
-abbrev pub number_at : ℕ → ℕ → ℕ → Term
-number_at f t k = at (span f t) (NumE (pos k))
+abbrev pub numeral_at : ℕ → ℕ → ℕ → Term
+numeral_at f t k = at (span f t) (NumE (pos k))
 
 -- the table's name
 abbrev pub people_at : ℕ → ℕ → Term
@@ -84,13 +84,13 @@ scaled_argument =
 abbrev pub unused_names : Term
 unused_names =
     at (span 0 55) (CaseE (at (span 5 28) (InlE (span 9 13) UnitT (at (span 16 27) (SizeE (people_at 21 27)))))
-    (codes "x") (number_at 41 42 5) (codes "y") (number_at 54 55 7))
+    (codes "x") (numeral_at 41 42 5) (codes "y") (numeral_at 54 55 7))
 
 -- let (a, b) = split (fn (x : num) => x <= 30) people in size a + size b
 abbrev pub split_in_halves : Term
 split_in_halves =
     at (span 0 70) (LetPairE (codes "a") (codes "b")
-    (at (span 13 51) (SplitE (at (span 20 43) (FnE (codes "x") (span 28 31) NumT (at (span 36 43) (LeE (name_at 36 37 (codes "x")) (number_at 41 43 30)))))
+    (at (span 13 51) (SplitE (at (span 20 43) (FnE (codes "x") (span 28 31) NumT (at (span 36 43) (LeE (name_at 36 37 (codes "x")) (numeral_at 41 43 30)))))
     (people_at 45 51)))
     (at (span 55 70) (PlusE (at (span 55 61) (SizeE (name_at 60 61 (codes "a")))) (at (span 64 70) (SizeE (name_at 69 70 (codes "b")))))))
 
@@ -102,8 +102,8 @@ counted_twice = at (span 0 25) (PlusE (at (span 0 11) (SizeE (people_at 5 11))) 
 abbrev pub filtered_and_mapped : Term
 filtered_and_mapped =
     at (span 0 76) (SizeE (at (span 6 75) (FilterE
-    (at (span 14 37) (FnE (codes "x") (span 22 25) NumT (at (span 30 37) (LeE (name_at 30 31 (codes "x")) (number_at 35 37 30)))))
-    (at (span 40 74) (MapE (at (span 45 66) (FnE (codes "y") (span 53 56) NumT (at (span 61 66) (PlusE (name_at 61 62 (codes "y")) (number_at 65 66 1)))))
+    (at (span 14 37) (FnE (codes "x") (span 22 25) NumT (at (span 30 37) (LeE (name_at 30 31 (codes "x")) (numeral_at 35 37 30)))))
+    (at (span 40 74) (MapE (at (span 45 66) (FnE (codes "y") (span 53 56) NumT (at (span 61 66) (PlusE (name_at 61 62 (codes "y")) (numeral_at 65 66 1)))))
     (people_at 68 74))))))
 
 -- sum[0,100] people

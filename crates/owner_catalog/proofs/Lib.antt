@@ -1,4 +1,5 @@
 mod ExamplesOfFaults
+mod ExamplesOfLimits
 pub mod Laws
 pub mod Lists
 pub mod OnLiterals

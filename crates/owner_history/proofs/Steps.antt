@@ -9,7 +9,7 @@ use Rattle.journal_records.specs.declared.records.Record.TheVariants.{Reserve, S
 use Rattle.budget_core.specs.declared.entry.Ask.{Ask}
 use Rattle.budget_core.specs.declared.entry.Grant.{Grant}
 use Rattle.budget_core.specs.Counts.{is_reservation, reservations_of, reservation_of}
-use Rattle.journal_records.specs.Encoding.{AreTerms}
+use Rattle.journal_records.specs.Encoding.{AreChargeTerms}
 use Rattle.budget_core.specs.Legal.{IsHistory, IsLegal}
 use Rattle.budget_core.specs.Ledger.{Ledger, IsAskOf, IsUnsettled, next_number, reservation_numbered, money_verdict}
 use Rattle.budget_core.proofs.Histories.{legal-history, slice_get-append-seam}
@@ -35,7 +35,7 @@ use Rattle.owner_history.proofs.Grants.{verdict_grants}
 asked_of : (owner : Owner) (query : Query) (p q : ℕ) → IsQueryOf owner.entry query → IsCharged (signature_of_view owner query.view) query.program p q → IsAskOf owner.entry (ask_for query p q)
 asked_of owner query p q of charged =
     let low = charged_lowest (signature_of_view owner query.view) query.program p q charged in
-    let terms : AreTerms query.e p q = record { above = of.epsilon.least; most = of.epsilon.most; positive = low.0; lowest = low.1 } in
+    let terms : AreChargeTerms query.e p q = record { above = of.epsilon.least; most = of.epsilon.most; positive = low.0; lowest = low.1 } in
     record { analyst = of.analyst; view = of.view; terms = terms; digest = sha256_bytes query.program }
 
 module _ (owner : Owner) (draws : ℕ → ℕ → ℕ) (found : List Record) where

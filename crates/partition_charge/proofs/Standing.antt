@@ -10,10 +10,10 @@ use Rattle.partition_charge.specs.declared.view.View.{View}
 use Rattle.partition_charge.specs.declared.view.View.TheVariants.{Whole, Part}
 use Rattle.partition_charge.specs.Views.{IsView}
 use Rattle.partition_charge.specs.Cost.{Charge, charges_of, cost_of_charges}
-use Rattle.partition_charge.specs.Totals.{Stands, HasSums}
+use Rattle.partition_charge.specs.Totals.{AreTotalsOf, HasSums}
 use Rattle.partition_charge.proofs.Charges.{cost-nil, partition-nil, whole-part, whole-partition, part-at, part-other, part-elsewhere, elsewhere-partition, part-partition, view-within}
 
-pub sums-at : (costs : Costs) (charges : List Charge) (p : ℕ) (d : Parts) → Stands costs charges → p < length costs.partitions
+pub sums-at : (costs : Costs) (charges : List Charge) (p : ℕ) (d : Parts) → AreTotalsOf costs charges → p < length costs.partitions
     → HasSums charges p (get_or costs.partitions p d)
 sums-at costs charges p d stands lt = stands.partitions p (get_or costs.partitions p d) (slice_get-get_or costs.partitions p d lt)
 
@@ -21,7 +21,7 @@ sums-at costs charges p d stands lt = stands.partitions p (get_or costs.partitio
 abbrev pub none : Parts
 none = record { sums = replicate 250 0; greatest = 0 }
 
-pub new-stands : Stands (record { spent = 0; partitions = replicate 8 none }) []
+pub new-stands : AreTotalsOf (record { spent = 0; partitions = replicate 8 none }) []
 new-stands = record {
   spent = sym cost-nil;
   partitions = λ p parts is.
@@ -74,8 +74,8 @@ set-get xs p k x y is =
     (cases_eq k p)
 
 module _ (costs : Costs) (charges : List Charge) (view : View)
-    (amount spent : ℕ) (stands : Stands costs charges) (now : spent ≡ cost_of_charges (charges ++ record { view = view; amount = amount } ∷ [])) where
-  pub stands-whole : view ≡ Whole → Stands (record { spent = spent; partitions = costs.partitions }) (charges ++ record { view = view; amount = amount } ∷ [])
+    (amount spent : ℕ) (stands : AreTotalsOf costs charges) (now : spent ≡ cost_of_charges (charges ++ record { view = view; amount = amount } ∷ [])) where
+  pub stands-whole : view ≡ Whole → AreTotalsOf (record { spent = spent; partitions = costs.partitions }) (charges ++ record { view = view; amount = amount } ∷ [])
   stands-whole is = record {
     spent = now;
     partitions = λ p parts at. subst (λ (v : View). HasSums (charges ++ record { view = v; amount = amount } ∷ []) p parts) (sym is)
@@ -85,7 +85,7 @@ module _ (costs : Costs) (charges : List Charge) (view : View)
   pub stands-part : (p j : ℕ) (old new : Parts) → IsView view → view ≡ Part p j → HasSums charges p old
       → slice_index new.sums j ≡ slice_index old.sums j + amount
       → ((k : ℕ) → (k ≡ j → ⊥) → slice_index new.sums k ≡ slice_index old.sums k) → new.greatest ≡ max old.greatest (slice_index old.sums j + amount)
-      → Stands (record { spent = spent; partitions = set costs.partitions p new }) (charges ++ record { view = view; amount = amount } ∷ [])
+      → AreTotalsOf (record { spent = spent; partitions = set costs.partitions p new }) (charges ++ record { view = view; amount = amount } ∷ [])
   stands-part p j old new valid is has raised others greatest = record {
     spent = now;
     partitions = λ q parts at. subst (λ (v : View). HasSums (charges ++ record { view = v; amount = amount } ∷ []) q parts) (sym is)

@@ -13,10 +13,10 @@ pub record HasSums (charges : List Charge) (partition : ℕ) (parts : Parts) : T
   pub greatest : parts.greatest ≡ partition_cost charges partition
 
 -- The totals are those of these charges.
-pub record Stands (costs : Costs) (charges : List Charge) : Type 0 where
+pub record AreTotalsOf (costs : Costs) (charges : List Charge) : Type 0 where
   pub spent : costs.spent ≡ cost_of_charges charges
   pub partitions : (partition : ℕ) (parts : Parts) → slice_get costs.partitions partition ≡ Some parts → HasSums charges partition parts
 
 -- With this charge the cost is below 2 ^ 63.
 abbrev pub HasRoom : Costs → View → ℕ → Type 0
-HasRoom costs view amount = (charges : List Charge) × Stands costs charges × (cost_of_charges (charges ++ record { view = view; amount = amount } ∷ []) < 2 ^ 63)
+HasRoom costs view amount = (charges : List Charge) × AreTotalsOf costs charges × (cost_of_charges (charges ++ record { view = view; amount = amount } ∷ []) < 2 ^ 63)

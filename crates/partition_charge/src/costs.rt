@@ -3,7 +3,7 @@
 ghost use Rattle.std.specs.Prelude.{◌≡◌, ℕ, ◌+◌, ◌-◌, ◌^◌, ◌<◌, max, [], ◌∷◌, ◌++◌, List, length, slice_index};
 ghost use Rattle.partition_charge.specs.Cost.{Charge as Charged, cost_of_charges};
 ghost use Rattle.partition_charge.specs.Views.{IsView};
-ghost use Rattle.partition_charge.specs.Totals.{Stands, HasRoom};
+ghost use Rattle.partition_charge.specs.Totals.{AreTotalsOf, HasRoom};
 
 use crate::view::View;
 
@@ -54,7 +54,7 @@ pub struct Costs {
 impl Costs {
     /// The cost of no charges.
     pub fn new() -> Costs
-        ensures { Stands result [] }
+        ensures { AreTotalsOf result [] }
     {
         let none = Parts {
             sums: [0; PARTS],
@@ -68,7 +68,7 @@ impl Costs {
 
     /// The cost of the charges so far.
     pub fn spent(&self) -> u64
-        ensures { (charges : List Charged) → Stands self.now charges → result ≡ cost_of_charges charges }
+        ensures { (charges : List Charged) → AreTotalsOf self.now charges → result ≡ cost_of_charges charges }
     {
         self.spent
     }
@@ -77,7 +77,7 @@ impl Costs {
     pub fn after(&self, view: View, amount: u64) -> u64
         requires view { IsView view }
         requires room { HasRoom self.now view amount }
-        ensures { (charges : List Charged) → Stands self.now charges → result ≡ cost_of_charges (charges ++ record { view = view; amount = amount } ∷ []) }
+        ensures { (charges : List Charged) → AreTotalsOf self.now charges → result ≡ cost_of_charges (charges ++ record { view = view; amount = amount } ∷ []) }
     {
         match view {
             View::Whole => self.spent + amount,
@@ -91,7 +91,7 @@ impl Costs {
     pub fn add(&mut self, view: View, amount: u64)
         requires view { IsView view }
         requires room { HasRoom self.old view amount }
-        ensures { (charges : List Charged) → Stands self.old charges → Stands self.new (charges ++ record { view = view; amount = amount } ∷ []) }
+        ensures { (charges : List Charged) → AreTotalsOf self.old charges → AreTotalsOf self.new (charges ++ record { view = view; amount = amount } ∷ []) }
     {
         self.spent = self.after(view, amount);
         if let View::Part { partition, part } = view {

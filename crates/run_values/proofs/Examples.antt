@@ -7,7 +7,7 @@ use Rattle.metric_values.specs.Values.{BagV, BangF, BangV, Bind, Empty, Flat, In
 use Rattle.run_values.specs.Flats.{IsFlat, flat_of, flats_of}
 use Rattle.run_values.specs.Parts.{elements, number_or_none, rebound, side_in, text_in}
 use Rattle.run_values.specs.Sizes.{value_size}
-use Rattle.run_values.specs.Views.{IsRowPart, IsTextCell, IsValueForm, bytes_in, form_view}
+use Rattle.run_values.specs.Views.{IsRowPart, IsTextCell, IsValueForm, text_bytes, form_view}
 use Rattle.run_values.specs.declared.value.Form.{Form}
 use Rattle.run_values.specs.declared.value.Form.TheVariants.{Cell, Num, Row, Table, Truth, Unit as One}
 
@@ -105,7 +105,7 @@ not_the_whole_row t is h =
     let both : PairV (TextV (codes "a")) (NumV (pos 2)) ≡ PairV (NumV (pos 1)) (PairV (TextV (codes "a")) (NumV (pos 2))) = sym (rest_of_the_first t is) ∙ h in absurd (cc (both))
 
 cell_form : OnTowns (λ t. Cell 1 1 t) rc_value (λ form. form_view form ≡ TextV (codes "bc"))
-cell_form t is = ap (λ rows. TextV (bytes_in (cell_at 1 (row_at rows 1)))) is
+cell_form t is = ap (λ rows. TextV (text_bytes (cell_at 1 (row_at rows 1)))) is
 
 not_the_cell_above : OnTowns (λ t. Cell 1 1 t) rc_value (λ form. form_view form ≡ TextV (codes "a") → ⊥)
 not_the_cell_above t is h =

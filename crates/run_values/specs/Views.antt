@@ -14,15 +14,15 @@ use Rattle.run_values.specs.declared.value.Link.{Link}
 use Rattle.run_values.specs.declared.value.Link.TheVariants.{End, More}
 
 -- the bytes of a text
-abbrev pub bytes_in : Flat → List ℕ
-bytes_in (TextF s) = s
-bytes_in x = []
+abbrev pub text_bytes : Flat → List ℕ
+text_bytes (TextF s) = s
+text_bytes x = []
 
 -- the table has a text at this row and column
 pub record IsTextCell (rows : List Flat) (i k : ℕ) : Type 0 where
   pub row : i < length rows
   pub column : k < columns_in (row_at rows i)
-  pub text : cell_at k (row_at rows i) ≡ TextF (bytes_in (cell_at k (row_at rows i)))
+  pub text : cell_at k (row_at rows i) ≡ TextF (text_bytes (cell_at k (row_at rows i)))
 
 -- the row has a column behind this one
 pub record IsRowPart (rows : List Flat) (i k : ℕ) : Type 0 where
@@ -50,7 +50,7 @@ form_view (Inr p) = InrV p.value
 form_view (Bang p) = BangV p.value
 form_view (Table t) = BagV t.value
 form_view (Row k i t) = PairV (value_of (cell_at k (row_at t.value i))) (value_of (from_column (suc k) (row_at t.value i)))
-form_view (Cell k i t) = TextV (bytes_in (cell_at k (row_at t.value i)))
+form_view (Cell k i t) = TextV (text_bytes (cell_at k (row_at t.value i)))
 form_view (Items p) = BagV (flats_of p.value.items)
 form_view (Fun p) = function_of (term_at p.value.nodes.value.terms p.value.lambda) p.value.scope
 

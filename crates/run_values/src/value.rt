@@ -10,7 +10,7 @@ ghost use Rattle.run_values.specs.Looks.{look_of};
 ghost use Rattle.run_values.specs.Parts.{IsBag, IsBangValue, IsClosure, IsNum, IsPair, IsSum, IsTextValue, banged_in, elements, first_in, number_in};
 ghost use Rattle.run_values.specs.Parts.{number_or_none, rebound, second_in, side_in, text_in};
 ghost use Rattle.metric_values.specs.Cells.{cell_at, columns_in, from_column, row_at};
-ghost use Rattle.run_values.specs.Views.{IsFunction, IsTextCell, bytes_in, function_of};
+ghost use Rattle.run_values.specs.Views.{IsFunction, IsTextCell, text_bytes, function_of};
 
 use crate::look::{Look, Part, look_at_row};
 use fz_ast::{Name, NoMemory, Nodes, Text};
@@ -181,7 +181,7 @@ fn cell(table: &Rc<Table>, i: u32, k: u16) -> Result<Value, NoMemory>
 // The bytes of a text of a table.
 fn bytes_at(table: &Rc<Table>, i: u32, k: u16) -> &[u8]
     requires { IsTextCell table.now.value i k }
-    ensures { result.now ≡ bytes_in (cell_at k (row_at table.now.value i)) }
+    ensures { result.now ≡ text_bytes (cell_at k (row_at table.now.value i)) }
 {
     match table.cell(i, k as usize) {
         Cell::Text(bytes) => bytes,

@@ -15,7 +15,7 @@ use Rattle.linear_types.specs.Rule.{var_rule}
 use Rattle.linear_types.specs.Typing.{Under}
 use Rattle.linear_types.specs.Inferred.{Has, Refused, Unbound}
 use Rattle.typing_rows.specs.Says.{Says}
-use Rattle.sensitivity_check.specs.Scope.{context_in, AllInScope, IsScope, IsUnbound, IsInnermost}
+use Rattle.sensitivity_check.specs.Scope.{context_in, AllInScope, HasKnownTypes, IsUnbound, IsInnermost}
 use Rattle.typing_rows.specs.declared.clause.Judged.{Judged}
 use Rattle.typing_rows.specs.declared.clause.RowFault.TheVariants.{Unbound as NotBound}
 use Rattle.sensitivity_check.specs.declared.scope.Bound.{Bound}
@@ -53,7 +53,7 @@ all_grow : (T U : List Ty) → length T ≤ length U → (bs : List Bound) → A
 all_grow T U g [] h = tt
 all_grow T U g (b ∷ bs) h = (let k = h.0 in omega arith, all_grow T U g bs h.1)
 
-pub scope_grows : (T U : List Ty) (bs : List Bound) → Grows T U → IsScope T bs → IsScope U bs
+pub scope_grows : (T U : List Ty) (bs : List Bound) → Grows T U → HasKnownTypes T bs → HasKnownTypes U bs
 scope_grows T U bs g h = record { all = all_grow T U (grows_length T U g) bs h.all }
 
 context_same : (T U : List Ty) (bs : List Bound) → Grows T U → AllInScope T bs → context_in U bs ≡ context_in T bs
@@ -61,21 +61,21 @@ context_same T U [] g h = refl
 context_same T U (b ∷ bs) g h = let e = grows_at T U b.ty h.0 g in let f = context_same T U bs g h.1 in rw (e, f) refl
 
 -- the same names in a larger arena
-pub context_grows : (T U : List Ty) (bs : List Bound) → Grows T U → IsScope T bs → context_in U bs ≡ context_in T bs
+pub context_grows : (T U : List Ty) (bs : List Bound) → Grows T U → HasKnownTypes T bs → context_in U bs ≡ context_in T bs
 context_grows T U bs g h = context_same T U bs g h.all
 
-pub scope_under : (T : List Ty) (bs cs : List Bound) (b : Bound) → cs ≡ b ∷ bs → b.ty < length T → IsScope T bs → IsScope T cs
+pub scope_under : (T : List Ty) (bs cs : List Bound) (b : Bound) → cs ≡ b ∷ bs → b.ty < length T → HasKnownTypes T bs → HasKnownTypes T cs
 scope_under T bs cs b e k h = rw e (record { all = (k, h.all) })
 
 -- what looking a name up answers
 pub says_unbound : (s : Span) (T : List Ty) (bs : List Bound) (x : Name) → IsUnbound x bs → Says T (Err (NotBound s)) (var_rule s (context_in T bs) x)
 says_unbound s T bs x h = rw (var_unbound s T bs x h) refl
 
-pub says_bound : (s : Span) (T : List Ty) (bs : List Bound) (x : Name) (i : ℕ) (d : Bound) (j : Judged) → IsScope T bs → IsInnermost x bs i → j.ty ≡ (get_or bs i d).ty → distances j.amounts.items ≡ replicate i none ++ one ∷ []
+pub says_bound : (s : Span) (T : List Ty) (bs : List Bound) (x : Name) (i : ℕ) (d : Bound) (j : Judged) → HasKnownTypes T bs → IsInnermost x bs i → j.ty ≡ (get_or bs i d).ty → distances j.amounts.items ≡ replicate i none ++ one ∷ []
     → Says T (Ok j) (var_rule s (context_in T bs) x)
 says_bound s T bs x i d j k h t e =
     rw (var_bound s T bs x i d h) (record { known = rw t (in_scope_at T bs i d k.all (innermost_below x bs i h)); is = rw t refl; alike = rw e (alike_refl (replicate i none ++ one ∷ [])) })
 
 -- the scope inside one more name, in a larger arena
-pub context_under : (T U : List Ty) (bs cs : List Bound) (b : Bound) → Grows T U → IsScope T bs → cs ≡ b ∷ bs → context_in U cs ≡ Under (name_of b.name) (type_at U b.ty) (context_in T bs)
+pub context_under : (T U : List Ty) (bs cs : List Bound) (b : Bound) → Grows T U → HasKnownTypes T bs → cs ≡ b ∷ bs → context_in U cs ≡ Under (name_of b.name) (type_at U b.ty) (context_in T bs)
 context_under T U bs cs b g h e = let k = context_grows T U bs g h in rw (e, k) refl

@@ -12,7 +12,7 @@ use Rattle.fz_ast.specs.TypeNodes.{type_at}
 use Rattle.fz_ast.specs.Arena.{Grows}
 use Rattle.linear_types.specs.Program.{context_of}
 use Rattle.linear_types.specs.Typing.{Context, Closed, Under}
-use Rattle.sensitivity_check.specs.Scope.{context_in, AllInScope, IsScope}
+use Rattle.sensitivity_check.specs.Scope.{context_in, AllInScope, HasKnownTypes}
 use Rattle.sensitivity_check.specs.Written.{IsNumberOf}
 use Rattle.sensitivity_check.specs.declared.scope.Bound.{Bound}
 use Rattle.sensitivity_check.proofs.Scopes.{scope_grows, context_grows}
@@ -38,7 +38,7 @@ all_push T (c ∷ bs) b h l = (h.0, all_push T bs b h.1 l)
 
 -- the first tables are the names in scope
 pub record AreTables (T : List Ty) (scope : List Bound) (ts : Signature) : Type 0 where
-  pub scoped : IsScope T scope
+  pub scoped : HasKnownTypes T scope
   pub are : context_in T scope ≡ context_of ts
 
 pub one_table_more : (T U : List Ty) (scope : List Bound) (ts : Signature) (i : ℕ) (b : Bound) (t : Table) → Grows T U → slice_get ts i ≡ Some (table_of t) → b.name ≡ t.name → IsNumberOf U b.ty (table_type (table_of t))

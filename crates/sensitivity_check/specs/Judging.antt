@@ -10,7 +10,7 @@ use Rattle.fz_ast.specs.declared.term.Form.{Form}
 use Rattle.linear_types.specs.Inferred.{Inferred, Has, two_parts}
 use Rattle.typing_rows.specs.Says.{Says, IsFaultOf}
 use Rattle.typing_rows.specs.declared.clause.RowFault.{RowFault}
-use Rattle.sensitivity_check.specs.Scope.{IsScope}
+use Rattle.sensitivity_check.specs.Scope.{HasKnownTypes}
 use Rattle.sensitivity_check.specs.Written.{AreWritten}
 use Rattle.sensitivity_check.specs.declared.judge.Two.{Two}
 use Rattle.sensitivity_check.specs.declared.scope.Bound.{Bound}
@@ -22,7 +22,7 @@ node_term N s form = term_of (type_at N.types) (term_at N.terms) s form
 -- the types written in the term have their numbers in the arena T, and so have those of the names in scope
 pub record IsReady (N : Parts) (T : List Ty) (m : List ℕ) (bs : List Bound) : Type 0 where
   pub written : AreWritten N.types T m
-  pub scope : IsScope T bs
+  pub scope : HasKnownTypes T bs
 
 -- the code's answers are what is inferred of two parts, or the first fault among them
 abbrev pub SayTwo : List Ty → Result Two RowFault → Inferred → Inferred → Type 0

@@ -16,7 +16,7 @@ AllInScope T [] = ⊤
 AllInScope T (b ∷ bs) = (b.ty < length T) × AllInScope T bs
 
 -- each name's type is in T
-pub record IsScope (T : List Ty) (scope : List Bound) : Type 0 where
+pub record HasKnownTypes (T : List Ty) (scope : List Bound) : Type 0 where
   pub all : AllInScope T scope
 
 -- no name in scope is x

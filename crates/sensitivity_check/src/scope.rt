@@ -3,7 +3,7 @@ ghost use Rattle.std.specs.Prelude.{◌≡◌, ◌<◌, ◌∷◌, List, length,
 ghost use Rattle.fz_ast.specs.Names.{name_of};
 ghost use Rattle.fz_ast.specs.Types.{Ty};
 ghost use Rattle.linear_types.specs.Rule.{var_rule};
-ghost use Rattle.sensitivity_check.specs.Scope.{IsInnermost, IsScope, IsUnbound, context_in};
+ghost use Rattle.sensitivity_check.specs.Scope.{IsInnermost, HasKnownTypes, IsUnbound, context_in};
 ghost use Rattle.typing_rows.specs.Says.{Says};
 
 use fz_ast::{Name, NoMemory, Span};
@@ -49,7 +49,7 @@ pub fn under(alloc: Global, scope: &[Bound], bound: Bound) -> Result<Vec<Bound>,
 
 /// A name's type, at 1 in its own place.
 pub fn look(alloc: Global, s: Span, scope: &[Bound], name: Name) -> Result<Judged, RowFault>
-    ensures { (T : List Ty) → IsScope T scope.now → Says T result (var_rule s (context_in T scope.now) (name_of name)) }
+    ensures { (T : List Ty) → HasKnownTypes T scope.now → Says T result (var_rule s (context_in T scope.now) (name_of name)) }
 {
     let Some(i) = place_of(scope, &name) else {
         return Err(RowFault::Unbound { span: s });

@@ -3,7 +3,7 @@ ghost use Rattle.std.specs.Prelude.{◌≡◌, IfOk};
 ghost use Rattle.fz_ast.specs.Types.{BagT};
 ghost use Rattle.fz_ast.specs.Arena.{Grows};
 ghost use Rattle.linear_types.specs.Program.{context_of};
-ghost use Rattle.sensitivity_check.specs.Scope.{context_in, IsScope};
+ghost use Rattle.sensitivity_check.specs.Scope.{context_in, HasKnownTypes};
 ghost use Rattle.sensitivity_check.specs.Written.{IsNumberOf};
 
 use crate::scope::Bound;
@@ -24,7 +24,7 @@ fn table_type(alloc: Global, arena: &mut Arena, row: &Ty) -> Result<u32, NoMemor
 /// The tables as names in scope, the first one being the innermost.
 pub fn tables_in_scope(alloc: Global, arena: &mut Arena, sig: &Sig) -> Result<Vec<Bound>, NoMemory>
     ensures grows { Grows arena.old arena.new }
-    ensures scope { IfOk result (λ scope. IsScope arena.new scope.items) }
+    ensures scope { IfOk result (λ scope. HasKnownTypes arena.new scope.items) }
     ensures are { IfOk result (λ scope. context_in arena.new scope.items ≡ context_of sig.now) }
 {
     let mut scope = Vec::new(alloc);

@@ -23,21 +23,21 @@ use Rattle.session_core.proofs.Subjects.{owner_stands, part_has_view}
 use Rattle.session_core.proofs.Names.{tables_said}
 
 -- an owner's entry and holding stand at its number
-pub record Stands (catalog : Catalog) (entries : List OwnerEntry) (holdings : List Holding) (o : ℕ) (owner : Owner) : Type 0 where
+pub record IsListed (catalog : Catalog) (entries : List OwnerEntry) (holdings : List Holding) (o : ℕ) (owner : Owner) : Type 0 where
   pub entry : OwnerEntry
   pub holding : Holding
   pub listed : slice_get entries o ≡ Some entry
   pub held : slice_get holdings o ≡ Some holding
   pub is : owner_of catalog (entry, holding) ≡ owner
 
-paired : (catalog : Catalog) (entries : List OwnerEntry) (holdings : List Holding) (o : ℕ) (owner : Owner) → slice_get (map (owner_of catalog) (zip entries holdings)) o ≡ Some owner → Stands catalog entries holdings o owner
+paired : (catalog : Catalog) (entries : List OwnerEntry) (holdings : List Holding) (o : ℕ) (owner : Owner) → slice_get (map (owner_of catalog) (zip entries holdings)) o ≡ Some owner → IsListed catalog entries holdings o owner
 paired catalog [] holdings o owner at = absurd (cc (at))
 paired catalog (entry ∷ entries) [] o owner at = absurd (cc (at))
 paired catalog (entry ∷ entries) (holding ∷ holdings) zero owner at = record { entry = entry; holding = holding; listed = refl; held = refl; is = cc (at) }
 paired catalog (entry ∷ entries) (holding ∷ holdings) (suc o) owner at =
     let s = paired catalog entries holdings o owner at in record { entry = s.entry; holding = s.holding; listed = s.listed; held = s.held; is = s.is }
 
-pub owner_stands_at : (register : Register) (o : ℕ) (owner : Owner) → slice_get (house_of register).owners o ≡ Some owner → Stands register.catalog register.catalog.owners register.holdings o owner
+pub owner_stands_at : (register : Register) (o : ℕ) (owner : Owner) → slice_get (house_of register).owners o ≡ Some owner → IsListed register.catalog register.catalog.owners register.holdings o owner
 owner_stands_at register o owner at = paired register.catalog register.catalog.owners register.holdings o owner at
 
 -- there is a pair for each entry

@@ -20,8 +20,8 @@ use Rattle.session_core.specs.Exchanges.{Exchange, ArePlain, AskOthers, told_of}
 use Rattle.session_core.specs.Served.{AnswersOn, ClosesOn}
 use Rattle.session_core.specs.Transcript.{Journals, LeadExactly}
 use Rattle.session_core.specs.declared.line.Subject.{Subject as SubjectAt}
-use Rattle.session_core.specs.declared.line.Meaning.{Meaning}
-use Rattle.session_core.specs.declared.line.Meaning.TheVariants.{Says, Asks, Recalls, Balances}
+use Rattle.session_core.specs.declared.line.LineMeaning.{LineMeaning}
+use Rattle.session_core.specs.declared.line.LineMeaning.TheVariants.{Says, Asks, Recalls, Balances}
 
 abbrev pub no_entry : Entry
 no_entry = record { budget = 0; capacity = 0; analysts = 0; keys = [] }
@@ -52,7 +52,7 @@ abbrev pub found_in : House → Result SubjectAt LineRefusal → Result Subject 
 found_in house found = result_map_both (subject_of house) (λ refusal. refusal) found
 
 -- what a line comes to, in a house
-abbrev pub meaning_of : House → Meaning → Meant
+abbrev pub meaning_of : House → LineMeaning → Meant
 meaning_of house (Says reply who) = says (replied reply) who
 meaning_of house (Asks query) = wants query.owner (owner_at house query.owner) (asks (query_of query))
 meaning_of house (Recalls owner analyst number) = wants owner (owner_at house owner) (recalls analyst number)
@@ -64,7 +64,7 @@ IsAnalyst house None = ⊤
 IsAnalyst house (Some analyst) = analyst < length house.analysts
 
 -- A demand is of one of the house's owners; a query is of that owner's entry, and its view one of that owner's.
-abbrev pub IsMeaningIn : House → Meaning → Type 0
+abbrev pub IsMeaningIn : House → LineMeaning → Type 0
 IsMeaningIn house (Says reply who) = IsAnalyst house who
 IsMeaningIn house (Asks query) =
     (query.owner < length house.owners) × IsQueryOf (owner_at house query.owner).entry (query_of query)
@@ -73,7 +73,7 @@ IsMeaningIn house (Recalls owner analyst number) = owner < length house.owners
 IsMeaningIn house (Balances owner) = owner < length house.owners
 
 -- as short a reply as any line may have, and no demand
-abbrev pub IsShort : Meaning → Type 0
+abbrev pub IsShort : LineMeaning → Type 0
 IsShort (Says reply who) = length (reply_text (replied reply)) ≤ 8
 IsShort (Asks query) = ⊥
 IsShort (Recalls owner analyst number) = ⊥

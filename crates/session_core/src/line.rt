@@ -13,7 +13,7 @@ use wire_lines::{LineRefusal, Name, Refusal, Reply, Request, read_request};
 
 /// What a line comes to, by the names of the house and by who speaks.
 #[derive(Clone, Copy, Debug)]
-pub enum Meaning<'a> {
+pub enum LineMeaning<'a> {
     /// A reply, and who speaks then.
     Says {
         reply: Reply<'a>,
@@ -41,7 +41,7 @@ struct Subject {
 }
 
 /// What a line comes to, where this analyst speaks.
-pub fn read_line<'a>(house: &House, who: Option<u16>, line: &'a [u8]) -> Meaning<'a>
+pub fn read_line<'a>(house: &House, who: Option<u16>, line: &'a [u8]) -> LineMeaning<'a>
     requires { IsAnalyst (house_of house.now) who }
     ensures meaning { meaning_of (house_of house.now) result ≡ meant_by (house_of house.now) who line.now }
     ensures proper { IsMeaningIn (house_of house.now) result }
@@ -70,7 +70,7 @@ pub fn read_line<'a>(house: &House, who: Option<u16>, line: &'a [u8]) -> Meaning
         }
         Ok(Request::Recall { owner, number }) => read_recall(house, who, owner, number),
         Ok(Request::Left { owner }) => read_left(house, who, owner),
-        Ok(Request::Bye) => Meaning::Says {
+        Ok(Request::Bye) => LineMeaning::Says {
             reply: Reply::Bye,
             who,
         },
@@ -79,17 +79,17 @@ pub fn read_line<'a>(house: &House, who: Option<u16>, line: &'a [u8]) -> Meaning
 }
 
 // A refusal leaves who speaks.
-fn refuse<'a>(refusal: LineRefusal, who: Option<u16>) -> Meaning<'a>
-    ensures { result ≡ Meaning.Says (Reply.Refused (Refusal.Line refusal)) who }
+fn refuse<'a>(refusal: LineRefusal, who: Option<u16>) -> LineMeaning<'a>
+    ensures { result ≡ LineMeaning.Says (Reply.Refused (Refusal.Line refusal)) who }
 {
-    Meaning::Says {
+    LineMeaning::Says {
         reply: Reply::Refused(Refusal::Line(refusal)),
         who,
     }
 }
 
 // A later hello replaces the analyst, and one with an unknown name doesn't.
-fn greet<'a>(house: &House, who: Option<u16>, name: &'a [u8]) -> Meaning<'a>
+fn greet<'a>(house: &House, who: Option<u16>, name: &'a [u8]) -> LineMeaning<'a>
     requires { IsAnalyst (house_of house.now) who }
     ensures meaning { meaning_of (house_of house.now) result
         ≡ meant_by_hello (house_of house.now) who name.now (analyst_named (house_of house.now) name.now) }
@@ -97,7 +97,7 @@ fn greet<'a>(house: &House, who: Option<u16>, name: &'a [u8]) -> Meaning<'a>
 {
     match house.analyst(name) {
         None => refuse(LineRefusal::Unknown { word: 1 }, who),
-        Some(analyst) => Meaning::Says {
+        Some(analyst) => LineMeaning::Says {
             reply: Reply::Hello {
                 analyst: Name { bytes: name },
             },
@@ -149,7 +149,7 @@ fn read_ask<'a>(
     subject: Result<Subject, LineRefusal>,
     epsilon: Option<u32>,
     program: &'a [u8],
-) -> Meaning<'a>
+) -> LineMeaning<'a>
     requires known { IsAnalyst (house_of house.now) who }
     requires range { IfSome epsilon (λ e. IsEpsilon e) }
     requires there { IfOk subject (IsSubjectIn (house_of house.now)) }
@@ -161,7 +161,7 @@ fn read_ask<'a>(
         (Err(refusal), _, _) => refuse(refusal, who),
         (Ok(_), None, _) => refuse(LineRefusal::NoEpsilon, who),
         (Ok(_), Some(_), None) => refuse(LineRefusal::NoHello, who),
-        (Ok(subject), Some(epsilon), Some(analyst)) => Meaning::Asks(Query {
+        (Ok(subject), Some(epsilon), Some(analyst)) => LineMeaning::Asks(Query {
             owner: subject.owner,
             analyst,
             view: subject.view,
@@ -172,7 +172,7 @@ fn read_ask<'a>(
 }
 
 // The owner is looked for before the analyst, who recalls its own numbers.
-fn read_recall<'a>(house: &House, who: Option<u16>, owner: &[u8], number: u32) -> Meaning<'a>
+fn read_recall<'a>(house: &House, who: Option<u16>, owner: &[u8], number: u32) -> LineMeaning<'a>
     requires known { IsAnalyst (house_of house.now) who }
     ensures meaning { meaning_of (house_of house.now) result
         ≡ meant_by_recall who (owner_named (house_of house.now) owner.now) number }
@@ -181,7 +181,7 @@ fn read_recall<'a>(house: &House, who: Option<u16>, owner: &[u8], number: u32) -
     match (house.owner(owner), who) {
         (None, _) => refuse(LineRefusal::Unknown { word: 1 }, who),
         (Some(_), None) => refuse(LineRefusal::NoHello, who),
-        (Some(owner), Some(analyst)) => Meaning::Recalls {
+        (Some(owner), Some(analyst)) => LineMeaning::Recalls {
             owner,
             analyst,
             number,
@@ -190,7 +190,7 @@ fn read_recall<'a>(house: &House, who: Option<u16>, owner: &[u8], number: u32) -
 }
 
 // Anybody may see what is left, before a hello too.
-fn read_left<'a>(house: &House, who: Option<u16>, owner: &[u8]) -> Meaning<'a>
+fn read_left<'a>(house: &House, who: Option<u16>, owner: &[u8]) -> LineMeaning<'a>
     requires known { IsAnalyst (house_of house.now) who }
     ensures meaning { meaning_of (house_of house.now) result
         ≡ meant_by_left who (owner_named (house_of house.now) owner.now) }
@@ -198,6 +198,6 @@ fn read_left<'a>(house: &House, who: Option<u16>, owner: &[u8]) -> Meaning<'a>
 {
     match house.owner(owner) {
         None => refuse(LineRefusal::Unknown { word: 1 }, who),
-        Some(owner) => Meaning::Balances { owner },
+        Some(owner) => LineMeaning::Balances { owner },
     }
 }

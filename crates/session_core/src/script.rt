@@ -12,7 +12,7 @@ ghost use Rattle.session_core.specs.Code.{IsAnalyst, who_behind, is_ended, one_l
 ghost use Rattle.session_core.specs.Code.{ArePasses, AreServed, AreAlone, AreFresh, HasServed, seen_by, found_by};
 
 use crate::house::House;
-use crate::line::{Meaning, read_line};
+use crate::line::{LineMeaning, read_line};
 use crate::passes::Passes;
 use answer_path::{Desk, ask, left, recall};
 use fz_outside::words::Streams;
@@ -113,7 +113,7 @@ pub fn answer_line<'a, D: Disk, S: Streams>(
     ensures short { length line.now < 6 → length (reply_text (replied result.reply)) ≤ 8 }
 {
     match read_line(house, who, line) {
-        Meaning::Asks(query) => Answer {
+        LineMeaning::Asks(query) => Answer {
             reply: ask(
                 alloc,
                 desk,
@@ -125,7 +125,7 @@ pub fn answer_line<'a, D: Disk, S: Streams>(
             who,
             ends: false,
         },
-        Meaning::Recalls {
+        LineMeaning::Recalls {
             owner,
             analyst,
             number,
@@ -134,12 +134,12 @@ pub fn answer_line<'a, D: Disk, S: Streams>(
             who,
             ends: false,
         },
-        Meaning::Balances { owner } => Answer {
+        LineMeaning::Balances { owner } => Answer {
             reply: left(desk, &mut passes.each[owner as usize]),
             who,
             ends: false,
         },
-        Meaning::Says { reply, who } => Answer {
+        LineMeaning::Says { reply, who } => Answer {
             reply,
             who: who_after(&reply, who),
             ends: is_end(&reply),

@@ -12,12 +12,12 @@ use Rattle.session_core.specs.Exchanges.{Exchange}
 use Rattle.session_core.specs.Code.{turns_left, who_behind, AreServed, AreAlone}
 use Rattle.session_core.proofs.Turning.{turns_first, turns_next}
 use Rattle.session_core.proofs.Serving.{served_append, alone_append, none_served}
-use Rattle.session_serve.specs.Session.{AreWhole, HasAnswered, texts_of}
+use Rattle.session_serve.specs.Session.{AreWhole, HasAnswered, reply_texts}
 use Rattle.session_serve.specs.Code.{speaker}
 use Rattle.session_serve.proofs.Whole.{lines_whole}
 
-pub texts_push : (replies : List Replied) (reply : Replied) → texts_of (replies ++ reply ∷ []) ≡ texts_of replies ++ reply_text reply
-texts_push replies reply = flat_map-append reply_text replies (reply ∷ []) ∙ ap (λ (ts : List ℕ). texts_of replies ++ ts) (append-nil (reply_text reply))
+pub texts_push : (replies : List Replied) (reply : Replied) → reply_texts (replies ++ reply ∷ []) ≡ reply_texts replies ++ reply_text reply
+texts_push replies reply = flat_map-append reply_text replies (reply ∷ []) ∙ ap (λ (ts : List ℕ). reply_texts replies ++ ts) (append-nil (reply_text reply))
 
 module _ (house : House) where
   pub speaker_push : (who : Option ℕ) (lines : List (List ℕ)) (line : List ℕ) → speaker house who (lines ++ line ∷ []) ≡ who_behind house (speaker house who lines) line

@@ -10,8 +10,8 @@ use Rattle.wire_lines.specs.Lines.{lf, without_cr, lines_of}
 use Rattle.wire_lines.specs.Reply.{Replied, reply_text}
 use Rattle.answer_path.specs.Pass.{Pass}
 use Rattle.session_core.specs.House.{House}
-use Rattle.session_serve.specs.Session.{AreWhole, HasNoEnd, AreNoBye, EndsWithBye, HasAnswered, IsCutShort, texts_of, HasEnded, IsSession, session_limit}
-use Rattle.session_serve.specs.Code.{Keeps, IsReplied, GoesOnWith, HasParted, HasBroken, Leads}
+use Rattle.session_serve.specs.Session.{AreWhole, HasNoEnd, AreNoBye, EndsWithBye, HasAnswered, IsCutShort, reply_texts, HasEnded, IsSession, session_limit}
+use Rattle.session_serve.specs.Code.{Keeps, IsLineAnswered, GoesOnWith, HasParted, HasBroken, Leads}
 use Rattle.session_serve.specs.declared.serve.SessionEnd.TheVariants.{Bye, EndOfInput, ReadFault, WriteFault, TooLong, NoMemory}
 use Rattle.session_serve.specs.declared.serve.Session.{Session}
 use Rattle.session_serve.proofs.Whole.{line_at_end, no_lines_yet}
@@ -68,7 +68,7 @@ module _ (house : House) (draws : ℕ → ℕ → ℕ → ℕ) where
       answered = g.answered;
       behind = [];
       replies = g.replies;
-      text = texts_of g.replies;
+      text = reply_texts g.replies;
       gave = subst (λ (bs : List ℕ). HasGiven begin.left bs now.left) (g.cut ∙ ap (λ (bs : List ℕ). g.answered ++ bs) none) gave;
       took = g.took;
       within = omega (arith, within, ap length g.cut, length-append g.answered g.raw);
@@ -93,12 +93,12 @@ module _ (house : House) (draws : ℕ → ℕ → ℕ → ℕ) where
       inside : length (g.answered ++ g.raw) ≤ session_limit
       inside = omega (arith, within, ap length g.cut)
 
-      pub ends_last : IsReplied house draws (Ok false) (without_cr g.raw) session.who next.who now after passes later → IsSession house draws EndOfInput begin after start later
+      pub ends_last : IsLineAnswered house draws (Ok false) (without_cr g.raw) session.who next.who now after passes later → IsSession house draws EndOfInput begin after start later
       ends_last r = record {
         answered = g.answered ++ g.raw;
         behind = [];
         replies = g.replies ++ r.x.reply ∷ [];
-        text = texts_of (g.replies ++ r.x.reply ∷ []);
+        text = reply_texts (g.replies ++ r.x.reply ∷ []);
         gave = gave_all;
         took = took_more house draws start begin given g.raw (without_cr g.raw) session next.who now after passes later (Ok false) g one r r.told.1;
         within = inside;
@@ -107,12 +107,12 @@ module _ (house : House) (draws : ℕ → ℕ → ℕ → ℕ) where
         ends = (no_bye_more house draws start begin given g.raw (without_cr g.raw) session next.who now after passes later (Ok false) g one r (sym r.told.0), refl, ended, (refl, r.told.2 ∙ g.faults));
       }
 
-      pub ends_bye : IsReplied house draws (Ok true) (without_cr g.raw) session.who next.who now after passes later → IsSession house draws Bye begin after start later
+      pub ends_bye : IsLineAnswered house draws (Ok true) (without_cr g.raw) session.who next.who now after passes later → IsSession house draws Bye begin after start later
       ends_bye r = record {
         answered = g.answered ++ g.raw;
         behind = [];
         replies = g.replies ++ r.x.reply ∷ [];
-        text = texts_of (g.replies ++ r.x.reply ∷ []);
+        text = reply_texts (g.replies ++ r.x.reply ∷ []);
         gave = gave_all;
         took = took_more house draws start begin given g.raw (without_cr g.raw) session next.who now after passes later (Ok true) g one r r.told.1;
         within = inside;
@@ -121,12 +121,12 @@ module _ (house : House) (draws : ℕ → ℕ → ℕ → ℕ) where
         ends = (bye_more house draws start begin given g.raw (without_cr g.raw) session next.who now after passes later (Ok true) g one r (sym r.told.0), inr (refl, ended), (refl, r.told.2 ∙ g.faults));
       }
 
-      pub ends_unsent : (failed : Failed) → IsReplied house draws (Err failed) (without_cr g.raw) session.who next.who now after passes later → IsSession house draws WriteFault begin after start later
+      pub ends_unsent : (failed : Failed) → IsLineAnswered house draws (Err failed) (without_cr g.raw) session.who next.who now after passes later → IsSession house draws WriteFault begin after start later
       ends_unsent failed r = record {
         answered = g.answered ++ g.raw;
         behind = [];
         replies = g.replies ++ r.x.reply ∷ [];
-        text = texts_of g.replies ++ take r.told.0.0 (reply_text r.x.reply);
+        text = reply_texts g.replies ++ take r.told.0.0 (reply_text r.x.reply);
         gave = gave_all;
         took = took_part house draws start begin given g.raw (without_cr g.raw) session next.who now after passes later (Err failed) g one r r.told.0.0 r.told.0.2;
         within = inside;
@@ -147,7 +147,7 @@ module _ (house : House) (draws : ℕ → ℕ → ℕ → ℕ) where
       answered = g.answered;
       behind = g.raw;
       replies = g.replies;
-      text = texts_of g.replies;
+      text = reply_texts g.replies;
       gave = gave ∙ ap (λ (left : Option (List ℕ)). prepend_known given left) (sym same) ∙ ap (λ (bs : List ℕ). prepend_known bs after.left) g.cut;
       took = unwritten ∙ g.took;
       within = omega (arith, within, ap length g.cut, length-append g.answered g.raw);
@@ -164,7 +164,7 @@ module _ (house : House) (draws : ℕ → ℕ → ℕ → ℕ) where
       answered = g.answered;
       behind = g.raw ++ more;
       replies = g.replies;
-      text = texts_of g.replies;
+      text = reply_texts g.replies;
       gave = subst (λ (bs : List ℕ). HasGiven begin.left bs after.left) (ap (λ (bs : List ℕ). bs ++ more) g.cut ∙ append_assoc g.answered g.raw more)
           (given_further begin.left now.left after.left given more gave further);
       took = unwritten ∙ g.took;
@@ -194,7 +194,7 @@ module _ (house : House) (draws : ℕ → ℕ → ℕ → ℕ) where
       answered = given ++ front;
       behind = rest;
       replies = p.replies;
-      text = texts_of p.replies;
+      text = reply_texts p.replies;
       gave = subst (λ (bs : List ℕ). HasGiven begin.left bs now.left) (ap (λ (bs : List ℕ). given ++ bs) cut ∙ sym (append_assoc given front rest)) gave;
       took = p.took;
       within = omega (arith, within, length-append given piece, length-append given front, ap length cut, length-append front rest);

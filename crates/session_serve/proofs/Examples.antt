@@ -10,7 +10,7 @@ use Rattle.outside_links.specs.Links.{Connection, shown}
 use Rattle.answer_path.specs.Pass.{Pass}
 use Rattle.session_core.specs.House.{House}
 use Rattle.session_core.specs.Turns.{is_bye}
-use Rattle.session_serve.specs.Session.{AreWhole, HasNoEnd, AreNoBye, EndsWithBye, IsCutShort, EndsBy, IsSession, session_limit, texts_of}
+use Rattle.session_serve.specs.Session.{AreWhole, HasNoEnd, AreNoBye, EndsWithBye, IsCutShort, EndsBy, IsSession, session_limit, reply_texts}
 use Rattle.session_serve.specs.declared.serve.SessionEnd.{SessionEnd}
 use Rattle.session_serve.specs.declared.serve.SessionEnd.TheVariants.{Bye, EndOfInput, ReadFault, WriteFault, TooLong}
 
@@ -60,11 +60,11 @@ cut_at_once = record { earlier = ended ∷ []; last = ended; part = 0; all = ref
 
 -- Bye.
 -- with its LF, and bytes behind it; and at the end of the input without one
-ends_with_bye : EndsBy Bye (codes "bye\n") (codes "left") (ended ∷ []) (texts_of (ended ∷ [])) (told (codes "bye\nleft") [] 0) (told [] (codes "bye\n") 0)
+ends_with_bye : EndsBy Bye (codes "bye\n") (codes "left") (ended ∷ []) (reply_texts (ended ∷ [])) (told (codes "bye\nleft") [] 0) (told [] (codes "bye\n") 0)
 unfolding lines_of request_of
 ends_with_bye = (record { earlier = []; last = codes "bye"; lines = refl; before = tt; bye = refl }, inl (inr (codes "bye", refl)), (refl, refl))
 
-ends_with_last_bye : EndsBy Bye (codes "bye") [] (ended ∷ []) (texts_of (ended ∷ [])) (told (codes "bye") [] 0) (told [] (codes "bye\n") 0)
+ends_with_last_bye : EndsBy Bye (codes "bye") [] (ended ∷ []) (reply_texts (ended ∷ [])) (told (codes "bye") [] 0) (told [] (codes "bye\n") 0)
 unfolding lines_of request_of
 ends_with_last_bye = (record { earlier = []; last = codes "bye"; lines = refl; before = tt; bye = refl }, inr (refl, refl), (refl, refl))
 
@@ -111,7 +111,7 @@ ends_unsent = (
 )
 
 -- a read fails in the middle of a line, and as the next byte behind the limit is asked for
-ends_unheard : EndsBy ReadFault (codes "x\n") (codes "hel") (malformed ∷ []) (texts_of (malformed ∷ [])) (told (codes "x\nhello") [] 0) (told (codes "lo") (texts_of (malformed ∷ [])) 1)
+ends_unheard : EndsBy ReadFault (codes "x\n") (codes "hel") (malformed ∷ []) (reply_texts (malformed ∷ [])) (told (codes "x\nhello") [] 0) (told (codes "lo") (reply_texts (malformed ∷ [])) 1)
 unfolding lines_of request_of
 ends_unheard = ((refl, tt), inr (codes "x", refl), ((λ h. omega (arith, h)), ((λ h. omega (arith, h)), ((λ h. omega (arith, h)), tt))), omega arith, refl, λ few. omega arith)
 

@@ -15,8 +15,8 @@ use Rattle.session_core.specs.Turns.{is_bye}
 use Rattle.session_core.specs.Exchanges.{Exchange}
 use Rattle.session_core.proofs.Exchanges.{all_append}
 use Rattle.session_core.specs.Code.{who_behind}
-use Rattle.session_serve.specs.Session.{AreWhole, HasNoEnd, AreNoBye, EndsInLine, EndsWithBye, HasAnswered, IsCutShort, texts_of, HasEnded, IsSession, session_limit}
-use Rattle.session_serve.specs.Code.{Keeps, speaker, IsTold, IsReplied, GoesOnWith, HasParted, HasBroken, Leads}
+use Rattle.session_serve.specs.Session.{AreWhole, HasNoEnd, AreNoBye, EndsInLine, EndsWithBye, HasAnswered, IsCutShort, reply_texts, HasEnded, IsSession, session_limit}
+use Rattle.session_serve.specs.Code.{Keeps, speaker, IsTold, IsLineAnswered, GoesOnWith, HasParted, HasBroken, Leads}
 use Rattle.session_serve.specs.declared.serve.SessionEnd.TheVariants.{Bye, EndOfInput, ReadFault, WriteFault, TooLong, NoMemory}
 use Rattle.session_serve.specs.declared.serve.Session.{Session}
 use Rattle.session_serve.proofs.Whole.{lines_whole, line_ended, line_at_end, no_end_push, no_lines_yet}
@@ -68,7 +68,7 @@ module _ (house : House) (draws : ℕ → ℕ → ℕ → ℕ) where
     -- a line that has ended is answered: what is said then
     module _ (given more text : List ℕ) (session : Session) (next : Option ℕ) (now after : Connection) (passes later : List Pass) (result : Result Bool Failed)
         (g : GoesOnWith house draws start begin given session now passes) (one : lines_of more ≡ text ∷ [])
-        (r : IsReplied house draws result text session.who next now after passes later) where
+        (r : IsLineAnswered house draws result text session.who next now after passes later) where
       pub answered_more : HasAnswered house draws (g.answered ++ more) (g.replies ++ r.x.reply ∷ []) start later
       answered_more = answered_next house draws g.answered more text g.replies start passes later r.x g.told g.whole one
           (r.turn ∙ ap (λ (w : Option ℕ). record { who = w; line = text }) g.speaks) r.served r.alone
@@ -90,15 +90,15 @@ module _ (house : House) (draws : ℕ → ℕ → ℕ → ℕ) where
       pub bye_more : is_bye text ≡ true → EndsWithBye (g.answered ++ more)
       bye_more same = record { earlier = lines_of g.answered; last = text; lines = lines_more; before = g.no_bye; bye = same }
 
-      pub took_more : HasTaken now.written (reply_text r.x.reply) after.written → HasTaken begin.written (texts_of (g.replies ++ r.x.reply ∷ [])) after.written
+      pub took_more : HasTaken now.written (reply_text r.x.reply) after.written → HasTaken begin.written (reply_texts (g.replies ++ r.x.reply ∷ [])) after.written
       took_more took = subst (λ (ts : List ℕ). HasTaken begin.written ts after.written) (sym (texts_push g.replies r.x.reply))
-          (taken_further begin.written now.written after.written (texts_of g.replies) (reply_text r.x.reply) g.took took)
+          (taken_further begin.written now.written after.written (reply_texts g.replies) (reply_text r.x.reply) g.took took)
 
       pub took_part : (part : ℕ) → HasTaken now.written (take part (reply_text r.x.reply)) after.written
-          → HasTaken begin.written (texts_of g.replies ++ take part (reply_text r.x.reply)) after.written
-      took_part part took = taken_further begin.written now.written after.written (texts_of g.replies) (take part (reply_text r.x.reply)) g.took took
+          → HasTaken begin.written (reply_texts g.replies ++ take part (reply_text r.x.reply)) after.written
+      took_part part took = taken_further begin.written now.written after.written (reply_texts g.replies) (take part (reply_text r.x.reply)) g.took took
 
-      pub cut_short : (part : ℕ) → part < length (reply_text r.x.reply) → IsCutShort (g.replies ++ r.x.reply ∷ []) (texts_of g.replies ++ take part (reply_text r.x.reply))
+      pub cut_short : (part : ℕ) → part < length (reply_text r.x.reply) → IsCutShort (g.replies ++ r.x.reply ∷ []) (reply_texts g.replies ++ take part (reply_text r.x.reply))
       cut_short part less = record { earlier = g.replies; last = r.x.reply; part = part; all = refl; short = less; written = refl }
 
       pub risen_more : HasRisen now.faults after.faults → HasRisen begin.faults after.faults
@@ -107,14 +107,14 @@ module _ (house : House) (draws : ℕ → ℕ → ℕ → ℕ) where
     -- An LF: the line is answered.
     pub leads_line : (given : List ℕ) (session next : Session) (now after : Connection) (passes later : List Pass) (result : Result Bool Failed)
         (g : GoesOnWith house draws start begin given session now passes)
-        → IsReplied house draws result (without_cr g.raw) session.who next.who now after passes later → Keeps next.line []
+        → IsLineAnswered house draws result (without_cr g.raw) session.who next.who now after passes later → Keeps next.line []
         → Leads house draws start begin given (lf ∷ []) result next after later
     leads_line given session next now after passes later result g r cleared = by result r
       where
         all : given ++ lf ∷ [] ≡ g.answered ++ (g.raw ++ lf ∷ [])
         all = ap (λ (bs : List ℕ). bs ++ lf ∷ []) g.cut ∙ append_assoc g.answered g.raw (lf ∷ [])
 
-        by : (result : Result Bool Failed) → IsReplied house draws result (without_cr g.raw) session.who next.who now after passes later → Leads house draws start begin given (lf ∷ []) result next after later
+        by : (result : Result Bool Failed) → IsLineAnswered house draws result (without_cr g.raw) session.who next.who now after passes later → Leads house draws start begin given (lf ∷ []) result next after later
         by (Ok false) r = record {
           answered = g.answered ++ (g.raw ++ lf ∷ []);
           raw = [];
@@ -150,7 +150,7 @@ module _ (house : House) (draws : ℕ → ℕ → ℕ → ℕ) where
           refl,
           record {
             replies = g.replies ++ r.x.reply ∷ [];
-            text = texts_of g.replies ++ take r.told.0.0 (reply_text r.x.reply);
+            text = reply_texts g.replies ++ take r.told.0.0 (reply_text r.x.reply);
             whole = inr (given, refl);
             line = subst (λ (bs : List ℕ). EndsInLine bs) (sym all)
                 (line_more given (g.raw ++ lf ∷ []) (without_cr g.raw) session next.who now after passes later (Err failed) g (line_ended g.raw g.unended) r);

@@ -10,7 +10,7 @@ use Rattle.session_core.specs.House.{House}
 use Rattle.session_core.specs.Turns.{is_bye}
 use Rattle.session_core.specs.Exchanges.{Exchange}
 use Rattle.session_core.specs.Code.{AreServed, AreAlone, who_behind}
-use Rattle.session_serve.specs.Session.{AreWhole, HasNoEnd, AreNoBye, EndsInLine, EndsWithBye, HasAnswered, IsCutShort, texts_of}
+use Rattle.session_serve.specs.Session.{AreWhole, HasNoEnd, AreNoBye, EndsInLine, EndsWithBye, HasAnswered, IsCutShort, reply_texts}
 use Rattle.session_serve.specs.declared.line.Line.{Line}
 use Rattle.session_serve.specs.declared.serve.Session.{Session}
 
@@ -34,7 +34,7 @@ IsTold (Err failed) line reply old new =
     ((part : ℕ) × (part < length (reply_text reply)) × HasTaken old.written (take part (reply_text reply)) new.written) × HasRisen old.faults new.faults
 
 -- One line was answered, where this analyst spoke and that one speaks behind it.
-pub record IsReplied (house : House) (draws : ℕ → ℕ → ℕ → ℕ) (result : Result Bool Failed) (line : List ℕ) (who behind : Option ℕ) (old new : Connection)
+pub record IsLineAnswered (house : House) (draws : ℕ → ℕ → ℕ → ℕ) (result : Result Bool Failed) (line : List ℕ) (who behind : Option ℕ) (old new : Connection)
     (before after : List Pass) : Type 0 where
   pub x : Exchange
   pub turn : x.turn ≡ record { who = who; line = line }
@@ -57,7 +57,7 @@ pub record GoesOnWith (house : House) (draws : ℕ → ℕ → ℕ → ℕ) (sta
   pub told : HasAnswered house draws answered replies start passes
   pub speaks : session.who ≡ speaker house None (lines_of answered)
   pub keeps : Keeps session.line raw
-  pub took : HasTaken begin.written (texts_of replies) now.written
+  pub took : HasTaken begin.written (reply_texts replies) now.written
   pub faults : now.faults ≡ begin.faults
 
 -- The session has ended with a `bye`.
@@ -67,7 +67,7 @@ pub record HasParted (house : House) (draws : ℕ → ℕ → ℕ → ℕ) (star
   pub whole : AreWhole given
   pub bye : EndsWithBye given
   pub told : HasAnswered house draws given replies start passes
-  pub took : HasTaken begin.written (texts_of replies) now.written
+  pub took : HasTaken begin.written (reply_texts replies) now.written
   pub faults : now.faults ≡ begin.faults
 
 -- The session has ended where a reply could not be written.

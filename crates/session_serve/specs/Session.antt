@@ -56,8 +56,8 @@ pub record HasAnswered (house : House) (draws : ℕ → ℕ → ℕ → ℕ) (by
   pub alone : AreAlone house draws exchanges before after
 
 -- the lines of some replies
-abbrev pub texts_of : List Replied → List ℕ
-texts_of replies = flat_map reply_text replies
+abbrev pub reply_texts : List Replied → List ℕ
+reply_texts replies = flat_map reply_text replies
 
 -- All replies but the last were written, and that one not to its end.
 pub record IsCutShort (replies : List Replied) (text : List ℕ) : Type 0 where
@@ -66,31 +66,31 @@ pub record IsCutShort (replies : List Replied) (text : List ℕ) : Type 0 where
   pub part : ℕ
   pub all : replies ≡ earlier ++ last ∷ []
   pub short : part < length (reply_text last)
-  pub written : text ≡ texts_of earlier ++ take part (reply_text last)
+  pub written : text ≡ reply_texts earlier ++ take part (reply_text last)
 
 -- A line has ended: with its LF, or with the input.
 abbrev pub HasEnded : (answered behind : List ℕ) → Connection → Type 0
 HasEnded answered behind now = AreWhole answered ⊎ ((behind ≡ []) × IsAtEnd now.left)
 
 -- the replies were written, and no call failed
-abbrev pub IsWritten : List Replied → (text : List ℕ) → (old new : Connection) → Type 0
-IsWritten replies text old new = (text ≡ texts_of replies) × (new.faults ≡ old.faults)
+abbrev pub AreAllWritten : List Replied → (text : List ℕ) → (old new : Connection) → Type 0
+AreAllWritten replies text old new = (text ≡ reply_texts replies) × (new.faults ≡ old.faults)
 
 -- How a session ends, by the bytes whose lines it answered, those that the connection gave behind them, its replies and what was
 -- written of them: at a `bye`; at the end of the input; where a read or a write fails; or at one byte too many, behind the
 -- lines that end before it.
 abbrev pub EndsBy : SessionEnd → (answered behind : List ℕ) → List Replied → (text : List ℕ) → (old new : Connection) → Type 0
-EndsBy Bye answered behind replies text old new = EndsWithBye answered × HasEnded answered behind new × IsWritten replies text old new
-EndsBy EndOfInput answered behind replies text old new = AreNoBye (lines_of answered) × (behind ≡ []) × IsAtEnd new.left × IsWritten replies text old new
+EndsBy Bye answered behind replies text old new = EndsWithBye answered × HasEnded answered behind new × AreAllWritten replies text old new
+EndsBy EndOfInput answered behind replies text old new = AreNoBye (lines_of answered) × (behind ≡ []) × IsAtEnd new.left × AreAllWritten replies text old new
 EndsBy ReadFault answered behind replies text old new =
     AreNoBye (lines_of answered) × AreWhole answered × HasNoEnd behind × (length answered + length behind ≤ session_limit)
-    × (text ≡ texts_of replies) × HasRisen old.faults new.faults
+    × (text ≡ reply_texts replies) × HasRisen old.faults new.faults
 EndsBy WriteFault answered behind replies text old new =
     EndsInLine answered × HasEnded answered behind new × IsCutShort replies text × HasRisen old.faults new.faults
 EndsBy (TooLong taken) answered behind replies text old new =
     AreNoBye (lines_of answered) × AreWhole answered × HasNoEnd (take (session_limit - length answered) behind)
-    × (length answered + length behind ≡ session_limit + 1) × (taken ≡ session_limit + 1) × IsWritten replies text old new
-EndsBy NoMemory answered behind replies text old new = (answered ≡ []) × (behind ≡ []) × IsWritten replies text old new
+    × (length answered + length behind ≡ session_limit + 1) × (taken ≡ session_limit + 1) × AreAllWritten replies text old new
+EndsBy NoMemory answered behind replies text old new = (answered ≡ []) × (behind ≡ []) × AreAllWritten replies text old new
 
 -- A session on a connection, from what it showed and the passes had seen before to what they do after.
 pub record IsSession (house : House) (draws : ℕ → ℕ → ℕ → ℕ) (end : SessionEnd) (old new : Connection) (before after : List Pass) : Type 0 where

@@ -11,7 +11,7 @@ ghost use Rattle.session_core.specs.Turns.{is_bye};
 ghost use Rattle.session_core.specs.Code.{IsAnalyst, ArePasses, AreServed, AreAlone, one_line, who_behind};
 ghost use Rattle.std.specs.Io.KnownBytes.{IsAtEnd};
 ghost use Rattle.session_serve.specs.Session.{IsSession, session_limit};
-ghost use Rattle.session_serve.specs.Code.{Keeps, IsReplied, GoesOnWith, Leads};
+ghost use Rattle.session_serve.specs.Code.{Keeps, IsLineAnswered, GoesOnWith, Leads};
 ghost use Rattle.session_serve.specs.declared.serve.SessionEnd.TheVariants.{NoMemory};
 
 use crate::line::Line;
@@ -110,7 +110,7 @@ fn reply<L: Link, D: Disk, S: Streams>(
     requires passes { ArePasses (house_of server.now.house.now) passes.old }
     requires known { IsAnalyst (house_of server.now.house.now) session.old.who }
     ensures replied { (raw text : List ℕ) → Keeps session.old.line raw → lines_of raw ≡ text ∷ [] →
-        IsReplied (house_of server.now.house.now) (S.given server.now.streams.now) result text session.old.who session.new.who
+        IsLineAnswered (house_of server.now.house.now) (S.given server.now.streams.now) result text session.old.who session.new.who
         (shown (L.left link.old) (L.written link.old) (L.faults link.old)) (shown (L.left link.new) (L.written link.new) (L.faults link.new))
         passes.old passes.new }
     ensures cleared { Keeps session.new.line [] }

@@ -5,7 +5,7 @@ use Rattle.fz_frac.specs.Distance.{Fin, Inf}
 use Rattle.fz_ast.specs.Bare.{nowhere}
 use Rattle.fz_ast.specs.Terms.{AppE, BangE, CaseE, ClipE, EqE, FilterE, FnE, FstE, FunE, GreatestE, IfE, InlE, InrE, LeE, LeastE, LetBangE, LetE, LetPairE, MapE, MinusE, NumE, PairE, PlusE, SizeE, SndE, SplitE, SumE, Term, TextE, TimesE, UnionE, UnitE, VarE, WithE, TermForm, TrueE, FalseE, at}
 use Rattle.fz_ast.specs.Types.{BangT, NumT, UnitT}
-use Rattle.metric_law.specs.Worked.{name_at, number_at, span, split_in_halves, bang_undone, unused_names, worked_tables}
+use Rattle.metric_law.specs.Worked.{name_at, numeral_at, span, split_in_halves, bang_undone, unused_names, worked_tables}
 use Rattle.shape_law.specs.Shapes.{Also, BangS, FnS, FunS, Nothing, PairS, Shape, Shapes, Wide, bang_shape, first_half, in_bang, pair_shape, second_half, shape_of, table_shapes, width_of, wider}
 use Rattle.shape_law.specs.Walk.{Shaped, Stops, Tally, WalkOutcome, TooDeep, TooLong, TooWide, depth_limit, shape, start, walk}
 use Rattle.shape_law.specs.Worked.{PassesLimit, Plans}
@@ -272,18 +272,18 @@ too_deep_within = refl
 abbrev after : ℕ → Tally
 after n = record { turns = n; depth = 0; width = 0 }
 
-last_turn : walk 5 1 under (number_at 3 4 7) (after 19999) ≡ Shaped (Wide 0) (record { turns = 20000; depth = 1; width = 0 })
+last_turn : walk 5 1 under (numeral_at 3 4 7) (after 19999) ≡ Shaped (Wide 0) (record { turns = 20000; depth = 1; width = 0 })
 last_turn = refl
 
-too_long : walk 5 1 under (number_at 3 4 7) (after 20000) ≡ Stops (TooLong (span 3 4))
+too_long : walk 5 1 under (numeral_at 3 4 7) (after 20000) ≡ Stops (TooLong (span 3 4))
 too_long = refl
 
 -- the second part is the first that is visited too late
-too_long_at_the_second : walk 5 1 under (at (span 0 5) (PlusE (number_at 0 1 7) (number_at 4 5 7))) (after 19998) ≡ Stops (TooLong (span 4 5))
+too_long_at_the_second : walk 5 1 under (at (span 0 5) (PlusE (numeral_at 0 1 7) (numeral_at 4 5 7))) (after 19998) ≡ Stops (TooLong (span 4 5))
 too_long_at_the_second = refl
 
 -- where both are passed at once, depth comes first
-too_deep_first : walk 0 1 under (number_at 3 4 7) (after 20000) ≡ Stops (TooDeep (span 3 4))
+too_deep_first : walk 0 1 under (numeral_at 3 4 7) (after 20000) ≡ Stops (TooDeep (span 3 4))
 too_deep_first = refl
 
 abbrev wide_names : ℕ → Shapes
@@ -316,7 +316,7 @@ union_before_its_neighbour = refl
 -- the order of visits, by the first that comes a turn too late
 
 abbrev ordered_if : Term
-ordered_if = at (span 0 9) (IfE (name_at 1 2 (codes "a")) (number_at 3 4 7) (number_at 5 6 7))
+ordered_if = at (span 0 9) (IfE (name_at 1 2 (codes "a")) (numeral_at 3 4 7) (numeral_at 5 6 7))
 
 if_first_branch : walk 5 1 under ordered_if (after 19998) ≡ Stops (TooLong (span 3 4))
 if_first_branch = refl
@@ -325,7 +325,7 @@ if_second_branch : walk 5 1 under ordered_if (after 19997) ≡ Stops (TooLong (s
 if_second_branch = refl
 
 abbrev ordered_case : Term
-ordered_case = at (span 0 9) (CaseE (name_at 1 2 (codes "a")) (codes "x") (number_at 3 4 7) (codes "y") (number_at 5 6 7))
+ordered_case = at (span 0 9) (CaseE (name_at 1 2 (codes "a")) (codes "x") (numeral_at 3 4 7) (codes "y") (numeral_at 5 6 7))
 
 case_first_branch : walk 5 1 under ordered_case (after 19998) ≡ Stops (TooLong (span 3 4))
 case_first_branch = refl
@@ -334,7 +334,7 @@ case_second_branch : walk 5 1 under ordered_case (after 19997) ≡ Stops (TooLon
 case_second_branch = refl
 
 abbrev ordered_application : Term
-ordered_application = at (span 0 9) (AppE (at (span 1 2) (FunE (codes "x") nowhere NumT (number_at 5 6 7))) (name_at 3 4 (codes "b")))
+ordered_application = at (span 0 9) (AppE (at (span 1 2) (FunE (codes "x") nowhere NumT (numeral_at 5 6 7))) (name_at 3 4 (codes "b")))
 
 argument_after_function : walk 5 1 under ordered_application (after 19998) ≡ Stops (TooLong (span 3 4))
 argument_after_function = refl
@@ -343,7 +343,7 @@ body_after_argument : walk 5 1 under ordered_application (after 19997) ≡ Stops
 body_after_argument = refl
 
 abbrev ordered_map : Term
-ordered_map = at (span 0 9) (MapE (at (span 1 2) (FnE (codes "x") nowhere NumT (number_at 5 6 7))) (name_at 3 4 (codes "b")))
+ordered_map = at (span 0 9) (MapE (at (span 1 2) (FnE (codes "x") nowhere NumT (numeral_at 5 6 7))) (name_at 3 4 (codes "b")))
 
 bag_after_function : walk 5 1 under ordered_map (after 19998) ≡ Stops (TooLong (span 3 4))
 bag_after_function = refl
@@ -390,7 +390,7 @@ twice_applied_in (suc n) t =
 -- ten functions, the first of 34 nodes, each of the others twice the one before; the last is applied under so many multiples
 abbrev ten_functions : ℕ → Term
 ten_functions n =
-    at (span 0 0) (LetE (codes "f") (at (span 0 0) (FunE (codes "x") nowhere NumT (multiples 33 (name_at 7 8 (codes "x"))))) (twice_applied_in 9 (multiples n (at (span 0 0) (AppE (name_at 0 0 (codes "f")) (number_at 0 0 1))))))
+    at (span 0 0) (LetE (codes "f") (at (span 0 0) (FunE (codes "x") nowhere NumT (multiples 33 (name_at 7 8 (codes "x"))))) (twice_applied_in 9 (multiples n (at (span 0 0) (AppE (name_at 0 0 (codes "f")) (numeral_at 0 0 1))))))
 
 whole_just_long : Plans (ten_functions 14) 20000 77 0
 unfolding depth_limit
@@ -484,7 +484,7 @@ never_applied_is_not_refused h = absurd (cc h)
 -- forms of two parts: a limit at the second, and what the first is refused for before the second comes too late
 
 abbrev SecondIsLate : (Term → Term → TermForm) → Type 0
-SecondIsLate form = walk 5 1 under (at (span 0 5) (form (number_at 0 1 7) (number_at 4 5 7))) (after 19998) ≡ Stops (TooLong (span 4 5))
+SecondIsLate form = walk 5 1 under (at (span 0 5) (form (numeral_at 0 1 7) (numeral_at 4 5 7))) (after 19998) ≡ Stops (TooLong (span 4 5))
 
 abbrev FirstIsWide : (Term → Term → TermForm) → Type 0
 FirstIsWide form = walk 5 1 (wide_names 33) (at (span 0 30) (form wide_union (name_at 20 21 (codes "x")))) (after 19996) ≡ Stops (TooWide (span 0 9) 65)
@@ -510,10 +510,10 @@ not_the_second_first h = absurd (cc h)
 -- and the body of the function after its bag
 
 abbrev BodyIsLate : (Term → Term → TermForm) → Type 0
-BodyIsLate form = walk 5 1 under (at (span 0 9) (form (at (span 1 2) (FnE (codes "x") nowhere NumT (number_at 5 6 7))) (name_at 3 4 (codes "b")))) (after 19997) ≡ Stops (TooLong (span 5 6))
+BodyIsLate form = walk 5 1 under (at (span 0 9) (form (at (span 1 2) (FnE (codes "x") nowhere NumT (numeral_at 5 6 7))) (name_at 3 4 (codes "b")))) (after 19997) ≡ Stops (TooLong (span 5 6))
 
 abbrev BagIsWide : (Term → Term → TermForm) → Type 0
-BagIsWide form = walk 5 1 (wide_names 33) (at (span 0 30) (form (at (span 10 12) (FnE (codes "x") nowhere NumT (number_at 11 12 7))) wide_union)) (after 19995) ≡ Stops (TooWide (span 0 9) 65)
+BagIsWide form = walk 5 1 (wide_names 33) (at (span 0 30) (form (at (span 10 12) (FnE (codes "x") nowhere NumT (numeral_at 11 12 7))) wide_union)) (after 19995) ≡ Stops (TooWide (span 0 9) 65)
 
 body_of_filter : BodyIsLate (λ p q. FilterE p q) × BagIsWide (λ p q. FilterE p q)
 body_of_filter = (refl, refl)

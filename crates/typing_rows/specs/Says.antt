@@ -67,9 +67,9 @@ IsCauseAt s D (Range u) = (u ≡ s) × (any_out D ≡ true)
 IsCauseAt s D NoMemory = ⊤
 IsCauseAt s D r = ⊥
 
-abbrev pub Gives : Result (Vec Sens Global) RowFault → Span → Sensitivities → Type 0
-Gives (Ok v) s D = IsGiven v.items D
-Gives (Err r) s D = IsCauseAt s D r
+abbrev pub GivesAll : Result (Vec Sens Global) RowFault → Span → Sensitivities → Type 0
+GivesAll (Ok v) s D = IsGiven v.items D
+GivesAll (Err r) s D = IsCauseAt s D r
 
 -- d, or it is out of range at the term s
 abbrev pub GivesOne : Result Sens RowFault → Span → Distance → Type 0

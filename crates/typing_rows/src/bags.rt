@@ -7,7 +7,7 @@ ghost use Rattle.fz_ast.specs.Arena.{Grows};
 ghost use Rattle.linear_types.specs.Places.{AreAlike, distances};
 ghost use Rattle.linear_types.specs.Sensitivities.{Sensitivities, plus, scale};
 ghost use Rattle.linear_types.specs.Rule.{exactly, has_sum, size_rule, sum_rule, union_rule, map_rule, test_rule, halves};
-ghost use Rattle.typing_rows.specs.Says.{Says, Gives};
+ghost use Rattle.typing_rows.specs.Says.{Says, GivesAll};
 
 use crate::clause::{Judged, RowFault, Wanted};
 use crate::ranged::{endless, scaled_at, sum_at, whole_at};
@@ -21,7 +21,7 @@ use std::alloc::Global;
 
 // inf D + E, with D of the function and E of the bag
 fn each_element(alloc: Global, s: Span, o: &Judged, p: &Judged) -> Result<Vec<Sens>, RowFault>
-    ensures { (D E : Sensitivities) → AreAlike (distances o.now.amounts.items) D → AreAlike (distances p.now.amounts.items) E → Gives result s (plus (scale Inf D) E) }
+    ensures { (D E : Sensitivities) → AreAlike (distances o.now.amounts.items) D → AreAlike (distances p.now.amounts.items) E → GivesAll result s (plus (scale Inf D) E) }
 {
     let a = endless(alloc, &o.amounts)?;
     sum_at(alloc, s, &a, &p.amounts)

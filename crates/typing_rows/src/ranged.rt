@@ -8,7 +8,7 @@ ghost use Rattle.fz_ast.specs.Limits.{IsBang};
 ghost use Rattle.linear_types.specs.Sensitivities.{Sensitivities, plus, join, scale, rest};
 ghost use Rattle.linear_types.specs.Places.{AreAlike, IsAnswer, distances};
 ghost use Rattle.linear_types.specs.Rule.{has_bound};
-ghost use Rattle.typing_rows.specs.Says.{Gives, GivesOne, Says, fault_at};
+ghost use Rattle.typing_rows.specs.Says.{GivesAll, GivesOne, Says, fault_at};
 ghost use Rattle.typing_rows.specs.declared.clause.RowFault.TheVariants.{NoMemory};
 
 use crate::clause::{Judged, RowFault};
@@ -29,7 +29,7 @@ fn fault_at(s: Span, fault: EnvFault) -> RowFault
 
 /// D + E
 pub fn sum_at(alloc: Global, s: Span, a: &[Sens], b: &[Sens]) -> Result<Vec<Sens>, RowFault>
-    ensures { (D E : Sensitivities) → AreAlike (distances a.now) D → AreAlike (distances b.now) E → Gives result s (plus D E) }
+    ensures { (D E : Sensitivities) → AreAlike (distances a.now) D → AreAlike (distances b.now) E → GivesAll result s (plus D E) }
 {
     match sum(alloc, a, b) {
         Ok(v) => Ok(v),
@@ -39,7 +39,7 @@ pub fn sum_at(alloc: Global, s: Span, a: &[Sens], b: &[Sens]) -> Result<Vec<Sens
 
 /// r D
 pub fn scaled_at(alloc: Global, s: Span, r: Sens, a: &[Sens]) -> Result<Vec<Sens>, RowFault>
-    ensures { (d : Distance) (D : Sensitivities) → distance_of r ≈ d → AreAlike (distances a.now) D → Gives result s (scale d D) }
+    ensures { (d : Distance) (D : Sensitivities) → distance_of r ≈ d → AreAlike (distances a.now) D → GivesAll result s (scale d D) }
 {
     match scaled(alloc, r, a) {
         Ok(v) => Ok(v),

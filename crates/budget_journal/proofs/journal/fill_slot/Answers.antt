@@ -4,7 +4,7 @@ use Rattle.outside_disks.specs.Disks.{WhereTold, MayHaveWritten}
 use Rattle.journal_records.specs.Encoding.{encoded, IsValid}
 use Rattle.journal_records.specs.declared.records.Record.{Record}
 use Rattle.journal_records.proofs.Shapes.{length-encoded}
-use Rattle.budget_journal.specs.Journals.{slot_place, Appended, Refused}
+use Rattle.budget_journal.specs.Journals.{slot_place, Appended, AppendFailed}
 use Rattle.budget_journal.proofs.Filled.{told-refused-first, told-refused, told-appended}
 use Rattle.budget_journal.proofs.journal.fill_slot.Goals as goal
 
@@ -32,11 +32,11 @@ pub returns-in_err-put_stable-clause-refused : goal.returns-in_err-put_stable-cl
 returns-in_err-put_stable-clause-refused g c =
     let next = c.args.record_in.now in
     let out = c.encode.new.out in
-    let told : WhereTold (Refused c.from.result next) (g.D.Disk.trace c.args.disk.now) (g.D.Disk.trace c.put_stable.new.disk)
+    let told : WhereTold (AppendFailed c.from.result next) (g.D.Disk.trace c.args.disk.now) (g.D.Disk.trace c.put_stable.new.disk)
     = told-refused-first c.from.result next c.requires (take 63 (drop 1 out)) (body next c.requires out c.encode.ensures) _ (g.D.Disk.trace c.args.disk.now) _
     (subst (λ (n : ℕ). MayHaveWritten (slot_place c.from.result + 1) n (g.D.Disk.trace c.args.disk.now) (g.D.Disk.trace c.put_stable.new.disk))
     (long next c.requires out c.encode.ensures) c.in_err-put_stable.ensures.err) in
-    on_err c.from_residual.result (subst (λ (n : ℕ). WhereTold (Refused n next) (g.D.Disk.trace c.args.disk.now)
+    on_err c.from_residual.result (subst (λ (n : ℕ). WhereTold (AppendFailed n next) (g.D.Disk.trace c.args.disk.now)
     (g.D.Disk.trace c.put_stable.new.disk)) c.from.ensures told)
 
 pub returns-clause-appended : goal.returns-clause-appended
@@ -54,7 +54,7 @@ returns-clause-refused g c =
     let next = c.args.record_in.now in
     let out = c.encode.new.out in
     err_then c.put_stable-2.result
-    (λ may. subst (λ (n : ℕ). WhereTold (Refused n next) (g.D.Disk.trace c.args.disk.now) (g.D.Disk.trace c.put_stable-2.new.disk)) c.from.ensures
+    (λ may. subst (λ (n : ℕ). WhereTold (AppendFailed n next) (g.D.Disk.trace c.args.disk.now) (g.D.Disk.trace c.put_stable-2.new.disk)) c.from.ensures
     (told-refused c.from.result next c.requires (take 63 (drop 1 out)) (body next c.requires out c.encode.ensures)
     (g.D.Disk.trace c.args.disk.now) _ _ c.in_ok-put_stable.ensures.stable may))
     c.put_stable-2.ensures.err

@@ -3,7 +3,7 @@ use Rattle.std.specs.Int.{w16, w32, w64, from_be_bytes}
 use Rattle.std.proofs.lemmas.Nat.{from_be_bytes-to_be_bytes_2, from_be_bytes-to_be_bytes_4, from_be_bytes-to_be_bytes_8}
 use Rattle.std.proofs.lemmas.List.{take_all}
 use Rattle.std.proofs.lemmas.Option.{same_Some}
-use Rattle.journal_records.specs.Encoding.{AreTerms}
+use Rattle.journal_records.specs.Encoding.{AreChargeTerms}
 use Rattle.journal_records.specs.declared.records.Record.TheVariants.{Reserve}
 use Rattle.journal_records.proofs.decoding.reservation_of.Goals as goal
 
@@ -27,9 +27,9 @@ returns-then-not-are_terms-clause-only c r valid is =
     ∙ from_be_bytes-to_be_bytes_4 r.e (omega (arith, valid.terms.most)) in
     let p' = c.u32_at-p.ensures ∙ ap (λ (b : List ℕ). from_be_bytes w32 (take 4 (drop 12 b))) is ∙ from_be_bytes-to_be_bytes_4 r.p valid.narrow.0 in
     let q' = c.u32_at-q.ensures ∙ ap (λ (b : List ℕ). from_be_bytes w32 (take 4 (drop 16 b))) is ∙ from_be_bytes-to_be_bytes_4 r.q valid.narrow.1 in
-    let terms : AreTerms c.u32_at-e.result c.u32_at-p.result c.u32_at-q.result
-    = subst (λ (x : ℕ). AreTerms x c.u32_at-p.result c.u32_at-q.result) (sym e')
-    (subst (λ (x : ℕ). AreTerms r.e x c.u32_at-q.result) (sym p') (subst (λ (x : ℕ). AreTerms r.e r.p x) (sym q') valid.terms)) in
+    let terms : AreChargeTerms c.u32_at-e.result c.u32_at-p.result c.u32_at-q.result
+    = subst (λ (x : ℕ). AreChargeTerms x c.u32_at-p.result c.u32_at-q.result) (sym e')
+    (subst (λ (x : ℕ). AreChargeTerms r.e x c.u32_at-q.result) (sym p') (subst (λ (x : ℕ). AreChargeTerms r.e r.p x) (sym q') valid.terms)) in
     let yes : c.are_terms.result ≡ true = c.are_terms.ensures.1 terms in
     let no : c.are_terms.result ≡ false = c.if-not-are_terms.true in
     absurd cc

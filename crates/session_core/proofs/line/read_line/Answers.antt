@@ -3,7 +3,7 @@ use Rattle.wire_lines.specs.Request.{request_of, reading, hello, ask, askpart, r
 use Rattle.session_core.specs.House.{house_of}
 use Rattle.session_core.specs.Meant.{meant_by_ask}
 use Rattle.session_core.specs.Code.{meaning_of, IsShort}
-use Rattle.session_core.specs.declared.line.Meaning.{Meaning}
+use Rattle.session_core.specs.declared.line.LineMeaning.{LineMeaning}
 use Rattle.session_core.proofs.Short.{meant_of, ended_short, refusal_short, hello_long, ask_long, askpart_long, recall_long, left_long}
 use Rattle.session_core.proofs.line.read_line.Goals as goal
 
@@ -72,4 +72,4 @@ returns-in-Err-clause-meaning c =
     ap (meaning_of (house_of c.args.house.now)) c.refuse.ensures ∙ meant_of (house_of c.args.house.now) c.args.who c.args.line.now (Err c.in-Err.refusal) reads
 
 pub returns-in-Err-clause-short : goal.returns-in-Err-clause-short
-returns-in-Err-clause-short c = λ few. subst (λ (m : Meaning). IsShort m) (sym c.refuse.ensures) (refusal_short c.in-Err.refusal c.in-Err.ensures.form)
+returns-in-Err-clause-short c = λ few. subst (λ (m : LineMeaning). IsShort m) (sym c.refuse.ensures) (refusal_short c.in-Err.refusal c.in-Err.ensures.form)

@@ -10,7 +10,7 @@ use Rattle.answer_path.specs.Standing.{IsBalance}
 use Rattle.session_core.specs.Meant.{asks, recalls, balances}
 use Rattle.session_core.specs.Exchanges.{Exchange}
 use Rattle.session_core.specs.Code.{meaning_of, owner_at, pass_at, AreServed, AreAlone}
-use Rattle.session_core.specs.declared.line.Meaning.TheVariants.{Asks, Recalls, Balances, Says}
+use Rattle.session_core.specs.declared.line.LineMeaning.TheVariants.{Asks, Recalls, Balances, Says}
 use Rattle.session_core.proofs.Owners.{owner_there, owner_holds, tables_named}
 use Rattle.session_core.proofs.Serving.{served_plain, alone_plain, served_wants, alone_wants, added_nothing, went_nowhere, own_nowhere, pass_within, pass_there}
 use Rattle.session_core.proofs.Turning.{bye_means, who_asks}

@@ -4,7 +4,7 @@ use Rattle.fz_outside.specs.declared.Failed.{Failed}
 use Rattle.outside_links.specs.Links.{Connection, shown}
 use Rattle.wire_lines.specs.Lines.{without_cr}
 use Rattle.session_core.specs.House.{house_of}
-use Rattle.session_serve.specs.Code.{IsReplied}
+use Rattle.session_serve.specs.Code.{IsLineAnswered}
 use Rattle.session_serve.proofs.Whole.{line_at_end}
 use Rattle.session_serve.proofs.Ends.{some_left, ends_last, ends_bye, ends_unsent}
 use Rattle.session_serve.proofs.serve.finish.Goals as goal
@@ -18,7 +18,7 @@ returns-in-Ok-false-clause-session g c = λ start begin given goes gave at_end w
     let some : 0 < length goes.raw = some_left c.is_empty.result goes.raw c.if-is_empty.false (c.is_empty.ensures goes.raw goes.keeps) in
     let replied = c.reply.ensures.replied goes.raw (without_cr goes.raw) goes.keeps (line_at_end goes.raw goes.unended some) in
     ends_last house draws start begin given c.args.session.now c.reply.new.session now after c.args.passes.now c.reply.new.passes goes some gave c.reply.ensures.apart at_end within
-    (subst (λ (r : Result Bool Failed). IsReplied house draws r (without_cr goes.raw) c.args.session.now.who c.reply.new.session.who now after c.args.passes.now c.reply.new.passes) (c.in-Ok-false.is ∙ ap Ok c.in-Ok-false.field-0-test) replied)
+    (subst (λ (r : Result Bool Failed). IsLineAnswered house draws r (without_cr goes.raw) c.args.session.now.who c.reply.new.session.who now after c.args.passes.now c.reply.new.passes) (c.in-Ok-false.is ∙ ap Ok c.in-Ok-false.field-0-test) replied)
 
 pub returns-in-Ok-true-clause-session : goal.returns-in-Ok-true-clause-session
 returns-in-Ok-true-clause-session g c = λ start begin given goes gave at_end within.
@@ -29,7 +29,7 @@ returns-in-Ok-true-clause-session g c = λ start begin given goes gave at_end wi
     let some : 0 < length goes.raw = some_left c.is_empty.result goes.raw c.if-is_empty.false (c.is_empty.ensures goes.raw goes.keeps) in
     let replied = c.reply.ensures.replied goes.raw (without_cr goes.raw) goes.keeps (line_at_end goes.raw goes.unended some) in
     ends_bye house draws start begin given c.args.session.now c.reply.new.session now after c.args.passes.now c.reply.new.passes goes some gave c.reply.ensures.apart at_end within
-    (subst (λ (r : Result Bool Failed). IsReplied house draws r (without_cr goes.raw) c.args.session.now.who c.reply.new.session.who now after c.args.passes.now c.reply.new.passes) (c.in-Ok-true.is ∙ ap Ok c.in-Ok-true.field-0-test) replied)
+    (subst (λ (r : Result Bool Failed). IsLineAnswered house draws r (without_cr goes.raw) c.args.session.now.who c.reply.new.session.who now after c.args.passes.now c.reply.new.passes) (c.in-Ok-true.is ∙ ap Ok c.in-Ok-true.field-0-test) replied)
 
 pub returns-in-Err-clause-session : goal.returns-in-Err-clause-session
 returns-in-Err-clause-session g c = λ start begin given goes gave at_end within.
@@ -40,4 +40,4 @@ returns-in-Err-clause-session g c = λ start begin given goes gave at_end within
     let some : 0 < length goes.raw = some_left c.is_empty.result goes.raw c.if-is_empty.false (c.is_empty.ensures goes.raw goes.keeps) in
     let replied = c.reply.ensures.replied goes.raw (without_cr goes.raw) goes.keeps (line_at_end goes.raw goes.unended some) in
     ends_unsent house draws start begin given c.args.session.now c.reply.new.session now after c.args.passes.now c.reply.new.passes goes some gave c.reply.ensures.apart at_end within _
-    (subst (λ (r : Result Bool Failed). IsReplied house draws r (without_cr goes.raw) c.args.session.now.who c.reply.new.session.who now after c.args.passes.now c.reply.new.passes) c.in-Err.is replied)
+    (subst (λ (r : Result Bool Failed). IsLineAnswered house draws r (without_cr goes.raw) c.args.session.now.who c.reply.new.session.who now after c.args.passes.now c.reply.new.passes) c.in-Err.is replied)
