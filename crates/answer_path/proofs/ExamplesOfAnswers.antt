@@ -221,7 +221,7 @@ not_unanswered_otherwise : IsUnanswered (refused (by_number (NoAnswer 0))) [] �
 not_unanswered_otherwise h = absurd (cc (h.0))
 
 -- A program is charged by its own sensitivity.
-judged_at_one : (reading : Reading) → IsReading size_people reading → judgement_of (people ∷ []) reading ≡ accepted size_term (Fin 1 1)
+pub judged_at_one : (reading : Reading) → IsReading size_people reading → judgement_of (people ∷ []) reading ≡ accepted size_term (Fin 1 1)
 judged_at_one reading reads =
     subst (λ (r : Reading). judgement_of (people ∷ []) r ≡ accepted size_term (Fin 1 1)) (one_reading size_people (read size_term) reading size_reads reads) size_judged
 

@@ -1,8 +1,9 @@
 -- Lines at a book whose disk fails, and what is said of a number and of the budget, at worked records.
-use Rattle.std.proofs.Common.{◌≡◌, ℕ, List, [], ◌∷◌, ◌++◌, Some, None, refl, ap, pos, inl, inr}
+use Rattle.std.proofs.Common.{◌≡◌, ℕ, List, [], ◌∷◌, ◌++◌, Some, None, refl, ◌∙◌, ap, subst, arith, pos, inl, inr}
 use Rattle.journal_records.specs.declared.records.Outcome.TheVariants.{Answered, Exhausted, Lost}
 use Rattle.journal_records.specs.declared.records.Record.{Record}
 use Rattle.journal_records.specs.declared.records.Record.TheVariants.{Reserve, Settle}
+use Rattle.budget_core.specs.declared.entry.Ask.{Ask}
 use Rattle.budget_core.specs.declared.entry.Grant.{Grant}
 use Rattle.budget_core.specs.Cost.{cost_of}
 use Rattle.sha2.specs.Sha256.{sha256}
@@ -14,14 +15,16 @@ use Rattle.wire_lines.specs.declared.refusal.DiskRefusal.TheVariants.{Closed, Fa
 use Rattle.wire_lines.specs.declared.refusal.NumberRefusal.TheVariants.{Unknown as NoNumber, NotYours as AnotherAnalysts}
 use Rattle.wire_lines.specs.declared.reply.Standing.TheVariants.{Answered as StandsAnswered, Open as StandsOpen, Lost as StandsLost, Exhausted as StandsExhausted}
 use Rattle.part_views.specs.Views.{signature_in}
+use Rattle.answer_path.specs.Judgement.{Judgement}
 use Rattle.answer_path.specs.Query.{Query}
-use Rattle.answer_path.specs.Verdict.{ask_for, granted}
+use Rattle.answer_path.specs.Verdict.{ask_for, granted, IsVerdict, IsVerdictBy}
 use Rattle.answer_path.specs.Answered.{IsAnswered, IsAsked, granted_record}
-use Rattle.answer_path.specs.Closing.{Closes}
+use Rattle.answer_path.specs.Closing.{Closes, IsGrantPending}
 use Rattle.answer_path.specs.Standing.{IsBalance, IsRecalled}
 use Rattle.answer_path.proofs.Answering.{money_says}
 use Rattle.answer_path.proofs.SizePeople.{size_people}
-use Rattle.answer_path.proofs.Examples.{a_grant, a_query, an_ask, before, charged, draws_of_minus_one, minus_one, owner, reserved, settled_by_three}
+use Rattle.answer_path.proofs.Examples.{a_grant, a_query, an_ask, before, charged, draws_of_minus_one, minus_one, owner, people, reserved, settled_by_three}
+use Rattle.answer_path.proofs.ExamplesOfAnswers.{judged_at_one}
 
 abbrev query : Query
 query = a_query size_people
@@ -46,6 +49,44 @@ fault_at_reservation draws = (
 closed_at_reservation : (draws : ℕ → ℕ → ℕ) → Closes (owner 9000000 100) draws query (refused (by_disk Fault)) [] None (Some (failed (reserved 1)))
 unfolding signature_in
 closed_at_reservation draws = (failed (reserved 1), refl, refl, (1, 1, charged, a_grant 1 1000000 3, refl))
+
+-- That reservation is what is due: number 1, which raises the cost by 1000000. No other number or charge is.
+due_at_reservation : IsGrantPending (owner 9000000 100) 0 before query [] (refused (by_disk Fault)) (Some (failed (reserved 1)))
+unfolding cost_of cost_of_charges partition_cost signature_in
+due_at_reservation = (failed (reserved 1), refl, (an_ask, a_grant 1 1000000 3, money_says (owner 9000000 100) 0 before query 1 1 _ charged refl, refl))
+
+-- what the verdict grants here
+granted_once : (asking : Ask) (grant : Grant) → IsVerdict (owner 9000000 100).entry (people ∷ []) 0 before query (granted asking grant)
+    → granted asking grant ≡ granted an_ask (a_grant 1 1000000 3)
+unfolding IsVerdict cost_of cost_of_charges partition_cost
+granted_once asking grant (reading, reads, by) =
+    subst (λ (j : Judgement). IsVerdictBy (owner 9000000 100).entry 0 before query j (granted asking grant)) (judged_at_one reading reads) by
+
+pending_is : (next : Record) → IsGrantPending (owner 9000000 100) 0 before query [] (refused (by_disk Fault)) (Some (failed next)) → next ≡ reserved 1
+unfolding signature_in
+pending_is next (failure, shut, (asking, grant, is, made)) =
+    let same : failed next ≡ failure = cc shut in
+    let one : granted asking grant ≡ granted an_ask (a_grant 1 1000000 3) = granted_once asking grant is in
+    let ask_is : asking ≡ an_ask = cc one in
+    let grant_is : grant ≡ a_grant 1 1000000 3 = cc one in
+    ap (λ (f : Failure). f.pending) same ∙ made ∙ ap (λ (a : Ask). granted_record a grant) ask_is ∙ ap (granted_record an_ask) grant_is
+
+number_of : Record → ℕ
+number_of (Reserve reservation) = reservation.number
+number_of (Settle number outcome) = number
+
+not_due_of_another_number : IsGrantPending (owner 9000000 100) 0 before query [] (refused (by_disk Fault)) (Some (failed (reserved 2))) → ⊥
+unfolding number_of
+not_due_of_another_number due = let same : 2 ≡ 1 = ap number_of (pending_is (reserved 2) due) in omega (arith, same)
+
+rise_by : Record → ℕ
+rise_by (Reserve reservation) = reservation.taken
+rise_by (Settle number outcome) = 0
+
+not_due_at_another_charge : IsGrantPending (owner 9000000 100) 0 before query [] (refused (by_disk Fault)) (Some (failed (granted_record an_ask (a_grant 1 999999 3)))) → ⊥
+unfolding rise_by
+not_due_at_another_charge due =
+    let same : 999999 ≡ 1000000 = ap rise_by (pending_is (granted_record an_ask (a_grant 1 999999 3)) due) in omega (arith, same)
 
 -- 52 at the settlement: the reservation was added, and its settlement is pending.
 fault_at_settlement : (draws : ℕ → ℕ → ℕ) → IsAsked (owner 9000000 100) draws 0 query [] (refused (by_disk Fault)) ((2, reserved 1) ∷ []) (before ++ reserved 1 ∷ [])

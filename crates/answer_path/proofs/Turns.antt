@@ -21,7 +21,7 @@ use Rattle.answer_path.specs.Query.{Query}
 use Rattle.answer_path.specs.Program.{IsCharged}
 use Rattle.answer_path.specs.Verdict.{program_refused, money_refused, granted, ask_for, money_refusal}
 use Rattle.answer_path.specs.Answered.{Told, HasSmallAnswer, IsAsked, IsSettledBy, granted_record, outcome_reply}
-use Rattle.answer_path.specs.Closing.{Closes, StaysOpen}
+use Rattle.answer_path.specs.Closing.{Closes, IsGrantPending, StaysOpen}
 use Rattle.answer_path.specs.Pass.{Pass, first_of_run}
 use Rattle.answer_path.specs.Turn.{IsTurn, HasReserved, HasSettled, book_refusal, settled_reply}
 use Rattle.answer_path.specs.Code.{IsProgramRefusal}
@@ -37,8 +37,9 @@ refused_turn owner draws query pass (by_program refusal) h = record {
   asked = (pass.seen, self pass.seen, inl (program_refused refusal, program_says owner (first_of_run pass) pass.seen query refusal h, (refl, refl, refl)));
   added = nothing pass;
   closes = refl;
+  due = tt;
 }
-refused_turn owner draws query pass no_memory h = record { told = []; asked = (pass.seen, self pass.seen, inr (refl, refl, refl)); added = nothing pass; closes = refl }
+refused_turn owner draws query pass no_memory h = record { told = []; asked = (pass.seen, self pass.seen, inr (refl, refl, refl)); added = nothing pass; closes = refl; due = tt }
 refused_turn owner draws query pass (by_line refusal) h = absurd h
 refused_turn owner draws query pass (by_money refusal) h = absurd h
 refused_turn owner draws query pass (by_disk refusal) h = absurd h
@@ -62,6 +63,7 @@ unreserved_turn name holding draws query before after p q (Refused fault) c (ver
   );
   added = added;
   closes = stays;
+  due = tt;
 }
 unreserved_turn name holding draws query before after p q (Unwritten (Closed failed_at)) c (grant, verdict, (failure, was, said, (stays, added))) = record {
   told = [];
@@ -76,6 +78,7 @@ unreserved_turn name holding draws query before after p q (Unwritten (Closed fai
   );
   added = added;
   closes = (failure, was, said, refl, stays);
+  due = tt;
 }
 unreserved_turn name holding draws query before after p q (Unwritten DiskFault) c (grant, verdict, (failure, free, shut, pending, added)) = record {
   told = [];
@@ -90,6 +93,11 @@ unreserved_turn name holding draws query before after p q (Unwritten DiskFault) 
   );
   added = added;
   closes = (failure, free, shut, (p, q, c, grant, pending));
+  due = (
+    failure,
+    shut,
+    (ask_for query p q, grant, money_says (owner_with name before.entry holding) (first_of_run before) before.seen query p q (Ok grant) c verdict, pending),
+  );
 }
 
 stays_open : (owner : Owner) (draws : ℕ → ℕ → ℕ) (query : Query) (grant : Grant) (outcome : Outcome) (told : List Told) (before after : Option Failure) → StaysOpen before after
@@ -125,6 +133,7 @@ settled_turn name holding draws query before mid after p q grant outcome (Ok see
       );
       added = both before mid after _ _ first second;
       closes = stays_open (owner_with name before.entry holding) draws query grant outcome _ before.storage.closed after.storage.closed (opened.0, free.1);
+      due = tt;
     }
 settled_turn name holding draws query before mid after p q grant outcome (Err (Closed failed_at)) c (verdict, (opened, first)) settles (failure, was, said, stays) = absurd (cc (opened.1, was))
 settled_turn name holding draws query before mid after p q grant outcome (Err DiskFault) c (verdict, (opened, first)) settles (failure, free, shut, pending, second) =
@@ -145,6 +154,7 @@ settled_turn name holding draws query before mid after p q grant outcome (Err Di
       );
       added = both before mid after _ _ first second;
       closes = (failure, opened.0, shut, (outcome, settles, pending));
+      due = tt;
     }
 
 pub settled_small : (grant : Grant) (outcome : Outcome) (kept : Result ℕ AppendFault) → ((grant : Grant) → HasSmallAnswer (outcome_reply grant outcome)) → HasSmallAnswer (settled_reply grant outcome kept)
@@ -163,3 +173,8 @@ pub closes_by : (owner : Owner) (draws : ℕ → ℕ → ℕ) (query : Query) (b
     → Closes owner draws query reply other before.storage.closed after.storage.closed
 closes_by owner draws query before after reply turn other is =
     subst (λ told. Closes owner draws query reply told before.storage.closed after.storage.closed) (sym (same_told before after turn.told other turn.added is)) turn.closes
+
+pub due_by : (owner : Owner) (draws : ℕ → ℕ → ℕ) (query : Query) (before after : Pass) (reply : Replied) (turn : IsTurn owner draws query before reply after) (other : List Told) → after.own ≡ before.own ++ other
+    → IsGrantPending owner (first_of_run before) before.seen query other reply after.storage.closed
+due_by owner draws query before after reply turn other is =
+    subst (λ told. IsGrantPending owner (first_of_run before) before.seen query told reply after.storage.closed) (sym (same_told before after turn.told other turn.added is)) turn.due

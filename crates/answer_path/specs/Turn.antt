@@ -20,7 +20,7 @@ use Rattle.answer_path.specs.Owner.{Owner}
 use Rattle.answer_path.specs.Query.{Query}
 use Rattle.answer_path.specs.Verdict.{money_refusal}
 use Rattle.answer_path.specs.Answered.{Told, IsAsked, granted_record, outcome_reply}
-use Rattle.answer_path.specs.Closing.{StaysOpen, Closes}
+use Rattle.answer_path.specs.Closing.{StaysOpen, Closes, IsGrantPending}
 use Rattle.answer_path.specs.Pass.{Pass, HasAdded, first_of_run}
 
 -- 42 and 52
@@ -77,3 +77,4 @@ pub record IsTurn (owner : Owner) (draws : ℕ → ℕ → ℕ) (query : Query) 
   pub asked : IsAsked owner draws (first_of_run before) query before.seen reply told after.seen
   pub added : HasAdded before after told
   pub closes : Closes owner draws query reply told before.storage.closed after.storage.closed
+  pub due : IsGrantPending owner (first_of_run before) before.seen query told reply after.storage.closed

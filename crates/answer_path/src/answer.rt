@@ -17,7 +17,7 @@ ghost use Rattle.answer_path.specs.Owner.{Owner, IsOwnerOf};
 ghost use Rattle.answer_path.specs.Noise.{scale_numerator, scale_denominator, noise_at};
 ghost use Rattle.answer_path.specs.Verdict.{ask_for, money_refusal};
 ghost use Rattle.answer_path.specs.Answered.{Told, HasSmallAnswer, IsAsked, IsSettledAt, answer_limit, outcome_reply};
-ghost use Rattle.answer_path.specs.Closing.{Closes};
+ghost use Rattle.answer_path.specs.Closing.{Closes, IsGrantPending};
 ghost use Rattle.answer_path.specs.Pass.{first_of_run, ledger_of, records_told};
 ghost use Rattle.answer_path.specs.Judgement.{AreNames};
 ghost use Rattle.answer_path.specs.Reading.{read, IsReading};
@@ -269,6 +269,9 @@ pub fn ask<'d, D: Disk, S: Streams>(
     // What the line did to the owner's book.
     ensures closes { (owner : Owner) → IsOwnerOf pass.old.entry dataset.now owner → (told : List Told) → pass.new.own ≡ pass.old.own ++ told
         → Closes owner (S.given streams.now query.now.owner) (query_of query.now) (replied result) told pass.old.storage.closed pass.new.storage.closed }
+    // Where the append of the reservation failed, what the disk may have is what was granted on the records seen.
+    ensures due { (owner : Owner) → IsOwnerOf pass.old.entry dataset.now owner → (told : List Told) → pass.new.own ≡ pass.old.own ++ told
+        → IsGrantPending owner (first_of_run pass.old) pass.old.seen (query_of query.now) told (replied result) pass.new.storage.closed }
     // No other line added records meanwhile.
     ensures alone { (told : List Told) → pass.new.own ≡ pass.old.own ++ told → pass.new.seen ≡ pass.old.seen ++ records_told told }
     ensures kept { (pass.new.entry ≡ pass.old.entry) × (pass.new.found ≡ pass.old.found) }

@@ -12,7 +12,7 @@ use Rattle.answer_path.specs.Turn.{IsTurn}
 use Rattle.answer_path.specs.Code.{IsJudged, IsTermRefusal, query_of}
 use Rattle.answer_path.proofs.Passes.{alone, nothing}
 use Rattle.answer_path.proofs.Told.{names_in_view, term_refused}
-use Rattle.answer_path.proofs.Turns.{closes_by, of_owner, refused_turn, some_owner}
+use Rattle.answer_path.proofs.Turns.{closes_by, due_by, of_owner, refused_turn, some_owner}
 use Rattle.answer_path.proofs.Answering.{owner_with}
 use Rattle.answer_path.proofs.answer.ask.Goals as goal
 
@@ -41,6 +41,17 @@ returns-in-Err-clause-closes g c = λ owner is other own.
     (of_owner (λ (owner : Owner). IsTurn owner draws query pass (refused refusal) pass) pass dataset
     (λ name. refused_turn (owner_with name pass.entry dataset) draws query pass refusal (c.in-Err.ensures.refused (signature_in dataset.tables dataset.partitions query.view))) owner is) other own
 
+pub returns-in-Err-clause-due : goal.returns-in-Err-clause-due
+returns-in-Err-clause-due g c = λ owner is other own.
+    let pass = c.args.pass.now in
+    let dataset = c.args.dataset.now in
+    let query = query_of c.args.query.now in
+    let draws = g.S.Streams.given c.args.streams.now query.owner in
+    let refusal = refusal_at c.in-Err.refusal in
+    due_by owner draws query pass pass (refused refusal)
+    (of_owner (λ (owner : Owner). IsTurn owner draws query pass (refused refusal) pass) pass dataset
+    (λ name. refused_turn (owner_with name pass.entry dataset) draws query pass refusal (c.in-Err.ensures.refused (signature_in dataset.tables dataset.partitions query.view))) owner is) other own
+
 pub returns-in-Err-clause-alone : goal.returns-in-Err-clause-alone
 returns-in-Err-clause-alone g c = λ other is. alone c.args.pass.now c.args.pass.now [] other (nothing c.args.pass.now) is
 
@@ -62,6 +73,10 @@ returns-in-Ok-judge-clause-step g c = λ owner is. let turn = c.answer_judged.en
 pub returns-in-Ok-judge-clause-closes : goal.returns-in-Ok-judge-clause-closes
 returns-in-Ok-judge-clause-closes g c = λ owner is other own.
     closes_by owner _ _ c.args.pass.now c.answer_judged.new.pass (replied c.answer_judged.result) (c.answer_judged.ensures.turn owner is) other own
+
+pub returns-in-Ok-judge-clause-due : goal.returns-in-Ok-judge-clause-due
+returns-in-Ok-judge-clause-due g c = λ owner is other own.
+    due_by owner _ _ c.args.pass.now c.answer_judged.new.pass (replied c.answer_judged.result) (c.answer_judged.ensures.turn owner is) other own
 
 pub returns-in-Ok-judge-clause-alone : goal.returns-in-Ok-judge-clause-alone
 returns-in-Ok-judge-clause-alone g c = λ other own.
@@ -96,6 +111,19 @@ returns-clause-closes g c = λ owner is other own.
     let why = term_refused (signature_in dataset.tables dataset.partitions query.view) query.program c.in-Ok.term refusal c.in-Ok.ensures.term
     (subst (λ (tables : Signature). IsTermRefusal tables c.in-Ok.term refusal) c.sig.ensures.tables c.in-Err-judge.ensures.refused) in
     closes_by owner draws query pass pass (refused refusal)
+    (of_owner (λ (owner : Owner). IsTurn owner draws query pass (refused refusal) pass) pass dataset
+    (λ name. refused_turn (owner_with name pass.entry dataset) draws query pass refusal why) owner is) other own
+
+pub returns-clause-due : goal.returns-clause-due
+returns-clause-due g c = λ owner is other own.
+    let pass = c.args.pass.now in
+    let dataset = c.args.dataset.now in
+    let query = query_of c.args.query.now in
+    let draws = g.S.Streams.given c.args.streams.now query.owner in
+    let refusal = refusal_at c.in-Err-judge.refusal in
+    let why = term_refused (signature_in dataset.tables dataset.partitions query.view) query.program c.in-Ok.term refusal c.in-Ok.ensures.term
+    (subst (λ (tables : Signature). IsTermRefusal tables c.in-Ok.term refusal) c.sig.ensures.tables c.in-Err-judge.ensures.refused) in
+    due_by owner draws query pass pass (refused refusal)
     (of_owner (λ (owner : Owner). IsTurn owner draws query pass (refused refusal) pass) pass dataset
     (λ name. refused_turn (owner_with name pass.entry dataset) draws query pass refusal why) owner is) other own
 
