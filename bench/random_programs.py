@@ -37,8 +37,8 @@ class Writer:
     At a part of the terms, `slips`, another type than the wanted one is written: with many, one fault comes before others.
     """
 
-    def __init__(self, rng, slips=0.006):
-        self.rng, self.slips = rng, slips
+    def __init__(self, rng, slips=0.006, tables=TABLES):
+        self.rng, self.slips, self.tables = rng, slips, tables
 
     def chance(self, part):
         return self.rng.random() < part
@@ -161,7 +161,7 @@ class Writer:
         return COMPARISON, f"{self.term(t, scope, deep, SUM)} {sign} {self.term(t, scope, deep, SUM)}"
 
     def made_bag(self, t, scope, deep):
-        tables = [table for table in TABLES if table in scope]
+        tables = [table for table in self.tables if table in scope]
         for name, u in tables:
             if u == t and (deep <= 0 or self.chance(0.6)):
                 return ATOM, name
@@ -173,7 +173,7 @@ class Writer:
         if way <= 1:
             u = self.rng.choice([NUM, self.type(1, flat=self.chance(0.95))])
             if deep <= -3:
-                return ATOM, "people"
+                return ATOM, self.tables[0][0]
             return CALL, f"map {self.term(('->', u, t[1]), scope, deep, ATOM)} {self.term(('bag', u), scope, deep, ATOM)}"
         if way == 2:
             return CALL, f"union {self.term(t, scope, deep, ATOM)} {self.term(t, scope, deep, ATOM)}"

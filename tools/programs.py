@@ -670,7 +670,9 @@ def sensitivity_text(r):
 
 
 def deep(call):
-    """Makes a call with room for thousands of parentheses."""
+    """Makes a call with room for thousands of parentheses. A call that was made so has the room for those within it."""
+    if threading.current_thread().name == "deep":
+        return call()
     result = []
 
     def run():
@@ -681,7 +683,7 @@ def deep(call):
 
     sys.setrecursionlimit(200_000)
     threading.stack_size(512 * 2**20)
-    thread = threading.Thread(target=run)
+    thread = threading.Thread(target=run, name="deep")
     thread.start()
     thread.join()
     value, refusal = result[0]

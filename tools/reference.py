@@ -2,6 +2,7 @@
 """What the server must write for a script, worked out apart from it.
 
     reference.py [--key FILE] [--catalog FILE] < SCRIPT          the transcript of a script
+    reference.py --key FILE --catalog FILE --found FOLDER        the same, behind the records of the journals in FOLDER/journals
     reference.py --program [--catalog FILE] [OWNER] < PROGRAM    what is said of a program
     reference.py --check                                         the values that are known from outside
 
@@ -15,9 +16,11 @@ The test values of crates/hitchseason are written by this program. It shares not
   counter and 96 to the nonce: test vectors 1, 2 and 5 of its appendix A.1 hold for both.)
 - The noise is discrete Laplace by the sampler of "The Discrete Gaussian for Differential Privacy" by Canonne, Kamath and
   Steinke, from at most 4096 draws.
-- A program is read and checked by programs.py, and run by runs.py; catalogs are read by catalog.py, and tables by tables.py.
+- A program is read and checked by programs.py, and run by runs.py; catalogs are read by catalog.py, tables by tables.py, and
+  journals by journal.py.
 """
 import argparse
+import hashlib
 import sys
 from fractions import Fraction
 from math import ceil
@@ -25,8 +28,9 @@ from math import ceil
 from cryptography.hazmat.primitives.ciphers import Cipher, algorithms
 
 from catalog import catalog, census, owner, read
+from journal import WHOLE, Book, Reservation, Settlement, books
 from programs import Refused
-from runs import asked, judgement, value
+from runs import Run, asked, judgement, value
 from tables import cells, held, signature
 
 BUDGET = 10_000_000
@@ -133,18 +137,27 @@ def cost_of(charges):
 class Owner:
     """An owner's entry, tables and rows, and what was charged and recorded: of each reservation who made it, and what became of it.
 
-    A view is None for the whole, else a partition's number and a key's."""
+    A view is None for the whole, else a partition's number and a key's. `added` has the records that its journal got in this run."""
 
     def __init__(self, entry, rows):
         self.entry, self.rows, self.tables = entry, rows, signature(entry)
         self.charges, self.records, self.start = {}, 0, 0
-        self.reservations = []
+        self.reservations, self.added = [], []
 
     def goes_on(self, charges, records, reservations):
         """From here on a later run is answered, behind so many records, where each view was charged so much. A reservation is who
         made it, and its standing or None."""
         self.charges, self.records, self.reservations = dict(charges), records, list(reservations)
         self.start = len(self.reservations)
+
+    def found(self, book, analysts):
+        """From here on a run is answered behind the records of a journal (journal.py)."""
+        charges = {}
+        for one in book.reserved:
+            view = None if one.view == WHOLE else one.view
+            charges[view] = charges.get(view, 0) + one.charge()
+        standings = [book.settled[number].standing() if number in book.settled else None for number in range(len(book.reserved))]
+        self.goes_on(charges, len(book.records), [(analysts[one.analyst], said) for one, said in zip(book.reserved, standings)])
 
     @property
     def spent(self):
@@ -206,9 +219,15 @@ def key_words(key):
 
 
 class Server:
-    def __init__(self, house, draws):
-        self.analysts, self.owners, self.draws = house.analysts(), house.owners(), draws
+    """Answers one line after another. FOUND are the owners' journals as they were found; none has a record where none are given.
+
+    A program's run ends with TooManySteps after so many steps, if it is said how many."""
+
+    def __init__(self, house, draws, found=(), steps=None):
+        self.analysts, self.owners, self.draws, self.steps = house.analysts(), house.owners(), draws, steps
         self.who = None
+        for owner, book in zip(self.owners.values(), found):
+            owner.found(book, self.analysts)
 
     def reply(self, line):
         if len(line) > LINE_LIMIT:
@@ -295,33 +314,38 @@ class Server:
         if self.who is None:
             return "no 14"
         try:
-            return self.query(owner, list(self.owners).index(name), view, e, *asked(program, owner.shown(view)[0]))
+            term, sensitivity = asked(program, owner.shown(view)[0])
         except Refused as refusal:
             return f"no {refusal}"
+        return self.query(owner, view, e, program, term, sensitivity)
 
-    def query(self, owner, order, view, e, term, sensitivity):
+    def query(self, owner, view, e, program, term, sensitivity):
         charges, budget, capacity = owner.with_charge(view, ceil(sensitivity * e)), owner.entry["budget"], owner.entry["capacity"]
         spent, after = owner.spent, cost_of(charges)
         if after > budget:
             return f"no 40 {spent} {after} {budget} {owner.records}"
         if owner.records + 2 > capacity:
             return f"no 41 {owner.records} 0 {capacity}"
-        number = len(owner.reservations)
+        number, order = len(owner.reservations), list(self.owners.values()).index(owner)
         owner.charges = charges
         owner.records += 2
+        exact = Run(self.steps).value(term, dict(owner.shown(view)[1]))
         try:
-            answer = value(term, owner.shown(view)[1]) + noise(e, self.draws(order, number))
-            owner.reservations.append((self.who, f"answer {answer}"))
-            return f"answer {number} {answer} {after - spent}"
+            answer = exact + noise(e, self.draws(order, number))
+            settlement, reply = Settlement(number, 1, answer), f"answer {number} {answer} {after - spent}"
         except Exhausted:
-            owner.reservations.append((self.who, "exhausted"))
-            return f"no 50 {number}"
+            settlement, reply = Settlement(number, 2), f"no 50 {number}"
+        fraction, digest = (sensitivity.numerator, sensitivity.denominator), hashlib.sha256(program).digest()
+        reservation = Reservation(number, view or WHOLE, e, *fraction, after - spent, self.analysts.index(self.who), digest)
+        owner.added += [reservation, settlement]
+        owner.reservations.append((self.who, settlement.standing()))
+        return reply
 
 
-def transcript(script, house=with_rows(ROWS), draws=key_words(bytes(32))):
+def transcript(script, house=with_rows(ROWS), draws=key_words(bytes(32)), found=()):
     if len(script) > SCRIPT_LIMIT:
         return "script too long\n"
-    server = Server(house, draws)
+    server = Server(house, draws, found)
     return "".join(server.reply(line) + "\n" for line in lines_of(script))
 
 
@@ -464,6 +488,7 @@ def check():
         ("askpart census area A x 1", "no 13"), ("askpart census area A 1 1", "no 14"),
     ]:
         assert transcript(line.encode() + b"\n", house) == said + "\n", line
+    check_found(hello, one)
     # Programs worked by hand.
     for program, said in KNOWN_PROGRAMS:
         assert judgement(program) == said, (program, judgement(program), said)
@@ -471,6 +496,34 @@ def check():
         found = value(asked(program)[0], {"people": list(rows[0] if rows else ROWS)})
         assert found == exact, (program, found, exact)
     print("all as known")
+
+
+def check_found(hello, one):
+    """Runs that go on, worked by hand: a stop behind a reservation, an answer, and what others may recall of it."""
+    digest, house = hashlib.sha256(b"size people").digest(), with_rows(ROWS)
+    reservation = Reservation(0, WHOLE, 10**6, 1, 1, 10**6, 0, digest)
+    cases = [
+        ([], b"left census\n", "left 1000000 10000000 1"),
+        ([], hello + b"recall census 0\n", "recall 0 lost 1"),
+        ([], hello + one + b"left census\n", "left 2000000 10000000 3"),
+        ([], hello + b"ask census 9.000001 size people\n", "no 40 1000000 10000001 10000000 1"),
+        ([Settlement(0, 1, 5)], hello + b"recall census 0\n", "recall 0 answer 5 2"),
+        ([Settlement(0, 2)], hello + b"recall census 0\n", "recall 0 exhausted 2"),
+        ([Settlement(0, 3)], hello + b"recall census 0\n", "recall 0 lost 2"),
+        ([Settlement(0, 1, 5)], b"hello bob\nrecall census 0\n", "no 61 0 2"),
+        ([Settlement(0, 1, 5)], hello + b"recall census 1\n", "no 60 1 2"),
+    ]
+    for settled, script, said in cases:
+        book = Book(house.catalog["owners"][0], 2)
+        assert all(book.add(record) for record in [reservation, *settled])
+        assert transcript(script, house, found=[book]).splitlines()[-1] == said, (script, said)
+    book = Book(house.catalog["owners"][0], 2)
+    book.add(reservation)
+    assert transcript(hello + one, house, found=[book]).startswith("hello ann\nanswer 1 ")
+    server = Server(house, key_words(bytes(32)))
+    server.who = b"ann"
+    server.reply(one.removesuffix(b"\n"))
+    assert [record.encoded() for record in server.owners[b"census"].added] == [reservation.encoded(), Settlement(0, 1, 5).encoded()]
 
 
 def contents(name):
@@ -482,6 +535,7 @@ def main():
     words = argparse.ArgumentParser()
     words.add_argument("--key")
     words.add_argument("--catalog")
+    words.add_argument("--found")
     words.add_argument("--program", action="store_true")
     words.add_argument("--check", action="store_true")
     words.add_argument("owner", nargs="?", default="census")
@@ -494,7 +548,10 @@ def main():
         print(judgement(sys.stdin.buffer.read(), house.owners()[given.owner.encode()].tables))
         return
     key = contents(given.key) if given.key else bytes(32)
-    sys.stdout.write(transcript(sys.stdin.buffer.read(), house, key_words(key)))
+    found = list(books(given.catalog, given.key, given.found)) if given.found else ()
+    if any(isinstance(book, str) for book in found):
+        sys.exit(next(book for book in found if isinstance(book, str)))
+    sys.stdout.write(transcript(sys.stdin.buffer.read(), house, key_words(key), found))
 
 
 if __name__ == "__main__":

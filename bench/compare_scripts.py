@@ -1,0 +1,229 @@
+#!/usr/bin/env python3
+"""Compares what the program does with whole scripts with what a second server says (tools/reference.py, tools/journal.py).
+
+usage: bench/compare_scripts.py [COUNT [SEED [FIRST]]]     (PROGRAM=FILE compares another build than tools/build's)
+COUNT random houses (1,000 where none is said), from case FIRST (0) of SEED (1) on. Each is a catalog of 1 to 4 owners with their tables, a
+key, and 1 to 3 scripts by good and hostile analysts (random_scripts.py): `init`, then a run a script over the same journals, and `audit`.
+Before the first run a journal may be given records that runs could have left. Between runs one may be left as a stop leaves it, with its
+last record behind no gate, or a settlement be made an exhausted or a lost one. The next run finds them. Compared are, byte by byte:
+
+- what each of these commands writes, the second server going on behind the records that it finds in the journals;
+- each owner's journal after `init` and after each run, whole, with the records that the second server adds.
+
+It ends with status 1 at the first difference, with the case kept in out/compare_scripts, and where one of the replies that should come
+came in fewer than one of fifty cases. 42 and 52 want a disk that fails, and 51 and 90 an allocation: these have benches of their own. 50 wants
+noise of over 4,096 draws, which no random key comes to: an exhausted settlement is laid in journals, and recalled.
+"""
+import os
+import random
+import shutil
+import subprocess
+import sys
+import tempfile
+import traceback
+from collections import Counter
+
+TOP = os.path.dirname(os.path.dirname(os.path.abspath(__file__)))
+PROGRAM = os.path.abspath(os.environ.get("PROGRAM", f"{TOP}/out/hitchseason"))
+KEPT = f"{TOP}/out/compare_scripts"
+sys.path.insert(0, f"{TOP}/tools")
+from journal import GATE, HEAD, SLOT, Settlement, book_of, contents, header  # noqa: E402
+from random_scripts import house_at_random, lay_records, script_of  # noqa: E402
+from programs import deep  # noqa: E402
+from reference import Server, house_of, key_words, lines_of  # noqa: E402
+from runs import TooManySteps  # noqa: E402
+
+STEPS = 100_000
+SHARE = 50
+REPLIES = ("hello", "answer", "recall", "left", "bye", "no")
+KINDS = [b"hello", b"ask", b"askpart", b"recall", b"left", b"bye"]
+WANTED = (
+    ["hello", "answer", "answer of a part", "answer of a part that took 0", "recall answer", "recall exhausted", "recall lost", "left", "bye"]
+    + [f"no 10 {word}" for word in range(6)] + ["no 12 1", "no 12 2", "no 12 3"]
+    + [f"no 30 {kind}" for kind in ("unbound", "mismatch", "notground", "notflat")]
+    + [f"no {code}" for code in (11, 13, 14, 20, 21, 22, 31, 32, 33, 34, 35, 36, 37, 40, 41, 60, 61)]
+    + ["a run that goes on", "a record without its gate", "recall of an earlier run's"]
+)  # fmt: skip
+
+
+class Differs(Exception):
+    pass
+
+
+def kind_of(line, reply):
+    """The kind of a reply, by its words that aren't numbers of this case."""
+    words = reply.split()
+    if words[0] == "no":
+        return " ".join(words[: 3 if words[1] in ("10", "12", "30") else 2])
+    if words[0] == "recall":
+        return f"recall {words[2]}"
+    if words[0] == "answer" and line.startswith(b"askpart "):
+        return "answer of a part that took 0" if words[3] == "0" else "answer of a part"
+    return words[0]
+
+
+def first_difference(found, want):
+    for number, (left, right) in enumerate(zip(found.split(b"\n"), want.split(b"\n"))):
+        if left != right:
+            return f"line {number}: {left[:200]!r}, wanted {right[:200]!r}"
+    return f"{len(found)} bytes, wanted {len(want)}"
+
+
+class Case:
+    """One house with its journals in this folder, and the second server's books of them."""
+
+    def __init__(self, rng, came):
+        self.rng, self.came = rng, came
+        catalog, files = house_at_random(rng)
+        self.key = rng.randbytes(32)
+        for name, data in {"cat.json": catalog, "key": self.key, **files}.items():
+            self.file(name, data)
+        self.house = house_of(catalog, files.__getitem__)
+        self.entries = self.house.catalog["owners"]
+        self.heads = [header(catalog, order, self.key, files.__getitem__) for order in range(len(self.entries))]
+        said = "".join(f"owner {entry['name']} budget {entry['budget']} capacity {entry['capacity']}\n" for entry in self.entries)
+        self.same("init", self.ran("init"), said.encode())
+        self.kept = [head + bytes(SLOT * entry["capacity"]) for head, entry in zip(self.heads, self.entries)]
+        self.same_journals()
+
+    @staticmethod
+    def file(name, data):
+        with open(name, "wb") as file:
+            file.write(data)
+
+    def ran(self, command, script=b""):
+        ran = subprocess.run([PROGRAM, command, "cat.json", "key"], input=script, capture_output=True)
+        if (ran.returncode, ran.stderr) != (0, b""):
+            raise Differs(f"{command} ended with {ran.returncode}, {ran.stdout[:200]!r} and {ran.stderr[:200]!r}")
+        return ran.stdout
+
+    def same(self, what, found, want):
+        if found != want:
+            self.file("found", found)
+            self.file("wanted", want)
+            raise Differs(f"{what}: {first_difference(found, want)}")
+
+    def same_journals(self):
+        for order, kept in enumerate(self.kept):
+            if contents(f"journals/{order}.bud") != kept:
+                self.file(f"wanted{order}.bud", kept)
+                raise Differs(f"journals/{order}.bud isn't wanted{order}.bud")
+
+    def books(self):
+        analysts = len(self.house.catalog["analysts"])
+        return [book_of(kept, head, entry, analysts) for kept, head, entry in zip(self.kept, self.heads, self.entries)]
+
+    def run(self, turn):
+        """Answers a script by both. Nothing is compared where a program takes the second server too long."""
+        books = self.books()
+        script = script_of(self.rng, self.house.catalog, {entry["name"].encode(): len(book.reserved) for entry, book in zip(self.entries, books)})
+        self.file(f"script{turn}", script)
+        shutil.copytree("journals", f"before{turn}/journals")
+        server, lines = Server(self.house, key_words(self.key), books, STEPS), lines_of(script)
+        replies = [server.reply(line) for line in lines]
+        self.same(f"run {turn}", self.ran("run", script), "".join(reply + "\n" for reply in replies).encode())
+        for order, (book, owner) in enumerate(zip(books, server.owners.values())):
+            begin = HEAD + SLOT * len(book.records)
+            added = b"".join(record.encoded() for record in owner.added)
+            self.kept[order] = self.kept[order][:begin] + added + self.kept[order][begin + len(added) :]
+        self.same_journals()
+        self.count(server, lines, replies, turn)
+
+    def count(self, server, lines, replies, turn):
+        for line, reply in zip(lines, replies):
+            words = line.split(b" ", 3)
+            self.came[f"line {words[0].decode()}" if words[0] in KINDS else "line of no kind"] += 1
+            self.came[kind_of(line, reply)] += 1
+            if reply.startswith("recall ") and int(words[2]) < server.owners[words[1]].start:
+                self.came["recall of an earlier run's"] += 1
+        self.came["runs"] += 1
+        self.came["a run that goes on"] += any(owner.start for owner in server.owners.values())
+
+    def lay(self):
+        """Some journals are given records that were there before."""
+        for order, book in enumerate(self.books()):
+            if self.rng.random() < 0.25:
+                lay_records(self.rng, book)
+                laid = b"".join(record.encoded() for record in book.records)
+                self.kept[order] = self.kept[order][:HEAD] + laid + self.kept[order][HEAD + len(laid) :]
+                self.file(f"journals/{order}.bud", self.kept[order])
+                self.came["journals with records that were laid"] += 1
+
+    def stop(self):
+        """Some journals are left as a stop leaves them, and some settlements are others."""
+        for order, book in enumerate(self.books()):
+            kept, records = bytearray(self.kept[order]), len(book.records)
+            settled = [k for k, record in enumerate(book.records) if isinstance(record, Settlement)]
+            for k in settled:
+                if self.rng.random() < 0.25:
+                    kept[HEAD + SLOT * k : HEAD + SLOT * (k + 1)] = Settlement(book.records[k].number, self.rng.choice([2, 3])).encoded()
+            if records and self.rng.random() < 0.3:
+                kept[HEAD + SLOT * (records - 1)] = self.rng.choice([0, 0, GATE ^ 0x80, 0xFF])
+                self.came["a record without its gate"] += 1
+            elif records < self.entries[order]["capacity"] and self.rng.random() < 0.1:
+                kept[HEAD + SLOT * records + 1 : HEAD + SLOT * (records + 1)] = self.rng.randbytes(SLOT - 1)
+            self.kept[order] = bytes(kept)
+            self.file(f"journals/{order}.bud", kept)
+
+    def compared(self):
+        runs = self.rng.choice([1, 2, 2, 3])
+        self.lay()
+        for turn in range(runs):
+            if turn:
+                self.stop()
+            self.run(turn)
+        said = "".join(f"{book.counts()}\n" for book in self.books())
+        self.same("audit", self.ran("audit"), said.encode())
+        self.same_journals()
+
+
+def keep(room, name):
+    os.makedirs(KEPT, exist_ok=True)
+    shutil.rmtree(f"{KEPT}/{name}", ignore_errors=True)
+    shutil.copytree(room, f"{KEPT}/{name}")
+    print(f"kept in {KEPT}/{name}: scriptN was run behind the journals of beforeN. There what is wanted is said by")
+    print(f"  {TOP}/tools/reference.py --catalog cat.json --key key --found beforeN < scriptN")
+
+
+def compare(seed, number, came):
+    """Whether a case's two sides are the same."""
+    with tempfile.TemporaryDirectory(dir="/dev/shm" if os.path.isdir("/dev/shm") else None) as room:
+        os.chdir(room)
+        try:
+            Case(random.Random(f"{seed} {number}"), came).compared()
+            came["cases"] += 1
+        except TooManySteps:
+            came["cut short"] += 1
+        except Exception as fault:
+            print(f"case {number} of seed {seed}: {fault}" if isinstance(fault, Differs) else traceback.format_exc())
+            keep(room, f"{seed}-{number}")
+            return False
+        finally:
+            os.chdir(TOP)
+    return True
+
+
+def told(seed, came):
+    """Prints what came, and says whether all that should come did often enough."""
+    cases = came["cases"]
+    print(f"seed {seed}: {cases} cases and {came['cut short']} that were cut short, {came['runs']} runs: no difference")
+    lines = {name for name in came if name.startswith("line ")}
+    replies = {name for name in came if name.split()[0] in REPLIES}
+    for names in (lines, replies, came.keys() - lines - replies - {"cases", "cut short", "runs"}):
+        print(", ".join(f"{name} {came[name]}" for name in sorted(names)))
+    lacking = [name for name in WANTED if came[name] * SHARE < cases]
+    if lacking:
+        print("too few of: " + ", ".join(lacking))
+    return not lacking
+
+
+def main():
+    if "PROGRAM" not in os.environ:
+        subprocess.run([f"{TOP}/tools/build"], check=True)
+    count, seed, first = (int(word) for word in (sys.argv[1:] + ["1000", "1", "0"][len(sys.argv) - 1 :]))
+    came = Counter()
+    same = deep(lambda: all(compare(seed, number, came) for number in range(first, first + count)))
+    sys.exit(0 if same and told(seed, came) else 1)
+
+
+main()
