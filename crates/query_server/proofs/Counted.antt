@@ -17,7 +17,7 @@ use Rattle.budget_core.specs.Entries.{Entry}
 use Rattle.owner_catalog.specs.Entries.{OwnerEntry}
 use Rattle.catalog_loading.specs.Loaded.{Loading, header_of, owners_in, entry_at}
 use Rattle.session_core.specs.Transcript.{Journals}
-use Rattle.query_server.specs.Shelves.{Shelf, Became, IsOnlySynced, SomeRose, bytes_on}
+use Rattle.query_server.specs.Shelves.{Shelf, Became, IsOnlySynced, SomeRose, StandsStill, bytes_on}
 use Rattle.query_server.specs.Opened.{AreOpened, IsOpened, IsUnopened}
 use Rattle.query_server.specs.Ending.{to_count}
 use Rattle.query_server.specs.Count.{counted_line, counted_text}
@@ -137,11 +137,19 @@ all_left o n old new few still before = record {
     here p shown at (inl less) = before.owned p shown less at
     here p shown at (inr past) = (shown, before.others p past ∙ at, still shown)
 
+-- one disk more whose count stands still
+pub one_still : (o : ℕ) (old mid new : Shelf) → ((p : ℕ) → StandsStill p old mid) → mid o ≡ old o → StandsStill o mid new → LeftDisk o mid new → (p : ℕ) → StandsStill p old new
+one_still o old mid new before same last left p = here (cases_eq p o)
+  where
+    here : (p ≡ o) ⊎ (p ≡ o → ⊥) → StandsStill p old new
+    here (inl is) = subst (λ (q : ℕ). StandsStill q old new) (sym is) (λ earlier later was shows. last earlier later (same ∙ was) shows)
+    here (inr isnt) = λ earlier later was shows. before p earlier later was (sym (left.elsewhere p isnt) ∙ shows)
+
 -- why not all owners were counted
-pub count_stopped : (loading : Loading) (key : List ℕ) (o : ℕ) (old mid : Shelf) (stop : Stop) → o < owners_in loading → mid o ≡ old o
+pub count_stopped : (loading : Loading) (key : List ℕ) (o : ℕ) (old mid new : Shelf) (stop : Stop) → o < owners_in loading → mid o ≡ old o
     → ((p : ℕ) → p < o → (found : List Record) × IsOpened (entry_at loading p) (header_of loading key p) (bytes_on old p) found)
-    → IsBookStop loading key mid o stop → IsOpenStop loading key old stop
-count_stopped loading key o old mid (Journal line) within same before (refusal, unopened, text) = (
+    → ((p : ℕ) → StandsStill p old mid) → LeftDisk o mid new → IsBookStop loading key mid o stop → IsOpenStop loading key old new stop
+count_stopped loading key o old mid new (Journal line) within same before still left (refusal, unopened, text) = (
   o,
   refusal,
   record {
@@ -151,11 +159,12 @@ count_stopped loading key o old mid (Journal line) within same before (refusal, 
   },
   text,
 )
-count_stopped loading key o old mid (Disk line) within same before text = (o, within, text)
-count_stopped loading key o old mid Usage within same before is = absurd is
-count_stopped loading key o old mid (Refused name) within same before is = absurd is
-count_stopped loading key o old mid Fault within same before is = absurd is
-count_stopped loading key o old mid NoMemory within same before is = tt
+count_stopped loading key o old mid new (Disk line) within same before still left text =
+    (o, within, text, λ p isnt earlier later was shows. still p earlier later was (sym (left.elsewhere p isnt) ∙ shows))
+count_stopped loading key o old mid new Usage within same before still left is = absurd is
+count_stopped loading key o old mid new (Refused name) within same before still left is = absurd is
+count_stopped loading key o old mid new Fault within same before still left is = absurd is
+count_stopped loading key o old mid new NoMemory within same before still left is = tt
 
 -- counts that rose at last have risen since before
 risen : (a b c : ℕ) → a ≤ b → b ≤ c → HasRisen b c → HasRisen a c
@@ -189,12 +198,12 @@ opened_as entry one header mid old o found same at opened =
 -- what counting comes to ends an `audit`
 pub count_end : (loading : Loading) (key : List ℕ) (old new : Shelf) (result : Result (Vec ℕ Global) Stop) (script : List ℕ)
     → IfOk result (λ lines. (found : Journals) × AreOpened loading key old found × (lines.items ≡ counted_text loading found))
-    → Became (owners_in loading) (λ _. IsOnlySynced) old new → IfErr result (IsOpenStop loading key old)
+    → Became (owners_in loading) (λ _. IsOnlySynced) old new → IfErr result (IsOpenStop loading key old new)
     → IsEndOf (to_count loading key) old new script (end_by Listed result)
 count_end loading key old new (Ok lines) script (found, opened, text) disks stop = inl (inr (found, opened, refl, text, disks))
 count_end loading key old new (Err (Journal line)) script counted disks (o, refusal, at, text) =
     inl (inl (record { o = o; refusal = refusal; at = at; is_status = refl; is_text = text; disks = disks }))
-count_end loading key old new (Err (Disk line)) script counted disks (o, within, text) = inr (inr (inr (line, refl, (o, within, text))), disks)
+count_end loading key old new (Err (Disk line)) script counted disks named = inr (inr (inr (line, refl, named)), disks)
 count_end loading key old new (Err NoMemory) script counted disks stop = inr (inr (inl refl), disks)
 count_end loading key old new (Err Usage) script counted disks stop = absurd stop
 count_end loading key old new (Err (Refused name)) script counted disks stop = absurd stop

@@ -21,15 +21,15 @@ use Rattle.query_server.proofs.Endings.{check_cases, gap_cases}
 use Rattle.query_server.proofs.Outcomes.{IsStatusOf, due_status}
 
 -- an ending that names no disk
-no_line : (ending : Ending) (line : Vec ℕ Global) → ((text : List ℕ) → IsDiskLine ending text → ⊥) → IsCut ending (Stopped (Disk line)) → ⊥
-no_line ending line none (inl is) = cc
-no_line ending line none (inr (inl is)) = cc
-no_line ending line none (inr (inr (other, is, names))) = none other.items names
+no_line : (ending : Ending) (b a : Shelf) (line : Vec ℕ Global) → ((text : List ℕ) → IsDiskLine ending b a text → ⊥) → IsCut ending b a (Stopped (Disk line)) → ⊥
+no_line ending b a line none (inl is) = cc
+no_line ending b a line none (inr (inl is)) = cc
+no_line ending b a line none (inr (inr (other, is, names))) = none other.items names
 
-no_disk : (ending : Ending) (b a : Shelf) (script : List ℕ) (line : Vec ℕ Global) → (IsStatusOf ending code.DiskFault → ⊥) → ((text : List ℕ) → IsDiskLine ending text → ⊥)
+no_disk : (ending : Ending) (b a : Shelf) (script : List ℕ) (line : Vec ℕ Global) → (IsStatusOf ending code.DiskFault → ⊥) → ((text : List ℕ) → IsDiskLine ending b a text → ⊥)
     → IsEndOf ending b a script (Stopped (Disk line)) → ⊥
 no_disk ending b a script line status none (inl due) = status (due_status ending b a script code.DiskFault line.items due)
-no_disk ending b a script line status none (inr (cut, may)) = no_line ending line none cut
+no_disk ending b a script line status none (inr (cut, may)) = no_line ending b a line none cut
 
 refused_status : (name : List ℕ) → IsStatusOf (refused name) code.DiskFault → ⊥
 refused_status name is = let wrong : code.DiskFault ≡ code.Refused = is in cc

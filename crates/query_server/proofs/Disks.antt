@@ -1,11 +1,9 @@
 -- what may become of the owners' disks
-use Rattle.std.proofs.Common.{ℕ, ◌≤◌, List, refl, arith}
+use Rattle.std.proofs.Common.{◌≡◌, ℕ, ◌≤◌, Some, refl, sym, ◌∙◌, ap, subst, arith}
 use mathlib.Core.Logic.{inl}
 use Rattle.outside_disks.specs.Disks.{Shown}
-use Rattle.catalog_loading.specs.Loaded.{Loading}
 use Rattle.query_server.specs.Ending.{Ending, usage, refused, to_answer, to_make, to_count, to_check, to_compare}
-use Rattle.query_server.specs.Shelves.{Shelf, Became, IsOnlySynced}
-use Rattle.query_server.specs.Make.{AreMadeBefore, MayHaveFailed}
+use Rattle.query_server.specs.Shelves.{Shelf, Became, IsOnlySynced, StandsStill}
 use Rattle.query_server.specs.Due.{MayStop}
 
 pub synced_same : (shown : Shown) → IsOnlySynced shown shown
@@ -15,18 +13,22 @@ synced_same shown = record { synced = inl refl; counts = omega arith }
 pub became_same : (n : ℕ) (shelf : Shelf) → Became n (λ _. IsOnlySynced) shelf shelf
 became_same n shelf = record { owned = λ o before less at. (before, at, synced_same before); others = λ o past. refl }
 
-pub none_made : (loading : Loading) (key : List ℕ) (shelf : Shelf) → AreMadeBefore loading key 0 MayHaveFailed shelf shelf
-none_made loading key shelf = record {
-  made = λ p before less at. absurd (omega (arith, less));
-  here = λ before at. (before, at, (omega arith, inl (synced_same before)));
-  behind = λ p past. refl;
-}
-
 pub may_stop_same : (ending : Ending) (shelf : Shelf) → MayStop ending shelf shelf
 may_stop_same usage shelf = λ n. refl
 may_stop_same (refused name) shelf = λ n. refl
 may_stop_same (to_answer loading key) shelf = became_same _ shelf
-may_stop_same (to_make loading key) shelf = (0, none_made loading key shelf)
+may_stop_same (to_make loading key) shelf = inl (λ n. refl)
 may_stop_same (to_count loading key) shelf = became_same _ shelf
 may_stop_same (to_check tables program) shelf = λ n. refl
 may_stop_same (to_compare tables X Y program) shelf = λ n. refl
+
+-- the count of a disk that is as it was, or of which it is known what it shows
+pub same_still : (o : ℕ) (old new : Shelf) → new o ≡ old o → StandsStill o old new
+same_still o old new same before after was is =
+    let one : after ≡ before = let e : Some after ≡ Some before = sym is ∙ same ∙ was in cc e in
+    ap (λ (s : Shown). s.faults) one
+
+pub shown_still : (o : ℕ) (old new : Shelf) (last : Shown) → new o ≡ Some last → ((before : Shown) → old o ≡ Some before → last.faults ≡ before.faults) → StandsStill o old new
+shown_still o old new last shows counts before after was is =
+    let one : last ≡ after = let e : Some last ≡ Some after = sym shows ∙ is in cc e in
+    subst (λ (s : Shown). s.faults ≡ before.faults) one (counts before was)

@@ -17,9 +17,9 @@ use Rattle.owner_catalog.specs.Catalog.{Catalog, OwnerEntry}
 use Rattle.owner_catalog.specs.Digest.{digest_of}
 use Rattle.session_core.specs.Transcript.{Journals}
 use Rattle.catalog_loading.specs.Loaded.{Loading, header_of, owner_name_at}
-use Rattle.query_server.specs.Shelves.{Shelf, bytes_on, TellBytes, AreAtHome, Became, IsOnlySynced}
+use Rattle.query_server.specs.Shelves.{Shelf, bytes_on, TellBytes, AreAtHome, Became, IsOnlySynced, NoOtherRose}
 use Rattle.query_server.specs.Opened.{IsUnopened, IsRefusedAt, IsRefusalDue}
-use Rattle.query_server.specs.Make.{IsMade, IsExistingDue, MayHaveFailed, made_line}
+use Rattle.query_server.specs.Make.{IsMade, IsExistingDue, MayBeMadeInPart, MayHaveFailed, made_line}
 use Rattle.query_server.specs.Count.{counted_line, counted_text}
 use Rattle.query_server.specs.Due.{IsDiskLine, IsStopLine}
 use Rattle.query_server.specs.Ending.{refused, to_make, to_count}
@@ -268,25 +268,63 @@ written_without_a_fault : (bytes more : List ℕ) → MayHaveFailed (shown bytes
 written_without_a_fault bytes more (count, inl only) = written bytes more only
 written_without_a_fault bytes more (count, inr risen) = let no : 0 < 0 = risen (lit< tt) in omega (arith, no)
 
--- ---- a disk's line is of an owner
+-- ---- what an `init` leaves that was ended: all is as it was, or a disk may have failed that is an owner's
 
-second_disk : IsDiskLine (to_count loading key) (codes "disk b\n")
-second_disk = (1, omega arith, refl)
+-- two owners' disks and a third, which have failed so often
+abbrev counted : (first second third : ℕ) → Shelf
+counted first second third zero = Some (record { trace = None; faults = first })
+counted first second third (suc zero) = Some (record { trace = None; faults = second })
+counted first second third (suc (suc zero)) = Some (record { trace = None; faults = third })
+counted first second third (suc (suc (suc o))) = None
+
+nothing_made : MayBeMadeInPart loading key (counted 0 0 0) (counted 0 0 0)
+nothing_made = inl (λ o. refl)
+
+abbrev failures_shown : Option Shown → ℕ
+failures_shown None = 0
+failures_shown (Some disk) = disk.faults
+
+one_rose : counted 0 0 1 2 ≡ counted 0 0 0 2 → ⊥
+one_rose is = let wrong : 1 ≡ 0 = ap failures_shown is in omega (arith, wrong)
+
+nobodys_disk : MayBeMadeInPart loading key (counted 0 0 0) (counted 0 0 1) → ⊥
+nobodys_disk (inl same) = one_rose (same 2)
+nobodys_disk (inr (o, within, done)) = one_rose (done.behind 2 within)
+
+-- ---- a disk's line is of the owner whose disk failed
+
+second_disk : IsDiskLine (to_count loading key) (counted 0 0 0) (counted 0 1 0) (codes "disk b\n")
+second_disk = (1, omega arith, refl, others)
+  where
+    others : NoOtherRose 1 (counted 0 0 0) (counted 0 1 0)
+    others zero isnt before after was is = cc
+    others (suc zero) isnt before after was is = absurd (isnt refl)
+    others (suc (suc zero)) isnt before after was is = cc
+    others (suc (suc (suc o))) isnt before after was is = cc
+
+-- it was the first one's disk
+first_disk : (o : ℕ) → o < 2 → codes "disk b\n" ≡ disk_text (owner_name_at loading o) → NoOtherRose o (counted 0 0 0) (counted 1 0 0) → ⊥
+first_disk zero lt is others = let wrong : 10 ≡ 101 = ap (λ text. slice_index text 6) is in omega (arith, wrong)
+first_disk (suc zero) lt is others = let wrong : 1 ≡ 0 = others 0 (λ same. omega (arith, same)) (record { trace = None; faults = 0 }) (record { trace = None; faults = 1 }) refl refl in omega (arith, wrong)
+first_disk (suc (suc o)) lt is others = omega (arith, lt)
+
+another_owners_disk : IsDiskLine (to_count loading key) (counted 0 0 0) (counted 1 0 0) (codes "disk b\n") → ⊥
+another_owners_disk (o, lt, is, others) = first_disk o lt is others
 
 other_at : (o : ℕ) → o < 2 → codes "disk c\n" ≡ disk_text (owner_name_at loading o) → ⊥
 other_at zero lt is = let wrong : 10 ≡ 101 = ap (λ text. slice_index text 6) is in omega (arith, wrong)
 other_at (suc zero) lt is = let wrong : 99 ≡ 98 = ap (λ text. slice_index text 5) is in omega (arith, wrong)
 other_at (suc (suc o)) lt is = omega (arith, lt)
 
-other_disk : IsDiskLine (to_count loading key) (codes "disk c\n") → ⊥
-other_disk (o, lt, is) = other_at o lt is
+nobodys_name : (old new : Shelf) → IsDiskLine (to_count loading key) old new (codes "disk c\n") → ⊥
+nobodys_name old new (o, lt, is, others) = other_at o lt is
 
-no_disk_opened : (text : List ℕ) → IsDiskLine (refused key) text → ⊥
-no_disk_opened text line = line
+no_disk_opened : (old new : Shelf) (text : List ℕ) → IsDiskLine (refused key) old new text → ⊥
+no_disk_opened old new text line = line
 
-disk_failed : IsStopLine (to_make loading key) DiskFault (codes "disk census\n")
-disk_failed = inr (refl, (0, omega arith, refl))
+disk_failed : IsStopLine (to_make loading key) (counted 0 0 0) (counted 0 1 0) DiskFault (codes "disk b\n")
+disk_failed = inr (refl, second_disk)
 
-disk_failed_and_done : (text : List ℕ) → IsStopLine (to_make loading key) Done text → ⊥
-disk_failed_and_done text (inl (wrong, is)) = cc
-disk_failed_and_done text (inr (wrong, line)) = cc
+disk_failed_and_done : (old new : Shelf) (text : List ℕ) → IsStopLine (to_make loading key) old new Done text → ⊥
+disk_failed_and_done old new text (inl (wrong, is)) = cc
+disk_failed_and_done old new text (inr (wrong, line)) = cc

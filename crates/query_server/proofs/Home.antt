@@ -82,7 +82,8 @@ answer_back b a script end loading key (inr (cut, disks)) = became_back _ _ b a 
 make_back : (b a : Shelf) (script : List ℕ) (end : End) (loading : Loading) (key : List ℕ) → IsEndOf (to_make loading key) b a script end → AreBack b a
 make_back b a script end loading key (inl (inl (done, text, disks))) = became_back _ _ b a disks
 make_back b a script end loading key (inl (inr there)) = made_back loading key _ _ b a there.disks
-make_back b a script end loading key (inr (cut, (o, made))) = made_back loading key o _ b a made
+make_back b a script end loading key (inr (cut, inl same)) = same_back b a same
+make_back b a script end loading key (inr (cut, inr (o, within, made))) = made_back loading key o _ b a made
 
 count_back : (b a : Shelf) (script : List ℕ) (end : End) (loading : Loading) (key : List ℕ) → IsEndOf (to_count loading key) b a script end → AreBack b a
 count_back b a script end loading key (inl (inl refusal)) = became_back _ _ b a refusal.disks

@@ -1,17 +1,18 @@
 -- Journals made up to one that isn't.
 use Rattle.std.proofs.Common.{◌≡◌, ◌<◌, ◌≤◌, ◌∙◌, ℕ, List, length, Option, Some, None, refl, subst, sym, arith}
+use Rattle.std.proofs.lemmas.Bool.{cases_lt}
 use Rattle.std.specs.Prelude.{◌≢◌, Err, IfErr, IfSome, IsErrAnd, IsSome, Ok, Result, option_map, option_and_then}
-use mathlib.Core.Logic.{inl, inr}
+use mathlib.Core.Logic.{◌⊎◌, inl, inr}
 use Rattle.outside_disks.specs.Disks.{Shown, Trace, seen_of}
 use Rattle.budget_journal.specs.declared.making.InitFault.{InitFault}
 use Rattle.budget_journal.specs.declared.making.InitFault.TheVariants.{AlreadyThere, DiskFault}
 use Rattle.catalog_loading.specs.Loaded.{Loading, header_of, owner_name_at, owners_in}
-use Rattle.query_server.specs.Shelves.{Shelf, Became, IsOnlySynced}
+use Rattle.query_server.specs.Shelves.{Shelf, Became, IsOnlySynced, NoOtherRose, StandsStill}
 use Rattle.query_server.specs.Make.{AreMadeBefore, IsMade, MayHaveFailed}
 use Rattle.query_server.specs.Ending.{to_make}
 use Rattle.query_server.specs.Ends.{IsEndOf}
 use Rattle.query_server.specs.declared.end.End.TheVariants.{Stopped}
-use Rattle.query_server.proofs.Disks.{none_made, synced_same}
+use Rattle.query_server.proofs.Disks.{same_still, synced_same}
 use Rattle.query_server.specs.Making.{IsMakeStop, IsUnmade, IsUnmadeStop, Turned}
 use Rattle.catalog_loading.specs.declared.stops.Stop.{Stop}
 use Rattle.catalog_loading.specs.declared.stops.Stop.TheVariants.{Usage, Refused, Journal, Disk, Fault, NoMemory}
@@ -41,6 +42,20 @@ made_before loading key o Goes old mid new made turn others = record {
   here = λ before is. turned Goes (mid o) (new o) before turn (made.others o (omega arith) ∙ is);
   behind = λ p less. others p (λ same. omega (arith, less, same)) ∙ made.others p (omega (arith, less));
 }
+
+-- no other owner's disk has failed
+no_other_made : (loading : Loading) (key : List ℕ) (o : ℕ) (Goes : Goings) (old new : Shelf) → AreMadeBefore loading key o Goes old new → NoOtherRose o old new
+no_other_made loading key o Goes old new made p isnt = here (cases_lt p o)
+  where
+    here : (p < o) ⊎ (o ≤ p) → StandsStill p old new
+    here (inl less) = λ before after was is.
+        let done = made.made p before less was in
+        let one : done.0 ≡ after = let e : Some done.0 ≡ Some after = sym done.1 ∙ is in cc e in
+        subst (λ (s : Shown). s.faults ≡ before.faults) one done.2.counts
+    here (inr past) = same_still p old new (made.behind p (beyond o p past isnt))
+      where
+        beyond : (o p : ℕ) → o ≤ p → (p ≡ o → ⊥) → o < p
+        beyond o p past isnt = grind (arith, past, isnt)
 
 told_long : (n : ℕ) (trace : Option Trace) → IfSome trace (λ t. length (seen_of t) ≡ n) → IfSome (option_map seen_of trace) (λ bytes. length bytes ≡ n)
 told_long n None long = tt
@@ -90,8 +105,9 @@ making_stopped loading key o old mid new (AlreadyThere n) (Disk line) made turn 
 making_stopped loading key o old mid new DiskFault (Journal line) made turn others within is = absurd is
 making_stopped loading key o old mid new DiskFault (Disk line) made turn others within is =
     (o, within, is, made_before loading key o MayHaveFailed old mid new made turn others)
-making_stopped loading key o old mid new fault NoMemory made turn others within is = (
+making_stopped loading key o old mid new fault NoMemory made turn others within is = inr (
   o,
+  within,
   made_before loading key o MayHaveFailed old mid new made
       (turned_more (IsUnmade fault) MayHaveFailed (mid o) (new o) (failed fault) turn) others,
 )
@@ -100,14 +116,15 @@ making_stopped loading key o old mid new fault NoMemory made turn others within 
 pub none_stopped : {T : Type 0} (loading : Loading) (key : List ℕ) (shelf : Shelf) (stop : Stop) (result : Result T Stop) → stop ≡ NoMemory → IsErrAnd result (λ e. e ≡ stop)
     → IfErr result (IsMakeStop loading key shelf shelf)
 none_stopped loading key shelf stop (Ok x) is same = tt
-none_stopped loading key shelf stop (Err e) is same = subst (IsMakeStop loading key shelf shelf) (sym (same ∙ is)) (0, none_made loading key shelf)
+none_stopped loading key shelf stop (Err e) is same = subst (IsMakeStop loading key shelf shelf) (sym (same ∙ is)) (inl (λ n. refl))
 
 -- what stops the making ends an `init`
 pub make_stop_end : (loading : Loading) (key : List ℕ) (old new : Shelf) (stop : Stop) (script : List ℕ) → IsMakeStop loading key old new stop
     → IsEndOf (to_make loading key) old new script (Stopped stop)
 make_stop_end loading key old new (Journal line) script (o, n, within, some, long, text, made) =
     inl (inr (record { o = o; n = n; known = within; some = some; long = long; is_status = refl; is_text = text; disks = made }))
-make_stop_end loading key old new (Disk line) script (o, within, text, made) = inr (inr (inr (line, refl, (o, within, text))), (o, made))
+make_stop_end loading key old new (Disk line) script (o, within, text, made) =
+    inr (inr (inr (line, refl, (o, within, text, no_other_made loading key o MayHaveFailed old new made))), inr (o, within, made))
 make_stop_end loading key old new NoMemory script made = inr (inr (inl refl), made)
 make_stop_end loading key old new Usage script is = absurd is
 make_stop_end loading key old new (Refused name) script is = absurd is

@@ -36,10 +36,10 @@ use Rattle.query_server.proofs.Disks.{may_stop_same}
 use Rattle.query_server.proofs.Owed.{records_owed}
 
 -- The end's text is written whole or in part: so it is written what is due.
-cut_line : (ending : Ending) (end : End) → IsCut ending end → (end ≡ Stopped Fault) ⊎ IsStopLine ending (status_at end) (text_at end)
-cut_line ending end (inl fault) = inl fault
-cut_line ending end (inr (inl memory)) = inr (inl (ap status_at memory, ap text_at memory))
-cut_line ending end (inr (inr (line, disk, is))) = inr (inr (ap status_at disk, subst (IsDiskLine ending) (sym (ap text_at disk)) is))
+cut_line : (ending : Ending) (b a : Shelf) (end : End) → IsCut ending b a end → (end ≡ Stopped Fault) ⊎ IsStopLine ending b a (status_at end) (text_at end)
+cut_line ending b a end (inl fault) = inl fault
+cut_line ending b a end (inr (inl memory)) = inr (inl (ap status_at memory, ap text_at memory))
+cut_line ending b a end (inr (inr (line, disk, is))) = inr (inr (ap status_at disk, subst (IsDiskLine ending b a) (sym (ap text_at disk)) is))
 
 pub written_by : (end : End) (status : Status) (text : List ℕ) → IsEndingWith end status text → (ending : Ending) (b a : Shelf) (script : List ℕ) → IsEndOf ending b a script end → IsWrittenAt ending b a script status text
 written_by end status text with ending b a script is = here is
@@ -55,13 +55,13 @@ written_by end status text with ending b a script is = here is
     nothing fault may (inr same) =
         inr (same, (code.NoMemory, memory_text, inr (inl (refl, refl), may), prefix_empty text with.prefix.0 (sym (ap text_at fault) ∙ with.prefix.1) memory_text))
 
-    cut : (end ≡ Stopped Fault) ⊎ IsStopLine ending (status_at end) (text_at end) → MayStop ending b a → IsWrittenAt ending b a script status text
+    cut : (end ≡ Stopped Fault) ⊎ IsStopLine ending b a (status_at end) (text_at end) → MayStop ending b a → IsWrittenAt ending b a script status text
     cut (inl fault) may = nothing fault may with.whole
     cut (inr line) may = whole (inr (line, may)) with.whole
 
     here : IsEndOf ending b a script end → IsWrittenAt ending b a script status text
     here (inl due) = whole (inl due) with.whole
-    here (inr (stopped, may)) = cut (cut_line ending end stopped) may
+    here (inr (stopped, may)) = cut (cut_line ending b a end stopped) may
 
 -- at faulty words
 pub usage_written : (end : End) (status : Status) (text : List ℕ) (Risen : Type 0) → (end ≡ Stopped Usage) ⊎ (end ≡ Stopped NoMemory) → IsEndingWith end status text

@@ -13,8 +13,9 @@ use Rattle.budget_ledger.specs.Account.{Account}
 use Rattle.answer_path.specs.Pass.{Pass}
 use Rattle.session_core.specs.Code.{no_pass, pass_at}
 use Rattle.fz_outside.specs.Faults.{HasRisen, last_count}
-use Rattle.query_server.specs.Shelves.{Shelf, Became, IsOnlySynced, SomeRose}
+use Rattle.query_server.specs.Shelves.{Shelf, Became, IsOnlySynced, NoOtherRose, SomeRose, StandsStill}
 use Rattle.query_server.specs.Books.{ArePassesOn, ArePutBack, IsNewBook, IsNewPass, LeftDisk, TookDisk, shown_by}
+use Rattle.query_server.proofs.Disks.{same_still, shown_still}
 use Rattle.query_server.proofs.Places.{earlier}
 
 pub none_opened : (entries : ℕ → Entry) (headers : ℕ → Header) (shelf : Shelf) → ArePassesOn entries headers 0 shelf shelf []
@@ -106,6 +107,21 @@ some_back entries headers n k old mid left new passes within on stays back = rec
         (before, back.others o (omega (arith, past, on.count)) ∙ stays.elsewhere o isnt ∙ on.others o past ∙ at, synced_self before)
 
 -- ---- a disk of which a call failed
+
+-- a pass that was just opened shows its disk's count
+opened_still : (entry : Entry) (header : Header) (before : Shown) (shown : Option Shown) (pass : Pass) → shown ≡ Some before → IsNewPass entry header shown pass → pass.storage.faults ≡ before.faults
+opened_still entry header before shown pass at new =
+    let on = subst (λ (s : Option Shown). IfSome s (λ b. WhereTold (Found header pass.found) b.trace pass.storage.trace × (pass.storage.faults ≡ b.faults))) at new.on in on.1
+
+-- It is the one that wasn't opened: those of the owners before it are put back as they were opened.
+pub no_other_opened : (entries : ℕ → Entry) (headers : ℕ → Header) (k : ℕ) (old mid left new : Shelf) (passes : List Pass) → ArePassesOn entries headers k old mid passes → LeftDisk k mid left
+    → ArePutBack (length passes) passes left new → NoOtherRose k old new
+no_other_opened entries headers k old mid left new passes on stays back o isnt = here (cases_lt o k)
+  where
+    here : (o < k) ⊎ (k ≤ o) → StandsStill o old new
+    here (inl first) = shown_still o old new (shown_by (pass_at passes o)) (back.each o (omega (arith, first, on.count)))
+        (λ before was. opened_still (entries o) (headers o) before (old o) (pass_at passes o) was (on.each o first))
+    here (inr past) = same_still o old new (back.others o (omega (arith, past, on.count)) ∙ stays.elsewhere o isnt ∙ on.others o past)
 
 pub risen_from : (old mid new : ℕ) → old ≤ mid → mid ≤ new → HasRisen mid new → HasRisen old new
 risen_from old mid new first second risen = λ less. here less (cases_lt mid last_count)

@@ -1,6 +1,6 @@
 -- a script that was answered over passes, and what became of the owners' disks
 use Rattle.std.proofs.Common.{◌≡◌, ℕ, ◌<◌, ◌≤◌, List, length, map, slice_get, Option, Some, refl, sym, ◌∙◌, ap, subst, arith}
-use Rattle.std.specs.Prelude.{IfSome, Result, Ok, Err, IsErrAnd, IsErrOf, Vec}
+use Rattle.std.specs.Prelude.{IfSome, Result, Ok, Err, IsErrAnd, Vec}
 use Rattle.std.specs.declared.alloc.Global.{Global}
 use mathlib.Core.Logic.{inl, inr}
 use Rattle.word_streams.specs.Draws.{draws_of}
@@ -152,26 +152,18 @@ module _ (loading : Loading) (key : List ℕ) (lawful : IsLoading loading) where
       no_disk (inr memory) is = memory_no_disk line (sym memory ∙ is)
 
   -- what stopped the opening ends the run
-  open_ends : (old new : Shelf) (script : List ℕ) (stop : Stop) → IsOpenStop loading key old stop → Became (owners_in loading) (λ _. IsOnlySynced) old new → IsEndOf (to_answer loading key) old new script (Stopped stop)
+  open_ends : (old new : Shelf) (script : List ℕ) (stop : Stop) → IsOpenStop loading key old new stop → Became (owners_in loading) (λ _. IsOnlySynced) old new → IsEndOf (to_answer loading key) old new script (Stopped stop)
   open_ends old new script Usage is disks = absurd is
   open_ends old new script (Refused name) is disks = absurd is
   open_ends old new script (Journal line) (o, refusal, at, is) disks = inl (inl (record { o = o; refusal = refusal; at = at; is_status = refl; is_text = is; disks = disks }))
-  open_ends old new script (Disk line) (o, within, is) disks = inr (inr (inr (line, refl, (o, within, is))), disks)
+  open_ends old new script (Disk line) named disks = inr (inr (inr (line, refl, named)), disks)
   open_ends old new script Fault is disks = absurd is
   open_ends old new script NoMemory is disks = inr (inr (inl refl), disks)
 
-  pub open_passed : (old new : Shelf) (script : List ℕ) (stop : Stop) (result : Result RunEnd Stop) → IsOpenStop loading key old stop → Became (owners_in loading) (λ _. IsOnlySynced) old new → IsErrAnd result (λ e. e ≡ stop)
+  pub open_passed : (old new : Shelf) (script : List ℕ) (stop : Stop) (result : Result RunEnd Stop) → IsOpenStop loading key old new stop → Became (owners_in loading) (λ _. IsOnlySynced) old new → IsErrAnd result (λ e. e ≡ stop)
       → IsEndOf (to_answer loading key) old new script (end_by Run result)
   open_passed old new script stop (Ok end) is disks wrong = absurd wrong
   open_passed old new script stop (Err other) is disks same = subst (λ (s : Stop). IsEndOf (to_answer loading key) old new script (Stopped s)) (sym same) (open_ends old new script stop is disks)
-
--- nothing that stops an opening is a fault of the source
-open_no_fault : (loading : Loading) (key : List ℕ) (old : Shelf) (stop : Stop) → IsOpenStop loading key old stop → stop ≡ Fault → ⊥
-open_no_fault loading key old stop is same = subst (IsOpenStop loading key old) same is
-
-pub passed_no_fault : {T : Type 0} (loading : Loading) (key : List ℕ) (old : Shelf) (stop : Stop) (result : Result T Stop) → IsOpenStop loading key old stop → IsErrAnd result (λ e. e ≡ stop) → IsErrOf result Fault → ⊥
-passed_no_fault loading key old stop (Ok x) is wrong fault = absurd wrong
-passed_no_fault loading key old stop (Err other) is same fault = open_no_fault loading key old stop is (sym same ∙ err_same other Fault (Err other) refl fault)
 
 pub passed_disk : {T : Type 0} (stop : Stop) (result : Result T Stop) (line : Vec ℕ Global) → IsErrAnd result (λ e. e ≡ stop) → result ≡ Err (Disk line) → stop ≡ Disk line
 passed_disk stop (Ok x) line wrong is = absurd wrong

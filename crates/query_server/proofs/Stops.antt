@@ -21,7 +21,7 @@ use Rattle.session_core.proofs.Owners.{entry_said, owner_there, owners_length}
 use Rattle.catalog_loading.specs.Files.{Contents}
 use Rattle.catalog_loading.specs.Steps.{FileStep}
 use Rattle.catalog_loading.specs.Loaded.{IsLoading, Loading, header_of, entry_at, owner_name_at, owners_in}
-use Rattle.query_server.specs.Shelves.{Shelf, bytes_on}
+use Rattle.query_server.specs.Shelves.{Shelf, NoOtherRose, bytes_on}
 use Rattle.query_server.specs.Opened.{IsOpened, IsUnopened}
 use Rattle.query_server.specs.Status.{disk_text, journal_text}
 use Rattle.query_server.specs.Books.{ArePassesOn, IsBookFaultStop, IsBookStop, IsDiskStop, IsJournalStop, IsNewBook, IsNewPass, IsOpenStop}
@@ -52,11 +52,11 @@ unopened_as : (entry : Entry) (header : Header) (refusal : JournalRefusal) (mid 
 unopened_as entry header refusal mid old is = subst (λ (s : Option Shown). IsUnopened entry header (bytes_shown s) refusal) is
 
 -- A book that isn't opened, behind others that are, stops the opening.
-pub open_stopped : (loading : Loading) (key : List ℕ) (k : ℕ) (old mid : Shelf) (passes : List Pass) (stop : Stop) → k < owners_in loading → ArePassesOn (entry_at loading) (header_of loading key) k old mid passes
-    → IsBookStop loading key mid k stop → IsOpenStop loading key old stop
-open_stopped loading key k old mid passes Usage within on is = is
-open_stopped loading key k old mid passes (Refused name) within on is = is
-open_stopped loading key k old mid passes (Journal line) within on (refusal, unopened, is) = (
+pub open_stopped : (loading : Loading) (key : List ℕ) (k : ℕ) (old mid new : Shelf) (passes : List Pass) (stop : Stop) → k < owners_in loading → ArePassesOn (entry_at loading) (header_of loading key) k old mid passes
+    → NoOtherRose k old new → IsBookStop loading key mid k stop → IsOpenStop loading key old new stop
+open_stopped loading key k old mid new passes Usage within on others is = is
+open_stopped loading key k old mid new passes (Refused name) within on others is = is
+open_stopped loading key k old mid new passes (Journal line) within on others (refusal, unopened, is) = (
   k,
   refusal,
   record {
@@ -66,9 +66,9 @@ open_stopped loading key k old mid passes (Journal line) within on (refusal, uno
   },
   is,
 )
-open_stopped loading key k old mid passes (Disk line) within on is = (k, within, is)
-open_stopped loading key k old mid passes Fault within on is = is
-open_stopped loading key k old mid passes NoMemory within on is = is
+open_stopped loading key k old mid new passes (Disk line) within on others is = (k, within, is, others)
+open_stopped loading key k old mid new passes Fault within on others is = is
+open_stopped loading key k old mid new passes NoMemory within on others is = is
 
 -- ---- one book
 

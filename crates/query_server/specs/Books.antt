@@ -11,7 +11,7 @@ use Rattle.answer_path.specs.Pass.{Pass}
 use Rattle.session_core.specs.Code.{pass_at}
 use Rattle.catalog_loading.specs.Loaded.{Loading, header_of, entry_at, owner_name_at, owners_in}
 use Rattle.query_server.specs.Shelves.{Shelf, IsOnlySynced, bytes_on}
-use Rattle.query_server.specs.Opened.{IsRefusedAt, IsUnopened}
+use Rattle.query_server.specs.Opened.{IsDiskNamed, IsRefusedAt, IsUnopened}
 use Rattle.query_server.specs.Status.{disk_text, journal_text}
 use Rattle.query_server.specs.declared.refusals.JournalRefusal.{JournalRefusal}
 use Rattle.query_server.specs.declared.refusals.JournalRefusal.TheVariants.{Uninitialised, Changed, Damaged}
@@ -73,14 +73,14 @@ IsBookStop loading key old o Fault = ⊥
 IsBookStop loading key old o NoMemory = ⊤
 
 -- why not all books were opened
-abbrev pub IsOpenStop : Loading → (key : List ℕ) → Shelf → Stop → Type 0
-IsOpenStop loading key old Usage = ⊥
-IsOpenStop loading key old (Refused name) = ⊥
-IsOpenStop loading key old (Journal line) = (o : ℕ) × (refusal : JournalRefusal) × IsRefusedAt loading key old o refusal
+abbrev pub IsOpenStop : Loading → (key : List ℕ) → (old new : Shelf) → Stop → Type 0
+IsOpenStop loading key old new Usage = ⊥
+IsOpenStop loading key old new (Refused name) = ⊥
+IsOpenStop loading key old new (Journal line) = (o : ℕ) × (refusal : JournalRefusal) × IsRefusedAt loading key old o refusal
     × (line.items ≡ journal_text (owner_name_at loading o) refusal)
-IsOpenStop loading key old (Disk line) = (o : ℕ) × (o < owners_in loading) × (line.items ≡ disk_text (owner_name_at loading o))
-IsOpenStop loading key old Fault = ⊥
-IsOpenStop loading key old NoMemory = ⊤
+IsOpenStop loading key old new (Disk line) = IsDiskNamed loading old new line.items
+IsOpenStop loading key old new Fault = ⊥
+IsOpenStop loading key old new NoMemory = ⊤
 
 -- A pass on which nothing was done yet, over a disk that showed this.
 pub record IsNewPass (entry : Entry) (header : Header) (before : Option Shown) (pass : Pass) : Type 0 where

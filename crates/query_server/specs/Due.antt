@@ -7,13 +7,14 @@ use Rattle.catalog_loading.specs.Files.{Contents, ReadsToCome, AreTold}
 use Rattle.catalog_loading.specs.Steps.{FileStep, done}
 use Rattle.outside_bays.specs.Bays.{Same}
 use Rattle.query_server.specs.Shelves.{Shelf, Became, IsOnlySynced}
-use Rattle.catalog_loading.specs.Loaded.{owner_name_at, owners_in}
+use Rattle.catalog_loading.specs.Loaded.{owners_in}
+use Rattle.query_server.specs.Opened.{IsDiskNamed}
 use Rattle.query_server.specs.Run.{run_steps, IsScriptDue}
-use Rattle.query_server.specs.Make.{make_steps, AreMadeBefore, IsMakingDue, MayHaveFailed}
+use Rattle.query_server.specs.Make.{make_steps, IsMakingDue, MayBeMadeInPart}
 use Rattle.query_server.specs.Count.{count_steps, IsCountDue}
 use Rattle.query_server.specs.Check.{check_steps, IsProgramDue}
 use Rattle.query_server.specs.Gap.{gap_steps, IsGapDue}
-use Rattle.query_server.specs.Status.{usage_text, refused_text, disk_text, memory_text}
+use Rattle.query_server.specs.Status.{usage_text, refused_text, memory_text}
 use Rattle.query_server.specs.declared.end.Status.{Status}
 use Rattle.query_server.specs.declared.end.Status.TheVariants.{Usage, Refused, Fault, DiskFault, NoMemory}
 
@@ -44,34 +45,34 @@ IsDue (to_count loading key) old new script status text = IsCountDue loading key
 IsDue (to_check tables program) old new script status text = IsProgramDue tables program status text
 IsDue (to_compare tables X Y program) old new script status text = IsGapDue tables X Y program status text
 
--- What may become of the owners' disks where a failure or want of memory ends the work: nothing is written to any; by an `init`
--- the first owners' journals are made, and the next one's disk may have failed.
+-- What may become of the owners' disks where a failure or want of memory ends the work: nothing is written to any, but that an
+-- `init` may have made the first owners' journals, and that the next one's disk may have failed.
 abbrev pub MayStop : Ending → (old new : Shelf) → Type 0
 MayStop usage old new = Same old new
 MayStop (refused name) old new = Same old new
 MayStop (to_answer loading key) old new = Became (owners_in loading) (λ _. IsOnlySynced) old new
-MayStop (to_make loading key) old new = (o : ℕ) × AreMadeBefore loading key o MayHaveFailed old new
+MayStop (to_make loading key) old new = MayBeMadeInPart loading key old new
 MayStop (to_count loading key) old new = Became (owners_in loading) (λ _. IsOnlySynced) old new
 MayStop (to_check tables program) old new = Same old new
 MayStop (to_compare tables X Y program) old new = Same old new
 
--- this line names an owner whose disk was to be opened or made
-abbrev pub IsDiskLine : Ending → (text : List ℕ) → Type 0
-IsDiskLine usage text = ⊥
-IsDiskLine (refused name) text = ⊥
-IsDiskLine (to_answer loading key) text = (o : ℕ) × (o < owners_in loading) × (text ≡ disk_text (owner_name_at loading o))
-IsDiskLine (to_make loading key) text = (o : ℕ) × (o < owners_in loading) × (text ≡ disk_text (owner_name_at loading o))
-IsDiskLine (to_count loading key) text = (o : ℕ) × (o < owners_in loading) × (text ≡ disk_text (owner_name_at loading o))
-IsDiskLine (to_check tables program) text = ⊥
-IsDiskLine (to_compare tables X Y program) text = ⊥
+-- this line names the owner whose disk was to be opened or made as it failed
+abbrev pub IsDiskLine : Ending → (old new : Shelf) → (text : List ℕ) → Type 0
+IsDiskLine usage old new text = ⊥
+IsDiskLine (refused name) old new text = ⊥
+IsDiskLine (to_answer loading key) old new text = IsDiskNamed loading old new text
+IsDiskLine (to_make loading key) old new text = IsDiskNamed loading old new text
+IsDiskLine (to_count loading key) old new text = IsDiskNamed loading old new text
+IsDiskLine (to_check tables program) old new text = ⊥
+IsDiskLine (to_compare tables X Y program) old new text = ⊥
 
 -- Memory ran out, or a disk failed: the line of that.
-abbrev pub IsStopLine : Ending → (status : Status) → (text : List ℕ) → Type 0
-IsStopLine ending status text = ((status ≡ NoMemory) × (text ≡ memory_text)) ⊎ ((status ≡ DiskFault) × IsDiskLine ending text)
+abbrev pub IsStopLine : Ending → (old new : Shelf) → (status : Status) → (text : List ℕ) → Type 0
+IsStopLine ending old new status text = ((status ≡ NoMemory) × (text ≡ memory_text)) ⊎ ((status ≡ DiskFault) × IsDiskLine ending old new text)
 
 -- What is to be written with a status: what is due, or what ended the work before.
 abbrev pub IsToWrite : Ending → (old new : Shelf) → (script : List ℕ) → (status : Status) → (text : List ℕ) → Type 0
-IsToWrite ending old new script status text = IsDue ending old new script status text ⊎ (IsStopLine ending status text × MayStop ending old new)
+IsToWrite ending old new script status text = IsDue ending old new script status text ⊎ (IsStopLine ending old new status text × MayStop ending old new)
 
 -- something failed, or memory ran out, or else this holds
 abbrev pub IfFinished : Status → Type 0 → Type 0

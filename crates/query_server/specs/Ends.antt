@@ -79,8 +79,9 @@ end_by end_of (Ok end) = end_of end
 end_by end_of (Err stop) = Stopped stop
 
 -- The work was ended before: files, source or an owner's disk failed, or memory ran out.
-abbrev pub IsCut : Ending → End → Type 0
-IsCut ending end = (end ≡ Stopped Fault) ⊎ (end ≡ Stopped NoMemory) ⊎ ((line : Vec ℕ Global) × (end ≡ Stopped (Disk line)) × IsDiskLine ending line.items)
+abbrev pub IsCut : Ending → (old new : Shelf) → End → Type 0
+IsCut ending old new end =
+    (end ≡ Stopped Fault) ⊎ (end ≡ Stopped NoMemory) ⊎ ((line : Vec ℕ Global) × (end ≡ Stopped (Disk line)) × IsDiskLine ending old new line.items)
 
 abbrev pub IsFailing : Stop → Type 0
 IsFailing stop = (stop ≡ Fault) ⊎ (stop ≡ NoMemory)
@@ -88,7 +89,7 @@ IsFailing stop = (stop ≡ Fault) ⊎ (stop ≡ NoMemory)
 -- The end is due, or the work was ended before.
 abbrev pub IsEndOf : Ending → (old new : Shelf) → (script : List ℕ) → End → Type 0
 IsEndOf ending old new script end =
-    IsDue ending old new script (status_at end) (text_at end) ⊎ (IsCut ending end × MayStop ending old new)
+    IsDue ending old new script (status_at end) (text_at end) ⊎ (IsCut ending old new end × MayStop ending old new)
 
 -- a program comes to this end over these tables
 abbrev pub IsVerdictOn : (tables : Signature) → (program : List ℕ) → ProgramEnd → Type 0

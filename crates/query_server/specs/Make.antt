@@ -3,6 +3,7 @@ use Rattle.std.specs.Prelude.{◌≡◌, ◌⊎◌, ℕ, ◌<◌, ◌≤◌, Lis
 use Rattle.std.specs.List.{flat_map}
 use Rattle.fz_outside.specs.Faults.{HasRisen}
 use Rattle.outside_disks.specs.Disks.{Shown, Trace, seen_of}
+use Rattle.outside_bays.specs.Bays.{Same}
 use Rattle.journal_records.specs.declared.records.Header.{Header}
 use Rattle.budget_journal.specs.Journals.{IsAtRest, TellsSome}
 use Rattle.owner_catalog.specs.Entries.{OwnerEntry}
@@ -34,6 +35,11 @@ pub record AreMadeBefore (loading : Loading) (key : List ℕ) (o : ℕ) (Goes : 
   pub made : (p : ℕ) (before : Shown) → p < o → old p ≡ Some before → (after : Shown) × (new p ≡ Some after) × IsMade (header_of loading key p) before after
   pub here : (before : Shown) → old o ≡ Some before → (after : Shown) × (new o ≡ Some after) × Goes before after
   pub behind : (p : ℕ) → o < p → new p ≡ old p
+
+-- What an `init` may leave that was ended by a failure or for want of memory: all disks as they were; or the journals of the owners
+-- before one are made, and its disk was only synced, or failed.
+abbrev pub MayBeMadeInPart : Loading → (key : List ℕ) → (old new : Shelf) → Type 0
+MayBeMadeInPart loading key old new = Same old new ⊎ ((o : ℕ) × (o < owners_in loading) × AreMadeBefore loading key o MayHaveFailed old new)
 
 -- the line of an owner
 abbrev pub made_line : OwnerEntry → List ℕ

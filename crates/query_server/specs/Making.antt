@@ -3,7 +3,7 @@ use Rattle.std.specs.Prelude.{◌≡◌, ◌<◌, ◌≤◌, ℕ, List, length, 
 use Rattle.outside_disks.specs.Disks.{Shown, seen_of}
 use Rattle.catalog_loading.specs.Loaded.{Loading, owner_name_at, owners_in}
 use Rattle.query_server.specs.Shelves.{Shelf, bytes_on, IsOnlySynced}
-use Rattle.query_server.specs.Make.{AreMadeBefore, MayHaveFailed}
+use Rattle.query_server.specs.Make.{AreMadeBefore, MayBeMadeInPart, MayHaveFailed}
 use Rattle.query_server.specs.Books.{IsDiskStop, IsJournalStop}
 use Rattle.query_server.specs.Status.{disk_text, journal_text}
 use Rattle.query_server.specs.declared.refusals.JournalRefusal.TheVariants.{Exists}
@@ -28,7 +28,7 @@ abbrev pub IsUnmadeStop : (owner : List ℕ) → InitFault → Stop → Type 0
 IsUnmadeStop owner (AlreadyThere n) stop = IsJournalStop owner (Exists n) stop
 IsUnmadeStop owner DiskFault stop = IsDiskStop owner stop
 
--- What stops the making of journals: memory ran out before any was made; or an owner's disk isn't empty, or failed.
+-- What stops the making of journals: an owner's disk isn't empty, or failed; or memory ran out.
 abbrev pub IsMakeStop : Loading → (key : List ℕ) → (old new : Shelf) → Stop → Type 0
 IsMakeStop loading key old new (Journal line) = (o : ℕ) × (n : ℕ) × (o < owners_in loading) × (1 ≤ n)
     × IfSome (bytes_on old o) (λ bytes. length bytes ≡ n) × (line.items ≡ journal_text (owner_name_at loading o) (Exists n))
@@ -38,4 +38,4 @@ IsMakeStop loading key old new (Disk line) = (o : ℕ) × (o < owners_in loading
 IsMakeStop loading key old new Usage = ⊥
 IsMakeStop loading key old new (Refused name) = ⊥
 IsMakeStop loading key old new Fault = ⊥
-IsMakeStop loading key old new NoMemory = (o : ℕ) × AreMadeBefore loading key o MayHaveFailed old new
+IsMakeStop loading key old new NoMemory = MayBeMadeInPart loading key old new

@@ -9,8 +9,8 @@ use Rattle.budget_core.specs.Legal.{IsHistory}
 use Rattle.budget_ledger.specs.Opened.{IsBookFault}
 use Rattle.session_core.specs.Transcript.{Journals}
 use Rattle.catalog_loading.specs.Loaded.{Loading, entry_at, header_of, owner_name_at, owners_in}
-use Rattle.query_server.specs.Shelves.{Shelf, Became, IsOnlySynced, bytes_on}
-use Rattle.query_server.specs.Status.{journal_text}
+use Rattle.query_server.specs.Shelves.{Shelf, Became, IsOnlySynced, NoOtherRose, bytes_on}
+use Rattle.query_server.specs.Status.{disk_text, journal_text}
 use Rattle.query_server.specs.declared.end.Status.{Status}
 use Rattle.query_server.specs.declared.end.Status.TheVariants.{JournalRefused}
 use Rattle.query_server.specs.declared.refusals.JournalRefusal.{JournalRefusal}
@@ -48,3 +48,7 @@ pub record IsRefusalDue (loading : Loading) (key : List ℕ) (old new : Shelf) (
   pub is_status : status ≡ JournalRefused
   pub is_text : text ≡ journal_text (owner_name_at loading o) refusal
   pub disks : Became (owners_in loading) (λ _. IsOnlySynced) old new
+
+-- The line names an owner, and its disk failed or the bay did: no other owner's disk has a count that rose.
+abbrev pub IsDiskNamed : Loading → (old new : Shelf) → (text : List ℕ) → Type 0
+IsDiskNamed loading old new text = (o : ℕ) × (o < owners_in loading) × (text ≡ disk_text (owner_name_at loading o)) × NoOtherRose o old new

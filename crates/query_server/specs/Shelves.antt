@@ -33,6 +33,14 @@ pub record IsOnlySynced (before after : Shown) : Type 0 where
   pub synced : MayHaveSynced before.trace after.trace
   pub counts : before.faults ≤ after.faults
 
+-- the count of faults of an owner's disk stands still
+abbrev pub StandsStill : (o : ℕ) → (old new : Shelf) → Type 0
+StandsStill o old new = (before after : Shown) → old o ≡ Some before → new o ≡ Some after → after.faults ≡ before.faults
+
+-- no other owner's disk has a count that rose
+abbrev pub NoOtherRose : (o : ℕ) → (old new : Shelf) → Type 0
+NoOtherRose o old new = (p : ℕ) → (p ≡ o → ⊥) → StandsStill p old new
+
 -- some disk's count of faults rose
 abbrev pub SomeRose : (old new : Shelf) → Type 0
 SomeRose old new = (o : ℕ) × (before : Shown) × (after : Shown) × (old o ≡ Some before) × (new o ≡ Some after) × HasRisen before.faults after.faults

@@ -7,7 +7,7 @@ ghost use Rattle.journal_records.specs.declared.records.Record.{Record};
 ghost use Rattle.owner_catalog.specs.Entries.{owner_entry_at};
 ghost use Rattle.catalog_loading.specs.Loaded.{IsLoading, header_of};
 ghost use Rattle.session_core.specs.Transcript.{Journals};
-ghost use Rattle.query_server.specs.Shelves.{AreAtHome, Became, IsOnlySynced, SomeRose, bytes_on};
+ghost use Rattle.query_server.specs.Shelves.{AreAtHome, Became, IsOnlySynced, SomeRose, StandsStill, bytes_on};
 ghost use Rattle.catalog_loading.specs.Loaded.{entry_at, owners_in};
 ghost use Rattle.query_server.specs.Opened.{AreOpened, IsOpened};
 ghost use Rattle.query_server.specs.Count.{count_steps, counted_line, counted_text};
@@ -67,6 +67,7 @@ fn count_owner<B: Bay>(
         × IsOpened (entry_at (loading_by opened.now.house opened.now.hashes.items) owner) header.now (bytes_on (B.shelf bay.old) owner) found
         × (lines.new.items ≡ lines.old.items ++ counted_line (owner_entry_at opened.now.house.catalog owner) found)) }
     ensures left { LeftDisk owner (B.shelf bay.old) (B.shelf bay.new) }
+    ensures still { OnOk result (StandsStill owner (B.shelf bay.old) (B.shelf bay.new)) }
     ensures stop { IfErr result (IsBookStop (loading_by opened.now.house opened.now.hashes.items) opened.now.key (B.shelf bay.old) owner) }
     ensures owners { B.owners bay.new ≡ B.owners bay.old }
     ensures faults { B.faults bay.old ≤ B.faults bay.new }
@@ -90,7 +91,7 @@ fn count_all<B: Bay>(alloc: Global, bay: &mut B, opened: &Opened) -> Result<Vec<
         × AreOpened (loading_by opened.now.house opened.now.hashes.items) opened.now.key (B.shelf bay.old) found
         × (lines.items ≡ counted_text (loading_by opened.now.house opened.now.hashes.items) found)) }
     ensures disks { Became (owners_in (loading_by opened.now.house opened.now.hashes.items)) (λ _. IsOnlySynced) (B.shelf bay.old) (B.shelf bay.new) }
-    ensures stop { IfErr result (IsOpenStop (loading_by opened.now.house opened.now.hashes.items) opened.now.key (B.shelf bay.old)) }
+    ensures stop { IfErr result (IsOpenStop (loading_by opened.now.house opened.now.hashes.items) opened.now.key (B.shelf bay.old) (B.shelf bay.new)) }
     ensures owners { B.owners bay.new ≡ B.owners bay.old }
     ensures faults { B.faults bay.old ≤ B.faults bay.new }
     ensures disk { (line : Vec ℕ Heap) → result ≡ Err (Stop.Disk line) →
@@ -125,6 +126,8 @@ pub(crate) fn count_records<F: Files, B: Bay>(
     requires home { AreAtHome (B.owners bay.old) (B.shelf bay.old) }
     ensures end { (left : Option (List ℕ)) → ForContents (F.held files.old) left
         (IsStepEnd (F.names files.old) (F.names files.new) (B.shelf bay.old) (B.shelf bay.new) (count_steps catalog.now key.now) (end_by End.Listed result)) }
+    // Where a call of files failed, no disk was touched.
+    ensures unmoved { F.faults files.old < F.faults files.new → bay.new ≡ bay.old }
     ensures same { F.held files.new ≡ F.held files.old }
     ensures owners { B.owners bay.new ≡ B.owners bay.old }
     ensures bay { B.faults bay.old ≤ B.faults bay.new }

@@ -122,7 +122,7 @@ pub fn open_passes<B: Bay>(
     ensures passes { IfOk result (λ passes. ArePassesOn (entry_at (loading_by opened.now.house opened.now.hashes.items))
         (header_of (loading_by opened.now.house opened.now.hashes.items) opened.now.key) (owners_in (loading_by opened.now.house opened.now.hashes.items)) (B.shelf bay.old) (B.shelf bay.new) passes.items) }
     ensures left { OnErr result (Became (owners_in (loading_by opened.now.house opened.now.hashes.items)) (λ _. IsOnlySynced) (B.shelf bay.old) (B.shelf bay.new)) }
-    ensures stop { IfErr result (IsOpenStop (loading_by opened.now.house opened.now.hashes.items) opened.now.key (B.shelf bay.old)) }
+    ensures stop { IfErr result (IsOpenStop (loading_by opened.now.house opened.now.hashes.items) opened.now.key (B.shelf bay.old) (B.shelf bay.new)) }
     ensures owners { B.owners bay.new ≡ B.owners bay.old }
     ensures faults { B.faults bay.old ≤ B.faults bay.new }
     ensures cause { (line : Vec ℕ Heap) → result ≡ Err (Stop.Disk line) →

@@ -142,6 +142,8 @@ pub(crate) fn make_journals<F: Files, B: Bay>(
     requires home { AreAtHome (B.owners bay.old) (B.shelf bay.old) }
     ensures end { (left : Option (List ℕ)) → ForContents (F.held files.old) left
         (IsStepEnd (F.names files.old) (F.names files.new) (B.shelf bay.old) (B.shelf bay.new) (make_steps catalog.now key.now) (end_by End.Listed result)) }
+    // Where a call of files failed, no disk was touched.
+    ensures unmoved { F.faults files.old < F.faults files.new → bay.new ≡ bay.old }
     ensures same { F.held files.new ≡ F.held files.old }
     ensures owners { B.owners bay.new ≡ B.owners bay.old }
     ensures bay { B.faults bay.old ≤ B.faults bay.new }

@@ -130,8 +130,9 @@ pub(crate) fn run_script<F: Files, B: Bay, S: Source>(
     ensures end { ForContents (F.held files.old) (S.left source.old)
         (IsStepEnd (F.names files.old) (F.names files.new) (B.shelf bay.old) (B.shelf bay.new) (run_steps catalog.now key.now) (end_by End.Run result)) }
     ensures taken { IsTaken (S.left source.old) (S.left source.new) (status_at (end_by End.Run result)) }
-    // Where a call of files failed, nothing was taken of the source.
+    // Where a call of files failed, nothing was taken of the source, and no disk was touched.
     ensures unread { F.faults files.old < F.faults files.new → source.new ≡ source.old }
+    ensures unmoved { F.faults files.old < F.faults files.new → bay.new ≡ bay.old }
     ensures same { F.held files.new ≡ F.held files.old }
     ensures files { F.faults files.old ≤ F.faults files.new }
     ensures owners { B.owners bay.new ≡ B.owners bay.old }

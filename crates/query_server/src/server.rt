@@ -54,6 +54,7 @@ fn run_command<F: Files, B: Bay, S: Source>(
     ensures unread { IsOfRun (command_of (map string_bytes words.now)) ⊎ (source.new ≡ source.old) }
     ensures untaken { F.faults files.old < F.faults files.new → source.new ≡ source.old }
     ensures still { IsOfDisks (command_of (map string_bytes words.now)) ⊎ (bay.new ≡ bay.old) }
+    ensures unmoved { F.faults files.old < F.faults files.new → bay.new ≡ bay.old }
     ensures same { F.held files.new ≡ F.held files.old }
     ensures files { F.faults files.old ≤ F.faults files.new }
     ensures source { S.faults source.old ≤ S.faults source.new }
@@ -211,10 +212,11 @@ pub fn run_server<F: Files, B: Bay, S: Source, K: Sink>(
     ensures unread { IsOfRun (command_of (map string_bytes words.now)) ⊎ (source.new ≡ source.old) }
     ensures untaken { F.faults files.old < F.faults files.new → source.new ≡ source.old }
     ensures same { F.held files.new ≡ F.held files.old }
-    // Every disk is at home again. A command that takes none leaves the bay as it was.
+    // Every disk is at home again. A command that takes none leaves the bay as it was, and so does one whose files failed.
     ensures back { (o : ℕ) → IsSome (B.shelf bay.old o) → IsSome (B.shelf bay.new o) }
     ensures home { AreAtHome (B.owners bay.new) (B.shelf bay.new) }
     ensures still { IsOfDisks (command_of (map string_bytes words.now)) ⊎ (bay.new ≡ bay.old) }
+    ensures unmoved { F.faults files.old < F.faults files.new → bay.new ≡ bay.old }
     // Where files tell what they hold: no file is read but those that the words name and those that the catalogs of these name.
     ensures named { (held : Contents) → F.held files.old ≡ Some held →
         AreRead result (files_of (map string_bytes words.now) (always held)) (F.names files.old) (F.names files.new) }

@@ -79,15 +79,15 @@ prefix_short text whole (rest, is) short =
     let e : length whole ≡ length (text ++ rest) = ap length is in
     omega (arith, length-append text rest)
 
-stop_short : (status : Status) (text : List ℕ) → IsStopLine (to_answer loading zeros) status text → length text < 64
-stop_short status text (inl (memory, is)) = let e : length text ≡ length memory_text = ap length is in omega (arith, memory_length)
-stop_short status text (inr (disk, (o, few, is))) =
+stop_short : (old new : Shelf) (status : Status) (text : List ℕ) → IsStopLine (to_answer loading zeros) old new status text → length text < 64
+stop_short old new status text (inl (memory, is)) = let e : length text ≡ length memory_text = ap length is in omega (arith, memory_length)
+stop_short old new status text (inr (disk, (o, few, is, others))) =
     let first : o ≡ 0 = omega (arith, few) in
     let e : length text ≡ length (disk_text (owner_name_at loading 0)) = ap length (is ∙ ap (λ (o : ℕ). disk_text (owner_name_at loading o)) first) in omega (arith, disk_length)
 
 to_write_short : (old new : Shelf) (status : Status) (text : List ℕ) → IsJournalMade old → IsToWrite (to_answer loading zeros) old new script status text → length text < 64
 to_write_short old new status text made (inl due) = row_short text (due_is old new status text made due).1
-to_write_short old new status text made (inr (stop, more)) = stop_short status text stop
+to_write_short old new status text made (inr (stop, more)) = stop_short old new status text stop
 
 -- At any status fewer bytes are written than there is room for.
 pub short : (old new : Shelf) (status : Status) (text : List ℕ) → IsJournalMade old → IsWrittenAt (to_answer loading zeros) old new script status text → length text < 64

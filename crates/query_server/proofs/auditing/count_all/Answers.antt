@@ -4,7 +4,8 @@ use Rattle.catalog_loading.specs.Loaded.{header_of, owners_in, entry_at}
 use Rattle.catalog_loading.specs.Given.{loading_by}
 use Rattle.query_server.specs.Shelves.{bytes_on}
 use Rattle.query_server.specs.Opened.{IsOpened}
-use Rattle.query_server.proofs.Counted.{count_stopped, none_counted, one_counted, one_left, opened_as, rose_since}
+use Rattle.query_server.proofs.Disks.{same_still}
+use Rattle.query_server.proofs.Counted.{count_stopped, none_counted, one_counted, one_left, one_still, opened_as, rose_since}
 use Rattle.query_server.proofs.auditing.count_all.Goals as goal
 
 pub loop-owner-init : goal.loop-owner-init
@@ -12,6 +13,7 @@ loop-owner-init g c = record {
   counted = none_counted (λ o. IsOpened (entry_at (loading_by c.args.opened.now.house c.args.opened.now.hashes.items) o)
       (header_of (loading_by c.args.opened.now.house c.args.opened.now.hashes.items) c.args.opened.now.key o) (bytes_on (g.B.Bay.shelf c.args.bay.now) o)) c.args.opened.now.house.catalog.owners c.new-lines.result.items c.new-lines.ensures.items;
   disks = record { owned = λ o before less at. absurd (omega (arith, less)); others = λ o past. refl };
+  still = λ o. same_still o (g.B.Bay.shelf c.args.bay.now) (g.B.Bay.shelf c.args.bay.now) refl;
   owners = refl;
   faults = omega arith;
 }
@@ -25,9 +27,9 @@ pub returns-in-Err-clause-stop : goal.returns-in-Err-clause-stop
 returns-in-Err-clause-stop g c =
     let loading = loading_by c.args.opened.now.house c.args.opened.now.hashes.items in
     let counted = c.loop-owner.invariant.counted in
-    count_stopped loading c.args.opened.now.key c.loop-owner.owner (g.B.Bay.shelf c.args.bay.now) (g.B.Bay.shelf c.loop-owner.bay) c.in-Err.stop
+    count_stopped loading c.args.opened.now.key c.loop-owner.owner (g.B.Bay.shelf c.args.bay.now) (g.B.Bay.shelf c.loop-owner.bay) (g.B.Bay.shelf c.count_owner.new.bay) c.in-Err.stop
     (omega (arith, c.loop-owner-test.true, c.len-owner-end.ensures, c.in_ok-headers.ensures.count)) (c.loop-owner.invariant.disks.others c.loop-owner.owner (omega arith))
-    (λ p less. (counted.0 p, counted.1 p less)) c.in-Err.ensures.stop
+    (λ p less. (counted.0 p, counted.1 p less)) c.loop-owner.invariant.still c.in-Err.ensures.left c.in-Err.ensures.stop
 
 pub returns-in-Err-clause-disk : goal.returns-in-Err-clause-disk
 returns-in-Err-clause-disk g c line is =
@@ -52,6 +54,8 @@ loop-owner-preserved g c =
           (opened_as (entry_at loading o) c.index.result.now (header_of loading c.args.opened.now.key o) (g.B.Bay.shelf c.loop-owner.bay) (g.B.Bay.shelf c.args.bay.now) o found.0
           header (c.loop-owner.invariant.disks.others o (omega arith)) found.1) found.2;
       disks = one_left o (g.B.Bay.shelf c.args.bay.now) (g.B.Bay.shelf c.loop-owner.bay) (g.B.Bay.shelf c.count_owner.new.bay) c.loop-owner.invariant.disks c.in-Ok.ensures.left;
+      still = one_still o (g.B.Bay.shelf c.args.bay.now) (g.B.Bay.shelf c.loop-owner.bay) (g.B.Bay.shelf c.count_owner.new.bay) c.loop-owner.invariant.still
+          (c.loop-owner.invariant.disks.others o (omega arith)) c.in-Ok.ensures.still c.in-Ok.ensures.left;
       owners = c.in-Ok.ensures.owners ∙ c.loop-owner.invariant.owners;
       faults = omega (arith, c.loop-owner.invariant.faults, c.in-Ok.ensures.faults);
     }

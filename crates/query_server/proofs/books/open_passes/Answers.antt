@@ -5,7 +5,7 @@ use Rattle.answer_path.specs.Pass.{Pass}
 use Rattle.catalog_loading.specs.Loaded.{header_of, entry_at, owners_in}
 use Rattle.catalog_loading.specs.Given.{loading_by}
 use Rattle.query_server.specs.Books.{ArePassesOn}
-use Rattle.query_server.proofs.Passes.{one_opened, opened_pass, risen_from, rose_by, rose_still, some_back}
+use Rattle.query_server.proofs.Passes.{no_other_opened, one_opened, opened_pass, risen_from, rose_by, rose_still, some_back}
 use Rattle.query_server.proofs.Stops.{err_same, open_stopped}
 use Rattle.query_server.proofs.books.open_passes.Goals as goal
 
@@ -19,7 +19,8 @@ pub returns-in-Err-clause-stop : goal.returns-in-Err-clause-stop
 returns-in-Err-clause-stop g c =
     let loading = loading_by c.args.opened.now.house c.args.opened.now.hashes.items in
     let within : c.loop-owner.owner < owners_in loading = omega (arith, c.loop-owner-test.true, c.loop-owner.auto.owner-end, c.in_ok-headers.ensures.count) in
-    open_stopped loading c.args.opened.now.key c.loop-owner.owner _ _ c.loop-owner.passes.items c.in-Err.stop within c.loop-owner.invariant.on c.in-Err.ensures.stop
+    open_stopped loading c.args.opened.now.key c.loop-owner.owner _ _ _ c.loop-owner.passes.items c.in-Err.stop within c.loop-owner.invariant.on
+    (no_other_opened _ _ c.loop-owner.owner _ _ _ _ c.loop-owner.passes.items c.loop-owner.invariant.on c.in-Err.ensures.left c.put_back.ensures.back) c.in-Err.ensures.stop
 
 pub loop-owner-preserved : goal.loop-owner-preserved
 loop-owner-preserved g c =
