@@ -11,9 +11,8 @@ use Rattle.fz_ast.specs.TermNodes.{form_of, term_of}
 use Rattle.fz_ast.specs.Types.{Ty}
 use Rattle.fz_ast.specs.declared.term.Arrow.{Arrow}
 use Rattle.fz_ast.specs.declared.term.Arrow.TheVariants.{Fun, Fn}
-use Rattle.fz_ast.specs.declared.term.Binary.{Binary}
 use Rattle.fz_ast.specs.declared.term.Form.{Form}
-use Rattle.fz_ast.specs.declared.term.Form.TheVariants.{Var, Num, Text as Quoted, Unit as One, Unary as Op, Binary as Op2, Times, Ranged as Bounded, Inject, Bang, Let, LetBang, LetPair, If, Case, Lambda}
+use Rattle.fz_ast.specs.declared.term.Form.TheVariants.{Var, Num, Text as Quoted, Unit as One, Unary as Op, Times, Ranged as Bounded, Inject, Bang, Let, LetBang, If, Case, Lambda}
 use Rattle.fz_ast.specs.declared.term.Ranged.{Ranged}
 use Rattle.fz_ast.specs.declared.term.Ranged.TheVariants.{Sum, Clip}
 use Rattle.fz_ast.specs.declared.term.Side.{Side}
@@ -21,11 +20,11 @@ use Rattle.fz_ast.specs.declared.term.Side.TheVariants.{Inl, Inr}
 use Rattle.fz_ast.specs.declared.term.Unary.{Unary}
 use Rattle.metric_law.specs.Means.{MeansIn, Rules, find}
 use Rattle.metric_law.proofs.Unique.{same_value}
-use Rattle.metric_values.specs.Values.{BagV, BangV, Bind, Env, InlV, InrV, NumF, NumV, PairV, TextV, UnitV, Value}
-use Rattle.run_values.specs.Parts.{IsBangValue, IsPair, IsSum, banged_in, first_in, second_in, side_in}
+use Rattle.metric_values.specs.Values.{BagV, BangV, Bind, Env, InlV, InrV, NumF, NumV, TextV, UnitV, Value}
+use Rattle.run_values.specs.Parts.{IsBangValue, IsSum, banged_in, side_in}
 use Rattle.run_values.specs.Views.{IsFunction, function_of, is_fn, is_fun}
-use Rattle.fuzz_eval.specs.Steps.{Can1, Can2, CanRanged, CanTimes, Gives1, Gives2, GivesRanged, GivesTimes, HasValueWithin, injected}
-use Rattle.fuzz_eval.proofs.Steps.{binary_parts, binary_whole, means, rules, unary_parts, unary_whole}
+use Rattle.fuzz_eval.specs.Steps.{Can1, CanRanged, CanTimes, Gives1, GivesRanged, GivesTimes, HasFormWithin, HasValueWithin, injected}
+use Rattle.fuzz_eval.proofs.Steps.{means, rules, unary_parts, unary_whole}
 
 function_here : (t : Term) (ty : ℕ → Ty) (part : ℕ → Term) (s : Span) (o : Arrow) (x : Name) (u : Span) (w a : ℕ) → t ≡ term_of ty part s (Lambda o x u w a) → IsFunction t
 function_here t ty part s Fun x u w a e = subst IsFunction (sym e) is_fun
@@ -41,6 +40,13 @@ module _ (n : ℕ) (γ : Env) (t : Term) (ty : ℕ → Ty) (part : ℕ → Term)
 
   done : (g : Form) → f ≡ g → (v : Value) → Rules (MeansIn (n - 1)) γ (form_of ty part g) v → MeansIn n γ t v
   done g h v r = means n γ t ty part s f g e h k v r
+
+  -- the form has a value, which is the node's
+  pub form_has : (g : Form) → f ≡ g → HasFormWithin (n - 1) γ (form_of ty part g)
+  form_has g h = record { value = k.value; does = said g h }
+
+  pub form_means : (g : Form) → f ≡ g → (v : Value) → Rules (MeansIn (n - 1)) γ (form_of ty part g) v → MeansIn n γ t v
+  form_means = done
 
   -- the part a has the value u
   abbrev pub Has : ℕ → Value → Type 0
@@ -71,20 +77,6 @@ module _ (n : ℕ) (γ : Env) (t : Term) (ty : ℕ → Ty) (part : ℕ → Term)
 
   pub unary_means : (o : Unary) (a : ℕ) → f ≡ Op o a → (u : Value) → Has a u → (v : Value) → Gives1 o u v → MeansIn n γ t v
   unary_means o a h u d v g = done (Op o a) h v (unary_whole (MeansIn (n - 1)) γ s o (part a) u v d g)
-
-  pub first_has : (o : Binary) (a b : ℕ) → f ≡ Op2 o a b → HasValueWithin (n - 1) γ (part a)
-  first_has o a b h = let p = binary_parts (MeansIn (n - 1)) γ s o (part a) (part b) k.value (said (Op2 o a b) h) in record { value = p.0; does = p.2 }
-
-  pub second_has : (o : Binary) (a b : ℕ) → f ≡ Op2 o a b → HasValueWithin (n - 1) γ (part b)
-  second_has o a b h = let p = binary_parts (MeansIn (n - 1)) γ s o (part a) (part b) k.value (said (Op2 o a b) h) in record { value = p.1; does = p.3 }
-
-  pub binary_can : (o : Binary) (a b : ℕ) → f ≡ Op2 o a b → (u w : Value) → Has a u → Has b w → Can2 (n - 1) o u w
-  binary_can o a b h u w c d =
-      let p = binary_parts (MeansIn (n - 1)) γ s o (part a) (part b) k.value (said (Op2 o a b) h) in
-      record { value = k.value; gives = subst (λ (u : Value). Gives2 (MeansIn (n - 1)) o u w k.value) (same_value _ _ _ _ _ _ p.2 c) (subst (λ (w : Value). Gives2 (MeansIn (n - 1)) o p.0 w k.value) (same_value _ _ _ _ _ _ p.3 d) p.4) }
-
-  pub binary_means : (o : Binary) (a b : ℕ) → f ≡ Op2 o a b → (u w : Value) → Has a u → Has b w → (v : Value) → Gives2 (MeansIn (n - 1)) o u w v → MeansIn n γ t v
-  binary_means o a b h u w c d v g = done (Op2 o a b) h v (binary_whole (MeansIn (n - 1)) γ s o (part a) (part b) u w v c d g)
 
   pub times_has : (z : ℤ) (a : ℕ) → f ≡ Times z a → HasValueWithin (n - 1) γ (part a)
   times_has z a h = let r = said (Times z a) h in record { value = NumV r.0; does = r.1 }
@@ -145,23 +137,6 @@ module _ (n : ℕ) (γ : Env) (t : Term) (ty : ℕ → Ty) (part : ℕ → Term)
 
   pub let_bang_means : (x : Name) (a b : ℕ) → f ≡ LetBang x a b → (u w : Value) → Has a u → w ≡ banged_in u → (v : Value) → MeansIn (n - 1) (Bind (name_of x) w γ) ((part b)) v → MeansIn n γ t v
   let_bang_means x a b h u w d q v g = done (LetBang x a b) h v (w, subst (λ (u : Value). Has a u) (let_bang_can x a b h u d ∙ ap BangV (sym q)) d, g)
-
-  pub let_pair_has : (x y : Name) (a b : ℕ) → f ≡ LetPair x y a b → HasValueWithin (n - 1) γ (part a)
-  let_pair_has x y a b h = let r = said (LetPair x y a b) h in record { value = PairV r.0 r.1; does = r.2 }
-
-  pub let_pair_can : (x y : Name) (a b : ℕ) → f ≡ LetPair x y a b → (u : Value) → Has a u → IsPair u
-  let_pair_can x y a b h u d = let r = said (LetPair x y a b) h in subst IsPair (same_value _ _ _ _ _ _ r.2 d) refl
-
-  pub let_pair_inside : (x y : Name) (a b : ℕ) → f ≡ LetPair x y a b → (u p q : Value) → Has a u → p ≡ first_in u → q ≡ second_in u → HasValueWithin (n - 1) (Bind (name_of y) q (Bind (name_of x) p γ)) (part b)
-  let_pair_inside x y a b h u p q d i j =
-      let r = said (LetPair x y a b) h in
-      let at_second = subst (λ (q : Value). MeansIn (n - 1) (Bind (name_of y) q (Bind (name_of x) r.0 γ)) ((part b)) k.value) (ap second_in (same_value _ _ _ _ _ _ r.2 d) ∙ sym j) r.3 in
-      record { value = k.value; does = subst (λ (p : Value). MeansIn (n - 1) (Bind (name_of y) q (Bind (name_of x) p γ)) ((part b)) k.value) (ap first_in (same_value _ _ _ _ _ _ r.2 d) ∙ sym i) at_second }
-
-  pub let_pair_means : (x y : Name) (a b : ℕ) → f ≡ LetPair x y a b → (u p q : Value) → Has a u → p ≡ first_in u → q ≡ second_in u → (v : Value) → MeansIn (n - 1) (Bind (name_of y) q (Bind (name_of x) p γ)) ((part b)) v → MeansIn n γ t v
-  let_pair_means x y a b h u p q d i j v g =
-      let r : u ≡ PairV p q = let_pair_can x y a b h u d ∙ ap (λ z. PairV z (second_in u)) (sym i) ∙ ap (λ z. PairV p z) (sym j) in
-      done (LetPair x y a b) h v (p, q, subst (λ (u : Value). Has a u) r d, g)
 
   module _ (c a b : ℕ) (h : f ≡ If c a b) where
     pub if_has : HasValueWithin (n - 1) γ (part c)

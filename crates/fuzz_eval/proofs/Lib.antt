@@ -1,6 +1,7 @@
 pub mod Steps
 pub mod Loops
 pub mod Forms
+pub mod TwoParts
 pub mod Applying
 pub mod Held
 pub mod Examples

@@ -1,7 +1,7 @@
 -- What a term's value is made of, once its parts have theirs: the rules of meaning, by groups of forms.
 use Rattle.std.specs.Int.{int_max, int_min}
 use Rattle.std.specs.Prelude.{List, bytes_eq, int_le, length, map, pos, ℕ, ℤ, ◌*ℤ◌, ◌++◌, ◌+ℤ◌, ◌-ℤ◌, ◌≡◌, ◌⊎◌, ⊤}
-use Rattle.fz_ast.specs.Terms.{Name, Term}
+use Rattle.fz_ast.specs.Terms.{Name, Term, TermForm}
 use Rattle.fz_ast.specs.declared.term.Arrow.{Arrow}
 use Rattle.fz_ast.specs.declared.term.Arrow.TheVariants.{Fun, Fn}
 use Rattle.fz_ast.specs.declared.term.Binary.{Binary}
@@ -12,7 +12,7 @@ use Rattle.fz_ast.specs.declared.term.Side.{Side}
 use Rattle.fz_ast.specs.declared.term.Side.TheVariants.{Inl, Inr}
 use Rattle.fz_ast.specs.declared.term.Unary.{Unary}
 use Rattle.fz_ast.specs.declared.term.Unary.TheVariants.{Fst, Snd, Least, Greatest, Size}
-use Rattle.metric_law.specs.Means.{Applies, Maps, Meaning, MeansIn, Splits}
+use Rattle.metric_law.specs.Means.{Applies, Maps, Meaning, MeansIn, Rules, Splits}
 use Rattle.metric_values.specs.Numbers.{clamp, clip, clipped_sum}
 use Rattle.metric_values.specs.Distances.{same_number}
 use Rattle.run_values.specs.Parts.{IsNum, IsTextValue}
@@ -23,6 +23,11 @@ use Rattle.metric_values.specs.Values.{BagV, Env, Flat, FnV, FunV, InlV, InrV, N
 pub record HasValueWithin (n : ℕ) (γ : Env) (t : Term) : Type 0 where
   pub value : Value
   pub does : MeansIn n γ t value
+
+-- the form has a value by the rules, its parts having theirs by derivations of at most this height
+pub record HasFormWithin (n : ℕ) (γ : Env) (f : TermForm) : Type 0 where
+  pub value : Value
+  pub does : Rules (MeansIn n) γ f value
 
 -- a word with one part, which is u, gives v
 abbrev pub Gives1 : Unary → Value → Value → Type 0

@@ -3,17 +3,17 @@
 
 ghost use Rattle.std.specs.Prelude.{◌≡◌, ◌<◌, IfOk, List, OnOk, length};
 ghost use Rattle.fz_ast.specs.Names.{name_of};
-ghost use Rattle.fz_ast.specs.Terms.{at};
-ghost use Rattle.fz_ast.specs.TermNodes.{term_at};
-ghost use Rattle.metric_law.specs.Means.{Applies, Maps, MeansIn, Splits};
+ghost use Rattle.fz_ast.specs.Terms.{at, EqE, LetPairE};
+ghost use Rattle.fz_ast.specs.TermNodes.{binary, term_at};
+ghost use Rattle.metric_law.specs.Means.{Applies, Maps, MeansIn, Rules, Splits};
 ghost use Rattle.metric_values.specs.Values.{BagV, BangV, Bind, Flat, PairV};
 ghost use Rattle.run_values.specs.Parts.{IsBag, elements};
 ghost use Rattle.fuzz_eval.specs.Loops.{function_inside};
-ghost use Rattle.fuzz_eval.specs.Steps.{Can2, CanApply, CanFilter, CanMap, Gives2, HasValueWithin};
+ghost use Rattle.fuzz_eval.specs.Steps.{Can2, CanApply, CanFilter, CanMap, Gives2, HasFormWithin, HasValueWithin};
 
 use crate::bags::{no_elements, no_elements_twice};
 use crate::nodes::{Body, bind_element, body_of, look};
-use crate::words::{inject, plain, ranged, scale, unary};
+use crate::words::{equal, inject, is_text, plain, ranged, scale, unary};
 use bag_ops::put::put;
 use fz_ast::{Arrow, Binary, Form, Name, NoMemory, Nodes};
 use run_values::{Scope, Value};
@@ -209,34 +209,95 @@ pub fn eval(
     requires has { HasValueWithin left scope.now (term_at nodes.now.value.terms i) }
     ensures { IfOk result (λ v. MeansIn left scope.now (term_at nodes.now.value.terms i) v) }
 {
-    match look(nodes, i).form {
-        Form::Var(name) => scope.find(&name),
-        Form::Num(z) => Ok(Value::num(z)),
-        _ => eval_two(alloc, nodes, scope, i, left),
+    let below = left - 1;
+    match &look(nodes, i).form {
+        Form::Var(name) => scope.find(name),
+        Form::Num(z) => Ok(Value::num(*z)),
+        Form::Binary(form, a, b) => eval_two(alloc, nodes, scope, *form, *a, *b, below),
+        Form::LetPair(x, y, e, b) => eval_pair(alloc, nodes, scope, x, y, *e, *b, below),
+        _ => eval_other(alloc, nodes, scope, i, left),
     }
 }
 
-// The value of a term of two parts, or of any other.
+// What a word or sign of two parts is.
 #[cycle(evaluating)]
 #[inline(never)]
 fn eval_two(
     alloc: Global,
     nodes: &Rc<Nodes>,
     scope: &Scope,
-    i: u32,
+    form: Binary,
+    a: u32,
+    b: u32,
     left: u32,
 ) -> Result<Value, NoMemory>
-    requires known { i < length nodes.now.value.terms }
-    requires has { HasValueWithin left scope.now (term_at nodes.now.value.terms i) }
-    ensures { IfOk result (λ v. MeansIn left scope.now (term_at nodes.now.value.terms i) v) }
+    requires a_known { a < length nodes.now.value.terms }
+    requires b_known { b < length nodes.now.value.terms }
+    requires has { HasFormWithin left scope.now (binary form (term_at nodes.now.value.terms a) (term_at nodes.now.value.terms b)) }
+    ensures { IfOk result (λ v. Rules (MeansIn left) scope.now (binary form (term_at nodes.now.value.terms a) (term_at nodes.now.value.terms b)) v) }
 {
-    let Form::Binary(form, a, b) = look(nodes, i).form else {
-        return eval_other(alloc, nodes, scope, i, left);
-    };
-    let below = left - 1;
-    let u = eval(alloc, nodes, scope, a, below)?;
-    let w = eval(alloc, nodes, scope, b, below)?;
-    combine(alloc, form, u, w, below)
+    match form {
+        Binary::Equal => eval_equal(alloc, nodes, scope, a, b, left),
+        _ => {
+            let u = eval(alloc, nodes, scope, a, left)?;
+            let w = eval(alloc, nodes, scope, b, left)?;
+            combine(alloc, form, u, w, left)
+        }
+    }
+}
+
+// What `a == b` is. A text that is quoted there is compared in its place, and no value is made of it.
+#[cycle(evaluating)]
+#[inline(never)]
+fn eval_equal(
+    alloc: Global,
+    nodes: &Rc<Nodes>,
+    scope: &Scope,
+    a: u32,
+    b: u32,
+    left: u32,
+) -> Result<Value, NoMemory>
+    requires a_known { a < length nodes.now.value.terms }
+    requires b_known { b < length nodes.now.value.terms }
+    requires has { HasFormWithin left scope.now (EqE (term_at nodes.now.value.terms a) (term_at nodes.now.value.terms b)) }
+    ensures { IfOk result (λ v. Rules (MeansIn left) scope.now (EqE (term_at nodes.now.value.terms a) (term_at nodes.now.value.terms b)) v) }
+{
+    if let Form::Text(text) = &look(nodes, b).form {
+        let u = eval(alloc, nodes, scope, a, left)?;
+        return Ok(Value::truth(is_text(&u, text)));
+    }
+    if let Form::Text(text) = &look(nodes, a).form {
+        let w = eval(alloc, nodes, scope, b, left)?;
+        return Ok(Value::truth(is_text(&w, text)));
+    }
+    let u = eval(alloc, nodes, scope, a, left)?;
+    let w = eval(alloc, nodes, scope, b, left)?;
+    Ok(Value::truth(equal(&u, &w)))
+}
+
+// What `let (x, y) = e in b` is.
+#[cycle(evaluating)]
+#[inline(never)]
+fn eval_pair(
+    alloc: Global,
+    nodes: &Rc<Nodes>,
+    scope: &Scope,
+    x: &Name,
+    y: &Name,
+    e: u32,
+    b: u32,
+    left: u32,
+) -> Result<Value, NoMemory>
+    requires e_known { e < length nodes.now.value.terms }
+    requires b_known { b < length nodes.now.value.terms }
+    requires has { HasFormWithin left scope.now (LetPairE (name_of x.now) (name_of y.now) (term_at nodes.now.value.terms e) (term_at nodes.now.value.terms b)) }
+    ensures { IfOk result (λ v. Rules (MeansIn left) scope.now (LetPairE (name_of x.now) (name_of y.now) (term_at nodes.now.value.terms e) (term_at nodes.now.value.terms b)) v) }
+{
+    let u = eval(alloc, nodes, scope, e, left)?;
+    let first = u.first()?;
+    let second = u.second()?;
+    let outer = scope.with(alloc, *x, first)?;
+    eval_under(alloc, nodes, &outer, *y, second, b, left)
 }
 
 // The value of any term.
@@ -264,11 +325,7 @@ fn eval_other(
             let u = eval(alloc, nodes, scope, e, below)?;
             unary(form, &u)
         }
-        Form::Binary(form, a, b) => {
-            let u = eval(alloc, nodes, scope, a, below)?;
-            let w = eval(alloc, nodes, scope, b, below)?;
-            combine(alloc, form, u, w, below)
-        }
+        Form::Binary(form, a, b) => eval_two(alloc, nodes, scope, form, a, b, below),
         Form::Times(k, e) => {
             let u = eval(alloc, nodes, scope, e, below)?;
             Ok(scale(k, &u))
@@ -294,13 +351,7 @@ fn eval_other(
             let inner = u.banged()?;
             eval_under(alloc, nodes, scope, x, inner, b, below)
         }
-        Form::LetPair(x, y, e, b) => {
-            let u = eval(alloc, nodes, scope, e, below)?;
-            let first = u.first()?;
-            let second = u.second()?;
-            let outer = scope.with(alloc, x, first)?;
-            eval_under(alloc, nodes, &outer, y, second, b, below)
-        }
+        Form::LetPair(x, y, e, b) => eval_pair(alloc, nodes, scope, &x, &y, e, b, below),
         Form::If(e, a, b) => {
             let u = eval(alloc, nodes, scope, e, below)?;
             if u.is_left() {

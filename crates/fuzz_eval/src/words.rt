@@ -1,5 +1,6 @@
 //! Words and signs whose parts have values, but for those that give elements to a function.
 ghost use Rattle.std.specs.Prelude.{◌≡◌, bytes_eq, IfOk, IsTrue};
+ghost use Rattle.fz_ast.specs.Names.{text_of};
 ghost use Rattle.metric_law.specs.Means.{MeansIn};
 ghost use Rattle.metric_values.specs.Numbers.{clamp};
 ghost use Rattle.metric_values.specs.Distances.{same_number};
@@ -12,8 +13,8 @@ use crate::bags::{sum, union};
 use crate::numbers::{minus, plus, times};
 use bag_ops::clipped;
 use bag_ops::numbers::count;
-use fz_ast::{Binary, NoMemory, Ranged, Side, Unary};
-use run_values::Value;
+use fz_ast::{Binary, NoMemory, Ranged, Side, Text, Unary};
+use run_values::{Look, Value};
 use std::alloc::Global;
 
 /// What a word with one part gives.
@@ -62,8 +63,8 @@ fn subtract(u: &Value, w: &Value) -> Value
     Value::num(minus(u.number(), w.number()))
 }
 
-// Whether two numbers, or two texts, are the same.
-fn equal(u: &Value, w: &Value) -> bool
+/// Whether two numbers, or two texts, are the same.
+pub fn equal(u: &Value, w: &Value) -> bool
     requires { AreComparable u.now w.now }
     ensures numbers { IsNum u.now → result ≡ same_number (number_in u.now) (number_in w.now) }
     ensures texts { IsTextValue u.now → result ≡ bytes_eq (text_in u.now) (text_in w.now) }
@@ -71,6 +72,17 @@ fn equal(u: &Value, w: &Value) -> bool
     match (u.as_number(), w.as_number()) {
         (Some(y), Some(z)) => y == z,
         _ => u.same_text(w),
+    }
+}
+
+/// Whether a text is the one that is quoted.
+pub fn is_text(u: &Value, quoted: &Text) -> bool
+    requires { IsTextValue u.now }
+    ensures { result ≡ bytes_eq (text_in u.now) (text_of quoted.now) }
+{
+    match u.look() {
+        Look::Text(bytes) => bytes == quoted.as_bytes(),
+        _ => unreachable!(),
     }
 }
 

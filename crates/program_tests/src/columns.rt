@@ -17,7 +17,7 @@ pub(crate) const STAYS: House<'static> = House {
 
 // What a program sees of texts, and which table's sensitivity counts.
 #[rattlefmt::skip]
-pub(crate) const TEXTS: [Row<'static>; 11] = [
+pub(crate) const TEXTS: [Row<'static>; 25] = [
     ("size stays", Whole(1, 4)),
     ("size people + 2 * size stays", Whole(2, 11)),
     ("2 * size people + size stays", Whole(2, 10)),
@@ -29,6 +29,20 @@ pub(crate) const TEXTS: [Row<'static>; 11] = [
     ("size (filter (fn (t : text) => t == \"North\") (map (fn (r : text * num * text) => let (w, q) = r in w) stays))", Whole(1, 2)),
     ("let (a, b) = split (fn (r : text * num * text) => let (w, q) = r in w == \"North\") stays in size a - 2 * size b", Whole(2, -2)),
     ("size (filter (fn (r : text * num * text) => let (w, q) = r in let (n, t) = q in w == t) stays)", Whole(1, 0)),
+    ("size (filter (fn (r : text * num * text) => let (w, q) = r in \"North\" == w) stays)", Whole(1, 2)),
+    ("size (filter (fn (r : text * num * text) => let (w, q) = r in \"Nort\" == w) stays)", Whole(1, 0)),
+    ("size (filter (fn (r : text * num * text) => let (w, q) = r in w == \"Nort\") stays)", Whole(1, 0)),
+    ("size (filter (fn (r : text * num * text) => let (w, q) = r in \"Norths\" == w) stays)", Whole(1, 0)),
+    ("size (filter (fn (r : text * num * text) => let (w, q) = r in w == \"Norths\") stays)", Whole(1, 0)),
+    ("size (filter (fn (r : text * num * text) => let (w, q) = r in \"N\u{f6}rd\" == w) stays)", Whole(1, 1)),
+    ("size (filter (fn (r : text * num * text) => let (w, q) = r in w == \"East E\") stays)", Whole(1, 0)),
+    ("size (filter (fn (r : text * num * text) => let (w, q) = r in w == w) stays)", Whole(1, 4)),
+    ("size (filter (fn (r : text * num * text) => let (w, q) = r in let (n, t) = q in \"\" == t) stays)", Whole(1, 1)),
+    ("size (filter (fn (r : text * num * text) => let (w, q) = r in \"\" == w) stays)", Whole(1, 0)),
+    ("size (filter (fn (r : text * num * text) => let (w, q) = r in let (n, t) = q in n == 3) stays)", Whole(1, 1)),
+    ("size (filter (fn (r : text * num * text) => let (w, q) = r in let (n, t) = q in -2 == n) stays)", Whole(1, 1)),
+    ("if \"\" == \"\" then size stays else 0", Whole(1, 4)),
+    ("if \"North\" == \"Nort\" then size stays else 0", Whole(1, 0)),
 ];
 
 // What a program sees of the numbers beside them, and what the types of rows refuse.

@@ -2,10 +2,13 @@ use Rattle.std.proofs.Common.{rules, ◌≡◌, ◌<◌, ◌+◌, ◌-◌, arith
 use Rattle.std.specs.Prelude.{IfOk, Some}
 use Rattle.fz_ast.specs.Names.{name_of, text_of}
 use Rattle.fz_ast.specs.Parts.{Parts}
-use Rattle.fz_ast.specs.TermNodes.{IsKnown, term_at}
+use Rattle.fz_ast.specs.TermNodes.{IsKnown, binary, term_at, term_of}
+use Rattle.fz_ast.specs.Terms.{EqE, LetPairE}
 use Rattle.fz_ast.specs.TypeNodes.{type_at}
+use Rattle.fz_ast.specs.declared.term.Binary.TheVariants.{Equal}
 use Rattle.fz_ast.specs.declared.term.Form.{Form}
-use Rattle.metric_law.specs.Means.{Applies, Maps, MeansIn, Splits, find}
+use Rattle.fz_ast.specs.declared.term.Form.TheVariants.{Binary as Op2, LetPair}
+use Rattle.metric_law.specs.Means.{Applies, Maps, MeansIn, Rules, Splits, find}
 use Rattle.metric_values.specs.Values.{BagV, BangV, Bind, Env, Flat, NumV, PairV, TextV, Value}
 use Rattle.run_values.specs.Flats.{flats_of}
 use Rattle.run_values.specs.Parts.{elements, rebound}
@@ -15,8 +18,9 @@ use Rattle.fuzz_eval.specs.Steps.{CanRanged, Gives1, Gives2, GivesRanged, GivesT
 use Rattle.fuzz_eval.proofs.Applying.{app_can, app_gives, can_closure, element_gives, element_has, given, on_ok, same_function, filter_bag, filter_can, filter_gives, fn_can, fn_gives, fn_has, fun_gives, fun_has, if_ok, map_bag, map_can, map_gives, plain_here, split_bag, split_can, split_gives}
 use Rattle.fuzz_eval.proofs.Held.{high_held, low_held, num_held, times_held}
 use Rattle.fuzz_eval.proofs.Loops.{divided_all, divided_no, divided_none, divided_yes, kept_all, kept_can, kept_no, kept_none, kept_of, kept_sum, kept_yes, mapped_all, map_closure, map_nothing, mapped_can, mapped_more, mapped_none, filter_closure, split_nothing}
-use Rattle.fuzz_eval.proofs.Forms.{bang_has, bang_means, binary_can, binary_means, case_can, case_has, case_left, case_left_means, case_right, case_right_means, first_has, if_can, if_has, if_left, if_left_means, if_right, if_right_means, inject_has, inject_means, lambda_function, lambda_means, let_bang_can, let_bang_has, let_bang_inside, let_bang_means, let_has, let_inside, let_means, let_pair_can, let_pair_has, let_pair_inside, let_pair_means, num_means, ranged_can, ranged_has, ranged_means, second_has, text_means, times_can, times_has, times_means, unary_can, unary_has, unary_means, unit_means, var_known, var_means}
+use Rattle.fuzz_eval.proofs.Forms.{bang_has, bang_means, case_can, case_has, case_left, case_left_means, case_right, case_right_means, form_has, form_means, if_can, if_has, if_left, if_left_means, if_right, if_right_means, inject_has, inject_means, lambda_function, lambda_means, let_bang_can, let_bang_has, let_bang_inside, let_bang_means, let_has, let_inside, let_means, num_means, ranged_can, ranged_has, ranged_means, text_means, times_can, times_has, times_means, unary_can, unary_has, unary_means, unit_means, var_known, var_means}
 use Rattle.fuzz_eval.proofs.Steps.{above}
+use Rattle.fuzz_eval.proofs.TwoParts.{binary_can, binary_means, can_compare, compared, first_has, form_here, left_compared, left_has, left_text, means_here, pair_can, pair_has, pair_inside, pair_means, right_compared, right_has, right_text, second_has}
 use Rattle.fuzz_eval.proofs.eval.+evaluating.Goals.{filter-then-is_left+in_ok-kept+in_ok-put, filter-else-is_left, split-then-is_left+in_ok-put, split-else-is_left+in_ok-put-2}
 use Rattle.fuzz_eval.proofs.eval.+evaluating.Goals as goal
 
@@ -295,27 +299,6 @@ eval_other-unary-requires t c = unary_can c.args.left c.args.scope.now (term_at 
 pub eval_other-returns-in-Unary : goal.eval_other-returns-in-Unary
 eval_other-returns-in-Unary t c = if_ok c.unary.result (λ v. Gives1 c.in-Unary.form c.in_ok-u-in-Unary.u v) (λ v. MeansIn c.args.left c.args.scope.now ((term_at c.args.nodes.now.value.terms c.args.i)) v) c.unary.ensures (unary_means c.args.left c.args.scope.now (term_at c.args.nodes.now.value.terms c.args.i) (type_at c.args.nodes.now.value.types) (term_at c.args.nodes.now.value.terms) c.look-node.result.now.span c.look-node.result.now.form c.look-node.ensures.form c.requires.has c.in-Unary.form c.in-Unary.e c.in-Unary.is c.in_ok-u-in-Unary.u c.in_ok-u-in-Unary.ensures)
 
-pub eval_other-eval-requires-in-Binary : goal.eval_other-eval-requires-in-Binary
-eval_other-eval-requires-in-Binary t c = (omega (arith, above c.requires.has), ((let q = (subst (λ (f : Form). IsKnown (length c.args.nodes.now.value.types) c.args.i f) c.in-Binary.is c.look-node.ensures.known) in let k = q.0 in omega (arith, k, c.requires.known)), first_has c.args.left c.args.scope.now (term_at c.args.nodes.now.value.terms c.args.i) (type_at c.args.nodes.now.value.types) (term_at c.args.nodes.now.value.terms) c.look-node.result.now.span c.look-node.result.now.form c.look-node.ensures.form c.requires.has c.in-Binary.form c.in-Binary.a c.in-Binary.b c.in-Binary.is))
-
-pub eval_other-eval-requires-in-Binary-2 : goal.eval_other-eval-requires-in-Binary-2
-eval_other-eval-requires-in-Binary-2 t c = (omega (arith, above c.requires.has), ((let q = (subst (λ (f : Form). IsKnown (length c.args.nodes.now.value.types) c.args.i f) c.in-Binary.is c.look-node.ensures.known) in let k = q.1 in omega (arith, k, c.requires.known)), second_has c.args.left c.args.scope.now (term_at c.args.nodes.now.value.terms c.args.i) (type_at c.args.nodes.now.value.types) (term_at c.args.nodes.now.value.terms) c.look-node.result.now.span c.look-node.result.now.form c.look-node.ensures.form c.requires.has c.in-Binary.form c.in-Binary.a c.in-Binary.b c.in-Binary.is))
-
-pub eval_other-returns-in_err-u-in-Binary : goal.eval_other-returns-in_err-u-in-Binary
-eval_other-returns-in_err-u-in-Binary t c = search rules
-
-pub eval_other-returns-in_err-w-in-Binary : goal.eval_other-returns-in_err-w-in-Binary
-eval_other-returns-in_err-w-in-Binary t c = search rules
-
-pub eval_other-same-u : goal.eval_other-same-u
-eval_other-same-u t c = search rules
-
-pub eval_other-combine-requires : goal.eval_other-combine-requires
-eval_other-combine-requires t c = (omega (arith, above c.requires.has), binary_can c.args.left c.args.scope.now (term_at c.args.nodes.now.value.terms c.args.i) (type_at c.args.nodes.now.value.types) (term_at c.args.nodes.now.value.terms) c.look-node.result.now.span c.look-node.result.now.form c.look-node.ensures.form c.requires.has c.in-Binary.form c.in-Binary.a c.in-Binary.b c.in-Binary.is c.in_ok-u-in-Binary.u c.in_ok-w-in-Binary.w c.in_ok-u-in-Binary.ensures c.in_ok-w-in-Binary.ensures)
-
-pub eval_other-returns-in-Binary : goal.eval_other-returns-in-Binary
-eval_other-returns-in-Binary t c = if_ok c.combine.result (λ v. Gives2 (MeansIn (c.args.left - 1)) c.in-Binary.form c.in_ok-u-in-Binary.u c.in_ok-w-in-Binary.w v) (λ v. MeansIn c.args.left c.args.scope.now ((term_at c.args.nodes.now.value.terms c.args.i)) v) c.combine.ensures (binary_means c.args.left c.args.scope.now (term_at c.args.nodes.now.value.terms c.args.i) (type_at c.args.nodes.now.value.types) (term_at c.args.nodes.now.value.terms) c.look-node.result.now.span c.look-node.result.now.form c.look-node.ensures.form c.requires.has c.in-Binary.form c.in-Binary.a c.in-Binary.b c.in-Binary.is c.in_ok-u-in-Binary.u c.in_ok-w-in-Binary.w c.in_ok-u-in-Binary.ensures c.in_ok-w-in-Binary.ensures)
-
 pub eval_other-eval-requires-in-Times : goal.eval_other-eval-requires-in-Times
 eval_other-eval-requires-in-Times t c = (omega (arith, above c.requires.has), ((let q = (subst (λ (f : Form). IsKnown (length c.args.nodes.now.value.types) c.args.i f) c.in-Times.is c.look-node.ensures.known) in let k = q in omega (arith, k, c.requires.known)), times_has c.args.left c.args.scope.now (term_at c.args.nodes.now.value.terms c.args.i) (type_at c.args.nodes.now.value.types) (term_at c.args.nodes.now.value.terms) c.look-node.result.now.span c.look-node.result.now.form c.look-node.ensures.form c.requires.has c.in-Times.k c.in-Times.e c.in-Times.is))
 
@@ -375,39 +358,6 @@ eval_other-eval_under-requires-in-LetBang t c = (omega (arith, above c.requires.
 
 pub eval_other-returns-in-LetBang : goal.eval_other-returns-in-LetBang
 eval_other-returns-in-LetBang t c = if_ok c.eval_under-in-LetBang.result (λ v. MeansIn (c.args.left - 1) (Bind (name_of c.in-LetBang.x) c.in_ok-inner-in-LetBang.inner c.args.scope.now) ((term_at c.args.nodes.now.value.terms c.in-LetBang.b)) v) (λ v. MeansIn c.args.left c.args.scope.now ((term_at c.args.nodes.now.value.terms c.args.i)) v) c.eval_under-in-LetBang.ensures (let_bang_means c.args.left c.args.scope.now (term_at c.args.nodes.now.value.terms c.args.i) (type_at c.args.nodes.now.value.types) (term_at c.args.nodes.now.value.terms) c.look-node.result.now.span c.look-node.result.now.form c.look-node.ensures.form c.requires.has c.in-LetBang.x c.in-LetBang.e c.in-LetBang.b c.in-LetBang.is c.in_ok-u-in-LetBang.u c.in_ok-inner-in-LetBang.inner c.in_ok-u-in-LetBang.ensures c.in_ok-inner-in-LetBang.ensures)
-
-pub eval_other-eval-requires-in-LetPair : goal.eval_other-eval-requires-in-LetPair
-eval_other-eval-requires-in-LetPair t c = (omega (arith, above c.requires.has), ((let q = (subst (λ (f : Form). IsKnown (length c.args.nodes.now.value.types) c.args.i f) c.in-LetPair.is c.look-node.ensures.known) in let k = q.0 in omega (arith, k, c.requires.known)), let_pair_has c.args.left c.args.scope.now (term_at c.args.nodes.now.value.terms c.args.i) (type_at c.args.nodes.now.value.types) (term_at c.args.nodes.now.value.terms) c.look-node.result.now.span c.look-node.result.now.form c.look-node.ensures.form c.requires.has c.in-LetPair.x c.in-LetPair.y c.in-LetPair.e c.in-LetPair.b c.in-LetPair.is))
-
-pub eval_other-returns-in_err-u-in-LetPair : goal.eval_other-returns-in_err-u-in-LetPair
-eval_other-returns-in_err-u-in-LetPair t c = search rules
-
-pub eval_other-returns-in_err-first-in-LetPair : goal.eval_other-returns-in_err-first-in-LetPair
-eval_other-returns-in_err-first-in-LetPair t c = search rules
-
-pub eval_other-returns-in_err-second-in-LetPair : goal.eval_other-returns-in_err-second-in-LetPair
-eval_other-returns-in_err-second-in-LetPair t c = search rules
-
-pub eval_other-returns-in_err-outer-in-LetPair : goal.eval_other-returns-in_err-outer-in-LetPair
-eval_other-returns-in_err-outer-in-LetPair t c = search rules
-
-pub eval_other-first-requires : goal.eval_other-first-requires
-eval_other-first-requires t c = let_pair_can c.args.left c.args.scope.now (term_at c.args.nodes.now.value.terms c.args.i) (type_at c.args.nodes.now.value.types) (term_at c.args.nodes.now.value.terms) c.look-node.result.now.span c.look-node.result.now.form c.look-node.ensures.form c.requires.has c.in-LetPair.x c.in-LetPair.y c.in-LetPair.e c.in-LetPair.b c.in-LetPair.is c.in_ok-u-in-LetPair.u c.in_ok-u-in-LetPair.ensures
-
-pub eval_other-second-requires : goal.eval_other-second-requires
-eval_other-second-requires t c = let_pair_can c.args.left c.args.scope.now (term_at c.args.nodes.now.value.terms c.args.i) (type_at c.args.nodes.now.value.types) (term_at c.args.nodes.now.value.terms) c.look-node.result.now.span c.look-node.result.now.form c.look-node.ensures.form c.requires.has c.in-LetPair.x c.in-LetPair.y c.in-LetPair.e c.in-LetPair.b c.in-LetPair.is c.in_ok-u-in-LetPair.u c.in_ok-u-in-LetPair.ensures
-
-pub eval_other-same-first : goal.eval_other-same-first
-eval_other-same-first t c = search rules
-
-pub eval_other-same-second : goal.eval_other-same-second
-eval_other-same-second t c = search rules
-
-pub eval_other-eval_under-requires-in-LetPair : goal.eval_other-eval_under-requires-in-LetPair
-eval_other-eval_under-requires-in-LetPair t c = (omega (arith, above c.requires.has), ((let q = (subst (λ (f : Form). IsKnown (length c.args.nodes.now.value.types) c.args.i f) c.in-LetPair.is c.look-node.ensures.known) in let k = q.1 in omega (arith, k, c.requires.known)), subst (λ (γ : Env). HasValueWithin (c.args.left - 1) (Bind (name_of c.in-LetPair.y) c.in_ok-second-in-LetPair.second γ) (term_at c.args.nodes.now.value.terms c.in-LetPair.b)) (sym c.in_ok-outer-in-LetPair.ensures) (let_pair_inside c.args.left c.args.scope.now (term_at c.args.nodes.now.value.terms c.args.i) (type_at c.args.nodes.now.value.types) (term_at c.args.nodes.now.value.terms) c.look-node.result.now.span c.look-node.result.now.form c.look-node.ensures.form c.requires.has c.in-LetPair.x c.in-LetPair.y c.in-LetPair.e c.in-LetPair.b c.in-LetPair.is c.in_ok-u-in-LetPair.u c.in_ok-first-in-LetPair.first c.in_ok-second-in-LetPair.second c.in_ok-u-in-LetPair.ensures c.in_ok-first-in-LetPair.ensures c.in_ok-second-in-LetPair.ensures)))
-
-pub eval_other-returns-in-LetPair : goal.eval_other-returns-in-LetPair
-eval_other-returns-in-LetPair t c = if_ok c.eval_under-in-LetPair.result (λ v. MeansIn (c.args.left - 1) (Bind (name_of c.in-LetPair.y) c.in_ok-second-in-LetPair.second c.in_ok-outer-in-LetPair.outer) ((term_at c.args.nodes.now.value.terms c.in-LetPair.b)) v) (λ v. MeansIn c.args.left c.args.scope.now ((term_at c.args.nodes.now.value.terms c.args.i)) v) c.eval_under-in-LetPair.ensures (λ v g. let_pair_means c.args.left c.args.scope.now (term_at c.args.nodes.now.value.terms c.args.i) (type_at c.args.nodes.now.value.types) (term_at c.args.nodes.now.value.terms) c.look-node.result.now.span c.look-node.result.now.form c.look-node.ensures.form c.requires.has c.in-LetPair.x c.in-LetPair.y c.in-LetPair.e c.in-LetPair.b c.in-LetPair.is c.in_ok-u-in-LetPair.u c.in_ok-first-in-LetPair.first c.in_ok-second-in-LetPair.second c.in_ok-u-in-LetPair.ensures c.in_ok-first-in-LetPair.ensures c.in_ok-second-in-LetPair.ensures v (subst (λ (γ : Env). MeansIn (c.args.left - 1) (Bind (name_of c.in-LetPair.y) c.in_ok-second-in-LetPair.second γ) ((term_at c.args.nodes.now.value.terms c.in-LetPair.b)) v) c.in_ok-outer-in-LetPair.ensures g))
 
 pub eval_other-eval-requires-in-If : goal.eval_other-eval-requires-in-If
 eval_other-eval-requires-in-If t c = (omega (arith, above c.requires.has), ((let q = (subst (λ (f : Form). IsKnown (length c.args.nodes.now.value.types) c.args.i f) c.in-If.is c.look-node.ensures.known) in let k = q.0 in omega (arith, k, c.requires.known)), if_has c.args.left c.args.scope.now (term_at c.args.nodes.now.value.terms c.args.i) (type_at c.args.nodes.now.value.types) (term_at c.args.nodes.now.value.terms) c.look-node.result.now.span c.look-node.result.now.form c.look-node.ensures.form c.requires.has c.in-If.e c.in-If.a c.in-If.b c.in-If.is))
@@ -490,57 +440,6 @@ eval_other-returns-in-Ranged t c =
     (subst (λ (lo : ℤ). GivesRanged c.in-Ranged.form lo c.in-Ranged.hi c.in_ok-u-in-Ranged.u v) (low_held (term_at c.args.nodes.now.value.terms c.args.i) (type_at c.args.nodes.now.value.types) (term_at c.args.nodes.now.value.terms) c.look-node.result.now.span c.look-node.result.now.form c.look-node.ensures.form c.look-node.ensures.limits c.in-Ranged.form c.in-Ranged.lo c.in-Ranged.hi c.in-Ranged.e c.in-Ranged.is)
     (subst (λ (hi : ℤ). GivesRanged c.in-Ranged.form (to_z w64 (of_z w64 c.in-Ranged.lo)) hi c.in_ok-u-in-Ranged.u v) (high_held (term_at c.args.nodes.now.value.terms c.args.i) (type_at c.args.nodes.now.value.types) (term_at c.args.nodes.now.value.terms) c.look-node.result.now.span c.look-node.result.now.form c.look-node.ensures.form c.look-node.ensures.limits c.in-Ranged.form c.in-Ranged.lo c.in-Ranged.hi c.in-Ranged.e c.in-Ranged.is) g)))
 
-pub eval-look-requires : goal.eval-look-requires
-eval-look-requires t c = c.requires.known
-
-pub eval-find-requires : goal.eval-find-requires
-eval-find-requires t c = var_known c.args.left c.args.scope.now (term_at c.args.nodes.now.value.terms c.args.i) (type_at c.args.nodes.now.value.types) (term_at c.args.nodes.now.value.terms) c.look.result.now.span c.look.result.now.form c.look.ensures.form c.requires.has c.in-Var.name c.in-Var.is
-
-pub eval-returns-in-Var : goal.eval-returns-in-Var
-eval-returns-in-Var t c = if_ok c.find.result (λ v. find c.args.scope.now (name_of c.in-Var.name) ≡ Some v) (λ v. MeansIn c.args.left c.args.scope.now ((term_at c.args.nodes.now.value.terms c.args.i)) v) c.find.ensures (var_means c.args.left c.args.scope.now (term_at c.args.nodes.now.value.terms c.args.i) (type_at c.args.nodes.now.value.types) (term_at c.args.nodes.now.value.terms) c.look.result.now.span c.look.result.now.form c.look.ensures.form c.requires.has c.in-Var.name c.in-Var.is)
-
-pub eval-returns-in-Num : goal.eval-returns-in-Num
-eval-returns-in-Num t c = num_means c.args.left c.args.scope.now (term_at c.args.nodes.now.value.terms c.args.i) (type_at c.args.nodes.now.value.types) (term_at c.args.nodes.now.value.terms) c.look.result.now.span c.look.result.now.form c.look.ensures.form c.requires.has c.in-Num.z c.in-Num.is c.num.result (c.num.ensures ∙ ap NumV (num_held (term_at c.args.nodes.now.value.terms c.args.i) (type_at c.args.nodes.now.value.types) (term_at c.args.nodes.now.value.terms) c.look.result.now.span c.look.result.now.form c.look.ensures.form c.look.ensures.limits c.in-Num.z c.in-Num.is))
-
-pub eval-eval_two-requires : goal.eval-eval_two-requires
-eval-eval_two-requires t c = (omega arith, (c.requires.known, c.requires.has))
-
-pub eval-returns-in_default : goal.eval-returns-in_default
-eval-returns-in_default t c = c.eval_two.ensures
-
-pub eval_two-look-requires : goal.eval_two-look-requires
-eval_two-look-requires t c = c.requires.known
-
-pub eval_two-eval_other-requires : goal.eval_two-eval_other-requires
-eval_two-eval_other-requires t c = (omega arith, (c.requires.known, c.requires.has))
-
-pub eval_two-returns-in_default : goal.eval_two-returns-in_default
-eval_two-returns-in_default t c = c.eval_other.ensures
-
-pub eval_two-overflow_sub-below : goal.eval_two-overflow_sub-below
-eval_two-overflow_sub-below t c = omega (arith, above c.requires.has)
-
-pub eval_two-eval-requires : goal.eval_two-eval-requires
-eval_two-eval-requires t c = (omega (arith, above c.requires.has), ((let q = (subst (λ (f : Form). IsKnown (length c.args.nodes.now.value.types) c.args.i f) c.in-Binary.is c.look.ensures.known) in let k = q.0 in omega (arith, k, c.requires.known)), first_has c.args.left c.args.scope.now (term_at c.args.nodes.now.value.terms c.args.i) (type_at c.args.nodes.now.value.types) (term_at c.args.nodes.now.value.terms) c.look.result.now.span c.look.result.now.form c.look.ensures.form c.requires.has c.in-Binary.form c.in-Binary.a c.in-Binary.b c.in-Binary.is))
-
-pub eval_two-eval-requires-2 : goal.eval_two-eval-requires-2
-eval_two-eval-requires-2 t c = (omega (arith, above c.requires.has), ((let q = (subst (λ (f : Form). IsKnown (length c.args.nodes.now.value.types) c.args.i f) c.in-Binary.is c.look.ensures.known) in let k = q.1 in omega (arith, k, c.requires.known)), second_has c.args.left c.args.scope.now (term_at c.args.nodes.now.value.terms c.args.i) (type_at c.args.nodes.now.value.types) (term_at c.args.nodes.now.value.terms) c.look.result.now.span c.look.result.now.form c.look.ensures.form c.requires.has c.in-Binary.form c.in-Binary.a c.in-Binary.b c.in-Binary.is))
-
-pub eval_two-returns-in_err-u : goal.eval_two-returns-in_err-u
-eval_two-returns-in_err-u t c = search rules
-
-pub eval_two-returns-in_err-w : goal.eval_two-returns-in_err-w
-eval_two-returns-in_err-w t c = search rules
-
-pub eval_two-same-u : goal.eval_two-same-u
-eval_two-same-u t c = search rules
-
-pub eval_two-combine-requires : goal.eval_two-combine-requires
-eval_two-combine-requires t c = (omega (arith, above c.requires.has), binary_can c.args.left c.args.scope.now (term_at c.args.nodes.now.value.terms c.args.i) (type_at c.args.nodes.now.value.types) (term_at c.args.nodes.now.value.terms) c.look.result.now.span c.look.result.now.form c.look.ensures.form c.requires.has c.in-Binary.form c.in-Binary.a c.in-Binary.b c.in-Binary.is c.in_ok-u.u c.in_ok-w.w c.in_ok-u.ensures c.in_ok-w.ensures)
-
-pub eval_two-returns : goal.eval_two-returns
-eval_two-returns t c = if_ok c.combine.result (λ v. Gives2 (MeansIn (c.args.left - 1)) c.in-Binary.form c.in_ok-u.u c.in_ok-w.w v) (λ v. MeansIn c.args.left c.args.scope.now ((term_at c.args.nodes.now.value.terms c.args.i)) v) c.combine.ensures (binary_means c.args.left c.args.scope.now (term_at c.args.nodes.now.value.terms c.args.i) (type_at c.args.nodes.now.value.types) (term_at c.args.nodes.now.value.terms) c.look.result.now.span c.look.result.now.form c.look.ensures.form c.requires.has c.in-Binary.form c.in-Binary.a c.in-Binary.b c.in-Binary.is c.in_ok-u.u c.in_ok-w.w c.in_ok-u.ensures c.in_ok-w.ensures)
-
 pub apply_to_element-returns-in_err-bind_element-clause-gives : goal.apply_to_element-returns-in_err-bind_element-clause-gives
 apply_to_element-returns-in_err-bind_element-clause-gives t c = search rules
 
@@ -609,3 +508,156 @@ filter-returns-then-size-eq0 t c = if_ok c.no_elements.result (λ v. v ≡ BagV 
 
 pub split-returns-then-size-eq0 : goal.split-returns-then-size-eq0
 split-returns-then-size-eq0 t c = if_ok c.no_elements_twice.result (λ v. v ≡ PairV (BagV []) (BagV [])) (λ v. (ys zs : List Flat) × Splits (MeansIn c.args.left) c.args.c.now (elements c.args.b.now) ys zs × (v ≡ PairV (BagV ys) (BagV zs))) c.no_elements_twice.ensures (λ v e. ([], [], split_nothing c.args.left c.args.c.now (elements c.args.b.now) (omega (arith, c.if-size-eq0.true, c.size-size.ensures)) c.requires.can, e))
+
+pub eval-overflow_sub-below : goal.eval-overflow_sub-below
+eval-overflow_sub-below t c = omega (arith, above c.requires.has)
+
+pub eval-look-requires : goal.eval-look-requires
+eval-look-requires t c = c.requires.known
+
+pub eval-find-requires : goal.eval-find-requires
+eval-find-requires t c = var_known c.args.left c.args.scope.now (term_at c.args.nodes.now.value.terms c.args.i) (type_at c.args.nodes.now.value.types) (term_at c.args.nodes.now.value.terms) c.look.result.now.span c.look.result.now.form c.look.ensures.form c.requires.has c.in-Var.name c.in-Var.is
+
+pub eval-returns-in-Var : goal.eval-returns-in-Var
+eval-returns-in-Var t c = if_ok c.find.result (λ v. find c.args.scope.now (name_of c.in-Var.name) ≡ Some v) (λ v. MeansIn c.args.left c.args.scope.now (term_at c.args.nodes.now.value.terms c.args.i) v) c.find.ensures (var_means c.args.left c.args.scope.now (term_at c.args.nodes.now.value.terms c.args.i) (type_at c.args.nodes.now.value.types) (term_at c.args.nodes.now.value.terms) c.look.result.now.span c.look.result.now.form c.look.ensures.form c.requires.has c.in-Var.name c.in-Var.is)
+
+pub eval-returns-in-Num : goal.eval-returns-in-Num
+eval-returns-in-Num t c = num_means c.args.left c.args.scope.now (term_at c.args.nodes.now.value.terms c.args.i) (type_at c.args.nodes.now.value.types) (term_at c.args.nodes.now.value.terms) c.look.result.now.span c.look.result.now.form c.look.ensures.form c.requires.has c.in-Num.z c.in-Num.is c.num.result (c.num.ensures ∙ ap NumV (num_held (term_at c.args.nodes.now.value.terms c.args.i) (type_at c.args.nodes.now.value.types) (term_at c.args.nodes.now.value.terms) c.look.result.now.span c.look.result.now.form c.look.ensures.form c.look.ensures.limits c.in-Num.z c.in-Num.is))
+
+pub eval-eval_two-requires : goal.eval-eval_two-requires
+eval-eval_two-requires t c = (omega (arith, above c.requires.has), ((let q = subst (λ (f : Form). IsKnown (length c.args.nodes.now.value.types) c.args.i f) c.in-Binary.is c.look.ensures.known in let k = q.0 in omega (arith, k, c.requires.known)), ((let q = subst (λ (f : Form). IsKnown (length c.args.nodes.now.value.types) c.args.i f) c.in-Binary.is c.look.ensures.known in let k = q.1 in omega (arith, k, c.requires.known)), form_has c.args.left c.args.scope.now (term_at c.args.nodes.now.value.terms c.args.i) (type_at c.args.nodes.now.value.types) (term_at c.args.nodes.now.value.terms) c.look.result.now.span c.look.result.now.form c.look.ensures.form c.requires.has (Op2 c.in-Binary.form c.in-Binary.a c.in-Binary.b) c.in-Binary.is)))
+
+pub eval-returns-in-Binary : goal.eval-returns-in-Binary
+eval-returns-in-Binary t c = if_ok c.eval_two.result (λ v. Rules (MeansIn (c.args.left - 1)) c.args.scope.now (binary c.in-Binary.form (term_at c.args.nodes.now.value.terms c.in-Binary.a) (term_at c.args.nodes.now.value.terms c.in-Binary.b)) v) (λ v. MeansIn c.args.left c.args.scope.now (term_at c.args.nodes.now.value.terms c.args.i) v) c.eval_two.ensures (form_means c.args.left c.args.scope.now (term_at c.args.nodes.now.value.terms c.args.i) (type_at c.args.nodes.now.value.types) (term_at c.args.nodes.now.value.terms) c.look.result.now.span c.look.result.now.form c.look.ensures.form c.requires.has (Op2 c.in-Binary.form c.in-Binary.a c.in-Binary.b) c.in-Binary.is)
+
+pub eval-eval_pair-requires : goal.eval-eval_pair-requires
+eval-eval_pair-requires t c = (omega (arith, above c.requires.has), ((let q = subst (λ (f : Form). IsKnown (length c.args.nodes.now.value.types) c.args.i f) c.in-LetPair.is c.look.ensures.known in let k = q.0 in omega (arith, k, c.requires.known)), ((let q = subst (λ (f : Form). IsKnown (length c.args.nodes.now.value.types) c.args.i f) c.in-LetPair.is c.look.ensures.known in let k = q.1 in omega (arith, k, c.requires.known)), form_has c.args.left c.args.scope.now (term_at c.args.nodes.now.value.terms c.args.i) (type_at c.args.nodes.now.value.types) (term_at c.args.nodes.now.value.terms) c.look.result.now.span c.look.result.now.form c.look.ensures.form c.requires.has (LetPair c.in-LetPair.x c.in-LetPair.y c.in-LetPair.e c.in-LetPair.b) c.in-LetPair.is)))
+
+pub eval-returns-in-LetPair : goal.eval-returns-in-LetPair
+eval-returns-in-LetPair t c = if_ok c.eval_pair.result (λ v. Rules (MeansIn (c.args.left - 1)) c.args.scope.now (LetPairE (name_of c.in-LetPair.x) (name_of c.in-LetPair.y) (term_at c.args.nodes.now.value.terms c.in-LetPair.e) (term_at c.args.nodes.now.value.terms c.in-LetPair.b)) v) (λ v. MeansIn c.args.left c.args.scope.now (term_at c.args.nodes.now.value.terms c.args.i) v) c.eval_pair.ensures (form_means c.args.left c.args.scope.now (term_at c.args.nodes.now.value.terms c.args.i) (type_at c.args.nodes.now.value.types) (term_at c.args.nodes.now.value.terms) c.look.result.now.span c.look.result.now.form c.look.ensures.form c.requires.has (LetPair c.in-LetPair.x c.in-LetPair.y c.in-LetPair.e c.in-LetPair.b) c.in-LetPair.is)
+
+pub eval_other-eval_two-requires : goal.eval_other-eval_two-requires
+eval_other-eval_two-requires t c = (omega (arith, above c.requires.has), ((let q = subst (λ (f : Form). IsKnown (length c.args.nodes.now.value.types) c.args.i f) c.in-Binary.is c.look-node.ensures.known in let k = q.0 in omega (arith, k, c.requires.known)), ((let q = subst (λ (f : Form). IsKnown (length c.args.nodes.now.value.types) c.args.i f) c.in-Binary.is c.look-node.ensures.known in let k = q.1 in omega (arith, k, c.requires.known)), form_has c.args.left c.args.scope.now (term_at c.args.nodes.now.value.terms c.args.i) (type_at c.args.nodes.now.value.types) (term_at c.args.nodes.now.value.terms) c.look-node.result.now.span c.look-node.result.now.form c.look-node.ensures.form c.requires.has (Op2 c.in-Binary.form c.in-Binary.a c.in-Binary.b) c.in-Binary.is)))
+
+pub eval_other-returns-in-Binary : goal.eval_other-returns-in-Binary
+eval_other-returns-in-Binary t c = if_ok c.eval_two.result (λ v. Rules (MeansIn (c.args.left - 1)) c.args.scope.now (binary c.in-Binary.form (term_at c.args.nodes.now.value.terms c.in-Binary.a) (term_at c.args.nodes.now.value.terms c.in-Binary.b)) v) (λ v. MeansIn c.args.left c.args.scope.now (term_at c.args.nodes.now.value.terms c.args.i) v) c.eval_two.ensures (form_means c.args.left c.args.scope.now (term_at c.args.nodes.now.value.terms c.args.i) (type_at c.args.nodes.now.value.types) (term_at c.args.nodes.now.value.terms) c.look-node.result.now.span c.look-node.result.now.form c.look-node.ensures.form c.requires.has (Op2 c.in-Binary.form c.in-Binary.a c.in-Binary.b) c.in-Binary.is)
+
+pub eval_other-eval_pair-requires : goal.eval_other-eval_pair-requires
+eval_other-eval_pair-requires t c = (omega (arith, above c.requires.has), ((let q = subst (λ (f : Form). IsKnown (length c.args.nodes.now.value.types) c.args.i f) c.in-LetPair.is c.look-node.ensures.known in let k = q.0 in omega (arith, k, c.requires.known)), ((let q = subst (λ (f : Form). IsKnown (length c.args.nodes.now.value.types) c.args.i f) c.in-LetPair.is c.look-node.ensures.known in let k = q.1 in omega (arith, k, c.requires.known)), form_has c.args.left c.args.scope.now (term_at c.args.nodes.now.value.terms c.args.i) (type_at c.args.nodes.now.value.types) (term_at c.args.nodes.now.value.terms) c.look-node.result.now.span c.look-node.result.now.form c.look-node.ensures.form c.requires.has (LetPair c.in-LetPair.x c.in-LetPair.y c.in-LetPair.e c.in-LetPair.b) c.in-LetPair.is)))
+
+pub eval_other-returns-in-LetPair : goal.eval_other-returns-in-LetPair
+eval_other-returns-in-LetPair t c = if_ok c.eval_pair.result (λ v. Rules (MeansIn (c.args.left - 1)) c.args.scope.now (LetPairE (name_of c.in-LetPair.x) (name_of c.in-LetPair.y) (term_at c.args.nodes.now.value.terms c.in-LetPair.e) (term_at c.args.nodes.now.value.terms c.in-LetPair.b)) v) (λ v. MeansIn c.args.left c.args.scope.now (term_at c.args.nodes.now.value.terms c.args.i) v) c.eval_pair.ensures (form_means c.args.left c.args.scope.now (term_at c.args.nodes.now.value.terms c.args.i) (type_at c.args.nodes.now.value.types) (term_at c.args.nodes.now.value.terms) c.look-node.result.now.span c.look-node.result.now.form c.look-node.ensures.form c.requires.has (LetPair c.in-LetPair.x c.in-LetPair.y c.in-LetPair.e c.in-LetPair.b) c.in-LetPair.is)
+
+pub eval-eval_other-requires : goal.eval-eval_other-requires
+eval-eval_other-requires t c = (omega arith, (c.requires.known, c.requires.has))
+
+pub eval-returns-in_default : goal.eval-returns-in_default
+eval-returns-in_default t c = c.eval_other.ensures
+
+pub eval_two-eval_equal-requires : goal.eval_two-eval_equal-requires
+eval_two-eval_equal-requires t c = (omega arith, (c.requires.a_known, (c.requires.b_known, form_here c.args.left c.args.scope.now c.args.form Equal (term_at c.args.nodes.now.value.terms c.args.a) (term_at c.args.nodes.now.value.terms c.args.b) c.in-Equal.is c.requires.has)))
+
+pub eval_two-returns-in-Equal : goal.eval_two-returns-in-Equal
+eval_two-returns-in-Equal t c = if_ok c.eval_equal.result (λ v. Rules (MeansIn c.args.left) c.args.scope.now (EqE (term_at c.args.nodes.now.value.terms c.args.a) (term_at c.args.nodes.now.value.terms c.args.b)) v) (λ v. Rules (MeansIn c.args.left) c.args.scope.now (binary c.args.form (term_at c.args.nodes.now.value.terms c.args.a) (term_at c.args.nodes.now.value.terms c.args.b)) v) c.eval_equal.ensures (means_here c.args.left c.args.scope.now c.args.form Equal (term_at c.args.nodes.now.value.terms c.args.a) (term_at c.args.nodes.now.value.terms c.args.b) c.in-Equal.is)
+
+pub eval_two-eval-requires : goal.eval_two-eval-requires
+eval_two-eval-requires t c = (omega arith, (c.requires.a_known, first_has c.args.left c.args.scope.now c.args.form (term_at c.args.nodes.now.value.terms c.args.a) (term_at c.args.nodes.now.value.terms c.args.b) c.requires.has))
+
+pub eval_two-eval-requires-in_default : goal.eval_two-eval-requires-in_default
+eval_two-eval-requires-in_default t c = (omega arith, (c.requires.b_known, second_has c.args.left c.args.scope.now c.args.form (term_at c.args.nodes.now.value.terms c.args.a) (term_at c.args.nodes.now.value.terms c.args.b) c.requires.has))
+
+pub eval_two-returns-in_err-u-in_default : goal.eval_two-returns-in_err-u-in_default
+eval_two-returns-in_err-u-in_default t c = search rules
+
+pub eval_two-returns-in_err-w-in_default : goal.eval_two-returns-in_err-w-in_default
+eval_two-returns-in_err-w-in_default t c = search rules
+
+pub eval_two-same-u : goal.eval_two-same-u
+eval_two-same-u t c = search rules
+
+pub eval_two-combine-requires : goal.eval_two-combine-requires
+eval_two-combine-requires t c = (omega arith, binary_can c.args.left c.args.scope.now c.args.form (term_at c.args.nodes.now.value.terms c.args.a) (term_at c.args.nodes.now.value.terms c.args.b) c.requires.has c.in_ok-u-in_default.u c.in_ok-w-in_default.w c.in_ok-u-in_default.ensures c.in_ok-w-in_default.ensures)
+
+pub eval_two-returns-in_ok-w-in_default : goal.eval_two-returns-in_ok-w-in_default
+eval_two-returns-in_ok-w-in_default t c = if_ok c.combine.result (λ v. Gives2 (MeansIn c.args.left) c.args.form c.in_ok-u-in_default.u c.in_ok-w-in_default.w v) (λ v. Rules (MeansIn c.args.left) c.args.scope.now (binary c.args.form (term_at c.args.nodes.now.value.terms c.args.a) (term_at c.args.nodes.now.value.terms c.args.b)) v) c.combine.ensures (binary_means c.args.left c.args.scope.now c.args.form (term_at c.args.nodes.now.value.terms c.args.a) (term_at c.args.nodes.now.value.terms c.args.b) c.requires.has c.in_ok-u-in_default.u c.in_ok-w-in_default.w c.in_ok-u-in_default.ensures c.in_ok-w-in_default.ensures)
+
+pub eval_equal-look-requires : goal.eval_equal-look-requires
+eval_equal-look-requires t c = c.requires.b_known
+
+pub eval_equal-look-requires-2 : goal.eval_equal-look-requires-2
+eval_equal-look-requires-2 t c = c.requires.a_known
+
+pub eval_equal-eval-requires : goal.eval_equal-eval-requires
+eval_equal-eval-requires t c = (omega arith, (c.requires.a_known, left_has c.args.left c.args.scope.now (term_at c.args.nodes.now.value.terms c.args.a) (term_at c.args.nodes.now.value.terms c.args.b) c.requires.has))
+
+pub eval_equal-is_text-requires : goal.eval_equal-is_text-requires
+eval_equal-is_text-requires t c = left_text c.args.left c.args.scope.now (term_at c.args.nodes.now.value.terms c.args.a) (term_at c.args.nodes.now.value.terms c.args.b) c.requires.has c.look.result.now.span (text_of c.in-Text.text) (c.look.ensures.form ∙ ap (term_of (type_at c.args.nodes.now.value.types) (term_at c.args.nodes.now.value.terms) c.look.result.now.span) c.in-Text.is) c.in_ok-u.u c.in_ok-u.ensures
+
+pub eval_equal-returns-in-Text : goal.eval_equal-returns-in-Text
+eval_equal-returns-in-Text t c = left_compared c.args.left c.args.scope.now (term_at c.args.nodes.now.value.terms c.args.a) (term_at c.args.nodes.now.value.terms c.args.b) c.requires.has c.look.result.now.span (text_of c.in-Text.text) (c.look.ensures.form ∙ ap (term_of (type_at c.args.nodes.now.value.types) (term_at c.args.nodes.now.value.terms) c.look.result.now.span) c.in-Text.is) c.in_ok-u.u c.in_ok-u.ensures c.is_text.result c.is_text.ensures c.truth.result c.truth.ensures
+
+pub eval_equal-is_text-requires-in-Text-form : goal.eval_equal-is_text-requires-in-Text-form
+eval_equal-is_text-requires-in-Text-form t c = right_text c.args.left c.args.scope.now (term_at c.args.nodes.now.value.terms c.args.a) (term_at c.args.nodes.now.value.terms c.args.b) c.requires.has c.look-2.result.now.span (text_of c.in-Text-form.text) (c.look-2.ensures.form ∙ ap (term_of (type_at c.args.nodes.now.value.types) (term_at c.args.nodes.now.value.terms) c.look-2.result.now.span) c.in-Text-form.is) c.in_ok-w.w c.in_ok-w.ensures
+
+pub eval_equal-returns-in-Text-form : goal.eval_equal-returns-in-Text-form
+eval_equal-returns-in-Text-form t c = right_compared c.args.left c.args.scope.now (term_at c.args.nodes.now.value.terms c.args.a) (term_at c.args.nodes.now.value.terms c.args.b) c.requires.has c.look-2.result.now.span (text_of c.in-Text-form.text) (c.look-2.ensures.form ∙ ap (term_of (type_at c.args.nodes.now.value.types) (term_at c.args.nodes.now.value.terms) c.look-2.result.now.span) c.in-Text-form.is) c.in_ok-w.w c.in_ok-w.ensures c.is_text-in-Text-form.result c.is_text-in-Text-form.ensures c.truth-in-Text-form.result c.truth-in-Text-form.ensures
+
+pub eval_equal-equal-requires : goal.eval_equal-equal-requires
+eval_equal-equal-requires t c = can_compare c.args.left c.args.scope.now (term_at c.args.nodes.now.value.terms c.args.a) (term_at c.args.nodes.now.value.terms c.args.b) c.requires.has c.in_ok-u-2.u c.in_ok-w-2.w c.in_ok-u-2.ensures c.in_ok-w-2.ensures
+
+pub eval_equal-returns : goal.eval_equal-returns
+eval_equal-returns t c = compared c.args.left c.args.scope.now (term_at c.args.nodes.now.value.terms c.args.a) (term_at c.args.nodes.now.value.terms c.args.b) c.requires.has c.in_ok-u-2.u c.in_ok-w-2.w c.in_ok-u-2.ensures c.in_ok-w-2.ensures c.equal.result c.equal.ensures.numbers c.equal.ensures.texts c.truth-2.result c.truth-2.ensures
+
+pub eval_pair-eval-requires : goal.eval_pair-eval-requires
+eval_pair-eval-requires t c = (omega arith, (c.requires.e_known, pair_has c.args.left c.args.scope.now (name_of c.args.x.now) (name_of c.args.y.now) (term_at c.args.nodes.now.value.terms c.args.e) (term_at c.args.nodes.now.value.terms c.args.b) c.requires.has))
+
+pub eval_pair-returns-in_err-u : goal.eval_pair-returns-in_err-u
+eval_pair-returns-in_err-u t c = search rules
+
+pub eval_pair-returns-in_err-first : goal.eval_pair-returns-in_err-first
+eval_pair-returns-in_err-first t c = search rules
+
+pub eval_pair-returns-in_err-second : goal.eval_pair-returns-in_err-second
+eval_pair-returns-in_err-second t c = search rules
+
+pub eval_pair-returns-in_err-outer : goal.eval_pair-returns-in_err-outer
+eval_pair-returns-in_err-outer t c = search rules
+
+pub eval_pair-first-requires : goal.eval_pair-first-requires
+eval_pair-first-requires t c = pair_can c.args.left c.args.scope.now (name_of c.args.x.now) (name_of c.args.y.now) (term_at c.args.nodes.now.value.terms c.args.e) (term_at c.args.nodes.now.value.terms c.args.b) c.requires.has c.in_ok-u.u c.in_ok-u.ensures
+
+pub eval_pair-second-requires : goal.eval_pair-second-requires
+eval_pair-second-requires t c = pair_can c.args.left c.args.scope.now (name_of c.args.x.now) (name_of c.args.y.now) (term_at c.args.nodes.now.value.terms c.args.e) (term_at c.args.nodes.now.value.terms c.args.b) c.requires.has c.in_ok-u.u c.in_ok-u.ensures
+
+pub eval_pair-same-first : goal.eval_pair-same-first
+eval_pair-same-first t c = search rules
+
+pub eval_pair-same-second : goal.eval_pair-same-second
+eval_pair-same-second t c = search rules
+
+pub eval_pair-eval_under-requires : goal.eval_pair-eval_under-requires
+eval_pair-eval_under-requires t c = (omega arith, (c.requires.b_known, subst (λ (γ : Env). HasValueWithin c.args.left (Bind (name_of c.args.y.now) c.in_ok-second.second γ) (term_at c.args.nodes.now.value.terms c.args.b)) (sym c.in_ok-outer.ensures) (pair_inside c.args.left c.args.scope.now (name_of c.args.x.now) (name_of c.args.y.now) (term_at c.args.nodes.now.value.terms c.args.e) (term_at c.args.nodes.now.value.terms c.args.b) c.requires.has c.in_ok-u.u c.in_ok-u.ensures c.in_ok-first.first c.in_ok-second.second c.in_ok-first.ensures c.in_ok-second.ensures)))
+
+pub eval_pair-returns : goal.eval_pair-returns
+eval_pair-returns t c = if_ok c.eval_under.result (λ v. MeansIn c.args.left (Bind (name_of c.args.y.now) c.in_ok-second.second c.in_ok-outer.outer) (term_at c.args.nodes.now.value.terms c.args.b) v) (λ v. Rules (MeansIn c.args.left) c.args.scope.now (LetPairE (name_of c.args.x.now) (name_of c.args.y.now) (term_at c.args.nodes.now.value.terms c.args.e) (term_at c.args.nodes.now.value.terms c.args.b)) v) c.eval_under.ensures (λ v g. pair_means c.args.left c.args.scope.now (name_of c.args.x.now) (name_of c.args.y.now) (term_at c.args.nodes.now.value.terms c.args.e) (term_at c.args.nodes.now.value.terms c.args.b) c.requires.has c.in_ok-u.u c.in_ok-u.ensures c.in_ok-first.first c.in_ok-second.second c.in_ok-first.ensures c.in_ok-second.ensures v (subst (λ (γ : Env). MeansIn c.args.left (Bind (name_of c.args.y.now) c.in_ok-second.second γ) (term_at c.args.nodes.now.value.terms c.args.b) v) c.in_ok-outer.ensures g))
+
+pub eval_equal-eval-requires-in-Text-form : goal.eval_equal-eval-requires-in-Text-form
+eval_equal-eval-requires-in-Text-form t c = (omega arith, (c.requires.b_known, right_has c.args.left c.args.scope.now (term_at c.args.nodes.now.value.terms c.args.a) (term_at c.args.nodes.now.value.terms c.args.b) c.requires.has))
+
+pub eval_equal-eval-requires-2 : goal.eval_equal-eval-requires-2
+eval_equal-eval-requires-2 t c = (omega arith, (c.requires.a_known, left_has c.args.left c.args.scope.now (term_at c.args.nodes.now.value.terms c.args.a) (term_at c.args.nodes.now.value.terms c.args.b) c.requires.has))
+
+pub eval_equal-eval-requires-3 : goal.eval_equal-eval-requires-3
+eval_equal-eval-requires-3 t c = (omega arith, (c.requires.b_known, right_has c.args.left c.args.scope.now (term_at c.args.nodes.now.value.terms c.args.a) (term_at c.args.nodes.now.value.terms c.args.b) c.requires.has))
+
+pub eval_equal-returns-in_err-u : goal.eval_equal-returns-in_err-u
+eval_equal-returns-in_err-u t c = search rules
+
+pub eval_equal-returns-in_err-w : goal.eval_equal-returns-in_err-w
+eval_equal-returns-in_err-w t c = search rules
+
+pub eval_equal-returns-in_err-u-2 : goal.eval_equal-returns-in_err-u-2
+eval_equal-returns-in_err-u-2 t c = search rules
+
+pub eval_equal-returns-in_err-w-2 : goal.eval_equal-returns-in_err-w-2
+eval_equal-returns-in_err-w-2 t c = search rules

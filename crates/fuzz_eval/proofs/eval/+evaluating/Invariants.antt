@@ -8,7 +8,13 @@ abbrev pub decreases-eval : goal.decreases-eval
 decreases-eval l = 8 * l.left + 2
 
 abbrev pub decreases-eval_two : goal.decreases-eval_two
-decreases-eval_two l = 8 * l.left + 1
+decreases-eval_two l = 8 * l.left + 7
+
+abbrev pub decreases-eval_equal : goal.decreases-eval_equal
+decreases-eval_equal l = 8 * l.left + 3
+
+abbrev pub decreases-eval_pair : goal.decreases-eval_pair
+decreases-eval_pair l = 8 * l.left + 4
 
 abbrev pub decreases-eval_other : goal.decreases-eval_other
 decreases-eval_other l = 8 * l.left
