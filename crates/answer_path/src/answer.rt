@@ -147,7 +147,7 @@ fn refusal_of(fault: ReserveFault) -> MoneyRefusal
     }
 }
 
-/// Since a record wasn't appended: 42 or 52.
+/// A record wasn't appended: the disk failed, or an earlier fault had closed the book.
 fn disk_refusal_of(fault: AppendFault) -> DiskRefusal
     ensures { result ≡ disk_refusal fault }
 {
@@ -157,7 +157,7 @@ fn disk_refusal_of(fault: AppendFault) -> DiskRefusal
     }
 }
 
-/// Why no reservation was made: 40, 41, 42 or 52.
+/// Why no reservation was made: over budget, no room, or its record wasn't appended.
 fn book_refusal_of<'a>(fault: BookFault) -> Refusal<'a>
     ensures { refusal_at result ≡ book_refusal fault }
 {

@@ -1,4 +1,4 @@
-//! What is proved of the definitions.
+//! What is proved of the definitions. Each function does nothing: its contract is the law.
 
 ghost use Rattle.answer_path.specs.Laws.{AcceptedAreBounded, AcceptedHaveValues, AloneIsAnswered, ChargedAreBounded, ChargedHaveValues};
 ghost use Rattle.answer_path.specs.Laws.{EveryReading, LostAreCharged, OneReading, OneValue, VerdictsSeeNoAnswers};

@@ -90,7 +90,7 @@ impl<D: Disk> Pass<D> {
         self.book.recall(number, analyst)
     }
 
-    /// What is left of the budget.
+    /// What is spent of the budget.
     pub(crate) fn left(&self) -> Left
         ensures { result ≡ left_of (ledger_of self.now) }
     {

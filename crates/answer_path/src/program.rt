@@ -35,7 +35,7 @@ pub struct Judged<'a> {
 ///
 /// # Errors
 ///
-/// What it is refused for, by the codes 20, 21 and 22; or that memory ran out.
+/// It has no tokens, is no term, or is nested too deep; or memory ran out.
 pub fn read_program<'s>(alloc: Global, bytes: &[u8]) -> Result<Term, Refusal<'s>>
     ensures term { IfOk result (λ term. IsReading bytes.now (read term)) }
     ensures refused { IfErr result (λ refusal. (ts : Signature) → IsProgramRefusal ts bytes.now (refusal_at refusal)) }
@@ -54,7 +54,7 @@ pub fn read_program<'s>(alloc: Global, bytes: &[u8]) -> Result<Term, Refusal<'s>
 ///
 /// # Errors
 ///
-/// What it is refused for, by the codes 30 to 37; or that memory ran out.
+/// It is ill typed, too sensitive or no number, or goes past a limit of runs; or memory ran out.
 pub fn judge<'s: 'a, 'a>(
     alloc: Global,
     sig: &'s Sig,
@@ -78,19 +78,13 @@ pub fn judge<'s: 'a, 'a>(
 ///
 /// # Errors
 ///
-/// What it is refused for, by the codes 20 to 22 and 30 to 37; or that memory ran out.
+/// What `read_program` or `judge` refuses it for; or memory ran out.
 pub fn check_program<'s>(alloc: Global, sig: &'s Sig, bytes: &[u8]) -> Result<Accepted, Refusal<'s>>
     requires { AreNames sig.now }
     ensures accepted { IfOk result (IsAccepted sig.now bytes.now) }
     ensures refused { IfErr result (λ refusal. IsProgramRefusal sig.now bytes.now (refusal_at refusal)) }
 {
-    let term = match read_program(alloc, bytes) {
-        Ok(term) => term,
-        Err(refusal) => return Err(refusal),
-    };
-    let sens = match judge(alloc, sig, &term) {
-        Ok(judged) => judged.checked.sens,
-        Err(refusal) => return Err(refusal),
-    };
+    let term = read_program(alloc, bytes)?;
+    let sens = judge(alloc, sig, &term)?.checked.sens;
     Ok(Accepted { term, sens })
 }

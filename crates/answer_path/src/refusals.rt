@@ -13,7 +13,7 @@ use sensitivity_check::CheckFault;
 use shape_run::ShapeFault;
 use wire_lines::{Name, ProgramRefusal, Refusal, TypeFault};
 
-/// 20, or want of memory.
+/// No token begins at some byte, or there are too many; or memory ran out.
 pub(crate) fn lex_refusal<'s>(fault: LexFault) -> Refusal<'s>
     ensures { refusal_at result ≡ lex_refusal fault }
 {
@@ -24,7 +24,7 @@ pub(crate) fn lex_refusal<'s>(fault: LexFault) -> Refusal<'s>
     }
 }
 
-/// 21 or 22, or want of memory.
+/// The tokens are no term, or one that is nested too deep; or memory ran out.
 pub(crate) fn parse_refusal<'s>(fault: ParseFault) -> Refusal<'s>
     requires { HasPlace fault }
     ensures { refusal_at result ≡ parse_refusal fault }
@@ -50,7 +50,7 @@ fn ill_typed<'s>(fault: TypeFault, span: Span) -> ProgramRefusal<'s>
     }
 }
 
-/// 33: the table's name is the signature's.
+/// A table's sensitivity has no bound. Its name is the signature's.
 fn unbounded<'s>(sig: &'s Sig, table: usize) -> ProgramRefusal<'s>
     requires names { AreNames sig.now }
     requires table { table < length sig.now }
@@ -62,7 +62,7 @@ fn unbounded<'s>(sig: &'s Sig, table: usize) -> ProgramRefusal<'s>
     ProgramRefusal::Unbounded { table: name }
 }
 
-/// 30 to 34, or want of memory.
+/// The term is ill typed, or its sensitivity is too great, out of range or unbounded; or memory ran out.
 pub(crate) fn fault_refusal<'s>(sig: &'s Sig, fault: &CheckFault) -> Refusal<'s>
     requires names { AreNames sig.now }
     requires table { HasTable sig.now fault.now }
@@ -88,7 +88,7 @@ pub(crate) fn fault_refusal<'s>(sig: &'s Sig, fault: &CheckFault) -> Refusal<'s>
     })
 }
 
-/// 35 to 37, or want of memory.
+/// A run would go too deep, take too many turns or make too wide a bag; or memory ran out.
 pub(crate) fn limit_refusal<'s>(fault: ShapeFault) -> Refusal<'s>
     ensures { refusal_at result ≡ limit_refusal fault }
 {

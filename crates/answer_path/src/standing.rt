@@ -1,4 +1,4 @@
-//! What became of a number, and what is left of a budget.
+//! What became of a number, and what is spent of a budget.
 
 ghost use Rattle.std.specs.Prelude.{◌≡◌};
 ghost use Rattle.wire_lines.specs.Reply.{replied};

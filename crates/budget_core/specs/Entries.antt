@@ -1,5 +1,6 @@
 -- what the catalog says of an owner's budget
 use Rattle.std.specs.Prelude.{ℕ, ◌^◌, ◌≤◌, ◌<◌, List, length, All, slice_get, IsSomeAnd, ⊤}
+use Rattle.partition_charge.specs.Views.{partition_limit, part_limit}
 use Rattle.partition_charge.specs.declared.view.View.{View}
 use Rattle.partition_charge.specs.declared.view.View.TheVariants.{Whole, Part}
 
@@ -19,8 +20,8 @@ pub record IsEntry (entry : Entry) : Type 0 where
   pub capacity : entry.capacity ≤ 262144
   pub some_analyst : 1 ≤ entry.analysts
   pub analysts : entry.analysts ≤ 64
-  pub partitions : length entry.keys ≤ 8
-  pub keys : All (λ keys. (1 ≤ keys) × (keys ≤ 250)) entry.keys
+  pub partitions : length entry.keys ≤ partition_limit
+  pub keys : All (λ keys. (1 ≤ keys) × (keys ≤ part_limit)) entry.keys
 
 -- the entry has this view: the whole, or a part of one of its partitions
 abbrev pub HasView : Entry → View → Type 0

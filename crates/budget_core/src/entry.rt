@@ -74,7 +74,7 @@ pub enum ReserveFault {
     },
 }
 
-// Thirty-two bytes are a digest.
+// Thirty-two bytes are a digest. The look at them tells the proof that each is a byte.
 fn are_bytes(digest: [u8; 32])
     ensures { IsByteList 32 digest }
 {

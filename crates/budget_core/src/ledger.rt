@@ -71,15 +71,13 @@ impl Ledger {
         ensures sound { IfOk result IsSound }
         ensures valid { IsEntry entry }
     {
-        match History::found(alloc, entry, records) {
-            Ok(history) => Ok(Ledger {
-                found: history.len(),
-                start: history.reservations(),
-                history,
-                unsettled: 0,
-            }),
-            Err(fault) => Err(fault),
-        }
+        let history = History::found(alloc, entry, records)?;
+        Ok(Ledger {
+            found: history.len(),
+            start: history.reservations(),
+            history,
+            unsettled: 0,
+        })
     }
 
     /// Whether an ask is granted: over budget comes first, then full.
@@ -222,6 +220,7 @@ impl Ledger {
         ensures spent { result ≡ cost_of self.now.records }
         ensures sound { IsSound self.now }
     {
+        // The look at a field tells the proof what a ledger keeps.
         let _start = self.start;
         self.history.spent()
     }

@@ -145,11 +145,10 @@ fn add_slot<D: Disk>(
         return Err(OpenFault::Damaged { slot });
     }
     let closed = records.len() < slot as usize;
-    match read_slot(disk, slot, closed) {
-        Err(fault) => Err(fault),
-        Ok(None) => Ok(()),
-        Ok(Some(found)) => Ok(records.push(found)?),
+    if let Some(found) = read_slot(disk, slot, closed)? {
+        records.push(found)?;
     }
+    Ok(())
 }
 
 // Reads the slots of a journal with so many bytes, up to the least that is damaged.
@@ -170,9 +169,7 @@ fn read_slots<D: Disk>(
 {
     let mut records = Vec::with_capacity(alloc, capacity as usize)?;
     for slot in 0..capacity {
-        if let Err(fault) = add_slot(disk, size, slot, &mut records) {
-            return Err(fault);
-        }
+        add_slot(disk, size, slot, &mut records)?;
     }
     if size > 128 + 64 * u64::from(capacity) {
         return Err(OpenFault::Damaged { slot: capacity });
@@ -195,10 +192,8 @@ fn read_journal<D: Disk>(
     ensures cause { HasCause (D.faults disk.old) (D.faults disk.new) (IsErrOf result DiskFault) }
     ensures passed { OnOk result (D.faults disk.new ≡ D.faults disk.old) }
 {
-    match read_header(disk, header) {
-        Ok(size) => read_slots(alloc, disk, size, header.capacity),
-        Err(fault) => Err(fault),
-    }
+    let size = read_header(disk, header)?;
+    read_slots(alloc, disk, size, header.capacity)
 }
 
 impl<D: Disk> Journal<D> {

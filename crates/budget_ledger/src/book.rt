@@ -17,7 +17,7 @@ ghost use Rattle.budget_ledger.specs.Opened.{IsBookFault};
 
 use crate::failure::Failure;
 use budget_core::answers::{Counts, Left, Recall};
-use budget_core::entry::{Ask, Entry, Grant, ReserveFault};
+use budget_core::entry::{Ask, Grant, ReserveFault};
 use budget_core::ledger::Ledger;
 use budget_journal::journal::Journal;
 use journal_records::records::{Header, Outcome, Record};
@@ -124,10 +124,8 @@ impl<D: Disk> Book<D> {
         ensures kept { IsBook self.new }
     {
         let next = Record::Settle { number, outcome };
-        match write_down(&mut self.journal, &mut self.failure, &next) {
-            Ok(()) => Ok(self.ledger.settle(number, outcome)),
-            Err(fault) => Err(fault),
-        }
+        write_down(&mut self.journal, &mut self.failure, &next)?;
+        Ok(self.ledger.settle(number, outcome))
     }
 
     /// What an analyst is told of a number, by the records that were acknowledged.
@@ -171,13 +169,6 @@ impl<D: Disk> Book<D> {
         ensures { result.now ≡ self.now.ledger.records }
     {
         self.ledger.records()
-    }
-
-    /// The owner's entry.
-    pub fn entry(&self) -> &Entry
-        ensures { result.now ≡ self.now.ledger.entry }
-    {
-        self.ledger.entry()
     }
 
     /// How many calls of the disk have failed.

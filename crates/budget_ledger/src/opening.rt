@@ -37,10 +37,7 @@ impl<D: Disk> Book<D> {
         ensures kept { IfErr result (λ refused. MayHaveSynced (D.trace disk) (D.trace refused.0)) }
         ensures cause { IfErr result (λ refused. HasCause (D.faults disk) (D.faults refused.0) (refused.1 ≡ DiskFault)) }
     {
-        let (journal, records) = match Journal::open(alloc, disk, header) {
-            Ok(opened) => opened,
-            Err(refused) => return Err(refused),
-        };
+        let (journal, records) = Journal::open(alloc, disk, header)?;
         match Ledger::found(alloc, entry, records) {
             Ok(ledger) => Ok(Book {
                 journal,

@@ -1,4 +1,5 @@
 //! What a view shows of an owner's tables: the whole, or the rows of one key of a partition.
+//! The functions here do nothing: the contract of each is a law.
 #![tactic(auto)]
 
 ghost use Rattle.part_views.specs.Laws.{PartsAreDisjoint, PartsAreNoFurtherApart, PartsAreNoFurtherThanTheirTable, PartsAreSublists, ViewsAreDatasets};
@@ -8,7 +9,7 @@ mod division;
 
 pub use dataset::Dataset;
 
-/// A view of a dataset is a dataset of the view's tables. (It is proved, and there is nothing to do; so are the next two.)
+/// A view of a dataset is a dataset of the view's tables.
 pub fn views_are_datasets()
     ensures { ViewsAreDatasets }
 {}

@@ -2,7 +2,7 @@
 use Rattle.std.proofs.Common.{◌≡◌, ℕ, zero, suc, List, [], ◌∷◌, map, Option, Some, None, slice_get, codes, refl, sym, ◌∙◌, ap, subst, pos, negsuc, inl, inr, arith}
 use Rattle.std.specs.Prelude.{ℤ, ◌+ℤ◌, Ok, ◌⊎◌}
 use Rattle.std.specs.Fmt.{digits}
-use Rattle.std.specs.List.{flat_map}
+use Rattle.std.specs.List.{flat_map, enumerate_from}
 use mathlib.Core.List.{IsPrefix}
 use Rattle.partition_charge.specs.declared.view.View.TheVariants.{Whole}
 use Rattle.journal_records.specs.declared.records.Outcome.{Outcome}
@@ -46,7 +46,7 @@ use Rattle.session_core.specs.Code.{owner_at}
 use Rattle.session_core.specs.Meant.{meant_by}
 use Rattle.session_core.specs.Turns.{Turn, turns_of}
 use Rattle.session_core.specs.Exchanges.{Exchange, told_of}
-use Rattle.session_core.specs.Transcript.{Journals, LeadExactly, placed_from, IsScriptRun, IsScriptWritten, IsTranscript}
+use Rattle.session_core.specs.Transcript.{Journals, LeadExactly, IsScriptRun, IsScriptWritten, IsTranscript}
 use Rattle.session_core.specs.Served.{AnswersOn, StandIn, Sources, IsAskedAt, AreAskedBy, SpeaksOf, LeavesOpen, ArePlaced}
 use Rattle.session_core.specs.Said.{NothingFailed}
 use Rattle.session_core.proofs.Exactly.{answers_on}
@@ -151,7 +151,7 @@ abbrev pub ask_line : List ℕ
 ask_line = codes "ask clinic 1 size people"
 
 abbrev asked : Outcome → Exchange
-asked outcome = record { turn = turn (Some 0) ask_line; reply = outcome_reply a_grant outcome; told = placed_from 0 (made outcome) }
+asked outcome = record { turn = turn (Some 0) ask_line; reply = outcome_reply a_grant outcome; told = enumerate_from 0 (made outcome) }
 
 abbrev one_ask : Outcome → List Exchange
 one_ask outcome = quiet None (codes "hello ann") (greeted (codes "ann")) ∷ asked outcome ∷ quiet (Some 0) (codes "bye") ended ∷ []
@@ -341,7 +341,7 @@ told_stands : StandIn (made (Answered (pos 2))) (told_of (house_of three_rows) 0
 unfolding meant_by request_of
 told_stands = (refl, (refl, tt))
 
-told_elsewhere : StandIn (made (Answered (pos 2))) (placed_from 1 (made (Answered (pos 2)))) → ⊥
+told_elsewhere : StandIn (made (Answered (pos 2))) (enumerate_from 1 (made (Answered (pos 2)))) → ⊥
 told_elsewhere h = cc (h.0)
 
 -- the reservation's program is asked by the turn at 1 ..

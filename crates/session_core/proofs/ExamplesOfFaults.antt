@@ -1,7 +1,7 @@
 -- Replies where the disk failed, and what is recalled and left: computed, and wrong ones refused.
 use Rattle.std.proofs.Common.{◌≡◌, ℕ, List, [], ◌∷◌, map, Option, Some, None, codes, refl, sym, subst, pos, inl, inr}
 use Rattle.std.specs.Fmt.{digits}
-use Rattle.std.specs.List.{flat_map}
+use Rattle.std.specs.List.{flat_map, enumerate_from}
 use Rattle.journal_records.specs.declared.records.Outcome.{Outcome}
 use Rattle.journal_records.specs.declared.records.Outcome.TheVariants.{Answered, Exhausted, Lost}
 use Rattle.journal_records.specs.declared.records.Record.{Record}
@@ -25,14 +25,14 @@ use Rattle.answer_path.proofs.Answering.{money_says}
 use Rattle.session_core.specs.House.{house_of}
 use Rattle.session_core.specs.Meant.{asks, recalls, balances, says, wants, meant_by}
 use Rattle.session_core.specs.Exchanges.{Exchange}
-use Rattle.session_core.specs.Transcript.{LeadExactly, placed_from}
+use Rattle.session_core.specs.Transcript.{LeadExactly}
 use Rattle.session_core.specs.Served.{ClosesBy, ClosesOn, LeavesOpen}
 use Rattle.session_core.proofs.Examples.{three_rows, the_owner, a_query, an_ask, a_grant, ask_line, made, size_asked, three_value, outcome_with, settled_with, turn, quiet}
 
 abbrev clinic : Owner
 clinic = the_owner three_rows
 
--- Anybody may see what is left. A recall needs a hello, and an owner that there is.
+-- Anybody may see what is spent. A recall needs a hello, and an owner that there is.
 left_by_nobody : meant_by (house_of three_rows) None (codes "left clinic") ≡ wants 0 clinic balances
 unfolding meant_by request_of
 left_by_nobody = refl
@@ -93,7 +93,7 @@ abbrev opened : List Record
 opened = granted_record an_ask a_grant ∷ []
 
 abbrev unsettled : Exchange
-unsettled = record { turn = turn (Some 0) ask_line; reply = refused (by_disk Fault); told = placed_from 0 opened }
+unsettled = record { turn = turn (Some 0) ask_line; reply = refused (by_disk Fault); told = enumerate_from 0 opened }
 
 -- from then on a query that would be granted is refused; what was reserved may still be recalled, and counted
 abbrev closed_lines : List Exchange

@@ -3,7 +3,7 @@ use Rattle.std.proofs.Common.{◌≡◌, ℕ, zero, suc, List, [], ◌∷◌, �
 use Rattle.std.specs.Prelude.{ℤ, Option}
 use Rattle.std.specs.Fmt.{digits}
 use Rattle.std.proofs.lemmas.List.Elements.{All-head, All-from_recursion}
-use Rattle.std.specs.List.{flat_map}
+use Rattle.std.specs.List.{flat_map, enumerate_from}
 use Rattle.partition_charge.specs.declared.view.View.TheVariants.{Whole}
 use Rattle.journal_records.specs.declared.records.Outcome.{Outcome}
 use Rattle.journal_records.specs.declared.records.Record.{Record}
@@ -39,7 +39,7 @@ use Rattle.answer_path.proofs.SizePeople.{size_people, size_term, size_reads}
 use Rattle.session_core.specs.House.{Register, IsHeldBy, IsRegister, house_of, entry_of, owner_named}
 use Rattle.session_core.specs.Meant.{meant_by}
 use Rattle.session_core.specs.Exchanges.{Exchange, told_of}
-use Rattle.session_core.specs.Transcript.{Journals, LeadExactly, placed_from, IsScriptRun, IsScriptWritten, IsTranscript}
+use Rattle.session_core.specs.Transcript.{Journals, LeadExactly, IsScriptRun, IsScriptWritten, IsTranscript}
 use Rattle.session_core.specs.Code.{owner_at}
 use Rattle.session_core.proofs.Once.{runs_once}
 use Rattle.session_core.proofs.Examples.{people, people_entry, ages_held, owner_entry, register_of, fresh, size_asked, an_ask, a_grant, made, outcome_with, grant_answer, turn, quiet}
@@ -191,10 +191,10 @@ asking line reply told = record { turn = turn (Some 0) line; reply = reply; told
 abbrev exchanges : (a b c : Option ℤ) → List Exchange
 exchanges a b c =
     quiet None (codes "hello ann") (greeted (codes "ann"))
-    ∷ asking ask_clinic (outcome_reply a_grant (of_clinic a)) (placed_from 0 (made (of_clinic a)))
-    ∷ asking ask_school (outcome_reply a_grant (of_school b)) (placed_from 0 (made (of_school b)))
+    ∷ asking ask_clinic (outcome_reply a_grant (of_clinic a)) (enumerate_from 0 (made (of_clinic a)))
+    ∷ asking ask_school (outcome_reply a_grant (of_school b)) (enumerate_from 0 (made (of_school b)))
     ∷ quiet (Some 0) ask_clinic over_budget
-    ∷ asking ask_school (outcome_reply next_grant (of_school c)) (placed_from 2 (grant_records an_ask next_grant (of_school c))) ∷ []
+    ∷ asking ask_school (outcome_reply next_grant (of_school c)) (enumerate_from 2 (grant_records an_ask next_grant (of_school c))) ∷ []
 
 abbrev replies : (a b c : Option ℤ) → List Replied
 replies a b c = map (λ (x : Exchange). x.reply) (exchanges a b c)
@@ -268,11 +268,11 @@ two_run draws =
     each (suc (suc o)) owner at = absurd (cc (at))
 
 -- what was added to each owner's records
-told_clinic : (a b c : Option ℤ) → told_of (house_of two_owners) 0 (exchanges a b c) ≡ placed_from 0 (made (of_clinic a))
+told_clinic : (a b c : Option ℤ) → told_of (house_of two_owners) 0 (exchanges a b c) ≡ enumerate_from 0 (made (of_clinic a))
 unfolding meant_by request_of
 told_clinic a b c = refl
 
-told_school : (a b c : Option ℤ) → told_of (house_of two_owners) 1 (exchanges a b c) ≡ placed_from 0 (school_records b c)
+told_school : (a b c : Option ℤ) → told_of (house_of two_owners) 1 (exchanges a b c) ≡ enumerate_from 0 (school_records b c)
 unfolding meant_by request_of
 told_school a b c = refl
 

@@ -2,7 +2,7 @@
 use Rattle.std.proofs.Common.{◌≡◌, ℕ, zero, suc, List, [], ◌∷◌, ◌++◌, map, None, Some, codes, refl, pos, negsuc, inl, inr, slice_get, ap}
 use Rattle.std.specs.Prelude.{ℤ, Option}
 use Rattle.std.specs.Fmt.{digits}
-use Rattle.std.specs.List.{flat_map}
+use Rattle.std.specs.List.{flat_map, enumerate_from}
 use Rattle.partition_charge.specs.declared.view.View.TheVariants.{Whole, Part}
 use Rattle.partition_charge.specs.Cost.{cost_of_charges, partition_cost}
 use Rattle.journal_records.specs.declared.records.Record.{Record}
@@ -37,7 +37,7 @@ use Rattle.answer_path.proofs.SizePeople.{size_people, size_term, size_reads}
 use Rattle.session_core.specs.House.{Register, IsHeldBy, house_of}
 use Rattle.session_core.specs.Meant.{asks, says, wants, meant_by}
 use Rattle.session_core.specs.Exchanges.{Exchange}
-use Rattle.session_core.specs.Transcript.{LeadExactly, placed_from, IsScriptRun}
+use Rattle.session_core.specs.Transcript.{LeadExactly, IsScriptRun}
 use Rattle.session_core.specs.Served.{IsAskFor}
 use Rattle.session_core.specs.Code.{owner_at}
 use Rattle.session_core.proofs.Examples.{people, people_entry, ages_held, owner_entry, register_of, fresh, only, outcome_with, grant_answer, turn, quiet}
@@ -216,9 +216,9 @@ said line reply told = record { turn = turn (Some 0) line; reply = reply; told =
 abbrev exchanges : (a b c : Option ℤ) → List Exchange
 exchanges a b c =
     quiet None (codes "hello ann") (greeted (codes "ann"))
-    ∷ said ask_a (outcome_reply first_grant (outcome_with 2 a)) (placed_from 0 (added_first a))
-    ∷ said ask_b (outcome_reply second_grant (outcome_with 1 b)) (placed_from 2 (added_second b))
-    ∷ said ask_more (outcome_reply third_grant (outcome_with 2 c)) (placed_from 4 (added_third c))
+    ∷ said ask_a (outcome_reply first_grant (outcome_with 2 a)) (enumerate_from 0 (added_first a))
+    ∷ said ask_b (outcome_reply second_grant (outcome_with 1 b)) (enumerate_from 2 (added_second b))
+    ∷ said ask_more (outcome_reply third_grant (outcome_with 2 c)) (enumerate_from 4 (added_third c))
     ∷ quiet (Some 0) ask_all over_budget ∷ []
 
 abbrev replies : (a b c : Option ℤ) → List Replied

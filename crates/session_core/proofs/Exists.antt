@@ -1,7 +1,7 @@
 -- every script has replies, where every program has a reading
 use Rattle.std.proofs.Common.{◌≡◌, ℕ, ◌==◌, Bool, true, false, cond, List, [], ◌∷◌, ◌++◌, length, map, slice_get, Option, Some, None, refl, sym, ◌∙◌, ap, subst, eqb-true, append-nil}
 use Rattle.std.specs.Prelude.{ℤ, ◌+ℤ◌, Result, Ok, Err, MatchBool}
-use Rattle.std.specs.List.{AllByRecursion}
+use Rattle.std.specs.List.{AllByRecursion, enumerate_from}
 use mathlib.Core.Logic.{inl}
 use Rattle.journal_records.specs.declared.records.Outcome.{Outcome}
 use Rattle.journal_records.specs.declared.records.Outcome.TheVariants.{Answered, Exhausted}
@@ -31,7 +31,7 @@ use Rattle.session_core.specs.House.{House, AreOwners}
 use Rattle.session_core.specs.Meant.{Demand, asks, recalls, balances, Meant, says, wants}
 use Rattle.session_core.specs.Turns.{Turn, meant_at, turns_of}
 use Rattle.session_core.specs.Exchanges.{Exchange, IsPlain, ArePlain, TurnLeads}
-use Rattle.session_core.specs.Transcript.{Journals, first_new, placed_from, MeetsExactly, LeadExactly, IsScriptRun}
+use Rattle.session_core.specs.Transcript.{Journals, first_new, MeetsExactly, LeadExactly, IsScriptRun}
 use Rattle.answer_path.proofs.Existing.{every_reading}
 use Rattle.session_core.specs.Said.{NothingFailed}
 use Rattle.session_core.proofs.Turns.{AreKnown, turns_known}
@@ -136,7 +136,7 @@ module _ (house : House) (draws : ℕ → ℕ → ℕ → ℕ) (found : Journals
   met n owner line (asks query) seen only =
       let r = every_reading query.program in
       let a = by_judgement owner (draws n) (first_new (found n)) seen query (owners n owner only.stands).data_of r.0 r.1 (judgement_of (signature_of_view owner query.view) r.0) refl in
-      record { reply = a.reply; told = placed_from (length seen) a.added; added = a.added; meets = λ turn. (a.added, inl a.answered, refl, refl); had = a.had }
+      record { reply = a.reply; told = enumerate_from (length seen) a.added; added = a.added; meets = λ turn. (a.added, inl a.answered, refl, refl); had = a.had }
   met n owner line (recalls analyst number) seen only =
       let r : Recall = recalled_from (first_new (found n)) seen number analyst in
       record { reply = recall_reply number r; told = []; added = []; meets = λ turn. (refl, refl, append-nil seen); had = recall_had number r }

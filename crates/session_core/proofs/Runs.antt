@@ -3,6 +3,7 @@ use Rattle.std.proofs.Common.{◌≡◌, ◌≢◌, ℕ, zero, suc, ◌+◌, ◌
 use Rattle.std.specs.Prelude.{MatchBool}
 use Rattle.std.proofs.lemmas.Bool.{cases_lt}
 use Rattle.std.proofs.lemmas.Option.{slice_get_within}
+use Rattle.std.specs.List.{enumerate_from}
 use mathlib.Core.Logic.{◌⊎◌, inl, inr}
 use mathlib.Core.List.{IsPrefix}
 use Rattle.journal_records.specs.declared.records.Outcome.{Outcome}
@@ -30,7 +31,7 @@ use Rattle.session_core.specs.House.{House, IsOwnerIn}
 use Rattle.session_core.specs.Meant.{Demand, asks, recalls, balances, Meant, says, wants}
 use Rattle.session_core.specs.Turns.{Turn, meant_at}
 use Rattle.session_core.specs.Exchanges.{Exchange, TurnLeads}
-use Rattle.session_core.specs.Transcript.{placed_from, first_new, MeetsExactly, LeadExactly}
+use Rattle.session_core.specs.Transcript.{first_new, MeetsExactly, LeadExactly}
 use Rattle.session_core.specs.Served.{Sources, IsAskedAt, AreAskedBy, StandIn, IsBorneOutTo, IsHeldTo, AreHeldTo, SpeaksOf, LeavesOpen}
 use Rattle.session_core.proofs.Turns.{AreKnown}
 use Rattle.session_core.proofs.Wants.{AsksOnly, asks_only, only_stands, query_within}
@@ -158,7 +159,7 @@ module _ (house : House) (draws : ℕ → ℕ → ℕ → ℕ) (spoken : List Tu
   -- a turn that added a reservation, and perhaps its settlement
   added_first : (at : ℕ) (records added : List Record) (s : Sources) (query : Query) (x : Exchange) (xs : List Exchange) (last : List Record) (n : ℕ)
       → meant_at house x.turn ≡ wants o owner (asks query) → BearOut (earlier ++ (s.programs ++ query.program ∷ [])) (records ++ added) (asks query) x
-      → n ≡ first_new found + length s.places → x.told ≡ placed_from (length records) added → SpeaksOf n x ⊎ LeavesOpen n x
+      → n ≡ first_new found + length s.places → x.told ≡ enumerate_from (length records) added → SpeaksOf n x ⊎ LeavesOpen n x
       → Ran (suc at) (records ++ added) (with_source s query.program at) xs last → Ran at records s (x ∷ xs) last
   added_first at records added s query x xs last n meant borne numbered told said ran = record {
     sources = ran.sources;
@@ -181,7 +182,7 @@ module _ (house : House) (draws : ℕ → ℕ → ℕ → ℕ) (spoken : List Tu
   }
     where
       stand : StandIn last x.told
-      stand = subst (λ (t : List Told). StandIn last t) (sym told) (stand_on (records ++ added) last (placed_from (length records) added) ran.on (placed_stand records added))
+      stand = subst (λ (t : List Told). StandIn last t) (sym told) (stand_on (records ++ added) last (enumerate_from (length records) added) ran.on (placed_stand records added))
 
       on_programs : IsPrefix (earlier ++ (s.programs ++ query.program ∷ [])) (earlier ++ ran.sources.programs)
       on_programs = (ran.programs.0, append_assoc earlier (s.programs ++ query.program ∷ []) ran.programs.0 ∙ ap (λ (ps : List (List ℕ)). earlier ++ ps) ran.programs.1)
@@ -219,7 +220,7 @@ module _ (house : House) (draws : ℕ → ℕ → ℕ → ℕ) (spoken : List Tu
 
   -- a query that adds nothing, and whose reply speaks of no reservation
   refused_first : (at : ℕ) (records added after : List Record) (s : Sources) (query : Query) (x : Exchange) (xs : List Exchange) (last : List Record) → meant_at house x.turn ≡ wants o owner (asks query) → added ≡ []
-      → settlement_in x.reply ≡ None → x.told ≡ placed_from (length records) added → after ≡ records ++ added → IsFine at records s → LeadExactly house draws o (first_new found) after xs last → Runs (suc at) xs last
+      → settlement_in x.reply ≡ None → x.told ≡ enumerate_from (length records) added → after ≡ records ++ added → IsFine at records s → LeadExactly house draws o (first_new found) after xs last → Runs (suc at) xs last
       → Ran at records s (x ∷ xs) last
   refused_first at records added after s query x xs last meant none unsaid told is fine more rest =
       nothing_first at records after s (asks query) x xs last meant (λ programs. unsaid_bears programs records query x unsaid) (nothing_told (length records) added x.told told none) (nothing_after records added after is none) fine more rest
@@ -227,7 +228,7 @@ module _ (house : House) (draws : ℕ → ℕ → ℕ → ℕ) (spoken : List Tu
   -- a query that is granted, where this is what it adds
   granted_first : IsHistory owner.entry found → (at : ℕ) (records after : List Record) (s : Sources) (query : Query) (x : Exchange) (xs : List Exchange) (last : List Record) (asking : Ask) (grant : Grant) (outcome : Outcome)
       → IsVerdict owner.entry (signature_of_view owner query.view) (first_new found) records query (granted asking grant) → IsSettledBy owner (draws o) query grant.number outcome → x.reply ≡ outcome_reply grant outcome
-      → x.told ≡ placed_from (length records) (grant_records asking grant outcome) → after ≡ records ++ grant_records asking grant outcome → IsFine at records s → LeadExactly house draws o (first_new found) after xs last
+      → x.told ≡ enumerate_from (length records) (grant_records asking grant outcome) → after ≡ records ++ grant_records asking grant outcome → IsFine at records s → LeadExactly house draws o (first_new found) after xs last
       → IsQueryOf owner.entry query → IsAskedAt house o owner spoken at query.program → meant_at house x.turn ≡ wants o owner (asks query) → Runs (suc at) xs last → Ran at records s (x ∷ xs) last
   granted_first begun at records after s query x xs last asking grant outcome is settles reply told ends fine more of asked meant rest =
       let n : ℕ = grant.number in
@@ -244,7 +245,7 @@ module _ (house : House) (draws : ℕ → ℕ → ℕ → ℕ) (spoken : List Tu
   -- a query that is granted, where its settlement wasn't written
   opened_first : IsHistory owner.entry found → (at : ℕ) (records after : List Record) (s : Sources) (query : Query) (x : Exchange) (xs : List Exchange) (last : List Record) (asking : Ask) (grant : Grant) (refusal : DiskRefusal)
       → IsVerdict owner.entry (signature_of_view owner query.view) (first_new found) records query (granted asking grant) → x.reply ≡ refused (by_disk refusal)
-      → x.told ≡ placed_from (length records) (granted_record asking grant ∷ []) → after ≡ records ++ granted_record asking grant ∷ [] → IsFine at records s → LeadExactly house draws o (first_new found) after xs last
+      → x.told ≡ enumerate_from (length records) (granted_record asking grant ∷ []) → after ≡ records ++ granted_record asking grant ∷ [] → IsFine at records s → LeadExactly house draws o (first_new found) after xs last
       → IsQueryOf owner.entry query → IsAskedAt house o owner spoken at query.program → meant_at house x.turn ≡ wants o owner (asks query) → Runs (suc at) xs last → Ran at records s (x ∷ xs) last
   opened_first begun at records after s query x xs last asking grant refusal is reply told ends fine more of asked meant rest =
       let n : ℕ = grant.number in
@@ -260,18 +261,18 @@ module _ (house : House) (draws : ℕ → ℕ → ℕ → ℕ) (spoken : List Tu
 
   answered_first : IsHistory owner.entry found → (at : ℕ) (records added after : List Record) (s : Sources) (query : Query) (x : Exchange) (xs : List Exchange) (last : List Record) (v : Verdict)
       → IsVerdict owner.entry (signature_of_view owner query.view) (first_new found) records query v → IsAnsweredBy owner (draws o) query v x.reply added
-      → x.told ≡ placed_from (length records) added → after ≡ records ++ added → IsFine at records s → LeadExactly house draws o (first_new found) after xs last
+      → x.told ≡ enumerate_from (length records) added → after ≡ records ++ added → IsFine at records s → LeadExactly house draws o (first_new found) after xs last
       → IsQueryOf owner.entry query → IsAskedAt house o owner spoken at query.program → meant_at house x.turn ≡ wants o owner (asks query) → Runs (suc at) xs last → Ran at records s (x ∷ xs) last
   answered_first begun at records added after s query x xs last (program_refused refusal) is by told ends fine more of asked meant rest =
       refused_first at records added after s query x xs last meant by.1 (ap settlement_in by.0) told ends fine more rest
   answered_first begun at records added after s query x xs last (money_refused refusal) is by told ends fine more of asked meant rest =
       refused_first at records added after s query x xs last meant by.1 (ap settlement_in by.0) told ends fine more rest
   answered_first begun at records added after s query x xs last (granted asking grant) is (inl (outcome, settles, reply, all)) told ends fine more of asked meant rest =
-      granted_first begun at records after s query x xs last asking grant outcome is settles reply (told ∙ ap (placed_from (length records)) all) (ends ∙ ap (λ rs. records ++ rs) all) fine more of asked meant rest
+      granted_first begun at records after s query x xs last asking grant outcome is settles reply (told ∙ ap (enumerate_from (length records)) all) (ends ∙ ap (λ rs. records ++ rs) all) fine more of asked meant rest
   answered_first begun at records added after s query x xs last (granted asking grant) is (inr (refusal, reply, inl none)) told ends fine more of asked meant rest =
       refused_first at records added after s query x xs last meant none (ap settlement_in reply) told ends fine more rest
   answered_first begun at records added after s query x xs last (granted asking grant) is (inr (refusal, reply, inr one)) told ends fine more of asked meant rest =
-      opened_first begun at records after s query x xs last asking grant refusal is reply (told ∙ ap (placed_from (length records)) one) (ends ∙ ap (λ rs. records ++ rs) one) fine more of asked meant rest
+      opened_first begun at records after s query x xs last asking grant refusal is reply (told ∙ ap (enumerate_from (length records)) one) (ends ∙ ap (λ rs. records ++ rs) one) fine more of asked meant rest
 
   wants_first : IsHistory owner.entry found → (at : ℕ) (records after : List Record) (s : Sources) (demand : Demand) (x : Exchange) (xs : List Exchange) (last : List Record) → MeetsExactly (draws o) (first_new found) owner demand records x after
       → LeadExactly house draws o (first_new found) after xs last → IsFine at records s

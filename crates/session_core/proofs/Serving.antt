@@ -4,7 +4,7 @@ use Rattle.std.proofs.Common.{eq-eqb, eqb-true, length-set, get_or-set_same, get
 use Rattle.std.specs.Prelude.{if◌then◌else◌, min, MatchBool}
 use Rattle.std.proofs.lemmas.List.Sums.{sum_by-cons}
 use Rattle.std.proofs.lemmas.Option.{get_or_from_slice_get, slice_get-get_or}
-use Rattle.std.specs.List.{flat_map}
+use Rattle.std.specs.List.{flat_map, enumerate_from}
 use Rattle.std.proofs.lemmas.List.{map-append}
 use Rattle.std.proofs.lemmas.List.Concat.{flat_map-append}
 use mathlib.Core.Logic.{inl, inr}
@@ -27,7 +27,7 @@ use Rattle.session_core.specs.House.{House}
 use Rattle.session_core.specs.Meant.{Demand, asks, recalls, balances, Meant, says, wants}
 use Rattle.session_core.specs.Turns.{Turn, meant_at, turns_of}
 use Rattle.session_core.specs.Exchanges.{Exchange, IsPlain, AskOthers, TurnLeads, Lead, is_of, told_of}
-use Rattle.session_core.specs.Transcript.{placed_from, MeetsExactly, LeadExactly, IsScriptWritten}
+use Rattle.session_core.specs.Transcript.{MeetsExactly, LeadExactly, IsScriptWritten}
 use Rattle.session_core.specs.Served.{MeetsOnSome, AnswersOn, ClosesBy}
 use Rattle.session_core.specs.Code.{turns_left, who_behind, no_pass, pass_at, seen_by, found_by, ArePasses, GoesOn, AreServed, AreAlone, AreFresh, HasServed, room_for_line, room_for_lines}
 use Rattle.session_core.proofs.Exchanges.{all_append, lead_append}
@@ -54,11 +54,11 @@ pass_there passes o pass within is = is ∙ get_or_from_slice_get passes o (get_
 
 -- where nothing came in between, what a line was told stands right behind what it saw
 told_placed : (owner : Owner) (draws : ℕ → ℕ → ℕ) (start : ℕ) (query : Query) (seen : List Record) (reply : Replied) (told : List Told) (after : List Record) → IsAsked owner draws start query seen reply told after
-    → after ≡ seen ++ records_told told → told ≡ placed_from (length seen) (records_told told)
+    → after ≡ seen ++ records_told told → told ≡ enumerate_from (length seen) (records_told told)
 unfolding IsAsked
-told_placed owner draws start query seen reply told after (g, begins, inl (program_refused refusal, is, (said, none, rest))) whole = none ∙ sym (ap (λ ts. placed_from (length seen) (records_told ts)) none)
-told_placed owner draws start query seen reply told after (g, begins, inl (money_refused refusal, is, (said, none, rest))) whole = none ∙ sym (ap (λ ts. placed_from (length seen) (records_told ts)) none)
-told_placed owner draws start query seen reply told after (g, begins, inr (said, none, rest)) whole = none ∙ sym (ap (λ ts. placed_from (length seen) (records_told ts)) none)
+told_placed owner draws start query seen reply told after (g, begins, inl (program_refused refusal, is, (said, none, rest))) whole = none ∙ sym (ap (λ ts. enumerate_from (length seen) (records_told ts)) none)
+told_placed owner draws start query seen reply told after (g, begins, inl (money_refused refusal, is, (said, none, rest))) whole = none ∙ sym (ap (λ ts. enumerate_from (length seen) (records_told ts)) none)
+told_placed owner draws start query seen reply told after (g, begins, inr (said, none, rest)) whole = none ∙ sym (ap (λ ts. enumerate_from (length seen) (records_told ts)) none)
 told_placed owner draws start query seen reply told after (g, begins, inl (granted asking grant, is, inl two)) whole =
     let r : Record = granted_record asking grant in
     let s : Record = Settle grant.number two.outcome in
@@ -70,8 +70,8 @@ told_placed owner draws start query seen reply told after (g, begins, inl (grant
     let low : length g ≡ length seen = omega (arith, above, further, one, ends, all) in
     let high : length two.u ≡ length seen + 1 = omega (arith, above, further, one, ends, all) in
     two.told_is ∙ ap (λ (k : ℕ). (k, r) ∷ (length two.u, s) ∷ []) low ∙ ap (λ (k : ℕ). (length seen, r) ∷ (k, s) ∷ []) high
-    ∙ sym (ap (λ ts. placed_from (length seen) (records_told ts)) two.told_is)
-told_placed owner draws start query seen reply told after (g, begins, inl (granted asking grant, is, inr (refusal, said, inl (none, rest)))) whole = none ∙ sym (ap (λ ts. placed_from (length seen) (records_told ts)) none)
+    ∙ sym (ap (λ ts. enumerate_from (length seen) (records_told ts)) two.told_is)
+told_placed owner draws start query seen reply told after (g, begins, inl (granted asking grant, is, inr (refusal, said, inl (none, rest)))) whole = none ∙ sym (ap (λ ts. enumerate_from (length seen) (records_told ts)) none)
 told_placed owner draws start query seen reply told after (g, begins, inl (granted asking grant, is, inr (refusal, said, inr (told_one, on)))) whole =
     let r : Record = granted_record asking grant in
     let above = sym (ap length begins.1) ∙ length-append seen begins.0 in
@@ -79,7 +79,7 @@ told_placed owner draws start query seen reply told after (g, begins, inl (grant
     let one = length-append g (r ∷ []) in
     let all = ap length (whole ∙ ap (λ ts. seen ++ records_told ts) told_one) ∙ length-append seen (r ∷ []) in
     let low : length g ≡ length seen = omega (arith, above, further, one, all) in
-    told_one ∙ ap (λ (k : ℕ). (k, r) ∷ []) low ∙ sym (ap (λ ts. placed_from (length seen) (records_told ts)) told_one)
+    told_one ∙ ap (λ (k : ℕ). (k, r) ∷ []) low ∙ sym (ap (λ ts. enumerate_from (length seen) (records_told ts)) told_one)
 
 nothing_more : (seen : List Record) (told : List Told) (after : List Record) → told ≡ [] → after ≡ seen ++ records_told told → after ≡ seen
 nothing_more seen told after none whole = whole ∙ ap (λ ts. seen ++ records_told ts) none ∙ append-nil seen

@@ -11,12 +11,13 @@ use Rattle.wire_lines.specs.declared.refusal.LineRefusal.TheVariants.{Malformed,
 use Rattle.wire_lines.proofs.Requests.{grammar_from}
 use Rattle.session_core.specs.House.{House}
 use Rattle.session_core.specs.Meant.{meant_by, meant_by_request}
+use Rattle.session_core.specs.Code.{short_reply_limit}
 
-pub ended_short : length (reply_text ended) ≤ 8
+pub ended_short : length (reply_text ended) ≤ short_reply_limit
 unfolding reply_text
 ended_short = omega arith
 
-short_word : (word : ℕ) → word ≤ 5 → length (reply_text (refused (by_line (Malformed word)))) ≤ 8
+short_word : (word : ℕ) → word ≤ 5 → length (reply_text (refused (by_line (Malformed word)))) ≤ short_reply_limit
 unfolding reply_text digits
 short_word zero h = omega arith
 short_word (suc zero) h = omega arith
@@ -26,7 +27,7 @@ short_word (suc (suc (suc (suc zero)))) h = omega arith
 short_word (suc (suc (suc (suc (suc zero))))) h = omega arith
 short_word (suc (suc (suc (suc (suc (suc word)))))) h = absurd (omega arith)
 
-pub refusal_short : (refusal : LineRefusal) → IsFormRefusal refusal → length (reply_text (refused (by_line refusal))) ≤ 8
+pub refusal_short : (refusal : LineRefusal) → IsFormRefusal refusal → length (reply_text (refused (by_line refusal))) ≤ short_reply_limit
 unfolding reply_text
 refusal_short (Malformed word) h = short_word word h
 refusal_short TooLong h = omega arith

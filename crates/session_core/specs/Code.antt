@@ -8,6 +8,7 @@ use Rattle.budget_core.specs.Entries.{Entry, HasView}
 use Rattle.budget_ledger.specs.Account.{Storage, Went}
 use Rattle.wire_lines.specs.Reply.{Replied, greeted, answered, recalled, remaining, ended, refused, replied, reply_text}
 use Rattle.wire_lines.specs.declared.refusal.LineRefusal.{LineRefusal}
+use Rattle.wire_lines.specs.declared.reply.TheConstants.{REPLY_LIMIT}
 use Rattle.part_views.specs.Partitions.{HasPart}
 use Rattle.answer_path.specs.Owner.{Owner}
 use Rattle.answer_path.specs.Answered.{Told}
@@ -72,9 +73,13 @@ IsMeaningIn house (Asks query) =
 IsMeaningIn house (Recalls owner analyst number) = owner < length house.owners
 IsMeaningIn house (Balances owner) = owner < length house.owners
 
+-- no reply to a line of fewer than six bytes is longer
+abbrev pub short_reply_limit : ℕ
+short_reply_limit = 8
+
 -- as short a reply as any line may have, and no demand
 abbrev pub IsShort : LineMeaning → Type 0
-IsShort (Says reply who) = length (reply_text (replied reply)) ≤ 8
+IsShort (Says reply who) = length (reply_text (replied reply)) ≤ short_reply_limit
 IsShort (Asks query) = ⊥
 IsShort (Recalls owner analyst number) = ⊥
 IsShort (Balances owner) = ⊥
@@ -154,7 +159,7 @@ AreAlone house draws xs before after = (o : ℕ) (owner : Owner) → slice_get h
 
 -- room for the longest reply to a line of so many bytes: below six it asks nothing, and is refused or `bye`
 abbrev pub room_for_line : ℕ → ℕ
-room_for_line n = if nat_lt n 6 then 8 else 160
+room_for_line n = if nat_lt n 6 then short_reply_limit else REPLY_LIMIT
 
 -- room for the replies to some lines
 abbrev pub room_for_lines : List (List ℕ) → ℕ

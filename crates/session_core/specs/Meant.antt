@@ -11,7 +11,7 @@ use Rattle.answer_path.specs.Owner.{Owner}
 use Rattle.answer_path.specs.Query.{Query}
 use Rattle.session_core.specs.House.{House, analyst_named, owner_named, partition_named, partition_at, key_named}
 
--- what is demanded of an owner: an answer to a query, what became of a number that the analyst reserved, or what is left of
+-- what is demanded of an owner: an answer to a query, what became of a number that the analyst reserved, or what is spent of
 -- the budget
 pub data Demand : Type 0 where
   asks : Query → Demand
@@ -64,7 +64,7 @@ meant_by_recall who None number = says (refused (by_line (Unknown 1))) who
 meant_by_recall None (Some found) number = says (refused (by_line NoHello)) None
 meant_by_recall (Some analyst) (Some found) number = wants found.0 found.1 (recalls analyst number)
 
--- Anybody may see what is left.
+-- Anybody may see what is spent.
 abbrev pub meant_by_left : Option ℕ → Option (ℕ × Owner) → Meant
 meant_by_left who None = says (refused (by_line (Unknown 1))) who
 meant_by_left who (Some found) = wants found.0 found.1 balances

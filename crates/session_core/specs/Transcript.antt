@@ -1,29 +1,24 @@
 -- the transcript of a script: each line on the records so far
-use Rattle.std.specs.Prelude.{◌≡◌, ℕ, ◌+◌, List, [], ◌∷◌, ◌++◌, length, map, slice_get, Some, ◌⊎◌}
-use Rattle.std.specs.List.{flat_map}
+use Rattle.std.specs.Prelude.{◌≡◌, ℕ, List, [], ◌++◌, length, map, slice_get, Some, ◌⊎◌}
+use Rattle.std.specs.List.{enumerate_from, flat_map}
 use Rattle.journal_records.specs.declared.records.Record.{Record}
 use Rattle.budget_core.specs.Counts.{reservations_of}
 use Rattle.budget_core.specs.Answers.{recalled_from, left_by}
 use Rattle.wire_lines.specs.Reply.{Replied, reply_text}
 use Rattle.answer_path.specs.Owner.{Owner}
-use Rattle.answer_path.specs.Answered.{Told, IsAnswered, IsUnanswered}
+use Rattle.answer_path.specs.Answered.{IsAnswered, IsUnanswered}
 use Rattle.answer_path.specs.Standing.{recall_reply, left_reply}
 use Rattle.session_core.specs.House.{House}
 use Rattle.session_core.specs.Meant.{Demand, asks, recalls, balances}
 use Rattle.session_core.specs.Turns.{turns_of}
 use Rattle.session_core.specs.Exchanges.{Exchange, ArePlain, Lead}
 
--- records with their places, from this place on
-abbrev pub placed_from : ℕ → List Record → List Told
-placed_from k [] = []
-placed_from k (x ∷ xs) = (k, x) ∷ placed_from (k + 1) xs
-
 -- A demand is met on just the records that were known: what it adds stands right behind them.
 abbrev pub MeetsExactly :
     (ℕ → ℕ → ℕ) → (start : ℕ) → Owner → Demand → (seen : List Record) → Exchange → (after : List Record) → Type 0
 MeetsExactly draws start owner (asks query) seen x after =
     (added : List Record) × (IsAnswered owner draws start seen query x.reply added ⊎ IsUnanswered x.reply added)
-    × (x.told ≡ placed_from (length seen) added) × (after ≡ seen ++ added)
+    × (x.told ≡ enumerate_from (length seen) added) × (after ≡ seen ++ added)
 MeetsExactly draws start owner (recalls analyst number) seen x after =
     (x.reply ≡ recall_reply number (recalled_from start seen number analyst)) × (x.told ≡ []) × (after ≡ seen)
 MeetsExactly draws start owner balances seen x after = (x.reply ≡ left_reply (left_by owner.entry seen)) × (x.told ≡ []) × (after ≡ seen)

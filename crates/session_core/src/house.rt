@@ -47,14 +47,6 @@ impl House {
         House { catalog, datasets }
     }
 
-    /// How many owners there are.
-    pub fn owners(&self) -> usize
-        ensures count { result ≡ length (house_of self.now).owners }
-        ensures register { IsRegister self.now }
-    {
-        self.catalog.owners()
-    }
-
     /// The catalog.
     pub fn catalog(&self) -> &Catalog
         ensures { result.now ≡ self.now.catalog }
@@ -133,9 +125,8 @@ impl House {
         ensures part { IfSome result (λ j. HasPart (owner_at (house_of self.now) owner).partitions (Part partition j)) }
         ensures view { IfSome result (λ j. HasView (owner_at (house_of self.now) owner).entry (Part partition j)) }
     {
-        match self.catalog.key(owner, partition, key) {
-            Some(part) => Some(part as u8),
-            None => None,
-        }
+        self.catalog
+            .key(owner, partition, key)
+            .map(|part| part as u8)
     }
 }

@@ -1,4 +1,4 @@
-//! What is promised of every transcript.
+//! What is promised of every transcript. Each function does nothing: its contract is the law.
 
 ghost use Rattle.std.specs.Prelude.{ℕ, List, ◌≡◌, slice_get, Some};
 ghost use Rattle.std.specs.List.{AllByRecursion};
@@ -14,8 +14,8 @@ ghost use Rattle.session_core.specs.Said.{NothingFailed};
 
 /// The replies to a script, and the records after it, keep the promises to each owner: legal records within the budget,
 /// explained by the programs of the script's lines behind those of the records that were found, each line's reply the stated
-/// one, and against any second dataset a displacement of at most cost times distance. (It is proved of every house and of
-/// whatever legal and explained records were found, and there is nothing to do.)
+/// one, and against any second dataset a displacement of at most cost times distance. It is so of every house, and of whatever
+/// legal and explained records were found.
 pub fn every_transcript_keeps_the_headline()
     ensures { (house : House) (draws : ℕ → ℕ → ℕ → ℕ) (found : Journals) (earlier : Programs) (script : List ℕ) (replies : List Replied) →
         (last : Journals) →
@@ -23,8 +23,7 @@ pub fn every_transcript_keeps_the_headline()
         IsScriptRun house draws found script replies last → Headline house draws found earlier script replies last }
 {}
 
-/// Whatever records were found, by whatever programs, those after a script are legal and within the budget. (It is proved,
-/// and there is nothing to do.)
+/// Whatever records were found, by whatever programs, those after a script are legal and within the budget.
 pub fn every_transcript_is_owed()
     ensures { (house : House) (draws : ℕ → ℕ → ℕ → ℕ) (found : Journals) (script : List ℕ) (replies : List Replied) (last : Journals) →
         AreOwners house → AreHistories house found →
@@ -32,7 +31,7 @@ pub fn every_transcript_is_owed()
 {}
 
 /// Where nothing was answered, the records that were found keep what is owed at every status: they are legal and within the
-/// budget, and where programs explain them, these are behind all of them. (It is proved, and there is nothing to do.)
+/// budget, and where programs explain them, these are behind all of them.
 pub fn found_records_are_owed()
     ensures owed { (house : House) (found : Journals) → AreHistories house found → AreOwed house found found }
     ensures accounted { (house : House) (draws : ℕ → ℕ → ℕ → ℕ) (found : Journals) (earlier : Programs) (script : List ℕ) →
@@ -40,7 +39,7 @@ pub fn found_records_are_owed()
 {}
 
 /// Two lists of replies to a script, in none of which anything failed, are the same, and so are each owner's records after
-/// them. (It is proved of every house, whatever records were found, and there is nothing to do.)
+/// them, of every house and whatever records were found.
 pub fn one_transcript()
     ensures { (house : House) (draws : ℕ → ℕ → ℕ → ℕ) (found : Journals) (script : List ℕ) (replies others : List Replied) →
         (last end : Journals) →
@@ -50,7 +49,7 @@ pub fn one_transcript()
 {}
 
 /// Each script has replies in which nothing failed, whatever records were found. By `one_transcript` there are no others,
-/// so it has just one such transcript. (It is proved, and there is nothing to do.)
+/// so it has just one such transcript.
 pub fn scripts_have_transcripts()
     ensures { (house : House) (draws : ℕ → ℕ → ℕ → ℕ) (found : Journals) (script : List ℕ) → AreOwners house →
         (replies : List Replied) × (last : Journals) × IsScriptRun house draws found script replies last × AllByRecursion NothingFailed replies }
@@ -58,14 +57,13 @@ pub fn scripts_have_transcripts()
 
 /// Lines that ask other owners leave an owner's pass as it was: the records seen and added stay, so its budget and its numbers
 /// do, and its disk.
-/// (It is proved, and there is nothing to do.)
 pub fn lines_leave_other_owners()
     ensures { (house : House) (draws : ℕ → ℕ → ℕ → ℕ) (exchanges : List Exchange) (before after : List Pass) (o : ℕ) (owner : Owner) →
         AreServed house draws exchanges before after → slice_get house.owners o ≡ Some owner →
         AskOthers house o exchanges → pass_at after o ≡ pass_at before o }
 {}
 
-/// A register's owners have rows of their tables, and count its analysts. (It is proved, and there is nothing to do.)
+/// A register's owners have rows of their tables, and count its analysts.
 pub fn registers_are_houses()
     ensures { (register : Register) → IsRegister register → AreOwners (house_of register) }
 {}

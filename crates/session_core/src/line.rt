@@ -27,7 +27,7 @@ pub enum LineMeaning<'a> {
         analyst: u16,
         number: u32,
     },
-    /// What is left of this owner's budget.
+    /// What is spent of this owner's budget.
     Balances {
         owner: u32,
     },
@@ -189,7 +189,7 @@ fn read_recall<'a>(house: &House, who: Option<u16>, owner: &[u8], number: u32) -
     }
 }
 
-// Anybody may see what is left, before a hello too.
+// Anybody may see what is spent, before a hello too.
 fn read_left<'a>(house: &House, who: Option<u16>, owner: &[u8]) -> LineMeaning<'a>
     requires known { IsAnalyst (house_of house.now) who }
     ensures meaning { meaning_of (house_of house.now) result

@@ -8,7 +8,7 @@ ghost use Rattle.answer_path.specs.Answered.{Told};
 ghost use Rattle.session_core.specs.House.{house_of};
 ghost use Rattle.session_core.specs.Transcript.{IsScriptWritten};
 ghost use Rattle.session_core.specs.Turns.{is_bye};
-ghost use Rattle.session_core.specs.Code.{IsAnalyst, who_behind, is_ended, one_line, room_for_line, room_for_lines};
+ghost use Rattle.session_core.specs.Code.{IsAnalyst, who_behind, is_ended, one_line, room_for_line, room_for_lines, short_reply_limit};
 ghost use Rattle.session_core.specs.Code.{ArePasses, AreServed, AreAlone, AreFresh, HasServed, seen_by, found_by};
 
 use crate::house::House;
@@ -20,11 +20,18 @@ use outside_disks::disk::Disk;
 use std::alloc::{AllocError, Global};
 use wire_lines::{REPLY_LIMIT, Reply, next_line, write_reply};
 
+/// The most bytes of a reply to a line of fewer than six bytes.
+const SHORT_REPLY_LIMIT: usize = 8;
+
 // Room for the longest reply to a line of so many bytes. A shorter line than six asks nothing, and its reply is short.
 fn room_of(len: usize) -> usize
     ensures { result ≡ room_for_line len }
 {
-    if len < 6 { 8 } else { REPLY_LIMIT }
+    if len < 6 {
+        SHORT_REPLY_LIMIT
+    } else {
+        REPLY_LIMIT
+    }
 }
 
 // Room for the replies to all lines. It is taken before the first line, so that no reply waits for memory.
@@ -54,7 +61,7 @@ fn push_all(out: &mut Vec<u8>, bytes: &[u8])
 // Puts a reply's line at the end, where there is room for the reply to a line of so many bytes.
 fn push_reply(out: &mut Vec<u8>, reply: &Reply<'_>, len: usize)
     requires room { length out.old.items + room_for_line len ≤ vec_capacity out.old }
-    requires short { len < 6 → length (reply_text (replied reply.now)) ≤ 8 }
+    requires short { len < 6 → length (reply_text (replied reply.now)) ≤ short_reply_limit }
     ensures items { out.new.items ≡ out.old.items ++ reply_text (replied reply.now) }
     ensures capacity { vec_capacity out.new ≡ vec_capacity out.old }
     ensures fits { length (reply_text (replied reply.now)) ≤ room_for_line len }
@@ -110,7 +117,7 @@ pub fn answer_line<'a, D: Disk, S: Streams>(
     ensures who { result.who ≡ who_behind (house_of house.now) who line.now }
     ensures ends { result.ends ≡ is_bye line.now }
     ensures known { IsAnalyst (house_of house.now) result.who }
-    ensures short { length line.now < 6 → length (reply_text (replied result.reply)) ≤ 8 }
+    ensures short { length line.now < 6 → length (reply_text (replied result.reply)) ≤ short_reply_limit }
 {
     match read_line(house, who, line) {
         LineMeaning::Asks(query) => Answer {

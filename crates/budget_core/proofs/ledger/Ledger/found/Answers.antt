@@ -7,10 +7,10 @@ use Rattle.budget_core.proofs.ledger.Ledger.found.Goals as goal
 
 pub invariant_of-result : goal.invariant_of-result
 invariant_of-result c =
-    let known = c.in-Ok.ensures in
+    let known = c.in_ok-history.ensures in
     let sound = sound-found c.args.entry c.args.records.items c.found.ensures.valid known.history known.within c.requires.room in
-    run-found c.in-Ok.history c.len.result c.reservations.result
+    run-found c.in_ok-history.history c.len.result c.reservations.result
     (subst (λ (p : Past). IsSound (record { entry = p.entry; found = p.records; records = p.records })) (sym known.found) sound) c.len.ensures c.reservations.ensures
 
-pub returns-in-Ok-clause-sound : goal.returns-in-Ok-clause-sound
-returns-in-Ok-clause-sound c = (invariant_of-result c).sound
+pub returns-clause-sound : goal.returns-clause-sound
+returns-clause-sound c = (invariant_of-result c).sound

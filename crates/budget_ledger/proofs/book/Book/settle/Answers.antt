@@ -11,42 +11,42 @@ write_down-requires-clause-room g c none =
     let fits = settlement_fits c.self.inside.ledger c.args.number c.args.outcome c.self.invariant.book.sound unsettled in
     omega (arith, fits, c.self.invariant.counted none, c.self.invariant.room, c.self.invariant.book.capacity)
 
-pub invariant_of-self : goal.invariant_of-self
-invariant_of-self g c =
+pub invariant_of-self-2 : goal.invariant_of-self-2
+invariant_of-self-2 g c =
     let unsettled : IsUnsettled c.self.inside.ledger c.args.number = subst (λ (a : Account). IsUnsettled a.ledger c.args.number) (sym c.self.view_is) c.requires in
     written_holds g.D.Disk.trace g.D.Disk.faults c.self.inside.ledger c.self.inside.header (Settle c.args.number c.args.outcome) c.self.inside.journal c.write_down.new.journal
     c.self.inside.failure c.write_down.new.failure c.self.invariant
     (λ none. settlement_fits c.self.inside.ledger c.args.number c.args.outcome c.self.invariant.book.sound unsettled)
-    c.write_down.ensures.room c.in-Ok.ensures.written c.settle.new.self c.settle.ensures.after c.settle.ensures.sound
+    c.write_down.ensures.room c.in_ok-write_down.ensures.written c.settle.new.self c.settle.ensures.after c.settle.ensures.sound
 
-pub returns-in-Ok-clause-went : goal.returns-in-Ok-clause-went
-returns-in-Ok-clause-went g c =
+pub returns-clause-went : goal.returns-clause-went
+returns-clause-went g c =
     let unsettled : IsUnsettled c.self.inside.ledger c.args.number = subst (λ (a : Account). IsUnsettled a.ledger c.args.number) (sym c.self.view_is) c.requires in
     let went = written_went g.D.Disk.trace g.D.Disk.faults c.self.inside.ledger c.self.inside.header (Settle c.args.number c.args.outcome) c.self.inside.journal c.write_down.new.journal
     c.self.inside.failure c.write_down.new.failure c.self.invariant
     (λ none. settlement_fits c.self.inside.ledger c.args.number c.args.outcome c.self.invariant.book.sound unsettled)
-    c.write_down.ensures.room c.in-Ok.ensures.written c.settle.new.self c.settle.ensures.after in
+    c.write_down.ensures.room c.in_ok-write_down.ensures.written c.settle.new.self c.settle.ensures.after in
     rw (← c.self.view_is) went
 
-pub returns-in-Ok-clause-kept : goal.returns-in-Ok-clause-kept
-returns-in-Ok-clause-kept g c = (invariant_of-self g c).book
+pub returns-clause-kept : goal.returns-clause-kept
+returns-clause-kept g c = (invariant_of-self-2 g c).book
 
-pub invariant_of-self-in-Err : goal.invariant_of-self-in-Err
-invariant_of-self-in-Err g c =
+pub invariant_of-self : goal.invariant_of-self
+invariant_of-self g c =
     let unsettled : IsUnsettled c.self.inside.ledger c.args.number = subst (λ (a : Account). IsUnsettled a.ledger c.args.number) (sym c.self.view_is) c.requires in
     stopped_holds g.D.Disk.trace g.D.Disk.faults c.self.inside.ledger c.self.inside.header (Settle c.args.number c.args.outcome) c.self.inside.journal c.write_down.new.journal
     c.self.inside.failure c.write_down.new.failure c.self.invariant
     (λ none. settlement_fits c.self.inside.ledger c.args.number c.args.outcome c.self.invariant.book.sound unsettled)
-    c.write_down.ensures.room c.in-Err.fault c.in-Err.ensures.stopped (record { reserved = unsettled.reserved; unsettled = unsettled.unsettled })
+    c.write_down.ensures.room _ c.in_err-write_down.ensures.stopped (record { reserved = unsettled.reserved; unsettled = unsettled.unsettled })
 
-pub returns-in-Err-clause-went : goal.returns-in-Err-clause-went
-returns-in-Err-clause-went g c =
+pub returns-in_err-write_down-clause-went : goal.returns-in_err-write_down-clause-went
+returns-in_err-write_down-clause-went g c =
     let unsettled : IsUnsettled c.self.inside.ledger c.args.number = subst (λ (a : Account). IsUnsettled a.ledger c.args.number) (sym c.self.view_is) c.requires in
     let went = stopped_went g.D.Disk.trace g.D.Disk.faults c.self.inside.ledger c.self.inside.header (Settle c.args.number c.args.outcome) c.self.inside.journal c.write_down.new.journal
     c.self.inside.failure c.write_down.new.failure c.self.invariant
     (λ none. settlement_fits c.self.inside.ledger c.args.number c.args.outcome c.self.invariant.book.sound unsettled)
-    c.write_down.ensures.room c.in-Err.fault c.in-Err.ensures.stopped in
+    c.write_down.ensures.room _ c.in_err-write_down.ensures.stopped in
     rw (← c.self.view_is) went
 
-pub returns-in-Err-clause-kept : goal.returns-in-Err-clause-kept
-returns-in-Err-clause-kept g c = (invariant_of-self-in-Err g c).book
+pub returns-in_err-write_down-clause-kept : goal.returns-in_err-write_down-clause-kept
+returns-in_err-write_down-clause-kept g c = (invariant_of-self g c).book
