@@ -1,0 +1,129 @@
+//! Connections and the replies to their lines. What is wanted was written by tools/reference.py, which shares nothing with the
+//! server but the rules.
+
+use crate::links::RepliesFirst;
+use crate::serving::{connection, served};
+use fz_outside::Failed;
+use fz_outside::words::ListStreams;
+use memory_runs::{Piece, TABLE, joined};
+use outside_links::link::Link;
+use outside_links::memory::MemLink;
+use session_serve::serve::SessionEnd::{self, Bye, EndOfInput};
+use std::test::Fail;
+
+// The bytes of a connection, what is written to it, and how its session ends.
+type Visit = (&'static [Piece<'static>], &'static [u8], SessionEnd);
+
+// An ask, and what later sessions find of it; an analyst's name is forgotten between them.
+#[rattlefmt::skip]
+const IN_A_ROW: [Visit; 5] = [
+    (&[(b"hello ann\nask census 1 size people\nbye\n", 1)], b"hello ann\nanswer 0 5 1000000\nbye\n", Bye),
+    (&[(b"recall census 0\nleft census\nask census 1 size people\n", 1)], b"no 14\nleft 1000000 10000000 2\nno 14\n", EndOfInput),
+    (&[(b"hello ann\nrecall census 0\nrecall census 1\nhello bob\nrecall census 0\nbye\n", 1)],
+        b"hello ann\nrecall 0 answer 5 2\nno 60 1 2\nhello bob\nno 61 0 2\nbye\n", Bye),
+    (&[], b"", EndOfInput),
+    (&[(b"hello bob\nask census 1 size people\nask census 0.5 2 * size people\nrecall census 2\nask census 1 size peo", 1)],
+        b"hello bob\nanswer 1 3 1000000\nanswer 2 6 1000000\nrecall 2 answer 6 6\nno 30 unbound 5 8\n", EndOfInput),
+];
+
+// Where a line and a session end.
+#[rattlefmt::skip]
+const ENDS: [Visit; 10] = [
+    (&[(b"bye", 1)], b"bye\n", Bye),
+    (&[(b"bye\r", 1)], b"bye\n", Bye),
+    (&[(b"bye\r\n", 1)], b"bye\n", Bye),
+    (&[(b"hello ann\nbye\nhello ann\nbye\n", 1)], b"hello ann\nbye\n", Bye),
+    (&[(b"bye \nhello ann\r\nby", 1)], b"no 10 1\nhello ann\nno 10 0\n", EndOfInput),
+    (&[(b"\n\r\n\r", 1)], b"no 10 0\nno 10 0\nno 10 0\n", EndOfInput),
+    (&[(b"bye\r\r\n bye\n", 1)], b"no 10 0\nno 10 0\n", EndOfInput),
+    // lines at the limit and over it
+    (&[(b"x", 16384), (b"\r\n", 1), (b"x", 16384), (b"\n", 1), (b"x", 16384), (b"\r\r\n", 1), (b"x", 16385), (b"\r\nbye\n", 1)],
+        b"no 10 0\nno 10 0\nno 11\nno 11\nbye\n", Bye),
+    (&[(b"hello ann\nask census 1 ", 1), (b"x", 16371), (b"\r\nask census 1 ", 1), (b"x", 16372), (b"\nleft census\n", 1), (b"bye", 16385)],
+        b"hello ann\nno 20 16000\nno 11\nleft 0 10000000 0\nno 11\n", EndOfInput),
+    (&[(b"bye ", 4096), (b"\nbye ", 1), (b" ", 16381), (b"\nbye", 1)], b"no 10 1\nno 11\nbye\n", Bye),
+];
+
+// Lines that are refused, before a hello and behind one.
+#[rattlefmt::skip]
+const REFUSED: [Visit; 2] = [
+    (&[(b"\nask census 0 size people\nask census 1 size people\nask nobody 1 x\nrecall census\n", 1), (b"x", 16385), (b"\n", 1)],
+        b"no 10 0\nno 13\nno 14\nno 12 1\nno 10 2\nno 11\n", EndOfInput),
+    (&[(b"hello ann\nhello\nhello ann x\nhello  ann\nhello eve\nrecall census 0\nASK census 1 1\nask census 1\nask census 1 \n\
+        ask census 1. 1\nask census 0.0000001 1\nask census 1000.000001 1\nrecall census 4294967296\nrecall census 4294967295\n\
+        ask census 1 \"\nask census 1 1125899906842625\nask census 1 naaaaaaaaaaaaaaaaaaaaaaaaaaaaaaaa\nask census 1 \0\n\
+        ask census 1 ", 1), (b"(", 4097), (b"\nask census 1 ", 1), (b"(", 4096), (b"\nask census 1 ", 1), (b" ", 16001),
+        (b"\nask census 1 size people people\nask census 1 (fn (x : num) => x\nask census 1 1 -o 2\nrecall census 0\nbye\r\n", 1)],
+        b"hello ann\nno 10 1\nno 10 2\nno 10 1\nno 12 1\nno 60 0 0\nno 10 0\nno 10 3\nno 21 0\n\
+        no 13\nno 13\nno 13\nno 10 2\nno 60 4294967295 0\n\
+        no 20 0\nno 20 0\nno 20 0\nno 20 0\n\
+        no 20 4096\nno 21 4096\nno 20 16000\nno 21 2\nno 21 9\nno 21 1\nno 60 0 0\nbye\n", Bye),
+];
+
+// Each connection is read whole, by sevens, by threes and byte by byte; what is written to it is cut alike.
+#[test]
+fn connections(rt: HostRuntime) -> Result<(), Fail> {
+    let alloc = rt.alloc();
+    let rows: [&[Visit]; 3] = [&IN_A_ROW, &ENDS, &REFUSED];
+    for visits in rows {
+        for piece in [65_536, 7, 3, 1_usize] {
+            let mut house = served(alloc, TABLE)?;
+            for (pieces, wanted, end) in visits {
+                let input = joined(alloc, pieces)?;
+                let mut link = connection(alloc, &input, 1024, piece, &[])?;
+                let ended = house.serve_by_key(alloc, &mut link);
+                assert_eq!(rt; ended, *end, "{pieces:?} by {piece}");
+                assert!(rt; link.written() == *wanted, "{pieces:?} by {piece}");
+                assert_eq!(rt; link.faults(), 0, "{pieces:?} by {piece}");
+            }
+        }
+    }
+    Ok(())
+}
+
+// Rows of a table, draws, what is asked of it by ann, and the replies.
+type Draw = (&'static [u8], &'static [u64], &'static [u8]);
+
+// The draws of the first give a zero's sign, -1 and no more; zeros alone never end.
+#[rattlefmt::skip]
+const LISTED: [Draw; 2] = [
+    (b"age\n", &[0, 0, 0, 0, 1, 0, 1, 0], b"hello ann\nanswer 0 -1 1000000\nrecall 0 answer -1 2\nleft 1000000 10000000 2\n"),
+    (TABLE, &[], b"hello ann\nno 50 0\nrecall 0 exhausted 2\nleft 1000000 10000000 2\n"),
+];
+
+// Answers over listed draws, worked out by the sampler's rules.
+#[test]
+fn listed_draws(rt: HostRuntime) -> Result<(), Fail> {
+    let alloc = rt.alloc();
+    for (table, draws, wanted) in LISTED {
+        let mut house = served(alloc, table)?;
+        let input = b"hello ann\nask census 1 size people\nrecall census 0\nleft census\n";
+        let mut link = MemLink::new(alloc, input, 256, 256, &[])?;
+        let ended = house.serve(alloc, &mut link, &ListStreams::new(draws));
+        assert_eq!(rt; ended, EndOfInput, "{draws:?}");
+        assert!(rt; link.written() == wanted, "{draws:?}");
+    }
+    Ok(())
+}
+
+// A reply is written before the next line is read. No clause says so.
+#[test]
+fn replies_come_first(rt: HostRuntime) -> Result<(), Fail> {
+    let alloc = rt.alloc();
+    let input = b"hello ann\nask census 1 size people\n\nleft census\n";
+    let mut link = RepliesFirst::new(alloc, input);
+    let ended = served(alloc, TABLE)?.serve_by_key(alloc, &mut link);
+    assert_eq!(rt; ended, EndOfInput);
+    assert_eq!(rt; link.faults(), 0);
+    assert!(rt;
+        link.written()
+            == b"hello ann\nanswer 0 5 1000000\nno 10 0\nleft 1000000 10000000 2\n".as_slice()
+    );
+    // Such a connection fails a second read without a reply.
+    let mut link = RepliesFirst::new(alloc, input);
+    let mut buf = [0; 64];
+    assert_eq!(rt; link.read(&mut buf), Ok(10));
+    assert_eq!(rt; link.read(&mut buf), Err(Failed));
+    assert_eq!(rt; link.faults(), 1);
+    Ok(())
+}

@@ -1,0 +1,15 @@
+//! Tests of sessions, by `serve` over connections, disks and journals in memory.
+#![tactic(auto)]
+
+#[cfg(test)]
+mod connections;
+#[cfg(test)]
+mod failing;
+#[cfg(test)]
+mod limits;
+#[cfg(test)]
+mod links;
+#[cfg(test)]
+mod memory;
+#[cfg(test)]
+mod serving;
