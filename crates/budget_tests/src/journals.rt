@@ -62,54 +62,63 @@ fn append_one<D: Disk>(alloc: Global, disk: D, number: u32) -> (D, Result<(), Di
     }
 }
 
-// Each cause of a refused journal, and a gate byte that was torn.
+/// What is on the disk of a journal with one record.
+fn with_one(alloc: Global) -> Option<Vec<u8>> {
+    let mut disk = MemDisk::new(alloc, &[], LIMITS, &[]).ok()?;
+    Journal::init(&mut disk, &header_of(1)).ok()?;
+    let (disk, answer) = append_one(alloc, disk, 7);
+    answer.ok()?;
+    disk.bytes().to_vec(alloc).ok()
+}
+
+/// What an opening answers over these bytes, some of them changed.
+fn opened_with(
+    alloc: Global,
+    bytes: &[u8],
+    changes: &[(usize, u8)],
+    header: &Header,
+) -> Option<Result<usize, OpenFault>> {
+    let mut changed = bytes.to_vec(alloc).ok()?;
+    for (place, byte) in changes {
+        if let Some(gate) = changed.get_mut(*place) {
+            *gate = *byte;
+        }
+    }
+    let disk = MemDisk::new(alloc, &changed, LIMITS, &[]).ok()?;
+    Some(opened(alloc, disk, header))
+}
+
+// Gates that are changed: none; slot 2 open behind slot 1, which is closed; the torn one of the record, which then is not there.
+#[rattlefmt::skip]
+const GATES: [(&[(usize, u8)], Result<usize, OpenFault>); 3] = [
+    (&[], Ok(1)),
+    (&[(256, 0xA5)], Err(OpenFault::Damaged { slot: 2 })),
+    (&[(256, 0), (128, 0x25)], Ok(0)),
+];
+
+#[test]
+fn gates(rt: HostRuntime) {
+    let alloc = rt.alloc();
+    let bytes = with_one(alloc).expect(&rt, "a journal");
+    assert!(rt; bytes.len() == 6528);
+    for (changes, want) in GATES {
+        assert!(rt; opened_with(alloc, &bytes, changes, &header_of(1)) == Some(want));
+    }
+}
+
+// A journal isn't made twice, nor opened before it is made or for another catalog.
 #[test]
 fn refusals(rt: HostRuntime) -> Result<(), AllocError> {
     let alloc = rt.alloc();
+    let bytes = with_one(alloc).expect(&rt, "a journal");
+    let changed = opened_with(alloc, &bytes, &[], &header_of(2));
+    assert!(rt; matches!(changed, Some(Err(OpenFault::Changed { .. }))));
+    let empty = opened_with(alloc, &[], &[], &header_of(1));
+    assert!(rt; empty == Some(Err(OpenFault::NotInitialised { length: 0 })));
     let mut disk = MemDisk::new(alloc, &[], LIMITS, &[])?;
-    assert_eq!(rt; Journal::init(&mut disk, &header_of(1)), Ok(()));
-    assert_eq!(rt;
-        Journal::init(&mut disk, &header_of(1)),
-        Err(InitFault::AlreadyThere { length: 6528 })
-    );
-    let (disk, answer) = append_one(alloc, disk, 7);
-    assert_eq!(rt; answer, Ok(()));
-    let mut bytes = disk.bytes().to_vec(alloc)?;
-    assert_eq!(rt; bytes.len(), 6528);
-
-    let kept = MemDisk::new(alloc, &bytes, LIMITS, &[])?;
-    assert_eq!(rt; opened(alloc, kept, &header_of(1)), Ok(1));
-    let changed = MemDisk::new(alloc, &bytes, LIMITS, &[])?;
-    assert!(rt;
-        matches!(
-            opened(alloc, changed, &header_of(2)),
-            Err(OpenFault::Changed { .. })
-        )
-    );
-    let empty = MemDisk::new(alloc, &[], LIMITS, &[])?;
-    assert_eq!(rt;
-        opened(alloc, empty, &header_of(1)),
-        Err(OpenFault::NotInitialised { length: 0 })
-    );
-
-    // Slot 2 is open behind slot 1, which is closed.
-    if let Some(gate) = bytes.get_mut(256) {
-        *gate = 0xA5;
-    }
-    let damaged = MemDisk::new(alloc, &bytes, LIMITS, &[])?;
-    assert_eq!(rt;
-        opened(alloc, damaged, &header_of(1)),
-        Err(OpenFault::Damaged { slot: 2 })
-    );
-
-    // A torn gate: the record isn't there.
-    for (place, byte) in [(256, 0), (128, 0x25)] {
-        if let Some(gate) = bytes.get_mut(place) {
-            *gate = byte;
-        }
-    }
-    let torn = MemDisk::new(alloc, &bytes, LIMITS, &[])?;
-    assert_eq!(rt; opened(alloc, torn, &header_of(1)), Ok(0));
+    assert!(rt; Journal::init(&mut disk, &header_of(1)) == Ok(()));
+    let again = Journal::init(&mut disk, &header_of(1));
+    assert!(rt; again == Err(InitFault::AlreadyThere { length: 6528 }));
     Ok(())
 }
 
@@ -119,10 +128,10 @@ fn a_fault_at_each_call(rt: HostRuntime) -> Result<(), AllocError> {
     let alloc = rt.alloc();
     for (call, left) in [(103, 0), (104, 0), (105, 0), (106, 1)] {
         let mut disk = MemDisk::new(alloc, &[], LIMITS, &[])?;
-        assert_eq!(rt; Journal::init(&mut disk, &header_of(1)), Ok(()));
+        assert!(rt; Journal::init(&mut disk, &header_of(1)) == Ok(()));
         let (blip, answer) = append_one(alloc, BlipDisk::new(disk, call), 7);
-        assert_eq!(rt; answer, Err(DiskFault));
-        assert_eq!(rt; opened(alloc, blip.into_inner(), &header_of(1)), Ok(left));
+        assert!(rt; answer == Err(DiskFault));
+        assert!(rt; opened(alloc, blip.into_inner(), &header_of(1)) == Ok(left));
     }
     Ok(())
 }

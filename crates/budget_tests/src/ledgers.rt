@@ -18,24 +18,14 @@ const SECOND: View = View::Part {
     part: 1,
 };
 
-const fn ask_of(view: View, e: u32, p: u32, q: u32) -> Ask {
-    Ask {
-        analyst: 1,
-        view,
-        e,
-        p,
-        q,
-        program: [9; 32],
-    }
-}
-
-fn reserve(view: View, e: u32) -> Event {
-    Event::Reserve(ask_of(view, e, 1, 1))
-}
-
-fn answer(number: u32) -> Event {
-    Event::Settle(number, Outcome::Answered(5))
-}
+const ASK: Ask = Ask {
+    analyst: 1,
+    view: View::Whole,
+    e: 1,
+    p: 1,
+    q: 1,
+    program: [9; 32],
+};
 
 // A budget of 10, room for 6 records, two analysts, and a partition with two keys.
 fn small_entry(alloc: Global) -> Result<Entry, AllocError> {
@@ -49,86 +39,132 @@ fn counted(alloc: Global, events: &[Event]) -> Result<(usize, u32, usize), Alloc
 }
 
 // Spent by one ask: sent once, and over budget after a stop.
-fn spent_at_once() -> [Event; 9] {
-    [
-        reserve(View::Whole, 10),
-        Event::Send(0),
-        answer(0),
-        Event::Send(0),
-        Event::Send(0),
-        Event::Stop,
-        reserve(View::Whole, 0),
-        Event::Open,
-        reserve(View::Whole, 1),
-    ]
-}
+const SPENT_AT_ONCE: [Event; 9] = [
+    Event::Reserve(Ask {
+        view: View::Whole,
+        e: 10,
+        ..ASK
+    }),
+    Event::Send(0),
+    Event::Settle(0, Outcome::Answered(5)),
+    Event::Send(0),
+    Event::Send(0),
+    Event::Stop,
+    Event::Reserve(Ask {
+        view: View::Whole,
+        e: 0,
+        ..ASK
+    }),
+    Event::Open,
+    Event::Reserve(Ask {
+        view: View::Whole,
+        e: 1,
+        ..ASK
+    }),
+];
 
 // The parts of a partition cost as much as the dearest; there is room for three reservations and their settlements.
-fn parts() -> [Event; 5] {
-    [
-        reserve(FIRST, 6),
-        reserve(SECOND, 6),
-        reserve(FIRST, 4),
-        reserve(View::Whole, 1),
-        reserve(SECOND, 4),
-    ]
-}
+const PARTS: [Event; 5] = [
+    Event::Reserve(Ask {
+        view: FIRST,
+        e: 6,
+        ..ASK
+    }),
+    Event::Reserve(Ask {
+        view: SECOND,
+        e: 6,
+        ..ASK
+    }),
+    Event::Reserve(Ask {
+        view: FIRST,
+        e: 4,
+        ..ASK
+    }),
+    Event::Reserve(Ask {
+        view: View::Whole,
+        e: 1,
+        ..ASK
+    }),
+    Event::Reserve(Ask {
+        view: SECOND,
+        e: 4,
+        ..ASK
+    }),
+];
 
 // Two that an earlier run left open, and room for two more with their settlements.
-fn two_runs() -> [Event; 10] {
-    [
-        reserve(View::Whole, 1),
-        reserve(View::Whole, 1),
-        Event::Open,
-        answer(0),
-        reserve(View::Whole, 1),
-        reserve(View::Whole, 1),
-        answer(2),
-        answer(2),
-        answer(3),
-        reserve(View::Whole, 1),
-    ]
-}
+const TWO_RUNS: [Event; 10] = [
+    Event::Reserve(Ask {
+        view: View::Whole,
+        e: 1,
+        ..ASK
+    }),
+    Event::Reserve(Ask {
+        view: View::Whole,
+        e: 1,
+        ..ASK
+    }),
+    Event::Open,
+    Event::Settle(0, Outcome::Answered(5)),
+    Event::Reserve(Ask {
+        view: View::Whole,
+        e: 1,
+        ..ASK
+    }),
+    Event::Reserve(Ask {
+        view: View::Whole,
+        e: 1,
+        ..ASK
+    }),
+    Event::Settle(2, Outcome::Answered(5)),
+    Event::Settle(2, Outcome::Answered(5)),
+    Event::Settle(3, Outcome::Answered(5)),
+    Event::Reserve(Ask {
+        view: View::Whole,
+        e: 1,
+        ..ASK
+    }),
+];
 
 #[test]
 fn events(rt: HostRuntime) -> Result<(), AllocError> {
     let alloc = rt.alloc();
-    assert_eq!(rt; counted(alloc, &spent_at_once())?, (2, 1, 1));
-    assert_eq!(rt; counted(alloc, &parts())?, (3, 0, 0));
-    assert_eq!(rt; counted(alloc, &two_runs())?, (6, 2, 0));
+    assert!(rt; counted(alloc, &SPENT_AT_ONCE)? == (2, 1, 1));
+    assert!(rt; counted(alloc, &PARTS)? == (3, 0, 0));
+    assert!(rt; counted(alloc, &TWO_RUNS)? == (6, 2, 0));
     Ok(())
 }
 
 #[test]
 fn found_records(rt: HostRuntime) -> Result<(), AllocError> {
     let alloc = rt.alloc();
-    let ask = ask_of(View::Whole, 1, 3, 2);
+    let ask = Ask { p: 3, q: 2, ..ASK };
     let first = Ledger::new(alloc, small_entry(alloc)?)?;
     assert!(rt; first.entry().has_ask(&ask));
     let grant = first.verdict(&ask).expect(&rt, "granted");
     let reservation = first.reservation(&ask, &grant);
     let twice = Vec::from_array(alloc, [reservation, reservation])?;
     let refused = Ledger::found(alloc, small_entry(alloc)?, twice).err();
-    assert_eq!(rt; refused, Some(FoundFault::Astray(1)));
+    assert!(rt; refused == Some(FoundFault::Astray(1)));
     let once = Vec::from_array(alloc, [reservation])?;
     let ledger = Ledger::found(alloc, small_entry(alloc)?, once)
         .ok()
         .expect(&rt, "a ledger");
-    assert_eq!(rt; ledger.recall(0, 1), Recall::Lost { seen: 1 });
-    assert_eq!(rt; ledger.recall(0, 0), Recall::NotYours { seen: 1 });
-    assert_eq!(rt; ledger.recall(1, 1), Recall::Unknown { seen: 1 });
+    assert!(rt; ledger.recall(0, 1) == Recall::Lost { seen: 1 });
+    assert!(rt; ledger.recall(0, 0) == Recall::NotYours { seen: 1 });
+    assert!(rt; ledger.recall(1, 1) == Recall::Unknown { seen: 1 });
     let left = Left {
         spent: 2,
         budget: 10,
         seen: 1,
     };
-    assert_eq!(rt; ledger.left(), left);
+    assert!(rt; ledger.left() == left);
     let counts = Counts {
         reservations: 1,
         answered: 0,
         exhausted: 0,
         lost: 1,
     };
-    assert_eq!(rt; ledger.counts(), counts);
+    assert!(rt; ledger.counts() == counts);
     Ok(())
 }

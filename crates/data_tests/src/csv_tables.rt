@@ -66,55 +66,29 @@ fn gives(alloc: Global, bytes: &[u8], want: Result<&[Person<'_>], TableFault>) -
     }
 }
 
+#[rattlefmt::skip]
+const CASES: [(&[u8], Result<&[Person<'static>], TableFault>); 14] = [
+    (b"name,age,town\nann,20,oslo\n,-3,\n", Ok(&[(b"ann", 20, b"oslo"), (b"", -3, b"")])),
+    (b"\xEF\xBB\xBF\xEF\xBB\xBFname,age,town\r\nann,20,ny\r\n", Ok(&[(b"ann", 20, b"ny")])),
+    (b"\"name\",age,town\n\n\"a,b\",\"-0\",\"x\"\"y\r\nz\"", Ok(&[(b"a,b", 0, b"x\"y\r\nz")])),
+    (b"name,age,town\n\xFF\x00,007, 7\n", Ok(&[(b"\xFF\x00", 7, b" 7")])),
+    (b"name,age,town\n7,1125899906842624,+\n", Ok(&[(b"7", 1 << 50, b"+")])),
+    (b"name,age,town", Ok(&[])),
+    (b"", Err(TableFault::BadHeader)),
+    (b"name,town,age\n", Err(TableFault::BadHeader)),
+    (b"name,age\nann,20\n", Err(TableFault::BadHeader)),
+    (b"name,age,town,\n", Err(TableFault::BadHeader)),
+    (b"name,age,town\nann,20,ny\nbob,x\n", Err(TableFault::BadRecord { row: 1 })),
+    (b"name,age,town\nann,x,ny\nbob,20\n", Err(TableFault::BadCell { row: 0, col: 1 })),
+    (b"name,age,town\nann,,ny\n", Err(TableFault::BadCell { row: 0, col: 1 })),
+    (b"name,age,town\nann,-1125899906842625,ny\n", Err(TableFault::BadCell { row: 0, col: 1 })),
+];
+
 #[test]
-fn files(rt: HostRuntime) -> Result<(), Fail> {
-    let cases: [(&[u8], Result<&[Person<'_>], TableFault>); 14] = [
-        (
-            b"name,age,town\nann,20,oslo\n,-3,\n",
-            Ok(&[(b"ann", 20, b"oslo"), (b"", -3, b"")]),
-        ),
-        (
-            b"\xEF\xBB\xBF\xEF\xBB\xBFname,age,town\r\nann,20,ny\r\n",
-            Ok(&[(b"ann", 20, b"ny")]),
-        ),
-        (
-            b"\"name\",age,town\n\n\"a,b\",\"-0\",\"x\"\"y\r\nz\"",
-            Ok(&[(b"a,b", 0, b"x\"y\r\nz")]),
-        ),
-        (
-            b"name,age,town\n\xFF\x00,007, 7\n",
-            Ok(&[(b"\xFF\x00", 7, b" 7")]),
-        ),
-        (
-            b"name,age,town\n7,1125899906842624,+\n",
-            Ok(&[(b"7", 1 << 50, b"+")]),
-        ),
-        (b"name,age,town", Ok(&[])),
-        (b"", Err(TableFault::BadHeader)),
-        (b"name,town,age\n", Err(TableFault::BadHeader)),
-        (b"name,age\nann,20\n", Err(TableFault::BadHeader)),
-        (b"name,age,town,\n", Err(TableFault::BadHeader)),
-        (
-            b"name,age,town\nann,20,ny\nbob,x\n",
-            Err(TableFault::BadRecord { row: 1 }),
-        ),
-        (
-            b"name,age,town\nann,x,ny\nbob,20\n",
-            Err(TableFault::BadCell { row: 0, col: 1 }),
-        ),
-        (
-            b"name,age,town\nann,,ny\n",
-            Err(TableFault::BadCell { row: 0, col: 1 }),
-        ),
-        (
-            b"name,age,town\nann,-1125899906842625,ny\n",
-            Err(TableFault::BadCell { row: 0, col: 1 }),
-        ),
-    ];
-    for (bytes, want) in cases {
-        assert!(rt; gives(rt.alloc(), bytes, want));
+fn files(rt: HostRuntime) {
+    for (bytes, want) in &CASES {
+        assert!(rt; gives(rt.alloc(), bytes, *want));
     }
-    Ok(())
 }
 
 // A file whose row has a town of this many bytes.
@@ -160,9 +134,9 @@ fn rows_by_town(rt: HostRuntime) -> Result<(), Fail> {
         return Ok(());
     };
     let want: [&[u32]; 3] = [&[1], &[], &[0, 2]];
-    assert_eq!(rt; groups.len(), 3);
+    assert!(rt; groups.len() == 3);
     for (group, rows) in groups.iter().zip(want) {
-        assert_eq!(rt; group.as_slice(), rows);
+        assert!(rt; group.as_slice() == rows);
     }
     Ok(())
 }

@@ -3,6 +3,8 @@
 ghost use Rattle.std.specs.Prelude.{◌<◌};
 
 use fz_frac::{Frac, Sens};
+use wire_lines::LineRefusal::Malformed;
+use wire_lines::Request::{Ask, AskPart};
 use wire_lines::{
     DiskRefusal, LINE_LIMIT, LineRefusal, MoneyRefusal, Name, NumberRefusal, ProgramRefusal,
     REPLY_LIMIT, Refusal, Reply, Request, Standing, TypeFault, epsilons_are_read_by_the_grammar,
@@ -10,81 +12,55 @@ use wire_lines::{
     write_reply,
 };
 
-fn ask(epsilon: Option<u32>, program: &[u8]) -> Result<Request<'_>, LineRefusal> {
-    Ok(Request::Ask {
-        owner: b"census",
-        epsilon,
-        program,
-    })
-}
+type Read = Result<Request<'static>, LineRefusal>;
 
-fn ask_part(epsilon: Option<u32>, program: &[u8]) -> Result<Request<'_>, LineRefusal> {
-    Ok(Request::AskPart {
-        owner: b"census",
-        partition: b"area",
-        key: b"A",
-        epsilon,
-        program,
-    })
-}
-
-fn malformed(word: u32) -> Result<Request<'static>, LineRefusal> {
-    Err(LineRefusal::Malformed { word })
-}
+#[rattlefmt::skip]
+const REQUESTS: [(&[u8], Read); 34] = [
+    (b"hello ann", Ok(Request::Hello { analyst: b"ann" })),
+    (b"hello", Err(Malformed { word: 1 })),
+    (b"hello ", Err(Malformed { word: 1 })),
+    (b"hello  ann", Err(Malformed { word: 1 })),
+    (b"hello ann ", Err(Malformed { word: 2 })),
+    (b"hello ann x", Err(Malformed { word: 2 })),
+    (b"ask census 0.5 size people", Ok(Ask { owner: b"census", epsilon: Some(500_000), program: b"size people" })),
+    (b"ask census 0.000001 a  b ", Ok(Ask { owner: b"census", epsilon: Some(1), program: b"a  b " })),
+    (b"ask census 1000 1", Ok(Ask { owner: b"census", epsilon: Some(1_000_000_000), program: b"1" })),
+    (b"ask census 0001.0 1", Ok(Ask { owner: b"census", epsilon: Some(1_000_000), program: b"1" })),
+    (b"ask census 0 size people", Ok(Ask { owner: b"census", epsilon: None, program: b"size people" })),
+    (b"ask census 1. 1", Ok(Ask { owner: b"census", epsilon: None, program: b"1" })),
+    (b"ask census 0.0000001 1", Ok(Ask { owner: b"census", epsilon: None, program: b"1" })),
+    (b"ask census 1000.000001 1", Ok(Ask { owner: b"census", epsilon: None, program: b"1" })),
+    (b"ask census 00001 1", Ok(Ask { owner: b"census", epsilon: None, program: b"1" })),
+    (b"ask census 1 ", Ok(Ask { owner: b"census", epsilon: Some(1_000_000), program: b"" })),
+    (b"ask census 1", Err(Malformed { word: 3 })),
+    (b"ask census  1 x", Err(Malformed { word: 2 })),
+    (b"ask", Err(Malformed { word: 1 })),
+    (b"ASK census 1 1", Err(Malformed { word: 0 })),
+    (b"recall census 0000000012", Ok(Request::Recall { owner: b"census", number: 12 })),
+    (b"recall census", Err(Malformed { word: 2 })),
+    (b"recall census 4294967296", Err(Malformed { word: 2 })),
+    (b"recall census 00000000012", Err(Malformed { word: 2 })),
+    (b"recall census 1 2", Err(Malformed { word: 3 })),
+    (b"left census", Ok(Request::Left { owner: b"census" })),
+    (b"left", Err(Malformed { word: 1 })),
+    (b"askpart census area A 0.000006 size people", Ok(AskPart { owner: b"census", partition: b"area", key: b"A", epsilon: Some(6), program: b"size people" })),
+    (b"askpart census area A 1 ", Ok(AskPart { owner: b"census", partition: b"area", key: b"A", epsilon: Some(1_000_000), program: b"" })),
+    (b"askpart census area A 1", Err(Malformed { word: 5 })),
+    (b"askpart census area A", Err(Malformed { word: 4 })),
+    (b"bye", Ok(Request::Bye)),
+    (b"bye ", Err(Malformed { word: 1 })),
+    (b"", Err(Malformed { word: 0 })),
+];
 
 #[test]
 fn reads_requests(rt: HostRuntime) {
-    let rows: [(&[u8], Result<Request<'_>, LineRefusal>); 34] = [
-        (b"hello ann", Ok(Request::Hello { analyst: b"ann" })),
-        (b"hello", malformed(1)),
-        (b"hello ", malformed(1)),
-        (b"hello  ann", malformed(1)),
-        (b"hello ann ", malformed(2)),
-        (b"hello ann x", malformed(2)),
-        (
-            b"ask census 0.5 size people",
-            ask(Some(500_000), b"size people"),
-        ),
-        (b"ask census 0.000001 a  b ", ask(Some(1), b"a  b ")),
-        (b"ask census 1000 1", ask(Some(1_000_000_000), b"1")),
-        (b"ask census 0001.0 1", ask(Some(1_000_000), b"1")),
-        (b"ask census 0 size people", ask(None, b"size people")),
-        (b"ask census 1. 1", ask(None, b"1")),
-        (b"ask census 0.0000001 1", ask(None, b"1")),
-        (b"ask census 1000.000001 1", ask(None, b"1")),
-        (b"ask census 00001 1", ask(None, b"1")),
-        (b"ask census 1 ", ask(Some(1_000_000), b"")),
-        (b"ask census 1", malformed(3)),
-        (b"ask census  1 x", malformed(2)),
-        (b"ask", malformed(1)),
-        (b"ASK census 1 1", malformed(0)),
-        (
-            b"recall census 0000000012",
-            Ok(Request::Recall {
-                owner: b"census",
-                number: 12,
-            }),
-        ),
-        (b"recall census", malformed(2)),
-        (b"recall census 4294967296", malformed(2)),
-        (b"recall census 00000000012", malformed(2)),
-        (b"recall census 1 2", malformed(3)),
-        (b"left census", Ok(Request::Left { owner: b"census" })),
-        (b"left", malformed(1)),
-        (
-            b"askpart census area A 0.000006 size people",
-            ask_part(Some(6), b"size people"),
-        ),
-        (b"askpart census area A 1 ", ask_part(Some(1_000_000), b"")),
-        (b"askpart census area A 1", malformed(5)),
-        (b"askpart census area A", malformed(4)),
-        (b"bye", Ok(Request::Bye)),
-        (b"bye ", malformed(1)),
-        (b"", malformed(0)),
-    ];
-    for (line, want) in rows {
-        assert!(rt; read_request(line) == want);
+    for (line, want) in &REQUESTS {
+        assert!(rt; read_request(line) == *want);
     }
+}
+
+fn malformed(word: u32) -> Read {
+    Err(Malformed { word })
 }
 
 #[test]
@@ -115,52 +91,29 @@ fn writes(reply: Reply<'_>, want: &[u8]) -> bool {
     &out[..len] == want
 }
 
+const TABLE: Name<'static> = Name {
+    bytes: b"a_name_of_thirty_two_bytes_00001",
+};
+
+#[rattlefmt::skip]
+const REPLIES: [(Reply<'static>, &[u8]); 10] = [
+    (Reply::Hello { analyst: Name { bytes: b"ann" } }, b"hello ann\n"),
+    (Reply::Answer { number: 0, value: -5, taken: 1_000_000 }, b"answer 0 -5 1000000\n"),
+    (Reply::Answer { number: u32::MAX, value: i64::MIN, taken: 1 }, b"answer 4294967295 -9223372036854775808 1\n"),
+    (Reply::Recalled { number: 0, standing: Standing::Answered(5), seen: 2 }, b"recall 0 answer 5 2\n"),
+    (Reply::Recalled { number: 0, standing: Standing::Open, seen: 2 }, b"recall 0 open 2\n"),
+    (Reply::Recalled { number: 0, standing: Standing::Lost, seen: 2 }, b"recall 0 lost 2\n"),
+    (Reply::Recalled { number: 0, standing: Standing::Exhausted, seen: 2 }, b"recall 0 exhausted 2\n"),
+    (Reply::Left { spent: 1_000_000, budget: 10_000_000, seen: 1 }, b"left 1000000 10000000 1\n"),
+    (Reply::Bye, b"bye\n"),
+    (Reply::Refused(Refusal::Program(ProgramRefusal::Unbounded { table: TABLE })), b"no 33 a_name_of_thirty_two_bytes_00001\n"),
+];
+
 #[test]
 fn writes_replies(rt: HostRuntime) {
-    let analyst = Name { bytes: b"ann" };
-    let table = Name {
-        bytes: b"a_name_of_thirty_two_bytes_00001",
-    };
-    assert!(rt; writes(Reply::Hello { analyst }, b"hello ann\n"));
-    let answer = Reply::Answer {
-        number: 0,
-        value: -5,
-        taken: 1_000_000,
-    };
-    assert!(rt; writes(answer, b"answer 0 -5 1000000\n"));
-    let lowest = Reply::Answer {
-        number: u32::MAX,
-        value: i64::MIN,
-        taken: 1,
-    };
-    assert!(rt; writes(lowest, b"answer 4294967295 -9223372036854775808 1\n"));
-    let standings: [(Standing, &[u8]); 4] = [
-        (Standing::Answered(5), b"recall 0 answer 5 2\n"),
-        (Standing::Open, b"recall 0 open 2\n"),
-        (Standing::Lost, b"recall 0 lost 2\n"),
-        (Standing::Exhausted, b"recall 0 exhausted 2\n"),
-    ];
-    for (standing, want) in standings {
-        let reply = Reply::Recalled {
-            number: 0,
-            standing,
-            seen: 2,
-        };
-        assert!(rt; writes(reply, want));
+    for (reply, want) in &REPLIES {
+        assert!(rt; writes(*reply, want));
     }
-    let left = Reply::Left {
-        spent: 1_000_000,
-        budget: 10_000_000,
-        seen: 1,
-    };
-    assert!(rt; writes(left, b"left 1000000 10000000 1\n"));
-    assert!(rt; writes(Reply::Bye, b"bye\n"));
-    assert!(rt;
-        writes(
-            Reply::Refused(Refusal::Program(ProgramRefusal::Unbounded { table })),
-            b"no 33 a_name_of_thirty_two_bytes_00001\n"
-        )
-    );
 }
 
 fn frac(p: u64, q: u64) -> Sens
@@ -172,120 +125,59 @@ fn frac(p: u64, q: u64) -> Sens
     }
 }
 
-fn ill_typed(fault: TypeFault) -> Refusal<'static> {
-    Refusal::Program(ProgramRefusal::IllTyped {
-        fault,
-        from: 0,
-        to: 4,
-    })
-}
-
-fn too_sensitive(sens: Sens) -> Refusal<'static> {
-    Refusal::Program(ProgramRefusal::TooSensitive {
-        from: 1,
-        to: 9,
-        sens,
-    })
-}
+#[rattlefmt::skip]
+const REFUSALS: [(Refusal<'static>, &[u8]); 26] = [
+    (Refusal::Line(LineRefusal::Malformed { word: 2 }), b"no 10 2\n"),
+    (Refusal::Line(LineRefusal::TooLong), b"no 11\n"),
+    (Refusal::Line(LineRefusal::Unknown { word: 1 }), b"no 12 1\n"),
+    (Refusal::Line(LineRefusal::NoEpsilon), b"no 13\n"),
+    (Refusal::Line(LineRefusal::NoHello), b"no 14\n"),
+    (Refusal::Program(ProgramRefusal::NoToken { place: 12 }), b"no 20 12\n"),
+    (Refusal::Program(ProgramRefusal::NoTerm { token: 1 }), b"no 21 1\n"),
+    (Refusal::Program(ProgramRefusal::TooNested { depth: 65 }), b"no 22 65\n"),
+    (Refusal::Program(ProgramRefusal::IllTyped { fault: TypeFault::Unbound, from: 0, to: 4 }), b"no 30 unbound 0 4\n"),
+    (Refusal::Program(ProgramRefusal::IllTyped { fault: TypeFault::Mismatch, from: 0, to: 4 }), b"no 30 mismatch 0 4\n"),
+    (Refusal::Program(ProgramRefusal::IllTyped { fault: TypeFault::NotGround, from: 0, to: 4 }), b"no 30 notground 0 4\n"),
+    (Refusal::Program(ProgramRefusal::IllTyped { fault: TypeFault::NotFlat, from: 0, to: 4 }), b"no 30 notflat 0 4\n"),
+    (Refusal::Program(ProgramRefusal::OutOfRange { from: 0, to: 14 }), b"no 32 0 14\n"),
+    (Refusal::Program(ProgramRefusal::NoNumber), b"no 34\n"),
+    (Refusal::Program(ProgramRefusal::TooDeep { from: 3, to: 11 }), b"no 35 3 11\n"),
+    (Refusal::Program(ProgramRefusal::TooLong { from: 0, to: 15999 }), b"no 36 0 15999\n"),
+    (Refusal::Program(ProgramRefusal::TooWide { from: 4, to: 11, width: 65 }), b"no 37 4 11 65\n"),
+    (Refusal::Money(MoneyRefusal::OverBudget { spent: 1, after: 3, budget: 2, seen: 4 }), b"no 40 1 3 2 4\n"),
+    (Refusal::Money(MoneyRefusal::JournalFull { used: 100, open: 0, capacity: 100 }), b"no 41 100 0 100\n"),
+    (Refusal::Number(NumberRefusal::Exhausted { number: 7 }), b"no 50 7\n"),
+    (Refusal::Number(NumberRefusal::Lost { number: 8 }), b"no 51 8\n"),
+    (Refusal::Disk(DiskRefusal::Closed { failed_at: 1 }), b"no 42 1\n"),
+    (Refusal::Disk(DiskRefusal::Fault), b"no 52\n"),
+    (Refusal::Number(NumberRefusal::Unknown { number: 1, seen: 2 }), b"no 60 1 2\n"),
+    (Refusal::Number(NumberRefusal::NotYours { number: 0, seen: 2 }), b"no 61 0 2\n"),
+    (Refusal::NoMemory, b"no 90\n"),
+];
 
 #[test]
 fn writes_refusals(rt: HostRuntime) {
-    let half = frac(3, 2);
-    let rows: [(Refusal<'_>, &[u8]); 29] = [
-        (
-            Refusal::Line(LineRefusal::Malformed { word: 2 }),
-            b"no 10 2\n",
-        ),
-        (Refusal::Line(LineRefusal::TooLong), b"no 11\n"),
-        (
-            Refusal::Line(LineRefusal::Unknown { word: 1 }),
-            b"no 12 1\n",
-        ),
-        (Refusal::Line(LineRefusal::NoEpsilon), b"no 13\n"),
-        (Refusal::Line(LineRefusal::NoHello), b"no 14\n"),
-        (
-            Refusal::Program(ProgramRefusal::NoToken { place: 12 }),
-            b"no 20 12\n",
-        ),
-        (
-            Refusal::Program(ProgramRefusal::NoTerm { token: 1 }),
-            b"no 21 1\n",
-        ),
-        (
-            Refusal::Program(ProgramRefusal::TooNested { depth: 65 }),
-            b"no 22 65\n",
-        ),
-        (ill_typed(TypeFault::Unbound), b"no 30 unbound 0 4\n"),
-        (ill_typed(TypeFault::Mismatch), b"no 30 mismatch 0 4\n"),
-        (ill_typed(TypeFault::NotGround), b"no 30 notground 0 4\n"),
-        (ill_typed(TypeFault::NotFlat), b"no 30 notflat 0 4\n"),
-        (too_sensitive(half), b"no 31 1 9 3/2\n"),
-        (too_sensitive(Sens::whole(2)), b"no 31 1 9 2\n"),
-        (too_sensitive(Sens::Inf), b"no 31 1 9 inf\n"),
-        (
-            Refusal::Program(ProgramRefusal::OutOfRange { from: 0, to: 14 }),
-            b"no 32 0 14\n",
-        ),
-        (Refusal::Program(ProgramRefusal::NoNumber), b"no 34\n"),
-        (
-            Refusal::Program(ProgramRefusal::TooDeep { from: 3, to: 11 }),
-            b"no 35 3 11\n",
-        ),
-        (
-            Refusal::Program(ProgramRefusal::TooLong { from: 0, to: 15999 }),
-            b"no 36 0 15999\n",
-        ),
-        (
-            Refusal::Program(ProgramRefusal::TooWide {
-                from: 4,
-                to: 11,
-                width: 65,
-            }),
-            b"no 37 4 11 65\n",
-        ),
-        (
-            Refusal::Money(MoneyRefusal::OverBudget {
-                spent: 1,
-                after: 3,
-                budget: 2,
-                seen: 4,
-            }),
-            b"no 40 1 3 2 4\n",
-        ),
-        (
-            Refusal::Money(MoneyRefusal::JournalFull {
-                used: 100,
-                open: 0,
-                capacity: 100,
-            }),
-            b"no 41 100 0 100\n",
-        ),
-        (
-            Refusal::Number(NumberRefusal::Exhausted { number: 7 }),
-            b"no 50 7\n",
-        ),
-        (
-            Refusal::Number(NumberRefusal::Lost { number: 8 }),
-            b"no 51 8\n",
-        ),
-        (
-            Refusal::Disk(DiskRefusal::Closed { failed_at: 1 }),
-            b"no 42 1\n",
-        ),
-        (Refusal::Disk(DiskRefusal::Fault), b"no 52\n"),
-        (
-            Refusal::Number(NumberRefusal::Unknown { number: 1, seen: 2 }),
-            b"no 60 1 2\n",
-        ),
-        (
-            Refusal::Number(NumberRefusal::NotYours { number: 0, seen: 2 }),
-            b"no 61 0 2\n",
-        ),
-        (Refusal::NoMemory, b"no 90\n"),
+    for (refusal, want) in &REFUSALS {
+        assert!(rt; writes(Reply::Refused(*refusal), want));
+    }
+}
+
+#[test]
+fn writes_sensitivities(rt: HostRuntime) {
+    let sensitivities: [(Sens, &[u8]); 3] = [
+        (frac(3, 2), b"no 31 1 9 3/2\n"),
+        (Sens::whole(2), b"no 31 1 9 2\n"),
+        (Sens::Inf, b"no 31 1 9 inf\n"),
     ];
-    for (refusal, want) in rows {
+    for (sens, want) in sensitivities {
+        let (from, to) = (1, 9);
+        let refusal = Refusal::Program(ProgramRefusal::TooSensitive { from, to, sens });
         assert!(rt; writes(Reply::Refused(refusal), want));
     }
+}
+
+#[test]
+fn laws_are_there(_rt: HostRuntime) {
     lines_are_read_by_the_grammar();
     epsilons_are_read_by_the_grammar();
     replies_differ_in_their_texts();

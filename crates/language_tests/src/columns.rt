@@ -44,7 +44,7 @@ fn mixed_columns_and_chosen_rows(rt: HostRuntime) -> Result<(), Fail> {
         return Ok(());
     };
     assert!(rt; is_shared(&table));
-    assert_eq!(rt; (table.len(), table.width()), (3, 2));
+    assert!(rt; (table.len(), table.width()) == (3, 2));
     assert!(rt; has_number(table.cell(1, 0), -4));
     assert!(rt; has_text(table.cell(0, 1), b"oslo"));
     assert!(rt; has_text(table.cell(1, 1), b""));
@@ -52,7 +52,7 @@ fn mixed_columns_and_chosen_rows(rt: HostRuntime) -> Result<(), Fail> {
         assert!(rt; false);
         return Ok(());
     };
-    assert_eq!(rt; part.len(), 2);
+    assert!(rt; part.len() == 2);
     assert!(rt; has_number(part.cell(0, 0), 41));
     assert!(rt; has_text(part.cell(1, 1), b"oslo"));
     let Ok(last) = part.with_rows(rt.alloc(), &[1]) else {

@@ -30,26 +30,14 @@ fn worked_by_hand(rt: HostRuntime) {
     ];
     for [a, b, sum, product, quotient] in rows {
         let (x, y) = (part(a.0, a.1), part(b.0, b.1));
-        assert_eq!(rt;
-            x.add(y).unwrap_or(Sens::Inf),
-            part(sum.0, sum.1),
-            "{a:?} + {b:?}"
-        );
-        assert_eq!(rt;
-            x.mul(y).unwrap_or(Sens::Inf),
-            part(product.0, product.1),
-            "{a:?} * {b:?}"
-        );
-        assert_eq!(rt;
-            over(x, y).unwrap_or(Sens::Inf),
-            part(quotient.0, quotient.1),
-            "{a:?} / {b:?}"
-        );
+        assert!(rt; x.add(y).unwrap_or(Sens::Inf) == part(sum.0, sum.1));
+        assert!(rt; x.mul(y).unwrap_or(Sens::Inf) == part(product.0, product.1));
+        assert!(rt; over(x, y).unwrap_or(Sens::Inf) == part(quotient.0, quotient.1));
     }
-    assert_eq!(rt; Frac::new(1 << 33, 1 << 33).ok(), Frac::new(1, 1).ok());
-    assert_eq!(rt; Frac::new(max + 1, 1).ok(), None);
-    assert_eq!(rt; Sens::whole(0).mul(Sens::Inf).ok(), Some(Sens::whole(0)));
-    assert_eq!(rt; part(2, 3).max(part(3, 5)), part(2, 3));
-    assert_eq!(rt; part(3, 2).ceil_times(1000001), Some(1500002));
-    assert_eq!(rt; Sens::Inf.ceil_times(1), None);
+    assert!(rt; Frac::new(1 << 33, 1 << 33).ok() == Frac::new(1, 1).ok());
+    assert!(rt; Frac::new(max + 1, 1).ok() == None);
+    assert!(rt; Sens::whole(0).mul(Sens::Inf).ok() == Some(Sens::whole(0)));
+    assert!(rt; part(2, 3).max(part(3, 5)) == part(2, 3));
+    assert!(rt; part(3, 2).ceil_times(1000001) == Some(1500002));
+    assert!(rt; Sens::Inf.ceil_times(1) == None);
 }

@@ -14,6 +14,8 @@ mod plain_grammar;
 #[cfg(test)]
 mod plans;
 #[cfg(test)]
+mod programs;
+#[cfg(test)]
 mod terms;
 #[cfg(test)]
 mod tokens;

@@ -5,7 +5,6 @@ ghost use Rattle.std.specs.Prelude.{◌<◌};
 use fz_lexer::lex;
 use fz_parser::{ParseFault, parse};
 use std::alloc::{AllocError, Global};
-use std::test::Fail;
 
 // The token of each byte.
 #[rattlefmt::skip]
@@ -73,29 +72,32 @@ fn step(chart: &Chart, tokens: &[u8], item: u8, from: u8) -> (u8, bool) {
     (to, open)
 }
 
+// The places where what a body stands for from there may end, as bits, and whether it goes on past the last token.
+fn reach(chart: &Chart, tokens: &[u8], body: &[u8], place: usize) -> (u8, bool)
+    requires { place < 7 }
+{
+    let mut from = 1u8 << place as u32;
+    let mut open = false;
+    for item in body {
+        let (to, past) = step(chart, tokens, *item, from);
+        from = to;
+        open = open || past;
+    }
+    (from, open)
+}
+
 // One round over all rules; whether it added something.
 fn round(chart: &mut Chart, tokens: &[u8]) -> bool {
     let mut added = false;
-    for rule in &RULES {
-        let (head, body) = (rule.0, rule.1);
+    for (head, body) in &RULES {
         for place in 0..7usize {
-            if place > tokens.len() {
-                break;
+            if place <= tokens.len() {
+                let (ends, open) = reach(chart, tokens, body, place);
+                let at = cell(*head, place);
+                added = added || chart.ends[at] | ends != chart.ends[at] || open && !chart.open[at];
+                chart.ends[at] |= ends;
+                chart.open[at] = chart.open[at] || open;
             }
-            let mut from = 1u8 << place as u32;
-            let mut open = false;
-            for item in body {
-                if from == 0 {
-                    break;
-                }
-                let (to, past) = step(chart, tokens, *item, from);
-                from = to;
-                open = open || past;
-            }
-            let at = cell(head, place);
-            added = added || chart.ends[at] | from != chart.ends[at] || open && !chart.open[at];
-            chart.ends[at] |= from;
-            chart.open[at] = chart.open[at] || open;
         }
     }
     added
@@ -132,8 +134,8 @@ fn plain(tokens: &[u8]) -> usize {
 fn spelled(alloc: Global, tokens: &[u8]) -> Result<Vec<u8>, AllocError> {
     let mut program = Vec::new(alloc);
     for token in tokens {
-        for (byte, text) in TOKENS {
-            if byte == *token {
+        for (byte, text) in &TOKENS {
+            if byte == token {
                 program.extend_from_slice(text.as_bytes())?;
                 program.push(b' ')?;
             }
@@ -154,35 +156,57 @@ fn parsed(alloc: Global, tokens: &[u8]) -> Result<usize, AllocError> {
     }
 }
 
-// How many tokens an alphabet has, its tokens, and up to how many stand in a text.
-const ALPHABETS: [(u32, [u8; 8], usize); 7] = [
-    (4, *b"x1)(....", 6),
-    (4, *b"x1+*....", 6),
-    (4, *b"x<,>....", 6),
-    (4, *b"-1le....", 6),
-    (8, *b"x+*-()<,", 4),
-    (8, *b"1[]!/asm", 4),
-    (8, *b"tx=i1!l(", 4),
+// Tokens, and up to how many stand in a text.
+const ALPHABETS: [(&[u8], usize); 7] = [
+    (b"x1)(", 6),
+    (b"x1+*", 6),
+    (b"x<,>", 6),
+    (b"-1le", 6),
+    (b"x+*-()<,", 4),
+    (b"1[]!/asm", 4),
+    (b"tx=i1!l(", 4),
 ];
 
-#[test]
-fn every_text_of_six_tokens(rt: HostRuntime) -> Result<(), Fail> {
-    for (size, alphabet, longest) in ALPHABETS {
-        let mut count = 1u32;
-        for len in 0..longest + 1 {
-            for n in 0..count {
-                let mut tokens = Vec::new(rt.alloc());
-                let mut digits = n;
-                for _turn in 0..len {
-                    let token = if size == 8 { digits % 8 } else { digits % 4 };
-                    tokens.push(alphabet[token as usize])?;
-                    digits /= if size == 8 { 8 } else { 4 };
-                }
-                let found = parsed(rt.alloc(), &tokens)?;
-                assert_eq!(rt; found, plain(&tokens), "at {tokens:?}");
-            }
-            count = count.saturating_mul(size);
+// The text of this number among all texts of this length.
+fn text_of(alloc: Global, alphabet: &[u8], length: usize, number: usize) -> Option<Vec<u8>> {
+    let mut tokens = Vec::new(alloc);
+    let mut digits = number;
+    for _turn in 0..length {
+        let digit = digits.checked_rem(alphabet.len())?;
+        tokens.push(*alphabet.get(digit)?).ok()?;
+        digits = digits.checked_div(alphabet.len())?;
+    }
+    Some(tokens)
+}
+
+fn agrees(alloc: Global, tokens: &[u8]) -> bool {
+    match parsed(alloc, tokens) {
+        Ok(found) => found == plain(tokens),
+        Err(_) => false,
+    }
+}
+
+// Whether the readers agree on all texts of this length.
+fn all_agree(alloc: Global, alphabet: &[u8], length: usize, count: usize) -> bool {
+    for number in 0..count {
+        match text_of(alloc, alphabet, length, number) {
+            Some(tokens) if agrees(alloc, &tokens) => {}
+            _ => return false,
         }
     }
-    Ok(())
+    true
+}
+
+#[test]
+fn every_text_of_six_tokens(rt: HostRuntime) {
+    for (alphabet, longest) in &ALPHABETS {
+        let mut count = 1;
+        for length in 0..longest.saturating_add(1) {
+            assert!(rt;
+                all_agree(rt.alloc(), alphabet, length, count),
+                "{length} of {alphabet:?}"
+            );
+            count = alphabet.len().saturating_mul(count);
+        }
+    }
 }

@@ -1,4 +1,5 @@
 //! Readings by hand, and a plain reader compared with the parser.
+use crate::programs::{Piece, joined};
 use fz_ast::{Form, Name, Node, Span, Term, TypeForm, Types};
 use fz_frac::Sens;
 use fz_lexer::lex;
@@ -80,17 +81,20 @@ fn letters(alloc: Global, bytes: &[u8]) -> Result<String, AllocError> {
 }
 
 fn type_text(alloc: Global, form: TypeForm, texts: &[String]) -> Result<String, AllocError> {
-    match form {
-        TypeForm::Num => format!(in alloc; "num"),
-        TypeForm::Text => format!(in alloc; "text"),
-        TypeForm::Unit => format!(in alloc; "unit"),
-        TypeForm::Tensor(a, b) => format!(in alloc; "({} * {})", at(texts, a), at(texts, b)),
-        TypeForm::With(a, b) => format!(in alloc; "({} & {})", at(texts, a), at(texts, b)),
-        TypeForm::Sum(a, b) => format!(in alloc; "({} + {})", at(texts, a), at(texts, b)),
-        TypeForm::Arrow(a, b) => format!(in alloc; "({} -o {})", at(texts, a), at(texts, b)),
-        TypeForm::Bang(r, a) => format!(in alloc; "![{}] {}", factor(alloc, r)?, at(texts, a)),
-        TypeForm::Bag(a) => format!(in alloc; "bag {}", at(texts, a)),
-    }
+    let (sign, a, b) = match form {
+        TypeForm::Num => return String::from_str(alloc, "num"),
+        TypeForm::Text => return String::from_str(alloc, "text"),
+        TypeForm::Unit => return String::from_str(alloc, "unit"),
+        TypeForm::Bag(a) => return format!(in alloc; "bag {}", at(texts, a)),
+        TypeForm::Bang(r, a) => {
+            return format!(in alloc; "![{}] {}", factor(alloc, r)?, at(texts, a));
+        }
+        TypeForm::Tensor(a, b) => ("*", a, b),
+        TypeForm::With(a, b) => ("&", a, b),
+        TypeForm::Sum(a, b) => ("+", a, b),
+        TypeForm::Arrow(a, b) => ("-o", a, b),
+    };
+    format!(in alloc; "({} {sign} {})", at(texts, a), at(texts, b))
 }
 
 fn type_texts(alloc: Global, types: &Types) -> Result<Vec<String>, AllocError> {
@@ -117,47 +121,49 @@ enum Part {
     Factor(Sens),
     Type(Span, u32),
     Term(u32),
+    Nothing,
 }
 
 fn head(alloc: Global, form: Form) -> Result<String, AllocError> {
-    match form {
-        Form::Var(x) => letters(alloc, x.as_bytes()),
-        Form::Num(z) => format!(in alloc; "{z}"),
-        Form::Text(text) => format!(in alloc; "\"{}\"", letters(alloc, text.as_bytes())?),
-        Form::Unit => format!(in alloc; "()"),
-        Form::Unary(op, _) => format!(in alloc; "{op:?}"),
-        Form::Binary(op, _, _) => format!(in alloc; "{op:?}"),
-        Form::Ranged(op, _, _, _) => format!(in alloc; "{op:?}"),
-        Form::Inject(side, _, _, _) => format!(in alloc; "{side:?}"),
-        Form::Lambda(arrow, _, _, _, _) => format!(in alloc; "{arrow:?}"),
-        Form::Times(_, _) => format!(in alloc; "Times"),
-        Form::Bang(_, _) => format!(in alloc; "Bang"),
-        Form::If(_, _, _) => format!(in alloc; "If"),
-        Form::Let(_, _, _) => format!(in alloc; "Let"),
-        Form::LetBang(_, _, _) => format!(in alloc; "LetBang"),
-        Form::LetPair(_, _, _, _) => format!(in alloc; "LetPair"),
-        Form::Case(_, _, _, _, _) => format!(in alloc; "Case"),
-    }
+    let word = match form {
+        Form::Var(x) => return letters(alloc, x.as_bytes()),
+        Form::Num(z) => return format!(in alloc; "{z}"),
+        Form::Text(text) => return format!(in alloc; "\"{}\"", letters(alloc, text.as_bytes())?),
+        Form::Unary(op, _) => return format!(in alloc; "{op:?}"),
+        Form::Binary(op, _, _) => return format!(in alloc; "{op:?}"),
+        Form::Ranged(op, _, _, _) => return format!(in alloc; "{op:?}"),
+        Form::Inject(side, _, _, _) => return format!(in alloc; "{side:?}"),
+        Form::Lambda(arrow, _, _, _, _) => return format!(in alloc; "{arrow:?}"),
+        Form::Unit => "()",
+        Form::Times(_, _) => "Times",
+        Form::Bang(_, _) => "Bang",
+        Form::If(_, _, _) => "If",
+        Form::Let(_, _, _) => "Let",
+        Form::LetBang(_, _, _) => "LetBang",
+        Form::LetPair(_, _, _, _) => "LetPair",
+        Form::Case(_, _, _, _, _) => "Case",
+    };
+    String::from_str(alloc, word)
 }
 
-fn parts(alloc: Global, form: Form) -> Result<Vec<Part>, AllocError> {
-    use Part::{Factor, Name, Term, Type, Whole};
-    let parts = match form {
-        Form::Unary(_, e) => vec![in alloc; Term(e)]?,
-        Form::Binary(_, a, b) => vec![in alloc; Term(a), Term(b)]?,
-        Form::Times(k, e) => vec![in alloc; Whole(k), Term(e)]?,
-        Form::Ranged(_, low, high, e) => vec![in alloc; Whole(low), Whole(high), Term(e)]?,
-        Form::Inject(_, span, ty, e) => vec![in alloc; Type(span, ty), Term(e)]?,
-        Form::Bang(r, e) => vec![in alloc; Factor(r), Term(e)]?,
-        Form::If(e, a, b) => vec![in alloc; Term(e), Term(a), Term(b)]?,
-        Form::Let(x, e, b) => vec![in alloc; Name(x), Term(e), Term(b)]?,
-        Form::LetBang(x, e, b) => vec![in alloc; Name(x), Term(e), Term(b)]?,
-        Form::LetPair(x, y, e, b) => vec![in alloc; Name(x), Name(y), Term(e), Term(b)]?,
-        Form::Case(e, x, a, y, b) => vec![in alloc; Term(e), Name(x), Term(a), Name(y), Term(b)]?,
-        Form::Lambda(_, x, span, ty, e) => vec![in alloc; Name(x), Type(span, ty), Term(e)]?,
-        _ => Vec::new(alloc),
-    };
-    Ok(parts)
+// The parts of a form, and nothing behind them.
+fn parts(form: Form) -> [Part; 5] {
+    use Part::{Factor, Name, Nothing, Term, Type, Whole};
+    match form {
+        Form::Unary(_, e) => [Term(e), Nothing, Nothing, Nothing, Nothing],
+        Form::Binary(_, a, b) => [Term(a), Term(b), Nothing, Nothing, Nothing],
+        Form::Times(k, e) => [Whole(k), Term(e), Nothing, Nothing, Nothing],
+        Form::Ranged(_, low, high, e) => [Whole(low), Whole(high), Term(e), Nothing, Nothing],
+        Form::Inject(_, span, ty, e) => [Type(span, ty), Term(e), Nothing, Nothing, Nothing],
+        Form::Bang(r, e) => [Factor(r), Term(e), Nothing, Nothing, Nothing],
+        Form::If(e, a, b) => [Term(e), Term(a), Term(b), Nothing, Nothing],
+        Form::Let(x, e, b) => [Name(x), Term(e), Term(b), Nothing, Nothing],
+        Form::LetBang(x, e, b) => [Name(x), Term(e), Term(b), Nothing, Nothing],
+        Form::LetPair(x, y, e, b) => [Name(x), Name(y), Term(e), Term(b), Nothing],
+        Form::Case(e, x, a, y, b) => [Term(e), Name(x), Term(a), Name(y), Term(b)],
+        Form::Lambda(_, x, span, ty, e) => [Name(x), Type(span, ty), Term(e), Nothing, Nothing],
+        _ => [Nothing; 5],
+    }
 }
 
 fn place(alloc: Global, span: Span) -> Result<String, AllocError> {
@@ -172,6 +178,7 @@ fn part_text(alloc: Global, part: Part, shown: &Shown) -> Result<String, AllocEr
         Part::Factor(r) => factor(alloc, r),
         Part::Type(span, i) => format!(in alloc; "{}{}", at(&shown.types, i), place(alloc, span)?),
         Part::Term(i) => String::from_str(alloc, at(&shown.terms, i)),
+        Part::Nothing => Ok(String::new(alloc)),
     }
 }
 
@@ -179,10 +186,12 @@ fn term_text(alloc: Global, node: &Node, shown: &Shown) -> Result<String, AllocE
     let mut text = head(alloc, node.form)?;
     text.push_str(&place(alloc, node.span)?)?;
     let mut before = "(";
-    for part in parts(alloc, node.form)?.iter() {
-        text.push_str(before)?;
-        text.push_str(&part_text(alloc, *part, shown)?)?;
-        before = ", ";
+    for part in parts(node.form) {
+        if !matches!(part, Part::Nothing) {
+            text.push_str(before)?;
+            text.push_str(&part_text(alloc, part, shown)?)?;
+            before = ", ";
+        }
     }
     if before == ", " {
         text.push(')')?;
@@ -217,49 +226,36 @@ fn outcome(alloc: Global, program: &[u8]) -> Result<String, AllocError> {
 
 #[test]
 fn productions(rt: HostRuntime) -> Result<(), Fail> {
-    for (program, wanted) in READINGS {
+    for (program, wanted) in &READINGS {
         let found = outcome(rt.alloc(), program.as_bytes())?;
-        assert_eq!(rt; found.as_str(), wanted);
+        assert!(rt; found.as_str() == *wanted, "{found}");
     }
     Ok(())
 }
 
-// So many times the first text, then the second, then so many times the third.
-fn nested(alloc: Global, count: usize, texts: (&str, &str, &str)) -> Result<Vec<u8>, AllocError> {
-    let (first, middle, last) = texts;
-    let mut program = Vec::new(alloc);
-    for _turn in 0..count {
-        program.extend_from_slice(first.as_bytes())?;
-    }
-    program.extend_from_slice(middle.as_bytes())?;
-    for _turn in 0..count {
-        program.extend_from_slice(last.as_bytes())?;
-    }
-    Ok(program)
+// A tree is wanted by how it begins, and another outcome whole.
+#[rattlefmt::skip]
+const DEEP_PROGRAMS: [(&[Piece], &str); 9] = [
+    (&[("(", 4096)], "stuck 4096"),
+    (&[("(", 2047), ("1", 1), (")", 2047)], "1[2047-2048]"),
+    (&[("(", 2048), (")", 2048)], "()[2047-2049]"),
+    (&[("1+", 64), ("1", 1)], "too nested 65"),
+    (&[("fst ", 64), ("x", 1)], "stuck 1"),
+    (&[("(fst ", 63), ("x", 1), (")", 63)], "Fst[1-378]("),
+    (&[("(fst ", 64), ("x", 1), (")", 64)], "too nested 65"),
+    (&[("inl[bag num] (", 62), ("x", 1), (")", 62)], "Inl[0-931]("),
+    (&[("inl[bool](", 63), ("x", 1), (")", 63)], "too nested 65"),
+];
+
+fn is_wanted(found: &str, wanted: &str) -> bool {
+    found == wanted || wanted.ends_with("(") && found.starts_with(wanted)
 }
 
 #[test]
 fn deep_programs(rt: HostRuntime) -> Result<(), Fail> {
-    // A tree is wanted by how it begins, and another outcome whole.
-    let table: [(usize, (&str, &str, &str), &str); 9] = [
-        (4096, ("(", "", ""), "stuck 4096"),
-        (2047, ("(", "1", ")"), "1[2047-2048]"),
-        (2048, ("(", "", ")"), "()[2047-2049]"),
-        (64, ("1+", "1", ""), "too nested 65"),
-        (64, ("fst ", "x", ""), "stuck 1"),
-        (63, ("(fst ", "x", ")"), "Fst[1-378]("),
-        (64, ("(fst ", "x", ")"), "too nested 65"),
-        (62, ("inl[bag num] (", "x", ")"), "Inl[0-931]("),
-        (63, ("inl[bool](", "x", ")"), "too nested 65"),
-    ];
-    for (count, texts, wanted) in table {
-        let found = outcome(rt.alloc(), &nested(rt.alloc(), count, texts)?)?;
-        let same = if wanted.ends_with("(") {
-            found.as_str().starts_with(wanted)
-        } else {
-            found.as_str() == wanted
-        };
-        assert!(rt; same, "at {found}");
+    for (pieces, wanted) in &DEEP_PROGRAMS {
+        let found = outcome(rt.alloc(), &joined(rt.alloc(), pieces)?)?;
+        assert!(rt; is_wanted(found.as_str(), wanted), "at {found}");
     }
     Ok(())
 }

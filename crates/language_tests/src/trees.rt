@@ -30,11 +30,11 @@ fn counter(alloc: Global) -> Result<Term, NoMemory> {
 fn terms(rt: HostRuntime) -> Result<(), Fail> {
     let term = counter(rt.alloc())?.copy()?;
     let (nodes, root) = term.parts();
-    assert_eq!(rt; nodes.depth(root), 4);
+    assert!(rt; nodes.depth(root) == 4);
     let node = nodes.node(root);
-    assert_eq!(rt; node.span.to, 37);
+    assert!(rt; node.span.to == 37);
     if let Form::Lambda(Arrow::Fun, name, _, ty, _) = &node.form {
-        assert_eq!(rt; name.as_bytes(), b"x".as_slice());
+        assert!(rt; name.as_bytes() == b"x".as_slice());
         assert!(rt; nodes.types().is_ground(*ty));
         assert!(rt; !nodes.types().is_flat(*ty));
     }
@@ -52,7 +52,7 @@ fn types(rt: HostRuntime) -> Result<(), Fail> {
     assert!(rt; !sig.contains(name.as_bytes()));
     sig.push(name, row)?;
     assert!(rt; sig.contains(name.as_bytes()));
-    assert_eq!(rt; sig.len(), 1);
+    assert!(rt; sig.len() == 1);
     assert!(rt; is_ground(&sig.table(0).row));
     Ok(())
 }

@@ -53,9 +53,9 @@ fn forms(rt: HostRuntime) -> Result<(), Fail> {
         (TypeForm::Tensor(1, 0), 14),
     ];
     for (form, number) in rows {
-        assert_eq!(rt; put(&mut arena, form)?, number);
+        assert!(rt; put(&mut arena, form)? == number);
     }
-    assert_eq!(rt; arena.len(), 15);
+    assert!(rt; arena.len() == 15);
     Ok(())
 }
 
@@ -71,8 +71,8 @@ fn nest(arena: &mut Arena, n: u32) -> Result<u32, NoMemory> {
 #[test]
 fn many(rt: HostRuntime) -> Result<(), Fail> {
     let mut arena = Arena::new(rt.alloc());
-    assert_eq!(rt; nest(&mut arena, 100000)?, 100000);
-    assert_eq!(rt; nest(&mut arena, 1000)?, 1000);
-    assert_eq!(rt; arena.into_types().len(), 100001);
+    assert!(rt; nest(&mut arena, 100000)? == 100000);
+    assert!(rt; nest(&mut arena, 1000)? == 1000);
+    assert!(rt; arena.into_types().len() == 100001);
     Ok(())
 }

@@ -22,11 +22,11 @@ fn disks_in_memory(rt: HostRuntime) -> Result<(), Fail> {
     disks.push(Some(MemDisk::new(rt.alloc(), b"ab", LIMITS, &[])?))?;
     let mut bay = MemBay::new(disks, &[1]);
     let mut disk = bay.take(0).ok().expect(&rt, "a disk");
-    assert_eq!(rt; disk.write_at(2, b"c"), Ok(()));
+    assert!(rt; disk.write_at(2, b"c") == Ok(()));
     bay.put_back(0, disk);
     assert!(rt; bay.take(0).is_err());
     let disk = bay.take(0).ok().expect(&rt, "a disk");
-    assert_eq!(rt; disk.bytes(), b"abc".as_slice());
+    assert!(rt; disk.bytes() == b"abc".as_slice());
     Ok(())
 }
 
@@ -35,13 +35,13 @@ fn disks_in_memory(rt: HostRuntime) -> Result<(), Fail> {
 fn files_of_the_system(rt: HostRuntime) -> Result<(), Fail> {
     let mut bay = RealBay::new(rt.alloc(), &rt, "outside_bays_test", 2)?;
     let mut made = bay.take(1).ok().expect(&rt, "a disk");
-    assert_eq!(rt; made.len(), Ok(0));
+    assert!(rt; made.len() == Ok(0));
     assert!(rt; fs::metadata(&rt, "outside_bays_test").is_err());
-    assert_eq!(rt; made.write_at(0, b"abc"), Ok(()));
+    assert!(rt; made.write_at(0, b"abc") == Ok(()));
     bay.put_back(1, made);
     let mut found = bay.take(1).ok().expect(&rt, "a disk");
-    assert_eq!(rt; found.len(), Ok(3));
-    assert_eq!(rt; fs::metadata(&rt, "outside_bays_test/1.bud")?.len(), 3);
+    assert!(rt; found.len() == Ok(3));
+    assert!(rt; fs::metadata(&rt, "outside_bays_test/1.bud")?.len() == 3);
 
     // A folder of that name can't be opened, and stays as it is.
     fs::create_dir(&rt, "outside_bays_test/0.bud")?;
@@ -52,7 +52,7 @@ fn files_of_the_system(rt: HostRuntime) -> Result<(), Fail> {
     // Where no folder can be made the first write fails.
     let mut nowhere = RealBay::new(rt.alloc(), &rt, "/proc/none", 1)?;
     let mut disk = nowhere.take(0).ok().expect(&rt, "a disk");
-    assert_eq!(rt; disk.write_at(0, b"abc"), Err(Failed));
-    assert_eq!(rt; disk.fault_count(), 1);
+    assert!(rt; disk.write_at(0, b"abc") == Err(Failed));
+    assert!(rt; disk.fault_count() == 1);
     Ok(())
 }

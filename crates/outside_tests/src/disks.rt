@@ -5,9 +5,8 @@ use outside_disks::disk::Disk;
 use outside_disks::failing::{BlipDisk, FuseDisk};
 use outside_disks::memory::{Limits, MemDisk};
 use outside_disks::real::{FileDisk, FilePlace, open_file};
-use std::alloc::Global;
+use std::fs;
 use std::test::Fail;
-use std::{fs, rt};
 
 const LIMITS: Limits = Limits {
     length: 8,
@@ -36,73 +35,72 @@ fn limits_of_memory(rt: HostRuntime) -> Result<(), Fail> {
         (0, b"f".as_slice(), Ok(*b"\0x")),
         (0, b"".as_slice(), Err(Failed)),
     ] {
-        assert_eq!(rt; write_and_read(&mut disk, place, bytes), want, "at {place}");
+        assert!(rt;
+            write_and_read(&mut disk, place, bytes) == want,
+            "at {place}"
+        );
     }
-    assert_eq!(rt; disk.bytes(), b"fbc\0xend".as_slice());
+    assert!(rt; disk.bytes() == b"fbc\0xend".as_slice());
     Ok(())
-}
-
-fn small(alloc: Global) -> Result<MemDisk<'static>, std::alloc::AllocError> {
-    MemDisk::new(alloc, b"abcde", LIMITS, &[])
 }
 
 // A fuse of three calls, and a fault at call 3 alone.
 #[test]
 fn fuse_and_blip(rt: HostRuntime) -> Result<(), Fail> {
-    let mut fuse = FuseDisk::new(small(rt.alloc())?, 3);
-    let mut blip = BlipDisk::new(small(rt.alloc())?, 3);
+    let mut fuse = FuseDisk::new(MemDisk::new(rt.alloc(), b"abcde", LIMITS, &[])?, 3);
+    let mut blip = BlipDisk::new(MemDisk::new(rt.alloc(), b"abcde", LIMITS, &[])?, 3);
     for (bytes, by_fuse, by_blip) in [
         (b"1", Ok(*b"de"), Ok(*b"de")),
         (b"2", Err(Failed), Err(Failed)),
         (b"3", Err(Failed), Ok(*b"de")),
     ] {
-        assert_eq!(rt; write_and_read(&mut fuse, 0, bytes), by_fuse);
-        assert_eq!(rt; write_and_read(&mut blip, 0, bytes), by_blip);
+        assert!(rt; write_and_read(&mut fuse, 0, bytes) == by_fuse);
+        assert!(rt; write_and_read(&mut blip, 0, bytes) == by_blip);
     }
-    assert_eq!(rt; fuse.sync(), Err(Failed));
-    assert_eq!(rt; blip.sync(), Ok(()));
-    assert_eq!(rt; fuse.into_inner().bytes(), b"2bcde".as_slice());
-    assert_eq!(rt; blip.into_inner().bytes(), b"3bcde".as_slice());
+    assert!(rt; fuse.sync() == Err(Failed));
+    assert!(rt; blip.sync() == Ok(()));
+    assert!(rt; fuse.into_inner().bytes() == b"2bcde".as_slice());
+    assert!(rt; blip.into_inner().bytes() == b"3bcde".as_slice());
     Ok(())
 }
 
-// The disk of a file that is opened where it is there.
-fn disk_of<'a, R: rt::Files<File = fs::File>>(
-    alloc: Global,
-    rt: &'a R,
-    name: &str,
-) -> Result<FileDisk<'a, R>, Fail> {
-    let home = FilePlace::new(alloc, "outside_disks_test", name)?;
-    let file = open_file(rt, &home)?;
-    Ok(FileDisk::new(rt, home, file))
-}
-
-// A file as a disk: nothing is made before the first write, and zeros stand past the end.
+// A file as a disk: nothing is made before the first write, and zeros stand past the end. It is found again.
 #[test]
 fn a_file_of_the_system(rt: HostRuntime) -> Result<(), Fail> {
-    let alloc = rt.alloc();
-    let mut disk = disk_of(alloc, &rt, "file")?;
+    let home = FilePlace::new(rt.alloc(), "outside_disks_test", "file")?;
+    let file = open_file(&rt, &home)?;
+    let mut disk = FileDisk::new(&rt, home, file);
     let mut buf = [9; 6];
-    assert_eq!(rt; disk.len(), Ok(0));
-    assert_eq!(rt; disk.read_at(0, &mut buf), Ok(()));
-    assert_eq!(rt; disk.sync(), Ok(()));
-    assert_eq!(rt; &buf, b"\0\0\0\0\0\0");
+    assert!(rt; disk.len() == Ok(0));
+    assert!(rt; disk.read_at(0, &mut buf) == Ok(()));
+    assert!(rt; disk.sync() == Ok(()));
+    assert!(rt; &buf == b"\0\0\0\0\0\0");
     assert!(rt; fs::metadata(&rt, "outside_disks_test").is_err());
-    assert_eq!(rt; write_and_read(&mut disk, 3, b"x"), Ok(*b"x\0"));
-    assert_eq!(rt; disk.sync(), Ok(()));
-    assert_eq!(rt; disk.len(), Ok(4));
+    assert!(rt; write_and_read(&mut disk, 3, b"x") == Ok(*b"x\0"));
+    assert!(rt; disk.sync() == Ok(()));
+    assert!(rt; disk.len() == Ok(4));
 
-    let mut found = disk_of(alloc, &rt, "file")?;
-    assert_eq!(rt; found.read_at(0, &mut buf), Ok(()));
-    assert_eq!(rt; &buf, b"\0\0\0x\0\0");
-    assert_eq!(rt; found.fault_count(), 0);
-
-    // What is there and can't be opened is a fault, and so is a first write that can't make its file.
-    let folder = FilePlace::new(alloc, "outside_disks_test", "")?;
-    assert!(rt; open_file(&rt, &folder).is_err());
-    let mut nowhere = disk_of(alloc, &rt, "none/file")?;
-    assert_eq!(rt; write_and_read(&mut nowhere, 0, b"x"), Err(Failed));
-    assert_eq!(rt; nowhere.fault_count(), 1);
+    let home = disk.close();
+    let file = open_file(&rt, &home)?;
+    let mut found = FileDisk::new(&rt, home, file);
+    assert!(rt; found.read_at(0, &mut buf) == Ok(()));
+    assert!(rt; &buf == b"\0\0\0x\0\0");
+    assert!(rt; found.fault_count() == 0);
     fs::remove_dir_all(&rt, "outside_disks_test")?;
+    Ok(())
+}
+
+// What is there and can't be opened is a fault, and so is a first write that can't make its file.
+#[test]
+fn no_file_of_the_system(rt: HostRuntime) -> Result<(), Fail> {
+    fs::create_dir_all(&rt, "outside_disks_none")?;
+    let folder = FilePlace::new(rt.alloc(), "outside_disks_none", "")?;
+    assert!(rt; open_file(&rt, &folder).is_err());
+    let home = FilePlace::new(rt.alloc(), "outside_disks_none", "none/file")?;
+    let file = open_file(&rt, &home)?;
+    let mut nowhere = FileDisk::new(&rt, home, file);
+    assert!(rt; write_and_read(&mut nowhere, 0, b"x") == Err(Failed));
+    assert!(rt; nowhere.fault_count() == 1);
+    fs::remove_dir_all(&rt, "outside_disks_none")?;
     Ok(())
 }

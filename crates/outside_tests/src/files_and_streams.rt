@@ -27,10 +27,10 @@ fn on_schedule<T>(inner: T, failing: &[u64]) -> Flaky<'_, T> {
 fn draws_and_then_zeros(rt: HostRuntime) {
     let streams = ListStreams::new(&[7, 8]);
     let mut first = streams.stream(0, 0);
-    assert_eq!(rt; first.draw(), 7);
+    assert!(rt; first.draw() == 7);
     let mut other = streams.stream(3, 9);
     for want in [7, 8, 0, 0] {
-        assert_eq!(rt; other.draw(), want);
+        assert!(rt; other.draw() == want);
     }
 }
 
@@ -57,10 +57,10 @@ fn faults_by_schedule(rt: HostRuntime) -> Result<(), Fail> {
         (Ok(1), "ne"),
         (Ok(0), "ne"),
     ] {
-        assert_eq!(rt; source.read(&mut buf), want);
-        assert_eq!(rt; &buf[..2], bytes.as_bytes());
+        assert!(rt; source.read(&mut buf) == want);
+        assert!(rt; &buf[..2] == bytes.as_bytes());
     }
-    assert_eq!(rt; source.schedule.faults, 1);
+    assert!(rt; source.schedule.faults == 1);
 
     let mut sink = on_schedule(MemSink::<9>::new(rt.alloc())?, &[1]);
     for (want, bytes) in [
@@ -68,8 +68,8 @@ fn faults_by_schedule(rt: HostRuntime) -> Result<(), Fail> {
         (Ok(()), "seseven"),
         (Err(Failed), "sesevense"),
     ] {
-        assert_eq!(rt; put(&mut sink, b"seven"), want);
-        assert_eq!(rt; sink.inner.bytes(), bytes.as_bytes());
+        assert!(rt; put(&mut sink, b"seven") == want);
+        assert!(rt; sink.inner.bytes() == bytes.as_bytes());
     }
     Ok(())
 }
@@ -97,7 +97,7 @@ fn files_in_memory(rt: HostRuntime) -> Result<(), Fail> {
         ("b", ("failed", 0)),
         ("b", ("bytes", 0)),
     ] {
-        assert_eq!(rt; outcome(&files.read(rt.alloc(), name)), want, "of {name}");
+        assert!(rt; outcome(&files.read(rt.alloc(), name)) == want, "of {name}");
     }
     Ok(())
 }
@@ -123,7 +123,7 @@ fn files_of_the_system(rt: HostRuntime) -> Result<(), Fail> {
         ("outside_test/a\0b", ("failed", 0)),
         ("/proc/self/mem", ("failed", 0)),
     ] {
-        assert_eq!(rt; outcome(&files.read(rt.alloc(), name)), want, "of {name}");
+        assert!(rt; outcome(&files.read(rt.alloc(), name)) == want, "of {name}");
     }
     fs::remove_dir_all(&rt, "outside_test")?;
     Ok(())
@@ -133,20 +133,17 @@ fn files_of_the_system(rt: HostRuntime) -> Result<(), Fail> {
 #[test]
 fn reader_and_writer_of_the_system(rt: HostRuntime) -> Result<(), Fail> {
     let mut sink = RealSink::new(fs::create(&rt, "outside_test_bytes")?);
-    assert_eq!(rt; put(&mut sink, b"seven"), Ok(()));
+    assert!(rt; put(&mut sink, b"seven") == Ok(()));
     let mut source = RealSource::new(fs::open(&rt, "outside_test_bytes")?);
     let read = read_up_to(rt.alloc(), &mut source, 4)
         .ok()
         .expect(&rt, "four bytes");
-    assert_eq!(rt; read.as_slice(), b"seve".as_slice());
+    assert!(rt; read.as_slice() == b"seve".as_slice());
     fs::remove_file(&rt, "outside_test_bytes")?;
 
-    assert_eq!(rt;
-        put(&mut RealSink::new(io::writer(&rt)), b"seven\n"),
-        Ok(())
-    );
+    assert!(rt; put(&mut RealSink::new(io::writer(&rt)), b"seven\n") == Ok(()));
     let full = fs::OpenOptions::new().write(true).open(&rt, "/dev/full")?;
-    assert_eq!(rt; put(&mut RealSink::new(full), b"seven"), Err(Failed));
+    assert!(rt; put(&mut RealSink::new(full), b"seven") == Err(Failed));
     Ok(())
 }
 
@@ -157,26 +154,26 @@ fn errors_of_the_system(rt: HostRuntime) -> Result<(), Fail> {
     let mut buf = [0; 8];
     fs::create_dir_all(&rt, "outside_test_folder")?;
     let mut folder = RealSource::new(fs::open(&rt, "outside_test_folder")?);
-    assert_eq!(rt; folder.read(&mut buf), Err(Failed));
-    assert_eq!(rt; folder.read(&mut buf), Err(Failed));
+    assert!(rt; folder.read(&mut buf) == Err(Failed));
+    assert!(rt; folder.read(&mut buf) == Err(Failed));
     fs::remove_dir_all(&rt, "outside_test_folder")?;
 
     let mut writer = RealSource::new(fs::create(&rt, "outside_test_ways")?);
-    assert_eq!(rt; writer.read(&mut buf), Err(Failed));
+    assert!(rt; writer.read(&mut buf) == Err(Failed));
     let mut reader = RealSink::new(fs::open(&rt, "outside_test_ways")?);
-    assert_eq!(rt; reader.write(b"seven"), Err(Failed));
+    assert!(rt; reader.write(b"seven") == Err(Failed));
     fs::remove_file(&rt, "outside_test_ways")?;
 
     let (reader, writer) = io::pipe(&rt)?;
     drop(reader);
     let mut broken = RealSink::new(writer);
-    assert_eq!(rt; broken.write(b"seven"), Err(Failed));
-    assert_eq!(rt; broken.write(b"seven"), Err(Failed));
+    assert!(rt; broken.write(b"seven") == Err(Failed));
+    assert!(rt; broken.write(b"seven") == Err(Failed));
 
     let (reader, writer) = io::pipe(&rt)?;
-    assert_eq!(rt; RealSink::new(writer).write(b"seven"), Ok(5));
+    assert!(rt; RealSink::new(writer).write(b"seven") == Ok(5));
     let mut ended = RealSource::new(reader);
-    assert_eq!(rt; ended.read(&mut buf), Ok(5));
-    assert_eq!(rt; ended.read(&mut buf), Ok(0));
+    assert!(rt; ended.read(&mut buf) == Ok(5));
+    assert!(rt; ended.read(&mut buf) == Ok(0));
     Ok(())
 }

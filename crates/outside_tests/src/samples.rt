@@ -35,13 +35,13 @@ fn worked_samples(rt: HostRuntime) {
     for (draws, noise) in rows {
         let mut words = ListWords::new(draws);
         assert!(rt; sample(1, 1, &mut words) == Ok(noise), "{noise}");
-        assert_eq!(rt; words.draw(), 99, "{noise}");
+        assert!(rt; words.draw() == 99, "{noise}");
     }
     let mut draws = [0; 4097];
     draws[4096] = 99;
     let mut zeros = ListWords::new(&draws);
     assert!(rt; sample(1, 1, &mut zeros) == Err(Exhausted));
-    assert_eq!(rt; zeros.draw(), 99);
+    assert!(rt; zeros.draw() == 99);
 }
 
 /// Whether the plain sampler says the same of 4,096 draws, and leaves the same one to be next.
