@@ -1,5 +1,6 @@
 -- one file is read
-use Rattle.std.proofs.Common.{◌≡◌, ℕ, zero, suc, ◌≤◌, cond, List, [], ◌∷◌, ◌++◌, Option, Some, None, refl, sym, ◌∙◌, ap, length}
+use Rattle.std.proofs.Common.{◌≡◌, ℕ, zero, suc, ◌≤◌, cond, List, [], ◌∷◌, ◌++◌, Option, Some, None, refl, sym, ◌∙◌, ap, subst, length}
+use mathlib.Core.Logic.{◌⊎◌, inl, inr}
 use Rattle.std.specs.Prelude.{◌^◌, IfSome, Result, Ok, Err, ok_or, nat_eq}
 use Rattle.std.proofs.lemmas.Bool.{le-leb, lt-leb, eq-eqb, ne_eqb}
 use Rattle.fz_outside.specs.Files.{IsRead, IsBounded}
@@ -60,6 +61,14 @@ refused_at name reads old new (Journal line) none named is = absurd is
 refused_at name reads old new (Disk line) none named is = absurd is
 refused_at name reads old new Fault none named is = absurd is
 refused_at name reads old new NoMemory none named is = (name ∷ [], [], named, refl)
+
+-- a file that isn't there, or is too long
+pub none_to_read : (read : FileRead) → (read ≡ Absent) ⊎ (read ≡ TooLong) → read_of read ≡ None
+none_to_read read (inl absent) = ap read_of absent
+none_to_read read (inr long) = ap read_of long
+
+pub refused_no_fault : {T : Type 0} (name : List ℕ) (stop : Stop) (result : Result T Stop) → IsRefusalOf name stop → result ≡ Err stop → result ≡ Err Fault → ⊥
+refused_no_fault name stop result refuses is fault = let same : stop ≡ Fault = cc (is, fault) in subst (IsRefusalOf name) same refuses
 
 pub file_refused : (held : Option Contents) (name : List ℕ) (read : FileRead) (old new : List (List ℕ)) (stop : Stop) → IfSome held (λ told. IsRead (told name) read) → IsBounded read
     → read_of read ≡ None → new ≡ old ++ name ∷ [] → IsRefusalOf name stop → (rest : ReadsToCome) → AreTold held rest → (reads : ReadsToCome) × AreTold held reads × IsStopAt (file_read name reads) old new stop

@@ -5,6 +5,8 @@ use Rattle.metric_values.specs.Tables.{Dataset}
 use Rattle.owner_catalog.specs.Entries.{Catalog, OwnerEntry, owner_entry_at, owner_signature}
 use Rattle.part_views.specs.Holding.{Holding}
 use Rattle.session_core.specs.House.{Register, register_with}
+use Rattle.fz_outside.specs.declared.FileFault.{FileFault}
+use Rattle.fz_outside.specs.declared.FileFault.TheVariants.{Failed, NoMemory as NoneToRead}
 use Rattle.catalog_loading.specs.Files.{Contents, ReadsToCome, AreTold}
 use Rattle.catalog_loading.specs.Steps.{StepOutcome, FileStep}
 use Rattle.catalog_loading.specs.Loaded.{LoadedOwner, Loading, entry_named}
@@ -32,6 +34,11 @@ IsRefusalOf name (Journal line) = ⊥
 IsRefusalOf name (Disk line) = ⊥
 IsRefusalOf name Fault = ⊥
 IsRefusalOf name NoMemory = ⊤
+
+-- what stops a command whose file was not read
+abbrev pub stop_at_fault : FileFault → Stop
+stop_at_fault Failed = Fault
+stop_at_fault NoneToRead = NoMemory
 
 -- What a step that is done comes to: it gives this, and leaves these reads to come; the names read so far went on by its files.
 pub record IsStepGiven {A : Type 0} (o : StepOutcome A) (rest : ReadsToCome) (old new : List (List ℕ)) (a : A) : Type 0 where

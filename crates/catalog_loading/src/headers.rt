@@ -24,9 +24,7 @@ fn header_for(opened: &Opened, owner: u32) -> Result<Header, Stop>
 {
     let catalog = opened.house.catalog();
     let hashes = &opened.hashes[owner as usize];
-    let Ok(digest) = digest(catalog, owner, &opened.key, hashes) else {
-        return Err(Stop::NoMemory);
-    };
+    let digest = digest(catalog, owner, &opened.key, hashes)?;
     Ok(Header {
         owner,
         budget: catalog.budget(owner),
@@ -48,9 +46,7 @@ pub fn headers_of(alloc: Global, opened: &Opened) -> Result<Vec<Header>, Stop>
     let mut headers = Vec::new(alloc);
     for owner in 0..opened.house.catalog().owners() as u32 {
         let header = header_for(opened, owner)?;
-        let Ok(()) = headers.push(header) else {
-            return Err(Stop::NoMemory);
-        };
+        headers.push(header)?;
     }
     Ok(headers)
 }

@@ -124,12 +124,8 @@ fn load_tables<F: Files>(
     let mut hashes = Vec::new(alloc);
     for table in 0..catalog.tables(owner) as u8 {
         let loaded = load_table(alloc, files, catalog, owner, table)?;
-        let Ok(()) = tables.push(loaded.rows) else {
-            return Err(Stop::NoMemory);
-        };
-        let Ok(()) = hashes.push(loaded.hash) else {
-            return Err(Stop::NoMemory);
-        };
+        tables.push(loaded.rows)?;
+        hashes.push(loaded.hash)?;
     }
     Ok(LoadedTables { tables, hashes })
 }
@@ -150,13 +146,11 @@ fn load_owner<F: Files>(
     ensures passed { OnOk result (F.faults files.new ≡ F.faults files.old) }
 {
     let loaded = load_tables(alloc, files, catalog, owner)?;
-    match Dataset::new(alloc, catalog, owner, loaded.tables) {
-        Ok(dataset) => Ok(LoadedOwner {
-            dataset,
-            hashes: loaded.hashes,
-        }),
-        Err(_) => Err(Stop::NoMemory),
-    }
+    let dataset = Dataset::new(alloc, catalog, owner, loaded.tables)?;
+    Ok(LoadedOwner {
+        dataset,
+        hashes: loaded.hashes,
+    })
 }
 
 /// What each owner of a catalog holds, in order.
@@ -176,12 +170,8 @@ pub(crate) fn load_all<F: Files>(
     let mut hashes = Vec::new(alloc);
     for owner in 0..catalog.owners() as u32 {
         let loaded = load_owner(alloc, files, catalog, owner)?;
-        let Ok(()) = datasets.push(loaded.dataset) else {
-            return Err(Stop::NoMemory);
-        };
-        let Ok(()) = hashes.push(loaded.hashes) else {
-            return Err(Stop::NoMemory);
-        };
+        datasets.push(loaded.dataset)?;
+        hashes.push(loaded.hashes)?;
     }
     Ok(Loaded { datasets, hashes })
 }

@@ -7,7 +7,6 @@ ghost use Rattle.catalog_loading.specs.Loaded.{key_read};
 ghost use Rattle.catalog_loading.specs.Given.{IsStep};
 
 use crate::stops::Stop;
-use fz_outside::FileFault;
 use fz_outside::files::{FileRead, Files};
 use std::alloc::Global;
 
@@ -18,12 +17,9 @@ pub fn read_file<F: Files>(alloc: Global, files: &mut F, name: &str) -> Result<V
     ensures cause { HasCause (F.faults files.old) (F.faults files.new) (IsErrOf result Stop.Fault) }
     ensures passed { OnOk result (F.faults files.new ≡ F.faults files.old) }
 {
-    match files.read(alloc, name) {
-        Ok(FileRead::Bytes(bytes)) => Ok(bytes),
-        Ok(FileRead::Absent) => Err(Stop::refuse(alloc, name)),
-        Ok(FileRead::TooLong) => Err(Stop::refuse(alloc, name)),
-        Err(FileFault::Failed) => Err(Stop::Fault),
-        Err(FileFault::NoMemory) => Err(Stop::NoMemory),
+    match files.read(alloc, name)? {
+        FileRead::Bytes(bytes) => Ok(bytes),
+        FileRead::Absent | FileRead::TooLong => Err(Stop::refuse(alloc, name)),
     }
 }
 

@@ -12,7 +12,7 @@ pub loop-owner-preserved : goal.loop-owner-preserved
 loop-owner-preserved c =
     let o = c.loop-owner.owner in
     let f = header_of (loading_by c.args.opened.now.house c.args.opened.now.hashes.items) c.args.opened.now.key in
-    let pushed : c.push.new.self.items ≡ c.loop-owner.headers.items ++ c.in_ok-header.header ∷ [] = c.in-Ok.ensures.items in
+    let pushed : c.push.new.self.items ≡ c.loop-owner.headers.items ++ c.in_ok-header.header ∷ [] = c.in_ok-push.ensures.items in
     record {
       count = grind (arith, pushed, c.loop-owner.invariant.count);
       headers = subst (λ (xs : List Header). (p : ℕ) (d : Header) → p < o + 1 → get_or xs p d ≡ f p) (sym pushed)

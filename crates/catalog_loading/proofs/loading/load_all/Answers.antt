@@ -32,19 +32,23 @@ returns-in_err-loaded-clause-step g c =
     (next_stopped _ _ _ _ _ (one_by_one owner_read all) owner_read c.loop-owner.invariant.so_far all c.loop-owner.owner _ _ within c.loop-owner.invariant.reached c.loop-owner.invariant.same c.in_err-loaded.ensures.step))
     c.from_residual.ensures.1
 
-pub returns-in_default-clause-step : goal.returns-in_default-clause-step
-returns-in_default-clause-step g c =
+pub returns-in_err-push-clause-step : goal.returns-in_err-push-clause-step
+returns-in_err-push-clause-step g c =
     let all = c.args.catalog.now.owners in
     let within : c.loop-owner.owner < length all = omega (arith, c.loop-owner-test.true, c.owners-owner-end.ensures.owners) in
-    stopped _ _ _ _ _ (loaded c.args.catalog.now) (one_by_one owner_read all) _ NoMemory (begun _ _ (loaded c.args.catalog.now)) refl
-    (cut _ _ _ _ _ (next_done _ _ _ _ _ (one_by_one owner_read all) owner_read c.loop-owner.invariant.so_far all c.loop-owner.owner _ _ within c.loop-owner.invariant.reached c.loop-owner.invariant.same c.in_ok-loaded.ensures.step))
+    passed _ _ _ _ _ NoMemory c.from_residual-in_err-push.result
+    (stopped _ _ _ _ _ (loaded c.args.catalog.now) (one_by_one owner_read all) _ NoMemory (begun _ _ (loaded c.args.catalog.now)) refl
+    (cut _ _ _ _ _ (next_done _ _ _ _ _ (one_by_one owner_read all) owner_read c.loop-owner.invariant.so_far all c.loop-owner.owner _ _ within c.loop-owner.invariant.reached c.loop-owner.invariant.same c.in_ok-loaded.ensures.step)))
+    c.from_residual-in_err-push.ensures.1
 
-pub returns-in_default-push-clause-step : goal.returns-in_default-push-clause-step
-returns-in_default-push-clause-step g c =
+pub returns-in_err-push-2-clause-step : goal.returns-in_err-push-2-clause-step
+returns-in_err-push-2-clause-step g c =
     let all = c.args.catalog.now.owners in
     let within : c.loop-owner.owner < length all = omega (arith, c.loop-owner-test.true, c.owners-owner-end.ensures.owners) in
-    stopped _ _ _ _ _ (loaded c.args.catalog.now) (one_by_one owner_read all) _ NoMemory (begun _ _ (loaded c.args.catalog.now)) refl
-    (cut _ _ _ _ _ (next_done _ _ _ _ _ (one_by_one owner_read all) owner_read c.loop-owner.invariant.so_far all c.loop-owner.owner _ _ within c.loop-owner.invariant.reached c.loop-owner.invariant.same c.in_ok-loaded.ensures.step))
+    passed _ _ _ _ _ NoMemory c.from_residual-in_err-push-2.result
+    (stopped _ _ _ _ _ (loaded c.args.catalog.now) (one_by_one owner_read all) _ NoMemory (begun _ _ (loaded c.args.catalog.now)) refl
+    (cut _ _ _ _ _ (next_done _ _ _ _ _ (one_by_one owner_read all) owner_read c.loop-owner.invariant.so_far all c.loop-owner.owner _ _ within c.loop-owner.invariant.reached c.loop-owner.invariant.same c.in_ok-loaded.ensures.step)))
+    c.from_residual-in_err-push-2.ensures.1
 
 pub loop-owner-preserved : goal.loop-owner-preserved
 loop-owner-preserved g c =
@@ -53,9 +57,9 @@ loop-owner-preserved g c =
     let one : LoadedOwner = record { holding = c.in_ok-loaded.loaded.dataset; hashes = c.in_ok-loaded.loaded.hashes.items } in
     record {
       so_far = c.loop-owner.invariant.so_far ++ one ∷ [];
-      holdings = map-append (λ (o : LoadedOwner). o.holding) c.loop-owner.invariant.so_far (one ∷ []) ∙ ap (λ hs. hs ++ one.holding ∷ []) c.loop-owner.invariant.holdings ∙ sym c.in-Ok.ensures.items;
+      holdings = map-append (λ (o : LoadedOwner). o.holding) c.loop-owner.invariant.so_far (one ∷ []) ∙ ap (λ hs. hs ++ one.holding ∷ []) c.loop-owner.invariant.holdings ∙ sym c.in_ok-push.ensures.items;
       hashes = map-append (λ (o : LoadedOwner). o.hashes) c.loop-owner.invariant.so_far (one ∷ []) ∙ ap (λ hs. hs ++ one.hashes ∷ []) c.loop-owner.invariant.hashes
-          ∙ sym (map-append (λ (v : Vec (List ℕ) Global). v.items) c.loop-owner.hashes.items (c.in_ok-loaded.loaded.hashes ∷ [])) ∙ ap (map (λ (v : Vec (List ℕ) Global). v.items)) (sym c.in-Ok-push.ensures.items);
+          ∙ sym (map-append (λ (v : Vec (List ℕ) Global). v.items) c.loop-owner.hashes.items (c.in_ok-loaded.loaded.hashes ∷ [])) ∙ ap (map (λ (v : Vec (List ℕ) Global). v.items)) (sym c.in_ok-push-2.ensures.items);
       reached = next_done _ _ _ _ _ (one_by_one owner_read all) owner_read c.loop-owner.invariant.so_far all c.loop-owner.owner _ one within c.loop-owner.invariant.reached c.loop-owner.invariant.same c.in_ok-loaded.ensures.step;
       same = c.in_ok-loaded.ensures.same ∙ c.loop-owner.invariant.same;
       passed = c.in_ok-loaded.ensures.passed ∙ c.loop-owner.invariant.passed;

@@ -35,21 +35,25 @@ returns-in_err-loaded-clause-step g c =
     (next_stopped _ _ _ _ _ (one_by_one table_read all) table_read c.loop-table.invariant.so_far all c.loop-table.table _ _ within c.loop-table.invariant.reached c.loop-table.invariant.same c.in_err-loaded.ensures.step))
     c.from_residual.ensures.1
 
-pub returns-in_default-clause-step : goal.returns-in_default-clause-step
-returns-in_default-clause-step g c =
+pub returns-in_err-push-clause-step : goal.returns-in_err-push-clause-step
+returns-in_err-push-clause-step g c =
     let owner = owner_entry_at c.args.catalog.now c.args.owner in
     let all = owner.tables in
     let within : c.loop-table.table < length all = omega (arith, c.loop-table-test.true, c.tables-table-end.ensures) in
-    stopped _ _ _ _ _ (owner_read owner) (one_by_one table_read all) _ NoMemory (begun _ _ (owner_read owner)) refl
-    (cut _ _ _ _ _ (next_done _ _ _ _ _ (one_by_one table_read all) table_read c.loop-table.invariant.so_far all c.loop-table.table _ _ within c.loop-table.invariant.reached c.loop-table.invariant.same c.in_ok-loaded.ensures.step))
+    passed _ _ _ _ _ NoMemory c.from_residual-in_err-push.result
+    (stopped _ _ _ _ _ (owner_read owner) (one_by_one table_read all) _ NoMemory (begun _ _ (owner_read owner)) refl
+    (cut _ _ _ _ _ (next_done _ _ _ _ _ (one_by_one table_read all) table_read c.loop-table.invariant.so_far all c.loop-table.table _ _ within c.loop-table.invariant.reached c.loop-table.invariant.same c.in_ok-loaded.ensures.step)))
+    c.from_residual-in_err-push.ensures.1
 
-pub returns-in_default-push-clause-step : goal.returns-in_default-push-clause-step
-returns-in_default-push-clause-step g c =
+pub returns-in_err-push-2-clause-step : goal.returns-in_err-push-2-clause-step
+returns-in_err-push-2-clause-step g c =
     let owner = owner_entry_at c.args.catalog.now c.args.owner in
     let all = owner.tables in
     let within : c.loop-table.table < length all = omega (arith, c.loop-table-test.true, c.tables-table-end.ensures) in
-    stopped _ _ _ _ _ (owner_read owner) (one_by_one table_read all) _ NoMemory (begun _ _ (owner_read owner)) refl
-    (cut _ _ _ _ _ (next_done _ _ _ _ _ (one_by_one table_read all) table_read c.loop-table.invariant.so_far all c.loop-table.table _ _ within c.loop-table.invariant.reached c.loop-table.invariant.same c.in_ok-loaded.ensures.step))
+    passed _ _ _ _ _ NoMemory c.from_residual-in_err-push-2.result
+    (stopped _ _ _ _ _ (owner_read owner) (one_by_one table_read all) _ NoMemory (begun _ _ (owner_read owner)) refl
+    (cut _ _ _ _ _ (next_done _ _ _ _ _ (one_by_one table_read all) table_read c.loop-table.invariant.so_far all c.loop-table.table _ _ within c.loop-table.invariant.reached c.loop-table.invariant.same c.in_ok-loaded.ensures.step)))
+    c.from_residual-in_err-push-2.ensures.1
 
 pub loop-table-preserved : goal.loop-table-preserved
 loop-table-preserved g c =
@@ -59,8 +63,8 @@ loop-table-preserved g c =
     let one : LoadedTable = record { rows = c.in_ok-loaded.loaded.rows; hash = c.in_ok-loaded.loaded.hash } in
     record {
       so_far = c.loop-table.invariant.so_far ++ one ∷ [];
-      rows = map-append (λ (t : LoadedTable). t.rows) c.loop-table.invariant.so_far (one ∷ []) ∙ ap (λ ts. ts ++ one.rows ∷ []) c.loop-table.invariant.rows ∙ sym c.in-Ok.ensures.pushed;
-      hashes = map-append (λ (t : LoadedTable). t.hash) c.loop-table.invariant.so_far (one ∷ []) ∙ ap (λ hs. hs ++ one.hash ∷ []) c.loop-table.invariant.hashes ∙ sym c.in-Ok-push.ensures.items;
+      rows = map-append (λ (t : LoadedTable). t.rows) c.loop-table.invariant.so_far (one ∷ []) ∙ ap (λ ts. ts ++ one.rows ∷ []) c.loop-table.invariant.rows ∙ sym c.in_ok-push.ensures.pushed;
+      hashes = map-append (λ (t : LoadedTable). t.hash) c.loop-table.invariant.so_far (one ∷ []) ∙ ap (λ hs. hs ++ one.hash ∷ []) c.loop-table.invariant.hashes ∙ sym c.in_ok-push-2.ensures.items;
       reached = next_done _ _ _ _ _ (one_by_one table_read all) table_read c.loop-table.invariant.so_far all c.loop-table.table _ one within c.loop-table.invariant.reached c.loop-table.invariant.same c.in_ok-loaded.ensures.step;
       same = c.in_ok-loaded.ensures.same ∙ c.loop-table.invariant.same;
       passed = c.in_ok-loaded.ensures.passed ∙ c.loop-table.invariant.passed;

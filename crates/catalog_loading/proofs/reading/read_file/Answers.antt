@@ -1,12 +1,16 @@
-use Rattle.std.proofs.Common.{ap}
-use Rattle.catalog_loading.proofs.FileReads.{file_given, file_refused, read_of}
+use Rattle.std.proofs.Common.{ap, refl}
+use Rattle.std.specs.Prelude.{Err}
+use Rattle.catalog_loading.proofs.FileReads.{file_given, file_refused, none_to_read, read_of, refused_no_fault}
 use Rattle.catalog_loading.proofs.reading.read_file.Goals as goal
 
-pub returns-in-Ok-Bytes-clause-step : goal.returns-in-Ok-Bytes-clause-step
-returns-in-Ok-Bytes-clause-step g c = file_given _ _ _ _ _ _ c.in-Ok-Bytes.ensures.found c.in-Ok-Bytes.ensures.bound (ap read_of c.in-Ok-Bytes.field-0-is) c.in-Ok-Bytes.ensures.named
+pub returns-in-Bytes-clause-step : goal.returns-in-Bytes-clause-step
+returns-in-Bytes-clause-step g c = file_given _ _ _ _ _ _ c.in_ok-bytes.ensures.found c.in_ok-bytes.ensures.bound (ap read_of c.in-Bytes.is) c.in_ok-bytes.ensures.named
 
-pub returns-in-Ok-Absent-clause-step : goal.returns-in-Ok-Absent-clause-step
-returns-in-Ok-Absent-clause-step g c = file_refused _ _ _ _ _ _ c.in-Ok-Absent.ensures.found c.in-Ok-Absent.ensures.bound (ap read_of c.in-Ok-Absent.field-0-is) c.in-Ok-Absent.ensures.named c.refuse.ensures
-
-pub returns-in-Ok-TooLong-clause-step : goal.returns-in-Ok-TooLong-clause-step
-returns-in-Ok-TooLong-clause-step g c = file_refused _ _ _ _ _ _ c.in-Ok-TooLong.ensures.found c.in-Ok-TooLong.ensures.bound (ap read_of c.in-Ok-TooLong.field-0-is) c.in-Ok-TooLong.ensures.named c.refuse-in-Ok-TooLong.ensures
+pub returns-in-Absent : goal.returns-in-Absent
+returns-in-Absent g c =
+    record {
+      step = file_refused _ _ _ _ _ _ c.in_ok-bytes.ensures.found c.in_ok-bytes.ensures.bound (none_to_read c.in_ok-bytes.field-0 c.in-Absent.is) c.in_ok-bytes.ensures.named c.refuse.ensures;
+      same = c.in_ok-bytes.ensures.same;
+      cause = record { later = c.in_ok-bytes.ensures.cause.later; failed = λ fault. absurd (refused_no_fault c.args.name.now c.refuse.result (Err c.refuse.result) c.refuse.ensures refl fault) };
+      passed = tt;
+    }
