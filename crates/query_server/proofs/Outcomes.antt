@@ -29,7 +29,7 @@ use Rattle.catalog_loading.specs.declared.stops.Stop.TheVariants.{Usage, Fault, 
 use Rattle.query_server.specs.declared.end.End.{End}
 use Rattle.query_server.specs.declared.end.End.TheVariants.{Stopped}
 use Rattle.query_server.proofs.Judged.{gap_status}
-use Rattle.query_server.proofs.Contents.{at_some, for_contents}
+use Rattle.query_server.proofs.Contents.{at_held, at_some, at_told, for_contents}
 use Rattle.query_server.proofs.Prefixes.{prefix_empty, prefix_whole}
 use Rattle.query_server.proofs.Endings.{ending_by, house_by, house_cases, check_cases, gap_cases, house_headline}
 use Rattle.query_server.proofs.Disks.{may_stop_same}
@@ -367,6 +367,18 @@ pub all_written : (words : List (List ℕ)) (held : Option Contents) (left : Opt
     → ForContents held left (Ends words old new b a end) → ForContents held left (Comes words old new b a status text)
 all_written words held left old new b a end status text with = for_contents held left (Ends words old new b a end) (Comes words old new b a status text)
     (λ reads script (due, read). (written_by end status text with (ending_of words reads) b a script due, read_with end status text (files_of words reads) old new with read))
+
+-- the same where the files tell what they hold
+pub held_written : (words : List (List ℕ)) (told : Contents) (held : Option Contents) (left : Option (List ℕ)) (old new : List (List ℕ)) (b a : Shelf) (end : End) (status : Status) (text : List ℕ) → IsEndingWith end status text
+    → ForContents held left (Ends words old new b a end) → held ≡ Some told → (script : List ℕ) × Comes words old new b a status text (always told) script
+held_written words told held left old new b a end status text with ends files =
+    at_held told held left (Comes words old new b a status text) files (all_written words held left old new b a end status text with ends)
+
+-- and the source its bytes
+pub told_written : (words : List (List ℕ)) (told : Contents) (script : List ℕ) (held : Option Contents) (left : Option (List ℕ)) (old new : List (List ℕ)) (b a : Shelf) (end : End) (status : Status) (text : List ℕ)
+    → IsEndingWith end status text → ForContents held left (Ends words old new b a end) → held ≡ Some told → left ≡ Some script → Comes words old new b a status text (always told) script
+told_written words told script held left old new b a end status text with ends files source =
+    at_told told script held left (Comes words old new b a status text) files source (all_written words held left old new b a end status text with ends)
 
 -- A command's steps end so: so do its words.
 pub command_end : (words : List (List ℕ)) (command : Option Command) (held : Option Contents) (left : Option (List ℕ)) (old new : List (List ℕ)) (b a : Shelf) (end : End) → command_of words ≡ command

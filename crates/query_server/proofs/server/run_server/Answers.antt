@@ -1,178 +1,79 @@
 use Rattle.std.proofs.Common.{◌∙◌, Some, ap, map, string_bytes, subst}
 use Rattle.std.specs.Io.KnownBytes.{append_known}
 use Rattle.command_words.specs.Command.{command_of}
-use Rattle.catalog_loading.specs.Files.{always}
 use Rattle.query_server.specs.Ending.{Ending}
-use Rattle.query_server.specs.Due.{IfFinished, IsDue, ending_of}
-use Rattle.query_server.proofs.Contents.{at_held, at_told}
+use Rattle.query_server.specs.Due.{IfFinished, IsDue}
 use Rattle.query_server.proofs.Diskless.{disk_status}
 use Rattle.query_server.proofs.Home.{at_home_again, complete_by, home_again, no_cause, no_disk_cause}
-use Rattle.query_server.proofs.Outcomes.{Comes, all_written, comparison_by, finished_due, finished_map, headline_by, left_by_run, name_by, of_disks_by, of_program_by, of_run_by, program_by, silent_by, taken_with, usage_by, usage_written, verdict_by}
+use Rattle.query_server.proofs.Outcomes.{all_written, comparison_by, finished_due, finished_map, headline_by, held_written, left_by_run, name_by, of_disks_by, of_program_by, of_run_by, program_by, silent_by, taken_with, told_written, usage_by, usage_written, verdict_by}
 use Rattle.query_server.proofs.server.run_server.Goals as goal
 
 pub returns-clause-line : goal.returns-clause-line
 returns-clause-line g c =
-    let words = map string_bytes c.args.words.now in
-    let held = g.F.Files.held c.args.files.now in
-    let left = g.S.Source.left c.args.source.now in
-    let old = g.F.Files.names c.args.files.now in
-    let new = g.F.Files.names c.run_command-end.new.files in
-    let b = g.B.Bay.shelf c.args.bay.now in
-    let a = g.B.Bay.shelf c.run_command-end.new.bay in
-    let status = c.finish.result in
     let done = c.finish.ensures.written in
-    let written = all_written words held left old new b a c.run_command-end.result status done.0 done.2 c.run_command-end.ensures.end in
+    let written = all_written _ _ _ _ _ _ _ _ _ _ done.2 c.run_command-end.ensures.end in
     (done.0, done.1, written)
 
 pub returns-clause-exact : goal.returns-clause-exact
 returns-clause-exact g c = λ told script before files source sink.
-    let words = map string_bytes c.args.words.now in
-    let held = g.F.Files.held c.args.files.now in
-    let left = g.S.Source.left c.args.source.now in
-    let old = g.F.Files.names c.args.files.now in
-    let new = g.F.Files.names c.run_command-end.new.files in
-    let b = g.B.Bay.shelf c.args.bay.now in
-    let a = g.B.Bay.shelf c.run_command-end.new.bay in
-    let status = c.finish.result in
     let done = c.finish.ensures.written in
-    let written = all_written words held left old new b a c.run_command-end.result status done.0 done.2 c.run_command-end.ensures.end in
-    let w = at_told told script held left (Comes words old new b a status done.0) files source written in
+    let w = told_written _ told script _ _ _ _ _ _ _ _ _ done.2 c.run_command-end.ensures.end files source in
     (done.0, done.1 ∙ ap (λ known. append_known known done.0) sink, w.0)
 
 pub returns-clause-headline : goal.returns-clause-headline
 returns-clause-headline g c = λ told catalog key workers script before files source sink commanded same.
-    let words = map string_bytes c.args.words.now in
-    let held = g.F.Files.held c.args.files.now in
-    let left = g.S.Source.left c.args.source.now in
-    let old = g.F.Files.names c.args.files.now in
-    let new = g.F.Files.names c.run_command-end.new.files in
-    let b = g.B.Bay.shelf c.args.bay.now in
-    let a = g.B.Bay.shelf c.run_command-end.new.bay in
-    let status = c.finish.result in
     let done = c.finish.ensures.written in
-    let written = all_written words held left old new b a c.run_command-end.result status done.0 done.2 c.run_command-end.ensures.end in
-    let w = at_told told script held left (Comes words old new b a status done.0) files source written in
-    (done.0, done.1 ∙ ap (λ known. append_known known done.0) sink, headline_by words told b a catalog key workers script done.0 status commanded same w.0)
+    let w = told_written _ told script _ _ _ _ _ _ _ _ _ done.2 c.run_command-end.ensures.end files source in
+    (done.0, done.1 ∙ ap (λ known. append_known known done.0) sink, headline_by _ told _ _ catalog key workers script done.0 _ commanded same w.0)
 
 pub returns-clause-left : goal.returns-clause-left
 returns-clause-left g c = λ told script before files source sink.
-    let words = map string_bytes c.args.words.now in
-    let held = g.F.Files.held c.args.files.now in
-    let left = g.S.Source.left c.args.source.now in
-    let old = g.F.Files.names c.args.files.now in
-    let new = g.F.Files.names c.run_command-end.new.files in
-    let b = g.B.Bay.shelf c.args.bay.now in
-    let a = g.B.Bay.shelf c.run_command-end.new.bay in
-    let status = c.finish.result in
     let done = c.finish.ensures.written in
-    let written = all_written words held left old new b a c.run_command-end.result status done.0 done.2 c.run_command-end.ensures.end in
-    let w = at_told told script held left (Comes words old new b a status done.0) files source written in
-    (done.0, done.1 ∙ ap (λ known. append_known known done.0) sink, left_by_run words told b a script done.0 status w.0)
+    let w = told_written _ told script _ _ _ _ _ _ _ _ _ done.2 c.run_command-end.ensures.end files source in
+    (done.0, done.1 ∙ ap (λ known. append_known known done.0) sink, left_by_run _ told _ _ script done.0 _ w.0)
 
 pub returns-clause-status : goal.returns-clause-status
 returns-clause-status g c = λ told script files source.
-    let words = map string_bytes c.args.words.now in
-    let held = g.F.Files.held c.args.files.now in
-    let left = g.S.Source.left c.args.source.now in
-    let old = g.F.Files.names c.args.files.now in
-    let new = g.F.Files.names c.run_command-end.new.files in
-    let b = g.B.Bay.shelf c.args.bay.now in
-    let a = g.B.Bay.shelf c.run_command-end.new.bay in
-    let status = c.finish.result in
     let done = c.finish.ensures.written in
-    let written = all_written words held left old new b a c.run_command-end.result status done.0 done.2 c.run_command-end.ensures.end in
-    let w = at_told told script held left (Comes words old new b a status done.0) files source written in
-    finished_map status _ _ (λ due. (done.0, due)) (finished_due (ending_of words (always told)) b a script status done.0 w.0)
+    let w = told_written _ told script _ _ _ _ _ _ _ _ _ done.2 c.run_command-end.ensures.end files source in
+    finished_map _ _ _ (λ due. (done.0, due)) (finished_due _ _ _ script _ done.0 w.0)
 
 pub returns-clause-refusal : goal.returns-clause-refusal
 returns-clause-refusal g c = λ told files.
-    let words = map string_bytes c.args.words.now in
-    let held = g.F.Files.held c.args.files.now in
-    let left = g.S.Source.left c.args.source.now in
-    let old = g.F.Files.names c.args.files.now in
-    let new = g.F.Files.names c.run_command-end.new.files in
-    let b = g.B.Bay.shelf c.args.bay.now in
-    let a = g.B.Bay.shelf c.run_command-end.new.bay in
-    let status = c.finish.result in
     let done = c.finish.ensures.written in
-    let written = all_written words held left old new b a c.run_command-end.result status done.0 done.2 c.run_command-end.ensures.end in
-    let w = at_held told held left (Comes words old new b a status done.0) files written in
-    finished_map status _ _ (λ due. (w.0, done.0, due)) (finished_due (ending_of words (always told)) b a w.0 status done.0 w.1.0)
+    let w = held_written _ told _ _ _ _ _ _ _ _ _ done.2 c.run_command-end.ensures.end files in
+    finished_map _ _ _ (λ due. (w.0, done.0, due)) (finished_due _ _ _ w.0 _ done.0 w.1.0)
 
 pub returns-clause-name : goal.returns-clause-name
 returns-clause-name g c = λ told before files sink same.
-    let words = map string_bytes c.args.words.now in
-    let held = g.F.Files.held c.args.files.now in
-    let left = g.S.Source.left c.args.source.now in
-    let old = g.F.Files.names c.args.files.now in
-    let new = g.F.Files.names c.run_command-end.new.files in
-    let b = g.B.Bay.shelf c.args.bay.now in
-    let a = g.B.Bay.shelf c.run_command-end.new.bay in
-    let status = c.finish.result in
     let done = c.finish.ensures.written in
-    let written = all_written words held left old new b a c.run_command-end.result status done.0 done.2 c.run_command-end.ensures.end in
-    let w = at_held told held left (Comes words old new b a status done.0) files written in
-    let named = name_by (ending_of words (always told)) b a w.0 status done.0 same w.1.0 in
+    let w = held_written _ told _ _ _ _ _ _ _ _ _ done.2 c.run_command-end.ensures.end files in
+    let named = name_by _ _ _ w.0 _ done.0 same w.1.0 in
     (named.0, named.1, done.1 ∙ ap (λ known. append_known known done.0) sink ∙ ap (λ text. append_known (Some before) text) named.2)
 
 pub returns-clause-program : goal.returns-clause-program
 returns-clause-program g c = λ told tables program before files sink due.
-    let words = map string_bytes c.args.words.now in
-    let held = g.F.Files.held c.args.files.now in
-    let left = g.S.Source.left c.args.source.now in
-    let old = g.F.Files.names c.args.files.now in
-    let new = g.F.Files.names c.run_command-end.new.files in
-    let b = g.B.Bay.shelf c.args.bay.now in
-    let a = g.B.Bay.shelf c.run_command-end.new.bay in
-    let status = c.finish.result in
     let done = c.finish.ensures.written in
-    let written = all_written words held left old new b a c.run_command-end.result status done.0 done.2 c.run_command-end.ensures.end in
-    let w = at_held told held left (Comes words old new b a status done.0) files written in
-    (done.0, done.1 ∙ ap (λ known. append_known known done.0) sink, program_by (ending_of words (always told)) b a tables program w.0 status done.0 due w.1.0)
+    let w = held_written _ told _ _ _ _ _ _ _ _ _ done.2 c.run_command-end.ensures.end files in
+    (done.0, done.1 ∙ ap (λ known. append_known known done.0) sink, program_by _ _ _ tables program w.0 _ done.0 due w.1.0)
 
 pub returns-clause-comparison : goal.returns-clause-comparison
 returns-clause-comparison g c = λ told tables X Y program before files sink due.
-    let words = map string_bytes c.args.words.now in
-    let held = g.F.Files.held c.args.files.now in
-    let left = g.S.Source.left c.args.source.now in
-    let old = g.F.Files.names c.args.files.now in
-    let new = g.F.Files.names c.run_command-end.new.files in
-    let b = g.B.Bay.shelf c.args.bay.now in
-    let a = g.B.Bay.shelf c.run_command-end.new.bay in
-    let status = c.finish.result in
     let done = c.finish.ensures.written in
-    let written = all_written words held left old new b a c.run_command-end.result status done.0 done.2 c.run_command-end.ensures.end in
-    let w = at_held told held left (Comes words old new b a status done.0) files written in
-    (done.0, done.1 ∙ ap (λ known. append_known known done.0) sink, comparison_by (ending_of words (always told)) b a tables X Y program w.0 status done.0 due w.1.0)
+    let w = held_written _ told _ _ _ _ _ _ _ _ _ done.2 c.run_command-end.ensures.end files in
+    (done.0, done.1 ∙ ap (λ known. append_known known done.0) sink, comparison_by _ _ _ tables X Y program w.0 _ done.0 due w.1.0)
 
 pub returns-clause-verdict : goal.returns-clause-verdict
 returns-clause-verdict g c = λ told tables program reading files due reads.
-    let words = map string_bytes c.args.words.now in
-    let held = g.F.Files.held c.args.files.now in
-    let left = g.S.Source.left c.args.source.now in
-    let old = g.F.Files.names c.args.files.now in
-    let new = g.F.Files.names c.run_command-end.new.files in
-    let b = g.B.Bay.shelf c.args.bay.now in
-    let a = g.B.Bay.shelf c.run_command-end.new.bay in
-    let status = c.finish.result in
     let done = c.finish.ensures.written in
-    let written = all_written words held left old new b a c.run_command-end.result status done.0 done.2 c.run_command-end.ensures.end in
-    let w = at_held told held left (Comes words old new b a status done.0) files written in
-    verdict_by (ending_of words (always told)) b a tables program w.0 reading status done.0 due reads w.1.0
+    let w = held_written _ told _ _ _ _ _ _ _ _ _ done.2 c.run_command-end.ensures.end files in
+    verdict_by _ _ _ tables program w.0 reading _ done.0 due reads w.1.0
 
 pub returns-clause-usage : goal.returns-clause-usage
 returns-clause-usage g c = λ same.
-    let words = map string_bytes c.args.words.now in
-    let held = g.F.Files.held c.args.files.now in
-    let left = g.S.Source.left c.args.source.now in
-    let old = g.F.Files.names c.args.files.now in
-    let new = g.F.Files.names c.run_command-end.new.files in
-    let b = g.B.Bay.shelf c.args.bay.now in
-    let a = g.B.Bay.shelf c.run_command-end.new.bay in
-    let status = c.finish.result in
     let done = c.finish.ensures.written in
-    let written = all_written words held left old new b a c.run_command-end.result status done.0 done.2 c.run_command-end.ensures.end in
-    usage_by words written.0 b a written.1 status done.0 same written.4.0
+    let written = all_written _ _ _ _ _ _ _ _ _ _ done.2 c.run_command-end.ensures.end in
+    usage_by _ written.0 _ _ written.1 _ done.0 same written.4.0
 
 pub returns-clause-no_command : goal.returns-clause-no_command
 returns-clause-no_command g c = λ none.
@@ -183,45 +84,21 @@ returns-clause-no_command g c = λ none.
 
 pub returns-clause-of_program : goal.returns-clause-of_program
 returns-clause-of_program g c = λ same.
-    let words = map string_bytes c.args.words.now in
-    let held = g.F.Files.held c.args.files.now in
-    let left = g.S.Source.left c.args.source.now in
-    let old = g.F.Files.names c.args.files.now in
-    let new = g.F.Files.names c.run_command-end.new.files in
-    let b = g.B.Bay.shelf c.args.bay.now in
-    let a = g.B.Bay.shelf c.run_command-end.new.bay in
-    let status = c.finish.result in
     let done = c.finish.ensures.written in
-    let written = all_written words held left old new b a c.run_command-end.result status done.0 done.2 c.run_command-end.ensures.end in
-    of_program_by words written.0 b a written.1 status done.0 same written.4.0
+    let written = all_written _ _ _ _ _ _ _ _ _ _ done.2 c.run_command-end.ensures.end in
+    of_program_by _ written.0 _ _ written.1 _ done.0 same written.4.0
 
 pub returns-clause-of_run : goal.returns-clause-of_run
 returns-clause-of_run g c = λ same.
-    let words = map string_bytes c.args.words.now in
-    let held = g.F.Files.held c.args.files.now in
-    let left = g.S.Source.left c.args.source.now in
-    let old = g.F.Files.names c.args.files.now in
-    let new = g.F.Files.names c.run_command-end.new.files in
-    let b = g.B.Bay.shelf c.args.bay.now in
-    let a = g.B.Bay.shelf c.run_command-end.new.bay in
-    let status = c.finish.result in
     let done = c.finish.ensures.written in
-    let written = all_written words held left old new b a c.run_command-end.result status done.0 done.2 c.run_command-end.ensures.end in
-    of_run_by words written.0 b a written.1 status done.0 same written.4.0
+    let written = all_written _ _ _ _ _ _ _ _ _ _ done.2 c.run_command-end.ensures.end in
+    of_run_by _ written.0 _ _ written.1 _ done.0 same written.4.0
 
 pub returns-clause-of_disks : goal.returns-clause-of_disks
 returns-clause-of_disks g c = λ same.
-    let words = map string_bytes c.args.words.now in
-    let held = g.F.Files.held c.args.files.now in
-    let left = g.S.Source.left c.args.source.now in
-    let old = g.F.Files.names c.args.files.now in
-    let new = g.F.Files.names c.run_command-end.new.files in
-    let b = g.B.Bay.shelf c.args.bay.now in
-    let a = g.B.Bay.shelf c.run_command-end.new.bay in
-    let status = c.finish.result in
     let done = c.finish.ensures.written in
-    let written = all_written words held left old new b a c.run_command-end.result status done.0 done.2 c.run_command-end.ensures.end in
-    of_disks_by words written.0 b a written.1 status done.0 same written.4.0
+    let written = all_written _ _ _ _ _ _ _ _ _ _ done.2 c.run_command-end.ensures.end in
+    of_disks_by _ written.0 _ _ written.1 _ done.0 same written.4.0
 
 pub returns-clause-taken : goal.returns-clause-taken
 returns-clause-taken g c =
@@ -231,17 +108,8 @@ returns-clause-taken g c =
 
 pub returns-clause-named : goal.returns-clause-named
 returns-clause-named g c = λ told files.
-    let words = map string_bytes c.args.words.now in
-    let held = g.F.Files.held c.args.files.now in
-    let left = g.S.Source.left c.args.source.now in
-    let old = g.F.Files.names c.args.files.now in
-    let new = g.F.Files.names c.run_command-end.new.files in
-    let b = g.B.Bay.shelf c.args.bay.now in
-    let a = g.B.Bay.shelf c.run_command-end.new.bay in
-    let status = c.finish.result in
     let done = c.finish.ensures.written in
-    let written = all_written words held left old new b a c.run_command-end.result status done.0 done.2 c.run_command-end.ensures.end in
-    let w = at_held told held left (Comes words old new b a status done.0) files written in
+    let w = held_written _ told _ _ _ _ _ _ _ _ _ done.2 c.run_command-end.ensures.end files in
     w.1.1
 
 pub returns-clause-silent : goal.returns-clause-silent
@@ -269,18 +137,10 @@ returns-clause-disk g c = λ is.
 
 pub returns-clause-complete : goal.returns-clause-complete
 returns-clause-complete g c = λ told script loading key found files source ending known opened no_file no_source no_sink no_bay no_disk.
-    let words = map string_bytes c.args.words.now in
-    let held = g.F.Files.held c.args.files.now in
-    let left = g.S.Source.left c.args.source.now in
-    let old = g.F.Files.names c.args.files.now in
-    let new = g.F.Files.names c.run_command-end.new.files in
-    let b = g.B.Bay.shelf c.args.bay.now in
-    let a = g.B.Bay.shelf c.run_command-end.new.bay in
-    let status = c.finish.result in
     let done = c.finish.ensures.written in
-    let written = all_written words held left old new b a c.run_command-end.result status done.0 done.2 c.run_command-end.ensures.end in
-    let w = at_told told script held left (Comes words old new b a status done.0) files source written in
-    complete_by loading key b a found script status done.0 known opened
+    let status = c.finish.result in
+    let w = told_written _ told script _ _ _ _ _ _ _ _ _ done.2 c.run_command-end.ensures.end files source in
+    complete_by loading key _ _ found script status done.0 known opened
     (λ fault. no_cause c.run_command-end.result no_file no_source no_sink (c.finish.ensures.fault fault) c.run_command-end.ensures.cause)
     (λ fault. (let end = disk_status c.run_command-end.result status done.0 done.2 fault in no_disk_cause no_bay no_disk (c.run_command-end.ensures.disk end.0 end.1).1))
-    (subst (λ (e : Ending). IfFinished status (IsDue e b a script status done.0)) ending (finished_due (ending_of words (always told)) b a script status done.0 w.0))
+    (subst (λ (e : Ending). IfFinished status (IsDue e (g.B.Bay.shelf c.args.bay.now) (g.B.Bay.shelf c.run_command-end.new.bay) script status done.0)) ending (finished_due _ _ _ script status done.0 w.0))
