@@ -1,6 +1,6 @@
 -- The lines of owners and their records, one after another.
 use Rattle.std.proofs.Common.{◌≡◌, ◌<◌, ◌≤◌, ◌+◌, ◌∙◌, ◌++◌, ℕ, Bool, List, [], ◌∷◌, length, get_or, take, cond, Option, None, Some, Result, Ok, Err, refl, sym, ap, ap₂, subst, append_assoc, append-nil, arith}
-use Rattle.std.specs.Prelude.{◌⊎◌, if◌then◌else◌, nat_eq, IfErr, IfOk, IsSome, Vec}
+use Rattle.std.specs.Prelude.{◌⊎◌, if◌then◌else◌, nat_eq, IfErr, IfOk, IsErrAnd, IsSome, Vec}
 use Rattle.std.specs.declared.alloc.Global.{Global}
 use Rattle.std.specs.Result.{is_ok}
 use Rattle.std.specs.List.{enumerate_from, flat_map}
@@ -26,6 +26,11 @@ use Rattle.query_server.specs.declared.end.End.TheVariants.{Listed}
 use Rattle.query_server.specs.Books.{IsBookStop, IsOpenStop, LeftDisk}
 use Rattle.catalog_loading.specs.declared.stops.Stop.{Stop}
 use Rattle.catalog_loading.specs.declared.stops.Stop.TheVariants.{Usage, Refused, Journal, Disk, Fault, NoMemory}
+
+-- what is so of a stop is so where it is passed on
+pub stop_passed : {T : Type 0} (P : Stop → Type 0) (stop : Stop) (result : Result T Stop) → IsErrAnd result (λ e. e ≡ stop) → P stop → IfErr result P
+stop_passed P stop (Ok x) wrong is = tt
+stop_passed P stop (Err other) same is = subst P (sym same) is
 
 -- the pieces of a line, put one after another
 pub one_line : (old name a n b m c k d l e s f t end : List ℕ)

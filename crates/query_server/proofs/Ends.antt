@@ -53,6 +53,11 @@ passed_end held left old new shelf steps make stop (Ok x) is wrong = absurd wron
 passed_end held left old new shelf steps make stop (Err other) is same =
     subst (λ (s : Stop). ForContents held left (IsStepEnd old new shelf shelf steps (Stopped s))) (sym same) (stopped_end held left old new shelf steps stop is)
 
+-- the same of the end that it is
+pub end_passed : {T : Type 0} (make : T → End) (stop : Stop) (result : Result T Stop) → IsErrAnd result (λ e. e ≡ stop) → end_by make result ≡ Stopped stop
+end_passed make stop (Ok x) wrong = absurd wrong
+end_passed make stop (Err other) same = ap Stopped same
+
 -- What ends the work that the steps gave ends the command.
 pub done_end : (held : Option Contents) (left : Option (List ℕ)) (old new : List (List ℕ)) (before after : Shelf) (steps : FileStep Ending) (ending : Ending) (script : List ℕ) (end : End)
     → IsDone held old new steps ending → IsLeft left script → IsEndOf ending before after script end → ForContents held left (IsStepEnd old new before after steps end)

@@ -3,6 +3,8 @@ use Rattle.std.proofs.Common.{◌≡◌, ℕ, ◌<◌, ◌≤◌, List, length, 
 use Rattle.std.specs.Prelude.{IfSome, Result, Ok, Err, IsErrAnd, Vec}
 use Rattle.std.specs.declared.alloc.Global.{Global}
 use mathlib.Core.Logic.{inl, inr}
+use Rattle.fz_outside.specs.declared.FileFault.{FileFault}
+use Rattle.fz_outside.specs.declared.FileFault.TheVariants.{Failed, NoMemory as NoneToRead}
 use Rattle.word_streams.specs.Draws.{draws_of}
 use Rattle.outside_disks.specs.Disks.{Shown, WhereTold}
 use Rattle.journal_records.specs.declared.records.Record.{Record}
@@ -19,6 +21,7 @@ use Rattle.session_core.specs.Served.{ClosesOn}
 use Rattle.session_core.specs.Transcript.{LeadExactly, first_new}
 use Rattle.session_core.proofs.Owners.{entry_said, in_catalog, owner_there, owners_length}
 use Rattle.std.proofs.lemmas.Option.{slice_get_within}
+use Rattle.catalog_loading.specs.Given.{stop_at_fault}
 use Rattle.catalog_loading.specs.Loaded.{IsLoading, Loading, header_of, entry_at, owners_in}
 use Rattle.query_server.specs.Ending.{to_answer}
 use Rattle.query_server.specs.Shelves.{Shelf, Became, IsOnlySynced}
@@ -164,6 +167,13 @@ module _ (loading : Loading) (key : List ℕ) (lawful : IsLoading loading) where
       → IsEndOf (to_answer loading key) old new script (end_by Run result)
   open_passed old new script stop (Ok end) is disks wrong = absurd wrong
   open_passed old new script stop (Err other) is disks same = subst (λ (s : Stop). IsEndOf (to_answer loading key) old new script (Stopped s)) (sym same) (open_ends old new script stop is disks)
+
+-- a fault of the source is passed on
+pub unread_passed : (house : House) (draws : ℕ → ℕ → ℕ → ℕ) (script : List ℕ) (passes : List Pass) (fault : FileFault) (result : Result RunEnd Stop) → IsErrAnd result (λ e. e ≡ stop_at_fault fault)
+    → IsAnsweredOn house draws script passes passes result
+unread_passed _ draws script passes fault (Ok end) wrong = absurd wrong
+unread_passed _ draws script passes Failed (Err stop) is = (inl is, refl)
+unread_passed _ draws script passes NoneToRead (Err stop) is = (inr is, refl)
 
 pub passed_disk : {T : Type 0} (stop : Stop) (result : Result T Stop) (line : Vec ℕ Global) → IsErrAnd result (λ e. e ≡ stop) → result ≡ Err (Disk line) → stop ≡ Disk line
 passed_disk stop (Ok x) line wrong is = absurd wrong

@@ -77,10 +77,8 @@ fn count_owner<B: Bay>(
     let book = open_book(alloc, bay, opened, header, owner)?;
     let counted = put_counted(lines, opened.house.catalog(), owner, &book);
     bay.put_back(owner, book.into_disk());
-    match counted {
-        Ok(()) => Ok(()),
-        Err(_) => Err(Stop::NoMemory),
-    }
+    counted?;
+    Ok(())
 }
 
 /// The lines of all owners, whose books are opened one after another, up to the first that isn't opened.
@@ -100,17 +98,14 @@ fn count_all<B: Bay>(alloc: Global, bay: &mut B, opened: &Opened) -> Result<Vec<
     let headers = headers_of(alloc, opened)?;
     let mut lines = Vec::new(alloc);
     for owner in 0..headers.len() as u32 {
-        match count_owner(
+        count_owner(
             alloc,
             bay,
             opened,
             &headers[owner as usize],
             owner,
             &mut lines,
-        ) {
-            Ok(()) => (),
-            Err(stop) => return Err(stop),
-        }
+        )?;
     }
     Ok(lines)
 }

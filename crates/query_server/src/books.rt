@@ -79,9 +79,7 @@ pub(crate) fn open_book<B: Bay>(
     ensures cause { (line : Vec ℕ Heap) → result ≡ Err (Stop.Disk line) →
         HasRisen (B.faults bay.old) (B.faults bay.new) ⊎ SomeRose (B.shelf bay.old) (B.shelf bay.new) }
 {
-    let Ok(entry) = opened.house.entry(alloc, owner) else {
-        return Err(Stop::NoMemory);
-    };
+    let entry = opened.house.entry(alloc, owner)?;
     let name = opened.house.catalog().owner_name(owner);
     let Ok(disk) = bay.take(owner) else {
         return Err(disk_stop(alloc, name));
@@ -129,9 +127,7 @@ pub fn open_passes<B: Bay>(
         HasRisen (B.faults bay.old) (B.faults bay.new) ⊎ SomeRose (B.shelf bay.old) (B.shelf bay.new) }
 {
     let headers = headers_of(alloc, opened)?;
-    let Ok(mut passes) = Vec::with_capacity(alloc, headers.len()) else {
-        return Err(Stop::NoMemory);
-    };
+    let mut passes = Vec::with_capacity(alloc, headers.len())?;
     for owner in 0..headers.len() as u32 {
         match open_book(alloc, bay, opened, &headers[owner as usize], owner) {
             Ok(book) => passes.push_reserved(Pass::new(book)),

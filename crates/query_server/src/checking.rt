@@ -88,8 +88,6 @@ pub(crate) fn check_file<F: Files>(
     ensures cause { HasCause (F.faults files.old) (F.faults files.new) (IsErrOf result Stop.Fault) }
 {
     let candidate = read_candidate(alloc, files, catalog, owner, file)?;
-    match judge(alloc, &candidate.dataset, &candidate.program) {
-        Ok(end) => Ok(end),
-        Err(_) => Err(Stop::NoMemory),
-    }
+    let end = judge(alloc, &candidate.dataset, &candidate.program)?;
+    Ok(end)
 }

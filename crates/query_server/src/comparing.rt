@@ -184,8 +184,6 @@ pub(crate) fn compare_files<F: Files>(
     ensures cause { HasCause (F.faults files.old) (F.faults files.new) (IsErrOf result Stop.Fault) }
 {
     let found = read_operands(alloc, files, catalog, owner, second_catalog, file)?;
-    match compare(alloc, &found.first, &found.second, &found.program) {
-        Ok(end) => Ok(end),
-        Err(_) => Err(Stop::NoMemory),
-    }
+    let end = compare(alloc, &found.first, &found.second, &found.program)?;
+    Ok(end)
 }

@@ -122,13 +122,9 @@ fn list_made<B: Bay>(alloc: Global, bay: &mut B, opened: &Opened) -> Result<Vec<
         HasRisen (B.faults bay.old) (B.faults bay.new) ⊎ SomeRose (B.shelf bay.old) (B.shelf bay.new) }
     ensures sound { IsErrOf result Stop.Fault → ⊥ }
 {
-    let Ok(lines) = made_lines(alloc, opened.house.catalog()) else {
-        return Err(Stop::NoMemory);
-    };
-    match make_all(alloc, bay, opened) {
-        Ok(()) => Ok(lines),
-        Err(stop) => Err(stop),
-    }
+    let lines = made_lines(alloc, opened.house.catalog())?;
+    make_all(alloc, bay, opened)?;
+    Ok(lines)
 }
 
 /// Opens the house of a catalog and a key, and makes the journals of its owners.

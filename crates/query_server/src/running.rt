@@ -20,7 +20,6 @@ use crate::books::{open_passes, put_back};
 use crate::end::{End, Status};
 use answer_path::Desk;
 use catalog_loading::{Opened, Stop, open_house};
-use fz_outside::FileFault;
 use fz_outside::files::Files;
 use fz_outside::source::{Source, read_up_to};
 use outside_bays::bay::Bay;
@@ -78,19 +77,13 @@ fn answer_over<D: Disk, S: Source>(
     ensures cause { HasCause (S.faults source.old) (S.faults source.new) (IsErrOf result Stop.Fault) }
 {
     let desk = Desk::new();
-    let script = match read_up_to(alloc, source, SCRIPT_LIMIT + 1) {
-        Ok(script) => script,
-        Err(FileFault::Failed) => return Err(Stop::Fault),
-        Err(FileFault::NoMemory) => return Err(Stop::NoMemory),
-    };
+    let script = read_up_to(alloc, source, SCRIPT_LIMIT + 1)?;
     if script.len() > SCRIPT_LIMIT {
         return Ok(RunEnd::TooLong);
     }
     let streams = KeyStreams::new(opened.key);
-    match answer_script(alloc, &opened.house, &desk, passes, &streams, &script) {
-        Ok(replies) => Ok(RunEnd::Answered(replies)),
-        Err(_) => Err(Stop::NoMemory),
-    }
+    let replies = answer_script(alloc, &opened.house, &desk, passes, &streams, &script)?;
+    Ok(RunEnd::Answered(replies))
 }
 
 /// Opens the owners' books, answers the script over them, and puts the disks back.

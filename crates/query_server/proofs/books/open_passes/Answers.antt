@@ -28,16 +28,16 @@ loop-owner-preserved g c =
     let key = c.args.opened.now.key in
     let owner = c.loop-owner.owner in
     let on = c.loop-owner.invariant.on in
-    let book = c.in-Ok-open_book.book in
+    let book = c.in-Ok.book in
     let within : owner < owners_in loading = omega (arith, c.loop-owner-test.true, c.loop-owner.auto.owner-end, c.in_ok-headers.ensures.count) in
     let header : c.index.result.now ≡ header_of loading key owner = search (rules, c.in_ok-headers.ensures.headers owner c.index.result.now within) in
     record {
       on = subst (λ (ps : List Pass). ArePassesOn (entry_at loading) (header_of loading key) (owner + 1) (g.B.Bay.shelf c.args.bay.now) (g.B.Bay.shelf c.open_book.new.bay) ps) (sym c.push_reserved.ensures.items)
-          (one_opened (entry_at loading) (header_of loading key) owner _ _ _ c.loop-owner.passes.items c.new.result on c.in-Ok-open_book.ensures.taken
-          (opened_pass _ c.index.result.now _ _ _ book c.new.result header (on.others owner (omega arith)) c.new.ensures c.in-Ok-open_book.ensures.book));
+          (one_opened (entry_at loading) (header_of loading key) owner _ _ _ c.loop-owner.passes.items c.new.result on c.in-Ok.ensures.taken
+          (opened_pass _ c.index.result.now _ _ _ book c.new.result header (on.others owner (omega arith)) c.new.ensures c.in-Ok.ensures.book));
       room = omega (arith, c.loop-owner.invariant.room, c.push_reserved.ensures.capacity);
-      owners = c.in-Ok-open_book.ensures.owners ∙ c.loop-owner.invariant.owners;
-      faults = omega (arith, c.in-Ok-open_book.ensures.faults, c.loop-owner.invariant.faults);
+      owners = c.in-Ok.ensures.owners ∙ c.loop-owner.invariant.owners;
+      faults = omega (arith, c.in-Ok.ensures.faults, c.loop-owner.invariant.faults);
     }
 
 pub open_book-requires-clause-known : goal.open_book-requires-clause-known
