@@ -1,7 +1,8 @@
 -- prefixes of what is written
-use Rattle.std.proofs.Common.{◌≡◌, ℕ, List, [], ◌∷◌, ◌++◌, take, drop, refl, sym, ◌∙◌, ap, append_assoc, append-nil}
+use Rattle.std.proofs.Common.{◌≡◌, ℕ, List, [], ◌∷◌, ◌++◌, Option, Some, None, take, drop, refl, sym, ◌∙◌, ap, append_assoc, append-nil}
 use Rattle.std.proofs.lemmas.List.{take-append-drop}
 use Rattle.std.specs.Prelude.{Result, Ok, Err, OnErr}
+use Rattle.std.specs.Io.KnownBytes.{append_known}
 use Rattle.query_server.specs.Due.{IsPrefix}
 
 pub prefix_take : (n : ℕ) (line : List ℕ) → IsPrefix (take n line) line
@@ -13,6 +14,11 @@ prefix_whole text = ([], sym (append-nil text))
 pub prefix_empty : (text rest : List ℕ) → [] ≡ text ++ rest → (line : List ℕ) → IsPrefix text line
 prefix_empty [] rest is line = (line, refl)
 prefix_empty (x ∷ xs) rest is line = cc
+
+-- no text is written
+pub nothing_put : (known : Option (List ℕ)) → known ≡ append_known known []
+nothing_put None = refl
+nothing_put (Some bytes) = ap Some (sym (append-nil bytes))
 
 -- a line that stopped in its first piece
 pub prefix_first : (text a b c : List ℕ) → IsPrefix text a → IsPrefix text (a ++ b ++ c)

@@ -12,6 +12,7 @@ ghost use Rattle.query_server.specs.Due.{ForContents};
 ghost use Rattle.query_server.specs.Ends.{IsStepEnd, IsVerdictOn, end_by};
 
 use crate::end::End;
+use crate::numbers::put_sensitivity;
 use crate::programs::{ProgramEnd, refuse};
 use crate::whole::tables_of;
 use answer_path::check_program;
@@ -20,7 +21,6 @@ use fz_frac::Sens;
 use fz_outside::files::Files;
 use part_views::Dataset;
 use std::alloc::{AllocError, Global};
-use wire_lines::{REPLY_LIMIT, write_sensitivity};
 
 /// A program, and the owner's tables that it may name, with their rows.
 #[derive(Drop)]
@@ -33,11 +33,9 @@ struct Candidate {
 fn accepted_line(alloc: Global, sens: Sens) -> Result<Vec<u8>, AllocError>
     ensures { IfOk result (λ line. line.items ≡ accepted_text (distance_of sens)) }
 {
-    let mut text = [0u8; REPLY_LIMIT];
-    let n = write_sensitivity(sens, &mut text);
     let mut line = Vec::new(alloc);
     line.extend_from_slice(b"ok ")?;
-    line.extend_from_slice(&text[..n])?;
+    put_sensitivity(&mut line, sens)?;
     line.extend_from_slice(b"\n")?;
     Ok(line)
 }

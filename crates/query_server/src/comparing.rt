@@ -1,7 +1,6 @@
 //! A program's values on two datasets are compared.
 
-ghost use Rattle.std.specs.Prelude.{◌≡◌, ◌++◌, ℕ, List, Option, IfOk, IsErrOf, decimal};
-ghost use Rattle.std.specs.Fmt.{signed_decimal};
+ghost use Rattle.std.specs.Prelude.{◌≡◌, ℕ, List, Option, IfOk, IsErrOf};
 ghost use Rattle.fz_frac.specs.Sens.{distance_of};
 ghost use Rattle.metric_law.specs.Means.{Means};
 ghost use Rattle.metric_values.specs.Tables.{apart, rows_of as tables_rows};
@@ -17,7 +16,7 @@ ghost use Rattle.catalog_loading.specs.Given.{IsStep};
 ghost use Rattle.query_server.specs.Ends.{IsEndOf, IsGapOn, IsStepEnd, end_by};
 
 use crate::end::End;
-use crate::numbers::put_number;
+use crate::numbers::{put_number, put_sensitivity, put_signed};
 use crate::programs::{ProgramEnd, refuse};
 use crate::whole::{rows_of, tables_of};
 use answer_path::{Judged, judge, read_program};
@@ -25,11 +24,9 @@ use catalog_loading::{Stop, find_fitting, find_owner, load_for, open_catalog, re
 use fuzz_eval::run::run;
 use fz_frac::Sens;
 use fz_outside::files::Files;
-use itoa::Buffer;
 use part_views::Dataset;
 use std::alloc::{AllocError, Global};
 use value_distance::tables_apart;
-use wire_lines::{REPLY_LIMIT, write_sensitivity};
 
 /// Two datasets of the same tables, and a program.
 #[derive(Drop)]
@@ -48,25 +45,15 @@ struct Comparison {
     second: i64,
 }
 
-/// Puts a number that may be negative behind some lines.
-fn put_signed(lines: &mut Vec<u8>, n: i64) -> Result<(), AllocError>
-    ensures { IfOk result (λ _. lines.new.items ≡ lines.old.items ++ signed_decimal n) }
-{
-    let mut buffer = Buffer::new();
-    lines.extend_from_slice(buffer.format(n).as_bytes())
-}
-
 /// The four lines.
 fn comparison_lines(alloc: Global, found: &Comparison) -> Result<Vec<u8>, AllocError>
     ensures { IfOk result (λ lines. lines.items ≡ gap_text found.now.distance (distance_of found.now.sens) found.now.first found.now.second) }
 {
-    let mut text = [0u8; REPLY_LIMIT];
-    let n = write_sensitivity(found.sens, &mut text);
     let mut lines = Vec::new(alloc);
     lines.extend_from_slice(b"distance ")?;
     put_number(&mut lines, found.distance)?;
     lines.extend_from_slice(b"\nsensitivity ")?;
-    lines.extend_from_slice(&text[..n])?;
+    put_sensitivity(&mut lines, found.sens)?;
     lines.extend_from_slice(b"\nvalues ")?;
     put_signed(&mut lines, found.first)?;
     lines.extend_from_slice(b" ")?;

@@ -12,13 +12,13 @@ use catalog_loading::Stop;
 use fz_outside::Failed;
 use fz_outside::sink::{Sink, put};
 
-/// Writes a line, or a prefix of it.
-fn put_line<K: Sink>(sink: &mut K, line: &[u8]) -> Result<(), Failed>
-    ensures ok { OnOk result (K.contents sink.new ≡ append_known (K.contents sink.old) line.now) }
-    ensures err { OnErr result ((text : List ℕ) × IsPrefix text line.now × (K.contents sink.new ≡ append_known (K.contents sink.old) text)) }
+/// Writes a piece of a line, or a prefix of it.
+fn put_piece<K: Sink>(sink: &mut K, piece: &[u8]) -> Result<(), Failed>
+    ensures ok { OnOk result (K.contents sink.new ≡ append_known (K.contents sink.old) piece.now) }
+    ensures err { OnErr result ((text : List ℕ) × IsPrefix text piece.now × (K.contents sink.new ≡ append_known (K.contents sink.old) text)) }
     ensures cause { HasCause (K.faults sink.old) (K.faults sink.new) (IsErr result) }
 {
-    put(sink, line)
+    put(sink, piece)
 }
 
 /// Writes that the file or the owner of this name is refused.
@@ -28,9 +28,9 @@ fn write_refused<K: Sink>(sink: &mut K, name: &str) -> Result<(), Failed>
         × (K.contents sink.new ≡ append_known (K.contents sink.old) text)) }
     ensures cause { HasCause (K.faults sink.old) (K.faults sink.new) (IsErr result) }
 {
-    put_line(sink, b"refused ")?;
-    put_line(sink, name.as_bytes())?;
-    put_line(sink, b"\n")
+    put_piece(sink, b"refused ")?;
+    put_piece(sink, name.as_bytes())?;
+    put_piece(sink, b"\n")
 }
 
 /// Writes the line of what stopped a command.
@@ -41,12 +41,12 @@ fn write_stop<K: Sink>(sink: &mut K, stop: &Stop) -> Result<(), Failed>
     ensures cause { HasCause (K.faults sink.old) (K.faults sink.new) (IsErr result) }
 {
     match stop {
-        Stop::Usage => put_line(sink, b"usage\n"),
+        Stop::Usage => put_piece(sink, b"usage\n"),
         Stop::Refused(name) => write_refused(sink, name),
-        Stop::Journal(line) => put_line(sink, line),
-        Stop::Disk(line) => put_line(sink, line),
-        Stop::Fault => put_line(sink, b""),
-        Stop::NoMemory => put_line(sink, b"memory\n"),
+        Stop::Journal(line) => put_piece(sink, line),
+        Stop::Disk(line) => put_piece(sink, line),
+        Stop::Fault => Ok(()),
+        Stop::NoMemory => put_piece(sink, b"memory\n"),
     }
 }
 
@@ -59,10 +59,10 @@ fn write_end<K: Sink>(sink: &mut K, end: &End) -> Result<(), Failed>
 {
     match end {
         End::Stopped(stop) => write_stop(sink, stop),
-        End::Run(end) => put_line(sink, end.text()),
-        End::Listed(lines) => put_line(sink, lines),
-        End::Check(end) => put_line(sink, end.text()),
-        End::Gap(end) => put_line(sink, end.text()),
+        End::Run(end) => put_piece(sink, end.text()),
+        End::Listed(lines) => put_piece(sink, lines),
+        End::Check(end) => put_piece(sink, end.text()),
+        End::Gap(end) => put_piece(sink, end.text()),
     }
 }
 
