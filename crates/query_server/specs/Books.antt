@@ -18,7 +18,7 @@ use Rattle.query_server.specs.declared.refusals.JournalRefusal.TheVariants.{Unin
 use Rattle.budget_journal.specs.declared.opening.OpenFault.{OpenFault}
 use Rattle.budget_journal.specs.declared.opening.OpenFault.TheVariants as open_fault
 use Rattle.catalog_loading.specs.declared.stops.Stop.{Stop}
-use Rattle.catalog_loading.specs.declared.stops.Stop.TheVariants.{Usage, Refused, Journal, Disk, Fault, NoMemory}
+use Rattle.catalog_loading.specs.declared.stops.Stop.TheVariants.{Journal, Disk, NoMemory}
 
 -- A book that was just opened on a disk that showed this.
 pub record IsNewBook (entry : Entry) (header : Header) (before : Option Shown) (book : Account) : Type 0 where
@@ -39,20 +39,14 @@ pub record LeftDisk (o : ℕ) (old new : Shelf) : Type 0 where
 
 -- the line of a disk or of a journal, or memory ran out
 abbrev pub IsDiskStop : (owner : List ℕ) → Stop → Type 0
-IsDiskStop owner Usage = ⊥
-IsDiskStop owner (Refused name) = ⊥
-IsDiskStop owner (Journal line) = ⊥
 IsDiskStop owner (Disk line) = line.items ≡ disk_text owner
-IsDiskStop owner Fault = ⊥
 IsDiskStop owner NoMemory = ⊤
+IsDiskStop owner stop = ⊥
 
 abbrev pub IsJournalStop : (owner : List ℕ) → JournalRefusal → Stop → Type 0
-IsJournalStop owner refusal Usage = ⊥
-IsJournalStop owner refusal (Refused name) = ⊥
 IsJournalStop owner refusal (Journal line) = line.items ≡ journal_text owner refusal
-IsJournalStop owner refusal (Disk line) = ⊥
-IsJournalStop owner refusal Fault = ⊥
 IsJournalStop owner refusal NoMemory = ⊤
+IsJournalStop owner refusal stop = ⊥
 
 -- what stops a command where a journal isn't opened for this
 abbrev pub IsBookFaultStop : (owner : List ℕ) → OpenFault → Stop → Type 0
@@ -64,23 +58,19 @@ IsBookFaultStop owner (open_fault.Damaged slot) stop = IsJournalStop owner (Dama
 
 -- why a book wasn't opened
 abbrev pub IsBookStop : Loading → (key : List ℕ) → Shelf → (o : ℕ) → Stop → Type 0
-IsBookStop loading key old o Usage = ⊥
-IsBookStop loading key old o (Refused name) = ⊥
 IsBookStop loading key old o (Journal line) = (refusal : JournalRefusal)
     × IsUnopened (entry_at loading o) (header_of loading key o) (bytes_on old o) refusal × (line.items ≡ journal_text (owner_name_at loading o) refusal)
 IsBookStop loading key old o (Disk line) = line.items ≡ disk_text (owner_name_at loading o)
-IsBookStop loading key old o Fault = ⊥
 IsBookStop loading key old o NoMemory = ⊤
+IsBookStop loading key old o stop = ⊥
 
 -- why not all books were opened
 abbrev pub IsOpenStop : Loading → (key : List ℕ) → (old new : Shelf) → Stop → Type 0
-IsOpenStop loading key old new Usage = ⊥
-IsOpenStop loading key old new (Refused name) = ⊥
 IsOpenStop loading key old new (Journal line) = (o : ℕ) × (refusal : JournalRefusal) × IsRefusedAt loading key old o refusal
     × (line.items ≡ journal_text (owner_name_at loading o) refusal)
 IsOpenStop loading key old new (Disk line) = IsDiskNamed loading old new line.items
-IsOpenStop loading key old new Fault = ⊥
 IsOpenStop loading key old new NoMemory = ⊤
+IsOpenStop loading key old new stop = ⊥
 
 -- A pass on which nothing was done yet, over a disk that showed this.
 pub record IsNewPass (entry : Entry) (header : Header) (before : Option Shown) (pass : Pass) : Type 0 where

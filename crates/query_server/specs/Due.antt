@@ -58,13 +58,10 @@ MayStop (to_compare tables X Y program) old new = Same old new
 
 -- this line names the owner whose disk was to be opened or made as it failed
 abbrev pub IsDiskLine : Ending → (old new : Shelf) → (text : List ℕ) → Type 0
-IsDiskLine usage old new text = ⊥
-IsDiskLine (refused name) old new text = ⊥
 IsDiskLine (to_answer loading key) old new text = IsDiskNamed loading old new text
 IsDiskLine (to_make loading key) old new text = IsDiskNamed loading old new text
 IsDiskLine (to_count loading key) old new text = IsDiskNamed loading old new text
-IsDiskLine (to_check tables program) old new text = ⊥
-IsDiskLine (to_compare tables X Y program) old new text = ⊥
+IsDiskLine ending old new text = ⊥
 
 -- Memory ran out, or a disk failed: the line of that.
 abbrev pub IsStopLine : Ending → (old new : Shelf) → (status : Status) → (text : List ℕ) → Type 0
@@ -113,37 +110,24 @@ abbrev pub ForContents : (held : Option Contents) → (left : Option (List ℕ))
 ForContents held left Comes = (reads : ReadsToCome) × (script : List ℕ) × AreTold held reads × IsLeft left script × Comes reads script
 
 abbrev pub IsOfRun : Option Command → Type 0
-IsOfRun None = ⊥
 IsOfRun (Some (run catalog key workers)) = ⊤
-IsOfRun (Some (init catalog key)) = ⊥
-IsOfRun (Some (audit catalog key)) = ⊥
-IsOfRun (Some (check catalog owner file)) = ⊥
-IsOfRun (Some (gap catalog owner second_catalog file)) = ⊥
+IsOfRun command = ⊥
 
 -- a command that takes the owners' disks
 abbrev pub IsOfDisks : Option Command → Type 0
-IsOfDisks None = ⊥
 IsOfDisks (Some (run catalog key workers)) = ⊤
 IsOfDisks (Some (init catalog key)) = ⊤
 IsOfDisks (Some (audit catalog key)) = ⊤
-IsOfDisks (Some (check catalog owner file)) = ⊥
-IsOfDisks (Some (gap catalog owner second_catalog file)) = ⊥
+IsOfDisks command = ⊥
 
 -- a command that reads a program
 abbrev pub IsOfProgram : Option Command → Type 0
-IsOfProgram None = ⊥
-IsOfProgram (Some (run catalog key workers)) = ⊥
-IsOfProgram (Some (init catalog key)) = ⊥
-IsOfProgram (Some (audit catalog key)) = ⊥
 IsOfProgram (Some (check catalog owner file)) = ⊤
 IsOfProgram (Some (gap catalog owner second_catalog file)) = ⊤
+IsOfProgram command = ⊥
 
 -- this program is to be checked or compared over these tables
 abbrev pub IsForProgram : (tables : Signature) → (program : List ℕ) → Ending → Type 0
-IsForProgram tables program usage = ⊥
-IsForProgram tables program (refused name) = ⊥
-IsForProgram tables program (to_answer loading key) = ⊥
-IsForProgram tables program (to_make loading key) = ⊥
-IsForProgram tables program (to_count loading key) = ⊥
 IsForProgram tables program (to_check over other) = (over ≡ tables) × (other ≡ program)
 IsForProgram tables program (to_compare over X Y other) = (over ≡ tables) × (other ≡ program)
+IsForProgram tables program ending = ⊥

@@ -8,7 +8,7 @@ use Rattle.query_server.specs.Books.{IsDiskStop, IsJournalStop}
 use Rattle.query_server.specs.Status.{disk_text, journal_text}
 use Rattle.query_server.specs.declared.refusals.JournalRefusal.TheVariants.{Exists}
 use Rattle.catalog_loading.specs.declared.stops.Stop.{Stop}
-use Rattle.catalog_loading.specs.declared.stops.Stop.TheVariants.{Usage, Refused, Journal, Disk, Fault, NoMemory}
+use Rattle.catalog_loading.specs.declared.stops.Stop.TheVariants.{Journal, Disk, NoMemory}
 use Rattle.budget_journal.specs.declared.making.InitFault.{InitFault}
 use Rattle.budget_journal.specs.declared.making.InitFault.TheVariants.{AlreadyThere, DiskFault}
 
@@ -35,7 +35,5 @@ IsMakeStop loading key old new (Journal line) = (o : ℕ) × (n : ℕ) × (o < o
     × AreMadeBefore loading key o IsOnlySynced old new
 IsMakeStop loading key old new (Disk line) = (o : ℕ) × (o < owners_in loading) × (line.items ≡ disk_text (owner_name_at loading o))
     × AreMadeBefore loading key o MayHaveFailed old new
-IsMakeStop loading key old new Usage = ⊥
-IsMakeStop loading key old new (Refused name) = ⊥
-IsMakeStop loading key old new Fault = ⊥
 IsMakeStop loading key old new NoMemory = MayBeMadeInPart loading key old new
+IsMakeStop loading key old new stop = ⊥
