@@ -56,7 +56,7 @@ MayStop (to_count loading key) old new = Became (owners_in loading) (λ _. IsOnl
 MayStop (to_check tables program) old new = Same old new
 MayStop (to_compare tables X Y program) old new = Same old new
 
--- this line names the owner whose disk was to be opened or made as it failed
+-- this line names an owner whose disk was to be opened or made, and no other owner's disk has a count that rose
 abbrev pub IsDiskLine : Ending → (old new : Shelf) → (text : List ℕ) → Type 0
 IsDiskLine (to_answer loading key) old new text = IsDiskNamed loading old new text
 IsDiskLine (to_make loading key) old new text = IsDiskNamed loading old new text

@@ -49,6 +49,6 @@ pub record IsRefusalDue (loading : Loading) (key : List ℕ) (old new : Shelf) (
   pub is_text : text ≡ journal_text (owner_name_at loading o) refusal
   pub disks : Became (owners_in loading) (λ _. IsOnlySynced) old new
 
--- The line names an owner, and its disk failed or the bay did: no other owner's disk has a count that rose.
+-- The line names an owner, and no other owner's disk has a count that rose.
 abbrev pub IsDiskNamed : Loading → (old new : Shelf) → (text : List ℕ) → Type 0
 IsDiskNamed loading old new text = (o : ℕ) × (o < owners_in loading) × (text ≡ disk_text (owner_name_at loading o)) × NoOtherRose o old new

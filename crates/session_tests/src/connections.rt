@@ -84,7 +84,7 @@ fn connections(rt: HostRuntime) -> Result<(), Fail> {
 // Rows of a table, draws, what is asked of it by ann, and the replies.
 type Draw = (&'static [u8], &'static [u64], &'static [u8]);
 
-// The draws of the first give a zero's sign, -1 and no more; zeros alone never end.
+// The draws of the first give the noise -1, and it takes them all; zeros alone never end.
 #[rattlefmt::skip]
 const LISTED: [Draw; 2] = [
     (b"age\n", &[0, 0, 0, 0, 1, 0, 1, 0], b"hello ann\nanswer 0 -1 1000000\nrecall 0 answer -1 2\nleft 1000000 10000000 2\n"),
