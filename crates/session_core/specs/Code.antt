@@ -8,7 +8,6 @@ use Rattle.budget_core.specs.Entries.{Entry, HasView}
 use Rattle.budget_ledger.specs.Account.{Storage, Went}
 use Rattle.wire_lines.specs.Reply.{Replied, greeted, answered, recalled, remaining, ended, refused, replied, reply_text}
 use Rattle.wire_lines.specs.declared.refusal.LineRefusal.{LineRefusal}
-use Rattle.wire_lines.specs.declared.reply.TheConstants.{REPLY_LIMIT}
 use Rattle.part_views.specs.Partitions.{HasPart}
 use Rattle.answer_path.specs.Owner.{Owner}
 use Rattle.answer_path.specs.Answered.{Told}
@@ -72,6 +71,10 @@ IsMeaningIn house (Asks query) =
     × HasPart (owner_at house query.owner).partitions query.view
 IsMeaningIn house (Recalls owner analyst number) = owner < length house.owners
 IsMeaningIn house (Balances owner) = owner < length house.owners
+
+-- no reply is longer
+abbrev pub reply_limit : ℕ
+reply_limit = 160
 
 -- no reply to a line of fewer than six bytes is longer
 abbrev pub short_reply_limit : ℕ
@@ -159,7 +162,7 @@ AreAlone house draws xs before after = (o : ℕ) (owner : Owner) → slice_get h
 
 -- room for the longest reply to a line of so many bytes: below six it asks nothing, and is refused or `bye`
 abbrev pub room_for_line : ℕ → ℕ
-room_for_line n = if nat_lt n 6 then short_reply_limit else REPLY_LIMIT
+room_for_line n = if nat_lt n 6 then short_reply_limit else reply_limit
 
 -- room for the replies to some lines
 abbrev pub room_for_lines : List (List ℕ) → ℕ
