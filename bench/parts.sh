@@ -1,17 +1,14 @@
 #!/usr/bin/env bash
 # Asks of 250 parts of a table of 2^20 rows beside one ask of the whole, by the same program, which maps every row: processor time, the
 # least of five runs each, less a run of no ask. Together the parts are to take at most twice the whole's time.
-# usage: bench/parts.sh    (PROGRAM=FILE measures another build than tools/build's)
+# usage: bench/parts.sh    (PROGRAM=FILE measures another build)
 # It ends with status 1 where they take more.
 set -euo pipefail
-cd "$(dirname "$0")/.."
-top=$PWD
-[ -n "${PROGRAM:-}" ] || tools/build
-program=$(realpath "${PROGRAM:-out/hitchseason}")
-room=$(mktemp -d)
-trap 'rm -rf "$room"' EXIT
-cd "$room"
-head -c 32 /dev/zero >key
+. "$(dirname "$0")/common.sh"
+need_program
+need_tool python3 python3
+program=$(realpath "$program")
+make_room
 python3 - <<'END'
 import json
 import random
