@@ -18,7 +18,7 @@ use Rattle.owner_catalog.specs.Entries.{OwnerEntry}
 use Rattle.catalog_loading.specs.Loaded.{Loading, header_of, owners_in, entry_at}
 use Rattle.session_core.specs.Transcript.{Journals}
 use Rattle.query_server.specs.Shelves.{Shelf, Became, IsOnlySynced, SomeRose, StandsStill, bytes_on}
-use Rattle.query_server.specs.Opened.{AreOpened, IsOpened, IsUnopened}
+use Rattle.query_server.specs.Opened.{AreOpened, AreOpenedBefore, IsOpened, IsUnopened}
 use Rattle.query_server.specs.Ending.{to_count}
 use Rattle.query_server.specs.Count.{counted_line, counted_text}
 use Rattle.query_server.specs.Ends.{IsEndOf, end_by}
@@ -152,8 +152,7 @@ one_still o old mid new before same last left p = here (cases_eq p o)
 
 -- why not all owners were counted
 pub count_stopped : (loading : Loading) (key : List ℕ) (o : ℕ) (old mid new : Shelf) (stop : Stop) → o < owners_in loading → mid o ≡ old o
-    → ((p : ℕ) → p < o → (found : List Record) × IsOpened (entry_at loading p) (header_of loading key p) (bytes_on old p) found)
-    → ((p : ℕ) → StandsStill p old mid) → LeftDisk o mid new → IsBookStop loading key mid o stop → IsOpenStop loading key old new stop
+    → AreOpenedBefore loading key old o → ((p : ℕ) → StandsStill p old mid) → LeftDisk o mid new → IsBookStop loading key mid o stop → IsOpenStop loading key old new stop
 count_stopped loading key o old mid new (Journal line) within same before still left (refusal, unopened, text) = (
   o,
   refusal,
@@ -165,7 +164,7 @@ count_stopped loading key o old mid new (Journal line) within same before still 
   text,
 )
 count_stopped loading key o old mid new (Disk line) within same before still left text =
-    (o, within, text, λ p isnt earlier later was shows. still p earlier later was (sym (left.elsewhere p isnt) ∙ shows))
+    (o, within, text, before, λ p isnt earlier later was shows. still p earlier later was (sym (left.elsewhere p isnt) ∙ shows))
 count_stopped loading key o old mid new Usage within same before still left is = absurd is
 count_stopped loading key o old mid new (Refused name) within same before still left is = absurd is
 count_stopped loading key o old mid new Fault within same before still left is = absurd is

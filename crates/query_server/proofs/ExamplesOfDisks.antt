@@ -1,5 +1,5 @@
 -- worked examples of journals on the owners' disks: their lines, which are opened, refused, made and counted
-use Rattle.std.proofs.Common.{◌≡◌, ℕ, zero, suc, ◌+◌, ◌*◌, ◌<◌, ◌≤◌, List, [], ◌∷◌, length, Option, Some, None, replicate, true, false, true≢false, refl, sym, ap, subst, arith, lit<}
+use Rattle.std.proofs.Common.{◌≡◌, ℕ, zero, suc, ◌+◌, ◌*◌, ◌<◌, ◌≤◌, List, [], ◌∷◌, length, Option, Some, None, replicate, true, false, true≢false, refl, sym, ap, subst, ◌∙◌, arith, lit<}
 use Rattle.std.specs.Prelude.{codes, pos, slice_index, IfSome}
 use Rattle.std.specs.Fmt.{digits}
 use mathlib.Core.Logic.{inl, inr}
@@ -18,16 +18,17 @@ use Rattle.owner_catalog.specs.Digest.{digest_of}
 use Rattle.session_core.specs.Transcript.{Journals}
 use Rattle.catalog_loading.specs.Loaded.{Loading, header_of, owner_name_at}
 use Rattle.query_server.specs.Shelves.{Shelf, bytes_on, TellBytes, AreAtHome, Became, IsOnlySynced, NoOtherRose}
-use Rattle.query_server.specs.Opened.{IsUnopened, IsRefusedAt, IsRefusalDue}
-use Rattle.query_server.specs.Make.{IsMade, IsExistingDue, MayBeMadeInPart, MayHaveFailed, made_line}
+use Rattle.query_server.specs.Opened.{AreOpenedBefore, IsUnopened, IsRefusedAt, IsRefusalDue}
+use Rattle.query_server.specs.Make.{AreMadeBefore, IsMade, IsExistingDue, IsMakingNamed, MayBeMadeInPart, MayHaveFailed, made_line}
 use Rattle.query_server.specs.Count.{counted_line, counted_text}
 use Rattle.query_server.specs.Due.{IsDiskLine, IsStopLine}
-use Rattle.query_server.specs.Ending.{refused, to_make, to_count}
+use Rattle.query_server.specs.Ending.{refused, to_answer, to_make, to_count}
 use Rattle.query_server.specs.Status.{journal_text, disk_text}
 use Rattle.query_server.specs.declared.end.Status.{Status}
 use Rattle.query_server.specs.declared.end.Status.TheVariants.{Done, JournalRefused, DiskFault}
 use Rattle.query_server.specs.declared.refusals.JournalRefusal.{JournalRefusal}
 use Rattle.query_server.specs.declared.refusals.JournalRefusal.TheVariants.{Uninitialised, Changed, Damaged, Exists}
+use Rattle.query_server.proofs.Made.{no_other_made}
 
 -- ---- lines
 
@@ -294,8 +295,12 @@ nobodys_disk (inr (o, within, done)) = one_rose (done.behind 2 within)
 -- ---- a disk's line is of the owner whose disk failed
 
 second_disk : IsDiskLine (to_count loading key) (counted 0 0 0) (counted 0 1 0) (codes "disk b\n")
-second_disk = (1, omega arith, refl, others)
+second_disk = (1, omega arith, refl, opened, others)
   where
+    opened : AreOpenedBefore loading key (counted 0 0 0) 1
+    opened zero less = ([], record { stands = tt; history = record { follows = λ k next is. absurd (cc is) } })
+    opened (suc p) less = absurd (omega (arith, less))
+
     others : NoOtherRose 1 (counted 0 0 0) (counted 0 1 0)
     others zero isnt before after was is = cc
     others (suc zero) isnt before after was is = absurd (isnt refl)
@@ -309,7 +314,16 @@ first_disk (suc zero) lt is others = let wrong : 1 ≡ 0 = others 0 (λ same. om
 first_disk (suc (suc o)) lt is others = omega (arith, lt)
 
 another_owners_disk : IsDiskLine (to_count loading key) (counted 0 0 0) (counted 1 0 0) (codes "disk b\n") → ⊥
-another_owners_disk (o, lt, is, others) = first_disk o lt is others
+another_owners_disk (o, lt, is, opened, others) = first_disk o lt is others
+
+-- the first one's journal was not made, so the second one's disk isn't opened
+unmade_before : (o : ℕ) → o < 2 → codes "disk b\n" ≡ disk_text (owner_name_at loading o) → AreOpenedBefore loading key (shelf_with []) o → ⊥
+unmade_before zero lt is opened = let wrong : 10 ≡ 101 = ap (λ text. slice_index text 6) is in omega (arith, wrong)
+unmade_before (suc zero) lt is opened = let whole : 0 ≡ 128 + 64 * 100 = (opened 0 (omega arith)).1.stands.whole in omega (arith, whole)
+unmade_before (suc (suc o)) lt is opened = omega (arith, lt)
+
+behind_an_unmade_journal : (new : Shelf) → IsDiskLine (to_answer loading key) (shelf_with []) new (codes "disk b\n") → ⊥
+behind_an_unmade_journal new (o, lt, is, opened, others) = unmade_before o lt is opened
 
 other_at : (o : ℕ) → o < 2 → codes "disk c\n" ≡ disk_text (owner_name_at loading o) → ⊥
 other_at zero lt is = let wrong : 10 ≡ 101 = ap (λ text. slice_index text 6) is in omega (arith, wrong)
@@ -317,13 +331,71 @@ other_at (suc zero) lt is = let wrong : 99 ≡ 98 = ap (λ text. slice_index tex
 other_at (suc (suc o)) lt is = omega (arith, lt)
 
 nobodys_name : (old new : Shelf) → IsDiskLine (to_count loading key) old new (codes "disk c\n") → ⊥
-nobodys_name old new (o, lt, is, others) = other_at o lt is
+nobodys_name old new (o, lt, is, opened, others) = other_at o lt is
 
 no_disk_opened : (old new : Shelf) (text : List ℕ) → IsDiskLine (refused key) old new text → ⊥
 no_disk_opened old new text line = line
 
+-- ---- so is an `init`'s: the journals of the owners before it are made
+
+abbrev failed_times : ℕ → Shown
+failed_times n = record { trace = None; faults = n }
+
+second_made : AreMadeBefore loading key 1 MayHaveFailed (counted 0 0 0) (counted 0 1 0)
+second_made = record { made = made; here = here; behind = behind }
+  where
+    made : (p : ℕ) (before : Shown) → p < 1 → counted 0 0 0 p ≡ Some before → (after : Shown) × (counted 0 1 0 p ≡ Some after) × IsMade (header_of loading key p) before after
+    made zero before less is =
+        let one : failed_times 0 ≡ before = cc is in
+        subst (λ (b : Shown). (after : Shown) × (counted 0 1 0 0 ≡ Some after) × IsMade (header_of loading key 0) b after) one
+        (failed_times 0, refl, record { made = λ t told. absurd (cc told); counts = refl })
+    made (suc p) before less is = absurd (omega (arith, less))
+
+    here : (before : Shown) → counted 0 0 0 1 ≡ Some before → (after : Shown) × (counted 0 1 0 1 ≡ Some after) × MayHaveFailed before after
+    here before is =
+        let one : failed_times 0 ≡ before = cc is in
+        subst (λ (b : Shown). (after : Shown) × (counted 0 1 0 1 ≡ Some after) × MayHaveFailed b after) one (failed_times 1, refl, (omega arith, inr (λ below. omega arith)))
+
+    behind : (p : ℕ) → 1 < p → counted 0 1 0 p ≡ counted 0 0 0 p
+    behind zero less = absurd (omega (arith, less))
+    behind (suc zero) less = absurd (omega (arith, less))
+    behind (suc (suc zero)) less = refl
+    behind (suc (suc (suc p))) less = refl
+
+second_making : IsDiskLine (to_make loading key) (counted 0 0 0) (counted 0 1 0) (codes "disk b\n")
+second_making = (1, omega arith, refl, second_made)
+
+made_in_part : MayBeMadeInPart loading key (counted 0 0 0) (counted 0 1 0)
+made_in_part = inr (1, omega arith, second_made)
+
+-- the second one's disk failed
+second_failed : (o : ℕ) → o < 2 → codes "disk census\n" ≡ disk_text (owner_name_at loading o) → AreMadeBefore loading key o MayHaveFailed (counted 0 0 0) (counted 0 1 0) → ⊥
+second_failed zero lt is made = let wrong : 1 ≡ 0 = ap failures_shown (made.behind 1 (omega arith)) in omega (arith, wrong)
+second_failed (suc zero) lt is made = let wrong : 99 ≡ 98 = ap (λ text. slice_index text 5) is in omega (arith, wrong)
+second_failed (suc (suc o)) lt is made = omega (arith, lt)
+
+first_named : IsDiskLine (to_make loading key) (counted 0 0 0) (counted 0 1 0) (codes "disk census\n") → ⊥
+first_named (o, lt, is, made) = second_failed o lt is made
+
+-- the first one's failed, too, so its journal wasn't made
+both_failed : (o : ℕ) → o < 2 → codes "disk b\n" ≡ disk_text (owner_name_at loading o) → AreMadeBefore loading key o MayHaveFailed (counted 0 0 0) (counted 1 1 0) → ⊥
+both_failed zero lt is made = let wrong : 10 ≡ 101 = ap (λ text. slice_index text 6) is in omega (arith, wrong)
+both_failed (suc zero) lt is made =
+    let first = made.made 0 (failed_times 0) (omega arith) refl in
+    let one : failed_times 1 ≡ first.0 = cc first.1 in
+    let wrong : 1 ≡ 0 = ap (λ (s : Shown). s.faults) one ∙ first.2.counts in
+    omega (arith, wrong)
+both_failed (suc (suc o)) lt is made = omega (arith, lt)
+
+second_named : IsDiskLine (to_make loading key) (counted 0 0 0) (counted 1 1 0) (codes "disk b\n") → ⊥
+second_named (o, lt, is, made) = both_failed o lt is made
+
+-- no other disk's count rose
+named_alone : (old new : Shelf) (text : List ℕ) (named : IsMakingNamed loading key old new text) → NoOtherRose named.0 old new
+named_alone old new text (o, lt, is, made) = no_other_made loading key o MayHaveFailed old new made
+
 disk_failed : IsStopLine (to_make loading key) (counted 0 0 0) (counted 0 1 0) DiskFault (codes "disk b\n")
-disk_failed = inr (refl, second_disk)
+disk_failed = inr (refl, second_making)
 
 disk_failed_and_done : (old new : Shelf) (text : List ℕ) → IsStopLine (to_make loading key) old new Done text → ⊥
 disk_failed_and_done old new text (inl (wrong, is)) = cc

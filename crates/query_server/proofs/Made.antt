@@ -44,7 +44,7 @@ made_before loading key o Goes old mid new made turn others = record {
 }
 
 -- no other owner's disk has failed
-no_other_made : (loading : Loading) (key : List ℕ) (o : ℕ) (Goes : Goings) (old new : Shelf) → AreMadeBefore loading key o Goes old new → NoOtherRose o old new
+pub no_other_made : (loading : Loading) (key : List ℕ) (o : ℕ) (Goes : Goings) (old new : Shelf) → AreMadeBefore loading key o Goes old new → NoOtherRose o old new
 no_other_made loading key o Goes old new made p isnt = here (cases_lt p o)
   where
     here : (p < o) ⊎ (o ≤ p) → StandsStill p old new
@@ -124,7 +124,7 @@ pub make_stop_end : (loading : Loading) (key : List ℕ) (old new : Shelf) (stop
 make_stop_end loading key old new (Journal line) script (o, n, within, some, long, text, made) =
     inl (inr (record { o = o; n = n; known = within; some = some; long = long; is_status = refl; is_text = text; disks = made }))
 make_stop_end loading key old new (Disk line) script (o, within, text, made) =
-    inr (inr (inr (line, refl, (o, within, text, no_other_made loading key o MayHaveFailed old new made))), inr (o, within, made))
+    inr (inr (inr (line, refl, (o, within, text, made))), inr (o, within, made))
 make_stop_end loading key old new NoMemory script made = inr (inr (inl refl), made)
 make_stop_end loading key old new Usage script is = absurd is
 make_stop_end loading key old new (Refused name) script is = absurd is

@@ -22,7 +22,7 @@ use Rattle.catalog_loading.specs.Files.{Contents}
 use Rattle.catalog_loading.specs.Steps.{FileStep}
 use Rattle.catalog_loading.specs.Loaded.{IsLoading, Loading, header_of, entry_at, owner_name_at, owners_in}
 use Rattle.query_server.specs.Shelves.{Shelf, NoOtherRose, bytes_on}
-use Rattle.query_server.specs.Opened.{IsOpened, IsUnopened}
+use Rattle.query_server.specs.Opened.{AreOpenedBefore, IsOpened, IsUnopened}
 use Rattle.query_server.specs.Status.{disk_text, journal_text}
 use Rattle.query_server.specs.Books.{ArePassesOn, IsBookFaultStop, IsBookStop, IsDiskStop, IsJournalStop, IsNewBook, IsNewPass, IsOpenStop}
 use Rattle.catalog_loading.proofs.Reached.{IsStopped, any_reads}
@@ -51,6 +51,10 @@ pass_opened entry header shown pass new = record { stands = stands_shown header 
 unopened_as : (entry : Entry) (header : Header) (refusal : JournalRefusal) (mid old : Option Shown) → mid ≡ old → IsUnopened entry header (bytes_shown mid) refusal → IsUnopened entry header (bytes_shown old) refusal
 unopened_as entry header refusal mid old is = subst (λ (s : Option Shown). IsUnopened entry header (bytes_shown s) refusal) is
 
+opened_before : (loading : Loading) (key : List ℕ) (k : ℕ) (old mid : Shelf) (passes : List Pass) → ArePassesOn (entry_at loading) (header_of loading key) k old mid passes → AreOpenedBefore loading key old k
+opened_before loading key k old mid passes on p less =
+    ((pass_at passes p).found, pass_opened (entry_at loading p) (header_of loading key p) (old p) (pass_at passes p) (on.each p less))
+
 -- A book that isn't opened, behind others that are, stops the opening.
 pub open_stopped : (loading : Loading) (key : List ℕ) (k : ℕ) (old mid new : Shelf) (passes : List Pass) (stop : Stop) → k < owners_in loading → ArePassesOn (entry_at loading) (header_of loading key) k old mid passes
     → NoOtherRose k old new → IsBookStop loading key mid k stop → IsOpenStop loading key old new stop
@@ -61,12 +65,12 @@ open_stopped loading key k old mid new passes (Journal line) within on others (r
   refusal,
   record {
     known = within;
-    before = λ p less. ((pass_at passes p).found, pass_opened (entry_at loading p) (header_of loading key p) (old p) (pass_at passes p) (on.each p less));
+    before = opened_before loading key k old mid passes on;
     refused = unopened_as (entry_at loading k) (header_of loading key k) refusal (mid k) (old k) (on.others k (omega arith)) unopened;
   },
   is,
 )
-open_stopped loading key k old mid new passes (Disk line) within on others is = (k, within, is, others)
+open_stopped loading key k old mid new passes (Disk line) within on others is = (k, within, is, opened_before loading key k old mid passes on, others)
 open_stopped loading key k old mid new passes Fault within on others is = is
 open_stopped loading key k old mid new passes NoMemory within on others is = is
 

@@ -68,7 +68,7 @@ IsBookStop loading key old o stop = ⊥
 abbrev pub IsOpenStop : Loading → (key : List ℕ) → (old new : Shelf) → Stop → Type 0
 IsOpenStop loading key old new (Journal line) = (o : ℕ) × (refusal : JournalRefusal) × IsRefusedAt loading key old o refusal
     × (line.items ≡ journal_text (owner_name_at loading o) refusal)
-IsOpenStop loading key old new (Disk line) = IsDiskNamed loading old new line.items
+IsOpenStop loading key old new (Disk line) = IsDiskNamed loading key old new line.items
 IsOpenStop loading key old new NoMemory = ⊤
 IsOpenStop loading key old new stop = ⊥
 

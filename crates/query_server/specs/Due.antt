@@ -10,7 +10,7 @@ use Rattle.query_server.specs.Shelves.{Shelf, Became, IsOnlySynced}
 use Rattle.catalog_loading.specs.Loaded.{owners_in}
 use Rattle.query_server.specs.Opened.{IsDiskNamed}
 use Rattle.query_server.specs.Run.{run_steps, IsScriptDue}
-use Rattle.query_server.specs.Make.{make_steps, IsMakingDue, MayBeMadeInPart}
+use Rattle.query_server.specs.Make.{make_steps, IsMakingDue, IsMakingNamed, MayBeMadeInPart}
 use Rattle.query_server.specs.Count.{count_steps, IsCountDue}
 use Rattle.query_server.specs.Check.{check_steps, IsProgramDue}
 use Rattle.query_server.specs.Gap.{gap_steps, IsGapDue}
@@ -56,11 +56,11 @@ MayStop (to_count loading key) old new = Became (owners_in loading) (λ _. IsOnl
 MayStop (to_check tables program) old new = Same old new
 MayStop (to_compare tables X Y program) old new = Same old new
 
--- this line names an owner whose disk was to be opened or made, and no other owner's disk has a count that rose
+-- this line names the owner whose disk failed as its journal was to be opened or made
 abbrev pub IsDiskLine : Ending → (old new : Shelf) → (text : List ℕ) → Type 0
-IsDiskLine (to_answer loading key) old new text = IsDiskNamed loading old new text
-IsDiskLine (to_make loading key) old new text = IsDiskNamed loading old new text
-IsDiskLine (to_count loading key) old new text = IsDiskNamed loading old new text
+IsDiskLine (to_answer loading key) old new text = IsDiskNamed loading key old new text
+IsDiskLine (to_make loading key) old new text = IsMakingNamed loading key old new text
+IsDiskLine (to_count loading key) old new text = IsDiskNamed loading key old new text
 IsDiskLine ending old new text = ⊥
 
 -- Memory ran out, or a disk failed: the line of that.

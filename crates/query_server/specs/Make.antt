@@ -11,7 +11,7 @@ use Rattle.catalog_loading.specs.Steps.{FileStep}
 use Rattle.catalog_loading.specs.Loaded.{Loading, header_of, with_house, owner_name_at, owners_in}
 use Rattle.query_server.specs.Ending.{Ending, to_make}
 use Rattle.query_server.specs.Shelves.{Shelf, Became, IsOnlySynced, bytes_on}
-use Rattle.query_server.specs.Status.{journal_text}
+use Rattle.query_server.specs.Status.{disk_text, journal_text}
 use Rattle.query_server.specs.declared.end.Status.{Status}
 use Rattle.query_server.specs.declared.end.Status.TheVariants.{Done, JournalRefused}
 use Rattle.query_server.specs.declared.refusals.JournalRefusal.TheVariants.{Exists}
@@ -40,6 +40,11 @@ pub record AreMadeBefore (loading : Loading) (key : List ℕ) (o : ℕ) (Goes : 
 -- before one are made, and its disk was only synced, or failed.
 abbrev pub MayBeMadeInPart : Loading → (key : List ℕ) → (old new : Shelf) → Type 0
 MayBeMadeInPart loading key old new = Same old new ⊎ ((o : ℕ) × (o < owners_in loading) × AreMadeBefore loading key o MayHaveFailed old new)
+
+-- The line names the owner whose disk failed as its journal was to be made: those of the owners before it are made.
+abbrev pub IsMakingNamed : Loading → (key : List ℕ) → (old new : Shelf) → (text : List ℕ) → Type 0
+IsMakingNamed loading key old new text =
+    (o : ℕ) × (o < owners_in loading) × (text ≡ disk_text (owner_name_at loading o)) × AreMadeBefore loading key o MayHaveFailed old new
 
 -- the line of an owner
 abbrev pub made_line : OwnerEntry → List ℕ

@@ -3,9 +3,9 @@ use Rattle.std.specs.Prelude.{◌≡◌, ◌<◌, ◌≤◌, ℕ, List, length, 
 use Rattle.outside_disks.specs.Disks.{Shown, seen_of}
 use Rattle.catalog_loading.specs.Loaded.{Loading, owner_name_at, owners_in}
 use Rattle.query_server.specs.Shelves.{Shelf, bytes_on, IsOnlySynced}
-use Rattle.query_server.specs.Make.{AreMadeBefore, MayBeMadeInPart, MayHaveFailed}
+use Rattle.query_server.specs.Make.{AreMadeBefore, IsMakingNamed, MayBeMadeInPart, MayHaveFailed}
 use Rattle.query_server.specs.Books.{IsDiskStop, IsJournalStop}
-use Rattle.query_server.specs.Status.{disk_text, journal_text}
+use Rattle.query_server.specs.Status.{journal_text}
 use Rattle.query_server.specs.declared.refusals.JournalRefusal.TheVariants.{Exists}
 use Rattle.catalog_loading.specs.declared.stops.Stop.{Stop}
 use Rattle.catalog_loading.specs.declared.stops.Stop.TheVariants.{Journal, Disk, NoMemory}
@@ -33,7 +33,6 @@ abbrev pub IsMakeStop : Loading → (key : List ℕ) → (old new : Shelf) → S
 IsMakeStop loading key old new (Journal line) = (o : ℕ) × (n : ℕ) × (o < owners_in loading) × (1 ≤ n)
     × IfSome (bytes_on old o) (λ bytes. length bytes ≡ n) × (line.items ≡ journal_text (owner_name_at loading o) (Exists n))
     × AreMadeBefore loading key o IsOnlySynced old new
-IsMakeStop loading key old new (Disk line) = (o : ℕ) × (o < owners_in loading) × (line.items ≡ disk_text (owner_name_at loading o))
-    × AreMadeBefore loading key o MayHaveFailed old new
+IsMakeStop loading key old new (Disk line) = IsMakingNamed loading key old new line.items
 IsMakeStop loading key old new NoMemory = MayBeMadeInPart loading key old new
 IsMakeStop loading key old new stop = ⊥

@@ -34,10 +34,15 @@ abbrev pub AreOpened : Loading → (key : List ℕ) → Shelf → (found : Journ
 AreOpened loading key shelf found =
     (o : ℕ) → o < owners_in loading → IsOpened (entry_at loading o) (header_of loading key o) (bytes_on shelf o) (found o)
 
+-- The journals of the owners before this one are opened.
+abbrev pub AreOpenedBefore : Loading → (key : List ℕ) → Shelf → (o : ℕ) → Type 0
+AreOpenedBefore loading key shelf o =
+    (p : ℕ) → p < o → (found : List Record) × IsOpened (entry_at loading p) (header_of loading key p) (bytes_on shelf p) found
+
 -- An owner's journal is refused, and those of the owners before it are opened.
 pub record IsRefusedAt (loading : Loading) (key : List ℕ) (shelf : Shelf) (o : ℕ) (refusal : JournalRefusal) : Type 0 where
   pub known : o < owners_in loading
-  pub before : (p : ℕ) → p < o → (found : List Record) × IsOpened (entry_at loading p) (header_of loading key p) (bytes_on shelf p) found
+  pub before : AreOpenedBefore loading key shelf o
   pub refused : IsUnopened (entry_at loading o) (header_of loading key o) (bytes_on shelf o) refusal
 
 -- What is due where a journal is refused: the first one's line. Nothing is written to any disk.
@@ -49,6 +54,8 @@ pub record IsRefusalDue (loading : Loading) (key : List ℕ) (old new : Shelf) (
   pub is_text : text ≡ journal_text (owner_name_at loading o) refusal
   pub disks : Became (owners_in loading) (λ _. IsOnlySynced) old new
 
--- The line names an owner, and no other owner's disk has a count that rose.
-abbrev pub IsDiskNamed : Loading → (old new : Shelf) → (text : List ℕ) → Type 0
-IsDiskNamed loading old new text = (o : ℕ) × (o < owners_in loading) × (text ≡ disk_text (owner_name_at loading o)) × NoOtherRose o old new
+-- The line names the owner whose disk failed as its journal was to be opened: those of the owners before it are opened, and no
+-- other owner's disk has a count that rose.
+abbrev pub IsDiskNamed : Loading → (key : List ℕ) → (old new : Shelf) → (text : List ℕ) → Type 0
+IsDiskNamed loading key old new text =
+    (o : ℕ) × (o < owners_in loading) × (text ≡ disk_text (owner_name_at loading o)) × AreOpenedBefore loading key old o × NoOtherRose o old new
