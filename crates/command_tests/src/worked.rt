@@ -1,13 +1,17 @@
 //! Worked rows: scripts with their replies, byte for byte, under a key of zeros. What is wanted was worked out by hand from the rules,
 //! with the noise that tools/reference.py draws.
 
+use crate::commands::RUN;
 use memory_runs::{AGE, KEY, Piece, TABLE, census_files, ended, file, joined, owner_text};
 use query_server::Status;
+use std::alloc::{AllocError, Global};
 use std::test::Fail;
 
-// What is asked of which table, and what is written.
+// A table, what is asked of it, and what is written.
+type Row<'a> = (&'a [u8], &'a [Piece<'a>], &'a [u8]);
+
 #[rattlefmt::skip]
-const ROWS: [(&[u8], &[Piece<'static>], &[u8]); 15] = [
+static ROWS: [Row<'static>; 15] = [
     (TABLE, &[(b"ask census 1 size people\n", 1)], b"answer 0 5 1000000\n"),
     // The noise has scale 2/1, 1/1 and 1000000/1, and a charge is the epsilon times the sensitivity, rounded up.
     (TABLE, &[(b"ask census 0.5 2 * size people\n", 1)], b"answer 0 10 1000000\n"),
@@ -34,60 +38,74 @@ const ROWS: [(&[u8], &[Piece<'static>], &[u8]); 15] = [
         b"answer 0 1125899906842624 0\nanswer 1 -1125899906842624 0\nanswer 2 10 0\n"),
 ];
 
+// What ann asks or is told, behind her hello and before her bye.
+fn between(alloc: Global, lines: &[u8]) -> Result<Vec<u8>, AllocError> {
+    joined(alloc, &[(b"hello ann\n", 1), (lines, 1), (b"bye\n", 1)])
+}
+
+// Whether what is asked is answered so.
+fn is_answered(alloc: Global, row: &Row<'_>) -> Result<bool, AllocError> {
+    let (table, asked, wanted) = row;
+    let script = between(alloc, &joined(alloc, asked)?)?;
+    let due = between(alloc, wanted)?;
+    let held = census_files(table, "key", &KEY);
+    let (status, out) = ended(alloc, RUN, &held, &script)?;
+    Ok(status == Status::Done && out.as_slice() == due.as_slice())
+}
+
 #[test]
 fn worked_rows(rt: HostRuntime) -> Result<(), Fail> {
-    let alloc = rt.alloc();
-    for (table, asked, want) in ROWS {
-        let asks = joined(alloc, asked)?;
-        let script = joined(alloc, &[(b"hello ann\n", 1), (&asks, 1), (b"bye\n", 1)])?;
-        let due = joined(alloc, &[(b"hello ann\n", 1), (want, 1), (b"bye\n", 1)])?;
-        let held = census_files(table, "key", &KEY);
-        let (status, out) = ended(alloc, &["run", "cat.json", "key"], &held, &script)?;
-        assert_eq!(rt; status, Status::Done, "{asked:?}");
-        assert!(rt; out.as_slice() == due.as_slice(), "{asked:?}");
+    for row in &ROWS {
+        assert!(rt; is_answered(rt.alloc(), row)?, "{row:?}");
     }
     Ok(())
 }
 
 // How often a number stands in a table, and how often another one behind it; what is asked of it, and the reply.
+type Sum<'a> = (usize, &'a [u8], usize, &'a [u8], &'a [u8]);
+
 #[rattlefmt::skip]
-const SUMS: [(usize, &[u8], usize, &[u8], &[u8]); 4] = [
+static SUMS: [Sum<'static>; 4] = [
     (262_144, b"1125899906842624\n", 0, b"sum[0,4294967295] people", b"answer 0 1125899908800310 4294967295\n"),
     (262_145, b"1125899906842624\n", 0, b"sum[0,4294967295] people", b"answer 0 1125899909062454 4294967295\n"),
     (262_145, b"-1125899906842624\n", 0, b"sum[-4294967295,0] people", b"answer 0 -1125899904622794 4294967295\n"),
     (262_200, b"4294967295\n", 100, b"sum[-4294967295,4294967295] people", b"answer 0 1125710930239330 4294967295\n"),
 ];
 
+// The catalog of an owner of much, and of the table of people.
+fn rich(alloc: Global) -> Result<String, AllocError> {
+    let people = [("people", "people.csv", AGE)];
+    let owner = owner_text(alloc, "census", 1_000_000_000_000, 100, &people)?;
+    format!(in alloc; "{{\"analysts\":[\"ann\"],\"owners\":[{owner}]}}")
+}
+
+// Whether the sum over this table is answered so, under this catalog.
+fn is_summed(alloc: Global, catalog: &[u8], row: &Sum<'_>) -> Result<bool, AllocError> {
+    let (times, number, more, program, wanted) = row;
+    let table = joined(
+        alloc,
+        &[(b"age\n", 1), (number, *times), (b"-4294967295\n", *more)],
+    )?;
+    let ask: Piece<'_> = (b"hello ann\nask census 0.000001 ", 1);
+    let script = joined(alloc, &[ask, (program, 1)])?;
+    let held = [
+        file("cat.json", catalog),
+        file("people.csv", &table),
+        file("key", &KEY),
+    ];
+    let (_, out) = ended(alloc, RUN, &held, &script)?;
+    Ok(out.strip_prefix(b"hello ann\n") == Some(*wanted))
+}
+
 // A sum is held at 2^50 once, behind its last element: tables of over 262,144 rows tell it from one that is held at each.
 #[test]
 fn sums_of_many_rows(rt: HostRuntime) -> Result<(), Fail> {
-    let alloc = rt.alloc();
-    let owner = owner_text(
-        alloc,
-        "census",
-        1_000_000_000_000,
-        100,
-        &[("people", "people.csv", AGE)],
-    )?;
-    let catalog = format!(in alloc; "{{\"analysts\":[\"ann\"],\"owners\":[{owner}]}}")?;
-    for (times, number, more, program, wanted) in SUMS {
-        let table = joined(
-            alloc,
-            &[(b"age\n", 1), (number, times), (b"-4294967295\n", more)],
-        )?;
-        let script = joined(
-            alloc,
-            &[(b"hello ann\nask census 0.000001 ", 1), (program, 1)],
-        )?;
-        let held = [
-            file("cat.json", catalog.as_bytes()),
-            file("people.csv", &table),
-            file("key", &KEY),
-        ];
-        let (_, out) = ended(alloc, &["run", "cat.json", "key"], &held, &script)?;
+    let catalog = rich(rt.alloc())?;
+    for row in &SUMS {
         assert!(rt;
-            out.strip_prefix(b"hello ann\n") == Some(wanted),
-            "{times} rows"
+            is_summed(rt.alloc(), catalog.as_bytes(), row)?,
+            "{} rows",
+            row.0
         );
     }
     Ok(())

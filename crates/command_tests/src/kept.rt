@@ -1,6 +1,6 @@
 //! Files of journals, byte by byte: those that a stop may have left, and those that are refused.
 
-use crate::held::{AUDIT, INIT, RUN, ran_again};
+use crate::commands::{AUDIT, INIT, RUN, ran_again};
 use query_server::Status;
 use std::alloc::{AllocError, Global};
 use std::test::Fail;
@@ -43,9 +43,11 @@ fn patched(
 // What `run` writes where the journal is as row one left it, but for what is changed.
 const SCRIPT: &[u8] = b"left census\nhello ann\nrecall census 0\nask census 1 size people\n";
 
-// Length of the file and what is changed in it; what `audit` writes; and what `run` writes.
+// What is changed in the file; what `audit` writes; and what `run` writes.
+type Kept = (Patches<'static>, &'static [u8], &'static [u8]);
+
 #[rattlefmt::skip]
-const KEPT: [(Patches<'static>, &[u8], &[u8]); 11] = [
+static KEPT: [Kept; 11] = [
     (&[],
         b"census reservations 1 answered 1 exhausted 0 lost 0 spent 1000000 budget 10000000\n",
         b"left 1000000 10000000 2\nhello ann\nrecall 0 answer 5 2\nanswer 1 3 1000000\n"),
@@ -86,9 +88,11 @@ const KEPT: [(Patches<'static>, &[u8], &[u8]); 11] = [
         b"left 1000000 10000000 2\nhello ann\nrecall 0 answer 5 2\nanswer 1 3 1000000\n"),
 ];
 
-// The line of each file that is refused.
+// Length of the file and what is changed in it; and the line that refuses it.
+type Refused = (usize, Patches<'static>, &'static [u8]);
+
 #[rattlefmt::skip]
-const REFUSED: [(usize, Patches<'static>, &[u8]); 33] = [
+static REFUSED: [Refused; 33] = [
     (0, &[], b"journal census uninitialised 0\n"),
     (127, &[], b"journal census uninitialised 127\n"),
     (6528, &[(0, b"\0")], b"journal census uninitialised 6528\n"),
@@ -129,60 +133,74 @@ const REFUSED: [(usize, Patches<'static>, &[u8]); 33] = [
     (6528, &[(256, SETTLED)], b"journal census damaged 2\n"),
 ];
 
-// Its bytes are as the format says, whatever is behind it; and what other files are read as.
-#[test]
-fn files_of_journals(rt: HostRuntime) -> Result<(), Fail> {
-    let alloc = rt.alloc();
+// The file of a journal behind one ask, which is answered.
+fn answered(alloc: Global) -> Result<Vec<u8>, AllocError> {
     let made = ran_again(alloc, &[], INIT, b"")?;
-    let whole = ran_again(
-        alloc,
-        &made.first,
-        RUN,
-        b"hello ann\nask census 1 size people\nbye\n",
-    )?;
-    let due: [(usize, &'static [u8]); 5] = [
-        (0, HEADER),
-        (64, DIGEST),
-        (128, RESERVED),
-        (160, PROGRAM),
-        (192, SETTLED),
-    ];
-    assert!(rt; whole.first.as_slice() == patched(alloc, &[], 6528, &due)?.as_slice());
-    for (patches, counts, replies) in KEPT {
-        let bytes = patched(alloc, &whole.first, 6528, patches)?;
-        let counted = ran_again(alloc, &bytes, AUDIT, b"")?;
-        assert!(rt;
-            counted.out.as_slice() == counts,
-            "{patches:?} {:?}",
-            counted.out
-        );
-        assert!(rt; counted.first.as_slice() == bytes.as_slice(), "{patches:?}");
-        let asked = ran_again(alloc, &bytes, RUN, SCRIPT)?;
-        assert!(rt;
-            asked.out.as_slice() == replies,
-            "{patches:?} {:?}",
-            asked.out
-        );
+    let script = b"hello ann\nask census 1 size people\nbye\n";
+    Ok(ran_again(alloc, &made.first, RUN, script)?.first)
+}
+
+#[rattlefmt::skip]
+static WRITTEN: [(usize, &[u8]); 5] = [(0, HEADER), (64, DIGEST), (128, RESERVED), (160, PROGRAM), (192, SETTLED)];
+
+// Its bytes are as the format says.
+#[test]
+fn written_file(rt: HostRuntime) -> Result<(), Fail> {
+    let due = patched(rt.alloc(), &[], 6528, &WRITTEN)?;
+    assert!(rt; answered(rt.alloc())?.as_slice() == due.as_slice());
+    Ok(())
+}
+
+// Whether `audit` counts what this file has and leaves it as it was, and `run` goes on from it.
+fn is_kept(alloc: Global, whole: &[u8], row: &Kept) -> Result<bool, AllocError> {
+    let (patches, counts, replies) = row;
+    let bytes = patched(alloc, whole, 6528, patches)?;
+    let counted = ran_again(alloc, &bytes, AUDIT, b"")?;
+    let asked = ran_again(alloc, &bytes, RUN, SCRIPT)?;
+    Ok(
+        counted.out.as_slice() == *counts
+            && counted.first.as_slice() == bytes.as_slice()
+            && asked.out.as_slice() == *replies,
+    )
+}
+
+#[test]
+fn kept_files(rt: HostRuntime) -> Result<(), Fail> {
+    let whole = answered(rt.alloc())?;
+    for row in &KEPT {
+        assert!(rt; is_kept(rt.alloc(), &whole, row)?, "{row:?}");
     }
-    for (length, patches, line) in REFUSED {
-        let bytes = patched(alloc, &whole.first, length, patches)?;
-        for words in [AUDIT, RUN] {
-            let refused = ran_again(alloc, &bytes, words, SCRIPT)?;
-            assert_eq!(rt;
-                refused.status,
-                Status::JournalRefused,
-                "{length} {patches:?}"
-            );
-            assert!(rt;
-                refused.out.as_slice() == line,
-                "{length} {patches:?} {:?}",
-                refused.out
-            );
-            assert!(rt;
-                refused.first.as_slice() == bytes.as_slice(),
-                "{length} {patches:?}"
-            );
-        }
+    Ok(())
+}
+
+// Whether the command of these words refuses a file with this line, and leaves it as it was.
+fn is_refused(
+    alloc: Global,
+    bytes: &[u8],
+    texts: &[&str],
+    line: &[u8],
+) -> Result<bool, AllocError> {
+    let refused = ran_again(alloc, bytes, texts, SCRIPT)?;
+    Ok(
+        refused.status == Status::JournalRefused
+            && refused.out.as_slice() == line
+            && refused.first.as_slice() == bytes,
+    )
+}
+
+// Whether `audit` and `run` refuse this file.
+fn are_refused(alloc: Global, whole: &[u8], row: &Refused) -> Result<bool, AllocError> {
+    let (length, patches, line) = row;
+    let bytes = patched(alloc, whole, *length, patches)?;
+    let audited = is_refused(alloc, &bytes, AUDIT, line)?;
+    Ok(is_refused(alloc, &bytes, RUN, line)? && audited)
+}
+
+#[test]
+fn refused_files(rt: HostRuntime) -> Result<(), Fail> {
+    let whole = answered(rt.alloc())?;
+    for row in &REFUSED {
+        assert!(rt; are_refused(rt.alloc(), &whole, row)?, "{row:?}");
     }
     Ok(())
 }

@@ -1,24 +1,20 @@
 //! Commands one after another on the same disks. What is wanted was worked out by hand from the rules, with the noise that
 //! tools/reference.py draws.
 
-use crate::held::{AUDIT, INIT, RUN, held};
+use crate::commands::{AUDIT, INIT, RUN, held};
 use memory_runs::journals::empty_journals;
 use query_server::Status;
+use std::alloc::{AllocError, Global};
 use std::test::Fail;
 
 // Words and script, how the command ends, and what it writes.
-type Step = (
-    &'static [&'static str],
-    &'static [u8],
-    Status,
-    &'static [u8],
-);
+type Step<'a> = (&'a [&'a str], &'a [u8], Status, &'a [u8]);
 
 const ASK: &[u8] = b"hello ann\nask census 1 size people\n";
 
 // One owner. A run goes on where the one before it ended: numbers, what is spent and what may be recalled.
 #[rattlefmt::skip]
-const ONE_OWNER: [Step; 18] = [
+static ONE_OWNER: [Step<'static>; 18] = [
     (AUDIT, b"", Status::JournalRefused, b"journal census uninitialised 0\n"),
     (RUN, ASK, Status::JournalRefused, b"journal census uninitialised 0\n"),
     (INIT, b"", Status::Done, b"owner census budget 10000000 capacity 100\n"),
@@ -54,7 +50,7 @@ const ONE_OWNER: [Step; 18] = [
 
 // Room for three records, and then another catalog on the same disk.
 #[rattlefmt::skip]
-const THREE_RECORDS: [Step; 5] = [
+static THREE_RECORDS: [Step<'static>; 5] = [
     (&["init", "three.json", "key"], b"", Status::Done, b"owner census budget 10000000 capacity 3\n"),
     (&["run", "three.json", "key"], b"hello ann\nask census 1 size people\nask census 1 size people\nask census 10 size people\n", Status::Done,
         b"hello ann\nanswer 0 5 1000000\nno 41 2 0 3\nno 40 1000000 11000000 10000000 2\n"),
@@ -66,7 +62,7 @@ const THREE_RECORDS: [Step; 5] = [
 
 // Each owner has a journal of its own. The first that is refused ends a command.
 #[rattlefmt::skip]
-const TWO_OWNERS: [Step; 7] = [
+static TWO_OWNERS: [Step<'static>; 7] = [
     (INIT, b"", Status::Done, b"owner census budget 10000000 capacity 100\n"),
     (&["run", "two.json", "key"], ASK, Status::JournalRefused, b"journal wards uninitialised 0\n"),
     (&["init", "two.json", "key"], b"", Status::JournalRefused, b"journal census exists 6528\n"),
@@ -77,7 +73,7 @@ const TWO_OWNERS: [Step; 7] = [
 ];
 
 #[rattlefmt::skip]
-const TWO_JOURNALS: [Step; 6] = [
+static TWO_JOURNALS: [Step<'static>; 6] = [
     (&["init", "two.json", "key"], b"", Status::Done, b"owner census budget 10000000 capacity 100\nowner wards budget 1500000 capacity 4\n"),
     (&["run", "two.json", "key"], b"hello ann\nask wards 1 size stays\nask census 1 size people\nleft wards\nleft census\n", Status::Done,
         b"hello ann\nanswer 0 4 1000000\nanswer 0 5 1000000\nleft 1000000 1500000 2\nleft 1000000 10000000 2\n"),
@@ -91,18 +87,24 @@ const TWO_JOURNALS: [Step; 6] = [
     (AUDIT, b"", Status::Done, b"census reservations 2 answered 2 exhausted 0 lost 0 spent 2000000 budget 10000000\n"),
 ];
 
+// How many of these commands on the same disks end and write what is wanted, before the first that doesn't.
+fn as_wanted(alloc: Global, steps: &[Step<'_>]) -> Result<usize, AllocError> {
+    let mut journals = empty_journals(alloc)?;
+    for (number, (texts, script, status, wanted)) in steps.iter().enumerate() {
+        let (ended, out) = journals.ran(alloc, texts, &held(), script)?;
+        if ended != *status || out.as_slice() != *wanted {
+            return Ok(number);
+        }
+    }
+    Ok(steps.len())
+}
+
 #[test]
 fn commands_in_a_row(rt: HostRuntime) -> Result<(), Fail> {
-    let alloc = rt.alloc();
-    let held = held();
-    let histories: [&[Step]; 4] = [&ONE_OWNER, &THREE_RECORDS, &TWO_OWNERS, &TWO_JOURNALS];
+    let histories: [&[Step<'_>]; 4] = [&ONE_OWNER, &THREE_RECORDS, &TWO_OWNERS, &TWO_JOURNALS];
     for steps in histories {
-        let mut journals = empty_journals(alloc)?;
-        for (texts, script, status, want) in steps {
-            let (ended, out) = journals.ran(alloc, texts, &held, script)?;
-            assert_eq!(rt; ended, *status, "{texts:?} {script:?}");
-            assert!(rt; out.as_slice() == *want, "{texts:?} {script:?} {out:?}");
-        }
+        let done = as_wanted(rt.alloc(), steps)?;
+        assert!(rt; done == steps.len(), "{done}");
     }
     Ok(())
 }

@@ -1,5 +1,6 @@
 //! Scripts. What is wanted of each was written by tools/reference.py, which shares nothing with the server but the rules.
 
+use crate::commands::{INIT, RUN};
 use crate::plain;
 use fz_outside::files::MemFiles;
 use fz_outside::flaky::{Flaky, Schedule};
@@ -10,8 +11,6 @@ use memory_runs::{KEY, Piece, TABLE, census_files, ended, joined, words_of};
 use query_server::Status;
 use std::alloc::{AllocError, Global};
 use std::test::Fail;
-
-const RUN: &[&str] = &["run", "cat.json", "key"];
 
 // Whether a transcript is the plain one, which has `?` for the refusal of a program that it doesn't read, and `*` for the reply to a
 // `recall` or a `left`.
@@ -33,8 +32,10 @@ fn agrees(plain: &[u8], transcript: &[u8]) -> bool {
 }
 
 // A script, and what is written for it.
+type Script<'a> = (&'a [Piece<'a>], &'a [u8]);
+
 #[rattlefmt::skip]
-const SCRIPTS: [(&[Piece<'static>], &[u8]); 16] = [
+static SCRIPTS: [Script<'static>; 16] = [
     // one ask
     (&[(b"hello ann\nask census 1 size people\nbye\n", 1)], b"hello ann\nanswer 0 5 1000000\nbye\n"),
     // nothing
@@ -106,17 +107,19 @@ const SCRIPTS: [(&[Piece<'static>], &[u8]); 16] = [
         no 10 1\nno 10 1\nno 12 1\nno 10 2\nno 10 2\nhello ann\nno 60 4294967295 0\nno 60 0 0\nleft 0 10000000 0\n"),
 ];
 
-// Each script's transcript; the plain server writes the same.
+// Whether this is what is written for a script, and what the plain server writes.
+fn is_written(alloc: Global, script: &[u8], wanted: &[u8]) -> Result<bool, AllocError> {
+    let held = census_files(TABLE, "key", &KEY);
+    let (status, out) = ended(alloc, RUN, &held, script)?;
+    let plain = plain::transcript(alloc, 3, KEY, script)?;
+    Ok(status == Status::Done && out.as_slice() == wanted && agrees(plain.as_bytes(), wanted))
+}
+
 #[test]
 fn transcripts(rt: HostRuntime) -> Result<(), Fail> {
-    let alloc = rt.alloc();
-    for (pieces, wanted) in SCRIPTS {
-        let script = joined(alloc, pieces)?;
-        let (status, out) = ended(alloc, RUN, &census_files(TABLE, "key", &KEY), &script)?;
-        assert_eq!(rt; status, Status::Done, "{pieces:?}");
-        assert!(rt; out.as_slice() == wanted, "{pieces:?}");
-        let plain = plain::transcript(alloc, 3, KEY, &script)?;
-        assert!(rt; agrees(plain.as_bytes(), wanted), "{pieces:?} (plainly)");
+    for (pieces, wanted) in &SCRIPTS {
+        let script = joined(rt.alloc(), pieces)?;
+        assert!(rt; is_written(rt.alloc(), &script, wanted)?, "{pieces:?}");
     }
     Ok(())
 }
@@ -128,7 +131,10 @@ const LONG: &[Piece<'static>] = &[(b"\n", 16_777_217)];
 
 // Words, the table's file, the key's and the script; how the run ends, and what it writes.
 #[rattlefmt::skip]
-const STATUSES: [(&[&str], &[u8], &[u8], &[Piece<'static>], Status, &[u8]); 20] = [
+type Ending<'a> = (&'a [&'a str], &'a [u8], &'a [u8], &'a [Piece<'a>], Status, &'a [u8]);
+
+#[rattlefmt::skip]
+static STATUSES: [Ending<'static>; 20] = [
     (&[], TABLE, &KEY, &[], Status::Usage, b"usage\n"),
     (&["run", "cat.json"], TABLE, &KEY, &[], Status::Usage, b"usage\n"),
     (&["run", "cat.json", "key", "x"], TABLE, &KEY, &[], Status::Usage, b"usage\n"),
@@ -153,14 +159,19 @@ const STATUSES: [(&[&str], &[u8], &[u8], &[Piece<'static>], Status, &[u8]); 20] 
     (&["go", "none", "none"], TABLE, &KEY, LONG, Status::Usage, b"usage\n"),
 ];
 
+// Whether a run ends so, and writes what is wanted.
+fn ends_so(alloc: Global, row: &Ending<'_>) -> Result<bool, AllocError> {
+    let (words, table, key, pieces, status, wanted) = row;
+    let script = joined(alloc, pieces)?;
+    let held = census_files(table, "key", key);
+    let (end, out) = ended(alloc, words, &held, &script)?;
+    Ok(end == *status && out.as_slice() == *wanted)
+}
+
 #[test]
 fn statuses(rt: HostRuntime) -> Result<(), Fail> {
-    let alloc = rt.alloc();
-    for (words, table, key, pieces, status, wanted) in STATUSES {
-        let script = joined(alloc, pieces)?;
-        let (end, out) = ended(alloc, words, &census_files(table, "key", key), &script)?;
-        assert_eq!(rt; end, status, "{words:?} {table:?}");
-        assert!(rt; out.as_slice() == wanted, "{words:?} {table:?}");
+    for row in &STATUSES {
+        assert!(rt; ends_so(rt.alloc(), row)?, "{row:?}");
     }
     Ok(())
 }
@@ -169,7 +180,7 @@ fn statuses(rt: HostRuntime) -> Result<(), Fail> {
 fn made(alloc: Global) -> Result<MemJournals<'static>, AllocError> {
     let mut journals = empty_journals(alloc)?;
     let held = census_files(TABLE, "key", &KEY);
-    journals.ran(alloc, &["init", "cat.json", "key"], &held, b"")?;
+    journals.ran(alloc, INIT, &held, b"")?;
     Ok(journals)
 }
 
@@ -183,97 +194,96 @@ fn longest_script(rt: HostRuntime) -> Result<(), Fail> {
     let mut files = MemFiles::new(&held);
     let mut source = MemSource::new(&script);
     let mut sink = MemSink::<134_217_728>::new(alloc)?;
-    let mut journals = made(alloc)?;
-    let status = journals.ran_over(alloc, &words, &mut files, &mut source, &mut sink);
-    assert_eq!(rt; status, Status::Done);
-    assert_eq!(rt; sink.bytes().len(), 134_217_728);
-    assert!(rt; sink.bytes().ends_with(b"no 10 0\nno 10 0\n"));
+    let status = made(alloc)?.ran_over(alloc, &words, &mut files, &mut source, &mut sink);
+    let out = sink.bytes();
+    assert!(rt; status == Status::Done && out.len() == 134_217_728);
+    assert!(rt; out.ends_with(b"no 10 0\nno 10 0\n"));
     Ok(())
 }
 
+#[rattlefmt::skip]
 fn on_schedule<T>(inner: T, failing: &[u64]) -> Flaky<'_, T> {
-    Flaky {
-        inner,
-        piece: 16,
-        schedule: Schedule {
-            failing,
-            calls: 0,
-            faults: 0,
-        },
-    }
+    Flaky { inner, piece: 16, schedule: Schedule { failing, calls: 0, faults: 0 } }
 }
+
+// A run of one ask, of which these calls of the files, of the source and of the sink fail: how it ends, and what it writes.
+fn ran_failing(alloc: Global, failing: &[u64; 3]) -> Result<(Status, Vec<u8>), AllocError> {
+    let words = words_of(alloc, RUN)?;
+    let held = census_files(TABLE, "key", &KEY);
+    let script = b"hello ann\nask census 1 size people\nbye\n";
+    let mut files = on_schedule(MemFiles::new(&held), &failing[..1]);
+    let mut source = on_schedule(MemSource::new(script), &failing[1..2]);
+    let mut sink = on_schedule(MemSink::<64>::new(alloc)?, &failing[2..]);
+    let status = made(alloc)?.ran_over(alloc, &words, &mut files, &mut source, &mut sink);
+    Ok((status, sink.inner.bytes().to_vec(alloc)?))
+}
+
+const NEVER: u64 = u64::MAX;
+
+// Which call of the files, of the source and of the sink fails, how the run ends, and how much of the transcript is written.
+#[rattlefmt::skip]
+static FAULTS: [([u64; 3], Status, usize); 18] = [
+    ([0, NEVER, NEVER], Status::Fault, 0), ([1, NEVER, NEVER], Status::Fault, 0), ([2, NEVER, NEVER], Status::Fault, 0),
+    ([3, NEVER, NEVER], Status::Done, 33), ([4, NEVER, NEVER], Status::Done, 33), ([5, NEVER, NEVER], Status::Done, 33),
+    ([NEVER, 0, NEVER], Status::Fault, 0), ([NEVER, 1, NEVER], Status::Fault, 0), ([NEVER, 2, NEVER], Status::Fault, 0),
+    ([NEVER, 3, NEVER], Status::Fault, 0), ([NEVER, 4, NEVER], Status::Done, 33), ([NEVER, 5, NEVER], Status::Done, 33),
+    ([NEVER, NEVER, 0], Status::Fault, 0), ([NEVER, NEVER, 1], Status::Fault, 16), ([NEVER, NEVER, 2], Status::Fault, 32),
+    ([NEVER, NEVER, 3], Status::Done, 33), ([NEVER, NEVER, 4], Status::Done, 33), ([NEVER, NEVER, 5], Status::Done, 33),
+];
 
 // One call of the files, of the source or of the sink fails: what is written is a prefix of the transcript. Where no call
 // fails, pieces of 16 bytes give the whole of it.
 #[test]
 fn faults(rt: HostRuntime) -> Result<(), Fail> {
-    let alloc = rt.alloc();
-    let words = words_of(alloc, RUN)?;
-    let held = census_files(TABLE, "key", &KEY);
-    let script = b"hello ann\nask census 1 size people\nbye\n";
-    let want = b"hello ann\nanswer 0 5 1000000\nbye\n";
-    for place in 0..3_usize {
-        for call in 0..6_u64 {
-            let mut failing = [u64::MAX; 3];
-            failing[place] = call;
-            let mut files = on_schedule(MemFiles::new(&held), &failing[..1]);
-            let mut source = on_schedule(MemSource::new(script), &failing[1..2]);
-            let mut sink = on_schedule(MemSink::<64>::new(alloc)?, &failing[2..]);
-            let mut journals = made(alloc)?;
-            let status = journals.ran_over(alloc, &words, &mut files, &mut source, &mut sink);
-            let out = sink.inner.bytes();
-            let met = call < [3, 4, 3][place];
-            assert_eq!(rt; status == Status::Fault, met, "call {call} at {place}");
-            assert_eq!(rt; status == Status::Done, !met, "call {call} at {place}");
-            let length = match (met, place) {
-                (true, 2) => 16 * call as usize,
-                (true, _) => 0,
-                (false, _) => want.len(),
-            };
-            assert!(rt;
-                out == &want[..length.min(want.len())],
-                "call {call} at {place}"
-            );
-        }
+    let whole = b"hello ann\nanswer 0 5 1000000\nbye\n";
+    for (failing, status, length) in &FAULTS {
+        let (ended, out) = ran_failing(rt.alloc(), failing)?;
+        let due = whole.get(..*length);
+        assert!(rt;
+            ended == *status && due == Some(out.as_slice()),
+            "{failing:?}"
+        );
     }
     Ok(())
+}
+
+static TELLING: [&[u8]; 13] = [
+    b"",
+    b"hello ann\n",
+    b"hello bob\r\n",
+    b"hello eve\n",
+    b"hello ann x\n",
+    b"ask census 1 size people\n",
+    b"ask census 9.000001 size people\n",
+    b"ask census 0.75 size people\n",
+    b"ask census 01.1 size  people\n",
+    b"ask nobody 0 x\n",
+    b"ask census 0 size people\n",
+    b"bye\n",
+    b"\r",
+];
+
+// The bytes 0 to 31.
+const COUNTED: [u8; 32] = *b"\x00\x01\x02\x03\x04\x05\x06\x07\x08\x09\x0a\x0b\x0c\x0d\x0e\x0f\
+    \x10\x11\x12\x13\x14\x15\x16\x17\x18\x19\x1a\x1b\x1c\x1d\x1e\x1f";
+
+// Whether the plain server writes what is written for the script of this number, of three telling lines, under another key.
+fn agree(alloc: Global, number: usize) -> Result<bool, AllocError> {
+    let mut script = Vec::new(alloc);
+    for place in [169, 13, 1] {
+        script.extend_from_slice(TELLING[number / place % 13])?;
+    }
+    let held = census_files(TABLE, "key", &COUNTED);
+    let (status, out) = ended(alloc, RUN, &held, &script)?;
+    let plain = plain::transcript(alloc, 3, COUNTED, &script)?;
+    Ok(status == Status::Done && out.as_slice() == plain.as_bytes())
 }
 
 // Every script of three lines out of twelve, and of fewer: the plain server writes the same.
 #[test]
 fn plain_transcripts_agree(rt: HostRuntime) -> Result<(), Fail> {
-    let alloc = rt.alloc();
-    let telling: [&[u8]; 13] = [
-        b"",
-        b"hello ann\n",
-        b"hello bob\r\n",
-        b"hello eve\n",
-        b"hello ann x\n",
-        b"ask census 1 size people\n",
-        b"ask census 9.000001 size people\n",
-        b"ask census 0.75 size people\n",
-        b"ask census 01.1 size  people\n",
-        b"ask nobody 0 x\n",
-        b"ask census 0 size people\n",
-        b"bye\n",
-        b"\r",
-    ];
-    let mut key = [0; 32];
-    for (place, byte) in key.iter_mut().enumerate() {
-        *byte = place as u8;
-    }
-    let lent = key;
-    let held = census_files(TABLE, "key", &lent);
-    for first in telling {
-        for second in telling {
-            for third in telling {
-                let script = joined(alloc, &[(first, 1), (second, 1), (third, 1)])?;
-                let (status, out) = ended(alloc, RUN, &held, &script)?;
-                let plain = plain::transcript(alloc, 3, key, &script)?;
-                assert_eq!(rt; status, Status::Done);
-                assert!(rt; out.as_slice() == plain.as_bytes(), "{script:?}");
-            }
-        }
+    for number in 0..2197_usize {
+        assert!(rt; agree(rt.alloc(), number)?, "{number}");
     }
     Ok(())
 }

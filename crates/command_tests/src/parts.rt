@@ -1,6 +1,7 @@
 //! Asks of parts: of each partition its dearest part is charged, and the whole comes on top. What is charged was worked out by hand from
 //! these rules, and stands beside the line; the noise is that which tools/reference.py draws.
 
+use crate::commands::{INIT, RUN};
 use memory_runs::journals::empty_journals;
 use memory_runs::{KEY, file, joined};
 use query_server::Status;
@@ -14,31 +15,24 @@ const VISITS: &[u8] = b"place,cost\nA,3\nA,12\nB,7\n";
 // The keys of the towns. No row has the last one, and one town is no key.
 const TOWNS: &[u8] = b"\"A\",\"B\",\"Z\"";
 
-// The catalog of an owner of two tables with this budget: two partitions of the people, one by these towns, and one of the visits.
+// The catalog of an owner of two tables, around the budget and the towns: two partitions of the people, one by the towns, and one of
+// the visits.
+const AROUND: [&[u8]; 3] = [
+    b"{\"analysts\":[\"ann\",\"bob\"],\"owners\":[{\"name\":\"census\",\"capacity\":100,\"budget\":",
+    b",\"tables\":[{\"name\":\"people\",\"file\":\"people.csv\",\"columns\":[{\"name\":\"town\",\"type\":\"text\"},\
+    {\"name\":\"team\",\"type\":\"text\"},{\"name\":\"age\",\"type\":\"num\"}]},\
+    {\"name\":\"visits\",\"file\":\"visits.csv\",\"columns\":[{\"name\":\"place\",\"type\":\"text\"},\
+    {\"name\":\"cost\",\"type\":\"num\"}]}],\"partitions\":[\
+    {\"name\":\"area\",\"table\":\"people\",\"column\":\"town\",\"keys\":[",
+    b"]},{\"name\":\"team\",\"table\":\"people\",\"column\":\"team\",\"keys\":[\"x\",\"y\"]},\
+    {\"name\":\"place\",\"table\":\"visits\",\"column\":\"place\",\"keys\":[\"A\",\"B\"]}]}]}",
+];
+
 fn catalog<'t>(alloc: Global, budget: &'t [u8], towns: &'t [u8]) -> Result<Vec<u8>, AllocError> {
+    let [head, tables, end] = AROUND;
     joined(
         alloc,
-        &[
-            (
-                b"{\"analysts\":[\"ann\",\"bob\"],\"owners\":[{\"name\":\"census\",\"capacity\":100,\"budget\":",
-                1,
-            ),
-            (budget, 1),
-            (
-                b",\"tables\":[{\"name\":\"people\",\"file\":\"people.csv\",\"columns\":[{\"name\":\"town\",\"type\":\"text\"},\
-                {\"name\":\"team\",\"type\":\"text\"},{\"name\":\"age\",\"type\":\"num\"}]},\
-                {\"name\":\"visits\",\"file\":\"visits.csv\",\"columns\":[{\"name\":\"place\",\"type\":\"text\"},\
-                {\"name\":\"cost\",\"type\":\"num\"}]}],\"partitions\":[\
-                {\"name\":\"area\",\"table\":\"people\",\"column\":\"town\",\"keys\":[",
-                1,
-            ),
-            (towns, 1),
-            (
-                b"]},{\"name\":\"team\",\"table\":\"people\",\"column\":\"team\",\"keys\":[\"x\",\"y\"]},\
-                {\"name\":\"place\",\"table\":\"visits\",\"column\":\"place\",\"keys\":[\"A\",\"B\"]}]}]}",
-                1,
-            ),
-        ],
+        &[(head, 1), (budget, 1), (tables, 1), (towns, 1), (end, 1)],
     )
 }
 
@@ -49,17 +43,19 @@ type Run = (&'static [u8], &'static [u8]);
 const NOTHING: Run = (b"", b"");
 
 // The budget in millionths, and two runs that follow one another on one journal.
+type Case = (&'static [u8], &'static [Run]);
+
 #[rattlefmt::skip]
-const CASES: [(&[u8], [Run; 2]); 5] = [
+static CASES: [Case; 5] = [
     // 6 for A; B is within the 6 of A; A has 10 then; 10 and 1 for the whole are over the budget
-    (b"10", [(
+    (b"10", &[(
         b"hello ann\naskpart census area A 0.000006 size people\naskpart census area B 0.000006 size people\n\
         askpart census area A 0.000004 size people\nask census 0.000001 size people\nleft census\n",
         b"hello ann\nanswer 0 406612 6\nanswer 1 87368 0\nanswer 2 497864 4\nno 40 10 11 10 6\nleft 10 10 6\n"), NOTHING]),
     // Spent is the dearest of area, of team and of place, and the whole:
     // 300000 of A; 200000 of B beside it; 100000 of x; 9 * 50000 of the visits of A; 100000 of the whole; 400000 of A would be
     // 100000 more, which is over the budget; 350000 of B is 50000 over those of A, which fits exactly; 100000 of y beside x; no more
-    (b"1000000", [(
+    (b"1000000", &[(
         b"hello ann\nleft census\naskpart census area A 0.3 size people\nleft census\naskpart census area B 0.2 size people\nleft census\n\
         askpart census team x 0.1 size people\nleft census\n\
         askpart census place A 0.05 sum[0,9] (map (fn (r : text * num) => let (a, b) = r in b) visits)\nleft census\n\
@@ -72,7 +68,7 @@ const CASES: [(&[u8], [Run; 2]); 5] = [
         answer 6 4 0\nno 40 1000000 1000001 1000000 14\nbye\n"), NOTHING]),
     // A key with no rows is answered, noise alone, and charged as any: 500000, and 2 * 250000; then A has 1000000 beside it, and
     // what costs nothing is answered still
-    (b"1000000", [(
+    (b"1000000", &[(
         b"hello ann\naskpart census area Z 0.5 size people\n\
         askpart census area Z 0.25 sum[0,2] (map (fn (r : text * (text * num)) => let (a, b) = r in let (c, d) = b in d) people)\n\
         askpart census area Z 0.000001 size people\naskpart census area A 1 size people\nask census 0.000001 1\nleft census\n",
@@ -80,7 +76,7 @@ const CASES: [(&[u8], [Run; 2]); 5] = [
         left 1000000 1000000 8\n"), NOTHING]),
     // words that are missing, names that are unknown, in the line's order, and then the epsilon and the analyst; of a part its
     // partition's table alone can be named
-    (b"1000000", [(
+    (b"1000000", &[(
         b"askpart\naskpart census\naskpart census area\naskpart census area A\naskpart census area A 1\n\
         askpart nobody area A 1 x\naskpart census nowhere A 1 x\naskpart census area C 1 x\naskpart nobody nowhere C 0 x\n\
         askpart census nowhere C 0 x\naskpart census area x 0 x\naskpart census team A 0 x\naskpart census area A 0 x\n\
@@ -90,7 +86,7 @@ const CASES: [(&[u8], [Run; 2]); 5] = [
         no 14\nhello ann\nno 30 unbound 5 11\nno 30 unbound 5 11\nno 21 0\nno 10 1\nno 10 2\nleft 0 1000000 0\n"), NOTHING]),
     // What was asked of parts is there in the next run: 500000 of A and 250000 of y; B is beside A up to 500000, and 250000 more of
     // it use up the budget
-    (b"1000000", [(
+    (b"1000000", &[(
         b"hello ann\naskpart census area A 0.5 size people\nhello bob\naskpart census team y 0.25 size people\nrecall census 0\n\
         recall census 1\n",
         b"hello ann\nanswer 0 6 500000\nhello bob\nanswer 1 9 250000\nno 61 0 4\nrecall 1 answer 9 4\n"), (
@@ -100,58 +96,64 @@ const CASES: [(&[u8], [Run; 2]); 5] = [
         no 40 1000000 1000001 1000000 8\nrecall 2 answer 2 8\nleft 1000000 1000000 8\n")]),
 ];
 
-#[test]
-fn parts(rt: HostRuntime) -> Result<(), Fail> {
-    let alloc = rt.alloc();
-    for (budget, runs) in CASES {
-        let catalog = catalog(alloc, budget, TOWNS)?;
-        let held = [
-            file("cat.json", &catalog),
-            file("people.csv", PEOPLE),
-            file("visits.csv", VISITS),
-            file("key", &KEY),
-        ];
-        let mut journals = empty_journals(alloc)?;
-        journals.ran(alloc, &["init", "cat.json", "key"], &held, b"")?;
-        for (script, wanted) in runs {
-            let (status, out) = journals.ran(alloc, &["run", "cat.json", "key"], &held, script)?;
-            assert_eq!(rt; status, Status::Done, "{script:?}");
-            assert!(rt; out.as_slice() == wanted, "{script:?}: {out:?}");
-        }
-    }
-    Ok(())
-}
-
-// The first and the last of 250 keys, two without rows, and one that is none: all keys of a partition cost together what the dearest does.
-#[test]
-fn many_parts(rt: HostRuntime) -> Result<(), Fail> {
-    let alloc = rt.alloc();
-    let mut keys = String::from_str(alloc, "\"k0\"")?;
-    for key in 1..250_u32 {
-        write!(keys, ",\"k{key}\"")?;
-    }
-    let catalog = catalog(alloc, b"1000000", keys.as_bytes())?;
+// Whether runs that follow one another on one journal write what is wanted, under the catalog with this budget and these towns.
+fn are_charged(
+    alloc: Global,
+    budget: &[u8],
+    towns: &[u8],
+    people: &[u8],
+    runs: &[Run],
+) -> Result<bool, AllocError> {
+    let catalog = catalog(alloc, budget, towns)?;
     let held = [
         file("cat.json", &catalog),
-        file(
-            "people.csv",
-            b"town,team,age\nk0,x,20\nk249,y,30\nk249,y,40\nk250,x,50\n",
-        ),
+        file("people.csv", people),
         file("visits.csv", VISITS),
         file("key", &KEY),
     ];
     let mut journals = empty_journals(alloc)?;
-    journals.ran(alloc, &["init", "cat.json", "key"], &held, b"")?;
-    let script =
-        b"hello ann\naskpart census area k0 0.5 size people\naskpart census area k249 0.5 size people\n\
-        askpart census area k100 0.5 size people\naskpart census area k250 0.5 size people\naskpart census area k249 0.25 size people\n\
-        askpart census area k248 0.75 size people\nleft census\n";
-    let (status, out) = journals.ran(alloc, &["run", "cat.json", "key"], &held, script)?;
-    assert_eq!(rt; status, Status::Done);
-    assert!(rt;
-        out.as_slice()
-            == b"hello ann\nanswer 0 5 500000\nanswer 1 3 0\nanswer 2 0 0\nno 12 3\nanswer 3 -12 250000\nanswer 4 0 0\nleft 750000 1000000 10\n".as_slice(),
-        "{out:?}"
-    );
+    journals.ran(alloc, INIT, &held, b"")?;
+    for (script, wanted) in runs {
+        let (status, out) = journals.ran(alloc, RUN, &held, script)?;
+        if status != Status::Done || out.as_slice() != *wanted {
+            return Ok(false);
+        }
+    }
+    Ok(true)
+}
+
+#[test]
+fn parts(rt: HostRuntime) -> Result<(), Fail> {
+    for (budget, runs) in &CASES {
+        let charged = are_charged(rt.alloc(), budget, TOWNS, PEOPLE, runs)?;
+        assert!(rt; charged, "{runs:?}");
+    }
+    Ok(())
+}
+
+// The keys k0 to k249, as JSON.
+fn many_keys(alloc: Global) -> Result<String, AllocError> {
+    let mut keys = String::from_str(alloc, "\"k0\"")?;
+    for key in 1..250_u32 {
+        write!(keys, ",\"k{key}\"")?;
+    }
+    Ok(keys)
+}
+
+const MANY: &[u8] = b"town,team,age\nk0,x,20\nk249,y,30\nk249,y,40\nk250,x,50\n";
+
+// The first and the last of 250 keys, two without rows, and one that is none: all keys of a partition cost together what the dearest does.
+#[rattlefmt::skip]
+static OF_MANY: [Run; 1] = [(
+    b"hello ann\naskpart census area k0 0.5 size people\naskpart census area k249 0.5 size people\n\
+    askpart census area k100 0.5 size people\naskpart census area k250 0.5 size people\naskpart census area k249 0.25 size people\n\
+    askpart census area k248 0.75 size people\nleft census\n",
+    b"hello ann\nanswer 0 5 500000\nanswer 1 3 0\nanswer 2 0 0\nno 12 3\nanswer 3 -12 250000\nanswer 4 0 0\nleft 750000 1000000 10\n"),
+];
+
+#[test]
+fn many_parts(rt: HostRuntime) -> Result<(), Fail> {
+    let keys = many_keys(rt.alloc())?;
+    assert!(rt; are_charged(rt.alloc(), b"1000000", keys.as_bytes(), MANY, &OF_MANY)?);
     Ok(())
 }
