@@ -1,5 +1,6 @@
 //! The calls at worked tables, bags and values.
 ghost use Rattle.std.specs.Prelude.{◌≡◌, ◌<◌, IfOk};
+ghost use Rattle.fz_ast.specs.Limits.{IsNumber};
 ghost use Rattle.fz_ast.specs.Types.{BangT, NumT};
 ghost use Rattle.fz_frac.specs.Distance.{Fin};
 
@@ -51,9 +52,9 @@ fn numbers_apart(alloc: Global, left: &[i64], right: &[i64]) -> Option<(u64, u64
 
 #[test]
 fn tables_of_numbers(rt: HostRuntime) {
-    for (left, right, apart) in WORKED {
+    for (left, right, apart) in &WORKED {
         let found = numbers_apart(rt.alloc(), left, right);
-        assert!(rt; found == Some((apart, apart)), "{left:?} {right:?}");
+        assert!(rt; found == Some((*apart, *apart)));
     }
 }
 
@@ -100,16 +101,20 @@ fn scaled_number(alloc: Global, factor: u32) -> Result<Ty, NoMemory>
     Ok(Ty::new(types, root))
 }
 
-// 454279 times 20303320287433 is 2^63 - 1.
-#[test]
-fn values(rt: HostRuntime) -> Result<(), Fail> {
-    let alloc = rt.alloc();
+// How far a number is from 0 at a type that counts it 454279 times.
+fn from_zero(alloc: Global, number: i64) -> Result<Dist, DistFault>
+    requires { IsNumber number }
+{
     let ty = scaled_number(alloc, 454279)?;
     let zero = Value::bang(alloc, Value::num(0))?;
-    let most = Value::bang(alloc, Value::num(20303320287433))?;
-    let over = Value::bang(alloc, Value::num(20303320287434))?;
+    let value = Value::bang(alloc, Value::num(number))?;
+    distance(alloc, &ty, &value, &zero)
+}
+
+// 454279 times 20303320287433 is 2^63 - 1.
+#[test]
+fn values(rt: HostRuntime) {
     let greatest = Dist::whole((1 << 63) - 1).ok_or(DistFault::Range);
-    assert!(rt; distance(alloc, &ty, &most, &zero) == greatest);
-    assert!(rt; distance(alloc, &ty, &over, &zero) == Err(DistFault::Range));
-    Ok(())
+    assert!(rt; from_zero(rt.alloc(), 20303320287433) == greatest);
+    assert!(rt; from_zero(rt.alloc(), 20303320287434) == Err(DistFault::Range));
 }

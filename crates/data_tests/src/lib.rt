@@ -1,8 +1,10 @@
-//! Tests of tables from CSV, of bags, of distances, and of request and reply lines.
+//! Tests of tables in memory and from CSV, of bags, of distances, and of request and reply lines.
 #![tactic(auto)]
 
 #[cfg(test)]
 mod bags;
+#[cfg(test)]
+mod columns;
 #[cfg(test)]
 mod csv_tables;
 #[cfg(test)]

@@ -5,7 +5,10 @@ use linear_types::{Env, EnvFault, places};
 use std::alloc::Global;
 use std::test::Fail;
 
-fn part(p: u64, q: u64) -> Sens {
+// A fraction, 1/0 being infinity.
+type Part = (u64, u64);
+
+fn part((p, q): Part) -> Sens {
     if q == 0 {
         return Sens::Inf;
     }
@@ -28,7 +31,7 @@ fn by_name(alloc: Global, a: Sens, b: Sens) -> Result<[Sens; 3], EnvFault> {
     let right = one_name(alloc, name, b)?;
     let sum = left.plus(&right)?.amount(b"x");
     let greater = left.join(&right)?.amount(b"x");
-    let product = left.scale(part(3, 2))?.amount(b"x");
+    let product = left.scale(part((3, 2)))?.amount(b"x");
     Ok([sum, greater, product])
 }
 
@@ -44,38 +47,38 @@ fn by_place(alloc: Global, a: Sens, b: Sens) -> Result<[Sens; 3], EnvFault> {
     let shorter = &other[..end];
     let sums = places::sum(alloc, &longer, shorter)?;
     let greatest = places::joined(alloc, shorter, &longer)?;
-    let products = places::scaled(alloc, part(3, 2), &longer)?;
+    let products = places::scaled(alloc, part((3, 2)), &longer)?;
     Ok([second(&sums), second(&greatest), second(&products)])
+}
+
+// Two fractions, their sum and the greater, and three halves of the first.
+const ROWS: [[Part; 5]; 4] = [
+    [(1, 2), (1, 3), (5, 6), (1, 2), (3, 4)],
+    [(0, 1), (2, 3), (2, 3), (2, 3), (0, 1)],
+    [(1, 0), (1, 1), (1, 0), (1, 0), (1, 0)],
+    [(2, 1), (0, 1), (2, 1), (2, 1), (3, 1)],
+];
+
+fn holds(alloc: Global, [a, b, sum, greater, product]: [Part; 5]) -> Result<bool, EnvFault> {
+    let (a, b) = (part(a), part(b));
+    let answers = [part(sum), part(greater), part(product)];
+    Ok(by_name(alloc, a, b)? == answers && by_place(alloc, a, b)? == answers)
 }
 
 #[test]
 fn worked_by_hand(rt: HostRuntime) -> Result<(), Fail> {
-    // two fractions, 1/0 being infinity, their sum and the greater, and three halves of the first
-    let rows = [
-        [(1, 2), (1, 3), (5, 6), (1, 2), (3, 4)],
-        [(0, 1), (2, 3), (2, 3), (2, 3), (0, 1)],
-        [(1, 0), (1, 1), (1, 0), (1, 0), (1, 0)],
-        [(2, 1), (0, 1), (2, 1), (2, 1), (3, 1)],
-    ];
-    for [a, b, sum, greater, product] in rows {
-        let (a, b) = (part(a.0, a.1), part(b.0, b.1));
-        let answers = [
-            part(sum.0, sum.1),
-            part(greater.0, greater.1),
-            part(product.0, product.1),
-        ];
-        assert!(rt; by_name(rt.alloc(), a, b)? == answers);
-        assert!(rt; by_place(rt.alloc(), a, b)? == answers);
+    for row in &ROWS {
+        assert!(rt; holds(rt.alloc(), *row)?);
     }
     Ok(())
 }
 
 #[test]
 fn a_name_is_taken(rt: HostRuntime) -> Result<(), Fail> {
-    let mut env = one_name(rt.alloc(), Name::new(b"x"), part(4294967295, 1))?;
+    let mut env = one_name(rt.alloc(), Name::new(b"x"), part((4294967295, 1)))?;
     assert!(rt; env.plus(&env).err() == Some(EnvFault::Range));
     assert!(rt; env.take("y") == Sens::whole(0));
-    assert!(rt; env.take("x") == part(4294967295, 1));
+    assert!(rt; env.take("x") == part((4294967295, 1)));
     assert!(rt; env.is_empty());
     Ok(())
 }

@@ -1,10 +1,8 @@
-//! Tests of the language: fractions, trees, tokens, terms, environments, tables, the checker and runs without data.
+//! Tests of the language: fractions, trees, tokens, terms, environments, the checker and runs without data.
 #![tactic(auto)]
 
 #[cfg(test)]
 mod checks;
-#[cfg(test)]
-mod columns;
 #[cfg(test)]
 mod environments;
 #[cfg(test)]

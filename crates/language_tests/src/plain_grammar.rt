@@ -197,16 +197,21 @@ fn all_agree(alloc: Global, alphabet: &[u8], length: usize, count: usize) -> boo
     true
 }
 
+// Whether they do on all texts of up to this length.
+fn agree_on(alloc: Global, alphabet: &[u8], longest: usize) -> bool {
+    let mut count = 1;
+    for length in 0..longest.saturating_add(1) {
+        if !all_agree(alloc, alphabet, length, count) {
+            return false;
+        }
+        count = alphabet.len().saturating_mul(count);
+    }
+    true
+}
+
 #[test]
 fn every_text_of_six_tokens(rt: HostRuntime) {
     for (alphabet, longest) in &ALPHABETS {
-        let mut count = 1;
-        for length in 0..longest.saturating_add(1) {
-            assert!(rt;
-                all_agree(rt.alloc(), alphabet, length, count),
-                "{length} of {alphabet:?}"
-            );
-            count = alphabet.len().saturating_mul(count);
-        }
+        assert!(rt; agree_on(rt.alloc(), alphabet, *longest));
     }
 }

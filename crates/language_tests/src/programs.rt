@@ -24,6 +24,15 @@ pub(crate) fn joined(alloc: Global, pieces: &[Piece]) -> Result<Vec<u8>, AllocEr
     Ok(text)
 }
 
+/// Each byte as the letter of its number.
+pub(crate) fn letters(alloc: Global, bytes: &[u8]) -> Result<String, AllocError> {
+    let mut text = String::new(alloc);
+    for b in bytes {
+        text.push(*b as char)?;
+    }
+    Ok(text)
+}
+
 /// What a program is read as.
 pub(crate) fn term_of(alloc: Global, program: &[u8]) -> Option<Term> {
     let tokens = lex(alloc, program).ok()?;

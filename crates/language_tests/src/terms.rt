@@ -1,5 +1,5 @@
 //! Readings by hand, and a plain reader compared with the parser.
-use crate::programs::{Piece, joined};
+use crate::programs::{Piece, joined, letters};
 use fz_ast::{Form, Name, Node, Span, Term, TypeForm, Types};
 use fz_frac::Sens;
 use fz_lexer::lex;
@@ -70,14 +70,6 @@ fn at(texts: &[String], i: u32) -> &str {
     } else {
         "?"
     }
-}
-
-fn letters(alloc: Global, bytes: &[u8]) -> Result<String, AllocError> {
-    let mut text = String::new(alloc);
-    for b in bytes {
-        text.push(*b as char)?;
-    }
-    Ok(text)
 }
 
 fn type_text(alloc: Global, form: TypeForm, texts: &[String]) -> Result<String, AllocError> {

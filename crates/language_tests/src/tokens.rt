@@ -1,4 +1,5 @@
 //! Programs by hand, and a plain reader that tries each length.
+use crate::programs::letters;
 use fz_lexer::{Kind, LexFault, Token, lex};
 use std::alloc::{AllocError, Global};
 use std::test::Fail;
@@ -20,20 +21,18 @@ fn outcome(alloc: Global, bytes: &[u8]) -> Result<String, AllocError> {
 }
 
 fn show(alloc: Global, token: &Token) -> Result<String, AllocError> {
-    let span = token.span;
-    let (from, to) = (span.from, span.to);
-    match &token.kind {
-        Kind::Name(name) => {
-            let bytes = name.as_bytes();
-            format!(in alloc; "name{bytes:?}@{from}-{to} ")
-        }
-        Kind::Number(number) => format!(in alloc; "{number}@{from}-{to} "),
-        Kind::Text(inner) => {
-            let bytes = inner.as_bytes();
-            format!(in alloc; "text{bytes:?}@{from}-{to} ")
-        }
-        Kind::Reserved(word) => format!(in alloc; "{word:?}@{from}-{to} "),
-        Kind::Punctuation(sign) => format!(in alloc; "{sign:?}@{from}-{to} "),
+    let kind = kind_text(alloc, &token.kind)?;
+    let (from, to) = (token.span.from, token.span.to);
+    format!(in alloc; "{kind}@{from}-{to} ")
+}
+
+fn kind_text(alloc: Global, kind: &Kind) -> Result<String, AllocError> {
+    match kind {
+        Kind::Name(name) => format!(in alloc; "name {}", letters(alloc, name.as_bytes())?),
+        Kind::Number(number) => format!(in alloc; "{number}"),
+        Kind::Text(inner) => format!(in alloc; "text {}", letters(alloc, inner.as_bytes())?),
+        Kind::Reserved(word) => format!(in alloc; "{word:?}"),
+        Kind::Punctuation(sign) => format!(in alloc; "{sign:?}"),
     }
 }
 
@@ -42,33 +41,33 @@ fn show(alloc: Global, token: &Token) -> Result<String, AllocError> {
 const PROGRAMS: [(&[u8], &str); 30] = [
     (b"", ""),
     (b" \t\r\n", ""),
-    (b"size people", "Size@0-4 name[112, 101, 111, 112, 108, 101]@5-11 "),
+    (b"size people", "Size@0-4 name people@5-11 "),
     (b"size people $", "bad 12"),
     (b"\"", "bad 0"),
-    (b"\"a\"", "text[97]@0-3 "),
+    (b"\"a\"", "text a@0-3 "),
     (b"\"a", "bad 0"),
-    (b"\"\"\"\"", "text[]@0-2 text[]@2-4 "),
+    (b"\"\"\"\"", "text @0-2 text @2-4 "),
     (b"\"\x7f\"", "bad 0"),
-    (b"\"\x80\xff\"", "text[128, 255]@0-4 "),
+    (b"\"\x80\xff\"", "text \u{80}\u{ff}@0-4 "),
     (b"\0", "bad 0"),
     (b"1125899906842624", "1125899906842624@0-16 "),
     (b"1125899906842625", "bad 0"),
     (b"0000000000000000000000000000007", "7@0-31 "),
-    (b"1x", "1@0-1 name[120]@1-2 "),
-    (b"x1_", "name[120, 49, 95]@0-3 "),
+    (b"1x", "1@0-1 name x@1-2 "),
+    (b"x1_", "name x1_@0-3 "),
     (b"abcdefghijklmnopqrstuvwxyz0123456", "bad 0"),
-    (b"fun funx", "Fun@0-3 name[102, 117, 110, 120]@4-8 "),
+    (b"fun funx", "Fun@0-3 name funx@4-8 "),
     (b"do release at", "Do@0-2 Release@3-10 At@11-13 "),
-    (b"1 -one", "1@0-1 Minus@2-3 name[111, 110, 101]@3-6 "),
+    (b"1 -one", "1@0-1 Minus@2-3 name one@3-6 "),
     (b"1 -o 2", "1@0-1 Lollipop@2-4 2@5-6 "),
     (b"-o", "Lollipop@0-2 "),
-    (b"-o1", "Minus@0-1 name[111, 49]@1-3 "),
+    (b"-o1", "Minus@0-1 name o1@1-3 "),
     (b"->-=>===<=<-", "Arrow@0-2 Minus@2-3 Yields@3-5 EqualTo@5-7 Is@7-8 AtMost@8-10 LeftAngle@10-11 Minus@11-12 "),
     (b"()<>[],:=!|+-*&/", "LeftParenthesis@0-1 RightParenthesis@1-2 LeftAngle@2-3 RightAngle@3-4 LeftBracket@4-5 RightBracket@5-6 Comma@6-7 Colon@7-8 Is@8-9 Bang@9-10 Bar@10-11 Plus@11-12 Minus@12-13 Star@13-14 Ampersand@14-15 Slash@15-16 "),
     (b"fn let in case of inl inr if then else", "Fn@0-2 Let@3-6 In@7-9 Case@10-14 Of@15-17 Inl@18-21 Inr@22-25 If@26-28 Then@29-33 Else@34-38 "),
     (b"fst snd true false num text unit bool bag inf", "Fst@0-3 Snd@4-7 True@8-12 False@13-18 Num@19-22 Text@23-27 Unit@28-32 Bool@33-37 Bag@38-41 Inf@42-45 "),
     (b"size sum clip least greatest map filter split union", "Size@0-4 Sum@5-8 Clip@9-13 Least@14-19 Greatest@20-28 Map@29-32 Filter@33-39 Split@40-45 Union@46-51 "),
-    (b"Fun Size", "name[70, 117, 110]@0-3 name[83, 105, 122, 101]@4-8 "),
+    (b"Fun Size", "name Fun@0-3 name Size@4-8 "),
     (b"a;", "bad 1"),
 ];
 
@@ -81,37 +80,50 @@ fn programs(rt: HostRuntime) -> Result<(), Fail> {
     Ok(())
 }
 
+// A byte, how often it stands, and what comes of it.
+#[rattlefmt::skip]
+const REPEATED: [(u8, usize, &str); 9] = [
+    (b'(', 4097, "too many 4096"),
+    (b'(', 16000, "too many 4096"),
+    (b'\0', 16000, "bad 0"),
+    (b' ', 16000, ""),
+    (b' ', 16001, "bad 16000"),
+    (b'\0', 16001, "bad 16000"),
+    (b'$', 16000, "bad 0"),
+    (b'a', 33, "bad 0"),
+    (b'0', 16000, "0@0-16000 "),
+];
+
 #[test]
 fn limits(rt: HostRuntime) -> Result<(), Fail> {
-    // The byte, how often it stands, and what comes of it.
-    let table: [(u8, usize, &str); 9] = [
-        (b'(', 4097, "too many 4096"),
-        (b'(', 16000, "too many 4096"),
-        (b'\0', 16000, "bad 0"),
-        (b' ', 16000, ""),
-        (b' ', 16001, "bad 16000"),
-        (b'\0', 16001, "bad 16000"),
-        (b'$', 16000, "bad 0"),
-        (b'a', 33, "bad 0"),
-        (b'0', 16000, "0@0-16000 "),
-    ];
-    for (byte, count, wanted) in table {
-        let program = vec![in rt.alloc(); byte; count]?;
+    for (byte, count, wanted) in &REPEATED {
+        let program = vec![in rt.alloc(); *byte; *count]?;
         let found = outcome(rt.alloc(), &program)?;
-        assert!(rt; found.as_str() == wanted, "{found}");
+        assert!(rt; found.as_str() == *wanted, "{found}");
     }
-    for (byte, count) in [(b'(', 4096), (b'a', 32)] {
-        let program = vec![in rt.alloc(); byte; count]?;
-        let found = lex(rt.alloc(), &program).is_ok();
-        assert!(rt; found);
-    }
-    for (count, wanted) in [(64, true), (65, false)] {
-        let mut program = Vec::new(rt.alloc());
-        program.push(b'"')?;
-        program.extend_from_slice(&vec![in rt.alloc(); b'x'; count]?)?;
-        program.push(b'"')?;
-        let found = lex(rt.alloc(), &program).is_ok();
-        assert!(rt; found == wanted);
+    Ok(())
+}
+
+// What stands at both ends, a byte between, how often it does, and whether they are tokens.
+const LONGEST: [(&[u8], u8, usize, bool); 4] = [
+    (b"", b'(', 4096, true),
+    (b"", b'a', 32, true),
+    (b"\"", b'x', 64, true),
+    (b"\"", b'x', 65, false),
+];
+
+fn repeated(alloc: Global, end: &[u8], byte: u8, count: usize) -> Result<Vec<u8>, AllocError> {
+    let mut program = Vec::from_slice(alloc, end)?;
+    program.extend_from_slice(&vec![in alloc; byte; count]?)?;
+    program.extend_from_slice(end)?;
+    Ok(program)
+}
+
+#[test]
+fn longest_tokens(rt: HostRuntime) -> Result<(), Fail> {
+    for (end, byte, count, are_tokens) in &LONGEST {
+        let program = repeated(rt.alloc(), end, *byte, *count)?;
+        assert!(rt; lex(rt.alloc(), &program).is_ok() == *are_tokens);
     }
     Ok(())
 }
@@ -244,10 +256,7 @@ fn has_span(lexed: &Result<Vec<Token>, LexFault>, i: usize, from: usize, to: usi
     }
 }
 
-const ALPHABETS: [[u8; 5]; 2] = [
-    [b'-', b'o', b'>', b'"', b'1'],
-    [b'=', b'<', b'>', b' ', b'_'],
-];
+const ALPHABETS: [&[u8; 5]; 2] = [b"-o>\"1", b"=<> _"];
 
 // The text of this number among all texts of this length.
 fn text_of(alloc: Global, alphabet: &[u8; 5], length: usize, number: u32) -> Option<Vec<u8>> {
@@ -271,16 +280,21 @@ fn all_agree(alloc: Global, alphabet: &[u8; 5], length: usize, count: u32) -> bo
     true
 }
 
+// Whether they do on all texts of up to six bytes.
+fn agree_on(alloc: Global, alphabet: &[u8; 5]) -> bool {
+    let mut count = 1;
+    for length in 0..7usize {
+        if !all_agree(alloc, alphabet, length, count) {
+            return false;
+        }
+        count = count.saturating_mul(5);
+    }
+    true
+}
+
 #[test]
 fn every_text_of_six_bytes(rt: HostRuntime) {
-    for alphabet in ALPHABETS {
-        let mut count = 1u32;
-        for length in 0..7usize {
-            assert!(rt;
-                all_agree(rt.alloc(), &alphabet, length, count),
-                "{length} bytes"
-            );
-            count = count.saturating_mul(5);
-        }
+    for alphabet in &ALPHABETS {
+        assert!(rt; agree_on(rt.alloc(), alphabet));
     }
 }

@@ -1,7 +1,7 @@
 //! Terms, types and signatures.
 use fz_ast::{
-    Arrow, Column, Form, Name, NoMemory, Nodes, Sig, Span, Term, TypeForm, Unary, is_flat,
-    is_ground, row_type, same_type, well_formed,
+    Arrow, Column, Form, Name, NoMemory, Node, Nodes, Sig, Span, Term, Ty, TypeForm, Unary,
+    is_flat, is_ground, row_type, same_type, well_formed,
 };
 use fz_frac::Sens;
 use std::alloc::Global;
@@ -26,33 +26,54 @@ fn counter(alloc: Global) -> Result<Term, NoMemory> {
     Ok(Term::new(nodes, root))
 }
 
+// Whether a node is the function above: its name, its end, and that its type is ground and not flat.
+fn is_counter(nodes: &Nodes, node: &Node) -> bool {
+    match node.form {
+        Form::Lambda(Arrow::Fun, name, _, ty, _) if (ty as usize) < nodes.types().len() => {
+            let types = nodes.types();
+            let kinds = (types.is_ground(ty), types.is_flat(ty));
+            kinds == (true, false) && name.as_bytes() == b"x".as_slice() && node.span.to == 37
+        }
+        _ => false,
+    }
+}
+
 #[test]
 fn terms(rt: HostRuntime) -> Result<(), Fail> {
     let term = counter(rt.alloc())?.copy()?;
     let (nodes, root) = term.parts();
     assert!(rt; nodes.depth(root) == 4);
-    let node = nodes.node(root);
-    assert!(rt; node.span.to == 37);
-    if let Form::Lambda(Arrow::Fun, name, _, ty, _) = &node.form {
-        assert!(rt; name.as_bytes() == b"x".as_slice());
-        assert!(rt; nodes.types().is_ground(*ty));
-        assert!(rt; !nodes.types().is_flat(*ty));
-    }
+    assert!(rt; is_counter(nodes, nodes.node(root)));
     Ok(())
+}
+
+// Whether a row is flat and well formed, and another the same.
+fn are_same_and_flat(row: &Ty, again: &Ty) -> bool {
+    same_type(row, again) && is_flat(row) && well_formed(row)
 }
 
 #[test]
 fn types(rt: HostRuntime) -> Result<(), Fail> {
     let row = row_type(rt.alloc(), &[Column::Num, Column::Text])?;
-    let again = row.copy()?;
-    assert!(rt; same_type(&row, &again));
-    assert!(rt; is_flat(&row) && well_formed(&row));
-    let mut sig = Sig::new(rt.alloc());
+    assert!(rt; are_same_and_flat(&row, &row.copy()?));
+    Ok(())
+}
+
+// Whether a signature has a table of this name alone, whose rows are ground.
+fn is_of(sig: &Sig, name: &[u8]) -> bool {
+    if sig.len() != 1 {
+        return false;
+    }
+    sig.contains(name) && is_ground(&sig.table(0).row)
+}
+
+#[test]
+fn signatures(rt: HostRuntime) -> Result<(), Fail> {
+    let row = row_type(rt.alloc(), &[Column::Num, Column::Text])?;
     let name = Name::new(b"people");
+    let mut sig = Sig::new(rt.alloc());
     assert!(rt; !sig.contains(name.as_bytes()));
     sig.push(name, row)?;
-    assert!(rt; sig.contains(name.as_bytes()));
-    assert!(rt; sig.len() == 1);
-    assert!(rt; is_ground(&sig.table(0).row));
+    assert!(rt; is_of(&sig, b"people"));
     Ok(())
 }

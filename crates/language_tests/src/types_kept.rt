@@ -52,8 +52,8 @@ fn forms(rt: HostRuntime) -> Result<(), Fail> {
         (TypeForm::Bag(12), 13),
         (TypeForm::Tensor(1, 0), 14),
     ];
-    for (form, number) in rows {
-        assert!(rt; put(&mut arena, form)? == number);
+    for (form, number) in &rows {
+        assert!(rt; put(&mut arena, *form)? == *number);
     }
     assert!(rt; arena.len() == 15);
     Ok(())

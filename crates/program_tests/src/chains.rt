@@ -8,30 +8,33 @@ use std::alloc::{AllocError, Global};
 /// the name before.
 pub(crate) type Chain<'a> = (usize, &'a str, &'a str, &'a str, Wanted<'a>);
 
-// Puts a text at the end of a program, the name of this number standing for each `@`.
-fn push_text(program: &mut String, text: &str, number: usize) -> Result<(), AllocError> {
-    for character in text.chars() {
-        if character == '@' {
-            write!(program, "f{number}")?;
+// Puts a text at the end of a program, the name standing for each `@`.
+fn push_text(program: &mut Vec<u8>, text: &str, name: &str) -> Result<(), AllocError> {
+    for byte in text.as_bytes() {
+        if *byte == b'@' {
+            program.extend_from_slice(name.as_bytes())?;
         } else {
-            program.push(character)?;
+            program.push(*byte)?;
         }
     }
     Ok(())
 }
 
 /// `let f0 = FIRST in let f1 = LATER in .. LAST`.
-pub(crate) fn text_of(alloc: Global, chain: &Chain<'_>) -> Result<String, AllocError> {
+pub(crate) fn text_of(alloc: Global, chain: &Chain<'_>) -> Result<Vec<u8>, AllocError> {
     let (count, first, later, last, _) = chain;
-    let mut program = String::new(alloc);
+    let mut program = Vec::new(alloc);
+    let mut before = String::new(alloc);
     let mut text = first;
     for number in 0..*count {
-        write!(program, "let f{number} = ")?;
-        push_text(&mut program, text, number.saturating_sub(1))?;
-        program.push_str(" in ")?;
+        let name = format!(in alloc; "f{number}")?;
+        push_text(&mut program, "let @ = ", &name)?;
+        push_text(&mut program, text, &before)?;
+        program.extend_from_slice(b" in ")?;
+        before = name;
         text = later;
     }
-    push_text(&mut program, last, count.saturating_sub(1))?;
+    push_text(&mut program, last, &before)?;
     Ok(program)
 }
 

@@ -1,7 +1,9 @@
 //! Two datasets, by the command `gap`.
 
+use fz_outside::files::MemFile;
 use memory_runs::{AGE, CATALOG, TableText, census_with, ended, file};
 use query_server::Status;
+use std::alloc::{AllocError, Global};
 use std::test::Fail;
 
 const WORDS: [&str; 5] = ["gap", "first.json", "census", "second.json", "program"];
@@ -11,8 +13,10 @@ const TWO: &[u8] = b"age\n2\n3\n";
 const THREE: &[u8] = b"age\n1\n2\n2\n";
 
 // Two tables, a program, and its four lines or the line that refuses it.
+type GapRow<'a> = (&'a [u8], &'a [u8], &'a [u8], &'a [u8]);
+
 #[rattlefmt::skip]
-const GAPS: [(&[u8], &[u8], &[u8], &[u8]); 10] = [
+const GAPS: [GapRow<'static>; 10] = [
     // 2 is paired off: 3 is left of one, 1 and 2 of the other
     (TWO, THREE, b"size people", b"distance 3\nsensitivity 1\nvalues 2 3\ngap 1\n"),
     (THREE, TWO, b"size people", b"distance 3\nsensitivity 1\nvalues 3 2\ngap 1\n"),
@@ -30,26 +34,41 @@ const GAPS: [(&[u8], &[u8], &[u8], &[u8]); 10] = [
     (TWO, THREE, b"if size people <= 3 then 0 else 100", b"no 33 people\n"),
 ];
 
+// Whether `gap` over these files ends so and writes this.
+fn ends(
+    alloc: Global,
+    held: &[MemFile<'_>],
+    status: Status,
+    wanted: &[u8],
+) -> Result<bool, AllocError> {
+    let (end, out) = ended(alloc, &WORDS, held, b"hello ann\n")?;
+    Ok(end == status && out.as_slice() == wanted)
+}
+
+// Whether `gap` says of two tables and a program what is wanted.
+fn is_gap(alloc: Global, other: &[u8], row: &GapRow<'_>) -> Result<bool, AllocError> {
+    let (first, second, program, wanted) = *row;
+    let held = [
+        file("first.json", CATALOG),
+        file("people.csv", first),
+        file("second.json", other),
+        file("second.csv", second),
+        file("program", program),
+    ];
+    let due = if wanted.starts_with(b"no ") {
+        Status::ProgramRefused
+    } else {
+        Status::Done
+    };
+    ends(alloc, &held, due, wanted)
+}
+
 #[test]
 fn each_gap(rt: HostRuntime) -> Result<(), Fail> {
     let alloc = rt.alloc();
     let other = census_with(alloc, &[("people", "second.csv", AGE)])?;
-    for (first, second, program, wanted) in GAPS {
-        let held = [
-            file("first.json", CATALOG),
-            file("people.csv", first),
-            file("second.json", other.as_bytes()),
-            file("second.csv", second),
-            file("program", program),
-        ];
-        let (status, out) = ended(alloc, &WORDS, &held, b"hello ann\n")?;
-        let due = if wanted.starts_with(b"no ") {
-            Status::ProgramRefused
-        } else {
-            Status::Done
-        };
-        assert_eq!(rt; status, due, "{program:?}");
-        assert_eq!(rt; out.as_slice(), wanted, "{program:?}");
+    for row in &GAPS {
+        assert!(rt; is_gap(alloc, other.as_bytes(), row)?);
     }
     Ok(())
 }
@@ -68,28 +87,35 @@ const FITS: [(&[TableText<'static>], bool); 9] = [
     (&[("people", "n", AGE), ("wards", "n", "{\"name\":\"age\",\"type\":\"num\"},{\"name\":\"town\",\"type\":\"text\"}")], false),
 ];
 
+// Whether an entry with these tables is told to fit, or not to, the one of the first catalog.
+fn is_told(
+    alloc: Global,
+    first: &[u8],
+    tables: &[TableText<'_>],
+    fits: bool,
+) -> Result<bool, AllocError> {
+    let second = census_with(alloc, tables)?;
+    let held = [
+        file("first.json", first),
+        file("second.json", second.as_bytes()),
+        file("n", b"age\n1\n2\n"),
+        file("more", b"age\n1\n2\n3\n"),
+        file("none", b"age\n"),
+        file("program", b"size people + 2 * size wards"),
+    ];
+    let (status, out) = ended(alloc, &WORDS, &held, b"")?;
+    let is_done = status == Status::Done;
+    let is_refused = out.as_slice() == b"refused census\n".as_slice();
+    Ok(is_done == fits && is_refused != fits)
+}
+
 // Entries fit where they have the same tables in the same order, with the same columns; the names of files are free.
 #[test]
 fn entries_fit(rt: HostRuntime) -> Result<(), Fail> {
     let alloc = rt.alloc();
     let first = census_with(alloc, FITS[0].0)?;
-    for (tables, fits) in FITS {
-        let second = census_with(alloc, tables)?;
-        let held = [
-            file("first.json", first.as_bytes()),
-            file("second.json", second.as_bytes()),
-            file("n", b"age\n1\n2\n"),
-            file("more", b"age\n1\n2\n3\n"),
-            file("none", b"age\n"),
-            file("program", b"size people + 2 * size wards"),
-        ];
-        let (status, out) = ended(alloc, &WORDS, &held, b"")?;
-        assert_eq!(rt; status == Status::Done, fits, "{tables:?}");
-        assert_eq!(rt;
-            out.as_slice() == b"refused census\n".as_slice(),
-            !fits,
-            "{tables:?}"
-        );
+    for (tables, fits) in &FITS {
+        assert!(rt; is_told(alloc, first.as_bytes(), tables, *fits)?);
     }
     Ok(())
 }

@@ -1,6 +1,6 @@
 //! Programs, by the command `check` and by `ask`.
 
-use crate::wanted::{EPSILON, House, Row, Wanted};
+use crate::wanted::{ASK, House, Row, Wanted};
 use crate::{chains, close_rules, columns, limits, rules};
 use fz_outside::files::MemFile;
 use memory_runs::{CATALOG, KEY, TABLE, ended, file, joined};
@@ -13,43 +13,58 @@ const PEOPLE: House<'static> = House {
     stays: b"",
 };
 
-// The files of a house, a program and a key.
-fn files_of<'a>(house: &House<'a>, program: &'a [u8]) -> [MemFile<'a>; 5] {
-    [
-        file("cat.json", house.catalog),
-        file("people.csv", house.people),
-        file("stays.csv", house.stays),
-        file("program", program),
-        file("key", &KEY),
-    ]
+// Whether `check` says of the program in these files what is wanted.
+fn is_checked(
+    alloc: Global,
+    held: &[MemFile<'_>],
+    wanted: &Wanted<'_>,
+) -> Result<bool, AllocError> {
+    let words = ["check", "cat.json", "census", "program"];
+    let (status, line) = ended(alloc, &words, held, b"hello ann\n")?;
+    let due = wanted.checked(alloc)?;
+    Ok(status == wanted.status() && line.as_slice() == due.as_bytes())
 }
 
-// Whether `check` and `ask` say of a program what is wanted.
+// Whether `ask` says of a program what is wanted.
+fn is_asked(
+    alloc: Global,
+    held: &[MemFile<'_>],
+    program: &[u8],
+    wanted: &Wanted<'_>,
+) -> Result<bool, AllocError> {
+    let script = joined(alloc, &[(ASK, 1), (program, 1), (b"\n", 1)])?;
+    let (_, reply) = ended(alloc, &["run", "cat.json", "key"], held, &script)?;
+    let due = wanted.asked(alloc)?;
+    Ok(reply.as_slice() == due.as_bytes())
+}
+
+// Whether both say of a program what is wanted.
 fn says(
     alloc: Global,
     house: &House<'_>,
     program: &[u8],
     wanted: &Wanted<'_>,
 ) -> Result<bool, AllocError> {
-    let held = files_of(house, program);
-    let words = ["check", "cat.json", "census", "program"];
-    let (status, line) = ended(alloc, &words, &held, b"hello ann\n")?;
-    let script = joined(
-        alloc,
-        &[
-            (b"hello ann\nask census ", 1),
-            (EPSILON, 1),
-            (b" ", 1),
-            (program, 1),
-            (b"\n", 1),
-        ],
-    )?;
-    let (_, reply) = ended(alloc, &["run", "cat.json", "key"], &held, &script)?;
-    Ok(
-        status == wanted.status()
-            && line.as_slice() == wanted.checked(alloc)?.as_bytes()
-            && reply.as_slice() == wanted.asked(alloc)?.as_bytes(),
-    )
+    let held = [
+        file("cat.json", house.catalog),
+        file("people.csv", house.people),
+        file("stays.csv", house.stays),
+        file("program", program),
+        file("key", &KEY),
+    ];
+    Ok(is_checked(alloc, &held, wanted)? && is_asked(alloc, &held, program, wanted)?)
+}
+
+// How many of the programs there are before the first of which something else is said.
+fn right_ones(alloc: Global, house: &House<'_>, rows: &[Row<'_>]) -> Result<usize, AllocError> {
+    let mut count = 0usize;
+    for (program, wanted) in rows {
+        if !says(alloc, house, program.as_bytes(), wanted)? {
+            break;
+        }
+        count = count.saturating_add(1);
+    }
+    Ok(count)
 }
 
 // The tables of programs, each over its house.
@@ -86,10 +101,10 @@ const PROGRAMS: [(&House<'static>, &[Row<'static>]); 22] = [
 
 #[test]
 fn each_program(rt: HostRuntime) -> Result<(), Fail> {
-    for (house, rows) in PROGRAMS {
-        for (program, wanted) in rows {
-            let said = says(rt.alloc(), house, program.as_bytes(), wanted)?;
-            assert!(rt; said, "{program}");
+    for (house, rows) in &PROGRAMS {
+        let right = right_ones(rt.alloc(), house, rows)?;
+        if let Some((program, _)) = rows.get(right) {
+            panic!(rt; "{program}");
         }
     }
     Ok(())
@@ -101,8 +116,7 @@ fn chains_of_names(rt: HostRuntime) -> Result<(), Fail> {
     let alloc = rt.alloc();
     for chain in &chains::CHAINS {
         let program = chains::text_of(alloc, chain)?;
-        let said = says(alloc, &PEOPLE, program.as_bytes(), &chain.4)?;
-        assert!(rt; said, "{program}");
+        assert!(rt; says(alloc, &PEOPLE, &program, &chain.4)?);
     }
     Ok(())
 }
@@ -113,8 +127,7 @@ fn long_programs(rt: HostRuntime) -> Result<(), Fail> {
     let alloc = rt.alloc();
     for (pieces, wanted) in &limits::LONG_PROGRAMS {
         let program = joined(alloc, pieces)?;
-        let said = says(alloc, &PEOPLE, &program, wanted)?;
-        assert!(rt; said, "{} bytes", program.len());
+        assert!(rt; says(alloc, &PEOPLE, &program, wanted)?);
     }
     Ok(())
 }

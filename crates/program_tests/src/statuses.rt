@@ -6,6 +6,7 @@ use fz_outside::source::{MemSource, Source};
 use memory_runs::journals::empty_journals;
 use memory_runs::{AGE, CATALOG, TABLE, TableText, census_with, ended, file, owner_text, words_of};
 use query_server::Status;
+use std::alloc::{AllocError, Global};
 use std::test::Fail;
 
 // A table of one column of numbers, in a file whose cells are none.
@@ -14,8 +15,10 @@ const BAD: TableText<'static> = ("people", "bad.csv", AGE);
 // Words, the file of the table of `cat.json`, how the command ends, and what it writes. The table of `bad.json` is none, and
 // `other.json` has another owner. Words are looked at first, then catalogs and owner, then tables, and then the program's file;
 // for `gap` the program's file stands behind both tables.
+type StatusRow<'a> = (&'a [&'a str], &'a [u8], Status, &'a [u8]);
+
 #[rattlefmt::skip]
-const STATUSES: [(&[&str], &[u8], Status, &[u8]); 35] = [
+const STATUSES: [StatusRow<'static>; 35] = [
     (&[], TABLE, Status::Usage, b"usage\n"),
     (&["help"], TABLE, Status::Usage, b"usage\n"),
     (&["--help"], TABLE, Status::Usage, b"usage\n"),
@@ -53,50 +56,61 @@ const STATUSES: [(&[&str], &[u8], Status, &[u8]); 35] = [
     (&["gap", "cat.json", "census", "cat.json", "program"], TABLE, Status::Done, b"distance 0\nsensitivity 1\nvalues 3 3\ngap 0\n"),
 ];
 
+// Whether a command ends so and writes this. `bad` and `other` are catalogs.
+fn ends(alloc: Global, bad: &[u8], other: &[u8], row: &StatusRow<'_>) -> Result<bool, AllocError> {
+    let (words, table, status, wanted) = *row;
+    let held = [
+        file("cat.json", CATALOG),
+        file("people.csv", table),
+        file("bad.json", bad),
+        file("bad.csv", b"age\nx\n"),
+        file("other.json", other),
+        file("program", b"size people"),
+    ];
+    let (end, out) = ended(alloc, words, &held, b"hello ann\n")?;
+    Ok(end == status && out.as_slice() == wanted)
+}
+
+// The catalog of an owner with another name.
+fn other_catalog(alloc: Global) -> Result<String, AllocError> {
+    let owner = owner_text(alloc, "other", 1, 2, &[("people", "none", AGE)])?;
+    format!(in alloc; "{{\"analysts\":[\"ann\"],\"owners\":[{owner}]}}")
+}
+
 #[test]
 fn statuses(rt: HostRuntime) -> Result<(), Fail> {
     let alloc = rt.alloc();
     let bad = census_with(alloc, &[BAD])?;
-    let owner = owner_text(alloc, "other", 1, 2, &[("people", "none", AGE)])?;
-    let other = format!(in alloc; "{{\"analysts\":[\"ann\"],\"owners\":[{owner}]}}")?;
-    for (words, table, status, wanted) in STATUSES {
-        let held = [
-            file("cat.json", CATALOG),
-            file("people.csv", table),
-            file("bad.json", bad.as_bytes()),
-            file("bad.csv", b"age\nx\n"),
-            file("other.json", other.as_bytes()),
-            file("program", b"size people"),
-        ];
-        let (end, out) = ended(alloc, words, &held, b"hello ann\n")?;
-        assert_eq!(rt; end, status, "{words:?}");
-        assert_eq!(rt; out.as_slice(), wanted, "{words:?}");
+    let other = other_catalog(alloc)?;
+    for row in &STATUSES {
+        assert!(rt; ends(alloc, bad.as_bytes(), other.as_bytes(), row)?);
     }
     Ok(())
 }
 
-// Nothing is taken of the source.
-#[test]
-fn sources_are_left(rt: HostRuntime) -> Result<(), Fail> {
-    let alloc = rt.alloc();
+// Whether a command is done and leaves all ten bytes of its source.
+fn leaves_source(alloc: Global, texts: &[&str]) -> Result<bool, AllocError> {
     let held = [
         file("cat.json", CATALOG),
         file("people.csv", TABLE),
         file("program", b"size people\n"),
     ];
-    for texts in [
-        ["check", "cat.json", "census", "program"].as_slice(),
-        &["gap", "cat.json", "census", "cat.json", "program"],
-    ] {
-        let words = words_of(alloc, texts)?;
-        let mut files = MemFiles::new(&held);
-        let mut source = MemSource::new(b"hello ann\n");
-        let mut sink = MemSink::<64>::new(alloc)?;
-        let mut journals = empty_journals(alloc)?;
-        let status = journals.ran_over(alloc, &words, &mut files, &mut source, &mut sink);
-        assert_eq!(rt; status, Status::Done, "{texts:?}");
-        let mut left = [0; 16];
-        assert_eq!(rt; source.read(&mut left), Ok(10), "{texts:?}");
-    }
+    let words = words_of(alloc, texts)?;
+    let mut files = MemFiles::new(&held);
+    let mut source = MemSource::new(b"hello ann\n");
+    let mut sink = MemSink::<64>::new(alloc)?;
+    let mut journals = empty_journals(alloc)?;
+    let status = journals.ran_over(alloc, &words, &mut files, &mut source, &mut sink);
+    let mut left = [0; 16];
+    Ok(status == Status::Done && source.read(&mut left) == Ok(10))
+}
+
+// Nothing is taken of the source.
+#[test]
+fn sources_are_left(rt: HostRuntime) -> Result<(), Fail> {
+    let check = ["check", "cat.json", "census", "program"];
+    assert!(rt; leaves_source(rt.alloc(), &check)?);
+    let gap = ["gap", "cat.json", "census", "cat.json", "program"];
+    assert!(rt; leaves_source(rt.alloc(), &gap)?);
     Ok(())
 }

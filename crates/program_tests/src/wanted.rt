@@ -24,8 +24,8 @@ pub(crate) struct House<'a> {
 /// A program, and what is wanted of it.
 pub(crate) type Row<'a> = (&'a str, Wanted<'a>);
 
-/// The epsilon at which programs are asked: a charge is the sensitivity, rounded up.
-pub(crate) const EPSILON: &[u8] = b"0.000001";
+/// What stands before a program that is asked. At this epsilon a charge is the sensitivity, rounded up.
+pub(crate) const ASK: &[u8] = b"hello ann\nask census 0.000001 ";
 
 // The noise of number 0 there, under a key of zeros.
 const NOISE: i64 = 2_219_830;
@@ -39,6 +39,12 @@ fn due(alloc: Global, value: i64, taken: u64) -> Result<String, AllocError> {
     }
     let noisy = value.saturating_add(NOISE);
     format!(in alloc; "hello ann\nanswer 0 {noisy} {taken}\n")
+}
+
+// The whole number that is no less than p/q.
+fn rounded_up(p: u64, q: u64) -> u64 {
+    let over = p.saturating_add(q).saturating_sub(1);
+    over.checked_div(q).unwrap_or(0)
 }
 
 impl Wanted<'_> {
@@ -63,16 +69,7 @@ impl Wanted<'_> {
     pub(crate) fn asked(&self, alloc: Global) -> Result<String, AllocError> {
         match self {
             Wanted::Whole(sensitivity, value) => due(alloc, *value, *sensitivity),
-            Wanted::Part(p, q, value) => {
-                due(
-                    alloc,
-                    *value,
-                    p.saturating_add(*q)
-                        .saturating_sub(1)
-                        .checked_div(*q)
-                        .unwrap_or(0),
-                )
-            }
+            Wanted::Part(p, q, value) => due(alloc, *value, rounded_up(*p, *q)),
             Wanted::Refused(words) => format!(in alloc; "hello ann\nno {words}\n"),
         }
     }
