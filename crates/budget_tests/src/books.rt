@@ -94,15 +94,34 @@ const GRANT: Grant = Grant {
     seen: 1,
 };
 
+/// A disk with a new journal of this capacity.
+fn made(alloc: Global, capacity: u32) -> Option<MemDisk<'static>> {
+    let mut disk = MemDisk::new(alloc, &[], LIMITS, &[]).ok()?;
+    Journal::init(&mut disk, &header_of(capacity)).ok()?;
+    Some(disk)
+}
+
 /// What is on the disk of a book that has stopped between a reservation and its settlement.
 fn stopped(alloc: Global) -> Option<Vec<u8>> {
-    let mut disk = MemDisk::new(alloc, &[], LIMITS, &[]).ok()?;
-    Journal::init(&mut disk, &header_of(100)).ok()?;
+    let disk = made(alloc, 100)?;
     let mut book = opened(alloc, disk, 100).ok()?;
     if ask(&mut book) != Ok(GRANT) || book.recall(0, 0) != (Recall::Open { seen: 1 }) {
         return None;
     }
     book.into_disk().bytes().to_vec(alloc).ok()
+}
+
+/// Whether the book tells that its one reservation was lost, and counts it.
+fn tells_a_loss<D: Disk>(book: &Book<D>) -> bool {
+    let left = Left {
+        spent: 1_000_000,
+        budget: 10_000_000,
+        seen: 1,
+    };
+    book.left() == left
+        && book.recall(0, 0) == (Recall::Lost { seen: 1 })
+        && book.recall(0, 1) == (Recall::NotYours { seen: 1 })
+        && book.recall(1, 0) == (Recall::Unknown { seen: 1 })
 }
 
 // A stop between a reservation and its settlement. It is lost, it counts, and the next number is new.
@@ -112,15 +131,7 @@ fn a_stop_after_a_reservation(rt: HostRuntime) -> Result<(), AllocError> {
     let bytes = stopped(alloc).expect(&rt, "a reservation");
     let disk = MemDisk::new(alloc, &bytes, LIMITS, &[])?;
     let mut book = opened(alloc, disk, 100).ok().expect(&rt, "a book");
-    let left = Left {
-        spent: 1_000_000,
-        budget: 10_000_000,
-        seen: 1,
-    };
-    assert!(rt; book.left() == left);
-    assert!(rt; book.recall(0, 0) == Recall::Lost { seen: 1 });
-    assert!(rt; book.recall(0, 1) == Recall::NotYours { seen: 1 });
-    assert!(rt; book.recall(1, 0) == Recall::Unknown { seen: 1 });
+    assert!(rt; tells_a_loss(&book));
     let next = Grant {
         number: 1,
         seen: 2,
@@ -144,10 +155,9 @@ fn a_torn_gate(rt: HostRuntime) -> Result<(), AllocError> {
 
 // A capacity of 3 has room for one reservation and its settlement.
 #[test]
-fn full(rt: HostRuntime) -> Result<(), AllocError> {
+fn full(rt: HostRuntime) {
     let alloc = rt.alloc();
-    let mut disk = MemDisk::new(alloc, &[], LIMITS, &[])?;
-    assert!(rt; Journal::init(&mut disk, &header_of(3)) == Ok(()));
+    let disk = made(alloc, 3).expect(&rt, "a journal");
     let mut book = opened(alloc, disk, 3).ok().expect(&rt, "a book");
     assert!(rt; ask_and_settle(&mut book) == Ok(Ok(2)));
     let refusal = ReserveFault::Full {
@@ -157,78 +167,100 @@ fn full(rt: HostRuntime) -> Result<(), AllocError> {
     };
     assert!(rt; ask_and_settle(&mut book) == Err(BookFault::Refused(refusal)));
     assert!(rt; !book.is_closed());
-    Ok(())
 }
 
-// The second sync fails, the opening's own being the first: nothing is answered from then on.
-#[test]
-fn the_second_sync_fails(rt: HostRuntime) -> Result<(), AllocError> {
-    let alloc = rt.alloc();
-    let mut disk = MemDisk::new(alloc, &[], LIMITS, &[])?;
-    assert!(rt; Journal::init(&mut disk, &header_of(100)) == Ok(()));
-    let mut book = opened(alloc, BlipDisk::new(disk, 104), 100)
-        .ok()
-        .expect(&rt, "a book");
-    for fault in [
-        AppendFault::DiskFault,
-        AppendFault::Closed { failed_at: 1 },
-        AppendFault::Closed { failed_at: 1 },
-    ] {
-        assert!(rt; ask(&mut book) == Err(BookFault::Unwritten(fault)));
-    }
+const SYNC_FAULTS: [AppendFault; 3] = [
+    AppendFault::DiskFault,
+    AppendFault::Closed { failed_at: 1 },
+    AppendFault::Closed { failed_at: 1 },
+];
+
+/// Whether the book is closed by one fault, and holds nothing.
+fn is_closed_and_empty<D: Disk>(book: &Book<D>) -> bool {
     let counts = Counts {
         reservations: 0,
         answered: 0,
         exhausted: 0,
         lost: 0,
     };
-    assert!(rt; book.counts() == counts);
-    assert!(rt; book.is_closed());
-    assert!(rt; book.fault_count() == 1);
-    assert!(rt; book.records().len() == 0);
-    Ok(())
+    book.counts() == counts
+        && book.is_closed()
+        && book.fault_count() == 1
+        && book.records().len() == 0
+}
+
+// The second sync fails, the opening's own being the first: nothing is answered from then on.
+#[test]
+fn the_second_sync_fails(rt: HostRuntime) {
+    let alloc = rt.alloc();
+    let disk = made(alloc, 100).expect(&rt, "a journal");
+    let mut book = opened(alloc, BlipDisk::new(disk, 104), 100)
+        .ok()
+        .expect(&rt, "a book");
+    for fault in &SYNC_FAULTS {
+        assert!(rt; ask(&mut book) == Err(BookFault::Unwritten(*fault)));
+    }
+    assert!(rt; is_closed_and_empty(&book));
+}
+
+// A call, and what an analyst is told of the reservation after a fault or a stop there.
+const STANDINGS: [(u64, Recall); 8] = [
+    (103, Recall::Unknown { seen: 0 }),
+    (104, Recall::Unknown { seen: 0 }),
+    (105, Recall::Unknown { seen: 0 }),
+    (106, Recall::Lost { seen: 1 }),
+    (107, Recall::Lost { seen: 1 }),
+    (108, Recall::Lost { seen: 1 }),
+    (109, Recall::Lost { seen: 1 }),
+    (110, Recall::Answer { value: 5, seen: 2 }),
+];
+
+/// The disk that a fault at this call leaves, where a stop there leaves the same bytes.
+fn left_at(alloc: Global, call: u64) -> Option<MemDisk<'static>> {
+    let disk = made(alloc, 100)?;
+    let stopped = MemDisk::new(alloc, disk.bytes(), LIMITS, &[]).ok()?;
+    let by_fault = used(alloc, BlipDisk::new(disk, call)).into_inner();
+    let by_stop = used(alloc, FuseDisk::new(stopped, call)).into_inner();
+    if by_fault.bytes() == by_stop.bytes() {
+        Some(by_fault)
+    } else {
+        None
+    }
+}
+
+/// Whether a book over this disk tells this of the first reservation, and gives a number that is new.
+fn stands(alloc: Global, disk: MemDisk<'_>, standing: Recall) -> bool {
+    match opened(alloc, disk, 100) {
+        Ok(mut book) => {
+            let next = if book.records().is_empty() { 0 } else { 1 };
+            let found = book.recall(0, 0);
+            match ask(&mut book) {
+                Ok(grant) => found == standing && grant.number == next,
+                Err(_) => false,
+            }
+        }
+        Err(_) => false,
+    }
 }
 
 // A fault, and a stop, at each disk call of a reservation and its settlement. Opened again nothing is there that
 // wasn't asked for, an answer is there only after its settlement, and the next number is new.
 #[test]
-fn a_fault_at_each_call(rt: HostRuntime) -> Result<(), AllocError> {
-    let alloc = rt.alloc();
-    for (call, standing) in [
-        (103, Recall::Unknown { seen: 0 }),
-        (104, Recall::Unknown { seen: 0 }),
-        (105, Recall::Unknown { seen: 0 }),
-        (106, Recall::Lost { seen: 1 }),
-        (107, Recall::Lost { seen: 1 }),
-        (108, Recall::Lost { seen: 1 }),
-        (109, Recall::Lost { seen: 1 }),
-        (110, Recall::Answer { value: 5, seen: 2 }),
-    ] {
-        let mut disk = MemDisk::new(alloc, &[], LIMITS, &[])?;
-        assert!(rt; Journal::init(&mut disk, &header_of(100)) == Ok(()));
-        let stopped = MemDisk::new(alloc, disk.bytes(), LIMITS, &[])?;
-        let by_fault = used(alloc, BlipDisk::new(disk, call)).into_inner();
-        let by_stop = used(alloc, FuseDisk::new(stopped, call)).into_inner();
-        assert!(rt; by_fault.bytes() == by_stop.bytes());
-        let mut book = opened(alloc, by_fault, 100).ok().expect(&rt, "a book");
-        assert!(rt; book.recall(0, 0) == standing);
-        let next = if book.records().is_empty() { 0 } else { 1 };
-        assert!(rt; ask(&mut book).map(|grant| grant.number) == Ok(next));
+fn a_fault_at_each_call(rt: HostRuntime) {
+    for (call, standing) in &STANDINGS {
+        let disk = left_at(rt.alloc(), *call).expect(&rt, "one disk");
+        assert!(rt; stands(rt.alloc(), disk, *standing));
     }
-    Ok(())
 }
 
 // A second settlement of a number may not follow the first.
 #[test]
-fn a_record_that_may_not_follow(rt: HostRuntime) -> Result<(), AllocError> {
+fn a_record_that_may_not_follow(rt: HostRuntime) {
     let alloc = rt.alloc();
-    let mut disk = MemDisk::new(alloc, &[], LIMITS, &[])?;
-    assert!(rt; Journal::init(&mut disk, &header_of(100)) == Ok(()));
-    let mut disk = used(alloc, disk);
+    let mut disk = used(alloc, made(alloc, 100).expect(&rt, "a journal"));
     let mut slot = [0; 64];
     encode(&second_settlement(), &mut slot);
     assert!(rt; disk.write_at(256, &slot) == Ok(()));
     let refused = opened(alloc, disk, 100).err().expect(&rt, "a fault");
     assert!(rt; refused.1 == OpenFault::Damaged { slot: 2 });
-    Ok(())
 }

@@ -10,7 +10,7 @@ use journal_records::records::{Header, Outcome, Record};
 use outside_disks::disk::Disk;
 use outside_disks::failing::BlipDisk;
 use outside_disks::memory::{Limits, MemDisk};
-use std::alloc::{AllocError, Global};
+use std::alloc::Global;
 
 const LIMITS: Limits = Limits {
     length: 8192,
@@ -62,11 +62,16 @@ fn append_one<D: Disk>(alloc: Global, disk: D, number: u32) -> (D, Result<(), Di
     }
 }
 
-/// What is on the disk of a journal with one record.
-fn with_one(alloc: Global) -> Option<Vec<u8>> {
+/// A disk with a new journal.
+fn made(alloc: Global) -> Option<MemDisk<'static>> {
     let mut disk = MemDisk::new(alloc, &[], LIMITS, &[]).ok()?;
     Journal::init(&mut disk, &header_of(1)).ok()?;
-    let (disk, answer) = append_one(alloc, disk, 7);
+    Some(disk)
+}
+
+/// What is on the disk of a journal with one record.
+fn with_one(alloc: Global) -> Option<Vec<u8>> {
+    let (disk, answer) = append_one(alloc, made(alloc)?, 7);
     answer.ok()?;
     disk.bytes().to_vec(alloc).ok()
 }
@@ -101,37 +106,47 @@ fn gates(rt: HostRuntime) {
     let alloc = rt.alloc();
     let bytes = with_one(alloc).expect(&rt, "a journal");
     assert!(rt; bytes.len() == 6528);
-    for (changes, want) in GATES {
-        assert!(rt; opened_with(alloc, &bytes, changes, &header_of(1)) == Some(want));
+    for (changes, want) in &GATES {
+        assert!(rt; opened_with(alloc, &bytes, changes, &header_of(1)) == Some(*want));
     }
 }
 
-// A journal isn't made twice, nor opened before it is made or for another catalog.
+// A journal isn't opened for another catalog, nor before it is made.
 #[test]
-fn refusals(rt: HostRuntime) -> Result<(), AllocError> {
+fn refusals(rt: HostRuntime) {
     let alloc = rt.alloc();
     let bytes = with_one(alloc).expect(&rt, "a journal");
     let changed = opened_with(alloc, &bytes, &[], &header_of(2));
     assert!(rt; matches!(changed, Some(Err(OpenFault::Changed { .. }))));
     let empty = opened_with(alloc, &[], &[], &header_of(1));
     assert!(rt; empty == Some(Err(OpenFault::NotInitialised { length: 0 })));
-    let mut disk = MemDisk::new(alloc, &[], LIMITS, &[])?;
-    assert!(rt; Journal::init(&mut disk, &header_of(1)) == Ok(()));
+}
+
+// A journal isn't made twice.
+#[test]
+fn made_once(rt: HostRuntime) {
+    let mut disk = made(rt.alloc()).expect(&rt, "a journal");
     let again = Journal::init(&mut disk, &header_of(1));
     assert!(rt; again == Err(InitFault::AlreadyThere { length: 6528 }));
-    Ok(())
+}
+
+// A call, and how many records an opening finds after a fault there.
+const LEFT: [(u64, usize); 4] = [(103, 0), (104, 0), (105, 0), (106, 1)];
+
+/// How many records are found after a fault at this call of an append, which is refused.
+fn left_at(alloc: Global, call: u64) -> Option<Result<usize, OpenFault>> {
+    let (blip, answer) = append_one(alloc, BlipDisk::new(made(alloc)?, call), 7);
+    if answer == Err(DiskFault) {
+        Some(opened(alloc, blip.into_inner(), &header_of(1)))
+    } else {
+        None
+    }
 }
 
 // One fault at each call of an append: it is refused, and what is opened afterwards has the record or not.
 #[test]
-fn a_fault_at_each_call(rt: HostRuntime) -> Result<(), AllocError> {
-    let alloc = rt.alloc();
-    for (call, left) in [(103, 0), (104, 0), (105, 0), (106, 1)] {
-        let mut disk = MemDisk::new(alloc, &[], LIMITS, &[])?;
-        assert!(rt; Journal::init(&mut disk, &header_of(1)) == Ok(()));
-        let (blip, answer) = append_one(alloc, BlipDisk::new(disk, call), 7);
-        assert!(rt; answer == Err(DiskFault));
-        assert!(rt; opened(alloc, blip.into_inner(), &header_of(1)) == Ok(left));
+fn a_fault_at_each_call(rt: HostRuntime) {
+    for (call, left) in &LEFT {
+        assert!(rt; left_at(rt.alloc(), *call) == Some(Ok(*left)));
     }
-    Ok(())
 }

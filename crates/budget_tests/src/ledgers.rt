@@ -1,10 +1,13 @@
 //! The machine on small budgets, and a ledger of found records: that calls succeed, with memory at hand.
 
+ghost use Rattle.std.specs.Prelude.{IfSome};
+ghost use Rattle.journal_records.specs.Encoding.{IsValid};
+
 use budget_core::answers::{Counts, FoundFault, Left, Recall};
 use budget_core::entry::{Ask, Entry};
 use budget_core::events::{Event, run_events};
 use budget_core::ledger::Ledger;
-use journal_records::records::Outcome;
+use journal_records::records::{Outcome, Record};
 use partition_charge::view::View;
 use std::alloc::{AllocError, Global};
 
@@ -135,36 +138,58 @@ fn events(rt: HostRuntime) -> Result<(), AllocError> {
     Ok(())
 }
 
+const FIRST_ASK: Ask = Ask { p: 3, q: 2, ..ASK };
+
+/// The reservation of a first ask.
+fn first_reservation(alloc: Global) -> Option<Record>
+    ensures { IfSome result IsValid }
+{
+    let ledger = Ledger::new(alloc, small_entry(alloc).ok()?).ok()?;
+    if !ledger.entry().has_ask(&FIRST_ASK) {
+        return None;
+    }
+    let grant = ledger.verdict(&FIRST_ASK).ok()?;
+    Some(ledger.reservation(&FIRST_ASK, &grant))
+}
+
 #[test]
-fn found_records(rt: HostRuntime) -> Result<(), AllocError> {
+fn a_reservation_that_is_found_twice(rt: HostRuntime) -> Result<(), AllocError> {
     let alloc = rt.alloc();
-    let ask = Ask { p: 3, q: 2, ..ASK };
-    let first = Ledger::new(alloc, small_entry(alloc)?)?;
-    assert!(rt; first.entry().has_ask(&ask));
-    let grant = first.verdict(&ask).expect(&rt, "granted");
-    let reservation = first.reservation(&ask, &grant);
+    let reservation = first_reservation(alloc).expect(&rt, "granted");
     let twice = Vec::from_array(alloc, [reservation, reservation])?;
     let refused = Ledger::found(alloc, small_entry(alloc)?, twice).err();
     assert!(rt; refused == Some(FoundFault::Astray(1)));
-    let once = Vec::from_array(alloc, [reservation])?;
-    let ledger = Ledger::found(alloc, small_entry(alloc)?, once)
-        .ok()
-        .expect(&rt, "a ledger");
-    assert!(rt; ledger.recall(0, 1) == Recall::Lost { seen: 1 });
-    assert!(rt; ledger.recall(0, 0) == Recall::NotYours { seen: 1 });
-    assert!(rt; ledger.recall(1, 1) == Recall::Unknown { seen: 1 });
+    Ok(())
+}
+
+/// Whether the ledger tells that its one reservation was lost, and counts it.
+fn tells_a_loss(ledger: &Ledger) -> bool {
     let left = Left {
         spent: 2,
         budget: 10,
         seen: 1,
     };
-    assert!(rt; ledger.left() == left);
     let counts = Counts {
         reservations: 1,
         answered: 0,
         exhausted: 0,
         lost: 1,
     };
-    assert!(rt; ledger.counts() == counts);
+    ledger.recall(0, 1) == (Recall::Lost { seen: 1 })
+        && ledger.recall(0, 0) == (Recall::NotYours { seen: 1 })
+        && ledger.recall(1, 1) == (Recall::Unknown { seen: 1 })
+        && ledger.left() == left
+        && ledger.counts() == counts
+}
+
+#[test]
+fn a_reservation_that_is_found(rt: HostRuntime) -> Result<(), AllocError> {
+    let alloc = rt.alloc();
+    let reservation = first_reservation(alloc).expect(&rt, "granted");
+    let once = Vec::from_array(alloc, [reservation])?;
+    let ledger = Ledger::found(alloc, small_entry(alloc)?, once)
+        .ok()
+        .expect(&rt, "a ledger");
+    assert!(rt; tells_a_loss(&ledger));
     Ok(())
 }

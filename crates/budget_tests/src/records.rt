@@ -1,7 +1,5 @@
 //! Written bytes against the code.
 
-ghost use Rattle.std.specs.Prelude.{◌<◌};
-
 use journal_records::coding::{encode, encode_header};
 use journal_records::decoding::{decode, decode_header};
 use journal_records::records::{Header, Outcome, Record, Reservation};
@@ -25,27 +23,41 @@ fn encoding(record_in: &Record) -> [u8; 64] {
 }
 
 // What the bytes decode to with another byte at this place.
-fn decode_with(bytes: &[u8; 64], place: usize, byte: u8) -> Option<Record>
-    requires { place < 64 }
-{
+fn decode_with(bytes: &[u8; 64], place: usize, byte: u8) -> Option<Record> {
     let mut changed = *bytes;
-    changed[place] = byte;
+    if let Some(at) = changed.get_mut(place) {
+        *at = byte;
+    }
     decode(&changed)
 }
 
-// The first records of a journal, and bytes that no record has: another gate, kind, partition, part or denominator,
-// and bytes that are to be zero.
+fn all_refused(bytes: &[u8; 64], changes: &[(usize, u8)]) -> bool {
+    for (place, byte) in changes {
+        if decode_with(bytes, *place, *byte).is_some() {
+            return false;
+        }
+    }
+    true
+}
+
+// Bytes that no record has: another gate, kind, partition, part or denominator, and bytes that are to be zero.
+const RESERVATION_CHANGES: [(usize, u8); 6] = [(0, 0x25), (1, 3), (2, 8), (3, 1), (19, 0), (31, 1)];
+
+const SETTLEMENT_CHANGES: [(usize, u8); 5] = [(2, 0), (2, 2), (2, 4), (3, 1), (63, 1)];
+
 #[test]
-fn first_records(rt: HostRuntime) {
+fn a_reservation(rt: HostRuntime) {
     let reserved = encoding(&Record::Reserve(FIRST));
     assert!(rt;
         reserved.starts_with(
             b"\xA5\x01\xFF\x00\0\0\0\0\x00\x0F\x42\x40\0\0\0\x01\0\0\0\x01\0\0\0\0\x00\x0F\x42\x40\0\0\0\0"
         )
     );
-    for (place, byte) in [(0, 0x25), (1, 3), (2, 8), (3, 1), (19, 0), (31, 1)] {
-        assert!(rt; decode_with(&reserved, place, byte) == None);
-    }
+    assert!(rt; all_refused(&reserved, &RESERVATION_CHANGES));
+}
+
+#[test]
+fn a_settlement(rt: HostRuntime) {
     let settled = Record::Settle {
         number: 0,
         outcome: Outcome::Answered(5),
@@ -53,9 +65,7 @@ fn first_records(rt: HostRuntime) {
     let bytes = encoding(&settled);
     assert!(rt; bytes.starts_with(b"\xA5\x02\x01\x00\0\0\0\0\0\0\0\0\0\0\0\x05"));
     assert!(rt; decode(&bytes) == Some(settled));
-    for (place, byte) in [(2, 0), (2, 2), (2, 4), (3, 1), (63, 1)] {
-        assert!(rt; decode_with(&bytes, place, byte) == None);
-    }
+    assert!(rt; all_refused(&bytes, &SETTLEMENT_CHANGES));
 }
 
 #[test]

@@ -5,3 +5,4 @@ pub mod Accepted
 pub mod Plain
 mod Examples
 pub mod Workers
+mod Subcommands

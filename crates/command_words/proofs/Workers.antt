@@ -8,13 +8,14 @@ use Rattle.std.proofs.lemmas.Int.{ints}
 use Rattle.clap.specs.Lexer.{without_minus}
 use Rattle.clap.specs.Words.{ReadsOne}
 use Rattle.clap.specs.ValueTests.{accepts}
-use Rattle.clap.specs.Walk.{Held, Step, Text, Walk, after_step, nothing_held, option, plain_word, walk_from, walked}
-use Rattle.clap.specs.Faults.{defaults_fault, step_fault, turn_fault, walk_fault}
+use Rattle.clap.specs.Walk.{Held, Step, Text, Walk, after_step, finished, nothing_held, option, plain_word, settled, walk_from, walked}
+use Rattle.clap.specs.Faults.{check_fault, defaults_fault, settle_fault, step_fault, turn_fault, walk_fault}
 use Rattle.clap.specs.Kinds.{Kinds, or_else}
+use Rattle.clap.specs.declared.error.kind.ErrorKind.TheVariants as kind
 use Rattle.clap.proofs.ValueTestLemmas.{Accepts-accepts}
 use Rattle.clap.proofs.WalkLemmas.{both}
 use Rattle.command_words.specs.Program.{greatest_workers}
-use Rattle.command_words.specs.Command.{Command, command_of, number_written, run, run_of}
+use Rattle.command_words.specs.Command.{Command, command_named, command_of, number_written, run, run_of, unless_fault}
 use Rattle.command_words.specs.Table.{workers_said}
 use Rattle.command_words.proofs.Numbers.{number_reads}
 use Rattle.command_words.proofs.Accepted.{IsCount, count_read, run_shape, workers_parser, WORKERS}
@@ -83,14 +84,33 @@ run_walk catalog key text a b c =
     (walked_plain run_shape.rules (next_walk run_shape.rules at_start catalog) key (refl, (refl, refl)) b)
     ∙ value_walk catalog key text c
 
+-- what the settling of the option finds, by whether its text is accepted
+abbrev settled_by : Text → Text → Text → Kinds
+settled_by catalog key text = settle_fault run_shape.rules run_shape.args_override_self (after_value catalog key text).held
+
+settles : (catalog key text : Text) → accepts false workers_parser text ≡ true → settled_by catalog key text ≡ []
+unfolding walked
+settles catalog key text e = rw e refl
+
+refuses : (catalog key text : Text) → accepts false workers_parser text ≡ false → settled_by catalog key text ≡ kind.ValueValidation ∷ []
+unfolding walked
+refuses catalog key text e = rw e refl
+
 said_is : (catalog key text : Text) → command_by run_shape [] (after_value catalog key text)
     ≡ said_by catalog key (accepts false workers_parser text) (number_written (without_minus text))
 unfolding walked defaults_fault
 said_is catalog key text = go (accepts false workers_parser text) refl
   where
-    go : (b : Bool) → accepts false workers_parser text ≡ b → command_by run_shape [] (after_value catalog key text) ≡ said_by catalog key b (number_written (without_minus text))
-    go true e = rw e refl
-    go false e = rw e refl
+    held : Held
+    held = (after_value catalog key text).held
+
+    from : Kinds → Option Command
+    from fault = unless_fault (or_else fault (or_else (defaults_fault (settled run_shape.rules held).rows run_shape.rules)
+        (check_fault run_shape (finished run_shape.rules held) false))) (command_named run_shape.name (finished run_shape.rules held))
+
+    go : (b : Bool) → accepts false workers_parser text ≡ b → from (settled_by catalog key text) ≡ said_by catalog key b (number_written (without_minus text))
+    go true e = ap from (settles catalog key text e)
+    go false e = ap from (refuses catalog key text e)
 
 -- ---- the text
 

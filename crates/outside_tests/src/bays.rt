@@ -42,14 +42,24 @@ fn files_of_the_system(rt: HostRuntime) -> Result<(), Fail> {
     let mut found = bay.take(1).ok().expect(&rt, "a disk");
     assert!(rt; found.len() == Ok(3));
     assert!(rt; fs::metadata(&rt, "outside_bays_test/1.bud")?.len() == 3);
-
-    // A folder of that name can't be opened, and stays as it is.
-    fs::create_dir(&rt, "outside_bays_test/0.bud")?;
-    assert!(rt; bay.take(0).is_err());
-    assert!(rt; fs::metadata(&rt, "outside_bays_test/0.bud")?.is_dir());
     fs::remove_dir_all(&rt, "outside_bays_test")?;
+    Ok(())
+}
 
-    // Where no folder can be made the first write fails.
+// A folder of that name can't be opened, and stays as it is.
+#[test]
+fn a_folder_of_the_system(rt: HostRuntime) -> Result<(), Fail> {
+    fs::create_dir_all(&rt, "outside_bays_folder/0.bud")?;
+    let mut bay = RealBay::new(rt.alloc(), &rt, "outside_bays_folder", 2)?;
+    assert!(rt; bay.take(0).is_err());
+    assert!(rt; fs::metadata(&rt, "outside_bays_folder/0.bud")?.is_dir());
+    fs::remove_dir_all(&rt, "outside_bays_folder")?;
+    Ok(())
+}
+
+// Where no folder can be made the first write fails.
+#[test]
+fn no_folder_of_the_system(rt: HostRuntime) -> Result<(), Fail> {
     let mut nowhere = RealBay::new(rt.alloc(), &rt, "/proc/none", 1)?;
     let mut disk = nowhere.take(0).ok().expect(&rt, "a disk");
     assert!(rt; disk.write_at(0, b"abc") == Err(Failed));

@@ -22,46 +22,76 @@ fn write_and_read<D: Disk>(disk: &mut D, place: u64, bytes: &[u8]) -> Result<[u8
     Ok(buf)
 }
 
+// A write's place and bytes, and what is read then.
+type Write = (u64, &'static [u8], Result<[u8; 2], Failed>);
+
+fn answers<D: Disk>(disk: &mut D, writes: &[Write]) -> bool {
+    for (place, bytes, want) in writes {
+        if write_and_read(disk, *place, bytes) != *want {
+            return false;
+        }
+    }
+    true
+}
+
 // Call 2 is listed; a write ends past the length 8, the sum of bytes is over 10, and there are over nine calls.
+const LIMITED: [Write; 7] = [
+    (4, b"xyz", Ok([0, b'x'])),
+    (0, b"", Err(Failed)),
+    (6, b"no!", Err(Failed)),
+    (5, b"end", Ok([0, b'x'])),
+    (0, b"fives", Err(Failed)),
+    (0, b"f", Ok([0, b'x'])),
+    (0, b"", Err(Failed)),
+];
+
 #[test]
 fn limits_of_memory(rt: HostRuntime) -> Result<(), Fail> {
     let mut disk = MemDisk::new(rt.alloc(), b"abc", LIMITS, &[2])?;
-    for (place, bytes, want) in [
-        (4, b"xyz".as_slice(), Ok(*b"\0x")),
-        (0, b"".as_slice(), Err(Failed)),
-        (6, b"no!".as_slice(), Err(Failed)),
-        (5, b"end".as_slice(), Ok(*b"\0x")),
-        (0, b"fives".as_slice(), Err(Failed)),
-        (0, b"f".as_slice(), Ok(*b"\0x")),
-        (0, b"".as_slice(), Err(Failed)),
-    ] {
-        assert!(rt;
-            write_and_read(&mut disk, place, bytes) == want,
-            "at {place}"
-        );
-    }
+    assert!(rt; answers(&mut disk, &LIMITED));
     assert!(rt; disk.bytes() == b"fbc\0xend".as_slice());
     Ok(())
 }
 
-// A fuse of three calls, and a fault at call 3 alone.
+// A fuse of three calls.
+const BY_FUSE: [Write; 3] = [
+    (0, b"1", Ok([b'd', b'e'])),
+    (0, b"2", Err(Failed)),
+    (0, b"3", Err(Failed)),
+];
+
 #[test]
-fn fuse_and_blip(rt: HostRuntime) -> Result<(), Fail> {
+fn fuse(rt: HostRuntime) -> Result<(), Fail> {
     let mut fuse = FuseDisk::new(MemDisk::new(rt.alloc(), b"abcde", LIMITS, &[])?, 3);
-    let mut blip = BlipDisk::new(MemDisk::new(rt.alloc(), b"abcde", LIMITS, &[])?, 3);
-    for (bytes, by_fuse, by_blip) in [
-        (b"1", Ok(*b"de"), Ok(*b"de")),
-        (b"2", Err(Failed), Err(Failed)),
-        (b"3", Err(Failed), Ok(*b"de")),
-    ] {
-        assert!(rt; write_and_read(&mut fuse, 0, bytes) == by_fuse);
-        assert!(rt; write_and_read(&mut blip, 0, bytes) == by_blip);
-    }
+    assert!(rt; answers(&mut fuse, &BY_FUSE));
     assert!(rt; fuse.sync() == Err(Failed));
-    assert!(rt; blip.sync() == Ok(()));
     assert!(rt; fuse.into_inner().bytes() == b"2bcde".as_slice());
+    Ok(())
+}
+
+// A fault at call 3 alone.
+const BY_BLIP: [Write; 3] = [
+    (0, b"1", Ok([b'd', b'e'])),
+    (0, b"2", Err(Failed)),
+    (0, b"3", Ok([b'd', b'e'])),
+];
+
+#[test]
+fn blip(rt: HostRuntime) -> Result<(), Fail> {
+    let mut blip = BlipDisk::new(MemDisk::new(rt.alloc(), b"abcde", LIMITS, &[])?, 3);
+    assert!(rt; answers(&mut blip, &BY_BLIP));
+    assert!(rt; blip.sync() == Ok(()));
     assert!(rt; blip.into_inner().bytes() == b"3bcde".as_slice());
     Ok(())
+}
+
+// Whether the disk can be synced and has these bytes, and zeros behind them.
+fn has<D: Disk>(disk: &mut D, length: u64, bytes: &[u8; 6]) -> bool {
+    let mut buf = [9; 6];
+    disk.read_at(0, &mut buf) == Ok(())
+        && disk.sync() == Ok(())
+        && disk.len() == Ok(length)
+        && buf == *bytes
 }
 
 // A file as a disk: nothing is made before the first write, and zeros stand past the end. It is found again.
@@ -70,21 +100,15 @@ fn a_file_of_the_system(rt: HostRuntime) -> Result<(), Fail> {
     let home = FilePlace::new(rt.alloc(), "outside_disks_test", "file")?;
     let file = open_file(&rt, &home)?;
     let mut disk = FileDisk::new(&rt, home, file);
-    let mut buf = [9; 6];
-    assert!(rt; disk.len() == Ok(0));
-    assert!(rt; disk.read_at(0, &mut buf) == Ok(()));
-    assert!(rt; disk.sync() == Ok(()));
-    assert!(rt; &buf == b"\0\0\0\0\0\0");
+    assert!(rt; has(&mut disk, 0, b"\0\0\0\0\0\0"));
     assert!(rt; fs::metadata(&rt, "outside_disks_test").is_err());
     assert!(rt; write_and_read(&mut disk, 3, b"x") == Ok(*b"x\0"));
-    assert!(rt; disk.sync() == Ok(()));
-    assert!(rt; disk.len() == Ok(4));
+    assert!(rt; has(&mut disk, 4, b"\0\0\0x\0\0"));
 
     let home = disk.close();
     let file = open_file(&rt, &home)?;
     let mut found = FileDisk::new(&rt, home, file);
-    assert!(rt; found.read_at(0, &mut buf) == Ok(()));
-    assert!(rt; &buf == b"\0\0\0x\0\0");
+    assert!(rt; has(&mut found, 4, b"\0\0\0x\0\0"));
     assert!(rt; found.fault_count() == 0);
     fs::remove_dir_all(&rt, "outside_disks_test")?;
     Ok(())

@@ -7,6 +7,7 @@ use fz_outside::sink::{MemSink, Sink, put};
 use fz_outside::source::{MemSource, Source, read_up_to};
 use fz_outside::words::{ListStreams, Streams, Words};
 use fz_outside::{Failed, FileFault};
+use std::alloc::Global;
 use std::fs::OpenFile;
 use std::test::Fail;
 use std::{fs, io};
@@ -29,12 +30,50 @@ fn draws_and_then_zeros(rt: HostRuntime) {
     let mut first = streams.stream(0, 0);
     assert!(rt; first.draw() == 7);
     let mut other = streams.stream(3, 9);
-    for want in [7, 8, 0, 0] {
-        assert!(rt; other.draw() == want);
+    for want in &[7u64, 8, 0, 0] {
+        assert!(rt; other.draw() == *want);
     }
 }
 
-// What a read answered, and how many bytes.
+// Pieces of two bytes: the second call of each object fails, and the bytes go on where they stood.
+const READS: [(Result<usize, Failed>, &str); 5] = [
+    (Ok(2), "se"),
+    (Err(Failed), "se"),
+    (Ok(2), "ve"),
+    (Ok(1), "ne"),
+    (Ok(0), "ne"),
+];
+
+#[test]
+fn a_source_that_fails_once(rt: HostRuntime) {
+    let mut source = on_schedule(MemSource::new(b"seven"), &[1]);
+    let mut buf = [0; 8];
+    for (want, bytes) in &READS {
+        assert!(rt; source.read(&mut buf) == *want);
+        assert!(rt; &buf[..2] == bytes.as_bytes());
+    }
+    assert!(rt; source.schedule.faults == 1);
+}
+
+const PUTS: [(Result<(), Failed>, &str); 3] = [
+    (Err(Failed), "se"),
+    (Ok(()), "seseven"),
+    (Err(Failed), "sesevense"),
+];
+
+#[test]
+fn a_sink_that_fails_once(rt: HostRuntime) -> Result<(), Fail> {
+    let mut sink = on_schedule(MemSink::<9>::new(rt.alloc())?, &[1]);
+    for (want, bytes) in &PUTS {
+        assert!(rt; put(&mut sink, b"seven") == *want);
+        assert!(rt; sink.inner.bytes() == bytes.as_bytes());
+    }
+    Ok(())
+}
+
+// A name, what a read of it answers, and how many bytes.
+type Row<'a> = (&'a str, (&'a str, usize));
+
 fn outcome(read: &Result<FileRead, FileFault>) -> (&'static str, usize) {
     match read {
         Ok(FileRead::Absent) => ("absent", 0),
@@ -45,37 +84,24 @@ fn outcome(read: &Result<FileRead, FileFault>) -> (&'static str, usize) {
     }
 }
 
-// Pieces of two bytes: the second call of each object fails, and the bytes go on where they stood.
-#[test]
-fn faults_by_schedule(rt: HostRuntime) -> Result<(), Fail> {
-    let mut source = on_schedule(MemSource::new(b"seven"), &[1]);
-    let mut buf = [0; 8];
-    for (want, bytes) in [
-        (Ok(2), "se"),
-        (Err(Failed), "se"),
-        (Ok(2), "ve"),
-        (Ok(1), "ne"),
-        (Ok(0), "ne"),
-    ] {
-        assert!(rt; source.read(&mut buf) == want);
-        assert!(rt; &buf[..2] == bytes.as_bytes());
+fn reads<F: Files>(alloc: Global, files: &mut F, rows: &[Row<'_>]) -> bool {
+    for (name, want) in rows {
+        if outcome(&files.read(alloc, name)) != *want {
+            return false;
+        }
     }
-    assert!(rt; source.schedule.faults == 1);
-
-    let mut sink = on_schedule(MemSink::<9>::new(rt.alloc())?, &[1]);
-    for (want, bytes) in [
-        (Err(Failed), "se"),
-        (Ok(()), "seseven"),
-        (Err(Failed), "sesevense"),
-    ] {
-        assert!(rt; put(&mut sink, b"seven") == want);
-        assert!(rt; sink.inner.bytes() == bytes.as_bytes());
-    }
-    Ok(())
+    true
 }
 
+const IN_MEMORY: [Row<'static>; 4] = [
+    ("a", ("bytes", 3)),
+    ("c", ("absent", 0)),
+    ("b", ("failed", 0)),
+    ("b", ("bytes", 0)),
+];
+
 #[test]
-fn files_in_memory(rt: HostRuntime) -> Result<(), Fail> {
+fn files_in_memory(rt: HostRuntime) {
     let table = [
         MemFile {
             name: "a",
@@ -91,45 +117,34 @@ fn files_in_memory(rt: HostRuntime) -> Result<(), Fail> {
         },
     ];
     let mut files = on_schedule(MemFiles::new(&table), &[2]);
-    for (name, want) in [
-        ("a", ("bytes", 3)),
-        ("c", ("absent", 0)),
-        ("b", ("failed", 0)),
-        ("b", ("bytes", 0)),
-    ] {
-        assert!(rt; outcome(&files.read(rt.alloc(), name)) == want, "of {name}");
-    }
-    Ok(())
+    assert!(rt; reads(rt.alloc(), &mut files, &IN_MEMORY));
 }
 
 // A file of the greatest length is read, and one that is a byte longer is not. A name that isn't there and a path
 // through a file are absent; a folder, an empty name and a file that can't be read are faults.
+const OF_THE_SYSTEM: [Row<'static>; 9] = [
+    ("outside_test/none", ("absent", 0)),
+    ("outside_test/limit", ("bytes", 67_108_864)),
+    ("outside_test/longer", ("too long", 0)),
+    ("outside_test/limit/x", ("absent", 0)),
+    ("outside_test/none/x", ("absent", 0)),
+    ("outside_test", ("failed", 0)),
+    ("outside_test/", ("failed", 0)),
+    ("outside_test/a\0b", ("failed", 0)),
+    ("/proc/self/mem", ("failed", 0)),
+];
+
 #[test]
 fn files_of_the_system(rt: HostRuntime) -> Result<(), Fail> {
     fs::create_dir_all(&rt, "outside_test")?;
-    for (name, length) in [("limit", 67_108_864), ("longer", 67_108_865)] {
-        let path = format!(in rt.alloc(); "outside_test/{name}")?;
-        fs::create(&rt, path.as_str())?.set_len(length)?;
-    }
-    let mut files = RealFiles::new(&rt);
-    for (name, want) in [
-        ("outside_test/none", ("absent", 0)),
-        ("outside_test/limit", ("bytes", 67_108_864)),
-        ("outside_test/longer", ("too long", 0)),
-        ("outside_test/limit/x", ("absent", 0)),
-        ("outside_test/none/x", ("absent", 0)),
-        ("outside_test", ("failed", 0)),
-        ("outside_test/", ("failed", 0)),
-        ("outside_test/a\0b", ("failed", 0)),
-        ("/proc/self/mem", ("failed", 0)),
-    ] {
-        assert!(rt; outcome(&files.read(rt.alloc(), name)) == want, "of {name}");
-    }
+    fs::create(&rt, "outside_test/limit")?.set_len(67_108_864)?;
+    fs::create(&rt, "outside_test/longer")?.set_len(67_108_865)?;
+    assert!(rt; reads(rt.alloc(), &mut RealFiles::new(&rt), &OF_THE_SYSTEM));
     fs::remove_dir_all(&rt, "outside_test")?;
     Ok(())
 }
 
-// What is written to a file is read from it. Nothing can be written to a full device.
+// What is written to a file is read from it.
 #[test]
 fn reader_and_writer_of_the_system(rt: HostRuntime) -> Result<(), Fail> {
     let mut sink = RealSink::new(fs::create(&rt, "outside_test_bytes")?);
@@ -140,40 +155,62 @@ fn reader_and_writer_of_the_system(rt: HostRuntime) -> Result<(), Fail> {
         .expect(&rt, "four bytes");
     assert!(rt; read.as_slice() == b"seve".as_slice());
     fs::remove_file(&rt, "outside_test_bytes")?;
+    Ok(())
+}
 
+// Nothing can be written to a full device.
+#[test]
+fn devices_of_the_system(rt: HostRuntime) -> Result<(), Fail> {
     assert!(rt; put(&mut RealSink::new(io::writer(&rt)), b"seven\n") == Ok(()));
     let full = fs::OpenOptions::new().write(true).open(&rt, "/dev/full")?;
     assert!(rt; put(&mut RealSink::new(full), b"seven") == Err(Failed));
     Ok(())
 }
 
-// An error of the system is no end of input and no written piece: a folder, a file that is open for the other way,
-// and a pipe whose reader has gone. A pipe whose writer has gone has ended.
-#[test]
-fn errors_of_the_system(rt: HostRuntime) -> Result<(), Fail> {
+fn read_of<S: Source>(source: &mut S) -> Result<usize, Failed> {
     let mut buf = [0; 8];
+    source.read(&mut buf)
+}
+
+// An error of the system is no end of input and no written piece: a folder, a file that is open for the other way,
+// and a pipe whose reader has gone.
+#[test]
+fn a_folder_is_no_input(rt: HostRuntime) -> Result<(), Fail> {
     fs::create_dir_all(&rt, "outside_test_folder")?;
     let mut folder = RealSource::new(fs::open(&rt, "outside_test_folder")?);
-    assert!(rt; folder.read(&mut buf) == Err(Failed));
-    assert!(rt; folder.read(&mut buf) == Err(Failed));
+    assert!(rt; read_of(&mut folder) == Err(Failed));
+    assert!(rt; read_of(&mut folder) == Err(Failed));
     fs::remove_dir_all(&rt, "outside_test_folder")?;
+    Ok(())
+}
 
+#[test]
+fn files_that_are_open_for_the_other_way(rt: HostRuntime) -> Result<(), Fail> {
     let mut writer = RealSource::new(fs::create(&rt, "outside_test_ways")?);
-    assert!(rt; writer.read(&mut buf) == Err(Failed));
+    assert!(rt; read_of(&mut writer) == Err(Failed));
     let mut reader = RealSink::new(fs::open(&rt, "outside_test_ways")?);
     assert!(rt; reader.write(b"seven") == Err(Failed));
     fs::remove_file(&rt, "outside_test_ways")?;
+    Ok(())
+}
 
+#[test]
+fn a_pipe_without_a_reader(rt: HostRuntime) -> Result<(), Fail> {
     let (reader, writer) = io::pipe(&rt)?;
     drop(reader);
     let mut broken = RealSink::new(writer);
     assert!(rt; broken.write(b"seven") == Err(Failed));
     assert!(rt; broken.write(b"seven") == Err(Failed));
+    Ok(())
+}
 
+// A pipe whose writer has gone has ended.
+#[test]
+fn a_pipe_without_a_writer(rt: HostRuntime) -> Result<(), Fail> {
     let (reader, writer) = io::pipe(&rt)?;
     assert!(rt; RealSink::new(writer).write(b"seven") == Ok(5));
     let mut ended = RealSource::new(reader);
-    assert!(rt; ended.read(&mut buf) == Ok(5));
-    assert!(rt; ended.read(&mut buf) == Ok(0));
+    assert!(rt; read_of(&mut ended) == Ok(5));
+    assert!(rt; read_of(&mut ended) == Ok(0));
     Ok(())
 }

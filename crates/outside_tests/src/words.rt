@@ -14,96 +14,94 @@ fn words_of(alloc: Global, texts: &[&str]) -> Result<Vec<String>, AllocError> {
     Ok(words)
 }
 
-fn check<'a>(catalog: &'a str, owner: &'a str, file: &'a str) -> Result<Command<'a>, WordsFault> {
-    Ok(Command::Check {
-        catalog,
-        owner,
-        file,
-    })
-}
+// Words, and the command that they are.
+#[rattlefmt::skip]
+const COMMANDS: [(&[&str], Command<'static>); 13] = [
+    // each command
+    (&["check", "c", "o", "f"], Command::Check { catalog: "c", owner: "o", file: "f" }),
+    (&["init", "c", "k"], Command::Init { catalog: "c", key: "k" }),
+    (&["run", "c", "k"], RUN),
+    (&["audit", "c", "k"], Command::Audit { catalog: "c", key: "k" }),
+    (&["gap", "c", "o", "d", "f"], Command::Gap { catalog: "c", owner: "o", second_catalog: "d", file: "f" }),
+    // the option, at each place, in both forms, with each numeral of 1
+    (&["run", "c", "k", "--workers", "1"], RUN),
+    (&["run", "c", "--workers", "1", "k"], RUN),
+    (&["run", "--workers", "1", "c", "k"], RUN),
+    (&["run", "c", "k", "--workers=1"], RUN),
+    (&["run", "c", "k", "--workers", "01"], RUN),
+    (&["run", "c", "k", "--workers", "+1"], RUN),
+    // names that begin with a hyphen, or are empty
+    (&["run", "--", "-c", "--workers"], Command::Run { catalog: "-c", key: "--workers", workers: 1 }),
+    (&["run", "-", ""], Command::Run { catalog: "-", key: "", workers: 1 }),
+];
 
-fn run<'a>(catalog: &'a str, key: &'a str) -> Result<Command<'a>, WordsFault> {
-    Ok(Command::Run {
-        catalog,
-        key,
-        workers: 1,
-    })
+const RUN: Command<'static> = Command::Run {
+    catalog: "c",
+    key: "k",
+    workers: 1,
+};
+
+// Words that are no command.
+#[rattlefmt::skip]
+const OTHER_WORDS: [&[&str]; 33] = [
+    // other numbers, and no number
+    &["run", "c", "k", "--workers", "0"],
+    &["run", "c", "k", "--workers", "2"],
+    &["run", "c", "k", "--workers", "-1"],
+    &["run", "c", "k", "--workers", "one"],
+    &["run", "c", "k", "--workers", ""],
+    &["run", "c", "k", "--workers="],
+    &["run", "c", "k", "--workers"],
+    &["run", "c", "k", "--workers", "1", "--workers", "1"],
+    // no command
+    &[],
+    &[""],
+    &["serve", "c", "k"],
+    &["Run", "c", "k"],
+    &["c", "run", "k"],
+    // a word too few, and one too many
+    &["check", "c", "o"],
+    &["check", "c", "o", "f", "g"],
+    &["init", "c"],
+    &["audit", "c", "k", "l"],
+    &["run", "c"],
+    &["run", "c", "k", "l"],
+    &["gap", "c", "o", "d"],
+    &["gap", "c", "o", "d", "f", "g"],
+    // options that aren't there
+    &["check", "c", "o", "f", "--workers", "1"],
+    &["init", "c", "k", "--workers", "1"],
+    &["audit", "c", "k", "--workers=1"],
+    &["run", "c", "k", "--seed", "1"],
+    &["run", "-w", "1", "c", "k"],
+    &["--workers", "1", "run", "c", "k"],
+    // help and the version
+    &["--help"],
+    &["-h"],
+    &["help"],
+    &["run", "--help"],
+    &["--version"],
+    // hyphens before the command
+    &["--", "run", "c", "k"],
+];
+
+#[test]
+fn reads_commands(rt: HostRuntime) -> Result<(), AllocError> {
+    for (texts, command) in &COMMANDS {
+        let words = words_of(rt.alloc(), texts)?;
+        assert!(rt; read_words(rt.alloc(), &words) == Ok(*command), "{texts:?}");
+    }
+    Ok(())
 }
 
 #[test]
-fn reads_words(rt: HostRuntime) -> Result<(), AllocError> {
-    let alloc = rt.alloc();
-    let gap = Ok(Command::Gap {
-        catalog: "c",
-        owner: "o",
-        second_catalog: "d",
-        file: "f",
-    });
-    let usage = Err(WordsFault::Usage);
-    let (catalog, key) = ("c", "k");
-    let rows: [(&[&str], Result<Command<'_>, WordsFault>); 46] = [
-        // each command
-        (&["check", "c", "o", "f"], check("c", "o", "f")),
-        (&["init", "c", "k"], Ok(Command::Init { catalog, key })),
-        (&["run", "c", "k"], run("c", "k")),
-        (&["audit", "c", "k"], Ok(Command::Audit { catalog, key })),
-        (&["gap", "c", "o", "d", "f"], gap),
-        // the option, at each place, in both forms, with each numeral of 1
-        (&["run", "c", "k", "--workers", "1"], run("c", "k")),
-        (&["run", "c", "--workers", "1", "k"], run("c", "k")),
-        (&["run", "--workers", "1", "c", "k"], run("c", "k")),
-        (&["run", "c", "k", "--workers=1"], run("c", "k")),
-        (&["run", "c", "k", "--workers", "01"], run("c", "k")),
-        (&["run", "c", "k", "--workers", "+1"], run("c", "k")),
-        // other numbers, and no number
-        (&["run", "c", "k", "--workers", "0"], usage),
-        (&["run", "c", "k", "--workers", "2"], usage),
-        (&["run", "c", "k", "--workers", "-1"], usage),
-        (&["run", "c", "k", "--workers", "one"], usage),
-        (&["run", "c", "k", "--workers", ""], usage),
-        (&["run", "c", "k", "--workers="], usage),
-        (&["run", "c", "k", "--workers"], usage),
-        (
-            &["run", "c", "k", "--workers", "1", "--workers", "1"],
-            usage,
-        ),
-        // no command
-        (&[], usage),
-        (&[""], usage),
-        (&["serve", "c", "k"], usage),
-        (&["Run", "c", "k"], usage),
-        (&["c", "run", "k"], usage),
-        // a word too few, and one too many
-        (&["check", "c", "o"], usage),
-        (&["check", "c", "o", "f", "g"], usage),
-        (&["init", "c"], usage),
-        (&["audit", "c", "k", "l"], usage),
-        (&["run", "c"], usage),
-        (&["run", "c", "k", "l"], usage),
-        (&["gap", "c", "o", "d"], usage),
-        (&["gap", "c", "o", "d", "f", "g"], usage),
-        // options that aren't there
-        (&["check", "c", "o", "f", "--workers", "1"], usage),
-        (&["init", "c", "k", "--workers", "1"], usage),
-        (&["audit", "c", "k", "--workers=1"], usage),
-        (&["run", "c", "k", "--seed", "1"], usage),
-        (&["run", "-w", "1", "c", "k"], usage),
-        (&["--workers", "1", "run", "c", "k"], usage),
-        // help and the version
-        (&["--help"], usage),
-        (&["-h"], usage),
-        (&["help"], usage),
-        (&["run", "--help"], usage),
-        (&["--version"], usage),
-        // names that begin with a hyphen, or are empty
-        (&["run", "--", "-c", "--workers"], run("-c", "--workers")),
-        (&["run", "-", ""], run("-", "")),
-        (&["--", "run", "c", "k"], usage),
-    ];
-    for (texts, want) in rows {
-        let words = words_of(alloc, texts)?;
-        let got = read_words(alloc, &words);
-        assert_eq!(rt; got, want, "{texts:?}");
+fn refuses_other_words(rt: HostRuntime) -> Result<(), AllocError> {
+    for texts in &OTHER_WORDS {
+        let words = words_of(rt.alloc(), texts)?;
+        assert!(rt;
+            read_words(rt.alloc(), &words) == Err(WordsFault::Usage),
+            "{texts:?}"
+        );
     }
     Ok(())
 }
