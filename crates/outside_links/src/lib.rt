@@ -9,8 +9,6 @@ use fz_outside::Failed;
 
 pub mod link;
 pub mod memory;
-#[cfg(test)]
-mod tests;
 
 // Counts a fault.
 fn fault(count: &mut u64) -> Failed

@@ -10,6 +10,8 @@ mod draws;
 #[cfg(test)]
 mod files_and_streams;
 #[cfg(test)]
+mod links;
+#[cfg(test)]
 mod plain_sampler;
 #[cfg(test)]
 mod samples;
