@@ -3,7 +3,7 @@
 use partition_charge::view::View;
 
 /// What an analyst asks of an owner. It borrows the line.
-#[derive(Clone, Copy, Debug)]
+#[derive(Clone, Copy)]
 pub struct Query<'a> {
     /// The number of the owner.
     pub owner: u32,

@@ -43,6 +43,14 @@ pub record BackFrom (passes rest : List Pass) (start now : Shelf) : Type 0 where
   pub taken : (o : ℕ) → o < length rest → now o ≡ None
   pub others : (o : ℕ) → length passes ≤ o → now o ≡ start o
 
+-- at most all of them are left
+pub left_few : (passes rest : List Pass) (start now : Shelf) → BackFrom passes rest start now → length rest ≤ length passes
+left_few passes rest start now b = let all : length passes ≡ length rest + length b.done = ap length b.split ∙ length-append rest b.done in omega (arith, all)
+
+-- one fewer is left
+pub one_fewer : (old rest : List Pass) (pass : Pass) → old ≡ rest ++ pass ∷ [] → length old ≡ length rest + 1
+one_fewer old rest pass popped = ap length popped ∙ length-append rest (pass ∷ [])
+
 pub back_begun : (passes : List Pass) (start : Shelf) → ((o : ℕ) → o < length passes → start o ≡ None) → BackFrom passes passes start start
 back_begun passes start taken = record {
   done = [];
@@ -72,7 +80,7 @@ pub back_more : (passes old rest : List Pass) (pass : Pass) (start now later : S
 back_more passes old rest pass start now later popped b changes stored =
     let split : passes ≡ rest ++ pass ∷ b.done = b.split ∙ ap (λ (ps : List Pass). ps ++ b.done) popped ∙ append_assoc rest (pass ∷ []) b.done in
     let seam : pass_at passes (length rest) ≡ pass = ap (λ (ps : List Pass). pass_at ps (length rest)) split ∙ get_or-append_seam rest pass b.done no_pass in
-    let long : length old ≡ length rest + 1 = ap length popped ∙ length-append rest (pass ∷ []) in
+    let long = one_fewer old rest pass popped in
     let all : length passes ≡ length rest + length (pass ∷ b.done) = ap length split ∙ length-append rest (pass ∷ b.done) in
     record {
       done = pass ∷ b.done;

@@ -9,6 +9,7 @@ use Rattle.wire_lines.specs.Refusal.{by_program}
 use Rattle.wire_lines.specs.Reply.{refused as refused_reply, sensitivity_text, reply_text}
 use Rattle.answer_path.specs.Reading.{Reading, IsReading}
 use Rattle.answer_path.specs.Judgement.{Judgement, HasValue, refused_for, accepted, judgement_of}
+use Rattle.owner_catalog.specs.Entries.{Catalog, OwnerEntry}
 use Rattle.catalog_loading.specs.Steps.{FileStep, ◌>>=◌, done, file_read, from}
 use Rattle.catalog_loading.specs.Loaded.{catalog_read, entry_named, owner_loaded}
 use Rattle.catalog_loading.specs.Fit.{fitting}
@@ -28,6 +29,21 @@ gap_steps catalog owner second_catalog file = do
   second_holding ← owner_loaded second_house owner
   program ← file_read file
   done (to_compare holding.tables holding.rows second_holding.rows program)
+
+-- the work that is left where the owner is found in both catalogs
+abbrev pub loading_steps : (house second_house : Catalog) → (owner file : List ℕ) → FileStep Ending
+loading_steps house second_house owner file = do
+  holding ← owner_loaded house owner
+  second_holding ← owner_loaded second_house owner
+  program ← file_read file
+  done (to_compare holding.tables holding.rows second_holding.rows program)
+
+-- and where it is found in the first one
+abbrev pub second_steps : (house : Catalog) → OwnerEntry → (owner second_catalog file : List ℕ) → FileStep Ending
+second_steps house entry owner second_catalog file = do
+  second_house ← catalog_read second_catalog
+  second_entry ← from (fitting entry second_house owner)
+  loading_steps house second_house owner file
 
 -- the four lines of an accepted program: how far the datasets are apart, its sensitivity, its values, and their difference
 abbrev pub gap_text : (distance : ℕ) → Distance → (first second : ℤ) → List ℕ

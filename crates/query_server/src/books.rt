@@ -94,6 +94,7 @@ pub(crate) fn open_book<B: Bay>(
 }
 
 /// Puts the disks of the first owners' passes back.
+#[tactic(none)]
 pub fn put_back<B: Bay>(bay: &mut B, passes: Vec<Pass<B::D>>)
     requires few { length passes.items ≤ 16 }
     requires known { length passes.items ≤ B.owners bay.old }

@@ -1,6 +1,6 @@
 //! A program's values on two datasets are compared.
 
-ghost use Rattle.std.specs.Prelude.{◌≡◌, ℕ, List, Option, IfOk, IsErrOf};
+ghost use Rattle.std.specs.Prelude.{◌≡◌, ◌<◌, ℕ, List, Option, length, IfOk, IsErrOf};
 ghost use Rattle.fz_frac.specs.Sens.{distance_of};
 ghost use Rattle.metric_law.specs.Means.{Means};
 ghost use Rattle.metric_values.specs.Tables.{apart, rows_of as tables_rows};
@@ -9,10 +9,12 @@ ghost use Rattle.answer_path.specs.Code.{IsJudged};
 ghost use Rattle.answer_path.specs.Judgement.{AreNames};
 ghost use Rattle.fz_outside.specs.Faults.{HasCause};
 ghost use Rattle.query_server.specs.Ending.{to_compare};
-ghost use Rattle.query_server.specs.Gap.{gap_steps, gap_text};
+ghost use Rattle.query_server.specs.Gap.{gap_steps, gap_text, loading_steps, second_steps};
 ghost use Rattle.query_server.specs.Shelves.{Shelf};
 ghost use Rattle.query_server.specs.Due.{ForContents};
-ghost use Rattle.catalog_loading.specs.Given.{IsStep};
+ghost use Rattle.owner_catalog.specs.Catalog.{IsCatalog};
+ghost use Rattle.owner_catalog.specs.Entries.{owner_entry_at, owner_signature};
+ghost use Rattle.catalog_loading.specs.Given.{IsOwnerAt, IsStep};
 ghost use Rattle.query_server.specs.Ends.{IsEndOf, IsGapOn, IsStepEnd, end_by};
 
 use crate::end::End;
@@ -24,6 +26,7 @@ use catalog_loading::{Stop, find_fitting, find_owner, load_for, open_catalog, re
 use fuzz_eval::run::run;
 use fz_frac::Sens;
 use fz_outside::files::Files;
+use owner_catalog::Catalog;
 use part_views::Dataset;
 use std::alloc::{AllocError, Global};
 use value_distance::tables_apart;
@@ -125,6 +128,61 @@ fn compare(
     Ok(ProgramEnd::Accepted(comparison_lines(alloc, &comparison)?))
 }
 
+/// Reads the tables of all owners of the first catalog and of the second, and then the program.
+fn load_operands<F: Files>(
+    alloc: Global,
+    files: &mut F,
+    first_house: &Catalog,
+    first_owner: u32,
+    second_house: &Catalog,
+    second_owner: u32,
+    file: &str,
+) -> Result<Operands, Stop>
+    requires owners { (first_owner < length first_house.now.owners) × (second_owner < length second_house.now.owners) }
+    requires fit { owner_signature (owner_entry_at second_house.now second_owner) ≡ owner_signature (owner_entry_at first_house.now first_owner) }
+    ensures step { (name : List ℕ) → IsOwnerAt first_house.now name first_owner → IsOwnerAt second_house.now name second_owner →
+        IsStep (F.held files.old) (F.names files.old) (F.names files.new) (loading_steps first_house.now second_house.now name file.now)
+        (λ found. to_compare found.first.tables found.first.rows found.second.rows found.program.items) result }
+    ensures tables { IfOk result (λ found. found.second.tables ≡ found.first.tables) }
+    ensures names { IfOk result (λ found. AreNames found.first.tables) }
+    ensures same { F.held files.new ≡ F.held files.old }
+    ensures cause { HasCause (F.faults files.old) (F.faults files.new) (IsErrOf result Stop.Fault) }
+{
+    let first = load_for(alloc, files, first_house, first_owner)?;
+    let second = load_for(alloc, files, second_house, second_owner)?;
+    let program = read_file(alloc, files, file)?;
+    Ok(Operands {
+        first,
+        second,
+        program,
+    })
+}
+
+/// Reads the second catalog, in which the owner is looked for, and then what is left.
+fn read_second<F: Files>(
+    alloc: Global,
+    files: &mut F,
+    first_house: &Catalog,
+    first_owner: u32,
+    owner: &str,
+    second_catalog: &str,
+    file: &str,
+) -> Result<Operands, Stop>
+    requires owner { IsOwnerAt first_house.now owner.now first_owner }
+    requires legal { IsCatalog first_house.now }
+    ensures step { IsStep (F.held files.old) (F.names files.old) (F.names files.new)
+        (second_steps first_house.now (owner_entry_at first_house.now first_owner) owner.now second_catalog.now file.now)
+        (λ found. to_compare found.first.tables found.first.rows found.second.rows found.program.items) result }
+    ensures tables { IfOk result (λ found. found.second.tables ≡ found.first.tables) }
+    ensures names { IfOk result (λ found. AreNames found.first.tables) }
+    ensures same { F.held files.new ≡ F.held files.old }
+    ensures cause { HasCause (F.faults files.old) (F.faults files.new) (IsErrOf result Stop.Fault) }
+{
+    let house = open_catalog(alloc, files, second_catalog)?;
+    let found = find_fitting(alloc, first_house, first_owner, &house, owner)?;
+    load_operands(alloc, files, first_house, first_owner, &house, found, file)
+}
+
 /// Reads what a `gap` works on: the first catalog and the owner in it, the second catalog and the owner in it, the tables of all
 /// owners of the first and of the second, and then the program.
 fn read_operands<F: Files>(
@@ -142,18 +200,9 @@ fn read_operands<F: Files>(
     ensures same { F.held files.new ≡ F.held files.old }
     ensures cause { HasCause (F.faults files.old) (F.faults files.new) (IsErrOf result Stop.Fault) }
 {
-    let first_house = open_catalog(alloc, files, catalog)?;
-    let first_owner = find_owner(alloc, &first_house, owner)?;
-    let second_house = open_catalog(alloc, files, second_catalog)?;
-    let second_owner = find_fitting(alloc, &first_house, first_owner, &second_house, owner)?;
-    let first = load_for(alloc, files, &first_house, first_owner)?;
-    let second = load_for(alloc, files, &second_house, second_owner)?;
-    let program = read_file(alloc, files, file)?;
-    Ok(Operands {
-        first,
-        second,
-        program,
-    })
+    let house = open_catalog(alloc, files, catalog)?;
+    let found = find_owner(alloc, &house, owner)?;
+    read_second(alloc, files, &house, found, owner, second_catalog, file)
 }
 
 /// Reads the files of a `gap`, and compares its program on both datasets.

@@ -7,7 +7,7 @@ use crate::numbers::put_field;
 use std::alloc::{AllocError, Global};
 
 /// Why an owner's journal is not opened or not made.
-#[derive(Clone, Copy, Debug, Drop, PartialEq, Eq)]
+#[derive(Clone, Copy)]
 pub(crate) enum JournalRefusal {
     /// No `init` was done: the disk has so many bytes, and no header.
     Uninitialised { length: u64 },

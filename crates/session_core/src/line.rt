@@ -12,7 +12,7 @@ use partition_charge::view::View;
 use wire_lines::{LineRefusal, Name, Refusal, Reply, Request, read_request};
 
 /// What a line comes to, by the names of the house and by who speaks.
-#[derive(Clone, Copy, Debug)]
+#[derive(Clone, Copy)]
 pub enum LineMeaning<'a> {
     /// A reply, and who speaks then.
     Says {
@@ -34,7 +34,7 @@ pub enum LineMeaning<'a> {
 }
 
 /// What a query is to look at: an owner, and the whole of its data or a part.
-#[derive(Clone, Copy, Debug)]
+#[derive(Clone, Copy)]
 struct Subject {
     owner: u32,
     view: View,

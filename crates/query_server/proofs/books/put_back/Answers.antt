@@ -1,10 +1,28 @@
 use Rattle.std.proofs.Common.{◌≡◌, ◌∙◌, length, refl, ap, arith}
 use Rattle.budget_ledger.specs.Account.{Account}
-use Rattle.query_server.proofs.Back.{back_all, back_begun, back_more, changed_to, stored_by}
+use Rattle.query_server.proofs.Back.{back_all, back_begun, back_more, changed_to, left_few, one_fewer, stored_by}
 use Rattle.query_server.proofs.books.put_back.Goals as goal
 
 pub loop-pass-init : goal.loop-pass-init
 loop-pass-init g c = record { back = back_begun _ _ c.requires.taken; owners = refl; faults = refl }
+
+pub overflow_cast-owner : goal.overflow_cast-owner
+overflow_cast-owner g c =
+    let fewer = one_fewer _ _ _ c.in-Some.ensures.items in
+    omega (arith, fewer, left_few _ _ _ _ c.loop-pass.invariant.back, c.requires.few, c.len-owner.ensures, c.pop.new.self.ok)
+
+pub put_back-requires-clause-owner : goal.put_back-requires-clause-owner
+put_back-requires-clause-owner g c =
+    let fewer = one_fewer _ _ _ c.in-Some.ensures.items in
+    omega (arith, fewer, left_few _ _ _ _ c.loop-pass.invariant.back, c.requires.known, c.loop-pass.invariant.owners, c.len-owner.ensures, c.pop.new.self.ok)
+
+pub put_back-requires-clause-taken : goal.put_back-requires-clause-taken
+put_back-requires-clause-taken g c =
+    let fewer = one_fewer _ _ _ c.in-Some.ensures.items in
+    c.loop-pass.invariant.back.taken c.len-owner.result (omega (arith, fewer, c.len-owner.ensures, c.pop.new.self.ok))
+
+pub loop-pass-smaller : goal.loop-pass-smaller
+loop-pass-smaller g c = let fewer = one_fewer _ _ _ c.in-Some.ensures.items in omega (arith, fewer)
 
 pub loop-pass-preserved : goal.loop-pass-preserved
 loop-pass-preserved g c =
@@ -24,3 +42,9 @@ pub returns-clause-back : goal.returns-clause-back
 returns-clause-back g c =
     let none : length c.loop-pass.rest.items ≡ 0 = omega (arith, c.in_default.ensures.cases) in
     back_all _ _ _ _ none c.loop-pass.invariant.back
+
+pub returns-clause-owners : goal.returns-clause-owners
+returns-clause-owners g c = c.loop-pass.invariant.owners
+
+pub returns-clause-faults : goal.returns-clause-faults
+returns-clause-faults g c = c.loop-pass.invariant.faults

@@ -6,9 +6,14 @@ use Rattle.session_core.specs.Code.{ArePasses}
 use Rattle.catalog_loading.specs.Loaded.{owners_in}
 use Rattle.catalog_loading.specs.Given.{loading_by}
 use Rattle.query_server.specs.Ends.{IsAnsweredOn}
+use Rattle.query_server.specs.declared.end.End.TheVariants.{Run}
 use Rattle.query_server.proofs.Contents.{any_left}
 use Rattle.query_server.proofs.Ran.{answered_count, answered_no_disk, few_owners, open_passed, opened_passes, run_ends}
+use Rattle.query_server.proofs.Taking.{took_passed}
 use Rattle.query_server.proofs.running.answer.Goals as goal
+
+pub returns-in_err-open_passes-clause-taken : goal.returns-in_err-open_passes-clause-taken
+returns-in_err-open_passes-clause-taken g c = took_passed _ Run c.in_err-open_passes.field-0.0 c.from_residual.result c.from_residual.ensures.1
 
 pub returns-in_err-open_passes-clause-end : goal.returns-in_err-open_passes-clause-end
 returns-in_err-open_passes-clause-end g c =
@@ -24,15 +29,19 @@ answer_over-end-requires g c =
           (opened_passes loading c.args.opened.now.key c.requires.loaded _ _ c.in_ok-open_passes.field-0.items c.in_ok-open_passes.ensures.passes);
     }
 
-pub put_back-requires-clause-known : goal.put_back-requires-clause-known
-put_back-requires-clause-known g c =
+pub put_back-requires : goal.put_back-requires
+put_back-requires g c =
     let loading = loading_by c.args.opened.now.house c.args.opened.now.hashes.items in
     let due = c.answer_over-end.ensures.end in
+    let opened = c.in_ok-open_passes.ensures.passes in
     let count : length c.answer_over-end.new.passes ≡ length c.new-passes.result = answered_count loading c.args.opened.now.key c.requires.loaded (draws_of c.args.opened.now.key) _ _ due.0 c.answer_over-end.result due.2 in
     let few = few_owners loading c.args.opened.now.key c.requires.loaded in
-    let all : length c.into_vec.result.items ≡ owners_in loading =
-    ap length c.into_vec.ensures ∙ count ∙ ap length c.new-passes.ensures ∙ c.in_ok-open_passes.ensures.passes.count in
-    omega (arith, few, all, (c.requires.home 15 (omega arith)).0, c.in_ok-open_passes.ensures.owners)
+    let all : length c.into_vec.result.items ≡ owners_in loading = ap length c.into_vec.ensures ∙ count ∙ ap length c.new-passes.ensures ∙ opened.count in
+    record {
+      few = omega (arith, few, all);
+      known = omega (arith, few, all, (c.requires.home 15 (omega arith)).0, c.in_ok-open_passes.ensures.owners);
+      taken = λ o less. opened.taken o (omega (arith, less, all));
+    }
 
 pub returns-clause-end : goal.returns-clause-end
 returns-clause-end g c =
@@ -51,3 +60,15 @@ returns-clause-disk g c = λ line is.
     let loading = loading_by c.args.opened.now.house c.args.opened.now.hashes.items in
     let due = c.answer_over-end.ensures.end in
     answered_no_disk loading c.args.opened.now.key c.requires.loaded (draws_of c.args.opened.now.key) _ _ due.0 c.answer_over-end.result line due.2 is
+
+pub returns-clause-taken : goal.returns-clause-taken
+returns-clause-taken g c = c.answer_over-end.ensures.taken
+
+pub returns-clause-owners : goal.returns-clause-owners
+returns-clause-owners g c = c.put_back.ensures.owners ∙ c.in_ok-open_passes.ensures.owners
+
+pub returns-clause-bay : goal.returns-clause-bay
+returns-clause-bay g c = omega (arith, c.put_back.ensures.faults, c.in_ok-open_passes.ensures.faults)
+
+pub returns-clause-cause : goal.returns-clause-cause
+returns-clause-cause g c = c.answer_over-end.ensures.cause
