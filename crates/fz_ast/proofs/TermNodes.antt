@@ -1,14 +1,15 @@
 -- One more term, or one more type among the terms.
-use Rattle.std.proofs.Common.{◌≡◌, ℕ, suc, ◌+◌, ◌<◌, ◌≤◌, ap, refl, sym, subst, ◌∙◌, arith, max, List, [], ◌∷◌, ◌++◌, length, length-append, get_or, ◌⊎◌, inl, inr}
+use Rattle.std.proofs.Common.{◌≡◌, ℕ, ℤ, suc, ◌+◌, ◌<◌, ◌≤◌, ap, refl, sym, subst, ◌∙◌, arith, max, List, [], ◌∷◌, ◌++◌, length, length-append, get_or, ◌⊎◌, inl, inr}
 use Rattle.std.proofs.lemmas.List.{length-take}
 use Rattle.std.proofs.Math.ListN.{get_or-append}
 use Rattle.std.proofs.Math.Seq.{get_or-append_seam}
+use Rattle.fz_frac.specs.declared.sens.Sens.{Sens}
 use Rattle.fz_ast.specs.declared.span.Span.{Span}
 use Rattle.fz_ast.specs.Types.{Ty}
 use Rattle.fz_ast.specs.Terms.{Term, at, UnitE}
 use Rattle.fz_ast.specs.Bare.{nowhere}
 use Rattle.fz_ast.specs.Limits.{IsName, IsText, TypeLimits, TermLimits}
-use Rattle.fz_ast.specs.Depth.{depth}
+use Rattle.fz_ast.specs.Depth.{depth, type_depth}
 use Rattle.fz_ast.specs.Names.{name_of, text_of}
 use Rattle.fz_ast.specs.TypeNodes.{type_at, type_of, IsKnownType, HasBang}
 use Rattle.fz_ast.specs.declared.types.TypeForm.{TypeForm}
@@ -19,8 +20,11 @@ use Rattle.fz_ast.specs.declared.term.Unary.{Unary}
 use Rattle.fz_ast.specs.declared.term.Unary.TheVariants.{Fst, Snd, Least, Greatest, Size}
 use Rattle.fz_ast.specs.declared.term.Binary.{Binary}
 use Rattle.fz_ast.specs.declared.term.Binary.TheVariants.{Pair, With, App, Plus, Minus, AtMost, Equal, Union, Map, Filter, Split}
+use Rattle.fz_ast.specs.declared.term.Ranged.{Ranged}
 use Rattle.fz_ast.specs.declared.term.Ranged.TheVariants.{Sum, Clip}
+use Rattle.fz_ast.specs.declared.term.Side.{Side}
 use Rattle.fz_ast.specs.declared.term.Side.TheVariants.{Inl, Inr}
+use Rattle.fz_ast.specs.declared.term.Arrow.{Arrow}
 use Rattle.fz_ast.specs.declared.term.Arrow.TheVariants.{Fun, Fn}
 use Rattle.fz_ast.specs.declared.term.Form.{Form}
 use Rattle.fz_ast.specs.declared.term.Form.TheVariants.{Var, Num, Text, Unit as One, Unary as Op, Binary as Op2, Times, Ranged as Bounded, Inject, Bang, Let, LetBang, LetPair, If, Case, Lambda}
@@ -240,3 +244,35 @@ type_pushed T U ns A e a = rw e (terms_after_types T (A ∷ []) (terms_after (ty
 
 pub type_kept : (T U : List Ty) (ns : List Node) (form : TypeForm) → U ≡ T ++ type_of (type_at T) form ∷ [] → IsKnownType (length T) form → HasBang form → AreTerms T (terms_after (type_at T) [] ns) ns → AreTerms U (terms_after (type_at U) [] ns) ns
 type_kept T U ns form e h b a = rw (type_pushed T U ns (type_of (type_at T) form) e a, e) (are_terms_types T (type_of (type_at T) form) (terms_after (type_at T) [] ns) ns a (limits_of (type_at T) (length T) form a.types h b))
+
+-- the depth of a form's term, by how many parts the form has
+module _ (ty : ℕ → Ty) (part : ℕ → Term) (f : Form) (s : Span) where
+  abbrev form_depth : Form → ℕ
+  form_depth g = depth (at s (form_of ty part g))
+
+  pub depth_one : (e : ℕ) → ((o : Unary) × (f ≡ Op o e)) ⊎ (((k : ℤ) × (f ≡ Times k e)) ⊎ (((b : Ranged) × (lo : ℤ) × (hi : ℤ) × (f ≡ Bounded b lo hi e)) ⊎ ((r : Sens) × (f ≡ Bang r e)))) →
+      form_depth f ≡ suc (depth (part e))
+  depth_one e (inl (o, p)) = ap form_depth p ∙ unary_depth o s (part e)
+  depth_one e (inr (inl (k, p))) = ap form_depth p
+  depth_one e (inr (inr (inl (Sum, lo, hi, p)))) = ap form_depth p
+  depth_one e (inr (inr (inl (Clip, lo, hi, p)))) = ap form_depth p
+  depth_one e (inr (inr (inr (r, p)))) = ap form_depth p
+
+  pub depth_two : (a b : ℕ) → ((o : Binary) × (f ≡ Op2 o a b)) ⊎ (((x : Name) × (f ≡ Let x a b)) ⊎ (((x : Name) × (f ≡ LetBang x a b)) ⊎ ((x : Name) × (y : Name) × (f ≡ LetPair x y a b)))) →
+      form_depth f ≡ suc (max (depth (part a)) (depth (part b)))
+  depth_two a b (inl (o, p)) = ap form_depth p ∙ binary_depth o s (part a) (part b)
+  depth_two a b (inr (inl (x, p))) = ap form_depth p
+  depth_two a b (inr (inr (inl (x, p)))) = ap form_depth p
+  depth_two a b (inr (inr (inr (x, y, p)))) = ap form_depth p
+
+  pub depth_three : (e a b : ℕ) → (f ≡ If e a b) ⊎ ((x : Name) × (y : Name) × (f ≡ Case e x a y b)) →
+      form_depth f ≡ suc (max (depth (part e)) (max (depth (part a)) (depth (part b))))
+  depth_three e a b (inl p) = ap form_depth p
+  depth_three e a b (inr (x, y, p)) = ap form_depth p
+
+  pub depth_typed : (t e : ℕ) → ((o : Side) × (u : Span) × (f ≡ Inject o u t e)) ⊎ ((o : Arrow) × (x : Name) × (u : Span) × (f ≡ Lambda o x u t e)) →
+      form_depth f ≡ suc (max (type_depth (ty t)) (depth (part e)))
+  depth_typed t e (inl (Inl, u, p)) = ap form_depth p
+  depth_typed t e (inl (Inr, u, p)) = ap form_depth p
+  depth_typed t e (inr (Fun, x, u, p)) = ap form_depth p
+  depth_typed t e (inr (Fn, x, u, p)) = ap form_depth p

@@ -9,7 +9,7 @@ use crate::types::{TypeForm, Types};
 use std::alloc::Global;
 
 /// What a column of a table holds.
-#[derive(Clone, Copy, Debug, PartialEq, Eq)]
+#[derive(Clone, Copy)]
 pub enum Column {
     Num,
     Text,

@@ -1,7 +1,7 @@
 //! Terms as numbered nodes, each after its parts.
-ghost use Rattle.std.specs.Prelude.{◌≡◌, ◌+◌, ◌<◌, ◌≤◌, ◌++◌, [], ◌∷◌, length, IfOk, OnOk, OnErr};
+ghost use Rattle.std.specs.Prelude.{◌≡◌, ◌+◌, ◌<◌, ◌≤◌, ◌++◌, [], ◌∷◌, suc, max, length, IfOk, OnOk, OnErr};
 ghost use Rattle.fz_ast.specs.Limits.{TermLimits};
-ghost use Rattle.fz_ast.specs.Depth.{depth};
+ghost use Rattle.fz_ast.specs.Depth.{depth, type_depth};
 
 use crate::memory::NoMemory;
 use crate::name::{Name, Text};
@@ -173,27 +173,58 @@ impl Nodes {
         self.nodes[i as usize].depth
     }
 
+    // One more than a part's depth.
+    fn depth_above(&self, e: u32) -> u64
+        requires { e < length self.now.terms }
+        ensures is { result ≡ suc (depth (term_at self.now.terms e)) }
+        ensures shallow { result ≤ length self.now.terms + 4294967296 }
+    {
+        1 + self.depth(e)
+    }
+
+    // One more than the greater of two parts' depths.
+    fn depth_above_two(&self, a: u32, b: u32) -> u64
+        requires { (a < length self.now.terms) × (b < length self.now.terms) }
+        ensures is { result ≡ suc (max (depth (term_at self.now.terms a)) (depth (term_at self.now.terms b))) }
+        ensures shallow { result ≤ length self.now.terms + 4294967296 }
+    {
+        1 + self.depth(a).max(self.depth(b))
+    }
+
+    // One more than the greatest of three parts' depths.
+    fn depth_above_three(&self, e: u32, a: u32, b: u32) -> u64
+        requires { (e < length self.now.terms) × (a < length self.now.terms) × (b < length self.now.terms) }
+        ensures is { result ≡ suc (max (depth (term_at self.now.terms e)) (max (depth (term_at self.now.terms a)) (depth (term_at self.now.terms b)))) }
+        ensures shallow { result ≤ length self.now.terms + 4294967296 }
+    {
+        1 + self.depth(e).max(self.depth(a).max(self.depth(b)))
+    }
+
+    // One more than the greater of a written type's depth and a part's.
+    fn depth_above_type(&self, t: u32, e: u32) -> u64
+        requires { (t < length self.now.types) × (e < length self.now.terms) }
+        ensures is { result ≡ suc (max (type_depth (type_at self.now.types t)) (depth (term_at self.now.terms e))) }
+        ensures shallow { result ≤ length self.now.terms + 4294967296 }
+    {
+        1 + u64::from(self.types.depth(t)).max(self.depth(e))
+    }
+
     fn depth_of(&self, form: &Form) -> u64
-        requires known { IsKnown (length self.now.types) (length self.now.terms) form.now }
-        requires room { length self.now.terms < 4294967296 }
+        requires { IsKnown (length self.now.types) (length self.now.terms) form.now }
         ensures is { (s : Span) → result ≡ depth (term_of (type_at self.now.types) (term_at self.now.terms) s form.now) }
         ensures shallow { result ≤ length self.now.terms + 4294967296 }
     {
         match form {
             Form::Var(_) | Form::Num(_) | Form::Text(_) | Form::Unit => 1,
             Form::Unary(_, e) | Form::Times(_, e) | Form::Ranged(_, _, _, e) | Form::Bang(_, e) => {
-                1 + self.depth(*e)
+                self.depth_above(*e)
             }
             Form::Binary(_, a, b)
             | Form::Let(_, a, b)
             | Form::LetBang(_, a, b)
-            | Form::LetPair(_, _, a, b) => 1 + self.depth(*a).max(self.depth(*b)),
-            Form::If(e, a, b) | Form::Case(e, _, a, _, b) => {
-                1 + self.depth(*e).max(self.depth(*a).max(self.depth(*b)))
-            }
-            Form::Inject(_, _, t, e) | Form::Lambda(_, _, _, t, e) => {
-                1 + (self.types.depth(*t) as u64).max(self.depth(*e))
-            }
+            | Form::LetPair(_, _, a, b) => self.depth_above_two(*a, *b),
+            Form::If(e, a, b) | Form::Case(e, _, a, _, b) => self.depth_above_three(*e, *a, *b),
+            Form::Inject(_, _, t, e) | Form::Lambda(_, _, _, t, e) => self.depth_above_type(*t, *e),
         }
     }
 

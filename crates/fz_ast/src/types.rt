@@ -10,7 +10,7 @@ use std::alloc::Global;
 use std::marker::Model;
 
 /// A type's outermost form. A part is the number of its node.
-#[derive(Clone, Copy, Debug, PartialEq, Eq, Hash)]
+#[derive(Clone, Copy, PartialEq, Eq, Hash)]
 pub enum TypeForm {
     Num,
     Text,
@@ -30,7 +30,7 @@ pub enum TypeForm {
 }
 
 /// What is wrong with a type: the first fault, the outermost first.
-#[derive(Clone, Copy, Debug, PartialEq, Eq)]
+#[derive(Clone, Copy)]
 pub enum Formed {
     WellFormed,
     /// A side of a sum isn't ground.

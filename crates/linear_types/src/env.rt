@@ -14,7 +14,7 @@ use std::alloc::{AllocFailed, Global};
 use std::marker::Model;
 
 /// A name, and how sensitive a value is to it.
-#[derive(Clone, Copy, Debug, PartialEq, Eq)]
+#[derive(Clone, Copy)]
 pub struct Entry {
     pub name: Name,
     pub r: Sens,

@@ -31,7 +31,7 @@ pub enum FaultKind {
 }
 
 /// A member of the catalog or of an object in it, or an item of a list.
-#[derive(Clone, Copy, Debug, PartialEq, Eq)]
+#[derive(Clone, Copy, Debug)]
 pub enum Member {
     Catalog,
     Analysts,
@@ -59,7 +59,7 @@ pub enum Member {
 }
 
 /// Where a fault is. Numbers count from 0, and are 0 where there is none.
-#[derive(Clone, Copy, Debug, PartialEq, Eq)]
+#[derive(Clone, Copy, Debug)]
 pub struct Place {
     /// The member or item that is at fault, or that is missing; of an unknown member the object that it is in.
     pub member: Member,

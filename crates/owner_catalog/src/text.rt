@@ -1,10 +1,11 @@
 //! The forms of names, file names and keys.
-ghost use Rattle.std.specs.Prelude.{◌≡◌, ◌&&◌, not};
+ghost use Rattle.std.specs.Prelude.{◌≡◌, ◌&&◌, not, bytes_eq};
+ghost use Rattle.std.specs.List.{list_any};
 ghost use Rattle.fz_lexer.specs.Bytes.{is_letter, is_name_byte, begins, every_byte};
 ghost use Rattle.owner_catalog.specs.Forms.{has_form, is_catalog_name, is_reserved, is_table_name, is_file_name, is_key, is_file_byte, is_key_byte, is_byte_of};
 
 /// What a text is to be.
-#[derive(Clone, Copy, Debug, PartialEq, Eq)]
+#[derive(Clone, Copy)]
 pub(crate) enum Form {
     Name,
     TableName,
@@ -26,46 +27,23 @@ pub(crate) fn has_form(form: Form, text: &str) -> bool
     }
 }
 
-#[tactic(auto, unfolding(crate::specs::Forms::is_reserved, fz_lexer::specs::Words::spelling))]
+/// The words that programs reserve.
+const RESERVED: [&str; 33] = [
+    "fun", "fn", "let", "in", "case", "of", "inl", "inr", "if", "then", "else", "fst", "snd",
+    "true", "false", "num", "text", "unit", "bool", "bag", "inf", "size", "sum", "clip", "least",
+    "greatest", "map", "filter", "split", "union", "do", "release", "at",
+];
+
+fn is_one_of(words: &[&str], text: &str) -> bool
+    ensures { result ≡ list_any (λ word. bytes_eq text.now word.now) words.now }
+{
+    words.iter().any(|word| text == *word)
+}
+
 fn is_reserved(text: &str) -> bool
     ensures { result ≡ is_reserved text.now }
 {
-    matches!(
-        text,
-        "fun"
-            | "fn"
-            | "let"
-            | "in"
-            | "case"
-            | "of"
-            | "inl"
-            | "inr"
-            | "if"
-            | "then"
-            | "else"
-            | "fst"
-            | "snd"
-            | "true"
-            | "false"
-            | "num"
-            | "text"
-            | "unit"
-            | "bool"
-            | "bag"
-            | "inf"
-            | "size"
-            | "sum"
-            | "clip"
-            | "least"
-            | "greatest"
-            | "map"
-            | "filter"
-            | "split"
-            | "union"
-            | "do"
-            | "release"
-            | "at"
-    )
+    is_one_of(&RESERVED, text)
 }
 
 #[tactic(auto, unfolding(fz_lexer::specs::Bytes::is_letter))]

@@ -3,7 +3,7 @@ use fz_ast::{Name, NoMemory, Span};
 use fz_frac::Sens;
 
 /// What a part's type was wanted to be. A type is a number in the fault's types.
-#[derive(Clone, Copy, Debug, PartialEq, Eq)]
+#[derive(Clone, Copy)]
 pub enum Wanted {
     Exactly(u32),
     WithPair,

@@ -11,7 +11,7 @@ use fz_ast::NoMemory;
 use fz_frac::Sens;
 
 /// How far two values are apart.
-#[derive(Clone, Copy, Debug, PartialEq, Eq)]
+#[derive(Clone, Copy, PartialEq, Eq)]
 pub enum Dist {
     Finite(Ratio),
     Inf,

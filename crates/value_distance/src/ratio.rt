@@ -6,7 +6,7 @@ ghost use Rattle.fz_frac.specs.Lowest.{gcd, lowest};
 ghost use Rattle.value_distance.specs.Halves.{greatest_half, has_wide_half};
 
 /// The fraction `p/q` in lowest terms; zero is 0/1.
-#[derive(Clone, Copy, Debug, PartialEq, Eq)]
+#[derive(Clone, Copy, PartialEq, Eq)]
 pub struct Ratio {
     pub p: u64,
     pub q: u64,

@@ -69,6 +69,48 @@ fn between_bags(alloc: Global, v: &Value, w: &Value) -> Result<Dist, DistFault>
     Dist::whole(count).ok_or(DistFault::Range)
 }
 
+// How far the first halves of pairs are apart.
+#[cycle(types)]
+fn between_firsts(
+    alloc: Global,
+    types: &Types,
+    a: u32,
+    v: &Value,
+    w: &Value,
+) -> Result<Dist, DistFault>
+    requires known { a < length types.now }
+    requires pair { IsPair v.now }
+    requires other_pair { IsPair w.now }
+    requires first { TypedGround (type_at types.now a) (first_in v.now) }
+    requires other_first { TypedGround (type_at types.now a) (first_in w.now) }
+    ensures { IsDistanceAnswer result (type_at types.now a) (first_in v.now) (first_in w.now) }
+{
+    let first = v.first()?;
+    let other_first = w.first()?;
+    between(alloc, types, a, &first, &other_first)
+}
+
+// How far the second halves of pairs are apart.
+#[cycle(types)]
+fn between_seconds(
+    alloc: Global,
+    types: &Types,
+    b: u32,
+    v: &Value,
+    w: &Value,
+) -> Result<Dist, DistFault>
+    requires known { b < length types.now }
+    requires pair { IsPair v.now }
+    requires other_pair { IsPair w.now }
+    requires second { TypedGround (type_at types.now b) (second_in v.now) }
+    requires other_second { TypedGround (type_at types.now b) (second_in w.now) }
+    ensures { IsDistanceAnswer result (type_at types.now b) (second_in v.now) (second_in w.now) }
+{
+    let second = v.second()?;
+    let other_second = w.second()?;
+    between(alloc, types, b, &second, &other_second)
+}
+
 // How far the halves of pairs are apart, each at the type of its number.
 #[cycle(types)]
 fn between_halves(
@@ -89,10 +131,8 @@ fn between_halves(
     requires other_second { TypedGround (type_at types.now b) (second_in w.now) }
     ensures { AreHalves result (type_at types.now a) (type_at types.now b) v.now w.now }
 {
-    let (first, other_first) = (v.first()?, w.first()?);
-    let here = between(alloc, types, a, &first, &other_first)?;
-    let (second, other_second) = (v.second()?, w.second()?);
-    let there = between(alloc, types, b, &second, &other_second)?;
+    let here = between_firsts(alloc, types, a, v, w)?;
+    let there = between_seconds(alloc, types, b, v, w)?;
     Ok((here, there))
 }
 

@@ -1,9 +1,9 @@
 //! A reply is written as a line.
 
-ghost use Rattle.std.specs.Prelude.{◌≡◌, ◌+◌, ◌≤◌, ◌<◌, ◌^◌, ◌++◌, ◌∷◌, length, take, map, decimal, IsTrue};
+ghost use Rattle.std.specs.Prelude.{◌≡◌, ◌+◌, ◌≤◌, ◌<◌, ◌^◌, ◌++◌, [], ◌∷◌, codes, length, take, map, decimal, IsTrue};
 ghost use Rattle.fz_frac.specs.Sens.{distance_of};
 ghost use Rattle.wire_lines.specs.Refusal.{program_refusal_at, refusal_at};
-ghost use Rattle.wire_lines.specs.Reply.{IsReply, HasSize, text, ratio, recalled, reply_words, reply_text, replied, line_text, line_words, program_words, money_words, disk_words, number_words, refusal_words, datum_text, sensitivity_text, type_fault_text, datum_of};
+ghost use Rattle.wire_lines.specs.Reply.{IsReply, HasSize, number, text, ratio, recalled, reply_words, reply_text, replied, line_text, line_words, program_words, money_words, disk_words, number_words, refusal_words, datum_text, sensitivity_text, type_fault_text, datum_of};
 ghost use Rattle.wire_lines.specs.Lines.{space};
 ghost use Rattle.wire_lines.specs.Name.{is_name};
 ghost use Rattle.std.specs.List.{AllByRecursion};
@@ -18,7 +18,7 @@ use fz_frac::Sens;
 use itoa::Buffer;
 
 /// What became of a reservation.
-#[derive(Clone, Copy, Debug, PartialEq, Eq)]
+#[derive(Clone, Copy, Debug)]
 pub enum Standing {
     /// It was answered with this value.
     Answered(i64),
@@ -31,7 +31,7 @@ pub enum Standing {
 }
 
 /// A reply line.
-#[derive(Clone, Copy, Debug, PartialEq, Eq)]
+#[derive(Clone, Copy, Debug)]
 pub enum Reply<'a> {
     /// The analyst of the lines that follow.
     Hello {
@@ -295,12 +295,20 @@ fn write_refusal(refusal: Refusal<'_>, out: &mut [u8; REPLY_LIMIT]) -> usize
     }
 }
 
-/// A word of a reply that is always the same.
-fn word(bytes: &'static [u8]) -> Field<'static>
-    requires { IsTrue (is_name bytes.now) }
-    ensures { datum_of result ≡ text bytes.now }
+/// Writes what became of a reservation that has no answer, which one word says.
+fn write_unanswered(
+    reservation: u32,
+    said: &'static [u8],
+    seen: u32,
+    out: &mut [u8; REPLY_LIMIT],
+) -> usize
+    requires { IsTrue (is_name said.now) }
+    ensures fits { result ≤ REPLY_LIMIT }
+    ensures sized { AllByRecursion HasSize (number reservation ∷ text said.now ∷ number seen ∷ []) }
+    ensures text { take result out.new ≡ line_text (codes "recall", number reservation ∷ text said.now ∷ number seen ∷ []) }
 {
-    Field::Name(Name { bytes })
+    let said = Field::Name(Name { bytes: said });
+    put_line(out, b"recall", &[Number(reservation), said, Number(seen)])
 }
 
 /// Writes what became of a reservation.
@@ -309,19 +317,18 @@ fn write_recalled(number: u32, standing: Standing, seen: u32, out: &mut [u8; REP
     ensures sized { AllByRecursion HasSize (reply_words (recalled number standing seen)).1 }
     ensures text { take result out.new ≡ line_text (reply_words (recalled number standing seen)) }
 {
-    let number = Number(number);
-    let seen = Number(seen);
     match standing {
         Standing::Answered(value) => {
+            let said = Field::Name(Name { bytes: b"answer" });
             put_line(
                 out,
                 b"recall",
-                &[number, word(b"answer"), Field::Signed(value), seen],
+                &[Number(number), said, Field::Signed(value), Number(seen)],
             )
         }
-        Standing::Open => put_line(out, b"recall", &[number, word(b"open"), seen]),
-        Standing::Lost => put_line(out, b"recall", &[number, word(b"lost"), seen]),
-        Standing::Exhausted => put_line(out, b"recall", &[number, word(b"exhausted"), seen]),
+        Standing::Open => write_unanswered(number, b"open", seen, out),
+        Standing::Lost => write_unanswered(number, b"lost", seen, out),
+        Standing::Exhausted => write_unanswered(number, b"exhausted", seen, out),
     }
 }
 

@@ -15,7 +15,7 @@ use crate::refusal::LineRefusal;
 pub const LINE_LIMIT: usize = 16_384;
 
 /// What a line asks for. It borrows the line.
-#[derive(Clone, Copy, Debug, PartialEq, Eq)]
+#[derive(Clone, Copy, PartialEq, Eq)]
 pub enum Request<'a> {
     /// `hello ANALYST`
     Hello {
