@@ -3,7 +3,7 @@ use fz_ast::{Arrow, Binary, Ranged, Side, Unary};
 use fz_lexer::{Sign, Word};
 
 /// What a token has to be.
-#[derive(Clone, Copy, Debug, PartialEq, Eq)]
+#[derive(Clone, Copy)]
 pub enum Terminal {
     Named,
     Numeral,
@@ -15,7 +15,7 @@ pub enum Terminal {
 }
 
 /// What a rule stands for.
-#[derive(Clone, Copy, Debug, PartialEq, Eq)]
+#[derive(Clone, Copy)]
 #[rattlefmt::skip]
 pub enum Phrase {
     Expression, Binding, Comparison, ComparisonTail, Addition, AdditionTail, Multiplication,
@@ -25,7 +25,7 @@ pub enum Phrase {
 }
 
 /// What stands between two types.
-#[derive(Clone, Copy, Debug, PartialEq, Eq)]
+#[derive(Clone, Copy)]
 pub enum Joint {
     Lollipop,
     Sum,
@@ -34,7 +34,7 @@ pub enum Joint {
 }
 
 /// What is made of the parts that were read last.
-#[derive(Clone, Copy, Debug, PartialEq, Eq)]
+#[derive(Clone, Copy)]
 #[rattlefmt::skip]
 pub enum Action {
     Begin, LambdaTerm(Arrow), LetBangTerm, LetPairTerm, LetTerm, CaseTerm, IfTerm,
@@ -46,7 +46,7 @@ pub enum Action {
 }
 
 /// What a rule's body is made of.
-#[derive(Clone, Copy, Debug, PartialEq, Eq)]
+#[derive(Clone, Copy)]
 pub enum Item {
     /// A token.
     Take(Terminal),
@@ -57,7 +57,7 @@ pub enum Item {
 }
 
 /// What is on top of the stack before a token.
-#[derive(Clone, Copy, Debug, PartialEq, Eq)]
+#[derive(Clone, Copy)]
 pub enum Top {
     /// Nothing.
     Empty,

@@ -3,7 +3,7 @@ use crate::name::Name;
 use fz_frac::Sens;
 
 /// What the checker found wrong with a type.
-#[derive(Clone, Copy, Debug)]
+#[derive(Clone, Copy)]
 pub enum TypeFault {
     Unbound,
     Mismatch,
@@ -12,7 +12,7 @@ pub enum TypeFault {
 }
 
 /// What a line is refused for by itself.
-#[derive(Clone, Copy, Debug, PartialEq, Eq)]
+#[derive(Clone, Copy, PartialEq, Eq)]
 pub enum LineRefusal {
     /// 10: the number, from 0, of the first word that is missing, empty, too many or not of its kind.
     Malformed { word: u32 },
@@ -27,7 +27,7 @@ pub enum LineRefusal {
 }
 
 /// What a program is refused for. Spans are from a byte to the one behind the last.
-#[derive(Clone, Copy, Debug)]
+#[derive(Clone, Copy)]
 pub enum ProgramRefusal<'a> {
     /// 20: the byte at which no token begins.
     NoToken {
@@ -83,7 +83,7 @@ pub enum ProgramRefusal<'a> {
 }
 
 /// What the owner's budget refuses.
-#[derive(Clone, Copy, Debug)]
+#[derive(Clone, Copy)]
 pub enum MoneyRefusal {
     /// 40: in millionths what is spent, what would be spent, and the budget; and the records seen.
     OverBudget {
@@ -101,7 +101,7 @@ pub enum MoneyRefusal {
 }
 
 /// What is refused for the disk of the owner's journal.
-#[derive(Clone, Copy, Debug)]
+#[derive(Clone, Copy)]
 pub enum DiskRefusal {
     /// 42: the owner is closed since a disk fault, and how many the disk had then.
     Closed { failed_at: u64 },
@@ -110,7 +110,7 @@ pub enum DiskRefusal {
 }
 
 /// What is refused of a reservation, by its number.
-#[derive(Clone, Copy, Debug)]
+#[derive(Clone, Copy)]
 pub enum NumberRefusal {
     /// 50: its draws were exhausted.
     Exhausted { number: u32 },
@@ -123,7 +123,7 @@ pub enum NumberRefusal {
 }
 
 /// A refusal, by who says it.
-#[derive(Clone, Copy, Debug)]
+#[derive(Clone, Copy)]
 pub enum Refusal<'a> {
     /// 10 to 14
     Line(LineRefusal),

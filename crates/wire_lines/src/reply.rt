@@ -18,7 +18,7 @@ use fz_frac::Sens;
 use itoa::Buffer;
 
 /// What became of a reservation.
-#[derive(Clone, Copy, Debug)]
+#[derive(Clone, Copy)]
 pub enum Standing {
     /// It was answered with this value.
     Answered(i64),
@@ -31,7 +31,7 @@ pub enum Standing {
 }
 
 /// A reply line.
-#[derive(Clone, Copy, Debug)]
+#[derive(Clone, Copy)]
 pub enum Reply<'a> {
     /// The analyst of the lines that follow.
     Hello {
