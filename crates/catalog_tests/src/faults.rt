@@ -1,7 +1,8 @@
 //! Catalogs that are none, and the names that are refused.
 
-use memory_runs::{AGE, CATALOG, KEY, TABLE, TableText, census_with, ended, file, owner_text};
-use query_server::Status;
+use crate::commands::{RUN, refuses};
+use memory_runs::{AGE, CATALOG, KEY, TABLE, TableText, census_with, file, owner_text};
+use std::alloc::{AllocError, Global};
 use std::test::Fail;
 
 // What stands in a catalog of one owner and its table, and what is put in its place: once for each kind of fault at least.
@@ -28,18 +29,23 @@ const CHANGES: [(&str, &str); 14] = [
     ("\"partitions\":[]", "\"partitions\":[{\"name\":\"area\",\"table\":\"town\",\"column\":\"age\",\"keys\":[\"A\"]}]"),
 ];
 
+// The first change by which the catalog isn't refused, if there is one: what was put into it.
+fn first_taken(alloc: Global, whole: &str) -> Result<Option<&'static str>, AllocError> {
+    for (old, new) in &CHANGES {
+        let changed = whole.replace(alloc, old, new)?;
+        let held = [file("cat.json", changed.as_bytes())];
+        if !refuses(alloc, &RUN, &held, b"refused cat.json\n")? {
+            return Ok(Some(new));
+        }
+    }
+    Ok(None)
+}
+
 // The catalog in which one text is changed is refused by its file's name, before key and tables are looked at.
 #[test]
 fn each_change(rt: HostRuntime) -> Result<(), Fail> {
-    let alloc = rt.alloc();
-    let whole = str::from_utf8(CATALOG)?;
-    for (old, new) in CHANGES {
-        let changed = whole.replace(alloc, old, new)?;
-        let held = [file("cat.json", changed.as_bytes())];
-        let (status, out) = ended(alloc, &["run", "cat.json", "key"], &held, b"")?;
-        assert_eq!(rt; status, Status::Refused, "{new}");
-        assert_eq!(rt; out.as_slice(), b"refused cat.json\n".as_slice(), "{new}");
-    }
+    let taken = first_taken(rt.alloc(), str::from_utf8(CATALOG)?)?;
+    assert!(rt; taken.is_none(), "{taken:?}");
     Ok(())
 }
 
@@ -57,27 +63,24 @@ const TABLES: [&[TableText<'static>]; 6] = [
 #[test]
 fn each_table(rt: HostRuntime) -> Result<(), Fail> {
     let alloc = rt.alloc();
-    for tables in TABLES {
+    for tables in &TABLES {
         let catalog = census_with(alloc, tables)?;
         let held = [
             file("cat.json", catalog.as_bytes()),
             file("people.csv", TABLE),
             file("key", &KEY),
         ];
-        let (status, out) = ended(alloc, &["run", "cat.json", "key"], &held, b"")?;
-        assert_eq!(rt; status, Status::Refused, "{catalog}");
-        assert_eq!(rt;
-            out.as_slice(),
-            b"refused cat.json\n".as_slice(),
-            "{catalog}"
-        );
+        let is_due = refuses(alloc, &RUN, &held, b"refused cat.json\n")?;
+        assert!(rt; is_due, "{catalog}");
     }
     Ok(())
 }
 
-// The files of the tables of two owners, and the line that refuses the first that isn't right, whoever is asked for.
+// The files of an owner's two tables, that of another's one, and the line that refuses the first that isn't right, whoever is asked for.
+type Files = (&'static str, &'static str, &'static str, &'static [u8]);
+
 #[rattlefmt::skip]
-const FILES: [(&str, &str, &str, &[u8]); 5] = [
+const FILES: [Files; 5] = [
     ("age", "age", "none", b"refused none\n"),
     ("age", "none", "age", b"refused none\n"),
     ("age", "cells", "none", b"refused cells\n"),
@@ -85,28 +88,38 @@ const FILES: [(&str, &str, &str, &[u8]); 5] = [
     ("age", "age", "st\u{e4}dte", b"refused st\xC3\xA4dte\n"),
 ];
 
+// The catalog of two owners of these tables.
+fn catalog_over(
+    alloc: Global,
+    first: &str,
+    second: &str,
+    third: &str,
+) -> Result<String, AllocError> {
+    let one = owner_text(alloc, "one", 1, 2, &[("a", first, AGE), ("b", second, AGE)])?;
+    let two = owner_text(alloc, "two", 1, 2, &[("a", third, AGE)])?;
+    format!(in alloc; "{{\"owners\":[{one},{two}],\"analysts\":[\"ann\"]}}")
+}
+
+// Whether `run` and `check` both refuse a file by this line.
+fn is_refused(alloc: Global, catalog: &str, line: &[u8]) -> Result<bool, AllocError> {
+    let held = [
+        file("cat.json", catalog.as_bytes()),
+        file("age", b"age\n1\n"),
+        file("cells", b"age\n1.5\n"),
+        file("header", b"ages\n1\n"),
+        file("key", &KEY),
+    ];
+    let run = refuses(alloc, &RUN, &held, line)?;
+    let check = refuses(alloc, &["check", "cat.json", "one", "age"], &held, line)?;
+    Ok(run && check)
+}
+
 #[test]
 fn each_file(rt: HostRuntime) -> Result<(), Fail> {
-    let alloc = rt.alloc();
-    for (first, second, third, wanted) in FILES {
-        let one = owner_text(alloc, "one", 1, 2, &[("a", first, AGE), ("b", second, AGE)])?;
-        let two = owner_text(alloc, "two", 1, 2, &[("a", third, AGE)])?;
-        let catalog = format!(in alloc; "{{\"owners\":[{one},{two}],\"analysts\":[\"ann\"]}}")?;
-        let held = [
-            file("cat.json", catalog.as_bytes()),
-            file("age", b"age\n1\n"),
-            file("cells", b"age\n1.5\n"),
-            file("header", b"ages\n1\n"),
-            file("key", &KEY),
-        ];
-        for words in [
-            ["run", "cat.json", "key"].as_slice(),
-            &["check", "cat.json", "one", "age"],
-        ] {
-            let (status, out) = ended(alloc, words, &held, b"")?;
-            assert_eq!(rt; status, Status::Refused, "{words:?}");
-            assert_eq!(rt; out.as_slice(), wanted, "{words:?}");
-        }
+    for (first, second, third, line) in &FILES {
+        let catalog = catalog_over(rt.alloc(), first, second, third)?;
+        let is_due = is_refused(rt.alloc(), &catalog, line)?;
+        assert!(rt; is_due, "{first} {second} {third}");
     }
     Ok(())
 }

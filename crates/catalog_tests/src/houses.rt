@@ -1,8 +1,20 @@
 //! Houses of several owners and tables. What is wanted was worked out by hand, with the noise that tools/reference.py draws.
 
-use memory_runs::{AGE, KEY, TABLE, census_with, ended, file, owner_text};
+use crate::commands::{RUN, ends};
+use memory_runs::{AGE, KEY, TABLE, census_with, file, owner_text};
 use query_server::Status;
+use std::alloc::{AllocError, Global};
 use std::test::Fail;
+
+const SUMS: &[u8] = b"hello ann\n\
+    ask census 1 size a + 2 * size b\n\
+    ask census 1 2 * size a + size b\n\
+    ask census 1 size a + size b\n";
+
+const CHARGED: &[u8] = b"hello ann\n\
+    answer 0 6 2000000\n\
+    answer 1 5 2000000\n\
+    answer 2 3 1000000\n";
 
 // An owner of two tables: the greatest of their sensitivities counts.
 #[test]
@@ -17,17 +29,8 @@ fn greatest_of_two_tables(rt: HostRuntime) -> Result<(), Fail> {
         file("program", b"size a + 2 * size b"),
     ];
     let words = ["check", "cat.json", "census", "program"];
-    let (status, out) = ended(alloc, &words, &held, b"")?;
-    assert_eq!(rt; status, Status::Done);
-    assert_eq!(rt; out.as_slice(), b"ok 2\n".as_slice());
-    let script =
-        b"hello ann\nask census 1 size a + 2 * size b\nask census 1 2 * size a + size b\nask census 1 size a + size b\n";
-    let (status, out) = ended(alloc, &["run", "cat.json", "key"], &held, script)?;
-    assert_eq!(rt; status, Status::Done);
-    assert_eq!(rt;
-        out.as_slice(),
-        b"hello ann\nanswer 0 6 2000000\nanswer 1 5 2000000\nanswer 2 3 1000000\n".as_slice()
-    );
+    assert!(rt; ends(alloc, &words, &held, b"", Status::Done, b"ok 2\n")?);
+    assert!(rt; ends(alloc, &RUN, &held, SUMS, Status::Done, CHARGED)?);
     Ok(())
 }
 
@@ -59,35 +62,26 @@ const REPLIES: &[u8] = b"no 14\n\
     no 12 1\n\
     bye\n";
 
+// The catalog of the owners census and wards.
+fn two_owners_text(alloc: Global) -> Result<String, AllocError> {
+    let people = [("people", "people.csv", AGE)];
+    let stays = [("stays", "stays.csv", STAYS)];
+    let census = owner_text(alloc, "census", 10_000_000, 100, &people)?;
+    let wards = owner_text(alloc, "wards", 1_500_000, 4, &stays)?;
+    format!(in alloc; "{{\"analysts\":[\"ann\",\"bob\"],\"owners\":[{census},{wards}]}}")
+}
+
 // Each owner has tables, a budget, a capacity and numbers of its own, and its own noise.
 #[test]
 fn two_owners(rt: HostRuntime) -> Result<(), Fail> {
     let alloc = rt.alloc();
-    let census = owner_text(
-        alloc,
-        "census",
-        10_000_000,
-        100,
-        &[("people", "people.csv", AGE)],
-    )?;
-    let wards = owner_text(
-        alloc,
-        "wards",
-        1_500_000,
-        4,
-        &[("stays", "stays.csv", STAYS)],
-    )?;
-    let catalog = format!(in alloc;
-        "{{\"analysts\":[\"ann\",\"bob\"],\"owners\":[{census},{wards}]}}"
-    )?;
+    let catalog = two_owners_text(alloc)?;
     let held = [
         file("cat.json", catalog.as_bytes()),
         file("people.csv", TABLE),
         file("stays.csv", b"ward,nights\nA,3\nB,4\n"),
         file("key", &KEY),
     ];
-    let (status, out) = ended(alloc, &["run", "cat.json", "key"], &held, SCRIPT)?;
-    assert_eq!(rt; status, Status::Done);
-    assert_eq!(rt; out.as_slice(), REPLIES);
+    assert!(rt; ends(alloc, &RUN, &held, SCRIPT, Status::Done, REPLIES)?);
     Ok(())
 }

@@ -1,6 +1,8 @@
 //! Catalogs at the limits of their counts.
 
-use memory_runs::{AGE, KEY, TABLE, TableText, ended, file, owner_text};
+use crate::commands::{RUN, ends, refuses};
+use fz_outside::files::MemFile;
+use memory_runs::{AGE, KEY, TABLE, TableText, file, owner_text};
 use query_server::Status;
 use std::alloc::{AllocError, Global};
 use std::test::Fail;
@@ -18,7 +20,33 @@ const TABLES: [TableText<'static>; 9] = [
     ("t8", "people.csv", AGE),
 ];
 
-// A catalog of so many analysts `a0`, `a1`, .., and so many owners `o0`, `o1`, .., each of the first so many tables.
+// Puts so many analysts `a0`, `a1`, .. at the end.
+fn push_analysts(text: &mut String, analysts: usize) -> Result<(), AllocError> {
+    for number in 0..analysts {
+        let comma = if number == 0 { "" } else { "," };
+        write!(text, "{comma}\"a{number}\"")?;
+    }
+    Ok(())
+}
+
+// Puts so many owners `o0`, `o1`, .. of these tables at the end.
+fn push_owners(
+    alloc: Global,
+    text: &mut String,
+    owners: usize,
+    tables: &[TableText<'_>],
+) -> Result<(), AllocError> {
+    for number in 0..owners {
+        let comma = if number == 0 { "" } else { "," };
+        let name = format!(in alloc; "o{number}")?;
+        let owner = owner_text(alloc, &name, 2_000_000, 4, tables)?;
+        text.push_str(comma)?;
+        text.push_str(&owner)?;
+    }
+    Ok(())
+}
+
+// A catalog of so many analysts and owners, each owner of the first so many tables.
 fn catalog_of(
     alloc: Global,
     analysts: usize,
@@ -26,27 +54,22 @@ fn catalog_of(
     tables: usize,
 ) -> Result<String, AllocError> {
     let mut text = String::from_str(alloc, "{\"analysts\":[")?;
-    let mut comma = "";
-    for number in 0..analysts {
-        write!(text, "{comma}\"a{number}\"")?;
-        comma = ",";
-    }
+    push_analysts(&mut text, analysts)?;
     text.push_str("],\"owners\":[")?;
-    let mut comma = "";
-    for number in 0..owners {
-        let name = format!(in alloc; "o{number}")?;
-        let owner = owner_text(
-            alloc,
-            &name,
-            2_000_000,
-            4,
-            TABLES.get(..tables).unwrap_or(&TABLES),
-        )?;
-        write!(text, "{comma}{owner}")?;
-        comma = ",";
-    }
+    let tables = TABLES.get(..tables).unwrap_or(&TABLES);
+    push_owners(alloc, &mut text, owners, tables)?;
     text.push_str("]}")?;
     Ok(text)
+}
+
+// The files of a catalog, and one of this name.
+fn files_of<'a>(catalog: &'a str, name: &'a str, bytes: &'a [u8]) -> [MemFile<'a>; 4] {
+    [
+        file("cat.json", catalog.as_bytes()),
+        file("people.csv", TABLE),
+        file("last.csv", b"age\n1\n2\n3\n4\n5\n"),
+        file(name, bytes),
+    ]
 }
 
 // How many analysts, owners and tables an owner; whether there may be so many.
@@ -62,52 +85,49 @@ const COUNTS: [(usize, usize, usize, bool); 8] = [
     (1, 1, 0, false),
 ];
 
+// Whether `check` takes this catalog, or else refuses it by its name.
+fn is_taken(alloc: Global, catalog: &str, fits: bool) -> Result<bool, AllocError> {
+    let held = files_of(catalog, "program", b"size t0");
+    let words = ["check", "cat.json", "o0", "program"];
+    if fits {
+        ends(alloc, &words, &held, b"", Status::Done, b"ok 1\n")
+    } else {
+        refuses(alloc, &words, &held, b"refused cat.json\n")
+    }
+}
+
 #[test]
 fn each_count(rt: HostRuntime) -> Result<(), Fail> {
-    let alloc = rt.alloc();
-    for (analysts, owners, tables, fits) in COUNTS {
-        let catalog = catalog_of(alloc, analysts, owners, tables)?;
-        let held = [
-            file("cat.json", catalog.as_bytes()),
-            file("people.csv", TABLE),
-            file("last.csv", b"age\n1\n2\n3\n4\n5\n"),
-            file("program", b"size t0"),
-        ];
-        let words = ["check", "cat.json", "o0", "program"];
-        let (status, out) = ended(alloc, &words, &held, b"")?;
-        let wanted = if fits {
-            b"ok 1\n".as_slice()
-        } else {
-            b"refused cat.json\n"
-        };
-        assert_eq!(rt;
-            status == Status::Done,
-            fits,
-            "{analysts} {owners} {tables}"
-        );
-        assert_eq!(rt; out.as_slice(), wanted, "{analysts} {owners} {tables}");
+    for (analysts, owners, tables, fits) in &COUNTS {
+        let catalog = catalog_of(rt.alloc(), *analysts, *owners, *tables)?;
+        let is_due = is_taken(rt.alloc(), &catalog, *fits)?;
+        assert!(rt; is_due, "{analysts} {owners} {tables}");
     }
     Ok(())
 }
+
+const SCRIPT: &[u8] = b"hello a63\n\
+    ask o15 0.01 size t7\n\
+    ask o15 0.01 size t7\n\
+    ask o0 0.01 size t7\n\
+    ask o16 1 size t7\n\
+    ask o15 1 size t8\n\
+    hello a64\n";
+
+const REPLIES: &[u8] = b"hello a63\n\
+    answer 0 284 10000\n\
+    answer 1 52 10000\n\
+    answer 0 145 10000\n\
+    no 12 1\n\
+    no 30 unbound 5 7\n\
+    no 12 1\n";
 
 // The last analyst asks for the last table of the last owner.
 #[test]
 fn last_of_all(rt: HostRuntime) -> Result<(), Fail> {
     let alloc = rt.alloc();
     let catalog = catalog_of(alloc, 64, 16, 8)?;
-    let held = [
-        file("cat.json", catalog.as_bytes()),
-        file("people.csv", TABLE),
-        file("last.csv", b"age\n1\n2\n3\n4\n5\n"),
-        file("key", &KEY),
-    ];
-    let script =
-        b"hello a63\nask o15 0.01 size t7\nask o15 0.01 size t7\nask o0 0.01 size t7\nask o16 1 size t7\nask o15 1 size t8\nhello a64\n";
-    let (status, out) = ended(alloc, &["run", "cat.json", "key"], &held, script)?;
-    assert_eq!(rt; status, Status::Done);
-    assert_eq!(rt;
-        out.as_slice(),
-        b"hello a63\nanswer 0 284 10000\nanswer 1 52 10000\nanswer 0 145 10000\nno 12 1\nno 30 unbound 5 7\nno 12 1\n".as_slice()
-    );
+    let held = files_of(&catalog, "key", &KEY);
+    assert!(rt; ends(alloc, &RUN, &held, SCRIPT, Status::Done, REPLIES)?);
     Ok(())
 }

@@ -2,13 +2,14 @@
 //! server but the rules.
 
 use crate::links::RepliesFirst;
-use crate::serving::{connection, served};
+use crate::serving::{Serving, connection, served};
 use fz_outside::Failed;
 use fz_outside::words::ListStreams;
 use memory_runs::{Piece, TABLE, joined};
 use outside_links::link::Link;
 use outside_links::memory::MemLink;
 use session_serve::serve::SessionEnd::{self, Bye, EndOfInput};
+use std::alloc::{AllocError, Global};
 use std::test::Fail;
 
 // The bytes of a connection, what is written to it, and how its session ends.
@@ -60,22 +61,44 @@ const REFUSED: [Visit; 2] = [
         no 20 4096\nno 21 4096\nno 20 16000\nno 21 2\nno 21 9\nno 21 1\nno 60 0 0\nbye\n", Bye),
 ];
 
+// Whether a connection that passes so many bytes a call is served as is wanted.
+fn is_served(
+    alloc: Global,
+    house: &mut Serving<'_>,
+    visit: &Visit,
+    piece: usize,
+) -> Result<bool, AllocError> {
+    let (pieces, wanted, end) = visit;
+    let input = joined(alloc, pieces)?;
+    let mut link = connection(alloc, &input, 1024, piece, &[])?;
+    let came = house.serve_by_key(alloc, &mut link);
+    Ok(came == *end && link.written() == *wanted && link.faults() == 0)
+}
+
+// How many connections in a row are served as is wanted, from the first on.
+fn count_served(alloc: Global, visits: &[Visit], piece: usize) -> Result<usize, AllocError> {
+    let mut house = served(alloc, TABLE)?;
+    let mut count = 0usize;
+    for visit in visits {
+        if !is_served(alloc, &mut house, visit, piece)? {
+            break;
+        }
+        count = count.saturating_add(1);
+    }
+    Ok(count)
+}
+
+const ROWS: [&[Visit]; 3] = [&IN_A_ROW, &ENDS, &REFUSED];
+
+const PIECES: [usize; 4] = [65_536, 7, 3, 1];
+
 // Each connection is read whole, by sevens, by threes and byte by byte; what is written to it is cut alike.
 #[test]
 fn connections(rt: HostRuntime) -> Result<(), Fail> {
-    let alloc = rt.alloc();
-    let rows: [&[Visit]; 3] = [&IN_A_ROW, &ENDS, &REFUSED];
-    for visits in rows {
-        for piece in [65_536, 7, 3, 1_usize] {
-            let mut house = served(alloc, TABLE)?;
-            for (pieces, wanted, end) in visits {
-                let input = joined(alloc, pieces)?;
-                let mut link = connection(alloc, &input, 1024, piece, &[])?;
-                let ended = house.serve_by_key(alloc, &mut link);
-                assert_eq!(rt; ended, *end, "{pieces:?} by {piece}");
-                assert!(rt; link.written() == *wanted, "{pieces:?} by {piece}");
-                assert_eq!(rt; link.faults(), 0, "{pieces:?} by {piece}");
-            }
+    for visits in &ROWS {
+        for piece in &PIECES {
+            let count = count_served(rt.alloc(), visits, *piece)?;
+            assert!(rt; count == visits.len(), "{count} by {piece}");
         }
     }
     Ok(())
@@ -91,39 +114,46 @@ const LISTED: [Draw; 2] = [
     (TABLE, &[], b"hello ann\nno 50 0\nrecall 0 exhausted 2\nleft 1000000 10000000 2\n"),
 ];
 
+// Whether the replies over these draws are those.
+fn is_drawn(alloc: Global, draw: &Draw) -> Result<bool, AllocError> {
+    let (table, draws, wanted) = draw;
+    let mut house = served(alloc, table)?;
+    let input = b"hello ann\nask census 1 size people\nrecall census 0\nleft census\n";
+    let mut link = MemLink::new(alloc, input, 256, 256, &[])?;
+    let end = house.serve(alloc, &mut link, &ListStreams::new(draws));
+    Ok(end == EndOfInput && link.written() == *wanted)
+}
+
 // Answers over listed draws, worked out by the sampler's rules.
 #[test]
 fn listed_draws(rt: HostRuntime) -> Result<(), Fail> {
-    let alloc = rt.alloc();
-    for (table, draws, wanted) in LISTED {
-        let mut house = served(alloc, table)?;
-        let input = b"hello ann\nask census 1 size people\nrecall census 0\nleft census\n";
-        let mut link = MemLink::new(alloc, input, 256, 256, &[])?;
-        let ended = house.serve(alloc, &mut link, &ListStreams::new(draws));
-        assert_eq!(rt; ended, EndOfInput, "{draws:?}");
-        assert!(rt; link.written() == wanted, "{draws:?}");
+    for draw in &LISTED {
+        assert!(rt; is_drawn(rt.alloc(), draw)?);
     }
     Ok(())
 }
 
+const IN_TURN: &[u8] = b"hello ann\nask census 1 size people\n\nleft census\n";
+
+const TURNS: &[u8] = b"hello ann\nanswer 0 5 1000000\nno 10 0\nleft 1000000 10000000 2\n";
+
 // A reply is written before the next line is read. No clause says so.
 #[test]
 fn replies_come_first(rt: HostRuntime) -> Result<(), Fail> {
-    let alloc = rt.alloc();
-    let input = b"hello ann\nask census 1 size people\n\nleft census\n";
-    let mut link = RepliesFirst::new(alloc, input);
-    let ended = served(alloc, TABLE)?.serve_by_key(alloc, &mut link);
-    assert_eq!(rt; ended, EndOfInput);
-    assert_eq!(rt; link.faults(), 0);
-    assert!(rt;
-        link.written()
-            == b"hello ann\nanswer 0 5 1000000\nno 10 0\nleft 1000000 10000000 2\n".as_slice()
-    );
-    // Such a connection fails a second read without a reply.
-    let mut link = RepliesFirst::new(alloc, input);
-    let mut buf = [0; 64];
-    assert_eq!(rt; link.read(&mut buf), Ok(10));
-    assert_eq!(rt; link.read(&mut buf), Err(Failed));
-    assert_eq!(rt; link.faults(), 1);
+    let mut link = RepliesFirst::new(rt.alloc(), IN_TURN);
+    let end = served(rt.alloc(), TABLE)?.serve_by_key(rt.alloc(), &mut link);
+    assert!(rt; end == EndOfInput);
+    assert!(rt; link.faults() == 0);
+    assert!(rt; link.written() == TURNS);
     Ok(())
+}
+
+// Such a connection fails a second read without a reply.
+#[test]
+fn reads_wait_for_replies(rt: HostRuntime) {
+    let mut link = RepliesFirst::new(rt.alloc(), IN_TURN);
+    let mut buf = [0; 64];
+    assert!(rt; link.read(&mut buf) == Ok(10));
+    assert!(rt; link.read(&mut buf) == Err(Failed));
+    assert!(rt; link.faults() == 1);
 }

@@ -76,6 +76,12 @@ pub fn connection<'a>(
     MemLink::new(alloc, input, room, piece, failing)
 }
 
+// The disk of the last pass.
+fn disk_of(passes: Passes<MemDisk<'_>>) -> Option<MemDisk<'_>> {
+    let pass = passes.into_vec().pop()?;
+    Some(pass.into_book().into_disk())
+}
+
 impl<'a> Serving<'a> {
     /// Serves a connection, with these draws.
     pub fn serve<L: Link, S: Streams>(
@@ -109,7 +115,6 @@ impl<'a> Serving<'a> {
 
     /// The owner's disk.
     pub fn into_disk(self) -> Option<MemDisk<'a>> {
-        let pass = self.passes.into_vec().pop()?;
-        Some(pass.into_book().into_disk())
+        disk_of(self.passes)
     }
 }
