@@ -2,6 +2,7 @@ pub mod Steps
 pub mod Loops
 pub mod Forms
 pub mod TwoParts
+pub mod AtOnce
 pub mod Applying
 pub mod Held
 pub mod Examples

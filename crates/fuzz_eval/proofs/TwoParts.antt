@@ -116,14 +116,13 @@ module _ (n : ℕ) (γ : Env) (x y : Name) (e b : Term) (k : HasFormWithin n γ 
     pub pair_can : IsPair u
     pair_can = let r = k.does in subst IsPair (same_value _ _ _ _ _ _ r.2 d) refl
 
-    module _ (p q : Value) (i : p ≡ first_in u) (j : q ≡ second_in u) where
-      pub pair_inside : HasValueWithin n (Bind y q (Bind x p γ)) b
+    -- inside both names
+    module _ (δ : Env) (j : δ ≡ Bind y (second_in u) (Bind x (first_in u) γ)) where
+      pub pair_inside : HasValueWithin n δ b
       pair_inside =
           let r = k.does in
-          let at_second = subst (λ (q : Value). MeansIn n (Bind y q (Bind x r.0 γ)) b k.value) (ap second_in (same_value _ _ _ _ _ _ r.2 d) ∙ sym j) r.3 in
-          record { value = k.value; does = subst (λ (p : Value). MeansIn n (Bind y q (Bind x p γ)) b k.value) (ap first_in (same_value _ _ _ _ _ _ r.2 d) ∙ sym i) at_second }
+          let e : PairV r.0 r.1 ≡ u = same_value _ _ _ _ _ _ r.2 d in
+          record { value = k.value; does = subst (λ (δ : Env). MeansIn n δ b k.value) (ap (λ (u : Value). Bind y (second_in u) (Bind x (first_in u) γ)) e ∙ sym j) r.3 }
 
-      pub pair_means : (v : Value) → MeansIn n (Bind y q (Bind x p γ)) b v → Rules (MeansIn n) γ (LetPairE x y e b) v
-      pair_means v g =
-          let r : u ≡ PairV p q = pair_can ∙ ap (λ z. PairV z (second_in u)) (sym i) ∙ ap (λ z. PairV p z) (sym j) in
-          (p, q, subst (λ (u : Value). MeansIn n γ e u) r d, g)
+      pub pair_means : (v : Value) → MeansIn n δ b v → Rules (MeansIn n) γ (LetPairE x y e b) v
+      pair_means v g = (first_in u, second_in u, subst (λ (u : Value). MeansIn n γ e u) pair_can d, subst (λ (δ : Env). MeansIn n δ b v) j g)

@@ -12,7 +12,8 @@ ghost use Rattle.fuzz_eval.specs.Loops.{function_inside};
 ghost use Rattle.fuzz_eval.specs.Steps.{Can2, CanApply, CanFilter, CanMap, Gives2, HasFormWithin, HasValueWithin};
 
 use crate::bags::{no_elements, no_elements_twice};
-use crate::nodes::{Body, bind_element, body_of, look};
+use crate::nodes::{Body, bind_element, body_of, element_scope, look};
+use crate::operands::{at_once, taken_apart};
 use crate::words::{equal, inject, is_text, plain, ranged, scale, unary};
 use bag_ops::put::put;
 use fz_ast::{Arrow, Binary, Form, Name, NoMemory, Nodes};
@@ -109,7 +110,7 @@ fn map(alloc: Global, c: &Value, b: &Value, left: u32) -> Result<Value, NoMemory
     }
     let function = c.function();
     let body = body_of(&function.nodes, function.lambda);
-    let mut inner = function.scope.with(alloc, body.name, Value::unit())?;
+    let mut inner = element_scope(alloc, &function.nodes, &function.scope, body)?;
     let mut out = Vec::new(alloc);
     for i in 0..size {
         let x = b.element(i)?;
@@ -133,7 +134,7 @@ fn filter(alloc: Global, c: &Value, b: &Value, left: u32) -> Result<Value, NoMem
     }
     let function = c.function();
     let body = body_of(&function.nodes, function.lambda);
-    let mut inner = function.scope.with(alloc, body.name, Value::unit())?;
+    let mut inner = element_scope(alloc, &function.nodes, &function.scope, body)?;
     let mut out = Vec::new(alloc);
     for i in 0..size {
         let x = b.element(i)?;
@@ -160,7 +161,7 @@ fn split(alloc: Global, c: &Value, b: &Value, left: u32) -> Result<Value, NoMemo
     }
     let function = c.function();
     let body = body_of(&function.nodes, function.lambda);
-    let mut inner = function.scope.with(alloc, body.name, Value::unit())?;
+    let mut inner = element_scope(alloc, &function.nodes, &function.scope, body)?;
     let mut kept = Vec::new(alloc);
     let mut others = Vec::new(alloc);
     for i in 0..size {
@@ -236,6 +237,9 @@ fn eval_two(
     requires has { HasFormWithin left scope.now (binary form (term_at nodes.now.value.terms a) (term_at nodes.now.value.terms b)) }
     ensures { IfOk result (λ v. Rules (MeansIn left) scope.now (binary form (term_at nodes.now.value.terms a) (term_at nodes.now.value.terms b)) v) }
 {
+    if let Some(v) = at_once(nodes, scope, form, a, b) {
+        return Ok(v);
+    }
     match form {
         Binary::Equal => eval_equal(alloc, nodes, scope, a, b, left),
         _ => {
@@ -293,11 +297,12 @@ fn eval_pair(
     requires has { HasFormWithin left scope.now (LetPairE (name_of x.now) (name_of y.now) (term_at nodes.now.value.terms e) (term_at nodes.now.value.terms b)) }
     ensures { IfOk result (λ v. Rules (MeansIn left) scope.now (LetPairE (name_of x.now) (name_of y.now) (term_at nodes.now.value.terms e) (term_at nodes.now.value.terms b)) v) }
 {
+    if let Some(inner) = taken_apart(nodes, scope, x, y, e)? {
+        return eval(alloc, nodes, &inner, b, left);
+    }
     let u = eval(alloc, nodes, scope, e, left)?;
-    let first = u.first()?;
-    let second = u.second()?;
-    let outer = scope.with(alloc, *x, first)?;
-    eval_under(alloc, nodes, &outer, *y, second, b, left)
+    let inner = scope.with_halves(alloc, x, y, u)?;
+    eval(alloc, nodes, &inner, b, left)
 }
 
 // The value of any term.

@@ -1,10 +1,11 @@
 //! Nodes by their numbers.
-ghost use Rattle.std.specs.Prelude.{◌≡◌, ◌<◌, OnOk, length};
+ghost use Rattle.std.specs.Prelude.{◌≡◌, ◌<◌, IfOk, OnOk, length};
 ghost use Rattle.fz_ast.specs.Limits.{TermLimits};
 ghost use Rattle.fz_ast.specs.Names.{name_of};
 ghost use Rattle.fz_ast.specs.Terms.{at};
 ghost use Rattle.fz_ast.specs.TermNodes.{IsKnown, term_of, term_at};
 ghost use Rattle.fz_ast.specs.TypeNodes.{type_at};
+ghost use Rattle.metric_values.specs.Values.{Bind, UnitV};
 ghost use Rattle.run_values.specs.Parts.{rebound};
 ghost use Rattle.run_values.specs.Views.{IsFunction};
 ghost use Rattle.fuzz_eval.specs.Loops.{bound_element};
@@ -43,6 +44,23 @@ pub fn body_of(nodes: &Rc<Nodes>, lambda: u32) -> Body
     match look(nodes, lambda).form {
         Form::Lambda(arrow, name, _, _, term) => Body { arrow, name, term },
         _ => unreachable!(),
+    }
+}
+
+/// The scope inside a function's name, for elements of a bag: the name stands for `()` so far. Where the body takes a pair apart, the
+/// frame has the names for its halves.
+pub fn element_scope(
+    alloc: Global,
+    nodes: &Rc<Nodes>,
+    scope: &Scope,
+    body: Body,
+) -> Result<Scope, NoMemory>
+    requires { body.term < length nodes.now.value.terms }
+    ensures { IfOk result (λ s. s ≡ Bind (name_of body.name) UnitV scope.now) }
+{
+    match &look(nodes, body.term).form {
+        Form::LetPair(x, y, _, _) => { scope.with_element(alloc, &body.name, x, y, Value::unit()) }
+        _ => scope.with(alloc, body.name, Value::unit()),
     }
 }
 

@@ -1,4 +1,4 @@
--- How deep values and environments are.
+-- How deep values and environments are. A name counts twice, so that two names are deeper than the pair of what they stand for.
 use Rattle.std.specs.Prelude.{ℕ, suc, max, List, [], ◌∷◌}
 use Rattle.metric_values.specs.Values.{Flat, Value, NumV, TextV, UnitV, PairV, InlV, InrV, BangV, BagV, FunV, FnV, Env, Empty, Bind, NumF}
 use Rattle.metric_values.specs.Values.{TextF, UnitF, PairF, InlF, InrF, BangF}
@@ -31,4 +31,4 @@ abbrev mutual
 
   pub env_size : Env → ℕ
   env_size Empty = 0
-  env_size (Bind x v γ) = suc (max (value_size v) (env_size γ))
+  env_size (Bind x v γ) = suc (suc (max (value_size v) (env_size γ)))

@@ -8,10 +8,11 @@ use Rattle.fz_ast.specs.Types.{Ty}
 use Rattle.metric_values.specs.Values.{Flat, TextF, Value, NumV, TextV, UnitV, PairV, InlV, InrV, BangV, BagV, FunV, FnV, Env, Empty, Bind, truth, value_of}
 use Rattle.metric_values.specs.Cells.{cell_at, columns_in, from_column, row_at}
 use Rattle.run_values.specs.Flats.{flats_of, AllFlat}
+use Rattle.run_values.specs.Parts.{IsPair, first_in, second_in}
 use Rattle.run_values.specs.declared.value.Form.{Form}
 use Rattle.run_values.specs.declared.value.Form.TheVariants.{Num, Text, Unit as One, Truth, Pair, Inl, Inr, Bang, Table, Row, Cell, List as Items, Fun}
 use Rattle.run_values.specs.declared.value.Link.{Link}
-use Rattle.run_values.specs.declared.value.Link.TheVariants.{End, More}
+use Rattle.run_values.specs.declared.value.Link.TheVariants.{End, More, Halves, Element, Opened}
 
 -- the bytes of a text
 abbrev pub text_bytes : Flat → List ℕ
@@ -65,3 +66,13 @@ IsValueForm form = ⊤
 abbrev pub link_view : Link → Env
 link_view End = Empty
 link_view (More p) = Bind (name_of p.value.name) p.value.value p.value.outer
+link_view (Halves p) = Bind (name_of p.value.second) (second_in p.value.pair) (Bind (name_of p.value.first) (first_in p.value.pair) p.value.outer)
+link_view (Element p) = Bind (name_of p.value.name) p.value.value p.value.outer
+link_view (Opened p) =
+    Bind (name_of p.value.second) (second_in p.value.value) (Bind (name_of p.value.first) (first_in p.value.value) (Bind (name_of p.value.name) p.value.value p.value.outer))
+
+-- two names are for the halves of a pair
+abbrev pub IsScopeLink : Link → Type 0
+IsScopeLink (Halves p) = IsPair p.value.pair
+IsScopeLink (Opened p) = IsPair p.value.value
+IsScopeLink link = ⊤

@@ -1,18 +1,19 @@
 //! Values are shared by counted references, and never lead back to themselves.
-ghost use Rattle.std.specs.Prelude.{◌≡◌, ◌<◌, ◌⊎◌, bytes_eq, length, IfOk, IsSome, IsTrue, OnErr, OnOk, Some};
-ghost use Rattle.metric_law.specs.Means.{find};
+ghost use Rattle.std.specs.Prelude.{◌≡◌, ◌<◌, ◌⊎◌, bytes_eq, length, IfOk, IsTrue};
 ghost use Rattle.std.proofs.Common.{get_or};
-ghost use Rattle.fz_ast.specs.Names.{name_of, text_of};
+ghost use Rattle.fz_ast.specs.Names.{text_of};
 ghost use Rattle.fz_ast.specs.TermNodes.{term_at};
-ghost use Rattle.metric_values.specs.Values.{NumV, TextV, UnitV, PairV, InlV, InrV, BangV, BagV, Empty, Bind, UnitF, truth, value_of};
+ghost use Rattle.metric_values.specs.Values.{NumV, TextV, UnitV, PairV, InlV, InrV, BangV, BagV, UnitF, truth, value_of};
 ghost use Rattle.run_values.specs.Flats.{AllFlat, flat_of, flats_of};
 ghost use Rattle.run_values.specs.Looks.{look_of};
+ghost use Rattle.run_values.specs.Founds.{plain_in, plain_of};
 ghost use Rattle.run_values.specs.Parts.{IsBag, IsBangValue, IsClosure, IsNum, IsPair, IsSum, IsTextValue, banged_in, elements, first_in, number_in};
-ghost use Rattle.run_values.specs.Parts.{number_or_none, rebound, second_in, side_in, text_in};
+ghost use Rattle.run_values.specs.Parts.{number_or_none, second_in, side_in, text_in};
 ghost use Rattle.metric_values.specs.Cells.{cell_at, columns_in, from_column, row_at};
 ghost use Rattle.run_values.specs.Views.{IsFunction, IsTextCell, text_bytes, function_of};
 
 use crate::look::{Look, Part, look_at_row};
+use crate::plain::{Plain, last_plain, plain_at};
 use fz_ast::{Name, NoMemory, Nodes, Text};
 use metric_values::{Cell, Table};
 use std::alloc::Global;
@@ -69,7 +70,7 @@ pub struct Closure {
 /// Names and what they stand for, the innermost first. A contract sees the definition's environment.
 #[cycle(value)]
 pub struct Scope {
-    link: Link,
+    pub(crate) link: Link,
 }
 
 #[cycle(value)]
@@ -77,12 +78,39 @@ pub struct Scope {
 pub enum Link {
     End,
     More(Rc<Frame>),
+    /// Two names for the halves of a pair.
+    Halves(Rc<Halves>),
+    /// One name, for an element of a bag.
+    Element(Rc<Element>),
+    /// The same, and inside it the two names for its halves.
+    Opened(Rc<Element>),
 }
 
 #[cycle(value)]
 #[derive(Drop)]
 pub struct Frame {
     pub name: Name,
+    pub value: Value,
+    pub outer: Scope,
+}
+
+/// Two names, the second one innermost, and the pair whose halves they stand for. A half is made when its name is looked up.
+#[cycle(value)]
+#[derive(Drop)]
+pub struct Halves {
+    pub first: Name,
+    pub second: Name,
+    pub pair: Value,
+    pub outer: Scope,
+}
+
+/// A name, what it stands for, and the names that the halves of that get where it is taken apart.
+#[cycle(value)]
+#[derive(Drop)]
+pub struct Element {
+    pub name: Name,
+    pub first: Name,
+    pub second: Name,
     pub value: Value,
     pub outer: Scope,
 }
@@ -118,9 +146,11 @@ impl Model for Scope {
 
     ghost coded = { env_code };
 
-    ghost use Rattle.run_values.specs.Views.{link_view};
+    ghost use Rattle.run_values.specs.Views.{link_view, IsScopeLink};
 
     ghost view = { λ a. link_view a.link };
+
+    ghost invariant = { λ a. IsScopeLink a.link };
 
     ghost size = { env_size };
 
@@ -137,18 +167,27 @@ impl Drop for Scope {
             let Scope { link } = self;
             match link {
                 Link::End => return,
-                Link::More(rc) => match Rc::into_inner(rc) {
-                    None => return,
-                    Some(frame) => {
-                        let Frame {
-                            name: _,
-                            value,
-                            outer,
-                        } = frame;
-                        drop(value);
-                        self = outer;
-                    }
-                },
+                Link::More(rc) => {
+                    let Some(frame) = Rc::into_inner(rc) else {
+                        return
+                    };
+                    drop(frame.value);
+                    self = frame.outer;
+                }
+                Link::Halves(rc) => {
+                    let Some(halves) = Rc::into_inner(rc) else {
+                        return
+                    };
+                    drop(halves.pair);
+                    self = halves.outer;
+                }
+                Link::Element(rc) | Link::Opened(rc) => {
+                    let Some(element) = Rc::into_inner(rc) else {
+                        return
+                    };
+                    drop(element.value);
+                    self = element.outer;
+                }
             }
         }
     }
@@ -466,62 +505,6 @@ impl Value {
     }
 }
 
-impl Scope {
-    /// No names.
-    pub fn new() -> Scope
-        ensures { result ≡ Empty }
-    {
-        Scope { link: Link::End }
-    }
-
-    /// The scope inside one more name.
-    pub fn with(&self, alloc: Global, name: Name, value: Value) -> Result<Scope, NoMemory>
-        ensures { IfOk result (λ s. s ≡ Bind (name_of name) value self.now) }
-    {
-        let outer = self.copy()?;
-        match Rc::new(alloc, Frame { name, value, outer }) {
-            Ok(rc) => Ok(Scope {
-                link: Link::More(rc),
-            }),
-            Err(_) => Err(NoMemory),
-        }
-    }
-
-    /// The innermost name, if there is one, stands for another value from now on: in the same frame, where no closure holds it.
-    pub fn rebind(&mut self, alloc: Global, value: Value) -> Result<(), NoMemory>
-        ensures rebound { OnOk result (self.new ≡ rebound self.old value) }
-        ensures unchanged { OnErr result (self.new ≡ self.old) }
-    {
-        let Link::More(rc) = &mut self.link else {
-            return Ok(());
-        };
-        if let Some(frame) = Rc::get_mut(rc) {
-            frame.value = value;
-            return Ok(());
-        }
-        let outer = rc.outer.copy()?;
-        let name = rc.name;
-        match Rc::new(alloc, Frame { name, value, outer }) {
-            Ok(fresh) => {
-                *rc = fresh;
-                Ok(())
-            }
-            Err(_) => Err(NoMemory),
-        }
-    }
-
-    /// An equal scope.
-    pub fn copy(&self) -> Result<Scope, NoMemory>
-        ensures { IfOk result (λ s. s ≡ self.now) }
-    {
-        let link = match &self.link {
-            Link::End => Link::End,
-            Link::More(rc) => Link::More(rc.clone()?),
-        };
-        Ok(Scope { link })
-    }
-}
-
 impl Value {
     /// The node of a function, and what its names stand for.
     pub fn function(&self) -> &Closure
@@ -533,25 +516,6 @@ impl Value {
         match &self.form {
             Form::Fun(rc) => rc,
             _ => unreachable!(),
-        }
-    }
-}
-
-impl Scope {
-    /// What the innermost of these names stands for.
-    pub fn find(&self, name: &Name) -> Result<Value, NoMemory>
-        requires { IsSome (find self.now (name_of name.now)) }
-        ensures { IfOk result (λ v. find self.now (name_of name.now) ≡ Some v) }
-    {
-        match &self.link {
-            Link::More(rc) => {
-                if rc.name.as_bytes() == name.as_bytes() {
-                    rc.value.copy()
-                } else {
-                    rc.outer.find(name)
-                }
-            }
-            Link::End => unreachable!(),
         }
     }
 }
@@ -585,6 +549,51 @@ impl Value {
             Form::Inr(rc) => Look::Inr(Part::Whole(rc)),
             Form::Bang(rc) => Look::Bang(Part::Whole(rc)),
             Form::Unit | Form::Table(_) | Form::List(_) | Form::Fun(_) => Look::Unit,
+        }
+    }
+}
+
+impl Value {
+    /// Whether this is a pair.
+    pub(crate) fn is_pair(&self) -> bool
+        ensures { IsTrue result → IsPair self.now }
+    {
+        matches!(&self.form, Form::Pair(_) | Form::Row(_, _, _))
+    }
+
+    // The number or text that this is.
+    pub(crate) fn plain(&self) -> Plain<'_>
+        ensures { plain_of result ≡ plain_in self.now }
+    {
+        match &self.form {
+            Form::Num(z) => Plain::Num(*z),
+            Form::Text(text) => Plain::Text(text.as_bytes()),
+            Form::Cell(k, i, rc) => Plain::Text(bytes_at(rc, *i, *k)),
+            _ => Plain::Other,
+        }
+    }
+
+    // The number or text that a pair's first half is.
+    pub(crate) fn first_plain(&self) -> Plain<'_>
+        requires { IsPair self.now }
+        ensures { plain_of result ≡ plain_in (first_in self.now) }
+    {
+        match &self.form {
+            Form::Pair(rc) => rc.first.plain(),
+            Form::Row(k, i, rc) => plain_at(rc, *i, *k as usize),
+            _ => unreachable!(),
+        }
+    }
+
+    // The number or text that a pair's second half is.
+    pub(crate) fn second_plain(&self) -> Plain<'_>
+        requires { IsPair self.now }
+        ensures { plain_of result ≡ plain_in (second_in self.now) }
+    {
+        match &self.form {
+            Form::Pair(rc) => rc.second.plain(),
+            Form::Row(k, i, rc) => last_plain(rc, *i, *k as usize + 1),
+            _ => unreachable!(),
         }
     }
 }

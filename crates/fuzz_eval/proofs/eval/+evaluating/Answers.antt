@@ -1,5 +1,5 @@
 use Rattle.std.proofs.Common.{rules, ◌≡◌, ◌<◌, ◌+◌, ◌-◌, arith, ap, sym, subst, ◌∙◌, length, List, [], ℤ, to_z, of_z, w64}
-use Rattle.std.specs.Prelude.{IfOk, Some}
+use Rattle.std.specs.Prelude.{IfOk, IfSome, Option, Some}
 use Rattle.fz_ast.specs.Names.{name_of, text_of}
 use Rattle.fz_ast.specs.Parts.{Parts}
 use Rattle.fz_ast.specs.TermNodes.{IsKnown, binary, term_at, term_of}
@@ -14,11 +14,13 @@ use Rattle.run_values.specs.Flats.{flats_of}
 use Rattle.run_values.specs.Parts.{elements, rebound}
 use Rattle.run_values.specs.Views.{IsFunction, function_of}
 use Rattle.fuzz_eval.specs.Loops.{Divided, Kept, Mapped, bound_element, function_inside}
+use Rattle.fuzz_eval.specs.Operands.{GivesAtOnce, TakesApart}
 use Rattle.fuzz_eval.specs.Steps.{CanRanged, Gives1, Gives2, GivesRanged, GivesTimes, CanApply, CanTimes, HasValueWithin, injected}
 use Rattle.fuzz_eval.proofs.Applying.{app_can, app_gives, can_closure, element_gives, element_has, given, on_ok, same_function, filter_bag, filter_can, filter_gives, fn_can, fn_gives, fn_has, fun_gives, fun_has, if_ok, map_bag, map_can, map_gives, plain_here, split_bag, split_can, split_gives}
 use Rattle.fuzz_eval.proofs.Held.{high_held, low_held, num_held, times_held}
 use Rattle.fuzz_eval.proofs.Loops.{divided_all, divided_no, divided_none, divided_yes, kept_all, kept_can, kept_no, kept_none, kept_of, kept_sum, kept_yes, mapped_all, map_closure, map_nothing, mapped_can, mapped_more, mapped_none, filter_closure, split_nothing}
 use Rattle.fuzz_eval.proofs.Forms.{bang_has, bang_means, case_can, case_has, case_left, case_left_means, case_right, case_right_means, form_has, form_means, if_can, if_has, if_left, if_left_means, if_right, if_right_means, inject_has, inject_means, lambda_function, lambda_means, let_bang_can, let_bang_has, let_bang_inside, let_bang_means, let_has, let_inside, let_means, num_means, ranged_can, ranged_has, ranged_means, text_means, times_can, times_has, times_means, unary_can, unary_has, unary_means, unit_means, var_known, var_means}
+use Rattle.fuzz_eval.proofs.AtOnce.{apart_inside, apart_means, at_once_means}
 use Rattle.fuzz_eval.proofs.Steps.{above}
 use Rattle.fuzz_eval.proofs.TwoParts.{binary_can, binary_means, can_compare, compared, first_has, form_here, left_compared, left_has, left_text, means_here, pair_can, pair_has, pair_inside, pair_means, right_compared, right_has, right_text, second_has}
 use Rattle.fuzz_eval.proofs.eval.+evaluating.Goals.{filter-then-is_left+in_ok-kept+in_ok-put, filter-else-is_left, split-then-is_left+in_ok-put, split-else-is_left+in_ok-put-2}
@@ -563,23 +565,23 @@ eval_two-returns-in-Equal t c = if_ok c.eval_equal.result (λ v. Rules (MeansIn 
 pub eval_two-eval-requires : goal.eval_two-eval-requires
 eval_two-eval-requires t c = (omega arith, (c.requires.a_known, first_has c.args.left c.args.scope.now c.args.form (term_at c.args.nodes.now.value.terms c.args.a) (term_at c.args.nodes.now.value.terms c.args.b) c.requires.has))
 
-pub eval_two-eval-requires-in_default : goal.eval_two-eval-requires-in_default
-eval_two-eval-requires-in_default t c = (omega arith, (c.requires.b_known, second_has c.args.left c.args.scope.now c.args.form (term_at c.args.nodes.now.value.terms c.args.a) (term_at c.args.nodes.now.value.terms c.args.b) c.requires.has))
+pub eval_two-eval-requires-in_default-form : goal.eval_two-eval-requires-in_default-form
+eval_two-eval-requires-in_default-form t c = (omega arith, (c.requires.b_known, second_has c.args.left c.args.scope.now c.args.form (term_at c.args.nodes.now.value.terms c.args.a) (term_at c.args.nodes.now.value.terms c.args.b) c.requires.has))
 
-pub eval_two-returns-in_err-u-in_default : goal.eval_two-returns-in_err-u-in_default
-eval_two-returns-in_err-u-in_default t c = search rules
+pub eval_two-returns-in_err-u-in_default-form : goal.eval_two-returns-in_err-u-in_default-form
+eval_two-returns-in_err-u-in_default-form t c = search rules
 
-pub eval_two-returns-in_err-w-in_default : goal.eval_two-returns-in_err-w-in_default
-eval_two-returns-in_err-w-in_default t c = search rules
+pub eval_two-returns-in_err-w-in_default-form : goal.eval_two-returns-in_err-w-in_default-form
+eval_two-returns-in_err-w-in_default-form t c = search rules
 
 pub eval_two-same-u : goal.eval_two-same-u
 eval_two-same-u t c = search rules
 
 pub eval_two-combine-requires : goal.eval_two-combine-requires
-eval_two-combine-requires t c = (omega arith, binary_can c.args.left c.args.scope.now c.args.form (term_at c.args.nodes.now.value.terms c.args.a) (term_at c.args.nodes.now.value.terms c.args.b) c.requires.has c.in_ok-u-in_default.u c.in_ok-w-in_default.w c.in_ok-u-in_default.ensures c.in_ok-w-in_default.ensures)
+eval_two-combine-requires t c = (omega arith, binary_can c.args.left c.args.scope.now c.args.form (term_at c.args.nodes.now.value.terms c.args.a) (term_at c.args.nodes.now.value.terms c.args.b) c.requires.has c.in_ok-u-in_default-form.u c.in_ok-w-in_default-form.w c.in_ok-u-in_default-form.ensures c.in_ok-w-in_default-form.ensures)
 
-pub eval_two-returns-in_ok-w-in_default : goal.eval_two-returns-in_ok-w-in_default
-eval_two-returns-in_ok-w-in_default t c = if_ok c.combine.result (λ v. Gives2 (MeansIn c.args.left) c.args.form c.in_ok-u-in_default.u c.in_ok-w-in_default.w v) (λ v. Rules (MeansIn c.args.left) c.args.scope.now (binary c.args.form (term_at c.args.nodes.now.value.terms c.args.a) (term_at c.args.nodes.now.value.terms c.args.b)) v) c.combine.ensures (binary_means c.args.left c.args.scope.now c.args.form (term_at c.args.nodes.now.value.terms c.args.a) (term_at c.args.nodes.now.value.terms c.args.b) c.requires.has c.in_ok-u-in_default.u c.in_ok-w-in_default.w c.in_ok-u-in_default.ensures c.in_ok-w-in_default.ensures)
+pub eval_two-returns-in_ok-w-in_default-form : goal.eval_two-returns-in_ok-w-in_default-form
+eval_two-returns-in_ok-w-in_default-form t c = if_ok c.combine.result (λ v. Gives2 (MeansIn c.args.left) c.args.form c.in_ok-u-in_default-form.u c.in_ok-w-in_default-form.w v) (λ v. Rules (MeansIn c.args.left) c.args.scope.now (binary c.args.form (term_at c.args.nodes.now.value.terms c.args.a) (term_at c.args.nodes.now.value.terms c.args.b)) v) c.combine.ensures (binary_means c.args.left c.args.scope.now c.args.form (term_at c.args.nodes.now.value.terms c.args.a) (term_at c.args.nodes.now.value.terms c.args.b) c.requires.has c.in_ok-u-in_default-form.u c.in_ok-w-in_default-form.w c.in_ok-u-in_default-form.ensures c.in_ok-w-in_default-form.ensures)
 
 pub eval_equal-look-requires : goal.eval_equal-look-requires
 eval_equal-look-requires t c = c.requires.b_known
@@ -608,39 +610,6 @@ eval_equal-equal-requires t c = can_compare c.args.left c.args.scope.now (term_a
 pub eval_equal-returns : goal.eval_equal-returns
 eval_equal-returns t c = compared c.args.left c.args.scope.now (term_at c.args.nodes.now.value.terms c.args.a) (term_at c.args.nodes.now.value.terms c.args.b) c.requires.has c.in_ok-u-2.u c.in_ok-w-2.w c.in_ok-u-2.ensures c.in_ok-w-2.ensures c.equal.result c.equal.ensures.numbers c.equal.ensures.texts c.truth-2.result c.truth-2.ensures
 
-pub eval_pair-eval-requires : goal.eval_pair-eval-requires
-eval_pair-eval-requires t c = (omega arith, (c.requires.e_known, pair_has c.args.left c.args.scope.now (name_of c.args.x.now) (name_of c.args.y.now) (term_at c.args.nodes.now.value.terms c.args.e) (term_at c.args.nodes.now.value.terms c.args.b) c.requires.has))
-
-pub eval_pair-returns-in_err-u : goal.eval_pair-returns-in_err-u
-eval_pair-returns-in_err-u t c = search rules
-
-pub eval_pair-returns-in_err-first : goal.eval_pair-returns-in_err-first
-eval_pair-returns-in_err-first t c = search rules
-
-pub eval_pair-returns-in_err-second : goal.eval_pair-returns-in_err-second
-eval_pair-returns-in_err-second t c = search rules
-
-pub eval_pair-returns-in_err-outer : goal.eval_pair-returns-in_err-outer
-eval_pair-returns-in_err-outer t c = search rules
-
-pub eval_pair-first-requires : goal.eval_pair-first-requires
-eval_pair-first-requires t c = pair_can c.args.left c.args.scope.now (name_of c.args.x.now) (name_of c.args.y.now) (term_at c.args.nodes.now.value.terms c.args.e) (term_at c.args.nodes.now.value.terms c.args.b) c.requires.has c.in_ok-u.u c.in_ok-u.ensures
-
-pub eval_pair-second-requires : goal.eval_pair-second-requires
-eval_pair-second-requires t c = pair_can c.args.left c.args.scope.now (name_of c.args.x.now) (name_of c.args.y.now) (term_at c.args.nodes.now.value.terms c.args.e) (term_at c.args.nodes.now.value.terms c.args.b) c.requires.has c.in_ok-u.u c.in_ok-u.ensures
-
-pub eval_pair-same-first : goal.eval_pair-same-first
-eval_pair-same-first t c = search rules
-
-pub eval_pair-same-second : goal.eval_pair-same-second
-eval_pair-same-second t c = search rules
-
-pub eval_pair-eval_under-requires : goal.eval_pair-eval_under-requires
-eval_pair-eval_under-requires t c = (omega arith, (c.requires.b_known, subst (λ (γ : Env). HasValueWithin c.args.left (Bind (name_of c.args.y.now) c.in_ok-second.second γ) (term_at c.args.nodes.now.value.terms c.args.b)) (sym c.in_ok-outer.ensures) (pair_inside c.args.left c.args.scope.now (name_of c.args.x.now) (name_of c.args.y.now) (term_at c.args.nodes.now.value.terms c.args.e) (term_at c.args.nodes.now.value.terms c.args.b) c.requires.has c.in_ok-u.u c.in_ok-u.ensures c.in_ok-first.first c.in_ok-second.second c.in_ok-first.ensures c.in_ok-second.ensures)))
-
-pub eval_pair-returns : goal.eval_pair-returns
-eval_pair-returns t c = if_ok c.eval_under.result (λ v. MeansIn c.args.left (Bind (name_of c.args.y.now) c.in_ok-second.second c.in_ok-outer.outer) (term_at c.args.nodes.now.value.terms c.args.b) v) (λ v. Rules (MeansIn c.args.left) c.args.scope.now (LetPairE (name_of c.args.x.now) (name_of c.args.y.now) (term_at c.args.nodes.now.value.terms c.args.e) (term_at c.args.nodes.now.value.terms c.args.b)) v) c.eval_under.ensures (λ v g. pair_means c.args.left c.args.scope.now (name_of c.args.x.now) (name_of c.args.y.now) (term_at c.args.nodes.now.value.terms c.args.e) (term_at c.args.nodes.now.value.terms c.args.b) c.requires.has c.in_ok-u.u c.in_ok-u.ensures c.in_ok-first.first c.in_ok-second.second c.in_ok-first.ensures c.in_ok-second.ensures v (subst (λ (γ : Env). MeansIn c.args.left (Bind (name_of c.args.y.now) c.in_ok-second.second γ) (term_at c.args.nodes.now.value.terms c.args.b) v) c.in_ok-outer.ensures g))
-
 pub eval_equal-eval-requires-in-Text-form : goal.eval_equal-eval-requires-in-Text-form
 eval_equal-eval-requires-in-Text-form t c = (omega arith, (c.requires.b_known, right_has c.args.left c.args.scope.now (term_at c.args.nodes.now.value.terms c.args.a) (term_at c.args.nodes.now.value.terms c.args.b) c.requires.has))
 
@@ -661,3 +630,48 @@ eval_equal-returns-in_err-u-2 t c = search rules
 
 pub eval_equal-returns-in_err-w-2 : goal.eval_equal-returns-in_err-w-2
 eval_equal-returns-in_err-w-2 t c = search rules
+
+pub eval_two-at_once-requires : goal.eval_two-at_once-requires
+eval_two-at_once-requires t c = record { a_known = c.requires.a_known; b_known = c.requires.b_known }
+
+pub eval_two-returns-in-Some : goal.eval_two-returns-in-Some
+eval_two-returns-in-Some t c = at_once_means c.args.left c.args.scope.now c.args.form (term_at c.args.nodes.now.value.terms c.args.a) (term_at c.args.nodes.now.value.terms c.args.b) c.requires.has c.in-Some.v (subst (λ (o : Option Value). IfSome o (λ v. GivesAtOnce c.args.scope.now c.args.form (term_at c.args.nodes.now.value.terms c.args.a) (term_at c.args.nodes.now.value.terms c.args.b) v)) c.in-Some.is c.at_once.ensures)
+
+pub eval_pair-taken_apart-requires : goal.eval_pair-taken_apart-requires
+eval_pair-taken_apart-requires t c = c.requires.e_known
+
+pub eval_pair-eval-requires : goal.eval_pair-eval-requires
+eval_pair-eval-requires t c = (omega arith, (c.requires.b_known, apart_inside c.args.left c.args.scope.now (name_of c.args.x.now) (name_of c.args.y.now) (term_at c.args.nodes.now.value.terms c.args.e) (term_at c.args.nodes.now.value.terms c.args.b) c.requires.has c.in-Some.inner (subst (λ (o : Option Env). IfSome o (λ s. TakesApart c.args.scope.now (name_of c.args.x.now) (name_of c.args.y.now) (term_at c.args.nodes.now.value.terms c.args.e) s)) c.in-Some.is c.in_ok-inner.ensures)))
+
+pub eval_pair-returns-in-Some : goal.eval_pair-returns-in-Some
+eval_pair-returns-in-Some t c = if_ok c.eval.result (λ v. MeansIn c.args.left c.in-Some.inner (term_at c.args.nodes.now.value.terms c.args.b) v) (λ v. Rules (MeansIn c.args.left) c.args.scope.now (LetPairE (name_of c.args.x.now) (name_of c.args.y.now) (term_at c.args.nodes.now.value.terms c.args.e) (term_at c.args.nodes.now.value.terms c.args.b)) v) c.eval.ensures (apart_means c.args.left c.args.scope.now (name_of c.args.x.now) (name_of c.args.y.now) (term_at c.args.nodes.now.value.terms c.args.e) (term_at c.args.nodes.now.value.terms c.args.b) c.requires.has c.in-Some.inner (subst (λ (o : Option Env). IfSome o (λ s. TakesApart c.args.scope.now (name_of c.args.x.now) (name_of c.args.y.now) (term_at c.args.nodes.now.value.terms c.args.e) s)) c.in-Some.is c.in_ok-inner.ensures))
+
+pub eval_pair-eval-requires-2 : goal.eval_pair-eval-requires-2
+eval_pair-eval-requires-2 t c = (omega arith, (c.requires.e_known, pair_has c.args.left c.args.scope.now (name_of c.args.x.now) (name_of c.args.y.now) (term_at c.args.nodes.now.value.terms c.args.e) (term_at c.args.nodes.now.value.terms c.args.b) c.requires.has))
+
+pub eval_pair-returns-in_err-u : goal.eval_pair-returns-in_err-u
+eval_pair-returns-in_err-u t c = search rules
+
+pub eval_pair-with_halves-requires : goal.eval_pair-with_halves-requires
+eval_pair-with_halves-requires t c = pair_can c.args.left c.args.scope.now (name_of c.args.x.now) (name_of c.args.y.now) (term_at c.args.nodes.now.value.terms c.args.e) (term_at c.args.nodes.now.value.terms c.args.b) c.requires.has c.in_ok-u.u c.in_ok-u.ensures
+
+pub eval_pair-returns-in_err-inner : goal.eval_pair-returns-in_err-inner
+eval_pair-returns-in_err-inner t c = search rules
+
+pub eval_pair-returns-in_err-inner-2 : goal.eval_pair-returns-in_err-inner-2
+eval_pair-returns-in_err-inner-2 t c = search rules
+
+pub eval_pair-eval-requires-3 : goal.eval_pair-eval-requires-3
+eval_pair-eval-requires-3 t c = (omega arith, (c.requires.b_known, pair_inside c.args.left c.args.scope.now (name_of c.args.x.now) (name_of c.args.y.now) (term_at c.args.nodes.now.value.terms c.args.e) (term_at c.args.nodes.now.value.terms c.args.b) c.requires.has c.in_ok-u.u c.in_ok-u.ensures c.in_ok-inner-2.inner c.in_ok-inner-2.ensures))
+
+pub eval_pair-returns : goal.eval_pair-returns
+eval_pair-returns t c = if_ok c.eval-3.result (λ v. MeansIn c.args.left c.in_ok-inner-2.inner (term_at c.args.nodes.now.value.terms c.args.b) v) (λ v. Rules (MeansIn c.args.left) c.args.scope.now (LetPairE (name_of c.args.x.now) (name_of c.args.y.now) (term_at c.args.nodes.now.value.terms c.args.e) (term_at c.args.nodes.now.value.terms c.args.b)) v) c.eval-3.ensures (pair_means c.args.left c.args.scope.now (name_of c.args.x.now) (name_of c.args.y.now) (term_at c.args.nodes.now.value.terms c.args.e) (term_at c.args.nodes.now.value.terms c.args.b) c.requires.has c.in_ok-u.u c.in_ok-u.ensures c.in_ok-inner-2.inner c.in_ok-inner-2.ensures)
+
+pub map-element_scope-requires : goal.map-element_scope-requires
+map-element_scope-requires t c = c.body_of-body.ensures.within
+
+pub filter-element_scope-requires : goal.filter-element_scope-requires
+filter-element_scope-requires t c = c.body_of-body.ensures.within
+
+pub split-element_scope-requires : goal.split-element_scope-requires
+split-element_scope-requires t c = c.body_of-body.ensures.within

@@ -1,0 +1,42 @@
+-- What a name is found to stand for, and numbers and texts among values.
+use Rattle.std.specs.Prelude.{None, Option, Some, ◌≡◌, ⊤}
+use Rattle.metric_law.specs.Means.{find}
+use Rattle.fz_ast.specs.Terms.{Name}
+use Rattle.metric_values.specs.Values.{Bind, Env, NumV, TextV, Value}
+use Rattle.run_values.specs.Parts.{IsPair, first_in, second_in}
+use Rattle.run_values.specs.declared.scope.Found.{Found}
+use Rattle.run_values.specs.declared.scope.Found.TheVariants.{None as Nowhere, Whole, First, Second}
+use Rattle.run_values.specs.declared.plain.Plain.{Plain}
+use Rattle.run_values.specs.declared.plain.Plain.TheVariants.{Num, Text, Other}
+
+abbrev pub value_found : Found → Option Value
+value_found Nowhere = None
+value_found (Whole v) = Some v.now
+value_found (First p) = Some (first_in p.now)
+value_found (Second p) = Some (second_in p.now)
+
+-- what is found as a half is one of a pair
+abbrev pub IsFoundInPair : Found → Type 0
+IsFoundInPair Nowhere = ⊤
+IsFoundInPair (Whole v) = ⊤
+IsFoundInPair (First p) = IsPair p.now
+IsFoundInPair (Second p) = IsPair p.now
+
+-- the value itself, where it is a number or a text
+abbrev pub plain_in : Value → Option Value
+plain_in (NumV z) = Some (NumV z)
+plain_in (TextV s) = Some (TextV s)
+plain_in v = None
+
+abbrev pub plain_found : Option Value → Option Value
+plain_found None = None
+plain_found (Some v) = plain_in v
+
+abbrev pub plain_of : Plain → Option Value
+plain_of (Num z) = Some (NumV z)
+plain_of (Text s) = Some (TextV s.now)
+plain_of Other = None
+
+-- δ is γ with two more names, for the halves of what this name stands for
+abbrev pub IsOpened : Env → Name → Name → Name → Env → Type 0
+IsOpened γ r x y δ = (v : Value) × (find γ r ≡ Some v) × (δ ≡ Bind y (second_in v) (Bind x (first_in v) γ))
