@@ -4,12 +4,12 @@ use Rattle.std.proofs.Common.{inl, inr, refl}
 use Rattle.fz_lexer.specs.declared.token.Token.{Token}
 use Rattle.fz_lexer.specs.declared.token.LexFault.{LexFault}
 use Rattle.fz_lexer.specs.declared.token.LexFault.TheVariants.{Bad, TooManyTokens, NoMemory as NoRoom}
-use Rattle.fz_lexer.specs.Tokens.{ExplainsLex, IsLexed, IsLexedOrRefused}
-use Rattle.fz_lexer.proofs.Lexing.{lexed_or_refused}
+use Rattle.fz_lexer.specs.Tokens.{ExplainsLex, IsLexed, IsLexedOrFaulty}
+use Rattle.fz_lexer.proofs.Lexing.{lexed_or_faulty}
 use Rattle.fz_parser.specs.declared.fault.ParseFault.{ParseFault}
 use Rattle.fz_parser.specs.declared.fault.ParseFault.TheVariants.{Stuck, TooNested, NoMemory}
-use Rattle.fz_parser.specs.Reading.{ExplainsParse, IsParsedOrRefused}
-use Rattle.fz_parser.proofs.Parsing.{parsed_or_refused}
+use Rattle.fz_parser.specs.Reading.{ExplainsParse, IsParsedOrFaulty}
+use Rattle.fz_parser.proofs.Parsing.{parsed_or_faulty}
 use Rattle.answer_path.specs.Reading.{IsReading, Reading, nested, read, stuck, unlexed}
 use Rattle.answer_path.specs.Laws.{EveryReading}
 
@@ -25,14 +25,14 @@ by_lex_fault w (Bad place) other h = (unlexed place, inl h)
 by_lex_fault w (TooManyTokens place) other h = (unlexed place, inr h)
 by_lex_fault w NoRoom other h = absurd (other refl)
 
-by_tokens : (w : List ℕ) (ts : List Token) → IsLexed w ts → IsParsedOrRefused ts → (r : Reading) × IsReading w r
+by_tokens : (w : List ℕ) (ts : List Token) → IsLexed w ts → IsParsedOrFaulty ts → (r : Reading) × IsReading w r
 unfolding IsReading
 by_tokens w ts l (inl h) = (read h.0, (ts, l, h.1))
 by_tokens w ts l (inr h) = by_parse_fault w ts l h.0 h.1 h.2
 
 pub every_reading : EveryReading
-every_reading w = go (lexed_or_refused w)
+every_reading w = go (lexed_or_faulty w)
   where
-    go : IsLexedOrRefused w → (r : Reading) × IsReading w r
-    go (inl h) = by_tokens w h.0 h.1 (parsed_or_refused h.0)
+    go : IsLexedOrFaulty w → (r : Reading) × IsReading w r
+    go (inl h) = by_tokens w h.0 h.1 (parsed_or_faulty h.0)
     go (inr h) = by_lex_fault w h.0 h.1 h.2

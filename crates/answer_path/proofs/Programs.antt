@@ -9,7 +9,7 @@ use Rattle.fz_ast.specs.Limits.{TermLimits}
 use Rattle.fz_ast.specs.Signature.{Signature}
 use Rattle.fz_ast.specs.Terms.{Term}
 use Rattle.fz_parser.proofs.Limits.{term_limits}
-use Rattle.linear_types.specs.Program.{Acceptance, Accepted, Rejected, sensitivity_of}
+use Rattle.linear_types.specs.Program.{Acceptance, Accepted, Faulty, sensitivity_of}
 use Rattle.linear_types.specs.Sensitivities.{Sensitivities}
 use Rattle.metric_values.specs.Tables.{rows_of}
 use Rattle.metric_values.specs.Values.{NumV}
@@ -46,7 +46,7 @@ accepted_is ts e t r h = go (sensitivity_of ts e) refl h
 
     go : (a : Acceptance) → sensitivity_of ts e ≡ a → judged_by ts e a ≡ accepted t r → (D : Sensitivities) × (s : Distance) × (sensitivity_of ts e ≡ Accepted D s) × (t ≡ e) × (r ≡ lowest s)
     go (Accepted D s) q k = let h = shaped s (shape ts e) k in (D, s, q, h.0, h.1)
-    go (Rejected f) q k = absurd (cc k)
+    go (Faulty f) q k = absurd (cc k)
 
 -- what is read keeps the limits
 pub read_limits : (w : List ℕ) (e : Term) → IsReading w (read e) → TermLimits e

@@ -14,7 +14,7 @@ use Rattle.fz_lexer.specs.Tokens.{IsLexed, ExplainsLex}
 use Rattle.fz_parser.specs.declared.fault.ParseFault.{ParseFault}
 use Rattle.fz_parser.specs.declared.fault.ParseFault.TheVariants.{Stuck, TooNested, NoMemory as NoSpace}
 use Rattle.fz_parser.specs.Reading.{IsParsed, ExplainsParse}
-use Rattle.linear_types.specs.Program.{Rejected, sensitivity_of}
+use Rattle.linear_types.specs.Program.{Faulty, sensitivity_of}
 use Rattle.linear_types.specs.Inferred.{Fault}
 use Rattle.sensitivity_check.specs.declared.checker.Checked.{Checked}
 use Rattle.sensitivity_check.specs.declared.fault.CheckFault.{CheckFault}
@@ -75,19 +75,19 @@ unparsed_refused w us fault refusal l h e ts = subst (λ x. IsProgramRefusal ts 
     go (TooNested d) h = (nested d, (us, l, h), refl)
     go NoSpace h = tt
 
-rejected : (ts : Signature) (e : Term) (f : Fault) (refusal : Refusal) → sensitivity_of ts e ≡ Rejected f → refusal ≡ by_program (fault_refusal f) → IsTermRefusal ts e refusal
+faulty : (ts : Signature) (e : Term) (f : Fault) (refusal : Refusal) → sensitivity_of ts e ≡ Faulty f → refusal ≡ by_program (fault_refusal f) → IsTermRefusal ts e refusal
 unfolding judgement_of
-rejected ts e f refusal k r = subst (λ x. IsTermRefusal ts e x) (sym r) (ap (judged_by ts e) k)
+faulty ts e f refusal k r = subst (λ x. IsTermRefusal ts e x) (sym r) (ap (judged_by ts e) k)
 
 pub fault_refused : (ts : Signature) (e : Term) (fault : CheckFault) (refusal : Refusal) → IsFirstFault ts e fault → TellsFault ts fault refusal → IsTermRefusal ts e refusal
-fault_refused ts e (Unbound s) refusal k r = rejected ts e k.0 refusal k.1 (r k.0 k.2)
-fault_refused ts e (Mismatch s T t u) refusal k r = rejected ts e k.0 refusal k.1 (r k.0 k.2)
-fault_refused ts e (NotGround s) refusal k r = rejected ts e k.0 refusal k.1 (r k.0 k.2)
-fault_refused ts e (NotFlat s) refusal k r = rejected ts e k.0 refusal k.1 (r k.0 k.2)
-fault_refused ts e (TooSensitive s x d) refusal k r = rejected ts e k.0 refusal k.1 (r k.0 k.2)
-fault_refused ts e (Range s) refusal k r = rejected ts e k.0 refusal k.1 (r k.0 k.2)
-fault_refused ts e (Unbounded i) refusal k r = rejected ts e k.0 refusal k.1 (r k.0 k.2)
-fault_refused ts e (NotNum T t) refusal k r = rejected ts e k.0 refusal k.1 (r k.0 k.2)
+fault_refused ts e (Unbound s) refusal k r = faulty ts e k.0 refusal k.1 (r k.0 k.2)
+fault_refused ts e (Mismatch s T t u) refusal k r = faulty ts e k.0 refusal k.1 (r k.0 k.2)
+fault_refused ts e (NotGround s) refusal k r = faulty ts e k.0 refusal k.1 (r k.0 k.2)
+fault_refused ts e (NotFlat s) refusal k r = faulty ts e k.0 refusal k.1 (r k.0 k.2)
+fault_refused ts e (TooSensitive s x d) refusal k r = faulty ts e k.0 refusal k.1 (r k.0 k.2)
+fault_refused ts e (Range s) refusal k r = faulty ts e k.0 refusal k.1 (r k.0 k.2)
+fault_refused ts e (Unbounded i) refusal k r = faulty ts e k.0 refusal k.1 (r k.0 k.2)
+fault_refused ts e (NotNum T t) refusal k r = faulty ts e k.0 refusal k.1 (r k.0 k.2)
 fault_refused ts e NoPlace refusal k r = subst (λ x. IsTermRefusal ts e x) (sym r) tt
 
 pub has_table : (ts : Signature) (e : Term) (fault : CheckFault) → IsFirstFault ts e fault → HasTable ts fault

@@ -1,4 +1,4 @@
--- the reply to a query, and the records that it adds
+-- The reply to a query, and the records that it adds.
 use Rattle.std.specs.Prelude.{◌≡◌, ℕ, ◌+◌, ◌^◌, ◌≤◌, ℤ, ◌+ℤ◌, unsigned_abs, List, [], ◌∷◌, ◌++◌, length}
 use Rattle.std.specs.Prelude.{Option, Some, None, ◌⊎◌, ⊤}
 use mathlib.Core.List.{IsPrefix}

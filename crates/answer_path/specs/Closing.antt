@@ -1,4 +1,4 @@
--- what a line does to its owner's book, which is closed once a record wasn't appended
+-- What a line does to its owner's book, which is closed once a record wasn't appended.
 use Rattle.std.specs.Prelude.{◌≡◌, ℕ, List, [], ◌∷◌, Option, Some, None, ⊤}
 use Rattle.journal_records.specs.declared.records.Outcome.{Outcome}
 use Rattle.journal_records.specs.declared.records.Record.{Record}

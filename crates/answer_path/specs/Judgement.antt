@@ -4,7 +4,7 @@ use Rattle.fz_frac.specs.Distance.{Distance}
 use Rattle.fz_frac.specs.Lowest.{lowest}
 use Rattle.fz_ast.specs.Signature.{Signature}
 use Rattle.fz_ast.specs.Terms.{Term}
-use Rattle.linear_types.specs.Program.{Acceptance, Accepted, Rejected, sensitivity_of}
+use Rattle.linear_types.specs.Program.{Acceptance, Accepted, Faulty, sensitivity_of}
 use Rattle.linear_types.specs.Inferred.{Fault, Unbound, Mismatch, NotGround, NotFlat, TooSensitive, Range, Unbounded, NotNum}
 use Rattle.metric_values.specs.Tables.{Dataset, rows_of}
 use Rattle.metric_values.specs.Values.{NumV}
@@ -45,7 +45,7 @@ shaped_by e r (Stops fault) = refused_for (shape_refusal fault)
 
 abbrev pub judged_by : Signature → Term → Acceptance → Judgement
 judged_by ts e (Accepted D r) = shaped_by e (lowest r) (shape ts e)
-judged_by ts e (Rejected fault) = refused_for (fault_refusal fault)
+judged_by ts e (Faulty fault) = refused_for (fault_refusal fault)
 
 -- What a program comes to: first by its reading, then by the typing rules, and then by its run without data.
 unfoldable pub judgement_of : Signature → Reading → Judgement

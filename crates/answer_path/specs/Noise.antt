@@ -1,4 +1,4 @@
--- the noise of a number
+-- The noise of a number.
 use Rattle.std.specs.Prelude.{ℕ, ◌/◌, ℤ, Option}
 use Rattle.fz_frac.specs.Lowest.{gcd}
 use Rattle.fz_outside.specs.Draws.{first_draws}

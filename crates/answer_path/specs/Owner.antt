@@ -1,4 +1,4 @@
--- an owner: its entry, its tables with their rows, and its partitions
+-- An owner: its entry, its tables with their rows, and its partitions.
 use Rattle.std.specs.Prelude.{◌≡◌, ℕ, List}
 use Rattle.partition_charge.specs.declared.view.View.{View}
 use Rattle.budget_core.specs.Entries.{Entry}

@@ -1,4 +1,4 @@
--- a pass on an owner's records, as contracts see it
+-- A pass on an owner's records, as contracts see it.
 use Rattle.std.specs.Prelude.{◌≡◌, ℕ, ◌≤◌, List, ◌++◌, length, drop, map}
 use Rattle.std.specs.List.{enumerate_from}
 use Rattle.journal_records.specs.declared.records.Record.{Record}

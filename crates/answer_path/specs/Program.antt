@@ -1,4 +1,4 @@
--- what a program is charged by
+-- What a program is charged by.
 use Rattle.std.specs.Prelude.{◌≡◌, ℕ, List}
 use Rattle.fz_frac.specs.Distance.{Fin}
 use Rattle.fz_ast.specs.Signature.{Signature}

@@ -1,4 +1,4 @@
--- what an analyst asks
+-- What an analyst asks.
 use Rattle.std.specs.Prelude.{ℕ, List}
 use Rattle.partition_charge.specs.declared.view.View.{View}
 

@@ -1,4 +1,4 @@
--- what is said of a number and of the budget, by an owner's records
+-- What is said of a number and of the budget, by an owner's records.
 use Rattle.std.specs.Prelude.{◌≡◌, ℕ, List}
 use mathlib.Core.List.{IsPrefix}
 use Rattle.journal_records.specs.declared.records.Record.{Record}

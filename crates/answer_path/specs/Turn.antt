@@ -1,4 +1,4 @@
--- what one line makes of a pass
+-- What one line makes of a pass.
 use Rattle.std.specs.Prelude.{◌≡◌, ℕ, List, [], ◌∷◌, length, Result, Ok, Err, Some, None}
 use Rattle.journal_records.specs.declared.records.Outcome.{Outcome}
 use Rattle.journal_records.specs.declared.records.Record.{Record}

@@ -1,4 +1,4 @@
--- the verdict on an ask: it sees no rows, no noise and no answer
+-- The verdict on an ask: it sees no rows, no noise and no answer.
 use Rattle.std.specs.Prelude.{◌≡◌, ℕ, List, Result, Ok, Err}
 use Rattle.journal_records.specs.declared.records.Record.{Record}
 use Rattle.budget_core.specs.Entries.{Entry}

@@ -1,4 +1,5 @@
 -- what every list of events keeps
+use Rattle.std.specs.Prelude.{⊤}
 use Rattle.std.proofs.Common.{◌≡◌, ℕ, zero, suc, ◌+◌, ◌≤◌, ◌<◌, Bool, true, false, cond, ◌==◌, ◌&&◌, not, nat_le, List, [], ◌∷◌, ◌++◌, length, fold, Result, Ok, Err, Option, Some, None, is_some, is_none, IsTrue, true≢false, slice_index_or, if◌then◌else◌, refl, sym, ◌∙◌, ap, subst, arith}
 use Rattle.std.proofs.lemmas.Bool.{leb-true}
 use Rattle.std.specs.List.{list_any}
@@ -24,7 +25,7 @@ use Rattle.budget_core.proofs.Asks.{ask-from}
 
 -- each of these numbers is settled with an answer
 abbrev AreAnswered : List Record → List ℕ → Type 0
-AreAnswered records [] = Unit {0}
+AreAnswered records [] = ⊤
 AreAnswered records (number ∷ sent) = IsTrue (is_answer (outcome_of records number)) × AreAnswered records sent
 
 -- A world is that of a sound ledger, and what was sent is answered.

@@ -1,4 +1,4 @@
--- records without their answers
+-- Records without their answers.
 use Rattle.std.specs.Prelude.{pos, List, map}
 use Rattle.journal_records.specs.declared.records.Outcome.{Outcome}
 use Rattle.journal_records.specs.declared.records.Outcome.TheVariants.{Answered, Exhausted, Lost}

@@ -1,4 +1,4 @@
--- what records cost
+-- What records cost.
 use Rattle.std.specs.Prelude.{ℕ, ◌+◌, ◌*◌, ◌-◌, ◌/◌, List, [], ◌∷◌}
 use Rattle.partition_charge.specs.Cost.{Charge, cost_of_charges}
 use Rattle.journal_records.specs.declared.records.Record.{Record}

@@ -1,4 +1,4 @@
--- what is counted and found in records
+-- What is counted and found in records.
 use Rattle.std.specs.Prelude.{ℕ, Bool, true, false, ◌==◌, ◌&&◌, nat_le, List, [], ◌∷◌, filter, find, count_by, Option, Some, None, is_none, option_map, cond}
 use Rattle.journal_records.specs.declared.records.Record.{Record}
 use Rattle.journal_records.specs.declared.records.Record.TheVariants.{Reserve, Settle}

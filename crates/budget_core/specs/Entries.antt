@@ -1,4 +1,4 @@
--- what the catalog says of an owner's budget
+-- What the catalog says of an owner's budget.
 use Rattle.std.specs.Prelude.{ℕ, ◌^◌, ◌≤◌, ◌<◌, List, length, All, slice_get, IsSomeAnd, ⊤}
 use Rattle.partition_charge.specs.Views.{partition_limit, part_limit}
 use Rattle.partition_charge.specs.declared.view.View.{View}

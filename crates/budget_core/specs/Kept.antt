@@ -1,4 +1,4 @@
--- what a history keeps beside its records
+-- What a history keeps beside its records.
 use Rattle.std.specs.Prelude.{◌≡◌, ℕ, ◌<◌, ◌≤◌, List, [], ◌∷◌, ◌++◌, length, count_by, slice_get, Some, vec_capacity}
 use Rattle.partition_charge.specs.Totals.{AreTotalsOf}
 use Rattle.journal_records.specs.declared.records.Record.{Record}

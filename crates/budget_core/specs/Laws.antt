@@ -1,4 +1,4 @@
--- the laws of legal records
+-- The laws of legal records.
 use Rattle.std.specs.Prelude.{◌≡◌, ℕ, ◌+◌, ◌≤◌, ◌<◌, List, [], length, map, count_by, sum_by, slice_get, Some, Ok, IsTrue, ◌↔◌}
 use mathlib.Core.List.{IsPrefix}
 use Rattle.std.specs.List.{range_with_len}

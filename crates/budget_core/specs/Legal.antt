@@ -1,4 +1,4 @@
--- which records may follow which
+-- Which records may follow which.
 use Rattle.std.specs.Prelude.{◌≡◌, ℕ, ◌+◌, ◌≤◌, ◌<◌, List, [], ◌∷◌, ◌++◌, length, take, slice_get, Some, None, IsSome, ⊤}
 use Rattle.journal_records.specs.declared.records.Outcome.{Outcome}
 use Rattle.journal_records.specs.declared.records.Reservation.{Reservation}

@@ -1,4 +1,4 @@
--- the world of a machine
+-- The world of a machine.
 use Rattle.budget_core.specs.declared.events.Machine.{Machine}
 use Rattle.budget_core.specs.Events.{World}
 use Rattle.budget_core.specs.Ledger.{start_of}

@@ -1,4 +1,4 @@
--- an owner's entry, and the records so far
+-- An owner's entry, and the records so far.
 use Rattle.std.specs.Prelude.{List}
 use Rattle.journal_records.specs.declared.records.Record.{Record}
 use Rattle.budget_core.specs.Entries.{Entry}

@@ -1,4 +1,4 @@
--- what a ledger keeps beside its history
+-- What a ledger keeps beside its history.
 use Rattle.std.specs.Prelude.{◌≡◌, ◌≤◌, take, length}
 use Rattle.budget_core.specs.declared.ledger.Ledger.TheInside.{Inside}
 use Rattle.budget_core.specs.Counts.{open_from}

@@ -1,4 +1,4 @@
--- what holds after all events
+-- What holds after all events.
 use Rattle.std.specs.Prelude.{◌≡◌, ℕ, ◌+◌, ◌≤◌, length, map, count_by, Contains, IsTrue}
 use Rattle.std.specs.List.{range_with_len}
 use Rattle.budget_core.specs.Cost.{cost_of}

@@ -1,4 +1,4 @@
--- what holds of every ledger
+-- What holds of every ledger.
 use Rattle.std.specs.Prelude.{◌+◌, ◌≤◌, length}
 use Rattle.budget_core.specs.Cost.{cost_of}
 use Rattle.budget_core.specs.Counts.{open_from}

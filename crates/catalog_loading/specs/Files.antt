@@ -1,4 +1,4 @@
--- what files hold, where it is told
+-- What files hold, where it is told.
 use Rattle.std.specs.Prelude.{◌≡◌, ℕ, ◌^◌, nat_le, List, length, Option, Some, None, IfSome, if◌then◌else◌}
 
 -- the bytes of each file by its name, or None where there is no such file

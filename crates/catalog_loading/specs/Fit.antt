@@ -1,4 +1,4 @@
--- two owners' entries that fit: the same tables in the same order, with the same columns
+-- Two owners' entries that fit: the same tables in the same order, with the same columns.
 use Rattle.std.specs.Prelude.{ℕ, List, Bool, true, false, ◌&&◌, Result, Ok, Err, bytes_eq, if◌then◌else◌}
 use Rattle.std.specs.Cmp.Lexicographic.{pointwise}
 use Rattle.fz_ast.specs.declared.row.Column.{Column}

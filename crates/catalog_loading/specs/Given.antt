@@ -1,4 +1,4 @@
--- what the code's steps come to, and what stops them
+-- What the code's steps come to, and what stops them.
 use Rattle.std.specs.declared.alloc.Global.{Global}
 use Rattle.std.specs.Prelude.{Vec, map, ◌≡◌, ℕ, List, ◌++◌, Option, Some, MatchResult, Result, Ok, Err, ⊤, string_bytes, bytes_eq, position, length, ◌<◌}
 use Rattle.metric_values.specs.Tables.{Dataset}

@@ -1,4 +1,4 @@
--- the files of a catalog: itself, and the tables of its owners
+-- The files of a catalog: itself, and the tables of its owners.
 use Rattle.std.specs.Prelude.{◌≡◌, ◌<◌, ℕ, List, [], length, map, nat_eq, Result, Ok, Err, find, get_or, position, slice_get, ok_or, option_and_then, bytes_eq, if◌then◌else◌}
 use Rattle.sha2.specs.Sha256.{sha256}
 use Rattle.journal_records.specs.declared.records.Header.{Header}

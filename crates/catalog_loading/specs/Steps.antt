@@ -1,4 +1,4 @@
--- files are read in steps, of which the first that refuses a name ends the work
+-- Files are read in steps, of which the first that refuses a name ends the work.
 use Rattle.std.specs.Prelude.{ℕ, suc, List, [], ◌∷◌, ◌++◌, Result, Ok, Err, ok_or}
 use Rattle.catalog_loading.specs.Files.{ReadsToCome, readable}
 

@@ -1,4 +1,4 @@
--- the command that words are
+-- The command that words are.
 use Rattle.std.specs.Prelude.{◌^◌, ◌&&◌, ℕ, List, [], ◌∷◌, Option, Some, None, codes, bytes_eq, if◌then◌else◌, nat_lt, option_and_then}
 use Rattle.std.specs.Str.Parse.{digits_value, without_leading_plus}
 use Rattle.clap.specs.Words.{Row, Text, fault_of, first_of, one_of, subcommand_of}

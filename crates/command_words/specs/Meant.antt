@@ -1,4 +1,4 @@
--- what the code's command means
+-- What the code's command means.
 use Rattle.command_words.specs.Command.{Command, check, init, run, audit, gap}
 use Rattle.command_words.specs.declared.words.Command.{Command as Words}
 use Rattle.command_words.specs.declared.words.Command.TheVariants as words

@@ -1,4 +1,4 @@
--- the program's commands, as clap is told of them
+-- The program's commands, as clap is told of them.
 use Rattle.std.specs.Prelude.{ℕ, [], ◌∷◌, true, Some, pos, codes}
 use Rattle.clap.specs.Words.{App, Rule, Text, new_app, new_rule, with_rule, with_subcommand}
 use Rattle.clap.specs.declared.builder.value_parser.ValueParser.TheVariants as parser

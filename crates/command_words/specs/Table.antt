@@ -1,4 +1,4 @@
--- the commands of words without options, as a table
+-- The commands of words without options, as a table.
 use Rattle.std.specs.Prelude.{◌==◌, ◌&&◌, ℕ, Bool, false, List, [], ◌∷◌, Option, Some, None, codes, bytes_eq, if◌then◌else◌, nat_le, option_and_then}
 use Rattle.command_words.specs.Command.{Command, check, init, run, audit, gap, number_written}
 use Rattle.command_words.specs.Program.{greatest_workers}

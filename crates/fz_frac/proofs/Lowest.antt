@@ -69,7 +69,7 @@ lowest p q h =
     low_pos g zero q e h = absurd (omega arith)
     low_pos g (suc d) q e h = omega arith
 
--- an equal fraction's halves are no smaller
+-- an equal fraction's numerator and denominator are no smaller
 low_le : (p q r s n d : ℕ) → Lowest p q n d → 0 < s → p * s ≡ r * q → d ≤ s
 low_le p q r s n d l z e =
     let P : ℕ → Type 0 = λ m. q ∣ m in

@@ -1,6 +1,6 @@
 -- Distances and sensitivities without bounds: fractions p/q, and one beyond them all.
 -- Two pairs may stand for one number, so distances are compared by cross products, never by ≡.
-use Rattle.std.specs.Prelude.{ℕ, zero, suc, ◌+◌, ◌-◌, ◌*◌, ◌/◌, ◌≤◌, Bool, true, false, cond, nat_le, Option, Some, None}
+use Rattle.std.specs.Prelude.{⊤, ℕ, zero, suc, ◌+◌, ◌-◌, ◌*◌, ◌/◌, ◌≤◌, Bool, true, false, cond, nat_le, Option, Some, None}
 
 pub data Distance : Type 0 where
   Fin : (p q : ℕ) → Distance
@@ -13,9 +13,9 @@ den (suc n) = suc n
 
 abbrev pub IsLe : Distance → Distance → Type 0
 IsLe (Fin p q) (Fin r s) = p * den s ≤ r * den q
-IsLe (Fin p q) Inf = Unit {0}
+IsLe (Fin p q) Inf = ⊤
 IsLe Inf (Fin r s) = ⊥
-IsLe Inf Inf = Unit {0}
+IsLe Inf Inf = ⊤
 
 -- at most
 pub record ◌⊑◌ (a b : Distance) : Type 0 where

@@ -1,5 +1,5 @@
--- Lowest terms, and which numbers fit two halves of 32 bits in them.
-use Rattle.std.specs.Prelude.{ℕ, zero, suc, ◌/◌, ◌%◌, ◌<◌, ◌≤◌, Bool, false, cond, nat_eq, nat_le, ◌&&◌, not}
+-- Lowest terms, and which fractions have a numerator and a denominator of 32 bits in them.
+use Rattle.std.specs.Prelude.{⊤, ℕ, zero, suc, ◌/◌, ◌%◌, ◌<◌, ◌≤◌, Bool, false, cond, nat_eq, nat_le, ◌&&◌, not}
 use Rattle.fz_frac.specs.Distance.{Distance, Fin, Inf, den, ◌≈◌}
 
 -- Euclid's algorithm, with a bound on its steps
@@ -11,7 +11,7 @@ gcd_in (suc n) a b = cond (nat_eq b 0) a (gcd_in n b (a % b))
 unfoldable pub gcd : ℕ → ℕ → ℕ
 gcd a b = gcd_in (suc b) a b
 
--- the greatest half of a fraction
+-- the greatest numerator and denominator
 abbrev pub widest : ℕ
 widest = 4294967295
 
@@ -25,7 +25,7 @@ abbrev pub lowest : Distance → Distance
 lowest (Fin p q) = Fin (p / gcd p (den q)) (den q / gcd p (den q))
 lowest Inf = Inf
 
--- some fraction of narrow halves is the same number, or it is infinite
+-- some fraction whose numerator and denominator are narrow is the same number, or it is infinite
 abbrev pub IsNarrow : Distance → Type 0
 IsNarrow (Fin p q) = (n : ℕ) × (d : ℕ) × (0 < d) × (n ≤ widest) × (d ≤ widest) × (Fin n d ≈ Fin p q)
-IsNarrow Inf = Unit {0}
+IsNarrow Inf = ⊤

@@ -19,7 +19,7 @@ pub struct Frac {
 }
 
 impl Frac {
-    /// `p/q` in lowest terms, or `Range` where a half of that is over `2^32 - 1`.
+    /// `p/q` in lowest terms, or `Range` where its numerator or denominator is over `2^32 - 1`.
     pub fn new(p: u64, q: u64) -> Result<Frac, Range>
         requires { 0 < q }
         ensures exact { IfOk result (λ f. Fin f.p f.q ≈ Fin p q) }

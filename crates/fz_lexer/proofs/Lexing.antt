@@ -15,7 +15,7 @@ use Rattle.fz_lexer.specs.declared.sign.TheConstants.{SIGNS}
 use Rattle.fz_lexer.specs.Bytes.{is_blank, is_digit, is_letter, is_name_byte, is_text_byte, every_byte, begins, stops, value_from}
 use Rattle.fz_lexer.specs.Words.{spelling}
 use Rattle.fz_lexer.specs.Signs.{mark, may_follow, SpellsSign, NoSign}
-use Rattle.fz_lexer.specs.Tokens.{IsReservedOrName, Cut, IsLexed, ExplainsLex, IsLexedOrRefused}
+use Rattle.fz_lexer.specs.Tokens.{IsReservedOrName, Cut, IsLexed, ExplainsLex, IsLexedOrFaulty}
 use Rattle.fz_lexer.specs.Prefixes.{IsTokenPrefix, token_at}
 use Rattle.fz_lexer.proofs.Spellings.{same, same_self, same_is, word_with, word_back, sign_at, sign_below, sign_place}
 use Rattle.fz_lexer.proofs.Prefixes.{name_found, name_over, number_found, number_over, text_found, text_over, sign_found, sign_over, longest_at}
@@ -241,9 +241,9 @@ answer_holds w = elim (cases_Bool (nat_le (length w) 16000)) [
   | inr e ↦ rw e (known (Bad 16000) refl, inl (leb-false _ _ e, refl))
 ]
 
-either : (w : List ℕ) (a : Answer) → Holds w a → IsLexedOrRefused w
+either : (w : List ℕ) (a : Answer) → Holds w a → IsLexedOrFaulty w
 either w (Tokens ts) h = inl (ts, h)
 either w (Refused fault) h = inr (fault, h.0, h.1)
 
-pub lexed_or_refused : (w : List ℕ) → IsLexedOrRefused w
-lexed_or_refused w = either w (answer w) (answer_holds w)
+pub lexed_or_faulty : (w : List ℕ) → IsLexedOrFaulty w
+lexed_or_faulty w = either w (answer w) (answer_holds w)

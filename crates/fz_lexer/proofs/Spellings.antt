@@ -1,7 +1,7 @@
 -- No two reserved words, and no two signs, have the same bytes, and the code's tables hold all of them.
 use Rattle.std.proofs.Common.{◌≡◌, ℕ, ◌<◌, ◌≤◌, List, [], ◌∷◌, Bool, true, false, cond, get_or, refl, arith, sym, ap, ◌∙◌, length, zero, suc, inl, inr}
 use Rattle.std.proofs.lemmas.Bool.{cases_Bool, cases_eq, and_parts, and_from, eqb-true, eq-eqb, ltb-false, le-ltb}
-use Rattle.std.specs.Prelude.{◌&&◌, nat_eq, nat_lt}
+use Rattle.std.specs.Prelude.{⊤, ◌&&◌, nat_eq, nat_lt}
 use Rattle.fz_lexer.specs.declared.token.Word.{Word}
 use Rattle.fz_lexer.specs.declared.token.Sign.{Sign}
 use Rattle.fz_lexer.specs.declared.token.Word.TheVariants.{Fun, Fn, Let, In, Case, Of, Inl, Inr, If, Then, Else, Fst, Snd, True, False, Num, Text, Unit as UnitWord, Bool as BoolWord, Bag, Inf, Size, Sum, Clip, Least, Greatest, Map, Filter, Split, Union, Do, Release, At}
@@ -323,7 +323,7 @@ mark_some x = let e = mark_length x in elim (cases_Bool (nat_lt (sign_place x) 5
 
 -- a sign's first byte begins nothing else
 abbrev pub SortStart : List ℕ → Type 0
-SortStart [] = Unit {0}
+SortStart [] = ⊤
 SortStart (b ∷ w) = (is_letter b ≡ false) × (is_digit b ≡ false) × (nat_eq b 34 ≡ false) × (32 < b)
 
 pub sign_start : (x : Sign) → SortStart (mark x)

@@ -79,5 +79,5 @@ ExplainsLex w (TooManyTokens place) =
 ExplainsLex w NoMemory = ⊤
 
 -- the text is tokens, or has a fault other than want of memory
-abbrev pub IsLexedOrRefused : List ℕ → Type 0
-IsLexedOrRefused w = ((ts : List Token) × IsLexed w ts) ⊎ ((fault : LexFault) × (fault ≡ NoMemory → ⊥) × ExplainsLex w fault)
+abbrev pub IsLexedOrFaulty : List ℕ → Type 0
+IsLexedOrFaulty w = ((ts : List Token) × IsLexed w ts) ⊎ ((fault : LexFault) × (fault ≡ NoMemory → ⊥) × ExplainsLex w fault)

@@ -1,7 +1,7 @@
 //! The cut of a program into its tokens.
 ghost use Rattle.std.specs.Prelude.{◌≡◌, ◌≢◌, ◌≤◌, ◌+◌, ◌∷◌, ◌++◌, [], ℕ, List, length, IfOk, IfErr};
 ghost use Rattle.fz_lexer.specs.Prefixes.{token_at};
-ghost use Rattle.fz_lexer.specs.Tokens.{AreTokens, IsLexed, ExplainsLex, IsLexedOrRefused};
+ghost use Rattle.fz_lexer.specs.Tokens.{AreTokens, IsLexed, ExplainsLex, IsLexedOrFaulty};
 ghost use Rattle.fz_lexer.specs.declared.token.Token.{Token};
 ghost use Rattle.fz_lexer.specs.declared.token.LexFault.{LexFault};
 
@@ -95,5 +95,5 @@ pub fn one_fault()
 
 /// Any bytes are the tokens of a program, or have a fault that is no want of memory.
 pub fn every_text_is_lexed()
-    ensures { (w : List ℕ) → IsLexedOrRefused w }
+    ensures { (w : List ℕ) → IsLexedOrFaulty w }
 {}

@@ -9,20 +9,20 @@ use Rattle.fz_parser.specs.declared.grammar.Item.{Item}
 use Rattle.fz_parser.specs.declared.grammar.Item.TheVariants.{Take, Read, Make}
 use Rattle.fz_parser.specs.declared.grammar.Phrase.{Phrase}
 use Rattle.fz_parser.specs.declared.grammar.Top.{Top}
-use Rattle.fz_parser.specs.declared.grammar.Top.TheVariants.{Empty, Wants, Refuses}
+use Rattle.fz_parser.specs.declared.grammar.Top.TheVariants.{Empty, Wants, DeadEnd}
 use Rattle.fz_parser.specs.declared.fault.ParseFault.{ParseFault}
 use Rattle.fz_parser.specs.declared.fault.ParseFault.TheVariants.{Stuck, TooNested, NoMemory}
 use Rattle.fz_parser.specs.Table.{rule_count}
 use Rattle.fz_parser.specs.Parts.{State, shift, build}
 use Rattle.fz_parser.specs.Grammar.{head, body, empty, only, IsTerm}
-use Rattle.fz_parser.specs.Reading.{IsStuck, IsParsedOrRefused}
+use Rattle.fz_parser.specs.Reading.{IsStuck, IsParsedOrFaulty}
 use Rattle.fz_parser.specs.Classes.{class, terminal_number, may_stand}
 use Rattle.fz_parser.specs.Tests.{choice, lead}
 use Rattle.fz_parser.specs.Steps.{front, Sound, At, ComesTo, AreInOrder, START}
 use Rattle.fz_parser.proofs.Numbers.{class_bound, may_means}
 use Rattle.fz_parser.proofs.Words.{lead_rule}
 use Rattle.fz_parser.proofs.Machine.{at_start, at_act, at_rule, refused_name, done, sound_start, sound_act, sound_rule}
-use Rattle.fz_parser.proofs.Stacks.{rule_found, at_end, end_refused, end_wanted, class_end, empty_before, refuses_before, wanted_before, wanted_on, wanted_sound}
+use Rattle.fz_parser.proofs.Stacks.{rule_found, at_end, end_refused, end_wanted, class_end, empty_before, dead_end_before, wanted_before, wanted_on, wanted_sound}
 
 -- what is wanted next, what is still to come then, and the parts
 pub record Settled : Type 0 where
@@ -31,12 +31,12 @@ pub record Settled : Type 0 where
   pub state : State
 
 abbrev pub by_choice : ℕ → (ℕ → Settled) → List Item → State → Settled
-by_choice zero go σ s = record { top = Refuses; items = σ; state = s }
+by_choice zero go σ s = record { top = DeadEnd; items = σ; state = s }
 by_choice (suc p) go σ s = go p
 
 -- on until a token is wanted, before a token of class c
 unfoldable pub settled : ℕ → ℕ → List Item → State → Settled
-settled zero c σ s = record { top = Refuses; items = σ; state = s }
+settled zero c σ s = record { top = DeadEnd; items = σ; state = s }
 settled (suc n) c [] s = record { top = Empty; items = []; state = s }
 settled (suc n) c (Take k ∷ σ) s = record { top = Wants k; items = σ; state = s }
 settled (suc n) c (Make a ∷ σ) s = settled n c σ (build a s)
@@ -74,12 +74,12 @@ pub data Answer : Type 0 where
 abbrev pub at_last : Top → State → ℕ → Answer
 at_last Empty s i = Whole s
 at_last (Wants k) s i = StuckAt i
-at_last Refuses s i = StuckAt i
+at_last DeadEnd s i = StuckAt i
 
 abbrev pub at_token : Top → State → ℕ → Token → (State → Answer) → Answer
 at_token Empty s i t go = StuckAt i
 at_token (Wants k) s i t go = cond (may_stand (terminal_number k) (class t)) (go (shift k t s)) (StuckAt i)
-at_token Refuses s i t go = StuckAt i
+at_token DeadEnd s i t go = StuckAt i
 
 -- (functions of what is settled, so that it is computed once)
 unfoldable pub ends : Settled → ℕ → Answer
@@ -103,12 +103,12 @@ module _ (ts : List Token) (i : ℕ) (σ : List Item) (s : State) where
   last_holds : (top : Top) → i ≡ length ts → ComesTo top (take i ts) (drop i ts) σ s → AnswerHolds ts (at_last top s i)
   last_holds Empty e o = done ts s (at_end ts i [] s (omega arith) o)
   last_holds (Wants k) e o = end_wanted ts i k σ s e o
-  last_holds Refuses e o = end_refused ts i e o
+  last_holds DeadEnd e o = end_refused ts i e o
 
   token_holds : (top : Top) (t : Token) (go : State → Answer) → i < length ts → t ≡ get_or ts i t → AreInOrder top σ s → ComesTo top (take i ts) (drop i ts) σ s →
       ((u : State) → Sound σ u → At (take (i + 1) ts) (drop (i + 1) ts) σ u → AnswerHolds ts (go u)) → AnswerHolds ts (at_token top s i t go)
   token_holds Empty t go l w d o ih = empty_before ts i t Empty σ s l w refl o
-  token_holds Refuses t go l w d o ih = refuses_before ts i t Refuses σ s l w refl o
+  token_holds DeadEnd t go l w d o ih = dead_end_before ts i t DeadEnd σ s l w refl o
   token_holds (Wants k) t go l w d o ih = elim (cases_Bool (may_stand (terminal_number k) (class t))) [
     | inl m ↦ rw m (ih (shift k t s) (wanted_sound t k (Wants k) σ s (shift k t s) refl refl d) (wanted_on ts i t k (Wants k) σ s (shift k t s) l w (may_means k t.kind m) refl refl o))
     | inr m ↦ rw m (wanted_before ts i t k (class t) (may_stand (terminal_number k) (class t)) (Wants k) σ s l w refl refl m refl o)
@@ -149,12 +149,12 @@ stuck_apart : (k : ℕ) → Stuck k ≡ NoMemory → ⊥
 unfolding is_memory
 stuck_apart k x = let e : false ≡ true = ap is_memory x in absurd (cc e)
 
-either : (ts : List Token) (a : Answer) → AnswerHolds ts a → IsParsedOrRefused ts
+either : (ts : List Token) (a : Answer) → AnswerHolds ts a → IsParsedOrFaulty ts
 either ts (Whole s) h = elim (cases_lt 64 (depth h.1)) [
   | inl l ↦ inr (TooNested (depth h.1), nested_apart (depth h.1), (l, h.1, h.3, refl))
   | inr l ↦ inl (h.1, record { term = h.3; nesting = l })
 ]
 either ts (StuckAt k) h = inr (Stuck k, stuck_apart k, h)
 
-pub parsed_or_refused : (ts : List Token) → IsParsedOrRefused ts
-parsed_or_refused ts = either ts (parse ts) (parse_holds ts)
+pub parsed_or_faulty : (ts : List Token) → IsParsedOrFaulty ts
+parsed_or_faulty ts = either ts (parse ts) (parse_holds ts)

@@ -11,7 +11,7 @@ use Rattle.fz_parser.specs.declared.grammar.Terminal.{Terminal}
 use Rattle.fz_parser.specs.declared.grammar.Phrase.{Phrase}
 use Rattle.fz_parser.specs.declared.grammar.Action.{Action}
 use Rattle.fz_parser.specs.declared.grammar.Top.{Top}
-use Rattle.fz_parser.specs.declared.grammar.Top.TheVariants.{Empty, Wants, Refuses}
+use Rattle.fz_parser.specs.declared.grammar.Top.TheVariants.{Empty, Wants, DeadEnd}
 use Rattle.fz_parser.specs.declared.reader.Reader.{Reader}
 use Rattle.fz_parser.specs.declared.tables.TheConstants.{CHOICES}
 use Rattle.fz_parser.specs.Table.{rule_count}
@@ -170,8 +170,8 @@ class_below t x e = omega (arith, class_bound t)
 pub empty_before : (ts : List Token) (i : ℕ) (t : Token) (top : Top) (σ : List Item) (s : State) → i < length ts → t ≡ get_or ts i t → top ≡ Empty → ComesTo top (take i ts) (drop i ts) σ s → IsStuck ts i
 empty_before ts i t top σ s l w e o = stuck_more ts i t s l w (subst (λ x. ComesTo x (take i ts) (drop i ts) σ s) e o)
 
-pub refuses_before : (ts : List Token) (i : ℕ) (t : Token) (top : Top) (σ : List Item) (s : State) → i < length ts → t ≡ get_or ts i t → top ≡ Refuses → ComesTo top (take i ts) (drop i ts) σ s → IsStuck ts i
-refuses_before ts i t top σ s l w e o = stuck_before ts i t l w (subst (λ x. ComesTo x (take i ts) (drop i ts) σ s) e o)
+pub dead_end_before : (ts : List Token) (i : ℕ) (t : Token) (top : Top) (σ : List Item) (s : State) → i < length ts → t ≡ get_or ts i t → top ≡ DeadEnd → ComesTo top (take i ts) (drop i ts) σ s → IsStuck ts i
+dead_end_before ts i t top σ s l w e o = stuck_before ts i t l w (subst (λ x. ComesTo x (take i ts) (drop i ts) σ s) e o)
 
 pub wanted_before : (ts : List Token) (i : ℕ) (t : Token) (k : Terminal) (x : ℕ) (b : Bool) (top : Top) (σ : List Item) (s : State) → i < length ts → t ≡ get_or ts i t → x ≡ class t → b ≡ may_stand (terminal_number k) x → b ≡ false → top ≡ Wants k →
     ComesTo top (take i ts) (drop i ts) σ s → IsStuck ts i
@@ -195,8 +195,8 @@ empty_end ts n top σ r l e k o =
     let d = done ts (state_of r) (at_end ts n [] (state_of r) (omega arith) (subst (λ x. ComesTo x (take n ts) (drop n ts) σ (state_of r)) e o)) in
     (d.0, d.1, d.2, k, d.3)
 
-pub refuses_end : (ts : List Token) (n : ℕ) (top : Top) (σ : List Item) (s : State) → n ≡ length ts → top ≡ Refuses → ComesTo top (take n ts) (drop n ts) σ s → IsStuck ts (length ts)
-refuses_end ts n top σ s l e o = let r = end_refused ts n l (subst (λ x. ComesTo x (take n ts) (drop n ts) σ s) e o) in subst (λ n. IsStuck ts n) l r
+pub dead_end_last : (ts : List Token) (n : ℕ) (top : Top) (σ : List Item) (s : State) → n ≡ length ts → top ≡ DeadEnd → ComesTo top (take n ts) (drop n ts) σ s → IsStuck ts (length ts)
+dead_end_last ts n top σ s l e o = let r = end_refused ts n l (subst (λ x. ComesTo x (take n ts) (drop n ts) σ s) e o) in subst (λ n. IsStuck ts n) l r
 
 pub wants_end : (ts : List Token) (n : ℕ) (k : Terminal) (top : Top) (σ : List Item) (s : State) → n ≡ length ts → top ≡ Wants k → ComesTo top (take n ts) (drop n ts) σ s → IsStuck ts (length ts)
 wants_end ts n k top σ s l e o = let r = end_wanted ts n k σ s l (subst (λ x. ComesTo x (take n ts) (drop n ts) σ s) e o) in subst (λ n. IsStuck ts n) l r

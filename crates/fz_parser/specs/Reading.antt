@@ -25,5 +25,5 @@ ExplainsParse ts (TooNested d) = (64 < d) × (e : Term) × IsTerm ts e × (depth
 ExplainsParse ts NoMemory = ⊤
 
 -- the tokens are a term within the limit, or have a fault other than want of memory
-abbrev pub IsParsedOrRefused : List Token → Type 0
-IsParsedOrRefused ts = ((e : Term) × IsParsed ts e) ⊎ ((fault : ParseFault) × (fault ≡ NoMemory → ⊥) × ExplainsParse ts fault)
+abbrev pub IsParsedOrFaulty : List Token → Type 0
+IsParsedOrFaulty ts = ((e : Term) × IsParsed ts e) ⊎ ((fault : ParseFault) × (fault ≡ NoMemory → ⊥) × ExplainsParse ts fault)

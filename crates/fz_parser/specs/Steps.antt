@@ -6,7 +6,7 @@ use Rattle.fz_parser.specs.declared.grammar.Item.TheVariants.{Take, Read, Make}
 use Rattle.fz_parser.specs.declared.grammar.Phrase.{Phrase}
 use Rattle.fz_parser.specs.declared.grammar.Phrase.TheVariants.{Expression}
 use Rattle.fz_parser.specs.declared.grammar.Top.{Top}
-use Rattle.fz_parser.specs.declared.grammar.Top.TheVariants.{Empty, Wants, Refuses}
+use Rattle.fz_parser.specs.declared.grammar.Top.TheVariants.{Empty, Wants, DeadEnd}
 use Rattle.fz_parser.specs.Parts.{StackPart, State, sort_of, term}
 use Rattle.fz_parser.specs.Grammar.{empty}
 use Rattle.fz_parser.specs.Classes.{class}
@@ -62,10 +62,10 @@ pub record IsDeadEnd (read rest : List Token) : Type 0 where
 abbrev pub ComesTo : Top → List Token → List Token → List Item → State → Type 0
 ComesTo Empty read rest σ s = At read rest [] s
 ComesTo (Wants k) read rest σ s = At read rest (Take k ∷ σ) s
-ComesTo Refuses read rest σ s = IsDeadEnd read rest
+ComesTo DeadEnd read rest σ s = IsDeadEnd read rest
 
 -- the items are in order where a token is wanted
 abbrev pub AreInOrder : Top → List Item → State → Type 0
 AreInOrder Empty σ s = Sound [] s
 AreInOrder (Wants k) σ s = Sound (Take k ∷ σ) s
-AreInOrder Refuses σ s = ⊤
+AreInOrder DeadEnd σ s = ⊤

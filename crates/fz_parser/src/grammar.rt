@@ -64,5 +64,5 @@ pub enum Top {
     /// Such a token.
     Wants(Terminal),
     /// No rule fits.
-    Refuses,
+    DeadEnd,
 }

@@ -12,7 +12,7 @@ ghost use Rattle.fz_parser.specs.Written.{IsProduct};
 ghost use Rattle.fz_parser.specs.Printer.{written};
 ghost use Rattle.fz_parser.specs.declared.grammar.Item.{Item};
 ghost use Rattle.fz_parser.specs.declared.grammar.Phrase.{Phrase};
-ghost use Rattle.fz_parser.specs.Reading.{IsParsed, IsStuck, ExplainsParse, IsParsedOrRefused};
+ghost use Rattle.fz_parser.specs.Reading.{IsParsed, IsStuck, ExplainsParse, IsParsedOrFaulty};
 ghost use Rattle.fz_parser.specs.Steps.{front, Sound, At, ComesTo, AreInOrder, START};
 ghost use Rattle.fz_parser.specs.Kept.{state_of, IsInOrder, IsReadAsTerm};
 ghost use Rattle.fz_parser.specs.declared.fault.ParseFault.{ParseFault};
@@ -57,7 +57,7 @@ fn settle(class: u8, stack: &mut Vec<Item>, reader: &mut Reader) -> Result<Top, 
             Item::Read(phrase) => {
                 let choice = choice_at(phrase, class);
                 if choice == 0 {
-                    return Ok(Top::Refuses);
+                    return Ok(Top::DeadEnd);
                 }
                 push_body(stack, choice - 1)?;
             }
@@ -86,7 +86,7 @@ fn read(alloc: Global, tokens: &[Token]) -> Result<Reader, ParseFault>
         let class = class_of(&token.kind);
         match settle(class, &mut stack, &mut reader)? {
             Top::Empty => return Err(ParseFault::Stuck { token: place }),
-            Top::Refuses => return Err(ParseFault::Stuck { token: place }),
+            Top::DeadEnd => return Err(ParseFault::Stuck { token: place }),
             Top::Wants(terminal) => {
                 if !may_stand(terminal, class) {
                     return Err(ParseFault::Stuck { token: place });
@@ -98,7 +98,7 @@ fn read(alloc: Global, tokens: &[Token]) -> Result<Reader, ParseFault>
     let end = tokens.len();
     match settle(0, &mut stack, &mut reader)? {
         Top::Empty => Ok(reader),
-        Top::Refuses => Err(ParseFault::Stuck { token: end }),
+        Top::DeadEnd => Err(ParseFault::Stuck { token: end }),
         Top::Wants(_) => Err(ParseFault::Stuck { token: end }),
     }
 }
@@ -151,7 +151,7 @@ pub fn products_as_written()
 
 /// Any tokens are a term within the limit on nesting, or have a fault that is no want of memory.
 pub fn every_list_of_tokens_is_parsed()
-    ensures { (ts : List Token) → IsParsedOrRefused ts }
+    ensures { (ts : List Token) → IsParsedOrFaulty ts }
 {}
 
 /// What a term is written as reads as the term, but for its spans.

@@ -10,16 +10,16 @@ use Rattle.linear_types.proofs.Sound.{sound}
 use Rattle.linear_types.specs.Laws.{RuleIsComplete, RuleIsSound, RuleKeepsRange}
 use Rattle.linear_types.specs.Sensitivities.{Sensitivities, above_zero, first, join, plus, rest, scale}
 use Rattle.linear_types.specs.Typing.{Context, IsBound, Typing, Under, here, is_app, is_at_most, is_bang, is_case, is_clip, is_eq_num, is_eq_text, is_filter, is_fn, is_fst, is_fun, is_greatest, is_if, is_inl, is_inr, is_least, is_let, is_let_bang, is_let_pair, is_map, is_minus, is_num, is_pair, is_plus, is_size, is_snd, is_split, is_sum, is_text, is_times, is_union, is_unit, is_var, is_with, size_of, there, widest_of}
-use Rattle.linear_types.specs.Inferred.{Has, Range, Refused, Inferred}
+use Rattle.linear_types.specs.Inferred.{Has, Range, Untyped, Inferred}
 
-no_both : {v : Inferred} {A : Ty} {D : Sensitivities} {s : Span} → v ≡ Has A D → v ≡ Refused (Range s) → ⊥
-no_both {A = A} {D = D} {s = s} h e = let k : Has A D ≡ Refused (Range s) = sym h ∙ e in cc
+no_both : {v : Inferred} {A : Ty} {D : Sensitivities} {s : Span} → v ≡ Has A D → v ≡ Untyped (Range s) → ⊥
+no_both {A = A} {D = D} {s = s} h e = let k : Has A D ≡ Untyped (Range s) = sym h ∙ e in cc
 
 in_range_only : {v : Inferred} {o : Bool} {A : Ty} {D : Sensitivities} → Or v o A D → (v ≡ Has A D) ↔ (o ≡ false)
 in_range_only (gives n e) = (λ h. n, λ h. e)
 in_range_only (leaves y s e) = (λ h. absurd (no_both h e), λ h. absurd (true≢false (sym y ∙ h)))
 
-out_of_range_only : {v : Inferred} {o : Bool} {A : Ty} {D : Sensitivities} → Or v o A D → ((s : Span) × (v ≡ Refused (Range s))) ↔ (o ≡ true)
+out_of_range_only : {v : Inferred} {o : Bool} {A : Ty} {D : Sensitivities} → Or v o A D → ((s : Span) × (v ≡ Untyped (Range s))) ↔ (o ≡ true)
 out_of_range_only (gives n e) = (λ h. absurd (no_both e h.1), λ h. absurd (true≢false (sym h ∙ n)))
 out_of_range_only (leaves y s e) = (λ h. y, λ h. (s, e))
 

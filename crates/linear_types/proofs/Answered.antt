@@ -10,10 +10,10 @@ use Rattle.fz_ast.proofs.SameTypes.{same_type_is}
 use Rattle.linear_types.proofs.Programs.{accepted}
 use Rattle.linear_types.proofs.Sound.{IsTerms, faults_of_terms}
 use Rattle.linear_types.specs.Laws.{AcceptedExactly, FaultsAreKept, FiniteBelow, IsFirstUnbounded, NotNumExactly, UnboundedExactly, sensitivity_at}
-use Rattle.linear_types.specs.Program.{Accepted, Rejected, context_of, first_unbounded, greatest_of, is_endless, number_rule, program_rule}
+use Rattle.linear_types.specs.Program.{Accepted, Faulty, context_of, first_unbounded, greatest_of, is_endless, number_rule, program_rule}
 use Rattle.linear_types.specs.Rule.{rule}
 use Rattle.linear_types.specs.Sensitivities.{Sensitivities, first, rest}
-use Rattle.linear_types.specs.Inferred.{Fault, Has, NotNum, Refused, Unbounded, Inferred}
+use Rattle.linear_types.specs.Inferred.{Fault, Has, NotNum, Untyped, Unbounded, Inferred}
 
 at_first : (D : Sensitivities) → sensitivity_at D 0 ≡ first D
 at_first [] = refl
@@ -92,24 +92,24 @@ some_first ts D x h = go (first_is ts D)
     go (missing f k) = absurd (cc (f, h))
 
 -- the fault of the whole, by the first table at inf
-unbounded_only : (A : Ty) (D : Sensitivities) (o : Option Name) (x : Name) → number_rule A D o ≡ Rejected (Unbounded x) → o ≡ Some x
+unbounded_only : (A : Ty) (D : Sensitivities) (o : Option Name) (x : Name) → number_rule A D o ≡ Faulty (Unbounded x) → o ≡ Some x
 unbounded_only A D (Some y) x h = cc
 unbounded_only A D None x h = go (same_type A NumT) h
   where
-    go : (b : Bool) → cond b (Accepted D (greatest_of D)) (Rejected (NotNum A)) ≡ Rejected (Unbounded x) → None ≡ Some x
+    go : (b : Bool) → cond b (Accepted D (greatest_of D)) (Faulty (NotNum A)) ≡ Faulty (Unbounded x) → None ≡ Some x
     go true k = cc
     go false k = cc
 
-not_num_only : (A : Ty) (D : Sensitivities) (o : Option Name) (B : Ty) → number_rule A D o ≡ Rejected (NotNum B) → (o ≡ None) × (A ≡ B) × (A ≢ NumT)
+not_num_only : (A : Ty) (D : Sensitivities) (o : Option Name) (B : Ty) → number_rule A D o ≡ Faulty (NotNum B) → (o ≡ None) × (A ≡ B) × (A ≢ NumT)
 not_num_only A D (Some y) B h = cc
 not_num_only A D None B h = let k = go (same_type A NumT) refl h in (refl, k.0, k.1)
   where
-    go : (b : Bool) → same_type A NumT ≡ b → cond b (Accepted D (greatest_of D)) (Rejected (NotNum A)) ≡ Rejected (NotNum B) → (A ≡ B) × (A ≢ NumT)
+    go : (b : Bool) → same_type A NumT ≡ b → cond b (Accepted D (greatest_of D)) (Faulty (NotNum A)) ≡ Faulty (NotNum B) → (A ≡ B) × (A ≢ NumT)
     go true e k = cc
     go false e k = (cc, λ i. cc (e, ap (λ A. same_type A NumT) i))
 
-rejected_is : {f g : Fault} → Rejected f ≡ Rejected g → f ≡ g
-rejected_is h = cc
+faulty_is : {f g : Fault} → Faulty f ≡ Faulty g → f ≡ g
+faulty_is h = cc
 
 pub accepted_exactly : AcceptedExactly
 accepted_exactly ts t D r = (
@@ -123,9 +123,9 @@ unbounded_exactly ts t x = (
   λ h. ap (λ v. program_rule ts v) h.2 ∙ ap (λ o. number_rule h.0 h.1 o) (some_is ts h.1 x h.3),
 )
   where
-    go : (v : Inferred) → ((f : Fault) → v ≡ Refused f → IsTerms f) → program_rule ts v ≡ Rejected (Unbounded x) → (A : Ty) × (D : Sensitivities) × (v ≡ Has A D) × IsFirstUnbounded ts D x
+    go : (v : Inferred) → ((f : Fault) → v ≡ Untyped f → IsTerms f) → program_rule ts v ≡ Faulty (Unbounded x) → (A : Ty) × (D : Sensitivities) × (v ≡ Has A D) × IsFirstUnbounded ts D x
     go (Has A D) l h = (A, D, refl, some_first ts D x (unbounded_only A D (first_unbounded ts D) x h))
-    go (Refused f) l h = absurd (subst (λ f. IsTerms f) (rejected_is h) (l f refl))
+    go (Untyped f) l h = absurd (subst (λ f. IsTerms f) (faulty_is h) (l f refl))
 
 pub not_num_exactly : NotNumExactly
 not_num_exactly ts t A = (
@@ -133,13 +133,13 @@ not_num_exactly ts t A = (
   λ h. ap (λ v. program_rule ts v) h.1 ∙ ap (λ o. number_rule A h.0 o) (none_is ts h.0 h.2) ∙ other (same_type A NumT) refl h.0 h.3,
 )
   where
-    go : (v : Inferred) → ((f : Fault) → v ≡ Refused f → IsTerms f) → program_rule ts v ≡ Rejected (NotNum A) → (D : Sensitivities) × (v ≡ Has A D) × FiniteBelow D (length ts) × (A ≢ NumT)
+    go : (v : Inferred) → ((f : Fault) → v ≡ Untyped f → IsTerms f) → program_rule ts v ≡ Faulty (NotNum A) → (D : Sensitivities) × (v ≡ Has A D) × FiniteBelow D (length ts) × (A ≢ NumT)
     go (Has B D) l h =
         let k = not_num_only B D (first_unbounded ts D) A h in
         (D, ap (λ B. Has B D) k.1, none_finite ts D k.0, λ e. k.2 (k.1 ∙ e))
-    go (Refused f) l h = absurd (subst (λ f. IsTerms f) (rejected_is h) (l f refl))
+    go (Untyped f) l h = absurd (subst (λ f. IsTerms f) (faulty_is h) (l f refl))
 
-    other : (b : Bool) → same_type A NumT ≡ b → (D : Sensitivities) → A ≢ NumT → cond b (Accepted D (greatest_of D)) (Rejected (NotNum A)) ≡ Rejected (NotNum A)
+    other : (b : Bool) → same_type A NumT ≡ b → (D : Sensitivities) → A ≢ NumT → cond b (Accepted D (greatest_of D)) (Faulty (NotNum A)) ≡ Faulty (NotNum A)
     other true e D n = absurd (n (same_type_is A NumT e))
     other false e D n = refl
 

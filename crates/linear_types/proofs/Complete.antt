@@ -14,12 +14,12 @@ use Rattle.linear_types.specs.Fractions.{bound_out, compared_out, each_out, is_o
 use Rattle.linear_types.specs.Rule.{app_rule, branches_rule, case_rule, eq_rule, exactly, fn_rule, fst_rule, fun_rule, halves, has_bound, has_scaled, has_sum, if_rule, le_rule, let_bang_rule, let_pair_rule, map_rule, past, plus_rule, rule, side_rule, size_rule, snd_rule, test_rule, union_rule, var_rule}
 use Rattle.linear_types.specs.Sensitivities.{Sensitivities, above_zero, first, join, plus, rest, scale}
 use Rattle.linear_types.specs.Typing.{Context, IsBound, IsType, Typing, Under, here, is_app, is_at_most, is_bang, is_case, is_clip, is_eq_num, is_eq_text, is_filter, is_fn, is_fst, is_fun, is_greatest, is_if, is_inl, is_inr, is_least, is_let, is_let_bang, is_let_pair, is_map, is_minus, is_num, is_pair, is_plus, is_size, is_snd, is_split, is_sum, is_text, is_times, is_union, is_unit, is_var, is_with, size_of, there, widest_of}
-use Rattle.linear_types.specs.Inferred.{Exactly, Fault, Has, Mismatch, NotFlat, NotGround, Range, Refused, TooSensitive, Inferred, any_out, in_range, need, need_formed, one_part, three_parts, two_parts}
+use Rattle.linear_types.specs.Inferred.{Exactly, Fault, Has, Mismatch, NotFlat, NotGround, Range, Untyped, TooSensitive, Inferred, any_out, in_range, need, need_formed, one_part, three_parts, two_parts}
 
 -- the verdict, or a fraction is out of range: by o which of the two
 pub data Or (v : Inferred) (o : Bool) (A : Ty) (D : Sensitivities) : Type 0 where
   gives : o ≡ false → v ≡ Has A D → Or v o A D
-  leaves : o ≡ true → (s : Span) → v ≡ Refused (Range s) → Or v o A D
+  leaves : o ≡ true → (s : Span) → v ≡ Untyped (Range s) → Or v o A D
 
 or_at : {v w : Inferred} {o : Bool} {A : Ty} {D : Sensitivities} → v ≡ w → Or w o A D → Or v o A D
 or_at e (gives n f) = gives n (e ∙ f)
@@ -70,14 +70,14 @@ or_formed u T {v = v} w q = or_at (ap (λ f. need_formed u f v) w.well_formed) q
 or_range : (s : Span) (D : Sensitivities) {v : Inferred} {o : Bool} {A : Ty} {F : Sensitivities} → Or v o A F → Or (in_range s D v) (any_out D || o) A F
 or_range s D {v} {o} {A} {F} q = go (any_out D)
   where
-    go : (b : Bool) → Or (cond b (Refused (Range s)) v) (b || o) A F
+    go : (b : Bool) → Or (cond b (Untyped (Range s)) v) (b || o) A F
     go true = leaves refl s refl
     go false = q
 
 or_sum : (s : Span) (A : Ty) (D : Sensitivities) → Or (has_sum s A D) (any_out D) A D
 or_sum s A D = go (any_out D)
   where
-    go : (b : Bool) → Or (cond b (Refused (Range s)) (Has A D)) b A D
+    go : (b : Bool) → Or (cond b (Untyped (Range s)) (Has A D)) b A D
     go true = leaves refl s refl
     go false = gives refl refl
 

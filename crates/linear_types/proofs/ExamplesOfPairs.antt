@@ -6,7 +6,7 @@ use Rattle.fz_ast.specs.Types.{NumT, TensorT, TextT, UnitT, WithT}
 use Rattle.fz_frac.specs.Distance.{none, one}
 use Rattle.fz_frac.specs.Lowest.{gcd, gcd_in, is_out}
 use Rattle.linear_types.proofs.ExampleTerms.{a_number, a_text, given, given_and_n, missing, n, part, span, times, var, whole, whole_number, x, y}
-use Rattle.linear_types.specs.Inferred.{ATensor, AWithPair, Has, Mismatch, Range, Refused, Unbound}
+use Rattle.linear_types.specs.Inferred.{ATensor, AWithPair, Has, Mismatch, Range, Untyped, Unbound}
 use Rattle.linear_types.specs.Rule.{rule}
 use Rattle.linear_types.specs.Typing.{Closed, Under}
 
@@ -14,7 +14,7 @@ use Rattle.linear_types.specs.Typing.{Closed, Under}
 names :
     (rule (Under x TextT (Under x NumT Closed)) (var 0 x) ≡ Has TextT (one ∷ []))
     × (rule (Under y TextT (Under x NumT Closed)) (var 0 x) ≡ Has NumT (none ∷ one ∷ []))
-    × (rule (Under y TextT (Under x NumT Closed)) (missing 0) ≡ Refused (Unbound (span 0)))
+    × (rule (Under y TextT (Under x NumT Closed)) (missing 0) ≡ Untyped (Unbound (span 0)))
 names = (refl, refl, refl)
 
 constants :
@@ -27,10 +27,10 @@ constants = (refl, refl, refl)
 pairs :
     (rule (given NumT) (whole (PairE (times 1 2 x) (times 2 3 x))) ≡ Has (TensorT NumT NumT) (whole_number 5 ∷ []))
     × (rule (given NumT) (whole (PairE (var 1 x) (a_text 2))) ≡ Has (TensorT NumT TextT) (one ∷ []))
-    × (rule (given NumT) (whole (PairE (missing 1) (missing 2))) ≡ Refused (Unbound (span 1)))
-    × (rule (given NumT) (whole (PairE (var 1 x) (missing 2))) ≡ Refused (Unbound (span 2)))
+    × (rule (given NumT) (whole (PairE (missing 1) (missing 2))) ≡ Untyped (Unbound (span 1)))
+    × (rule (given NumT) (whole (PairE (var 1 x) (missing 2))) ≡ Untyped (Unbound (span 2)))
     × (rule (given NumT) (whole (PairE (times 1 4294967294 x) (var 2 x))) ≡ Has (TensorT NumT NumT) (whole_number 4294967295 ∷ []))
-    × (rule (given NumT) (whole (PairE (times 1 4294967295 x) (var 2 x))) ≡ Refused (Range (span 0)))
+    × (rule (given NumT) (whole (PairE (times 1 4294967295 x) (var 2 x))) ≡ Untyped (Range (span 0)))
 unfolding is_out gcd gcd_in
 pairs = (refl, refl, refl, refl, refl, refl)
 
@@ -39,7 +39,7 @@ with_pairs :
     (rule (given NumT) (whole (WithE (times 1 2 x) (times 2 3 x))) ≡ Has (WithT NumT NumT) (whole_number 3 ∷ []))
     × (rule (given NumT) (whole (WithE (times 1 3 x) (times 2 2 x))) ≡ Has (WithT NumT NumT) (whole_number 3 ∷ []))
     × (rule (given NumT) (whole (WithE (var 1 x) (a_text 2))) ≡ Has (WithT NumT TextT) (one ∷ []))
-    × (rule (given NumT) (whole (WithE (missing 1) (missing 2))) ≡ Refused (Unbound (span 1)))
+    × (rule (given NumT) (whole (WithE (missing 1) (missing 2))) ≡ Untyped (Unbound (span 1)))
     × (rule (given NumT) (whole (WithE (times 1 4294967295 x) (var 2 x))) ≡ Has (WithT NumT NumT) (whole_number 4294967295 ∷ []))
 unfolding is_out gcd gcd_in
 with_pairs = (refl, refl, refl, refl, refl)
@@ -48,9 +48,9 @@ with_pairs = (refl, refl, refl, refl, refl)
 halves_of_with_pairs :
     (rule (given (WithT NumT TextT)) (whole (FstE (var 1 x))) ≡ Has NumT (one ∷ []))
     × (rule (given (WithT NumT TextT)) (whole (SndE (var 1 x))) ≡ Has TextT (one ∷ []))
-    × (rule (given (TensorT NumT TextT)) (whole (FstE (var 1 x))) ≡ Refused (Mismatch (span 1) (TensorT NumT TextT) AWithPair))
-    × (rule (given (TensorT NumT TextT)) (whole (SndE (var 1 x))) ≡ Refused (Mismatch (span 1) (TensorT NumT TextT) AWithPair))
-    × (rule (given NumT) (whole (SndE (missing 1))) ≡ Refused (Unbound (span 1)))
+    × (rule (given (TensorT NumT TextT)) (whole (FstE (var 1 x))) ≡ Untyped (Mismatch (span 1) (TensorT NumT TextT) AWithPair))
+    × (rule (given (TensorT NumT TextT)) (whole (SndE (var 1 x))) ≡ Untyped (Mismatch (span 1) (TensorT NumT TextT) AWithPair))
+    × (rule (given NumT) (whole (SndE (missing 1))) ≡ Untyped (Unbound (span 1)))
 halves_of_with_pairs = (refl, refl, refl, refl, refl)
 
 -- let (x, y) = e in b: the greater of both names' times e's; the second of two equal names hides the first
@@ -62,8 +62,8 @@ let_pairs :
     × (rule (given (TensorT NumT TextT)) (whole (LetPairE x y (var 1 x) (var 2 x))) ≡ Has NumT (one ∷ []))
     × (rule (given (TensorT NumT TextT)) (whole (LetPairE x y (var 1 x) (var 2 y))) ≡ Has TextT (one ∷ []))
     × (rule (given (TensorT NumT TextT)) (whole (LetPairE x x (var 1 x) (var 2 x))) ≡ Has TextT (one ∷ []))
-    × (rule (given (WithT NumT TextT)) (whole (LetPairE x y (var 1 x) (missing 2))) ≡ Refused (Mismatch (span 1) (WithT NumT TextT) ATensor))
-    × (rule (given (TensorT NumT TextT)) (whole (LetPairE x y (var 1 x) (missing 2))) ≡ Refused (Unbound (span 2)))
-    × (rule (given NumT) (whole (LetPairE x y (part 1 (PairE (times 5 4294967295 x) (a_number 6))) (times 2 2 x))) ≡ Refused (Range (span 0)))
+    × (rule (given (WithT NumT TextT)) (whole (LetPairE x y (var 1 x) (missing 2))) ≡ Untyped (Mismatch (span 1) (WithT NumT TextT) ATensor))
+    × (rule (given (TensorT NumT TextT)) (whole (LetPairE x y (var 1 x) (missing 2))) ≡ Untyped (Unbound (span 2)))
+    × (rule (given NumT) (whole (LetPairE x y (part 1 (PairE (times 5 4294967295 x) (a_number 6))) (times 2 2 x))) ≡ Untyped (Range (span 0)))
 unfolding is_out gcd gcd_in
 let_pairs = (refl, refl, refl, refl, refl, refl, refl, refl, refl, refl)

@@ -8,7 +8,7 @@ use Rattle.fz_frac.specs.Distance.{Fin, Inf, none, one}
 use Rattle.fz_frac.specs.Lowest.{gcd, gcd_in, is_out}
 use Rattle.linear_types.proofs.ExampleTerms.{a_number, part, span, var, whole, whole_number}
 use Rattle.linear_types.specs.Inferred.{NotNum, Unbound, Unbounded}
-use Rattle.linear_types.specs.Program.{Accepted, Rejected, context_of, first_unbounded, greatest_of, is_endless, sensitivity_of, sensitivity_to}
+use Rattle.linear_types.specs.Program.{Accepted, Faulty, context_of, first_unbounded, greatest_of, is_endless, sensitivity_of, sensitivity_to}
 use Rattle.linear_types.specs.Typing.{Closed, Under}
 
 -- people, with numbers, and places, with texts
@@ -26,11 +26,11 @@ programs :
     (sensitivity_of tables (whole (PlusE (part 1 (SumE (negsuc 4) (pos 3) (var 4 (codes "people")))) size_of_places)) ≡ Accepted (whole_number 5 ∷ one ∷ []) (whole_number 5))
     × (sensitivity_of tables (whole (SizeE (var 1 (codes "places")))) ≡ Accepted (none ∷ one ∷ []) one)
     × (sensitivity_of tables (a_number 0) ≡ Accepted [] none)
-    × (sensitivity_of tables (whole (LeE size_of_places (a_number 1))) ≡ Rejected (Unbounded (codes "places")))
-    × (sensitivity_of tables (whole (LeE (part 1 (SizeE (var 4 (codes "people")))) size_of_places)) ≡ Rejected (Unbounded (codes "people")))
-    × (sensitivity_of tables (var 0 (codes "places")) ≡ Rejected (NotNum (BagT TextT)))
-    × (sensitivity_of tables (whole (LeE (a_number 1) (a_number 2))) ≡ Rejected (NotNum BoolT))
-    × (sensitivity_of tables (whole (SizeE (var 1 (codes "pets")))) ≡ Rejected (Unbound (span 1)))
+    × (sensitivity_of tables (whole (LeE size_of_places (a_number 1))) ≡ Faulty (Unbounded (codes "places")))
+    × (sensitivity_of tables (whole (LeE (part 1 (SizeE (var 4 (codes "people")))) size_of_places)) ≡ Faulty (Unbounded (codes "people")))
+    × (sensitivity_of tables (var 0 (codes "places")) ≡ Faulty (NotNum (BagT TextT)))
+    × (sensitivity_of tables (whole (LeE (a_number 1) (a_number 2))) ≡ Faulty (NotNum BoolT))
+    × (sensitivity_of tables (whole (SizeE (var 1 (codes "pets")))) ≡ Faulty (Unbound (span 1)))
 unfolding is_out gcd gcd_in
 programs = (refl, refl, refl, refl, refl, refl, refl, refl)
 

@@ -8,7 +8,7 @@ use Rattle.fz_ast.specs.Limits.{TermLimits, TypeLimits}
 use Rattle.fz_ast.specs.Terms.{AppE, BangE, CaseE, ClipE, EqE, FilterE, FnE, FstE, FunE, GreatestE, IfE, InlE, InrE, LeE, LeastE, LetBangE, LetE, LetPairE, MapE, MinusE, Name, NumE, PairE, PlusE, SizeE, SndE, SplitE, SumE, Term, TermForm, TextE, TimesE, UnionE, UnitE, VarE, WithE, at, span_of}
 use Rattle.fz_ast.specs.Types.{ArrowT, BagT, BangT, BoolT, Formed, NumT, SumT, TensorT, TextT, Ty, UnflatBag, UngroundSum, UnlimitedT, WellFormed, WithT, formed, is_flat, is_ground, same_type}
 use Rattle.fz_ast.specs.declared.span.Span.{Span}
-use Rattle.linear_types.specs.Inferred.{Exactly, Fault, Has, Inferred, Mismatch, NotFlat, NotGround, NotNum, Range, Refused, TooSensitive, Unbounded, any_out, in_range, need, need_formed, one_part, three_parts, two_parts}
+use Rattle.linear_types.specs.Inferred.{Exactly, Fault, Has, Inferred, Mismatch, NotFlat, NotGround, NotNum, Range, Untyped, TooSensitive, Unbounded, any_out, in_range, need, need_formed, one_part, three_parts, two_parts}
 use Rattle.linear_types.specs.Rule.{app_rule, bang_rule, branches_rule, case_rule, clip_rule, eq_rule, exactly, fn_rule, fst_rule, fun_rule, halves, has_bound, has_scaled, has_sum, if_rule, inl_rule, inr_rule, le_rule, least_rule, let_bang_rule, let_pair_rule, let_rule, map_rule, pair_rule, past, plus_rule, rule, side_rule, size_rule, snd_rule, sum_rule, test_rule, times_rule, union_rule, var_rule, with_rule}
 use Rattle.linear_types.specs.Sensitivities.{Sensitivities, above_zero, first, join, plus, rest, scale}
 use Rattle.linear_types.specs.Typing.{Closed, Context, IsBound, IsType, Typing, Under, here, is_app, is_at_most, is_bang, is_case, is_clip, is_eq_num, is_eq_text, is_filter, is_fn, is_fst, is_fun, is_greatest, is_if, is_inl, is_inr, is_least, is_let, is_let_bang, is_let_pair, is_map, is_minus, is_num, is_pair, is_plus, is_size, is_snd, is_split, is_sum, is_text, is_times, is_union, is_unit, is_var, is_with, size_of, there, widest_of}
@@ -21,7 +21,7 @@ IsTerms f = ⊤
 -- a type and sensitivities of which P holds, or a fault of a term
 abbrev pub IsSo : (Ty → Sensitivities → Type 0) → Inferred → Type 0
 IsSo P (Has A D) = P A D
-IsSo P (Refused f) = IsTerms f
+IsSo P (Untyped f) = IsTerms f
 
 pub record So (P : Ty → Sensitivities → Type 0) (v : Inferred) : Type 0 where
   pub so : IsSo P v
@@ -34,25 +34,25 @@ module _ {P : Ty → Sensitivities → Type 0} where
   typed : {A : Ty} {D : Sensitivities} → P A D → So P (Has A D)
   typed p = record { so = p }
 
-  refused : {f : Fault} → IsTerms f → So P (Refused f)
+  refused : {f : Fault} → IsTerms f → So P (Untyped f)
   refused t = record { so = t }
 
   by_one : {Q : Ty → Sensitivities → Type 0} {v : Inferred} (k : Ty → Sensitivities → Inferred) → So Q v → ((A : Ty) (D : Sensitivities) → Q A D → So P (k A D)) → So P (one_part v k)
   by_one {v = Has A D} k h q = q A D h.so
-  by_one {v = Refused f} k h q = refused h.so
+  by_one {v = Untyped f} k h q = refused h.so
 
   by_two : {Q R : Ty → Sensitivities → Type 0} {v w : Inferred} (k : Ty → Sensitivities → Ty → Sensitivities → Inferred) → So Q v → So R w
       → ((A : Ty) (D : Sensitivities) (B : Ty) (E : Sensitivities) → Q A D → R B E → So P (k A D B E)) → So P (two_parts v w k)
   by_two {v = Has A D} {w = Has B E} k h i q = q A D B E h.so i.so
-  by_two {v = Has A D} {w = Refused f} k h i q = refused i.so
-  by_two {v = Refused f} k h i q = refused h.so
+  by_two {v = Has A D} {w = Untyped f} k h i q = refused i.so
+  by_two {v = Untyped f} k h i q = refused h.so
 
   by_three : {Q R S : Ty → Sensitivities → Type 0} {v w x : Inferred} (k : Ty → Sensitivities → Ty → Sensitivities → Ty → Sensitivities → Inferred) → So Q v → So R w → So S x
       → ((A : Ty) (D : Sensitivities) (B : Ty) (E : Sensitivities) (C : Ty) (F : Sensitivities) → Q A D → R B E → S C F → So P (k A D B E C F)) → So P (three_parts v w x k)
   by_three {v = Has A D} {w = Has B E} {x = Has C F} k h i j q = q A D B E C F h.so i.so j.so
-  by_three {v = Has A D} {w = Has B E} {x = Refused f} k h i j q = refused j.so
-  by_three {v = Has A D} {w = Refused f} k h i j q = refused i.so
-  by_three {v = Refused f} k h i j q = refused h.so
+  by_three {v = Has A D} {w = Has B E} {x = Untyped f} k h i j q = refused j.so
+  by_three {v = Has A D} {w = Untyped f} k h i j q = refused i.so
+  by_three {v = Untyped f} k h i j q = refused h.so
 
   by_need : (b : Bool) (f : Fault) {v : Inferred} → IsTerms f → (b ≡ true → So P v) → So P (need b f v)
   by_need true f t q = q refl
@@ -69,7 +69,7 @@ module _ {P : Ty → Sensitivities → Type 0} where
   by_range : (s : Span) (D : Sensitivities) {v : Inferred} → So P v → So P (in_range s D v)
   by_range s D {v} q = go (any_out D)
     where
-      go : (b : Bool) → So P (cond b (Refused (Range s)) v)
+      go : (b : Bool) → So P (cond b (Untyped (Range s)) v)
       go true = refused tt
       go false = q
 
@@ -101,7 +101,7 @@ so_var s (Under y B Γ) x = go (so_var s Γ x) (bytes_eq y x) refl
 
 name_so : {Γ : Context} {x : Name} {s : Span} {v : Inferred} → So (λ A D. IsBound Γ x A D) v → So (Typed Γ (at s (VarE x))) v
 name_so {v = Has A D} h = typed (λ l. is_var h.so)
-name_so {v = Refused f} h = refused h.so
+name_so {v = Untyped f} h = refused h.so
 
 module _ {Γ : Context} {e : Term} (s u : Span) where
   so_fst : (T : Ty) (D : Sensitivities) → Typed Γ e T D → So (Typed Γ (at s (FstE e))) (fst_rule u T D)
@@ -229,12 +229,12 @@ sound t Γ l A D h = go (rule Γ t) (so t Γ) h
   where
     go : (v : Inferred) → So (Typed Γ t) v → v ≡ Has A D → Typing Γ t A D
     go (Has B E) k e = let i : B ≡ A = cc e in let j : E ≡ D = cc e in rw (← i, ← j) (k.so l)
-    go (Refused f) k e = cc e
+    go (Untyped f) k e = cc e
 
 -- a fault of a term is none of a whole program's
-pub faults_of_terms : (t : Term) (Γ : Context) (f : Fault) → rule Γ t ≡ Refused f → IsTerms f
+pub faults_of_terms : (t : Term) (Γ : Context) (f : Fault) → rule Γ t ≡ Untyped f → IsTerms f
 faults_of_terms t Γ f h = go (rule Γ t) (so t Γ) h
   where
-    go : (v : Inferred) → So (Typed Γ t) v → v ≡ Refused f → IsTerms f
+    go : (v : Inferred) → So (Typed Γ t) v → v ≡ Untyped f → IsTerms f
     go (Has B E) k e = cc e
-    go (Refused g) k e = let i : g ≡ f = cc e in rw (← i) k.so
+    go (Untyped g) k e = let i : g ≡ f = cc e in rw (← i) k.so

@@ -35,34 +35,34 @@ pub data Fault : Type 0 where
 
 pub data Inferred : Type 0 where
   Has : (A : Ty) (D : Sensitivities) → Inferred
-  Refused : (f : Fault) → Inferred
+  Untyped : (f : Fault) → Inferred
 
 -- parts come first, in written order, and then what their types and sensitivities make of the whole
 abbrev pub one_part : Inferred → (Ty → Sensitivities → Inferred) → Inferred
 one_part (Has A D) k = k A D
-one_part (Refused f) k = Refused f
+one_part (Untyped f) k = Untyped f
 
 abbrev pub two_parts : Inferred → Inferred → (Ty → Sensitivities → Ty → Sensitivities → Inferred) → Inferred
 two_parts (Has A D) (Has B E) k = k A D B E
-two_parts (Has A D) (Refused f) k = Refused f
-two_parts (Refused f) o k = Refused f
+two_parts (Has A D) (Untyped f) k = Untyped f
+two_parts (Untyped f) o k = Untyped f
 
 abbrev pub three_parts : Inferred → Inferred → Inferred → (Ty → Sensitivities → Ty → Sensitivities → Ty → Sensitivities → Inferred) → Inferred
 three_parts (Has A D) (Has B E) (Has C F) k = k A D B E C F
-three_parts (Has A D) (Has B E) (Refused f) k = Refused f
-three_parts (Has A D) (Refused f) o k = Refused f
-three_parts (Refused f) o p k = Refused f
+three_parts (Has A D) (Has B E) (Untyped f) k = Untyped f
+three_parts (Has A D) (Untyped f) o k = Untyped f
+three_parts (Untyped f) o p k = Untyped f
 
 -- where a condition holds it goes on, and else that is the fault
 abbrev pub need : Bool → Fault → Inferred → Inferred
 need true f v = v
-need false f v = Refused f
+need false f v = Untyped f
 
 -- a written type is well formed, or its first fault is the term's
 abbrev pub need_formed : Span → Formed → Inferred → Inferred
 need_formed u WellFormed v = v
-need_formed u UngroundSum v = Refused (NotGround u)
-need_formed u UnflatBag v = Refused (NotFlat u)
+need_formed u UngroundSum v = Untyped (NotGround u)
+need_formed u UnflatBag v = Untyped (NotFlat u)
 
 -- one of them is out of range
 abbrev pub any_out : Sensitivities → Bool
@@ -70,4 +70,4 @@ any_out [] = false
 any_out (t ∷ D) = is_out t || any_out D
 
 abbrev pub in_range : Span → Sensitivities → Inferred → Inferred
-in_range s D v = cond (any_out D) (Refused (Range s)) v
+in_range s D v = cond (any_out D) (Untyped (Range s)) v

@@ -8,11 +8,11 @@ use Rattle.fz_ast.specs.Terms.{Name, Term}
 use Rattle.fz_ast.specs.Types.{NumT, Ty}
 use Rattle.fz_ast.specs.declared.span.Span.{Span}
 use Rattle.linear_types.specs.Fractions.{is_out_of_range}
-use Rattle.linear_types.specs.Program.{Accepted, Rejected, context_of, greatest_of, is_endless, sensitivity_of, sensitivity_to}
+use Rattle.linear_types.specs.Program.{Accepted, Faulty, context_of, greatest_of, is_endless, sensitivity_of, sensitivity_to}
 use Rattle.linear_types.specs.Rule.{rule}
 use Rattle.linear_types.specs.Sensitivities.{Sensitivities}
 use Rattle.linear_types.specs.Typing.{AllTypes, Closed, Context, IsType, Typing, Under}
-use Rattle.linear_types.specs.Inferred.{Fault, Has, NotNum, Range, Refused, Unbounded}
+use Rattle.linear_types.specs.Inferred.{Fault, Has, NotNum, Range, Untyped, Unbounded}
 
 -- what the function gives a type and sensitivities has them by the rules
 abbrev pub RuleIsSound : Type 0
@@ -25,7 +25,7 @@ RuleIsComplete = (Γ : Context) (t : Term) (A : Ty) (D : Sensitivities) (p : Typ
 
 -- and it is refused by the function, always for its range, exactly where one is
 abbrev pub RuleKeepsRange : Type 0
-RuleKeepsRange = (Γ : Context) (t : Term) (A : Ty) (D : Sensitivities) (p : Typing Γ t A D) → ((s : Span) × (rule Γ t ≡ Refused (Range s))) ↔ (is_out_of_range p ≡ true)
+RuleKeepsRange = (Γ : Context) (t : Term) (A : Ty) (D : Sensitivities) (p : Typing Γ t A D) → ((s : Span) × (rule Γ t ≡ Untyped (Range s))) ↔ (is_out_of_range p ≡ true)
 
 -- a term has at most one type, with one list of sensitivities
 abbrev pub TypesAreUnique : Type 0
@@ -84,14 +84,14 @@ AcceptedExactly =
 abbrev pub UnboundedExactly : Type 0
 UnboundedExactly =
     (ts : Signature) (t : Term) (x : Name)
-    → (sensitivity_of ts t ≡ Rejected (Unbounded x)) ↔ ((A : Ty) × (D : Sensitivities) × (rule (context_of ts) t ≡ Has A D) × IsFirstUnbounded ts D x)
+    → (sensitivity_of ts t ≡ Faulty (Unbounded x)) ↔ ((A : Ty) × (D : Sensitivities) × (rule (context_of ts) t ≡ Has A D) × IsFirstUnbounded ts D x)
 
 -- a program is said to be no number exactly where no table is at inf and its type is another
 abbrev pub NotNumExactly : Type 0
 NotNumExactly =
     (ts : Signature) (t : Term) (A : Ty)
-    → (sensitivity_of ts t ≡ Rejected (NotNum A)) ↔ ((D : Sensitivities) × (rule (context_of ts) t ≡ Has A D) × FiniteBelow D (length ts) × (A ≢ NumT))
+    → (sensitivity_of ts t ≡ Faulty (NotNum A)) ↔ ((D : Sensitivities) × (rule (context_of ts) t ≡ Has A D) × FiniteBelow D (length ts) × (A ≢ NumT))
 
 -- a term's own fault is the program's
 abbrev pub FaultsAreKept : Type 0
-FaultsAreKept = (ts : Signature) (t : Term) (f : Fault) → rule (context_of ts) t ≡ Refused f → sensitivity_of ts t ≡ Rejected f
+FaultsAreKept = (ts : Signature) (t : Term) (f : Fault) → rule (context_of ts) t ≡ Untyped f → sensitivity_of ts t ≡ Faulty f

@@ -6,7 +6,7 @@ use Rattle.fz_ast.specs.Terms.{Name, Term}
 use Rattle.fz_ast.specs.Signature.{Signature, table_type}
 use Rattle.linear_types.specs.Sensitivities.{Sensitivities, first, rest}
 use Rattle.linear_types.specs.Typing.{Context, Closed, Under}
-use Rattle.linear_types.specs.Inferred.{Fault, Unbounded, NotNum, Inferred, Has, Refused}
+use Rattle.linear_types.specs.Inferred.{Fault, Unbounded, NotNum, Inferred, Has, Untyped}
 use Rattle.linear_types.specs.Rule.{rule}
 
 -- the tables are the names in scope
@@ -36,16 +36,16 @@ sensitivity_to (t ∷ ts) D x = cond (bytes_eq t.name x) (first D) (sensitivity_
 pub data Acceptance : Type 0 where
   -- the sensitivity to each table in order, and the greatest
   Accepted : (D : Sensitivities) (r : Distance) → Acceptance
-  Rejected : (f : Fault) → Acceptance
+  Faulty : (f : Fault) → Acceptance
 
 -- a bounded number
 abbrev pub number_rule : Ty → Sensitivities → Option Name → Acceptance
-number_rule A D (Some x) = Rejected (Unbounded x)
-number_rule A D None = cond (same_type A NumT) (Accepted D (greatest_of D)) (Rejected (NotNum A))
+number_rule A D (Some x) = Faulty (Unbounded x)
+number_rule A D None = cond (same_type A NumT) (Accepted D (greatest_of D)) (Faulty (NotNum A))
 
 abbrev pub program_rule : Signature → Inferred → Acceptance
 program_rule ts (Has A D) = number_rule A D (first_unbounded ts D)
-program_rule ts (Refused f) = Rejected f
+program_rule ts (Untyped f) = Faulty f
 
 abbrev pub sensitivity_of : Signature → Term → Acceptance
 sensitivity_of ts t = program_rule ts (rule (context_of ts) t)

@@ -9,7 +9,7 @@ use Rattle.fz_ast.specs.Types.{Ty, NumT, TextT, UnitT, TensorT, WithT, SumT, Arr
 use Rattle.fz_ast.specs.Terms.{AppE, BangE, CaseE, ClipE, EqE, FilterE, FnE, FstE, FunE, GreatestE, IfE, InlE, InrE, LeE, LeastE, LetBangE, LetE, LetPairE, MapE, MinusE, Name, NumE, PairE, PlusE, SizeE, SndE, SplitE, SumE, Term, TextE, TimesE, UnionE, UnitE, VarE, WithE, at, span_of}
 use Rattle.linear_types.specs.Sensitivities.{Sensitivities, first, rest, plus, join, scale, above_zero}
 use Rattle.linear_types.specs.Typing.{Context, Closed, Under, size_of, widest_of}
-use Rattle.linear_types.specs.Inferred.{Exactly, AWithPair, ATensor, ASum, AnArrow, ABang, ABag, AnUnlimitedArrow, ANumberOrText, Unbound, Mismatch, NotGround, NotFlat, TooSensitive, Inferred, Has, Refused, one_part, two_parts, three_parts, need, need_formed, in_range}
+use Rattle.linear_types.specs.Inferred.{Exactly, AWithPair, ATensor, ASum, AnArrow, ABang, ABag, AnUnlimitedArrow, ANumberOrText, Unbound, Mismatch, NotGround, NotFlat, TooSensitive, Inferred, Has, Untyped, one_part, two_parts, three_parts, need, need_formed, in_range}
 
 -- the type of this part is A
 abbrev pub exactly : Span → Ty → Ty → Inferred → Inferred
@@ -32,7 +32,7 @@ abbrev pub past : Inferred → Inferred
 past v = one_part v (λ A D. Has A (none ∷ D))
 
 abbrev pub var_rule : Span → Context → Name → Inferred
-var_rule s Closed x = Refused (Unbound s)
+var_rule s Closed x = Untyped (Unbound s)
 var_rule s (Under y A Γ) x = cond (bytes_eq y x) (Has A (one ∷ [])) (past (var_rule s Γ x))
 
 -- (a, b)
@@ -46,17 +46,17 @@ with_rule A D B E = Has (WithT A B) (join D E)
 -- fst e
 abbrev pub fst_rule : Span → Ty → Sensitivities → Inferred
 fst_rule u (WithT A B) D = Has A D
-fst_rule u T D = Refused (Mismatch u T AWithPair)
+fst_rule u T D = Untyped (Mismatch u T AWithPair)
 
 -- snd e
 abbrev pub snd_rule : Span → Ty → Sensitivities → Inferred
 snd_rule u (WithT A B) D = Has B D
-snd_rule u T D = Refused (Mismatch u T AWithPair)
+snd_rule u T D = Untyped (Mismatch u T AWithPair)
 
 -- let (x, y) = e in b
 abbrev pub let_pair_rule : Span → Span → Ty → Sensitivities → (Ty → Ty → Inferred) → Inferred
 let_pair_rule s u (TensorT A B) E body = one_part (body A B) (λ C D. has_bound s C (rest (rest D)) (greater (first (rest D)) (first D)) E)
-let_pair_rule s u T E body = Refused (Mismatch u T ATensor)
+let_pair_rule s u T E body = Untyped (Mismatch u T ATensor)
 
 -- the other side's type T of an injection is written at u, and the part stands at v
 abbrev pub side_rule : Span → Ty → Span → Ty → Inferred → Inferred
@@ -74,7 +74,7 @@ branches_rule s w F A D B E = exactly w B A (need (is_ground A) (NotGround s) (h
 
 abbrev pub case_rule : Span → Span → Span → Ty → Sensitivities → (Ty → Inferred) → (Ty → Inferred) → Inferred
 case_rule s u w (SumT A B) F left right = two_parts (left A) (right B) (branches_rule s w F)
-case_rule s u w T F left right = Refused (Mismatch u T ASum)
+case_rule s u w T F left right = Untyped (Mismatch u T ASum)
 
 -- if e then a else b, with e at u and b at w
 abbrev pub if_rule : Span → Span → Span → Ty → Sensitivities → Ty → Sensitivities → Ty → Sensitivities → Inferred
@@ -91,7 +91,7 @@ fn_rule u T A D = need_formed u (formed T) (Has (UnlimitedT T A) (rest D))
 -- f a
 abbrev pub app_rule : Span → Span → Span → Ty → Sensitivities → Ty → Sensitivities → Inferred
 app_rule s u v (ArrowT A B) D T E = exactly v T A (has_sum s B (plus D E))
-app_rule s u v F D T E = Refused (Mismatch u F AnArrow)
+app_rule s u v F D T E = Untyped (Mismatch u F AnArrow)
 
 -- ![r] e
 abbrev pub bang_rule : Span → Distance → Ty → Sensitivities → Inferred
@@ -100,7 +100,7 @@ bang_rule s r A D = has_sum s (BangT r A) (scale r D)
 -- let !x = e in b: k is the sensitivity of x over the bang's number
 abbrev pub let_bang_rule : Span → Span → Ty → Sensitivities → (Ty → Inferred) → Inferred
 let_bang_rule s u (BangT r A) E body = one_part (body A) (λ B D. in_range s (quotient (first D) r ∷ []) (has_bound s B (rest D) (quotient (first D) r) E))
-let_bang_rule s u T E body = Refused (Mismatch u T ABang)
+let_bang_rule s u T E body = Untyped (Mismatch u T ABang)
 
 -- let x = e in b
 abbrev pub let_rule : Span → Sensitivities → Ty → Sensitivities → Inferred
@@ -122,7 +122,7 @@ le_rule s u v A D B E = exactly u A NumT (exactly v B NumT (has_sum s BoolT (plu
 abbrev pub eq_rule : Span → Span → Span → Ty → Sensitivities → Ty → Sensitivities → Inferred
 eq_rule s u v NumT D B E = exactly v B NumT (has_sum s BoolT (plus (scale Inf D) (scale Inf E)))
 eq_rule s u v TextT D B E = exactly v B TextT (has_sum s BoolT (plus D E))
-eq_rule s u v A D B E = Refused (Mismatch u A ANumberOrText)
+eq_rule s u v A D B E = Untyped (Mismatch u A ANumberOrText)
 
 -- clip[lo,hi] e
 abbrev pub clip_rule : Span → Ty → Sensitivities → Inferred
@@ -135,7 +135,7 @@ least_rule u A D = exactly u A (WithT NumT NumT) (Has NumT D)
 -- size e
 abbrev pub size_rule : Span → Ty → Sensitivities → Inferred
 size_rule u (BagT A) D = Has NumT D
-size_rule u T D = Refused (Mismatch u T ABag)
+size_rule u T D = Untyped (Mismatch u T ABag)
 
 -- sum[lo,hi] e
 abbrev pub sum_rule : Span → Span → ℤ → ℤ → Ty → Sensitivities → Inferred
@@ -144,17 +144,17 @@ sum_rule s u lo hi A D = exactly u A (BagT NumT) (has_scaled s NumT (widest_of l
 -- union a b
 abbrev pub union_rule : Span → Span → Span → Ty → Sensitivities → Ty → Sensitivities → Inferred
 union_rule s u v (BagT A) D B E = exactly v B (BagT A) (has_sum s (BagT A) (plus D E))
-union_rule s u v T D B E = Refused (Mismatch u T ABag)
+union_rule s u v T D B E = Untyped (Mismatch u T ABag)
 
 -- map f b
 abbrev pub map_rule : Span → Span → Span → Ty → Sensitivities → Ty → Sensitivities → Inferred
 map_rule s u v (ArrowT (BangT Inf A) T) D B E = need (is_flat T) (NotFlat u) (exactly v B (BagT A) (has_sum s (BagT T) (plus (scale Inf D) E)))
-map_rule s u v F D B E = Refused (Mismatch u F AnUnlimitedArrow)
+map_rule s u v F D B E = Untyped (Mismatch u F AnUnlimitedArrow)
 
 -- filter f b, split f b, of the type that T makes of the elements'
 abbrev pub test_rule : (Ty → Ty) → Span → Span → Span → Ty → Sensitivities → Ty → Sensitivities → Inferred
 test_rule T s u v (ArrowT (BangT Inf A) C) D B E = exactly u (UnlimitedT A C) (UnlimitedT A BoolT) (exactly v B (BagT A) (has_sum s (T A) (plus (scale Inf D) E)))
-test_rule T s u v F D B E = Refused (Mismatch u F AnUnlimitedArrow)
+test_rule T s u v F D B E = Untyped (Mismatch u F AnUnlimitedArrow)
 
 -- the type of both halves of a split
 abbrev pub halves : Ty → Ty

@@ -1,26 +1,26 @@
 -- Ground and flat types by their parts.
-use Rattle.std.specs.Prelude.{true, ◌≡◌}
+use Rattle.std.specs.Prelude.{⊤, true, ◌≡◌}
 use Rattle.fz_ast.specs.Limits.{IsBang, TypeLimits}
 use Rattle.fz_ast.specs.Types.{ArrowT, BagT, BangT, NumT, SumT, TensorT, TextT, Ty, UnitT, WithT, is_flat, is_ground}
 use Rattle.linear_types.proofs.Written.{and_is, arrow_parts, bag_parts}
 use Rattle.linear_types.specs.Typing.{IsType}
 
 abbrev pub Ground : Ty → Type 0
-Ground NumT = Unit {0}
-Ground TextT = Unit {0}
-Ground UnitT = Unit {0}
+Ground NumT = ⊤
+Ground TextT = ⊤
+Ground UnitT = ⊤
 Ground (TensorT A B) = Ground A × Ground B
 Ground (WithT A B) = Ground A × Ground B
 Ground (SumT A B) = Ground A × Ground B
 Ground (ArrowT A B) = ⊥
 Ground (BangT r A) = Ground A
-Ground (BagT A) = Unit {0}
+Ground (BagT A) = ⊤
 
 -- with bang numbers above 0
 abbrev pub IsFlat : Ty → Type 0
-IsFlat NumT = Unit {0}
-IsFlat TextT = Unit {0}
-IsFlat UnitT = Unit {0}
+IsFlat NumT = ⊤
+IsFlat TextT = ⊤
+IsFlat UnitT = ⊤
 IsFlat (TensorT A B) = IsFlat A × IsFlat B
 IsFlat (WithT A B) = IsFlat A × IsFlat B
 IsFlat (SumT A B) = IsFlat A × IsFlat B

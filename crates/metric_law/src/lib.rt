@@ -4,7 +4,7 @@
 ghost use Rattle.fz_ast.specs.Limits.{IsBang, IsNumber};
 ghost use Rattle.fz_ast.specs.Types.{ArrowT, BagT, BangT, NumT, SumT, TensorT, UnlimitedT};
 ghost use Rattle.fz_frac.specs.Distance.{Distance, Fin, none, one, ◌⊑◌};
-ghost use Rattle.linear_types.specs.Program.{Rejected, sensitivity_of};
+ghost use Rattle.linear_types.specs.Program.{Faulty, sensitivity_of};
 ghost use Rattle.linear_types.specs.Rule.{rule};
 ghost use Rattle.linear_types.specs.Typing.{Closed, Under};
 ghost use Rattle.linear_types.specs.Inferred.{ASum, Exactly, Has, Mismatch, NotFlat, NotGround, NotNum, Range, TooSensitive, Unbound, Unbounded};
@@ -99,28 +99,28 @@ pub fn worked_programs()
 /// Worked refusals, at least one for each kind of fault: a comparison's sensitivity, a factor and a product past the range,
 /// a linear argument used twice, an unbound table, and so on. Without the limit on its argument that function has a type.
 pub fn worked_refusals()
-    ensures compared { sensitivity_of worked_tables compared ≡ Rejected (Unbounded (codes "people")) }
-    ensures factor { sensitivity_of worked_tables too_large_a_factor ≡ Rejected (Range (span 0 30)) }
-    ensures product { sensitivity_of worked_tables too_large_a_product ≡ Rejected (Range (span 0 39)) }
-    ensures used_twice { sensitivity_of worked_tables used_twice ≡ Rejected (TooSensitive (span 1 23) (codes "x") (Fin 2 1)) }
-    ensures unbound { sensitivity_of worked_tables unbound_table ≡ Rejected (Unbound (span 5 12)) }
-    ensures mismatch { sensitivity_of worked_tables table_as_number ≡ Rejected (Mismatch (span 0 6) (BagT NumT) (Exactly NumT)) }
-    ensures branches { sensitivity_of worked_tables branches_of_functions ≡ Rejected (NotGround (span 0 59)) }
-    ensures side { sensitivity_of worked_tables side_of_functions ≡ Rejected (NotGround (span 4 14)) }
-    ensures map { sensitivity_of worked_tables map_to_bags ≡ Rejected (NotFlat (span 5 27)) }
-    ensures no_number { sensitivity_of worked_tables table_alone ≡ Rejected (NotNum (BagT NumT)) }
+    ensures compared { sensitivity_of worked_tables compared ≡ Faulty (Unbounded (codes "people")) }
+    ensures factor { sensitivity_of worked_tables too_large_a_factor ≡ Faulty (Range (span 0 30)) }
+    ensures product { sensitivity_of worked_tables too_large_a_product ≡ Faulty (Range (span 0 39)) }
+    ensures used_twice { sensitivity_of worked_tables used_twice ≡ Faulty (TooSensitive (span 1 23) (codes "x") (Fin 2 1)) }
+    ensures unbound { sensitivity_of worked_tables unbound_table ≡ Faulty (Unbound (span 5 12)) }
+    ensures mismatch { sensitivity_of worked_tables table_as_number ≡ Faulty (Mismatch (span 0 6) (BagT NumT) (Exactly NumT)) }
+    ensures branches { sensitivity_of worked_tables branches_of_functions ≡ Faulty (NotGround (span 0 59)) }
+    ensures side { sensitivity_of worked_tables side_of_functions ≡ Faulty (NotGround (span 4 14)) }
+    ensures map { sensitivity_of worked_tables map_to_bags ≡ Faulty (NotFlat (span 5 27)) }
+    ensures no_number { sensitivity_of worked_tables table_alone ≡ Faulty (NotNum (BagT NumT)) }
     ensures without_limit { rule Closed used_twice_without_limit ≡ Has (UnlimitedT NumT NumT) [] }
 {}
 
 /// Of two faults the first is told: parts come before conditions, a condition on e before the branches,
 /// conditions before range, unbounded before not a number. A part's range is told of the part.
 pub fn first_faults()
-    ensures parts_first { sensitivity_of worked_tables parts_come_first ≡ Rejected (Unbound (span 9 16)) }
-    ensures condition_first { sensitivity_of worked_tables condition_before_branches ≡ Rejected (Mismatch (span 5 11) (BagT NumT) ASum) }
-    ensures range_last { sensitivity_of worked_tables range_comes_last ≡ Rejected (Mismatch (span 19 25) (BagT NumT) (Exactly NumT)) }
-    ensures unbounded_first { sensitivity_of worked_tables unbounded_comes_first ≡ Rejected (Unbounded (codes "people")) }
-    ensures part_range { sensitivity_of worked_tables part_out_of_range ≡ Rejected (Range (span 4 34)) }
-    ensures part_range_first { sensitivity_of worked_tables range_of_a_part_first ≡ Rejected (Range (span 9 23)) }
+    ensures parts_first { sensitivity_of worked_tables parts_come_first ≡ Faulty (Unbound (span 9 16)) }
+    ensures condition_first { sensitivity_of worked_tables condition_before_branches ≡ Faulty (Mismatch (span 5 11) (BagT NumT) ASum) }
+    ensures range_last { sensitivity_of worked_tables range_comes_last ≡ Faulty (Mismatch (span 19 25) (BagT NumT) (Exactly NumT)) }
+    ensures unbounded_first { sensitivity_of worked_tables unbounded_comes_first ≡ Faulty (Unbounded (codes "people")) }
+    ensures part_range { sensitivity_of worked_tables part_out_of_range ≡ Faulty (Range (span 4 34)) }
+    ensures part_range_first { sensitivity_of worked_tables range_of_a_part_first ≡ Faulty (Range (span 9 23)) }
 {}
 
 /// The law's premises are met: by two datasets that are 3 apart, and at the type of a function.

@@ -1,3 +1,4 @@
+-- What a disk of memory shows.
 use Rattle.std.specs.Prelude.{ℕ, List}
 use Rattle.outside_disks.specs.declared.memory.MemDisk.{MemDisk}
 

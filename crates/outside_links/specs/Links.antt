@@ -1,4 +1,4 @@
--- what was said over a connection, where it is told
+-- What was said over a connection, where it is told.
 use Rattle.std.specs.Prelude.{◌≡◌, ℕ, List, Option}
 use Rattle.std.specs.Io.KnownBytes.{prepend_known, append_known}
 

@@ -1,4 +1,4 @@
--- what an owner's records say of a query that was granted, of its reply, and of a number that is recalled
+-- What an owner's records say of a query that was granted, of its reply, and of a number that is recalled.
 use Rattle.std.specs.Prelude.{◌≡◌, ℕ, List, slice_get, Option, Some, None}
 use Rattle.journal_records.specs.declared.records.Outcome.{Outcome}
 use Rattle.journal_records.specs.declared.records.Outcome.TheVariants.{Answered, Exhausted, Lost}

@@ -1,4 +1,4 @@
--- what is owed to an owner, whatever becomes of a run
+-- What is owed to an owner, whatever becomes of a run.
 use Rattle.std.specs.Prelude.{◌≡◌, ℕ, ◌*◌, ◌≤◌, List, length, map}
 use Rattle.journal_records.specs.declared.records.Record.{Record}
 use Rattle.budget_core.specs.Cost.{cost_of}

@@ -1,4 +1,4 @@
--- what an owner holds: tables, rows of each, and partitions of them
+-- What an owner holds: tables, rows of each, and partitions of them.
 use Rattle.std.specs.Prelude.{List, ℕ, refl}
 use Rattle.std.specs.Coded.{Coded, code_by, coded×, coded_list, coded_ℕ}
 use Rattle.fz_ast.specs.Codes.{signature_code}

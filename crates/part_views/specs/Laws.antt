@@ -1,4 +1,4 @@
--- what is proved of views
+-- What is proved of views.
 use Rattle.std.specs.Prelude.{◌≡◌, ◌⊎◌, ◌≤◌, ℕ, List, [], ◌∷◌, get_or, slice_get, Some, ⊤}
 use Rattle.partition_charge.specs.declared.view.View.{View}
 use Rattle.partition_charge.specs.declared.view.View.TheVariants.{Part}

@@ -1,4 +1,4 @@
--- an owner's partitions: each divides the rows of one table by the texts of one of its columns
+-- An owner's partitions: each divides the rows of one table by the texts of one of its columns.
 use Rattle.std.specs.Prelude.{◌≡◌, ◌<◌, ◌≤◌, ℕ, zero, suc, List, length, bytes_eq, slice_get, Some, ⊤}
 use Rattle.std.specs.List.{All, IsDistinct}
 use Rattle.partition_charge.specs.declared.view.View.{View}

@@ -1,4 +1,4 @@
--- what a list of charges costs
+-- What a list of charges costs.
 use Rattle.std.specs.Prelude.{ℕ, zero, suc, ◌+◌, max, List, sum_by, if◌then◌else◌}
 use Rattle.partition_charge.specs.declared.view.View.{View}
 use Rattle.partition_charge.specs.declared.view.View.TheVariants.{Whole, Part}

@@ -1,4 +1,4 @@
--- the laws of costs
+-- The laws of costs.
 use Rattle.std.specs.Prelude.{◌≡◌, ◌≤◌, List, [], ◌∷◌, ◌++◌, sum_by}
 use Rattle.std.specs.List.{All}
 use Rattle.partition_charge.specs.declared.view.View.TheVariants.{Whole}

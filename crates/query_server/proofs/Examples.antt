@@ -21,7 +21,7 @@ use Rattle.query_server.specs.Run.{script_limit, IsAnswerDue, IsScriptDue}
 use Rattle.session_core.specs.Transcript.{Journals}
 use Rattle.query_server.specs.Check.{accepted_text}
 use Rattle.query_server.specs.Gap.{IsGapBy, IsGapDue, gap_text}
-use Rattle.query_server.specs.Due.{AreRead, IfFinished, IsFaultyWordsEnd, IsPrefix, IsWrittenAt}
+use Rattle.query_server.specs.Due.{AreRead, IfFinished, IsFaultyWordsEnd, IsBeginning, IsWrittenAt}
 use Rattle.query_server.specs.Taken.{IsTaken}
 use Rattle.query_server.specs.declared.end.Status.TheVariants.{Done, ProgramRefused, Usage, Refused, JournalRefused, Fault, DiskFault, NoMemory, ScriptTooLong}
 
@@ -148,10 +148,10 @@ module _ (old new : Shelf) where
   name_unwritten (inr (wrong, is)) = cc
 
 -- a text begins with its first byte and not with its second
-first_byte : IsPrefix (1 ∷ []) (1 ∷ 2 ∷ [])
+first_byte : IsBeginning (1 ∷ []) (1 ∷ 2 ∷ [])
 first_byte = (2 ∷ [], refl)
 
-second_byte : IsPrefix (2 ∷ []) (1 ∷ 2 ∷ []) → ⊥
+second_byte : IsBeginning (2 ∷ []) (1 ∷ 2 ∷ []) → ⊥
 second_byte (rest, is) = cc
 
 -- faulty words: their line, or that memory ran out; a prefix of either only where the sink failed

@@ -19,7 +19,7 @@ use Rattle.query_server.specs.Run.{IsScriptAnswered, IsScriptDue, script_limit}
 use Rattle.query_server.specs.Check.{status_by}
 use Rattle.query_server.specs.Gap.{IsGapDue}
 use Rattle.query_server.specs.Status.{refused_text, memory_text}
-use Rattle.query_server.specs.Due.{AreRead, ForContents, IfFinished, IsDiskLine, IsDue, IsFaultyWordsEnd, IsForProgram, IsOfDisks, IsOfProgram, IsOfRun, IsPrefix, IsStopLine, IsToWrite, IsWrittenAt, MayStop, ending_of, files_of, command_steps}
+use Rattle.query_server.specs.Due.{AreRead, ForContents, IfFinished, IsDiskLine, IsDue, IsFaultyWordsEnd, IsForProgram, IsOfDisks, IsOfProgram, IsOfRun, IsBeginning, IsStopLine, IsToWrite, IsWrittenAt, MayStop, ending_of, files_of, command_steps}
 use Rattle.query_server.specs.Promise.{IsAnsweredScript, IsRunLeft}
 use Rattle.query_server.specs.Ends.{IsCut, IsEndOf, IsEndingWith, IsStepEnd, status_at, text_at}
 use Rattle.query_server.specs.Taken.{IsTakenAt}
@@ -74,7 +74,7 @@ usage_written end status text Risen (inl is) with cause = here with.whole
 
     here : ((status ≡ status_at end) × (text ≡ text_at end)) ⊎ (status ≡ code.Fault) → IsFaultyWordsEnd status text Risen
     here (inl (same, whole)) = inl (same ∙ ap status_at is, whole ∙ ap text_at is)
-    here (inr fault) = inr (inr (fault, inl (subst (λ (t : List ℕ). IsPrefix text t) (ap text_at is) with.prefix), risen (cause fault)))
+    here (inr fault) = inr (inr (fault, inl (subst (λ (t : List ℕ). IsBeginning text t) (ap text_at is) with.prefix), risen (cause fault)))
 usage_written end status text Risen (inr is) with cause = here with.whole
   where
     risen : (end ≡ Stopped Fault) ⊎ Risen → Risen
@@ -83,7 +83,7 @@ usage_written end status text Risen (inr is) with cause = here with.whole
 
     here : ((status ≡ status_at end) × (text ≡ text_at end)) ⊎ (status ≡ code.Fault) → IsFaultyWordsEnd status text Risen
     here (inl (same, whole)) = inr (inl (same ∙ ap status_at is, whole ∙ ap text_at is))
-    here (inr fault) = inr (inr (fault, inr (subst (λ (t : List ℕ). IsPrefix text t) (ap text_at is) with.prefix), risen (cause fault)))
+    here (inr fault) = inr (inr (fault, inr (subst (λ (t : List ℕ). IsBeginning text t) (ap text_at is) with.prefix), risen (cause fault)))
 
 -- what is due, where nothing failed and memory sufficed
 pub finished_due : (ending : Ending) (b a : Shelf) (script : List ℕ) (status : Status) (text : List ℕ) → IsWrittenAt ending b a script status text → IfFinished status (IsDue ending b a script status text)
@@ -332,7 +332,7 @@ headline_by words held b a catalog name workers script text status commanded is 
 
 -- what a `run` leaves
 left_due : (words : List (List ℕ)) (held : Contents) (b a : Shelf) (script text : List ℕ) (loading : Loading) (key : List ℕ) → ending_of words (always held) ≡ to_answer loading key → (whole : Status) (due : List ℕ)
-    → IsToWrite (to_answer loading key) b a script whole due → IsPrefix text due → Became (owners_in loading) (λ _. IsOnlySynced) b a ⊎ ((due : List ℕ) × IsAnsweredScript words held b a script due × IsPrefix text due)
+    → IsToWrite (to_answer loading key) b a script whole due → IsBeginning text due → Became (owners_in loading) (λ _. IsOnlySynced) b a ⊎ ((due : List ℕ) × IsAnsweredScript words held b a script due × IsBeginning text due)
 left_due words held b a script text loading key ending whole due (inr (line, may)) prefix = inl may
 left_due words held b a script text loading key ending whole due (inl (inl refusal)) prefix = inl refusal.disks
 left_due words held b a script text loading key ending whole due (inl (inr (found, opened, inl (done, short, answered)))) prefix =
@@ -340,7 +340,7 @@ left_due words held b a script text loading key ending whole due (inl (inr (foun
 left_due words held b a script text loading key ending whole due (inl (inr (found, opened, inr (over, long, is, disks)))) prefix = inl disks
 
 left_at : (words : List (List ℕ)) (held : Contents) (b a : Shelf) (script text : List ℕ) (status : Status) (loading : Loading) (key : List ℕ) → ending_of words (always held) ≡ to_answer loading key
-    → IsWrittenAt (to_answer loading key) b a script status text → Became (owners_in loading) (λ _. IsOnlySynced) b a ⊎ ((due : List ℕ) × IsAnsweredScript words held b a script due × IsPrefix text due)
+    → IsWrittenAt (to_answer loading key) b a script status text → Became (owners_in loading) (λ _. IsOnlySynced) b a ⊎ ((due : List ℕ) × IsAnsweredScript words held b a script due × IsBeginning text due)
 left_at words held b a script text status loading key ending (inl due) = left_due words held b a script text loading key ending status text due (prefix_whole text)
 left_at words held b a script text status loading key ending (inr (fault, (whole, due, is, prefix))) = left_due words held b a script text loading key ending whole due is prefix
 

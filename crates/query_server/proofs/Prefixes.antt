@@ -3,15 +3,15 @@ use Rattle.std.proofs.Common.{◌≡◌, ℕ, List, [], ◌∷◌, ◌++◌, Opt
 use Rattle.std.proofs.lemmas.List.{take-append-drop}
 use Rattle.std.specs.Prelude.{Result, Ok, Err, OnErr}
 use Rattle.std.specs.Io.KnownBytes.{append_known}
-use Rattle.query_server.specs.Due.{IsPrefix}
+use Rattle.query_server.specs.Due.{IsBeginning}
 
-pub prefix_take : (n : ℕ) (line : List ℕ) → IsPrefix (take n line) line
+pub prefix_take : (n : ℕ) (line : List ℕ) → IsBeginning (take n line) line
 prefix_take n line = (drop n line, sym (take-append-drop n line))
 
-pub prefix_whole : (text : List ℕ) → IsPrefix text text
+pub prefix_whole : (text : List ℕ) → IsBeginning text text
 prefix_whole text = ([], sym (append-nil text))
 
-pub prefix_empty : (text rest : List ℕ) → [] ≡ text ++ rest → (line : List ℕ) → IsPrefix text line
+pub prefix_empty : (text rest : List ℕ) → [] ≡ text ++ rest → (line : List ℕ) → IsBeginning text line
 prefix_empty [] rest is line = (line, refl)
 prefix_empty (x ∷ xs) rest is line = cc
 
@@ -21,15 +21,15 @@ nothing_put None = refl
 nothing_put (Some bytes) = ap Some (sym (append-nil bytes))
 
 -- a line that stopped in its first piece
-pub prefix_first : (text a b c : List ℕ) → IsPrefix text a → IsPrefix text (a ++ b ++ c)
+pub prefix_first : (text a b c : List ℕ) → IsBeginning text a → IsBeginning text (a ++ b ++ c)
 prefix_first text a b c (rest, is) =
     (rest ++ (b ++ c), ap (λ xs. (xs ++ b) ++ c) is ∙ append_assoc (text ++ rest) b c ∙ append_assoc text rest (b ++ c))
 
-pub prefix_second : (text a b c : List ℕ) → IsPrefix text b → IsPrefix (a ++ text) (a ++ b ++ c)
+pub prefix_second : (text a b c : List ℕ) → IsBeginning text b → IsBeginning (a ++ text) (a ++ b ++ c)
 prefix_second text a b c (rest, is) =
     (rest ++ c, ap (λ xs. (a ++ xs) ++ c) is ∙ ap (λ xs. xs ++ c) (sym (append_assoc a text rest)) ∙ append_assoc (a ++ text) rest c)
 
-pub prefix_third : (text a b c : List ℕ) → IsPrefix text c → IsPrefix (a ++ b ++ text) (a ++ b ++ c)
+pub prefix_third : (text a b c : List ℕ) → IsBeginning text c → IsBeginning (a ++ b ++ text) (a ++ b ++ c)
 prefix_third text a b c (rest, is) = (rest, ap (λ xs. (a ++ b) ++ xs) is ∙ sym (append_assoc (a ++ b) text rest))
 
 -- what an error says, and what follows from it

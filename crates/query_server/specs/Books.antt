@@ -1,4 +1,4 @@
--- what the code's books and passes are of the owners' disks
+-- What the code's books and passes are of the owners' disks.
 use Rattle.std.specs.Prelude.{◌≡◌, ℕ, ◌<◌, ◌≤◌, List, length, Option, Some, None, IfSome, ⊤}
 use Rattle.outside_disks.specs.Disks.{Shown, WhereTold}
 use Rattle.journal_records.specs.declared.records.Header.{Header}

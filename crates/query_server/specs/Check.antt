@@ -1,4 +1,4 @@
--- `check`: a program is checked
+-- `check`: a program is checked.
 use Rattle.std.specs.Prelude.{◌≡◌, ℕ, List, ◌++◌, codes}
 use Rattle.fz_ast.specs.Signature.{Signature}
 use Rattle.fz_frac.specs.Distance.{Distance}

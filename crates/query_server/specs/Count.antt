@@ -1,4 +1,4 @@
--- `audit`: the records in the owners' journals are counted
+-- `audit`: the records in the owners' journals are counted.
 use Rattle.std.specs.Prelude.{◌≡◌, ◌⊎◌, ℕ, List, ◌++◌, codes, decimal}
 use Rattle.std.specs.List.{enumerate_from, flat_map}
 use Rattle.journal_records.specs.declared.records.Record.{Record}

@@ -1,4 +1,4 @@
--- what is due, and what is written
+-- What is due, and what is written.
 use Rattle.std.specs.Prelude.{◌≡◌, ◌⊎◌, ℕ, ◌<◌, ◌≤◌, List, ◌++◌, Option, Some, None, IfSome, ⊤}
 use Rattle.fz_ast.specs.Signature.{Signature}
 use Rattle.command_words.specs.Command.{Command, init, run, audit, check, gap, command_of}
@@ -76,14 +76,14 @@ abbrev pub IfFinished : Status → Type 0 → Type 0
 IfFinished status P = (status ≡ Fault) ⊎ (status ≡ NoMemory) ⊎ (status ≡ DiskFault) ⊎ P
 
 -- the text begins with this
-abbrev pub IsPrefix : (prefix text : List ℕ) → Type 0
-IsPrefix prefix text = (rest : List ℕ) × (text ≡ prefix ++ rest)
+abbrev pub IsBeginning : (prefix text : List ℕ) → Type 0
+IsBeginning prefix text = (rest : List ℕ) × (text ≡ prefix ++ rest)
 
 -- What is written with the status; where files, source or sink failed, a prefix of what was to be written.
 abbrev pub IsWrittenAt : Ending → (old new : Shelf) → (script : List ℕ) → (status : Status) → (text : List ℕ) → Type 0
 IsWrittenAt ending old new script status text =
     IsToWrite ending old new script status text
-    ⊎ ((status ≡ Fault) × ((whole : Status) × (due : List ℕ) × IsToWrite ending old new script whole due × IsPrefix text due))
+    ⊎ ((status ≡ Fault) × ((whole : Status) × (due : List ℕ) × IsToWrite ending old new script whole due × IsBeginning text due))
 
 -- What is written at faulty words: the line `usage` with its status, or where memory ran out the line `memory`; where the sink
 -- failed, a prefix of either.
@@ -91,7 +91,7 @@ abbrev pub IsFaultyWordsEnd : (status : Status) → (text : List ℕ) → (SinkF
 IsFaultyWordsEnd status text SinkFailed =
     ((status ≡ Usage) × (text ≡ usage_text))
     ⊎ ((status ≡ NoMemory) × (text ≡ memory_text))
-    ⊎ ((status ≡ Fault) × (IsPrefix text usage_text ⊎ IsPrefix text memory_text) × SinkFailed)
+    ⊎ ((status ≡ Fault) × (IsBeginning text usage_text ⊎ IsBeginning text memory_text) × SinkFailed)
 
 -- The names of files that were read went on by some of these, in order: by all of them, unless something failed or memory ran
 -- out.

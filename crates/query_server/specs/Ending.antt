@@ -1,4 +1,4 @@
--- what a command comes to by its words and its files
+-- What a command comes to by its words and its files.
 use Rattle.std.specs.Prelude.{ℕ, List, Result, Ok, Err}
 use Rattle.fz_ast.specs.Signature.{Signature}
 use Rattle.metric_values.specs.Tables.{Dataset}

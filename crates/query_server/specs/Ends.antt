@@ -1,4 +1,4 @@
--- what the code's ends mean
+-- What the code's ends mean.
 use Rattle.std.specs.declared.alloc.Global.{Global}
 use Rattle.std.specs.Prelude.{Vec, ◌≡◌, ◌⊎◌, ℕ, List, [], ◌++◌, Result, Ok, Err, string_bytes, length, ◌<◌, ◌≤◌}
 use Rattle.fz_ast.specs.Signature.{Signature}
@@ -13,7 +13,7 @@ use Rattle.query_server.specs.Run.{script_limit}
 use Rattle.catalog_loading.specs.Steps.{FileStep}
 use Rattle.query_server.specs.Ending.{Ending, ended}
 use Rattle.query_server.specs.Status.{usage_text, refused_text, memory_text, too_long_text}
-use Rattle.query_server.specs.Due.{AreRead, IsDiskLine, IsDue, IsPrefix, MayStop}
+use Rattle.query_server.specs.Due.{AreRead, IsDiskLine, IsDue, IsBeginning, MayStop}
 use Rattle.query_server.specs.Shelves.{Shelf}
 use Rattle.query_server.specs.declared.end.Status.{Status}
 use Rattle.query_server.specs.declared.end.Status.TheVariants as code
@@ -114,5 +114,5 @@ IsAnsweredOn house draws script old new (Err stop) = IsFailing stop × (new ≡ 
 
 -- The end's text is written with its status; or a prefix of it, and something failed.
 pub record IsEndingWith (end : End) (status : Status) (text : List ℕ) : Type 0 where
-  pub prefix : IsPrefix text (text_at end)
+  pub prefix : IsBeginning text (text_at end)
   pub whole : ((status ≡ status_at end) × (text ≡ text_at end)) ⊎ (status ≡ code.Fault)

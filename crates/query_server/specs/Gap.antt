@@ -1,4 +1,4 @@
--- `gap`: a program's values on two datasets are compared
+-- `gap`: a program's values on two datasets are compared.
 use Rattle.std.specs.Prelude.{◌≡◌, ℕ, ℤ, List, ◌++◌, codes, decimal}
 use Rattle.std.specs.Fmt.{signed_decimal}
 use Rattle.fz_ast.specs.Signature.{Signature, IsSignature}

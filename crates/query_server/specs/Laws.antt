@@ -1,4 +1,4 @@
--- what is proved of the definitions
+-- What is proved of the definitions.
 use Rattle.std.specs.Prelude.{◌≡◌, ℕ, ◌<◌, List, slice_get, Some}
 use Rattle.fz_outside.specs.Faults.{HasRisen}
 use Rattle.fz_ast.specs.Signature.{Signature, IsSignature}

@@ -1,4 +1,4 @@
--- `init`: the owners' journals are made
+-- `init`: the owners' journals are made.
 use Rattle.std.specs.Prelude.{◌≡◌, ◌⊎◌, ℕ, ◌<◌, ◌≤◌, List, [], ◌++◌, length, Some, IfSome, codes, decimal}
 use Rattle.std.specs.List.{flat_map}
 use Rattle.fz_outside.specs.Faults.{HasRisen}

@@ -1,4 +1,4 @@
--- what making a journal leaves, in the program
+-- What making a journal leaves, in the program.
 use Rattle.std.specs.Prelude.{◌≡◌, ◌<◌, ◌≤◌, ℕ, List, length, Option, None, Some, IfSome}
 use Rattle.outside_disks.specs.Disks.{Shown, seen_of}
 use Rattle.catalog_loading.specs.Loaded.{Loading, owner_name_at, owners_in}

@@ -1,4 +1,4 @@
--- which of the owners' journals are opened, and which one is refused
+-- Which of the owners' journals are opened, and which one is refused.
 use Rattle.std.specs.Prelude.{◌≡◌, ℕ, ◌<◌, List, length, Option, IfSome}
 use Rattle.journal_records.specs.declared.records.Header.{Header}
 use Rattle.journal_records.specs.declared.records.Record.{Record}

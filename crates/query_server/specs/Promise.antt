@@ -1,4 +1,4 @@
--- a script that was answered, and what is promised to every owner
+-- A script that was answered, and what is promised to every owner.
 use Rattle.std.specs.Prelude.{◌≡◌, ◌⊎◌, ℕ, ◌≤◌, List, length, Some, Ok}
 use Rattle.word_streams.specs.Draws.{draws_of}
 use Rattle.session_core.specs.House.{house_of}
@@ -11,7 +11,7 @@ use Rattle.catalog_loading.specs.Loaded.{Loading, IsLoading, catalog_read, key_r
 use Rattle.query_server.specs.Shelves.{Shelf, Became, IsOnlySynced}
 use Rattle.query_server.specs.Opened.{AreOpened}
 use Rattle.query_server.specs.Run.{IsScriptAnswered, script_limit}
-use Rattle.query_server.specs.Due.{ending_of, IsPrefix}
+use Rattle.query_server.specs.Due.{ending_of, IsBeginning}
 
 -- The words are `run CATALOG KEY`, and the files hold a catalog, the tables of its owners, and this key.
 pub record IsHouseOf (words : List (List ℕ)) (held : Contents) (loading : Loading) (key : List ℕ) : Type 0 where
@@ -44,4 +44,4 @@ pub record IsAnsweredScript (words : List (List ℕ)) (held : Contents) (old new
 abbrev pub IsRunLeft : (words : List (List ℕ)) → (held : Contents) → (old new : Shelf) → (script written : List ℕ) → Type 0
 IsRunLeft words held old new script written = (loading : Loading) (key : List ℕ) → ending_of words (always held) ≡ to_answer loading key
     → Became (owners_in loading) (λ _. IsOnlySynced) old new
-    ⊎ ((due : List ℕ) × IsAnsweredScript words held old new script due × IsPrefix written due)
+    ⊎ ((due : List ℕ) × IsAnsweredScript words held old new script due × IsBeginning written due)

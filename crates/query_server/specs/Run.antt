@@ -1,4 +1,4 @@
--- `run`: a script is answered
+-- `run`: a script is answered.
 use Rattle.std.specs.Prelude.{◌≡◌, ◌⊎◌, ℕ, ◌^◌, ◌<◌, ◌≤◌, List, length, Option, None, Some, IfSome}
 use mathlib.Core.List.{IsPrefix}
 use Rattle.std.specs.List.{flat_map}

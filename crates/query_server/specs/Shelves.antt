@@ -1,4 +1,4 @@
--- what the owners' disks show, and what becomes of them
+-- What the owners' disks show, and what becomes of them.
 use Rattle.std.specs.Prelude.{◌≡◌, ℕ, ◌<◌, ◌≤◌, List, Option, Some, IsSome, option_and_then, option_map}
 use Rattle.fz_outside.specs.Faults.{HasRisen}
 use Rattle.outside_disks.specs.Disks.{Shown, Trace, seen_of}

@@ -1,4 +1,4 @@
--- the numbers of statuses, and their lines
+-- The numbers of statuses, and their lines.
 use Rattle.std.specs.Prelude.{ℕ, List, ◌++◌, codes, decimal}
 use Rattle.query_server.specs.declared.end.Status.{Status}
 use Rattle.query_server.specs.declared.end.Status.TheVariants.{Done, ProgramRefused, Usage, Refused, JournalRefused, Fault, DiskFault, NoMemory, ScriptTooLong}

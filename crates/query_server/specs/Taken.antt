@@ -1,4 +1,4 @@
--- what is taken of the source
+-- What is taken of the source.
 use Rattle.std.specs.Prelude.{◌≡◌, ◌⊎◌, ℕ, ◌+◌, ◌≤◌, ◌<◌, List, [], length, Option, Some, None}
 use Rattle.std.specs.Io.KnownBytes.{prepend_known, IsAtEnd}
 use Rattle.command_words.specs.Command.{Command, init, run, audit, check, gap}

@@ -4,7 +4,7 @@ ghost use Rattle.std.specs.Prelude.{◌≡◌, ◌⊎◌, ℕ, ◌≤◌, List, 
 ghost use Rattle.std.specs.Io.KnownBytes.{append_known};
 ghost use Rattle.fz_outside.specs.Faults.{HasCause, HasRisen};
 ghost use Rattle.query_server.specs.Status.{refused_text};
-ghost use Rattle.query_server.specs.Due.{IsPrefix};
+ghost use Rattle.query_server.specs.Due.{IsBeginning};
 ghost use Rattle.query_server.specs.Ends.{IsEndingWith, stop_text, text_at};
 
 use crate::end::{End, Status};
@@ -15,7 +15,7 @@ use fz_outside::sink::{Sink, put};
 /// Writes a piece of a line, or a prefix of it.
 fn put_piece<K: Sink>(sink: &mut K, piece: &[u8]) -> Result<(), Failed>
     ensures ok { OnOk result (K.contents sink.new ≡ append_known (K.contents sink.old) piece.now) }
-    ensures err { OnErr result ((text : List ℕ) × IsPrefix text piece.now × (K.contents sink.new ≡ append_known (K.contents sink.old) text)) }
+    ensures err { OnErr result ((text : List ℕ) × IsBeginning text piece.now × (K.contents sink.new ≡ append_known (K.contents sink.old) text)) }
     ensures cause { HasCause (K.faults sink.old) (K.faults sink.new) (IsErr result) }
 {
     put(sink, piece)
@@ -24,7 +24,7 @@ fn put_piece<K: Sink>(sink: &mut K, piece: &[u8]) -> Result<(), Failed>
 /// Writes that the file or the owner of this name is refused.
 fn write_refused<K: Sink>(sink: &mut K, name: &str) -> Result<(), Failed>
     ensures ok { OnOk result (K.contents sink.new ≡ append_known (K.contents sink.old) (refused_text name.now)) }
-    ensures err { OnErr result ((text : List ℕ) × IsPrefix text (refused_text name.now)
+    ensures err { OnErr result ((text : List ℕ) × IsBeginning text (refused_text name.now)
         × (K.contents sink.new ≡ append_known (K.contents sink.old) text)) }
     ensures cause { HasCause (K.faults sink.old) (K.faults sink.new) (IsErr result) }
 {
@@ -36,7 +36,7 @@ fn write_refused<K: Sink>(sink: &mut K, name: &str) -> Result<(), Failed>
 /// Writes the line of what stopped a command.
 fn write_stop<K: Sink>(sink: &mut K, stop: &Stop) -> Result<(), Failed>
     ensures ok { OnOk result (K.contents sink.new ≡ append_known (K.contents sink.old) (stop_text stop.now)) }
-    ensures err { OnErr result ((text : List ℕ) × IsPrefix text (stop_text stop.now)
+    ensures err { OnErr result ((text : List ℕ) × IsBeginning text (stop_text stop.now)
         × (K.contents sink.new ≡ append_known (K.contents sink.old) text)) }
     ensures cause { HasCause (K.faults sink.old) (K.faults sink.new) (IsErr result) }
 {
@@ -53,7 +53,7 @@ fn write_stop<K: Sink>(sink: &mut K, stop: &Stop) -> Result<(), Failed>
 /// Writes what an end has to say.
 fn write_end<K: Sink>(sink: &mut K, end: &End) -> Result<(), Failed>
     ensures ok { OnOk result (K.contents sink.new ≡ append_known (K.contents sink.old) (text_at end.now)) }
-    ensures err { OnErr result ((text : List ℕ) × IsPrefix text (text_at end.now)
+    ensures err { OnErr result ((text : List ℕ) × IsBeginning text (text_at end.now)
         × (K.contents sink.new ≡ append_known (K.contents sink.old) text)) }
     ensures cause { HasCause (K.faults sink.old) (K.faults sink.new) (IsErr result) }
 {

@@ -29,7 +29,7 @@ use Rattle.linear_types.specs.Places.{AreAlike, distances}
 use Rattle.linear_types.specs.Sensitivities.{Sensitivities}
 use Rattle.linear_types.specs.Rule.{rule}
 use Rattle.linear_types.specs.Typing.{Context, Under}
-use Rattle.linear_types.specs.Inferred.{Inferred, Has, Refused, one_part, two_parts, three_parts}
+use Rattle.linear_types.specs.Inferred.{Inferred, Has, Untyped, one_part, two_parts, three_parts}
 use Rattle.linear_types.specs.Groups.{unary_rule, binary_rule, ranged_rule, inject_rule, lambda_rule}
 use Rattle.sensitivity_check.specs.Judging.{SayTwo, node_term}
 use Rattle.typing_rows.specs.Says.{IsFaultOf, Says}
@@ -103,62 +103,62 @@ no_fine T (Range s) A D v h = absurd h
 -- a part's fault is the whole's
 pub one_fault : (T : List Ty) (r : RowFault) (v : Inferred) (k : Ty → Sensitivities → Inferred) → IsFaultOf T r v → IsFaultOf T r (one_part v k)
 one_fault T r (Has A D) k h = no_fine T r A D (k A D) h
-one_fault T r (Refused f) k h = h
+one_fault T r (Untyped f) k h = h
 
 pub two_fault : (T : List Ty) (r : RowFault) (v w : Inferred) (k : Ty → Sensitivities → Ty → Sensitivities → Inferred) → IsFaultOf T r (two_parts v w (λ A D B E. Has B E)) → IsFaultOf T r (two_parts v w k)
 two_fault T r (Has A D) (Has B E) k h = no_fine T r B E (k A D B E) h
-two_fault T r (Has A D) (Refused f) k h = h
-two_fault T r (Refused f) w k h = h
+two_fault T r (Has A D) (Untyped f) k h = h
+two_fault T r (Untyped f) w k h = h
 
 -- a part that is fine, and what the row says of it
 pub one_says : (T U : List Ty) (o : Judged) (q : Result Judged RowFault) (v : Inferred) (k : Ty → Sensitivities → Inferred) → Says T (Ok o) v
     → ((D : Sensitivities) → AreAlike (distances o.amounts.items) D → Says U q (k (type_at T o.ty) D)) → Says U q (one_part v k)
 one_says T U o q (Has A D) k h g = rw (← h.is) (g D h.alike)
-one_says T U o q (Refused f) k h g = absurd h
+one_says T U o q (Untyped f) k h g = absurd h
 
 pub two_say : (T U : List Ty) (o p : Judged) (q : Result Judged RowFault) (v w : Inferred) (k : Ty → Sensitivities → Ty → Sensitivities → Inferred) → Says T (Ok o) v → Says T (Ok p) w
     → ((D E : Sensitivities) → AreAlike (distances o.amounts.items) D → AreAlike (distances p.amounts.items) E → Says U q (k (type_at T o.ty) D (type_at T p.ty) E)) → Says U q (two_parts v w k)
 two_say T U o p q (Has A D) (Has B E) k h i g = rw (← h.is, ← i.is) (g D E h.alike i.alike)
-two_say T U o p q (Refused f) w k h i g = absurd h
-two_say T U o p q (Has A D) (Refused f) k h i g = absurd i
+two_say T U o p q (Untyped f) w k h i g = absurd h
+two_say T U o p q (Has A D) (Untyped f) k h i g = absurd i
 
 pub three_fault : (T : List Ty) (r : RowFault) (v w x : Inferred) (k : Ty → Sensitivities → Ty → Sensitivities → Ty → Sensitivities → Inferred) → IsFaultOf T r v → IsFaultOf T r (three_parts v w x k)
-three_fault T r (Refused f) w x k h = h
+three_fault T r (Untyped f) w x k h = h
 three_fault T r (Has A D) (Has B E) (Has C F) k h = no_fine T r A D (k A D B E C F) h
-three_fault T r (Has A D) (Has B E) (Refused f) k h = no_fine T r A D (Refused f) h
-three_fault T r (Has A D) (Refused f) x k h = no_fine T r A D (Refused f) h
+three_fault T r (Has A D) (Has B E) (Untyped f) k h = no_fine T r A D (Untyped f) h
+three_fault T r (Has A D) (Untyped f) x k h = no_fine T r A D (Untyped f) h
 
 pub later_fault : (T U : List Ty) (o : Judged) (r : RowFault) (v w x : Inferred) (k : Ty → Sensitivities → Ty → Sensitivities → Ty → Sensitivities → Inferred) → Says T (Ok o) v → IsFaultOf U r (two_parts w x (λ A D B E. Has B E)) → IsFaultOf U r (three_parts v w x k)
 later_fault T U o r (Has A D) (Has B E) (Has C F) k g h = no_fine U r C F (k A D B E C F) h
-later_fault T U o r (Has A D) (Has B E) (Refused f) k g h = h
-later_fault T U o r (Has A D) (Refused f) x k g h = h
-later_fault T U o r (Refused f) w x k g h = absurd g
+later_fault T U o r (Has A D) (Has B E) (Untyped f) k g h = h
+later_fault T U o r (Has A D) (Untyped f) x k g h = h
+later_fault T U o r (Untyped f) w x k g h = absurd g
 
 pub three_say : (T U : List Ty) (o p q : Judged) (z : Result Judged RowFault) (v w x : Inferred) (k : Ty → Sensitivities → Ty → Sensitivities → Ty → Sensitivities → Inferred) → Says T (Ok o) v → Says T (Ok p) w → Says T (Ok q) x
     → ((F D E : Sensitivities) → AreAlike (distances o.amounts.items) F → AreAlike (distances p.amounts.items) D → AreAlike (distances q.amounts.items) E → Says U z (k (type_at T o.ty) F (type_at T p.ty) D (type_at T q.ty) E)) → Says U z (three_parts v w x k)
 three_say T U o p q z (Has A D) (Has B E) (Has C F) k h i j g = rw (← h.is, ← i.is, ← j.is) (g D E F h.alike i.alike j.alike)
-three_say T U o p q z (Refused f) w x k h i j g = absurd h
-three_say T U o p q z (Has A D) (Refused f) x k h i j g = absurd i
-three_say T U o p q z (Has A D) (Has B E) (Refused f) k h i j g = absurd j
+three_say T U o p q z (Untyped f) w x k h i j g = absurd h
+three_say T U o p q z (Has A D) (Untyped f) x k h i j g = absurd i
+three_say T U o p q z (Has A D) (Has B E) (Untyped f) k h i j g = absurd j
 
 -- the second part's fault after a first part that is fine
 pub second_fault : (T U : List Ty) (o : Judged) (r : RowFault) (v w : Inferred) → Says T (Ok o) v → IsFaultOf U r w → IsFaultOf U r (two_parts v w (λ A D B E. Has B E))
 second_fault T U o r (Has A D) (Has B E) g h = h
-second_fault T U o r (Has A D) (Refused f) g h = h
-second_fault T U o r (Refused f) w g h = absurd g
+second_fault T U o r (Has A D) (Untyped f) g h = h
+second_fault T U o r (Untyped f) w g h = absurd g
 
 pub first_fault : (T : List Ty) (r : RowFault) (v w : Inferred) → IsFaultOf T r v → IsFaultOf T r (two_parts v w (λ A D B E. Has B E))
-first_fault T r (Refused f) w h = h
+first_fault T r (Untyped f) w h = h
 first_fault T r (Has A D) (Has B E) h = no_fine T r A D (Has B E) h
-first_fault T r (Has A D) (Refused f) h = no_fine T r A D (Refused f) h
+first_fault T r (Has A D) (Untyped f) h = no_fine T r A D (Untyped f) h
 
 pub says_known : (T : List Ty) (o : Judged) (v : Inferred) → Says T (Ok o) v → o.ty < length T
 says_known T o (Has A D) h = h.known
-says_known T o (Refused f) h = absurd h
+says_known T o (Untyped f) h = absurd h
 
 pub says_grows : (T U : List Ty) (o : Judged) (v : Inferred) → Grows T U → Says T (Ok o) v → Says U (Ok o) v
 says_grows T U o (Has A D) g h = fine_grows T U o A D g h
-says_grows T U o (Refused f) g h = absurd h
+says_grows T U o (Untyped f) g h = absurd h
 
 -- a `?` hands a fault on
 pub passed : (T : List Ty) (q : Result Judged RowFault) (r : RowFault) (v : Inferred) → IsErrAnd q (λ y. y ≡ r) → IsFaultOf T r v → Says T q v

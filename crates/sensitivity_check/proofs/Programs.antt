@@ -18,10 +18,10 @@ use Rattle.linear_types.proofs.Answered.{accepted_exactly, faults_are_kept, not_
 use Rattle.linear_types.specs.Environment.{amount_of}
 use Rattle.linear_types.specs.Laws.{FiniteBelow, sensitivity_at}
 use Rattle.linear_types.specs.Places.{AreAlike, distances}
-use Rattle.linear_types.specs.Program.{Accepted, Rejected, context_of, greatest_of, sensitivity_of, sensitivity_to}
+use Rattle.linear_types.specs.Program.{Accepted, Faulty, context_of, greatest_of, sensitivity_of, sensitivity_to}
 use Rattle.linear_types.specs.Rule.{rule}
 use Rattle.linear_types.specs.Sensitivities.{Sensitivities}
-use Rattle.linear_types.specs.Inferred.{Fault, Inferred, Has, Refused}
+use Rattle.linear_types.specs.Inferred.{Fault, Inferred, Has, Untyped}
 use Rattle.linear_types.specs.Inferred as rules
 use Rattle.metric_law.proofs.Programs.{program_value, program_bound}
 use Rattle.sensitivity_check.specs.Answered.{HasBound, IsChecked, IsFirstFault}
@@ -33,28 +33,28 @@ use Rattle.typing_rows.specs.declared.clause.RowFault.TheVariants.{Unbound, Mism
 use Rattle.sensitivity_check.specs.declared.fault.CheckFault.TheVariants.{Unbounded, NotNum}
 use Rattle.sensitivity_check.proofs.TableAmounts.{finite_alike, greatest_alike, inf_alike, to_alike}
 
-fault_found : (T : List Ty) (r : RowFault) (v : Inferred) → (r ≡ NoMemory → ⊥) → IsFaultOf T r v → (f : Fault) × (v ≡ Refused f) × IsRowFault T r f
+fault_found : (T : List Ty) (r : RowFault) (v : Inferred) → (r ≡ NoMemory → ⊥) → IsFaultOf T r v → (f : Fault) × (v ≡ Untyped f) × IsRowFault T r f
 fault_found T NoMemory v n h = absurd (n refl)
-fault_found T (Unbound s) (Refused f) n h = (f, refl, h)
+fault_found T (Unbound s) (Untyped f) n h = (f, refl, h)
 fault_found T (Unbound s) (Has A D) n h = absurd h
-fault_found T (Mismatch s t w) (Refused f) n h = (f, refl, h)
+fault_found T (Mismatch s t w) (Untyped f) n h = (f, refl, h)
 fault_found T (Mismatch s t w) (Has A D) n h = absurd h
-fault_found T (NotGround s) (Refused f) n h = (f, refl, h)
+fault_found T (NotGround s) (Untyped f) n h = (f, refl, h)
 fault_found T (NotGround s) (Has A D) n h = absurd h
-fault_found T (NotFlat s) (Refused f) n h = (f, refl, h)
+fault_found T (NotFlat s) (Untyped f) n h = (f, refl, h)
 fault_found T (NotFlat s) (Has A D) n h = absurd h
-fault_found T (TooSensitive s x q) (Refused f) n h = (f, refl, h)
+fault_found T (TooSensitive s x q) (Untyped f) n h = (f, refl, h)
 fault_found T (TooSensitive s x q) (Has A D) n h = absurd h
-fault_found T (Range s) (Refused f) n h = (f, refl, h)
+fault_found T (Range s) (Untyped f) n h = (f, refl, h)
 fault_found T (Range s) (Has A D) n h = absurd h
 
 -- a term's fault is the program's
-pub first_fault_is : (ts : Signature) (e : Term) (T : List Ty) (r : RowFault) → (r ≡ NoMemory → ⊥) → IsFaultOf T r (rule (context_of ts) e) → (f : Fault) × (sensitivity_of ts e ≡ Rejected f) × IsRowFault T r f
+pub first_fault_is : (ts : Signature) (e : Term) (T : List Ty) (r : RowFault) → (r ≡ NoMemory → ⊥) → IsFaultOf T r (rule (context_of ts) e) → (f : Fault) × (sensitivity_of ts e ≡ Faulty f) × IsRowFault T r f
 first_fault_is ts e T r n h = let k = fault_found T r (rule (context_of ts) e) n h in (k.0, faults_are_kept ts e k.0 k.1, k.2)
 
 has : (T : List Ty) (o : Judged) (v : Inferred) → Says T (Ok o) v → (A : Ty) × (D : Sensitivities) × (v ≡ Has A D) × IsFine T o A D
 has T o (Has A D) h = (A, D, refl, h)
-has T o (Refused f) h = absurd h
+has T o (Untyped f) h = absurd h
 
 no_num : (at : ℕ → Ty) (h : TypeForm) → (h ≡ NumF → ⊥) → type_of at h ≢ NumT
 no_num at NumF n = absurd (n refl)

@@ -13,7 +13,7 @@ use Rattle.linear_types.proofs.Alike.{alike_refl}
 use Rattle.linear_types.specs.Places.{distances}
 use Rattle.linear_types.specs.Rule.{var_rule}
 use Rattle.linear_types.specs.Typing.{Under}
-use Rattle.linear_types.specs.Inferred.{Has, Refused, Unbound}
+use Rattle.linear_types.specs.Inferred.{Has, Untyped, Unbound}
 use Rattle.typing_rows.specs.Says.{Says}
 use Rattle.sensitivity_check.specs.Scope.{context_in, AllInScope, HasKnownTypes, IsUnbound, IsInnermost}
 use Rattle.typing_rows.specs.declared.clause.Judged.{Judged}
@@ -30,7 +30,7 @@ innermost_at x [] i b l e h = absurd (omega (arith, l))
 innermost_at x (c ∷ bs) zero b l e h = e
 innermost_at x (c ∷ bs) (suc i) b l e h = (h.0, innermost_at x bs i b (omega (arith, l)) e h.1)
 
-pub var_unbound : (s : Span) (T : List Ty) (bs : List Bound) (x : Name) → IsUnbound x bs → var_rule s (context_in T bs) x ≡ Refused (Unbound s)
+pub var_unbound : (s : Span) (T : List Ty) (bs : List Bound) (x : Name) → IsUnbound x bs → var_rule s (context_in T bs) x ≡ Untyped (Unbound s)
 var_unbound s T [] x h = refl
 var_unbound s T (b ∷ bs) x h = rw (h.0, var_unbound s T bs x h.1) refl
 

@@ -10,7 +10,7 @@ use Rattle.fz_ast.specs.Limits.{IsNumber}
 use Rattle.fz_ast.specs.Terms.{Name, Term}
 use Rattle.fz_ast.specs.TypeNodes.{type_at}
 use Rattle.linear_types.specs.Environment.{amount_of}
-use Rattle.linear_types.specs.Program.{Accepted, Rejected, sensitivity_of, sensitivity_to}
+use Rattle.linear_types.specs.Program.{Accepted, Faulty, sensitivity_of, sensitivity_to}
 use Rattle.linear_types.specs.Sensitivities.{Sensitivities}
 use Rattle.linear_types.specs.Inferred.{Fault}
 use Rattle.linear_types.specs.Inferred as rules
@@ -38,7 +38,7 @@ IsCheckFault ts NoMemory f = ⊥
 -- the program's first fault is this one, unless memory ran out
 abbrev pub IsFirstFault : Signature → Term → CheckFault → Type 0
 IsFirstFault ts e NoMemory = ⊤
-IsFirstFault ts e fault = (f : Fault) × (sensitivity_of ts e ≡ Rejected f) × IsCheckFault ts fault f
+IsFirstFault ts e fault = (f : Fault) × (sensitivity_of ts e ≡ Faulty f) × IsCheckFault ts fault f
 
 -- the program is accepted over this signature, and these are its greatest sensitivity over the tables and the one for each name
 pub record IsChecked (ts : Signature) (e : Term) (checked : Checked) : Type 0 where

@@ -1,4 +1,4 @@
--- what the code's values mean
+-- What the code's values mean.
 use Rattle.std.specs.Prelude.{◌≡◌, ℕ, ◌<◌, ◌≤◌, nat_lt, List, [], ◌∷◌, length, ◌++◌, Option, Some, None, Result, ⊤, Bool, true, false}
 use Rattle.std.specs.Prelude.{if◌then◌else◌, get_or, map, option_map, slice_get, sum_by}
 use Rattle.std.specs.List.{flat_map}

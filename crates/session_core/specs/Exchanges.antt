@@ -1,4 +1,4 @@
--- lines and their replies, as far as they concern one owner
+-- Lines and their replies, as far as they concern one owner.
 use Rattle.std.specs.Prelude.{◌≡◌, ℕ, ◌==◌, Bool, false, List, [], ◌∷◌, ⊤, MatchBool, if◌then◌else◌}
 use Rattle.std.specs.List.{AllByRecursion, flat_map}
 use Rattle.wire_lines.specs.Reply.{Replied}

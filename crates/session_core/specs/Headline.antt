@@ -1,4 +1,4 @@
--- what is promised of a script's replies and records
+-- What is promised of a script's replies and records.
 use Rattle.std.specs.Prelude.{◌≡◌, ℕ, List, ◌++◌, map, slice_get, Some}
 use mathlib.Core.List.{IsPrefix}
 use Rattle.journal_records.specs.declared.records.Record.{Record}

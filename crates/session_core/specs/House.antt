@@ -1,4 +1,4 @@
--- the house: its analysts, its owners, their tables and partitions
+-- The house: its analysts, its owners, their tables and partitions.
 use Rattle.std.specs.Prelude.{◌≡◌, ℕ, ◌+◌, List, [], ◌∷◌, length, Option, Some, None, cond, map, get_or}
 use Rattle.std.specs.Prelude.{position, bytes_eq, slice_get}
 use Rattle.std.specs.List.{zip}

@@ -1,4 +1,4 @@
--- what a line comes to by itself
+-- What a line comes to by itself.
 use Rattle.std.specs.Prelude.{ℕ, List, Result, Ok, Err, Option, Some, None, ok_or}
 use Rattle.partition_charge.specs.declared.view.View.{View}
 use Rattle.partition_charge.specs.declared.view.View.TheVariants.{Whole, Part}

@@ -1,4 +1,4 @@
--- replies where nothing failed
+-- Replies where nothing failed.
 use Rattle.std.specs.Prelude.{⊤}
 use Rattle.wire_lines.specs.Reply.{Replied, refused}
 use Rattle.wire_lines.specs.Refusal.{by_disk, by_number, no_memory}

@@ -1,4 +1,4 @@
--- the transcript of a script: each line on the records so far
+-- The transcript of a script: each line on the records so far.
 use Rattle.std.specs.Prelude.{◌≡◌, ℕ, List, [], ◌++◌, length, map, slice_get, Some, ◌⊎◌}
 use Rattle.std.specs.List.{enumerate_from, flat_map}
 use Rattle.journal_records.specs.declared.records.Record.{Record}

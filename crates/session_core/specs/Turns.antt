@@ -1,4 +1,4 @@
--- the turns of a script: its lines in blocks, each a session of its own
+-- The turns of a script: its lines in blocks, each a session of its own.
 use Rattle.std.specs.Prelude.{ℕ, List, [], ◌∷◌, Result, Ok, Err, Option, None, Bool, true, false, if◌then◌else◌}
 use Rattle.std.specs.List.{flat_map, onto_first}
 use Rattle.wire_lines.specs.Lines.{lines_of}

@@ -1,4 +1,4 @@
--- what the code of a session keeps
+-- What the code of a session keeps.
 use Rattle.std.specs.Prelude.{◌≡◌, ℕ, ◌<◌, List, [], ◌∷◌, ◌++◌, length, take, Option, None, Result, Ok, Err, Bool, true, false, MatchBool}
 use Rattle.fz_outside.specs.Faults.{HasRisen}
 use Rattle.fz_outside.specs.declared.Failed.{Failed}

@@ -12,7 +12,7 @@ use Rattle.fz_ast.specs.Types.{ArrowT, BagT, BangT, NumT, TextT, Ty, UnitT, Unli
 use Rattle.fz_ast.specs.declared.name.Name.{Name}
 use Rattle.fz_ast.specs.declared.span.Span.{Span}
 use Rattle.linear_types.specs.Inferred as rules
-use Rattle.linear_types.specs.Inferred.{Has, Refused}
+use Rattle.linear_types.specs.Inferred.{Has, Untyped}
 use Rattle.linear_types.specs.declared.places.EnvFault.TheVariants.{Range as OutOfRange, NoMemory as Wanting}
 use Rattle.typing_rows.specs.Parts.{AreParts, IsTyped, taken_and_given}
 use Rattle.typing_rows.specs.Says.{IsCauseAt, IsFaultOf, IsRowFault, IsWanted, fault_at}
@@ -69,7 +69,7 @@ too_sensitive_elsewhere : (x : Name) (r : Sens) → IsRowFault types (TooSensiti
 too_sensitive_elsewhere x r f = elsewhere (cc f.2)
 
 -- a fault isn't said of a term that has a type, and memory may always be wanting
-no_fault : (IsFaultOf types (Unbound here) (Has NumT []) → ⊥) × IsFaultOf types (Unbound here) (Refused (rules.Unbound here)) × IsFaultOf types NoMemory (Has NumT [])
+no_fault : (IsFaultOf types (Unbound here) (Has NumT []) → ⊥) × IsFaultOf types (Unbound here) (Untyped (rules.Unbound here)) × IsFaultOf types NoMemory (Has NumT [])
 no_fault = ((λ f. f), refl, tt)
 
 -- range is told at the term, where some of its sensitivities are out of range

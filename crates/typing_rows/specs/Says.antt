@@ -13,7 +13,7 @@ use Rattle.linear_types.specs.Places.{AreAlike, IsGiven, distances}
 use Rattle.linear_types.specs.declared.places.EnvFault.{EnvFault}
 use Rattle.linear_types.specs.declared.places.EnvFault.TheVariants.{Range as OutOfRange, NoMemory as Wanting}
 use Rattle.linear_types.specs.Sensitivities.{Sensitivities}
-use Rattle.linear_types.specs.Inferred.{Fault, Inferred, Has, Refused, any_out}
+use Rattle.linear_types.specs.Inferred.{Fault, Inferred, Has, Untyped, any_out}
 use Rattle.linear_types.specs.Inferred as rules
 use Rattle.typing_rows.specs.declared.clause.Wanted.{Wanted}
 use Rattle.typing_rows.specs.declared.clause.Wanted.TheVariants.{Exactly, WithPair, Tensor, Sum, Arrow, Bang, Bag, UnlimitedArrow, NumberOrText}
@@ -52,13 +52,13 @@ IsRowFault T NoMemory f = ⊤
 -- the verdict is this refusal, unless memory is wanted
 abbrev pub IsFaultOf : List Ty → RowFault → Inferred → Type 0
 IsFaultOf T NoMemory v = ⊤
-IsFaultOf T r (Refused f) = IsRowFault T r f
+IsFaultOf T r (Untyped f) = IsRowFault T r f
 IsFaultOf T r (Has A D) = ⊥
 
 -- the code's answer is the verdict, or memory is wanted
 abbrev pub Says : List Ty → Result Judged RowFault → Inferred → Type 0
 Says T (Ok j) (Has A D) = IsFine T j A D
-Says T (Ok j) (Refused f) = ⊥
+Says T (Ok j) (Untyped f) = ⊥
 Says T (Err r) v = IsFaultOf T r v
 
 -- sensitivities that are given, or out of range at the term s, or memory is wanted

@@ -3,7 +3,7 @@ ghost use Rattle.std.specs.Prelude.{◌≡◌, ◌<◌, length, List, IfOk, IfEr
 ghost use Rattle.fz_ast.specs.Types.{Ty, NumT, TextT, UnitT, BoolT, WithT, BagT, UnlimitedT, WellFormed, formed, same_type};
 ghost use Rattle.fz_ast.specs.TypeNodes.{type_at, type_of, IsKnownType, HasBang};
 ghost use Rattle.fz_ast.specs.Arena.{Grows};
-ghost use Rattle.linear_types.specs.Inferred.{Inferred, Refused, Mismatch, Exactly, need_formed};
+ghost use Rattle.linear_types.specs.Inferred.{Inferred, Untyped, Mismatch, Exactly, need_formed};
 ghost use Rattle.linear_types.specs.Rule.{halves};
 ghost use Rattle.typing_rows.specs.Parts.{IsTyped, AreParts};
 ghost use Rattle.typing_rows.specs.Says.{IsFaultOf};
@@ -167,7 +167,7 @@ pub fn written(arena: &Arena, u: Span, t: u32) -> Result<(), RowFault>
 
 // The fault of a part at `span` whose type number is `found`, where another type was wanted.
 fn mismatch(span: Span, found: u32, wanted: Result<u32, NoMemory>) -> RowFault
-    ensures { (T U : List Ty) (A : Ty) → found < length T → Grows T U → IfOk wanted (λ t. IsTyped U t A) → IsFaultOf U result (Refused (Mismatch span (type_at T found) (Exactly A))) }
+    ensures { (T U : List Ty) (A : Ty) → found < length T → Grows T U → IfOk wanted (λ t. IsTyped U t A) → IsFaultOf U result (Untyped (Mismatch span (type_at T found) (Exactly A))) }
 {
     match wanted {
         Ok(t) => RowFault::Mismatch {
@@ -185,7 +185,7 @@ pub fn not_form(arena: &mut Arena, span: Span, found: u32, form: TypeForm) -> Ro
     requires known { IsKnownType (length arena.old) form }
     requires bang { HasBang form }
     ensures grows { Grows arena.old arena.new }
-    ensures is { IsFaultOf arena.new result (Refused (Mismatch span (type_at arena.old found) (Exactly (type_of (type_at arena.old) form)))) }
+    ensures is { IsFaultOf arena.new result (Untyped (Mismatch span (type_at arena.old found) (Exactly (type_of (type_at arena.old) form)))) }
 {
     let wanted = arena.intern(form);
     mismatch(span, found, wanted)
@@ -195,7 +195,7 @@ pub fn not_form(arena: &mut Arena, span: Span, found: u32, form: TypeForm) -> Ro
 pub fn not_truth(arena: &mut Arena, span: Span, found: u32) -> RowFault
     requires found_known { found < length arena.old }
     ensures grows { Grows arena.old arena.new }
-    ensures is { IsFaultOf arena.new result (Refused (Mismatch span (type_at arena.old found) (Exactly BoolT))) }
+    ensures is { IsFaultOf arena.new result (Untyped (Mismatch span (type_at arena.old found) (Exactly BoolT))) }
 {
     let wanted = truth(arena);
     mismatch(span, found, wanted)
@@ -205,7 +205,7 @@ pub fn not_truth(arena: &mut Arena, span: Span, found: u32) -> RowFault
 pub fn not_number_pair(arena: &mut Arena, span: Span, found: u32) -> RowFault
     requires found_known { found < length arena.old }
     ensures grows { Grows arena.old arena.new }
-    ensures is { IsFaultOf arena.new result (Refused (Mismatch span (type_at arena.old found) (Exactly (WithT NumT NumT)))) }
+    ensures is { IsFaultOf arena.new result (Untyped (Mismatch span (type_at arena.old found) (Exactly (WithT NumT NumT)))) }
 {
     let wanted = number_pair(arena);
     mismatch(span, found, wanted)
@@ -215,7 +215,7 @@ pub fn not_number_pair(arena: &mut Arena, span: Span, found: u32) -> RowFault
 pub fn not_number_bag(arena: &mut Arena, span: Span, found: u32) -> RowFault
     requires found_known { found < length arena.old }
     ensures grows { Grows arena.old arena.new }
-    ensures is { IsFaultOf arena.new result (Refused (Mismatch span (type_at arena.old found) (Exactly (BagT NumT)))) }
+    ensures is { IsFaultOf arena.new result (Untyped (Mismatch span (type_at arena.old found) (Exactly (BagT NumT)))) }
 {
     let wanted = number_bag(arena);
     mismatch(span, found, wanted)
@@ -226,7 +226,7 @@ pub fn not_test(arena: &mut Arena, span: Span, found: u32, a: u32) -> RowFault
     requires found_known { found < length arena.old }
     requires a_known { a < length arena.old }
     ensures grows { Grows arena.old arena.new }
-    ensures is { IsFaultOf arena.new result (Refused (Mismatch span (type_at arena.old found) (Exactly (UnlimitedT (type_at arena.old a) BoolT)))) }
+    ensures is { IsFaultOf arena.new result (Untyped (Mismatch span (type_at arena.old found) (Exactly (UnlimitedT (type_at arena.old a) BoolT)))) }
 {
     let wanted = test_type(arena, a);
     mismatch(span, found, wanted)

@@ -6,7 +6,7 @@ use Rattle.fz_frac.specs.Lowest.{lowest}
 use Rattle.metric_values.specs.Distances.{distance_between}
 use Rattle.metric_values.specs.Values.{Value}
 use Rattle.run_values.specs.Parts.{first_in, second_in}
-use Rattle.value_distance.specs.Halves.{some_wide}
+use Rattle.value_distance.specs.Widths.{some_wide}
 use Rattle.value_distance.specs.declared.dist.Dist.{Dist}
 use Rattle.value_distance.specs.declared.dist.Dist.TheVariants.{Finite, Inf as Endless}
 use Rattle.value_distance.specs.declared.dist.DistFault.{DistFault}

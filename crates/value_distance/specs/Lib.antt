@@ -1,3 +1,3 @@
 pub mod Order
-pub mod Halves
+pub mod Widths
 pub mod Answers

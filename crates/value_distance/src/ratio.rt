@@ -3,7 +3,7 @@ ghost use Rattle.std.specs.Prelude.{◌≡◌, ◌<◌, ◌≤◌, ◌↔◌, If
 ghost use Rattle.std.specs.Int.{IsGcd};
 ghost use Rattle.fz_frac.specs.Distance.{Fin};
 ghost use Rattle.fz_frac.specs.Lowest.{gcd, lowest};
-ghost use Rattle.value_distance.specs.Halves.{greatest_half, has_wide_half};
+ghost use Rattle.value_distance.specs.Widths.{greatest_of_63_bits, is_wide};
 
 /// The fraction `p/q` in lowest terms; zero is 0/1.
 #[derive(Clone, Copy, PartialEq, Eq)]
@@ -12,7 +12,7 @@ pub struct Ratio {
     pub q: u64,
     pub ghost above_zero: { 0 < q },
     pub ghost lowest: { gcd p q ≡ 1 },
-    pub ghost narrow: { (p ≤ greatest_half) × (q ≤ greatest_half) },
+    pub ghost narrow: { (p ≤ greatest_of_63_bits) × (q ≤ greatest_of_63_bits) },
 }
 
 // Euclid's algorithm.
@@ -34,7 +34,7 @@ impl Ratio {
     pub fn new(p: u128, q: u128) -> Option<Ratio>
         requires { 0 < q }
         ensures exact { IfSome result (λ r. Fin r.p r.q ≡ lowest (Fin p q)) }
-        ensures range { IsNone result ↔ IsTrue (has_wide_half (Fin p q)) }
+        ensures range { IsNone result ↔ IsTrue (is_wide (Fin p q)) }
     {
         let g = common_divisor(p, q);
         let (n, d) = (p / g, q / g);

@@ -14,7 +14,7 @@ use Rattle.query_server.specs.Run.{IsScriptDue}
 use Rattle.catalog_loading.specs.Loaded.{entry_at, owner_name_at, header_of}
 use Rattle.query_server.specs.Opened.{AreOpened, IsRefusalDue, IsUnopened}
 use Rattle.query_server.specs.Shelves.{Shelf, bytes_on}
-use Rattle.query_server.specs.Due.{IsPrefix, IsToWrite, IsStopLine, IsWrittenAt}
+use Rattle.query_server.specs.Due.{IsBeginning, IsToWrite, IsStopLine, IsWrittenAt}
 use Rattle.query_server.specs.Status.{disk_text, memory_text}
 use Rattle.query_server.specs.declared.end.Status.{Status}
 use Rattle.query_server.specs.declared.end.Status.TheVariants.{Done, Fault, DiskFault, NoMemory}
@@ -74,7 +74,7 @@ row_short text (inr (inl is)) = let e : length text ≡ length row_without = ap 
 row_short text (inr (inr (inl is))) = let e : length text ≡ length row_lost = ap length is in omega (arith, lost_length)
 row_short text (inr (inr (inr is))) = let e : length text ≡ length row_failed = ap length is in omega (arith, failed_length)
 
-prefix_short : (text whole : List ℕ) → IsPrefix text whole → length whole < 64 → length text < 64
+prefix_short : (text whole : List ℕ) → IsBeginning text whole → length whole < 64 → length text < 64
 prefix_short text whole (rest, is) short =
     let e : length whole ≡ length (text ++ rest) = ap length is in
     omega (arith, length-append text rest)

@@ -1,4 +1,4 @@
--- what the row's files are read as
+-- What the row's files are read as.
 use Rattle.std.specs.Prelude.{◌≡◌, ℕ, pos, List, [], ◌∷◌, codes, replicate, Some}
 use Rattle.budget_journal.specs.Journals.{Stands}
 use Rattle.fz_ast.specs.declared.row.Column.TheVariants.{Num}

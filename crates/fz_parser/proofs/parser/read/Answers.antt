@@ -1,6 +1,6 @@
 use Rattle.std.proofs.Common.{◌≡◌, ◌<◌, arith, length, reverse}
 use Rattle.fz_parser.specs.Kept.{state_of}
-use Rattle.fz_parser.proofs.Stacks.{class_at, class_end, class_below, empty_before, refuses_before, wanted_before, wanted_fits, wanted_on, wanted_sound, empty_end, refuses_end, wants_end, starting}
+use Rattle.fz_parser.proofs.Stacks.{class_at, class_end, class_below, empty_before, dead_end_before, wanted_before, wanted_fits, wanted_on, wanted_sound, empty_end, dead_end_last, wants_end, starting}
 use Rattle.fz_parser.proofs.parser.read.Goals as goal
 
 pub loop-place-init : goal.loop-place-init
@@ -17,10 +17,10 @@ returns-in-Empty-clause-fault c =
     empty_before c.args.tokens.now c.loop-place.place c.index-tokens-place.result _ (reverse c.settle.new.stack.items) (state_of c.settle.new.reader) l c.index-tokens-place.is c.in-Empty.is
     (c.in_ok-settle.ensures.outcome _ _ (class_at c.args.tokens.now c.loop-place.place _ c.index-tokens-place.result l c.index-tokens-place.is c.class_of-class.ensures) c.loop-place.invariant.at)
 
-pub returns-in-Refuses-clause-fault : goal.returns-in-Refuses-clause-fault
-returns-in-Refuses-clause-fault c =
+pub returns-in-DeadEnd-clause-fault : goal.returns-in-DeadEnd-clause-fault
+returns-in-DeadEnd-clause-fault c =
     let l : c.loop-place.place < length c.args.tokens.now = omega arith in
-    refuses_before c.args.tokens.now c.loop-place.place c.index-tokens-place.result _ (reverse c.settle.new.stack.items) (state_of c.settle.new.reader) l c.index-tokens-place.is c.in-Refuses.is
+    dead_end_before c.args.tokens.now c.loop-place.place c.index-tokens-place.result _ (reverse c.settle.new.stack.items) (state_of c.settle.new.reader) l c.index-tokens-place.is c.in-DeadEnd.is
     (c.in_ok-settle.ensures.outcome _ _ (class_at c.args.tokens.now c.loop-place.place _ c.index-tokens-place.result l c.index-tokens-place.is c.class_of-class.ensures) c.loop-place.invariant.at)
 
 pub returns-then-not-may_stand-clause-fault : goal.returns-then-not-may_stand-clause-fault
@@ -49,10 +49,10 @@ returns-in-Empty-2-clause-term c =
     empty_end c.args.tokens.now c.loop-place.place _ (reverse c.settle-2.new.stack.items) c.settle-2.new.reader n c.in-Empty-2.is c.in_ok-settle-2.ensures.kept
     (c.in_ok-settle-2.ensures.outcome _ _ (class_end c.args.tokens.now c.loop-place.place (omega arith)) c.loop-place.invariant.at)
 
-pub returns-in-Refuses-2-clause-fault : goal.returns-in-Refuses-2-clause-fault
-returns-in-Refuses-2-clause-fault c =
+pub returns-in-DeadEnd-2-clause-fault : goal.returns-in-DeadEnd-2-clause-fault
+returns-in-DeadEnd-2-clause-fault c =
     let n : c.loop-place.place ≡ length c.args.tokens.now = omega arith in
-    refuses_end c.args.tokens.now c.loop-place.place _ (reverse c.settle-2.new.stack.items) (state_of c.settle-2.new.reader) n c.in-Refuses-2.is
+    dead_end_last c.args.tokens.now c.loop-place.place _ (reverse c.settle-2.new.stack.items) (state_of c.settle-2.new.reader) n c.in-DeadEnd-2.is
     (c.in_ok-settle-2.ensures.outcome _ _ (class_end c.args.tokens.now c.loop-place.place (omega arith)) c.loop-place.invariant.at)
 
 pub returns-clause-fault : goal.returns-clause-fault

@@ -2,7 +2,7 @@ use Rattle.std.proofs.Common.{◌∙◌, ◌++◌, List, ℕ, ap, subst}
 use Rattle.std.specs.Prelude.{codes}
 use Rattle.std.specs.Io.KnownBytes.{append_known}
 use Rattle.fz_outside.proofs.Known.{append_known-++}
-use Rattle.query_server.specs.Due.{IsPrefix}
+use Rattle.query_server.specs.Due.{IsBeginning}
 use Rattle.query_server.proofs.Prefixes.{prefix_first, prefix_second, prefix_third, on_err, on_err_any}
 use Rattle.query_server.proofs.writing.write_refused.Goals as goal
 
@@ -15,7 +15,7 @@ pub returns-in_err-put_piece-2-clause-err : goal.returns-in_err-put_piece-2-clau
 returns-in_err-put_piece-2-clause-err g c =
     let e = c.in_err-put_piece-2.ensures.err in
     let old = g.K.Sink.contents c.args.sink.now in
-    let prefix : IsPrefix e.0 c.args.name.now = subst (λ (line : List ℕ). IsPrefix e.0 line) c.as_bytes.ensures.value e.1 in
+    let prefix : IsBeginning e.0 c.args.name.now = subst (λ (line : List ℕ). IsBeginning e.0 line) c.as_bytes.ensures.value e.1 in
     on_err_any c.from_residual-in_err-put_piece-2.result _ (
       codes "refused " ++ e.0,
       prefix_second e.0 (codes "refused ") c.args.name.now (codes "\n") prefix,
