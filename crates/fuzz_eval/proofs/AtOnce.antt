@@ -6,7 +6,7 @@ use Rattle.fz_ast.specs.declared.term.Binary.{Binary}
 use Rattle.fz_ast.specs.declared.term.Binary.TheVariants.{Pair, With, App, Plus, Minus, AtMost, Equal, Union, Map, Filter, Split}
 use Rattle.metric_law.specs.Means.{MeansIn, Rules}
 use Rattle.metric_values.specs.Values.{Env, Value}
-use Rattle.fuzz_eval.specs.Operands.{GivesAtOnce, GivesSign, StandsFor, TakesApart}
+use Rattle.fuzz_eval.specs.Operands.{GivesAtOnce, GivesSign, MeansAtOnce, TakesApart}
 use Rattle.fuzz_eval.specs.Steps.{Gives2, HasFormWithin, HasValueWithin}
 use Rattle.fuzz_eval.proofs.TwoParts.{binary_means, first_has, pair_has, pair_inside, pair_means, second_has}
 
@@ -23,7 +23,7 @@ sign_gives n Map u w v g = absurd g
 sign_gives n Filter u w v g = absurd g
 sign_gives n Split u w v g = absurd g
 
-stands_here : (n : ℕ) (γ : Env) (t : Term) (v : Value) → HasValueWithin n γ t → StandsFor γ t v → MeansIn n γ t v
+stands_here : (n : ℕ) (γ : Env) (t : Term) (v : Value) → HasValueWithin n γ t → MeansAtOnce γ t v → MeansIn n γ t v
 stands_here zero γ t v k h = absurd k.does
 stands_here (suc n) γ t v k h = h n
 

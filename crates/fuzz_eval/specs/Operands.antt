@@ -10,13 +10,13 @@ use Rattle.metric_values.specs.Values.{Bind, Env, NumV, TextV, Value, truth}
 use Rattle.run_values.specs.Parts.{first_in, second_in}
 
 -- the term has this value by derivations of every height
-abbrev pub StandsFor : Env → Term → Value → Type 0
-StandsFor γ t v = (n : ℕ) → MeansIn (suc n) γ t v
+abbrev pub MeansAtOnce : Env → Term → Value → Type 0
+MeansAtOnce γ t v = (n : ℕ) → MeansIn (suc n) γ t v
 
 -- what is told about a term's value, where something is
 abbrev pub IsOperand : Env → Term → Option Value → Type 0
 IsOperand γ t None = ⊤
-IsOperand γ t (Some v) = StandsFor γ t v
+IsOperand γ t (Some v) = MeansAtOnce γ t v
 
 -- a sign between two numbers or texts gives v
 abbrev pub GivesSign : Binary → Value → Value → Value → Type 0
@@ -30,8 +30,8 @@ GivesSign o a b v = ⊥
 
 -- a sign gives v, its operands having values by derivations of every height
 abbrev pub GivesAtOnce : Env → Binary → Term → Term → Value → Type 0
-GivesAtOnce γ o a b v = (u w : Value) × StandsFor γ a u × StandsFor γ b w × GivesSign o u w v
+GivesAtOnce γ o a b v = (u w : Value) × MeansAtOnce γ a u × MeansAtOnce γ b w × GivesSign o u w v
 
 -- δ is γ with two more names, for the halves of what the term stands for
 abbrev pub TakesApart : Env → Name → Name → Term → Env → Type 0
-TakesApart γ x y e δ = (v : Value) × StandsFor γ e v × (δ ≡ Bind y (second_in v) (Bind x (first_in v) γ))
+TakesApart γ x y e δ = (v : Value) × MeansAtOnce γ e v × (δ ≡ Bind y (second_in v) (Bind x (first_in v) γ))

@@ -6,7 +6,7 @@ use Rattle.metric_values.specs.Cells.{cell_at, from_column, row_at}
 use Rattle.metric_values.specs.Values.{BagV, BangF, BangV, Bind, Empty, Flat, InlF, InlV, InrV, NumF, NumV, PairF, PairV, TextF, TextV, UnitF, UnitV, truth, value_of}
 use Rattle.run_values.specs.Flats.{IsFlat, flat_of, flats_of}
 use Rattle.run_values.specs.Parts.{elements, number_or_none, rebound, side_in, text_in}
-use Rattle.run_values.specs.Founds.{IsOpened, plain_found}
+use Rattle.run_values.specs.Founds.{AreHalvesNamed, plain_found}
 use Rattle.run_values.specs.Sizes.{env_size, value_size}
 use Rattle.run_values.specs.Views.{IsRowPart, IsTextCell, IsValueForm, text_bytes, form_view}
 use Rattle.run_values.specs.declared.value.Form.{Form}
@@ -57,7 +57,7 @@ pair_not_plain : plain_found (Some (PairV (NumV (pos 5)) UnitV)) ≡ None
 pair_not_plain = refl
 
 -- the second name is the innermost, also where both are one
-second_innermost : IsOpened (Bind (codes "r") (PairV (NumV (pos 1)) UnitV) Empty) (codes "r") (codes "x") (codes "x")
+second_innermost : AreHalvesNamed (Bind (codes "r") (PairV (NumV (pos 1)) UnitV) Empty) (codes "r") (codes "x") (codes "x")
     (Bind (codes "x") UnitV (Bind (codes "x") (NumV (pos 1)) (Bind (codes "r") (PairV (NumV (pos 1)) UnitV) Empty)))
 second_innermost = (PairV (NumV (pos 1)) UnitV, refl, refl)
 

@@ -38,5 +38,5 @@ plain_of (Text s) = Some (TextV s.now)
 plain_of Other = None
 
 -- δ is γ with two more names, for the halves of what this name stands for
-abbrev pub IsOpened : Env → Name → Name → Name → Env → Type 0
-IsOpened γ r x y δ = (v : Value) × (find γ r ≡ Some v) × (δ ≡ Bind y (second_in v) (Bind x (first_in v) γ))
+abbrev pub AreHalvesNamed : Env → Name → Name → Name → Env → Type 0
+AreHalvesNamed γ r x y δ = (v : Value) × (find γ r ≡ Some v) × (δ ≡ Bind y (second_in v) (Bind x (first_in v) γ))

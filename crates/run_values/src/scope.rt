@@ -3,7 +3,7 @@ ghost use Rattle.std.specs.Prelude.{◌≡◌, bytes_eq, IfOk, IfSome, IsSome, O
 ghost use Rattle.fz_ast.specs.Names.{name_of};
 ghost use Rattle.metric_law.specs.Means.{find};
 ghost use Rattle.metric_values.specs.Values.{Bind, Empty};
-ghost use Rattle.run_values.specs.Founds.{IsFoundInPair, IsOpened, plain_found, plain_of, value_found};
+ghost use Rattle.run_values.specs.Founds.{IsFoundInPair, AreHalvesNamed, plain_found, plain_of, value_found};
 ghost use Rattle.run_values.specs.Parts.{IsPair, first_in, rebound, second_in};
 
 use crate::plain::Plain;
@@ -106,7 +106,7 @@ impl Scope {
         first: &Name,
         second: &Name,
     ) -> Result<Option<Scope>, NoMemory>
-        ensures { IfOk result (λ o. IfSome o (λ s. IsOpened self.now (name_of name.now) (name_of first.now) (name_of second.now) s)) }
+        ensures { IfOk result (λ o. IfSome o (λ s. AreHalvesNamed self.now (name_of name.now) (name_of first.now) (name_of second.now) s)) }
     {
         let Link::Element(rc) = &self.link else {
             return Ok(None);

@@ -9,7 +9,7 @@ use Rattle.fz_frac.specs.Lowest.{gcd, gcd_in}
 use Rattle.metric_values.specs.Distances.{bag_distance}
 use Rattle.metric_values.specs.Values.{BagV, BangF, BangV, InlF, InlV, InrF, InrV, NumF, NumV, PairF, PairV, TextF, TextV, UnitF, UnitV}
 use Rattle.value_distance.specs.Answers.{IsDistanceAnswer}
-use Rattle.value_distance.specs.Widths.{is_wide, some_wide}
+use Rattle.value_distance.specs.Widths.{is_too_wide, some_wide}
 use Rattle.value_distance.specs.declared.dist.Dist.TheVariants.{Inf as Endless}
 use Rattle.value_distance.specs.declared.dist.DistFault.TheVariants.{Range}
 use Rattle.value_distance.specs.Order.{element_cmp}
@@ -41,19 +41,19 @@ other_side : element_cmp (InlF UnitF) (InrF UnitF) ≡ Less
 other_side = refl
 
 -- a numerator or denominator at the greatest, one over it, and one that is reduced
-widest_fits : is_wide (Fin 9223372036854775807 1) ≡ false
+widest_fits : is_too_wide (Fin 9223372036854775807 1) ≡ false
 unfolding gcd gcd_in
 widest_fits = refl
 
-next_is_wide : is_wide (Fin 9223372036854775808 1) ≡ true
+next_is_wide : is_too_wide (Fin 9223372036854775808 1) ≡ true
 unfolding gcd gcd_in
 next_is_wide = refl
 
-reduced_fits : is_wide (Fin 18446744073709551614 2) ≡ false
+reduced_fits : is_too_wide (Fin 18446744073709551614 2) ≡ false
 unfolding gcd gcd_in
 reduced_fits = refl
 
-endless_fits : is_wide Inf ≡ false
+endless_fits : is_too_wide Inf ≡ false
 endless_fits = refl
 
 -- a part that is wide makes the whole so, also beside a part at no finite distance

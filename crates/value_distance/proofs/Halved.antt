@@ -8,7 +8,7 @@ use Rattle.fz_frac.specs.Distance.{Distance, Fin, Inf, add, den, greater, is_le,
 use Rattle.fz_frac.specs.Lowest.{gcd, lowest}
 use Rattle.fz_frac.proofs.Laws.{add-mono, den_of, den_pos, is_le-yes, le-is_le, mul-mono, ≈-refl, ≈-sym, ≈-trans, ⊑-refl, ⊑-trans}
 use Rattle.fz_frac.proofs.Lowest.{coprime, gcd_is, same_form, lowest as lowest_of}
-use Rattle.value_distance.specs.Widths.{greatest_of_63_bits, fits_63_bits, is_wide}
+use Rattle.value_distance.specs.Widths.{greatest_of_63_bits, fits_63_bits, is_too_wide}
 
 reduced_is : (p q n d g : ℕ) → p ≡ g * n → q ≡ g * d → 0 < d → 0 < q → Fin n d ≈ Fin p q
 reduced_is p q n d g a b h z =
@@ -84,13 +84,13 @@ lowest_by p q g z i =
     let e : gcd p q ≡ g = same_from_IsGcd p q (gcd p q) g (gcd_is p q) i in
     let f : den q ≡ q = den_of q z in rw (f, e) refl
 
-pub narrow_by : (p q g : ℕ) → 0 < q → IsGcd p q g → p / g ≤ greatest_of_63_bits → q / g ≤ greatest_of_63_bits → is_wide (Fin p q) ≡ false
+pub narrow_by : (p q g : ℕ) → 0 < q → IsGcd p q g → p / g ≤ greatest_of_63_bits → q / g ≤ greatest_of_63_bits → is_too_wide (Fin p q) ≡ false
 narrow_by p q g z i h k = subst (λ d. not (fits_63_bits d) ≡ false) (sym (lowest_by p q g z i)) (go (p / g) (q / g) h k)
   where
     go : (a b : ℕ) → a ≤ greatest_of_63_bits → b ≤ greatest_of_63_bits → not (nat_le a greatest_of_63_bits && nat_le b greatest_of_63_bits) ≡ false
     go a b h k = grind (arith, nat_tests)
 
-pub wide_by : (p q g : ℕ) → 0 < q → IsGcd p q g → (greatest_of_63_bits < p / g) ⊎ (greatest_of_63_bits < q / g) → is_wide (Fin p q) ≡ true
+pub wide_by : (p q g : ℕ) → 0 < q → IsGcd p q g → (greatest_of_63_bits < p / g) ⊎ (greatest_of_63_bits < q / g) → is_too_wide (Fin p q) ≡ true
 wide_by p q g z i h = subst (λ d. not (fits_63_bits d) ≡ true) (sym (lowest_by p q g z i)) (go (p / g) (q / g) h)
   where
     go : (a b : ℕ) → (greatest_of_63_bits < a) ⊎ (greatest_of_63_bits < b) → not (nat_le a greatest_of_63_bits && nat_le b greatest_of_63_bits) ≡ true

@@ -16,7 +16,7 @@ use Rattle.value_distance.specs.declared.dist.Dist.TheVariants.{Finite, Inf as E
 use Rattle.value_distance.specs.declared.dist.DistFault.{DistFault}
 use Rattle.value_distance.specs.declared.dist.DistFault.TheVariants.{Range, NoMemory as OutOfMemory}
 use Rattle.value_distance.specs.Answers.{AreHalves, IsDistanceAnswer, answered}
-use Rattle.value_distance.specs.Widths.{greatest_of_63_bits, fits_63_bits, is_wide, some_wide}
+use Rattle.value_distance.specs.Widths.{greatest_of_63_bits, fits_63_bits, is_too_wide, some_wide}
 use Rattle.value_distance.proofs.Halved.{lowest_greater, lowest_product, lowest_sum}
 
 pub number_of : (v : Value) → TypedGround NumT v → IsNum v
@@ -67,12 +67,12 @@ not_wide true c h k = let e = h refl in cc
 not_wide false c h k = refl
 
 -- where the distance alone decides
-pub answered_by : (A : Ty) (v w : Value) (d : Distance) (o : Option Dist) → lowest d ≡ lowest (distance_between A v w) → some_wide A v w ≡ is_wide (distance_between A v w) → IfSome o (λ x. answered x ≡ lowest d) → (IsNone o ↔ IsTrue (is_wide d)) → IsDistanceAnswer (ok_or o Range) A v w
+pub answered_by : (A : Ty) (v w : Value) (d : Distance) (o : Option Dist) → lowest d ≡ lowest (distance_between A v w) → some_wide A v w ≡ is_too_wide (distance_between A v w) → IfSome o (λ x. answered x ≡ lowest d) → (IsNone o ↔ IsTrue (is_too_wide d)) → IsDistanceAnswer (ok_or o Range) A v w
 answered_by A v w d (Some x) e f g h =
-    let k : is_wide d ≡ is_wide (distance_between A v w) = ap (λ m. not (fits_63_bits m)) e in
-    let n : is_wide d ≡ false = not_wide (is_wide d) true h.1 refl in (g ∙ e, f ∙ sym k ∙ n)
+    let k : is_too_wide d ≡ is_too_wide (distance_between A v w) = ap (λ m. not (fits_63_bits m)) e in
+    let n : is_too_wide d ≡ false = not_wide (is_too_wide d) true h.1 refl in (g ∙ e, f ∙ sym k ∙ n)
 answered_by A v w d None e f g h =
-    let k : is_wide d ≡ is_wide (distance_between A v w) = ap (λ m. not (fits_63_bits m)) e in f ∙ sym k ∙ h.0 refl
+    let k : is_too_wide d ≡ is_too_wide (distance_between A v w) = ap (λ m. not (fits_63_bits m)) e in f ∙ sym k ∙ h.0 refl
 
 -- what code keeps fits
 kept_fits : (z : Dist) → fits_63_bits (answered z) ≡ true
@@ -82,15 +82,15 @@ kept_fits (Finite r) = let h = r.narrow in fit r.p r.q h.0 h.1
     fit a b h k = grind (arith, nat_tests)
 kept_fits Endless = refl
 
-kept_narrow : (z : Dist) (d : Distance) → answered z ≡ lowest d → is_wide d ≡ false
+kept_narrow : (z : Dist) (d : Distance) → answered z ≡ lowest d → is_too_wide d ≡ false
 kept_narrow z d e = ap (λ m. not (fits_63_bits m)) (sym e) ∙ ap not (kept_fits z)
 
 pub tensor_answer : (A B : Ty) (v w : Value) (x y : Dist) (o : Option Dist) → IsPair v → IsPair w → IsDistanceAnswer (Ok x) A (first_in v) (first_in w) → IsDistanceAnswer (Ok y) B (second_in v) (second_in w)
-    → IfSome o (λ z. answered z ≡ lowest (add (answered x) (answered y))) → (IsNone o ↔ IsTrue (is_wide (add (answered x) (answered y)))) → IsDistanceAnswer (ok_or o Range) (TensorT A B) v w
+    → IfSome o (λ z. answered z ≡ lowest (add (answered x) (answered y))) → (IsNone o ↔ IsTrue (is_too_wide (add (answered x) (answered y)))) → IsDistanceAnswer (ok_or o Range) (TensorT A B) v w
 tensor_answer A B (PairV a b) (PairV c d) x y o p q h k f g =
     answered_by (TensorT A B) (PairV a b) (PairV c d) (add (answered x) (answered y)) o
     ((λ i. lowest (add (h.0 i) (k.0 i))) ∙ lowest_sum (distance_between A a c) (distance_between B b d))
-    (λ i. h.1 i || k.1 i || is_wide (distance_between (TensorT A B) (PairV a b) (PairV c d)))
+    (λ i. h.1 i || k.1 i || is_too_wide (distance_between (TensorT A B) (PairV a b) (PairV c d)))
     f g
 tensor_answer A B v w x y o p q h k f g = cc
 
@@ -103,11 +103,11 @@ with_answer A B (PairV a b) (PairV c d) x y z p q h k e =
 with_answer A B v w x y z p q h k e = cc
 
 pub bang_answer : (r : Distance) (A : Ty) (v w : Value) (x : Dist) (o : Option Dist) → IsBangValue v → IsBangValue w → IsDistanceAnswer (Ok x) A (banged_in v) (banged_in w)
-    → IfSome o (λ z. answered z ≡ lowest (mul r (answered x))) → (IsNone o ↔ IsTrue (is_wide (mul r (answered x)))) → IsDistanceAnswer (ok_or o Range) (BangT r A) v w
+    → IfSome o (λ z. answered z ≡ lowest (mul r (answered x))) → (IsNone o ↔ IsTrue (is_too_wide (mul r (answered x)))) → IsDistanceAnswer (ok_or o Range) (BangT r A) v w
 bang_answer r A (BangV a) (BangV b) x o p q h f g =
     answered_by (BangT r A) (BangV a) (BangV b) (mul r (answered x)) o
     ((λ i. lowest (mul r (h.0 i))) ∙ lowest_product r (distance_between A a b))
-    (λ i. h.1 i || is_wide (distance_between (BangT r A) (BangV a) (BangV b)))
+    (λ i. h.1 i || is_too_wide (distance_between (BangT r A) (BangV a) (BangV b)))
     f g
 bang_answer r A v w x o p q h f g = cc
 
@@ -131,23 +131,23 @@ pub right_left_answer : (A B : Ty) (v w : Value) → v ≡ InrV (side_in v) → 
 right_left_answer A B (InrV a) (InlV b) p q = (refl, refl)
 right_left_answer A B v w p q = cc
 
-pub number_answer : (v w : Value) (n : ℕ) (o : Option Dist) → IsNum v → IsNum w → n ≡ gap (number_in v) (number_in w) → IfSome o (λ z. answered z ≡ lowest (Fin n 1)) → (IsNone o ↔ IsTrue (is_wide (Fin n 1))) → IsDistanceAnswer (ok_or o Range) NumT v w
+pub number_answer : (v w : Value) (n : ℕ) (o : Option Dist) → IsNum v → IsNum w → n ≡ gap (number_in v) (number_in w) → IfSome o (λ z. answered z ≡ lowest (Fin n 1)) → (IsNone o ↔ IsTrue (is_too_wide (Fin n 1))) → IsDistanceAnswer (ok_or o Range) NumT v w
 number_answer (NumV y) (NumV z) n o p q e f g = answered_by NumT (NumV y) (NumV z) (Fin n 1) o (λ i. lowest (Fin (e i) 1)) refl f g
 number_answer v w n o p q e f g = cc
 
-pub unit_answer : (v w : Value) (o : Option Dist) → v ≡ UnitV → w ≡ UnitV → IfSome o (λ z. answered z ≡ lowest (Fin 0 1)) → (IsNone o ↔ IsTrue (is_wide (Fin 0 1))) → IsDistanceAnswer (ok_or o Range) UnitT v w
+pub unit_answer : (v w : Value) (o : Option Dist) → v ≡ UnitV → w ≡ UnitV → IfSome o (λ z. answered z ≡ lowest (Fin 0 1)) → (IsNone o ↔ IsTrue (is_too_wide (Fin 0 1))) → IsDistanceAnswer (ok_or o Range) UnitT v w
 unit_answer UnitV UnitV o p q f g = answered_by UnitT UnitV UnitV (Fin 0 1) o refl refl f g
 unit_answer v w o p q f g = cc
 
-pub same_text_answer : (v w : Value) (o : Option Dist) → IsTextValue v → IsTextValue w → bytes_eq (text_in v) (text_in w) ≡ true → IfSome o (λ z. answered z ≡ lowest (Fin 0 1)) → (IsNone o ↔ IsTrue (is_wide (Fin 0 1))) → IsDistanceAnswer (ok_or o Range) TextT v w
+pub same_text_answer : (v w : Value) (o : Option Dist) → IsTextValue v → IsTextValue w → bytes_eq (text_in v) (text_in w) ≡ true → IfSome o (λ z. answered z ≡ lowest (Fin 0 1)) → (IsNone o ↔ IsTrue (is_too_wide (Fin 0 1))) → IsDistanceAnswer (ok_or o Range) TextT v w
 same_text_answer (TextV s) (TextV t) o p q e f g = answered_by TextT (TextV s) (TextV t) (Fin 0 1) o (ap (λ b. lowest (cond b none Inf)) (sym e)) refl f g
 same_text_answer v w o p q e f g = cc
 
 pub other_text_answer : (v w : Value) → IsTextValue v → IsTextValue w → bytes_eq (text_in v) (text_in w) ≡ false → IsDistanceAnswer (Ok Endless) TextT v w
-other_text_answer (TextV s) (TextV t) p q e = (ap (λ b. lowest (cond b none Inf)) (sym e), ap (λ b. is_wide (cond b none Inf)) e)
+other_text_answer (TextV s) (TextV t) p q e = (ap (λ b. lowest (cond b none Inf)) (sym e), ap (λ b. is_too_wide (cond b none Inf)) e)
 other_text_answer v w p q e = cc
 
-pub bag_answer : (A : Ty) (v w : Value) (n : ℕ) (o : Option Dist) → IsBag v → IsBag w → n ≡ bag_distance (elements v) (elements w) → IfSome o (λ z. answered z ≡ lowest (Fin n 1)) → (IsNone o ↔ IsTrue (is_wide (Fin n 1))) → IsDistanceAnswer (ok_or o Range) (BagT A) v w
+pub bag_answer : (A : Ty) (v w : Value) (n : ℕ) (o : Option Dist) → IsBag v → IsBag w → n ≡ bag_distance (elements v) (elements w) → IfSome o (λ z. answered z ≡ lowest (Fin n 1)) → (IsNone o ↔ IsTrue (is_too_wide (Fin n 1))) → IsDistanceAnswer (ok_or o Range) (BagT A) v w
 bag_answer A (BagV xs) (BagV ys) n o p q e f g = answered_by (BagT A) (BagV xs) (BagV ys) (Fin n 1) o (λ i. lowest (Fin (e i) 1)) refl f g
 bag_answer A v w n o p q e f g = cc
 
@@ -158,27 +158,27 @@ or_true true c = refl
 or_true false c = refl
 
 pub tensor_first_fault : (A B : Ty) (v w : Value) (e : DistFault) → IsPair v → IsPair w → IsDistanceAnswer (Err e) A (first_in v) (first_in w) → IsDistanceAnswer (Err e) (TensorT A B) v w
-tensor_first_fault A B (PairV a b) (PairV c d) Range p q h = λ i. h i || some_wide B b d || is_wide (distance_between (TensorT A B) (PairV a b) (PairV c d))
+tensor_first_fault A B (PairV a b) (PairV c d) Range p q h = λ i. h i || some_wide B b d || is_too_wide (distance_between (TensorT A B) (PairV a b) (PairV c d))
 tensor_first_fault A B (PairV a b) (PairV c d) OutOfMemory p q h = tt
 tensor_first_fault A B v w e p q h = cc
 
 pub tensor_second_fault : (A B : Ty) (v w : Value) (e : DistFault) → IsPair v → IsPair w → IsDistanceAnswer (Err e) B (second_in v) (second_in w) → IsDistanceAnswer (Err e) (TensorT A B) v w
-tensor_second_fault A B (PairV a b) (PairV c d) Range p q h = (λ i. some_wide A a c || h i || is_wide (distance_between (TensorT A B) (PairV a b) (PairV c d))) ∙ or_true (some_wide A a c) (is_wide (distance_between (TensorT A B) (PairV a b) (PairV c d)))
+tensor_second_fault A B (PairV a b) (PairV c d) Range p q h = (λ i. some_wide A a c || h i || is_too_wide (distance_between (TensorT A B) (PairV a b) (PairV c d))) ∙ or_true (some_wide A a c) (is_too_wide (distance_between (TensorT A B) (PairV a b) (PairV c d)))
 tensor_second_fault A B (PairV a b) (PairV c d) OutOfMemory p q h = tt
 tensor_second_fault A B v w e p q h = cc
 
 pub with_first_fault : (A B : Ty) (v w : Value) (e : DistFault) → IsPair v → IsPair w → IsDistanceAnswer (Err e) A (first_in v) (first_in w) → IsDistanceAnswer (Err e) (WithT A B) v w
-with_first_fault A B (PairV a b) (PairV c d) Range p q h = λ i. h i || some_wide B b d || is_wide (distance_between (WithT A B) (PairV a b) (PairV c d))
+with_first_fault A B (PairV a b) (PairV c d) Range p q h = λ i. h i || some_wide B b d || is_too_wide (distance_between (WithT A B) (PairV a b) (PairV c d))
 with_first_fault A B (PairV a b) (PairV c d) OutOfMemory p q h = tt
 with_first_fault A B v w e p q h = cc
 
 pub with_second_fault : (A B : Ty) (v w : Value) (e : DistFault) → IsPair v → IsPair w → IsDistanceAnswer (Err e) B (second_in v) (second_in w) → IsDistanceAnswer (Err e) (WithT A B) v w
-with_second_fault A B (PairV a b) (PairV c d) Range p q h = (λ i. some_wide A a c || h i || is_wide (distance_between (WithT A B) (PairV a b) (PairV c d))) ∙ or_true (some_wide A a c) (is_wide (distance_between (WithT A B) (PairV a b) (PairV c d)))
+with_second_fault A B (PairV a b) (PairV c d) Range p q h = (λ i. some_wide A a c || h i || is_too_wide (distance_between (WithT A B) (PairV a b) (PairV c d))) ∙ or_true (some_wide A a c) (is_too_wide (distance_between (WithT A B) (PairV a b) (PairV c d)))
 with_second_fault A B (PairV a b) (PairV c d) OutOfMemory p q h = tt
 with_second_fault A B v w e p q h = cc
 
 pub bang_fault : (r : Distance) (A : Ty) (v w : Value) (e : DistFault) → IsBangValue v → IsBangValue w → IsDistanceAnswer (Err e) A (banged_in v) (banged_in w) → IsDistanceAnswer (Err e) (BangT r A) v w
-bang_fault r A (BangV a) (BangV b) Range p q h = λ i. h i || is_wide (distance_between (BangT r A) (BangV a) (BangV b))
+bang_fault r A (BangV a) (BangV b) Range p q h = λ i. h i || is_too_wide (distance_between (BangT r A) (BangV a) (BangV b))
 bang_fault r A (BangV a) (BangV b) OutOfMemory p q h = tt
 bang_fault r A v w e p q h = cc
 
@@ -193,7 +193,7 @@ with_fault A B v w e p q (inr h) = with_second_fault A B v w e p q h
 -- what is returned at a type that is known by an equation, for parts that are known by equations
 
 pub tensor_returned : (T A B : Ty) (v w : Value) (x y : Dist) (o : Option Dist) (r : Result Dist DistFault) → T ≡ TensorT A B → TypedGround T v → TypedGround T w → AreHalves (Ok (x, y)) A B v w
-    → IfSome o (λ z. answered z ≡ lowest (add (answered x) (answered y))) → (IsNone o ↔ IsTrue (is_wide (add (answered x) (answered y)))) → r ≡ ok_or o Range → IsDistanceAnswer r T v w
+    → IfSome o (λ z. answered z ≡ lowest (add (answered x) (answered y))) → (IsNone o ↔ IsTrue (is_too_wide (add (answered x) (answered y)))) → r ≡ ok_or o Range → IsDistanceAnswer r T v w
 tensor_returned T A B v w x y o r e g h k m n q =
     let p = tensor_of A B v (subst (λ (X : Ty). TypedGround X v) e g) in
     let s = tensor_of A B w (subst (λ (X : Ty). TypedGround X w) e h) in
@@ -207,7 +207,7 @@ with_returned T A B v w x y z e g h k m =
     subst (λ (X : Ty). IsDistanceAnswer (Ok z) X v w) (sym e) (with_answer A B v w x y z p.0 s.0 k.0 k.1 m)
 
 pub bang_returned : (r : Distance) (A : Ty) (v w a b : Value) (x : Dist) (o : Option Dist) (s : Result Dist DistFault) → IsBangValue v → IsBangValue w → a ≡ banged_in v → b ≡ banged_in w → IsDistanceAnswer (Ok x) A a b
-    → IfSome o (λ z. answered z ≡ lowest (mul r (answered x))) → (IsNone o ↔ IsTrue (is_wide (mul r (answered x)))) → s ≡ ok_or o Range → IsDistanceAnswer s (BangT r A) v w
+    → IfSome o (λ z. answered z ≡ lowest (mul r (answered x))) → (IsNone o ↔ IsTrue (is_too_wide (mul r (answered x)))) → s ≡ ok_or o Range → IsDistanceAnswer s (BangT r A) v w
 bang_returned r A v w a b x o s p q e f h m n k =
     let inside = subst (λ (u : Value). IsDistanceAnswer (Ok x) A u (banged_in w)) e (subst (λ (u : Value). IsDistanceAnswer (Ok x) A a u) f h) in
     subst (λ (y : Result Dist DistFault). IsDistanceAnswer y (BangT r A) v w) (sym k) (bang_answer r A v w x o p q inside m n)

@@ -4,7 +4,7 @@ ghost use Rattle.fz_frac.specs.Distance.{Fin, Inf, add, greater, mul};
 ghost use Rattle.fz_frac.specs.Lowest.{lowest};
 ghost use Rattle.fz_frac.specs.Sens.{distance_of};
 ghost use Rattle.value_distance.specs.Answers.{answered};
-ghost use Rattle.value_distance.specs.Widths.{is_wide};
+ghost use Rattle.value_distance.specs.Widths.{is_too_wide};
 
 use crate::ratio::Ratio;
 use fz_ast::NoMemory;
@@ -38,7 +38,7 @@ impl From<NoMemory> for DistFault {
 fn finite(p: u128, q: u128) -> Option<Dist>
     requires { 0 < q }
     ensures exact { IfSome result (λ d. answered d ≡ lowest (Fin p q)) }
-    ensures range { IsNone result ↔ IsTrue (is_wide (Fin p q)) }
+    ensures range { IsNone result ↔ IsTrue (is_too_wide (Fin p q)) }
 {
     match Ratio::new(p, q) {
         Some(ratio) => Some(Dist::Finite(ratio)),
@@ -50,7 +50,7 @@ impl Dist {
     /// A whole number; `None` where it is wide.
     pub fn whole(n: u64) -> Option<Dist>
         ensures exact { IfSome result (λ d. answered d ≡ lowest (Fin n 1)) }
-        ensures range { IsNone result ↔ IsTrue (is_wide (Fin n 1)) }
+        ensures range { IsNone result ↔ IsTrue (is_too_wide (Fin n 1)) }
     {
         finite(n as u128, 1)
     }
@@ -58,7 +58,7 @@ impl Dist {
     /// The exact sum; `None` where it is wide.
     pub fn add(self, other: Dist) -> Option<Dist>
         ensures exact { IfSome result (λ d. answered d ≡ lowest (add (answered self) (answered other))) }
-        ensures range { IsNone result ↔ IsTrue (is_wide (add (answered self) (answered other))) }
+        ensures range { IsNone result ↔ IsTrue (is_too_wide (add (answered self) (answered other))) }
     {
         match (self, other) {
             (Dist::Finite(a), Dist::Finite(b)) => {
@@ -73,7 +73,7 @@ impl Dist {
     /// The exact product with a bang number, which is above 0; `None` where it is wide.
     pub fn times(self, r: Sens) -> Option<Dist>
         ensures exact { IfSome result (λ d. answered d ≡ lowest (mul (distance_of r) (answered self))) }
-        ensures range { IsNone result ↔ IsTrue (is_wide (mul (distance_of r) (answered self))) }
+        ensures range { IsNone result ↔ IsTrue (is_too_wide (mul (distance_of r) (answered self))) }
     {
         match (r, self) {
             (Sens::Finite(f), Dist::Finite(a)) => {

@@ -3,7 +3,7 @@ ghost use Rattle.std.specs.Prelude.{◌≡◌, ◌<◌, ◌≤◌, ◌↔◌, If
 ghost use Rattle.std.specs.Int.{IsGcd};
 ghost use Rattle.fz_frac.specs.Distance.{Fin};
 ghost use Rattle.fz_frac.specs.Lowest.{gcd, lowest};
-ghost use Rattle.value_distance.specs.Widths.{greatest_of_63_bits, is_wide};
+ghost use Rattle.value_distance.specs.Widths.{greatest_of_63_bits, is_too_wide};
 
 /// The fraction `p/q` in lowest terms; zero is 0/1.
 #[derive(Clone, Copy, PartialEq, Eq)]
@@ -34,7 +34,7 @@ impl Ratio {
     pub fn new(p: u128, q: u128) -> Option<Ratio>
         requires { 0 < q }
         ensures exact { IfSome result (λ r. Fin r.p r.q ≡ lowest (Fin p q)) }
-        ensures range { IsNone result ↔ IsTrue (is_wide (Fin p q)) }
+        ensures range { IsNone result ↔ IsTrue (is_too_wide (Fin p q)) }
     {
         let g = common_divisor(p, q);
         let (n, d) = (p / g, q / g);
