@@ -81,7 +81,7 @@ prefix_short text whole (rest, is) short =
 
 stop_short : (old new : Shelf) (status : Status) (text : List ℕ) → IsStopLine (to_answer loading zeros) old new status text → length text < 64
 stop_short old new status text (inl (memory, is)) = let e : length text ≡ length memory_text = ap length is in omega (arith, memory_length)
-stop_short old new status text (inr (disk, (o, few, is, others))) =
+stop_short old new status text (inr (disk, (o, few, is, opened, others))) =
     let first : o ≡ 0 = omega (arith, few) in
     let e : length text ≡ length (disk_text (owner_name_at loading 0)) = ap length (is ∙ ap (λ (o : ℕ). disk_text (owner_name_at loading o)) first) in omega (arith, disk_length)
 
