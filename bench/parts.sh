@@ -29,7 +29,7 @@ for name, lines in [("none", []), ("whole", [f"ask census {ask}"]), ("parts", [f
 END
 least() {
     python3 - "$program" "$1" <<'END'
-import os
+import resource
 import shutil
 import subprocess
 import sys
@@ -38,11 +38,11 @@ times = []
 for _ in range(5):
     shutil.rmtree("journals", ignore_errors=True)
     subprocess.run([program, "init", "cat.json", "key"], check=True, stdout=subprocess.DEVNULL)
-    before = os.times()
+    before = resource.getrusage(resource.RUSAGE_CHILDREN)
     with open(script) as lines, open(f"{script}.replies", "w") as replies:
         subprocess.run([program, "run", "cat.json", "key"], stdin=lines, stdout=replies, check=True)
-    after = os.times()
-    times.append(after.children_user + after.children_system - before.children_user - before.children_system)
+    after = resource.getrusage(resource.RUSAGE_CHILDREN)
+    times.append(after.ru_utime + after.ru_stime - before.ru_utime - before.ru_stime)
 print(min(times))
 END
 }
