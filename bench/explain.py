@@ -2,11 +2,19 @@
 """Tries tools/explain on refused programs of every code: the refusal, the part that is marked, and what is said of it; and on other lines.
 
 usage: bench/explain.py [--alone]    (PROGRAM=FILE tries another build than tools/build's; --alone tries none)
-The tables are those of examples/survey. Each refusal is compared with a second implementation's, and with what the program's `check` says.
-It ends with status 1 where one differs, or where a code is in no row.
+The tables are those of examples/survey, and for parts those of an owner with both of them. Each refusal is compared with a second
+implementation's, and with what the program's `check` says; a script's replies with the program's, which is also made to say that its memory
+or its disk failed (where there is a C compiler; 50, which takes a noise of over 4,096 draws, never came). It ends with status 1 where one
+differs, or where a code or a status is in no row.
 """
+import contextlib
+import importlib.machinery
+import importlib.util
+import io
+import json
 import os
 import re
+import shutil
 import subprocess
 import sys
 import tempfile
@@ -16,8 +24,7 @@ PROGRAM = os.path.abspath(os.environ.get("PROGRAM", f"{TOP}/out/hitchseason"))
 CATALOG = "examples/survey/catalog.json"
 sys.path.insert(0, f"{TOP}/tools")
 from catalog import read  # noqa: E402
-from reference import chain, unions  # noqa: E402
-from runs import judgement  # noqa: E402
+from runs import chain, judgement, unions  # noqa: E402
 from tables import signature  # noqa: E402
 
 CODES = "20 21 22 30 31 32 33 34 35 36 37".split()
@@ -137,6 +144,34 @@ CASES = [
     (AGES + 'size (filter (fn (x : num) => x <= "30") ages)', "30 mismatch 146 150", '"30"', ["with: `30`, `\"30\"`"]),
     ("COUNT(*)", "21 2", "*", ["Counting is `size persons`"]),
     ("SELECT COUNT(*) FROM persons", "21 3", "*", ["Counting is `size persons`"]),
+    ("size persons group by region", "21 2", "group", ["no `GROUP BY`", "`askpart`"]),
+    ("size (persons group by region)", "30 unbound 14 19", "group", ["no `GROUP BY`"]),
+    ("let group = size persons in group group group", "30 mismatch 28 33", "group", ["Is a sign missing between the two", "!GROUP BY"]),
+    ("let order = 1 in size persons order", "21 7", "order", ["!no order of rows"]),
+    ("size persons order by age", "21 2", "order", ["no order of rows"]),
+    ("size persons limit 10", "21 2", "limit", ["no `LIMIT`"]),
+    ("size persons having age", "21 2", "having", ["no `HAVING`"]),
+    ("size persons join stays", "21 2", "join", ["no joins"]),
+    ("median persons", "30 unbound 0 6", "median", ["no median", "halve the range"]),
+    ("MEDIAN(income)", "30 unbound 0 6", "MEDIAN", ["no median"]),
+    ("histogram persons", "30 unbound 0 9", "histogram", ["a count a band", "`askpart`"]),
+    ("histogram[0,10] persons", "21 1", "[", ["a count a band"]),
+    (chosen('let (r, p) = p in r like "n%"'), "30 unbound 70 74", "like", ["no patterns"]),
+    (chosen('let (r, p) = p in like r "n%"'), "30 unbound 68 72", "like", ["no patterns"]),
+    (chosen("let (r, p) = p in r is null"), "30 unbound 70 72", "is", ["no missing values"]),
+    ("CASE WHEN a THEN 1 ELSE 2 END", "30 unbound 0 4", "CASE", ["`if a then 1 else 5`"]),
+    ("case when true then 1 else 2 end", "21 3", "then", ["`if a then 1 else 5`"]),
+    ("size (filter (fn (p : persons) => true) persons)", "21 8", "persons", ["is a table, and here stands a type", f"`fn (p : {ROW}) => ..`"]),
+    ("size (filter (fn (a : age) => true) persons)", "21 8", "age", ["is a column, and here stands a type: that of this column is `num`"]),
+    ("size (filter (fn (a : int) => true) persons)", "21 8", "int", ["write `num`"]),
+    ("size (filter (fn (p : text * string) => true) persons)", "21 10", "string", ["write `text`"]),
+    ("size (filter (fn (p : row) => true) persons)", "21 8", "row", ["`row` is no type", ROW]),
+    ("let f = fun (b : bag persons) => size b in 1", "21 8", "persons", ["A row of it is written"]),
+    (AGES + "size (filter (fn (x : num) => x <= size ages) ages)", "33 persons", "x <= size ages", ["The function of `filter` looks at the whole table", "A "
+        "`let` outside doesn't help"]),
+    (AGES + "let n = size ages in size (filter (fn (x : num) => x <= n) ages)", "33 persons", "x <= n", ["The function of `filter` looks at the whole "
+        "table", "write what you get"]),
+    ("size (map (fn (p : text * num * text * num) => size persons) persons)", "33 persons", None, ["is run for each element", "A `let` outside doesn't help"]),
     ("select * from persons", "21 1", "*", ["shows no row"]),
     ("size persons > 10", "21 2", ">", ["`x > 10` is `11 <= x`", TOTAL]),
     ("size persons >= 10", "21 2", ">", ["no `>=`", TOTAL]),
@@ -170,44 +205,184 @@ CASES = [
     (AGE + chosen("age == 30"), "30 mismatch 147 150", "age", ["`age` is a function: call it, as in `age p`"]),
     (AGE + chosen("30 <= age"), "30 mismatch 153 156", "age", ["`age` is a function: call it, as in `age p`"]),
     (AGE + chosen("age", "map"), "30 notflat 108 147", None, ["`age` is a function: call it, as in `age p`"]),
-    (AGES + "let old = fn (x : num) => 65 <= x in size (filter (fn (x : num) => if old then true else false) ages)", "30 mismatch 181 184", "old", ["`old (![inf] x)`"]),
+    (AGES + "let old = fn (x : num) => 65 <= x in size (filter (fn (x : num) => if old then true else false) ages)", "30 mismatch 181 184", "old", ["`old "
+        "(![inf] x)`"]),
     ("let n = size persons\nsize persons + n", "21 5", "size", ["its `in`: is it missing before this"]),
     ("let n = size persons\nn + 1", "21 5", "n", ["its `in`: is it missing before this"]),
     (chosen("let (region, p) = p let (age, p) = p in age <= 29"), "21 25", "let", ["its `in`: is it missing before this"]),
     ("let n = size persons size persons in n", "21 5", "size", ["`(size ..)`. Or is the `in`"]),
     ("sum[5000] persons", "21 3", "]", ["The bounds of `sum` are two whole numbers"]),
     ("sum[-inf,inf] persons", "21 3", "inf", ["The bounds of `sum` are two whole numbers"]),
+    ("SUM(income)", "30 unbound 0 3", "SUM", ["small letters, has bounds"]),
+    ("SELECT SUM(income) FROM persons", "30 unbound 0 6", "SELECT", ["small letters, has bounds", "!Columns are chosen"]),
+    ("SELECT AVG(income) FROM persons WHERE age = 30", "21 9", "=", ["no mean", "Rows are chosen by `filter", f"!{TOTAL}"]),
+    ("SELECT AVG(income) FROM persons WHERE region = 'north'", "20 47", "'", ["stands in `\"`", "no mean", "Rows are chosen by `filter"]),
+    ("SELECT region, COUNT(*) FROM persons GROUP BY region HAVING COUNT(*) > 20", "21 2", ",", ["Counting is `size persons`", "no `GROUP BY`", "no `HAVING`"]),
+    ("SELECT CORR(age, income) FROM persons", "30 unbound 0 6", "SELECT", ["no correlation", '"Correlation"']),
+    ("SELECT COUNT(DISTINCT region) FROM persons", "30 unbound 0 6", "SELECT", ["no `DISTINCT`", "!Counting is"]),
+    ("SELECT region FROM persons", "30 unbound 0 6", "SELECT", ["Columns are chosen by `map"]),
+    ("covariance(age, income)", "30 unbound 0 10", "covariance", ["no correlation"]),
+    ("stddev(income)", "30 unbound 0 6", "stddev", ["a sum of squares gives it"]),
+    ("percentile(income, 0.9)", "20 20", ".", ["whole", "no quantiles", "the share of all rows"]),
+    ("crosstab region work", "30 unbound 0 8", "crosstab", ["Each cell of a cross table is a count"]),
+    (chosen_ages("x * x <= 30"), "21 52", "*", ["One factor must be a number", "multiplied by halvings"]),
+    (chosen_ages("x / 10 <= 3"), "21 52", "/", ["no division", "divided by halvings"]),
+    (chosen_ages("x % 10 <= 3"), "20 143", "%", ["no remainder"]),
+    ("size (filter (age >= 30) persons)", "21 5", ">", ["no `>=`", "`age` is a column", "let (age, p) = p in ..`", f"!{TOTAL}"]),
+    ("size (filter (age < 30) persons)", "21 7", ")", ["`x < 30` is `x <= 29`", "`age` is a column", f"!{TOTAL}"]),
+    ("size (filter (30 > age) persons)", "21 5", ">", ["no `>`", "`age` is a column", f"!{TOTAL}"]),
+    ("SELECT COUNT(*) FROM stays", "21 3", "*", ["Counting is `size ..`"]),
+    (chosen("let (region, p) = p in region == north"), "30 unbound 83 88", "north", ['A text stands in `"`, as in `"north"`']),
+    (chosen_ages("agees == ages"), "30 unbound 141 146", "agees", ["Is `ages` meant"]),
+    ("size (filter (p => true) persons)", "21 5", "=>", [f"`fn (p : {ROW}) => ..`"]),
+    ("size (filter (lambda p: true) persons)", "21 6", ":", [f"`fn (p : {ROW}) => ..`"]),
+    ('"size persons"', "34", None, ["without `\"` around it"]),
     (PEOPLE + unions(7).decode(), "37 185 196 128", "union a5 a5", ["would be 128 tables wide", "`2 * size ..`"]),
 ]  # fmt: skip
 
-# Refusals that aren't a program's.
-OTHERS = [
-    ("no 12 1", "the owner isn't in the catalog"),
-    ("no 12 2", "no partition of this name"),
-    ("no 12 3", "no key of this name"),
-    ("no 13", "write 0.5 and 0.001"),
-    ("no 14", "nobody has said hello"),
-    ("no 40 1000000 1001000000 20000000 4", "of 20000000 millionths 1000000 are spent, and with this ask it would be 1001000000"),
-    ("no 61 7 20", "another analyst made reservation 7"),
-    ("no 40 1", "README.md has the other lines"),
-    ("no 10 2", "README.md has the other lines"),
-    ("no", "README.md has the other lines"),
+# Programs that are refused of a part, and what is said, over an owner with two tables and a partition of each.
+PARTS = [
+    ("size stays", "30 unbound 5 10", "areas", ["Asked of a part. A part of `areas` shows the table `persons` alone.", "What is made of `stays` is asked by "
+        "`ask`"]),
+    ("size persons", "30 unbound 5 12", "wards", ["A part of `wards` shows the table `stays` alone.", "What is made of `persons` is asked by `ask`"]),
+    ("size persons + size stays", "30 unbound 20 25", "areas", ["A part of `areas` shows"]),
+    ("size nobody", "30 unbound 5 11", "areas", ["!Asked of a part"]),
 ]
+STATUS_WORDS = "all was done|refuses the program|no command|absent|journal|standard output|disk|memory|2^24"
+# Lines that the program writes, and words that are said of them: every code, every status, and what is no line.
+LINES = [
+    ("no 10 2", "malformed at its word 2"), ("no 11", "over 16384 bytes"), ("no 12 1", "the owner isn't in the catalog"), ("no 12 2", "no partition of this "
+        "name"),
+    ("no 12 3", "no key of this name"), ("no 13", "write 0.5 and 0.001"), ("no 14", "nobody has said hello"), ("no 20 3", "at byte 3"), ("no 21 2", "up to "
+        "token 2"),
+    ("no 22 65", "65 deep"), ("no 30 unbound 1 2", "neither bound nor a table"), ("no 30 mismatch 1 2", "another type"), ("no 30 notground 1 2", "hold a "
+        "function"),
+    ("no 30 notflat 1 2", "a function or a bag"), ("no 31 1 2 3/2", "uses its argument at 3/2"), ("no 31 1 2 inf", "at inf"), ("no 32 1 2", "out of range"),
+    ("no 33 persons", "a row of persons"), ("no 34", "no number"), ("no 35 1 2", "depth 129"), ("no 36 1 2", "turn 20001"), ("no 37 1 2 65", "65 tables wide"),
+    ("no 40 1000000 1001000000 20000000 4", "of 20000000 millionths 1000000 are spent, and with this ask it would be 1001000000"),
+    ("no 41 100 0 100", "no room for its two records: 100 of 100"), ("no 42 1", "closed for the rest of this run"), ("no 50 7", "over 4096 draws"),
+    ("no 51 7", "memory ran out while the program of reservation 7 was run: it is charged"), ("no 52", "it may be charged, and has no answer"),
+    ("no 60 7 20", "no number 7 was ever reserved"), ("no 61 7 20", "another analyst made reservation 7"), ("no 90", "nothing is charged"),
+    ("usage", "no command"), ("refused key", "'key' is the file, or the owner"), ("journal labour uninitialised 0", "it has 0 bytes"),
+    ("journal labour damaged 3", "slot 3"), ("journal labour changed", "the entry of labour"), ("journal labour exists 12", "a file of 12 bytes"),
+    ("disk labour", "disk of the journal of labour"), ("memory", "memory ran out"), ("script too long", "over 2^24 bytes"), ("bye", "ended"),
+    ("ok 3/2", "a sensitivity of 3/2"), ("answer 3 -7 0", "the noisy value -7"), ("recall 1 open 4", "no answer yet"), ("recall 1 lost 4", "charged and has "
+        "no answer"),
+    ("recall 1 exhausted 4", "4096 draws"), ("recall 1 answer 5 4", "answered with 5"), ("left 1 2 3", "1 of 2 millionths"), ("hello mia", "mia speaks"),
+    *[(f"status {status}", words) for status, words in enumerate(STATUS_WORDS.split("|"))],
+    ("66", "lock file"), ("69", "couldn't start the program"),
+    ("124", "timeout"), ("126", "may not be run"), ("127", "no such program"), ("137", "signal 9"), ("99", "never ends so"),
+]  # fmt: skip
+NO_LINES = ["no", "no 40 1", "no 15", "no 10", "answer 1 2", "no 33 a b", "journal labour", "foo", "no 010"]
+# A program beside a line that isn't the program's refusal: what is said of the line.
+OTHERS = [
+    ("no 13", "write 0.5"), ("answer 0 1 2", "noisy value 1"),
+    ("no 40 1000000 21000000 20000000 4", "an EPS of 19 is the greatest that fits now. (That is so where it was asked of the whole"),
+]  # fmt: skip
+# The lines of a script over examples/survey, each with its reply and, where that is a refusal, words that are said of it.
+SCRIPT = [
+    ("left labour", "left 0 20000000 0", None),
+    ("ask labour 0.5 size persons", "no 14", "nobody has said hello"),
+    ("hello maia", "no 12 1", "no analyst `maia`: is `mia` meant?"),
+    ("recall labour 0", "no 14", "(that of line 3 was refused)"),
+    ("hello mia", "hello mia", None),
+    ("", "no 10 0", "the line is empty"),
+    (" ask labour 1 1", "no 10 0", "begins with a blank"),
+    ("size persons", "no 10 0", "there are hello, ask, askpart, recall, left, bye. A program stands in one line"),
+    ("check labour size persons", "no 10 0", "`check` is a command of the program"),
+    ("ask labour areas north 0.5 size persons", "no 13", "a part is asked by `askpart labour areas KEY EPS PROGRAM`"),
+    ("ask labour north 0.5 size persons", "no 13", "a part is asked by `askpart labour areas KEY EPS PROGRAM`"),
+    ("askpart labour region north 0.5 size persons", "no 12 2", "no partition `region`: is `areas` meant?"),
+    ("askpart labour areas 0.5 size persons", "no 12 3", "KEY is missing before EPS: it has `north`"),
+    ("askpart labour areas north,south 0.5 size persons", "no 12 3", "one key stands in a line"),
+    ("asks labour 1 1", "no 10 0", "`asks` is no kind of line: is `ask` meant?"),
+    ("select 1", "no 10 0", "`select` is no kind of line"),
+    ("ask labour 0.5", "no 10 3", "PROGRAM is missing: `ask OWNER EPS PROGRAM`"),
+    ("left  labour", "no 10 1", "where OWNER belongs stands nothing"),
+    ("bye now", "no 10 1", "`now` is one word too many: `bye`"),
+    ("recall labour x", "no 10 2", "`x` is no number"),
+    ("left " + 16_400 * "a", "no 11", "16405 bytes"),
+    ("ask labor 0.5 size persons", "no 12 1", "no owner `labor`: is `labour` meant?"),
+    ("askpart labour area north 0.5 size persons", "no 12 2", "no partition `area`: is `areas` meant?"),
+    ("askpart health areas north 0.5 size stays", "no 12 2", "it has none"),
+    ("askpart labour areas North 0.5 size persons", "no 12 3", "no key `North`: is `north` meant?"),
+    ("ask labour .5 size persons", "no 13", "write 0.5"),
+    ("ask labour 1e-3 size persons", "no 13", "write 0.001"),
+    ("ask labour 0,5 size persons", "no 13", "write 0.5"),
+    ("ask labour 2000 size persons", "no 13", "over 1000"),
+    ("ask labour 0 size persons", "no 13", "under 0.000001"),
+    ("ask labour 0.1234567 size persons", "no 13", "too many digits"),
+    ("ask labour much size persons", "no 13", "is no number"),
+    ("ask labour 0.5 size persons $", "no 20 13", "stands in texts alone"),
+    ("ask labour 0.5 size persons * 2", "no 21 2", "`*`. The factor stands on the left: write `2 * size persons`"),
+    ("ask labour 0.5 size nobody", "no 30 unbound 5 11", "(`nobody`). The owner's tables are `persons`"),
+    ("ask labour 0.5 1 + persons", "no 30 mismatch 4 11", "found: a bag, each element"),
+    ("ask labour 0.5 persons", "no 34", "no number; found: a bag"),
+    ("ask labour 0.5 if size persons <= 3 then 0 else 1", "no 33 persons", "(`size persons <= 3`). A number is compared"),
+    ("askpart labour areas north 0.5 size stays", "no 30 unbound 5 10", "a table of the owner `health`"),
+    ("ask labour 15 size persons", "answer 0 1000 15000000", None),
+    ("ask labour 10 size persons", "no 40 15000000 25000000 20000000 2", "At its sensitivity of 1 an EPS of 5 is the greatest that fits now"),
+    ("ask labour 1 3 * (2 * size persons)", "no 40 15000000 21000000 20000000 2", "At its sensitivity of 6 an EPS of 0.833333 is the greatest that fits now"),
+    ("ask labour 1000 5000001 * size persons", "no 40 15000000 5000001015000000 20000000 2", "No EPS is small enough for it now"),
+    ("ask labour 1000 5000000 * size persons", "no 40 15000000 5000000015000000 20000000 2", "an EPS of 0.000001 is the greatest"),
+    ("recall labour 7", "no 60 7 2", "no number 7"),
+    ("hello tom", "hello tom", None),
+    ("recall labour 0", "no 61 0 2", "another analyst made reservation 0"),
+    ("bye", "bye", None),
+    ("recall labour 0", "no 14", "nobody has said hello"),
+]  # fmt: skip
+
+
+def tool():
+    """The tool as a module."""
+    found = importlib.util.module_from_spec(importlib.util.spec_from_loader("explain", importlib.machinery.SourceFileLoader("explain", f"{TOP}/tools/explain")))
+    found.__spec__.loader.exec_module(found)
+    return found
+
+
+def two_tables():
+    """The catalog of an owner with both tables of examples/survey, and a partition of each."""
+    whole = json.loads(bytes_of(f"{TOP}/{CATALOG}"))
+    first, second = whole["owners"]
+    first["tables"] += second["tables"]
+    first["partitions"].append({"name": "wards", "table": "stays", "column": "ward", "keys": ["surgery"]})
+    return {**whole, "owners": [first]}
+
+
+def bytes_of(name):
+    with open(name, "rb") as file:
+        return file.read()
+
+
+class Ended:
+    """What a call of the tool wrote, and its status."""
+
+    def __init__(self, call):
+        out, err = io.StringIO(), io.StringIO()
+        with contextlib.redirect_stdout(out), contextlib.redirect_stderr(err):
+            try:
+                self.returncode = call()
+            except SystemExit as end:
+                self.returncode = end.code
+        self.stdout, self.stderr = out.getvalue(), err.getvalue()
 
 
 class Trial:
     def __init__(self, room):
-        self.file, self.differences, self.codes = f"{room}/program", 0, set()
-        with open(f"{TOP}/{CATALOG}", "rb") as file:
-            self.tables = signature(read(file.read())["owners"][0])
+        self.room, self.file, self.differences, self.codes, self.tool = room, f"{room}/program", 0, set(), tool()
+        self.tables = signature(read(bytes_of(f"{TOP}/{CATALOG}"))["owners"][0])
+        os.chdir(TOP)
 
     def differ(self, by, program, found, want):
         self.differences += 1
         print(f"{by}: {found}, and not {want}, of {program[:200]}")
 
-    def explain(self, refusal):
-        words = [f"{TOP}/tools/explain", CATALOG, "labour", self.file]
-        return subprocess.run(words, input=f"{refusal}\n", capture_output=True, cwd=TOP, text=True)
+    def called(self, *words, given=""):
+        sys.argv, sys.stdin = ["explain", *words], io.StringIO(given)
+        return Ended(self.tool.main)
+
+    def explain(self, refusal, catalog=CATALOG):
+        return self.called(catalog, "labour", self.file, given=f"{refusal}\n")
 
     def one(self, program, refusal, marked, said):
         with open(self.file, "w") as file:
@@ -224,7 +399,7 @@ class Trial:
         if marked is not None and (part or " ") != marked:
             self.differ("mark", program, part, marked)
         for words in said or []:
-            if words not in ran.stdout:
+            if (words not in ran.stdout) if not words.startswith("!") else (words[1:] in ran.stdout):
                 self.differ("words", program, ran.stdout, words)
         self.codes.add(refusal.split()[0])
 
@@ -244,17 +419,138 @@ class Trial:
         if ran.returncode != 0 or not ran.stdout.startswith("no 21 2: "):
             self.differ("replies", replies, f"{ran.returncode} {ran.stdout}{ran.stderr}", "no 21 2")
 
-    def others(self):
-        """Lines that aren't the program's refusal, and words that are said of some."""
-        for line, words in OTHERS:
-            ran = self.explain(line)
-            if ran.returncode != 2 or not ran.stderr.startswith(f"tools/explain: `{line}`") or words not in ran.stderr or ran.stderr.count("\n") != 1:
-                self.differ("words", line, f"{ran.returncode} {ran.stderr}", words)
+    def asked(self):
+        """What tools/ask says of a refused program, and the command that it names."""
+        with open(self.file, "w") as file:
+            file.write("size persons * 2")
+        words = [CATALOG, "examples/survey/key", "mia", "labour", "0.5", self.file]
+        ran = subprocess.run([f"{TOP}/tools/ask", *words], cwd=TOP, capture_output=True, text=True, env={**os.environ, "PROGRAM": PROGRAM})
+        said = f"tools/ask: tools/explain {CATALOG} labour {self.file} 'no 21 2' says why\n"
+        if (ran.returncode, ran.stdout, ran.stderr) != (1, "hello mia\nno 21 2\nbye\n", said):
+            self.differ("tools/ask", "size persons * 2", f"{ran.returncode} {ran.stdout}{ran.stderr}", said)
+
+    def parts(self):
+        """Refusals of a part, of which the whole knows nothing."""
+        catalog = f"{self.room}/two.json"
+        with open(catalog, "w") as file:
+            json.dump(two_tables(), file)
+        owner = read(bytes_of(catalog))["owners"][0]
+        for program, refusal, name, said in PARTS:
+            with open(self.file, "w") as file:
+                file.write(program)
+            of = next(partition["table"] for partition in owner["partitions"] if partition["name"] == name)
+            found = judgement(program.encode(), [table for table in signature(owner) if table[0] == of])
+            ran = self.explain(found, catalog)
+            wrong = [words for words in said if (words[1:] in ran.stdout) == words.startswith("!")]
+            if found != f"no {refusal}" or ran.returncode != 0 or wrong:
+                self.differ("a part", program, f"{found} {ran.returncode} {ran.stdout}{ran.stderr}", said)
         with open(self.file, "w") as file:
             file.write("size persons")
-        for line, status in (("ok 1", 0), ("no 21 2", 1), ("no 40 1 2 3 4", 2), ("answer 0 1 2", 2), ("", 2)):
+        for line, status in (("ok 1", 0), ("ok 2", 1), ("no 21 2", 1)):
+            if self.explain(line, catalog).returncode != status:
+                self.differ("a part", program, self.explain(line, catalog).stdout, status)
+
+    def others(self):
+        """Lines that aren't the program's refusal, and words that are said of each line, with a program and without."""
+        with open(self.file, "w") as file:
+            file.write("size persons")
+        for line, words in LINES:
+            ran = self.called(line)
+            if ran.returncode != 0 or not ran.stdout.startswith(f"{line}: ") or words not in ran.stdout or ran.stdout.count("\n") != 1:
+                self.differ("words", line, f"{ran.returncode} {ran.stdout}{ran.stderr}", words)
+        for line in NO_LINES:
+            if self.called(line).returncode != 2 or "no line that the program writes" not in self.called(line).stderr:
+                self.differ("words", line, self.called(line).stdout, "none")
+        for line, words in OTHERS:
+            ran = self.explain(line)
+            if ran.returncode != 0 or words not in ran.stdout:
+                self.differ("words", line, f"{ran.returncode} {ran.stdout}{ran.stderr}", words)
+        for line, status in (("ok 1", 0), ("ok", 0), ("ok 2", 1), ("no 21 2", 1), ("no 40 1 2 3", 2), ("", 2)):
             if self.explain(line).returncode != status:
                 self.differ("status", line, self.explain(line).returncode, status)
+        if self.called("--help").returncode != 0 or self.called().returncode != 2 or self.called("a", "b").returncode != 2:
+            self.differ("words", "", "statuses of --help and of too few words", "0 and 2")
+
+    def script(self, lines, said, name="script"):
+        """What is said of a script's replies, a line a refusal."""
+        script, replies = f"{self.room}/{name}", f"{self.room}/replies"
+        for path, texts in ((script, [line for line, _, _ in lines]), (replies, [reply for _, reply, _ in lines])):
+            with open(path, "w") as file:
+                file.write("".join(f"{text}\n" for text in texts))
+        ran = self.called("--script", CATALOG, script, replies)
+        for number, (line, reply, words) in enumerate(lines, 1):
+            told = [one for one in ran.stdout.splitlines() if one.startswith(f"line {number}: ")]
+            if words is None and told or words is not None and (len(told) != 1 or words not in told[0] or not told[0].startswith(f"line {number}: {reply}: ")):
+                self.differ("script", line, f"{told} {ran.stderr}", words)
+        if ran.returncode != said:
+            self.differ("script", name, f"{ran.returncode} {ran.stdout}", said)
+
+    def scripts(self):
+        self.script(SCRIPT, 0)
+        self.script([("hello mia", "hello mia", None), ("ask labour 1 size persons", "no 21 2", "the rules accept the program of this line")], 1, "other")
+        self.script([("hello mia", "hello mia", None), ("ask labour 1 size", "answer 0 1 2", "the rules say `no 21 1` of this line")], 1, "other")
+        self.script([("hello mia", "no 13", "the rules answer it by `hello ..` of this line")], 1, "other")
+        self.script([("ask labour 1 1", "no 99", "the rules give no such reply of this line")], 1, "other")
+        # What the machine may say in the place of any other reply.
+        words = [("no 42 1", "closed"), ("no 50 0", "4096 draws"), ("no 51 0", "it is charged"), ("no 52", "may be charged"), ("no 90", "nothing is charged")]
+        words.append(("no 41 9 0 10", "no room"))
+        asked = [("ask labour 1 size persons", reply, said) for reply, said in words] + [("ask labour 1 size", "no 90", "nothing")]
+        self.script([("hello mia", "hello mia", None), *asked], 0, "machine")
+        with open(f"{self.room}/script", "w") as file:
+            file.write("hello mia\nbye\n")
+        for replies, status, words in (("refused key\n", 0, "'key' is the file"), ("hello mia\n", 1, "2 lines, and there are 1 replies"), ("", 1, "0 replies")):
+            with open(f"{self.room}/replies", "w") as file:
+                file.write(replies)
+            ran = self.called("--script", CATALOG, f"{self.room}/script", f"{self.room}/replies")
+            if ran.returncode != status or words not in ran.stdout:
+                self.differ("replies", replies, f"{ran.returncode} {ran.stdout}", words)
+
+    def script_by_program(self):
+        given = "".join(f"{line}\n" for line, _, _ in SCRIPT)
+        key, env = "examples/survey/key", {**os.environ, "PROGRAM": PROGRAM}
+        ran = subprocess.run([f"{TOP}/tools/afresh", CATALOG, key], input=given, capture_output=True, text=True, cwd=TOP, env=env)
+        for (line, reply, _), said in zip(SCRIPT, ran.stdout.splitlines()):
+            if said != reply and not (said.startswith("answer ") and reply.startswith("answer ")):
+                self.differ("the program", line, said, reply)
+
+    def by_failures(self):
+        """Replies of a program whose memory or disk is made to fail: 42, 52, 51 and 90 are said in words."""
+        for name in ("refuse_allocation", "fail_disk"):
+            subprocess.run(["cc", "-O1", "-shared", "-fPIC", "-o", f"{self.room}/{name}.so", f"{TOP}/bench/{name}.c", "-ldl"], check=True)
+        script = "hello mia\nask labour 0.5 size persons\nask labour 0.5 size (union persons persons)\nbye\n"
+        came, wanted = set(), {"fail_disk": {"42", "52"}, "refuse_allocation": {"51", "90"}}
+        for library, faults in (("fail_disk", "FAIL"), ("refuse_allocation", "REFUSE")):
+            # Each call, the last ones first: a run writes its records, and runs its programs, behind all that it opens.
+            for number in range(int(self.run_failing(script, library, {"TELL": "1"}).stderr), 0, -1):
+                if came >= wanted[library]:
+                    break
+                came |= self.said_of(script, library, {faults: str(number)}, came)
+            if not came >= wanted[library]:
+                self.differ("failures", "", sorted(came), sorted(wanted[library]))
+
+    def said_of(self, script, library, faults, came):
+        """The codes that came for the first time, each of which must be said in words."""
+        ran = self.run_failing(script, library, faults)
+        codes = {reply.split()[1] for reply in ran.stdout.splitlines() if reply.startswith("no ")} - came
+        if ran.returncode == 0 and codes:
+            with open(f"{self.room}/replies", "w") as file:
+                file.write(ran.stdout)
+            told = self.called("--script", CATALOG, f"{self.room}/script", f"{self.room}/replies")
+            if told.returncode != 0 or any(f": no {code}" not in told.stdout for code in codes):
+                self.differ("a failure", ran.stdout, told.stdout + told.stderr, codes)
+            return codes
+        return set()
+
+    def run_failing(self, script, library, faults):
+        with open(f"{self.room}/script", "w") as file:
+            file.write(script)
+        shutil.rmtree(f"{self.room}/journals", ignore_errors=True)
+        if not os.path.islink(f"{self.room}/examples"):
+            os.symlink(f"{TOP}/examples", f"{self.room}/examples")
+        words = [CATALOG, "examples/survey/key"]
+        subprocess.run([PROGRAM, "init", *words], cwd=self.room, capture_output=True, check=True)
+        env = {**os.environ, "LD_PRELOAD": f"{self.room}/{library}.so", **faults}
+        return subprocess.run([PROGRAM, "run", *words], input=script, capture_output=True, text=True, cwd=self.room, env=env)
 
 
 def main():
@@ -268,7 +564,14 @@ def main():
             if not alone:
                 trial.by_program(program, refusal)
         trial.piped()
+        trial.parts()
         trial.others()
+        trial.scripts()
+        if not alone:
+            trial.script_by_program()
+            trial.asked()
+            if shutil.which("cc"):
+                trial.by_failures()
     lacking = [code for code in CODES if code not in trial.codes]
     print(f"{len(CASES)} refusals of {len(trial.codes)} codes, {trial.differences} differences")
     if lacking:

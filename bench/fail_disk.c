@@ -2,7 +2,9 @@
 // TELL=1     writes how many such calls there were to standard error, at the end
 // FAIL=N     call N (from 1) fails with EIO, and with FAIL_ALL=1 each later one too
 // STOP=N     the process is killed at call N, in the place of the call; a write has then put half of its bytes
-// The calls are reads and writes at a place, syncs, and opening or making such a file or folder.
+// SHORT=1    each write of several bytes puts half of them, and says so
+// LOG=FILE   a line for each write, sync and folder made, with its path, in their order; also for a sync of any other folder
+// The calls are reads and writes at a place, syncs, asking for a length, and opening or making such a file or folder.
 #define _GNU_SOURCE
 #include <dlfcn.h>
 #include <errno.h>
@@ -15,12 +17,15 @@
 #include <sys/stat.h>
 #include <unistd.h>
 
-static long calls, fail_at, stop_at, fail_all;
+static long calls, fail_at, stop_at, fail_all, short_writes;
+static FILE *log_file;
 
 __attribute__((constructor)) static void begin(void) {
     fail_at = getenv("FAIL") ? atol(getenv("FAIL")) : 0;
     stop_at = getenv("STOP") ? atol(getenv("STOP")) : 0;
     fail_all = getenv("FAIL_ALL") != 0;
+    short_writes = getenv("SHORT") != 0;
+    log_file = getenv("LOG") ? fopen(getenv("LOG"), "a") : 0;
 }
 
 __attribute__((destructor)) static void end(void) {
@@ -30,14 +35,20 @@ __attribute__((destructor)) static void end(void) {
 
 static int counts(const char *path) { return path && strstr(path, "journals") != 0; }
 
-static int file_counts(int file) {
-    char link[64], path[4096];
+static const char *path_of(int file) {
+    static char path[4096];
+    char link[64];
     snprintf(link, sizeof link, "/proc/self/fd/%d", file);
     ssize_t n = readlink(link, path, sizeof path - 1);
-    if (n < 0)
-        return 0;
-    path[n] = 0;
-    return counts(path);
+    path[n < 0 ? 0 : n] = 0;
+    return path;
+}
+
+static int file_counts(int file) { return counts(path_of(file)); }
+
+static void note(const char *name, const char *path) {
+    if (log_file)
+        fprintf(log_file, "%s %s\n", name, path);
 }
 
 // Whether this call is to fail. Where it is to stop, there is nobody left to tell.
@@ -66,6 +77,9 @@ static ssize_t writes(const char *name, int file, const void *bytes, size_t size
             next(file, bytes, size / 2, place);
         if (fails())
             return -1;
+        note("write", path_of(file));
+        if (short_writes && size > 1)
+            size /= 2;
     }
     return next(file, bytes, size, place);
 }
@@ -83,6 +97,7 @@ ssize_t pread64(int file, void *bytes, size_t size, off_t place) { return reads(
 static int syncs(const char *name, int file) {
     if (file_counts(file) && fails())
         return -1;
+    note("sync", path_of(file));
     return ((sync_call)dlsym(RTLD_NEXT, name))(file);
 }
 int fsync(int file) { return syncs("fsync", file); }
@@ -120,5 +135,14 @@ OPENAT(openat64)
 int mkdir(const char *path, mode_t mode) {
     if (counts(path) && fails())
         return -1;
+    note("mkdir", path);
     return ((mkdir_call)dlsym(RTLD_NEXT, "mkdir"))(path, mode);
+}
+
+typedef int (*statx_call)(int, const char *, int, unsigned, struct statx *);
+
+int statx(int file, const char *restrict path, int flags, unsigned mask, struct statx *restrict told) {
+    if (path && !*path && file_counts(file) && fails())
+        return -1;
+    return ((statx_call)dlsym(RTLD_NEXT, "statx"))(file, path, flags, mask, told);
 }

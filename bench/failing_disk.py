@@ -13,6 +13,9 @@ a second reader (tools/journal.py) and the second implementation of lines (tools
 - whatever happened, the next opening finds every record that was acknowledged, at most one more, and `audit` counts them;
 - an answer that was printed stands settled with its value.
 
+And writes that put half of their bytes change nothing that is said or left; the folder of a new journal and the one that this is in are
+synced before its first write, and each part of a journal or record before the next part is written.
+
 It ends with status 1 at the first difference, and where one of the ends was never met.
 """
 import os
@@ -156,6 +159,36 @@ def turns(room, command, script, prepare, judge):
     return count
 
 
+def short_writes(room):
+    """Writes that put half of their bytes, and what is said and left then."""
+    left = []
+    for faults in ({}, {"SHORT": "1"}):
+        subprocess.run(["rm", "-rf", "journals"], check=True)
+        ran = [room.ran("init", **faults), room.ran("run", "".join(f"{line}\n" for line in ASKED), **faults)]
+        left.append(([(one.returncode, one.stdout) for one in ran], contents("journals/0.bud")))
+    if left[0] != left[1]:
+        print(f"short writes: {left[1][0]}, and without {left[0][0]}; the journal is {'the same' if left[0][1] == left[1][1] else 'another'}")
+        sys.exit(1)
+
+
+def order_of_syncs(room):
+    """What is written and synced in turn, by an `init` and by a run of one ask. Writes in a row are one."""
+    subprocess.run(["rm", "-rf", "journals", "log"], check=True)
+    room.ran("init", LOG="log")
+    room.ran("run", f"hello ann\n{ASK}\n", LOG="log")
+    folder, lines = os.getcwd(), contents("log").decode().splitlines()
+    file = f"{folder}/journals/0.bud"
+    told = [line for before, line in zip([""] + lines, lines) if line != before]
+    part = [f"write {file}", f"sync {file}"]
+    # Zeros, the header and its gate; opened; a reservation and its gate, a settlement and its gate.
+    wanted = ["mkdir journals", f"sync {folder}", f"sync {folder}/journals", *part * 3, f"sync {file}", *part * 4]
+    # The sync of an opening stands behind the last one of the `init`.
+    wanted = [line for before, line in zip([""] + wanted, wanted) if line != before]
+    if told != wanted:
+        print("written and synced: " + ", ".join(told) + "\nwanted: " + ", ".join(wanted))
+        sys.exit(1)
+
+
 ENDS = ["init: no file", "init: a file to be removed", "run: not opened", "run: 52 of a reservation", "run: 52 of a settlement", "killed", "one record more"]
 
 
@@ -167,7 +200,10 @@ def main():
         room = Room(folder)
         made = turns(room, "init", "", lambda: subprocess.run(["rm", "-rf", "journals"], check=True), judge_init)
         asked = turns(room, "run", "".join(f"{line}\n" for line in ASKED), room.anew, judge_run)
+        short_writes(room)
+        order_of_syncs(room)
         os.chdir(TOP)
+    print("short writes, and the order of syncs: as wanted")
     print(f"{made} calls of init and {asked} of a run, each failing, failing with all later ones, and killed: as wanted")
     print(", ".join(f"{end} {many}" for end, many in sorted(room.came.items())))
     lacking = [end for end in ENDS if not room.came[end]]

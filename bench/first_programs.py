@@ -3,7 +3,7 @@
 
 usage: bench/first_programs.py [--alone | --write]    (PROGRAM=FILE tries another build than tools/build's)
 --alone tries no build. --write puts what the second implementation says into the page and the example, and tries nothing.
-The page's programs stand in blocks named `program`, each with a line behind it, and its asks of parts, `left` and `recall` in tables of a line
+The page's programs stand in blocks named `program`, each with a line behind it, and its other asks, `left` and `recall` in tables of a line
 and its reply; they are asked in one script, in the page's order. The programs of the example stand in
 its table. It ends with status 1 where one differs, or where the example's tables aren't those of tools/make_survey.
 """
@@ -26,7 +26,7 @@ SURVEY = "examples/survey"
 CATALOG, KEY = f"{SURVEY}/catalog.json", f"{SURVEY}/key"
 BLOCK = re.compile(r"```program\n(.*?)\n```\n\n`check` says `(.*?)`(?:\. Asked at EPS ([0-9.]+), the reply is `(.*?)`)?\.\n", re.S)
 ROW = re.compile(r"\| `(\w+)` \| ([^|]*) \| `(.*?)` \| `(\w+)` \| ([0-9.]+) \| `(.*?)` \|\n")
-PART = re.compile(r"^\| `((?:askpart|left|recall) .*?)` \| `(.*?)` \|$", re.M)
+PART = re.compile(r"^\| `((?:ask|askpart|left|recall) .*?)` \| `(.*?)` \|$", re.M)
 FIRST = re.compile(r"^\| `((?:hello|ask|bye).*?)` \| `(.*?)` \|$", re.M)
 ASK = "tools/ask {0} {1} mia {2} {3} {4}/programs/{5}\n"
 

@@ -86,7 +86,7 @@ def reservation_at_random(rng, book):
         view = (partition, rng.randrange(len(partitions[partition]["keys"])))
     e = rng.randint(1, max(1, min(10**9, budget // rng.choice([2, 10, 50]))))
     made = Reservation(len(book.reserved), view, e, r.numerator, r.denominator, 0, rng.randrange(book.analysts), rng.randbytes(32))
-    made.taken = book.spent_with(made)[1] - book.spent
+    made.taken = book.spent_with(made) - book.spent
     return made
 
 

@@ -3,27 +3,40 @@
 
     journal.py CATALOG KEY [FOLDER]     each owner's journal in FOLDER/journals (in ./journals): its records, and the line of an audit.
                                         A reservation's charge is r times e, rounded up; taken is by how much the owner's spent grew
+    journal.py --compare COPY CATALOG KEY   whether each journal in ./journals begins with the records of its copy in the folder COPY: records
+                                        are only ever added, so any other change was made by somebody, or by the disk. It ends with status 1
+                                        where one is changed or gone
+    journal.py --audits FILE            whether a figure ever fell in FILE, in which audits were kept one behind the other, as it does where an
+                                        old journal is put back. It ends with status 1 where one did
     journal.py --check                  the values that are known from outside
 
 It shares nothing with the server but the rules. A journal is the file N.bud of owner N: a header of 128 bytes and a slot of 64
 bytes for each record that there is room for, whole numbers highest byte first. A slot is open where its first byte is 0xA5.
-A file that is no journal of this catalog, key and tables is refused in the server's words, and the end is with status 1.
+A file that is no journal of this catalog, key and tables is refused in the server's words, and the end is with status 1. Where a file can't
+be read, or the catalog is none, that is said on standard error, and the end is with status 2: nothing is known of the journals then.
 """
 import hashlib
 import json
+import re
+import signal
 import sys
 from math import gcd
 
-from catalog import census, json_value, read
+from catalog import BadCatalog, census, json_value, read
 
 GATE = 0xA5
 HEAD, SLOT = 128, 64
 WHOLE = (255, 0)
 OUTCOMES = {1: "answered", 2: "exhausted", 3: "lost"}
+MOST_TOLD = 10
 
 
 class Refused(Exception):
-    """Why a file isn't the journal that is wanted."""
+    """Why a file isn't the journal that is wanted, in the server's words; `how` says more of damage, in a sentence."""
+
+    def __init__(self, said, how=""):
+        super().__init__(said)
+        self.how = how
 
 
 class Reservation:
@@ -82,6 +95,32 @@ def decoded(slot):
     return found if found.encoded() == slot else None
 
 
+def no_record(slot):
+    """Why an open slot holds no record: what is wrong with its bytes, in words; nothing where it holds one."""
+    numbers = {name: int.from_bytes(slot[a:b], "big") for name, a, b in NUMBERS}
+    if slot[1] not in (1, 2):
+        return [f"its kind (byte 1) is {slot[1]}, and a record is 1, a reservation, or 2, a settlement"]
+    if slot[1] == 2:
+        tail = slot[16:] if slot[2] == 1 else slot[8:]
+        wrong = {
+            f"the outcome of a settlement (byte 2) is {slot[2]}, and 1 to 3 are known": slot[2] not in OUTCOMES,
+            f"byte 3 of a settlement is {slot[3]}, where 0 belongs": slot[3] != 0,
+            "a settlement has bytes behind its end, where zeros belong": any(tail),
+        }
+        return [said for said, holds in wrong.items() if holds]
+    whole = (slot[2], slot[3]) == WHOLE
+    wrong = {
+        f"a reservation's partition and part (bytes 2 and 3) are {slot[2]} and {slot[3]}": not whole and (slot[2] >= 8 or slot[3] >= 250),
+        f"a reservation's epsilon is {numbers['e']} millionths, and 1 to 1000000000 are allowed": not 1 <= numbers["e"] <= 10**9,
+        f"a reservation's sensitivity is {numbers['p']}/{numbers['q']}, no fraction in lowest terms": gcd(numbers["p"], numbers["q"]) != 1 or numbers["q"] == 0,
+        "bytes 30 and 31 of a reservation aren't zeros": numbers["end"] != 0,
+    }
+    return [said for said, holds in wrong.items() if holds]
+
+
+NUMBERS = [("e", 8, 12), ("p", 12, 16), ("q", 16, 20), ("end", 30, 32)]
+
+
 def compact(value):
     return json.dumps(value, separators=(",", ":"), ensure_ascii=False, sort_keys=True).encode()
 
@@ -98,25 +137,48 @@ def header(data, order, key, file):
     return head
 
 
+def length_fault(data, capacity):
+    """What is wrong with a journal's length, or nothing."""
+    due = HEAD + SLOT * capacity
+    if len(data) == due:
+        return None
+    if len(data) > due:
+        return capacity, f"the file has {len(data)} bytes, and {due} are due: {len(data) - due} too many"
+    whole = (len(data) - HEAD) // SLOT
+    return whole, f"the file has {len(data)} bytes, and {due} are due: it ends in slot {whole}, and all behind that is gone"
+
+
 def slots(data, capacity, first=0):
     """The records of the slots before the first closed one, from slot `first` on. The least slot that isn't wholly there, is past the
     capacity, or is open and no record or behind a closed one is damaged."""
-    found, whole = [], (len(data) - HEAD) // SLOT
-    wrong = [] if len(data) == HEAD + SLOT * capacity else [min(capacity, whole)]
-    gates = data[HEAD : HEAD + SLOT * min(capacity, whole) : SLOT]
+    found, length = [], length_fault(data, capacity)
+    wrong = [length] if length else []
+    whole = min(capacity, (len(data) - HEAD) // SLOT)
+    gates = data[HEAD : HEAD + SLOT * whole : SLOT]
     for k, gate in enumerate(gates[first:], first):
+        slot = data[HEAD + SLOT * k : HEAD + SLOT * (k + 1)]
         if gate != GATE:
             behind = gates.find(GATE, k)
-            wrong += [behind] if behind >= 0 else []
+            wrong += [(behind, behind_closed(data, k, behind))] if behind >= 0 else []
             break
-        record = decoded(data[HEAD + SLOT * k : HEAD + SLOT * (k + 1)])
+        record = decoded(slot)
         if record is None:
-            wrong.append(k)
+            wrong.append((k, "it is open, and holds no record: " + "; ".join(no_record(slot))))
             break
         found.append(record)
     if wrong:
-        raise Refused(f"damaged {min(wrong)}")
+        slot, how = min(wrong)
+        raise Refused(f"damaged {slot}", how)
     return found
+
+
+def behind_closed(data, closed, opened):
+    """What is said of an open slot behind a closed one."""
+    slot = data[HEAD + SLOT * closed : HEAD + SLOT * (closed + 1)]
+    held = decoded(bytes([GATE]) + slot[1:])
+    gate = f"its first byte is 0x{slot[0]:02X}, and 0x{GATE:02X} opens a slot"
+    rest = "the rest of it is a whole record" if held else "all of it is zeros" if not any(slot) else "the rest of it is no record"
+    return f"it is open behind slot {closed}, which is closed: {gate}; {rest}"
 
 
 def cost(sums):
@@ -130,33 +192,54 @@ class Book:
 
     def __init__(self, entry, analysts):
         self.entry, self.analysts, self.records = entry, analysts, []
-        self.sums, self.spent, self.reserved, self.settled = {}, 0, [], {}
+        self.sums, self.dearest, self.spent, self.reserved, self.settled = {}, {}, 0, [], {}
+
+    def sum_with(self, one):
+        return self.sums.get(one.view, 0) + one.charge()
 
     def spent_with(self, one):
-        sums = dict(self.sums)
-        sums[one.view] = sums.get(one.view, 0) + one.charge()
-        return sums, cost(sums)
+        """What is spent with one reservation more: what `cost` says of all sums, from what was spent before."""
+        if one.view == WHOLE:
+            return self.spent + one.charge()
+        return self.spent + max(0, self.sum_with(one) - self.dearest.get(one.view[0], 0))
 
     def has_view(self, view):
         partitions = self.entry["partitions"]
         return view == WHOLE or (view[0] < len(partitions) and view[1] < len(partitions[view[0]]["keys"]))
 
+    def why_not(self, one):
+        """Why a record may not follow, in words, or nothing where it may."""
+        if isinstance(one, Settlement):
+            if one.number >= len(self.reserved):
+                return f"it settles number {one.number}, which no record before it reserves"
+            return f"it settles number {one.number}, which is settled already" if one.number in self.settled else None
+        after = self.spent_with(one)
+        if one.number != len(self.reserved):
+            return f"it reserves number {one.number}, and {len(self.reserved)} is the next one"
+        if one.analyst >= self.analysts:
+            return f"it is a reservation of analyst {one.analyst} (from 0), and there are {self.analysts}"
+        if not self.has_view(one.view):
+            return f"it is a reservation of partition {one.view[0]}, part {one.view[1]} (from 0), which the owner hasn't"
+        if one.taken != after - self.spent:
+            return f"its reservation says that it took {one.taken}, and by the records before it took {after - self.spent}"
+        return f"with its reservation {after} are spent of {self.entry['budget']}" if after > self.entry["budget"] else None
+
     def add(self, one):
         """Adds a record, or says that it may not follow."""
+        may_follow = self.why_not(one) is None
+        if may_follow:
+            self.keep(one)
+        return may_follow
+
+    def keep(self, one):
+        """Adds a record that may follow."""
         if isinstance(one, Settlement):
-            if one.number >= len(self.reserved) or one.number in self.settled:
-                return False
             self.settled[one.number] = one
         else:
-            sums, after = self.spent_with(one)
-            if one.number != len(self.reserved) or one.analyst >= self.analysts or not self.has_view(one.view):
-                return False
-            if one.taken != after - self.spent or after > self.entry["budget"]:
-                return False
-            self.sums, self.spent = sums, after
+            self.spent, self.sums[one.view] = self.spent_with(one), self.sum_with(one)
+            self.dearest[one.view[0]] = max(self.dearest.get(one.view[0], 0), self.sums[one.view])
             self.reserved.append(one)
         self.records.append(one)
-        return True
 
     def counts(self):
         """The line of an audit."""
@@ -177,8 +260,10 @@ def book_of(data, head, entry, analysts):
         raise Refused("changed")
     book = Book(entry, analysts)
     for k, record in enumerate(slots(data, entry["capacity"])):
-        if not book.add(record):
-            raise Refused(f"damaged {k}")
+        why = book.why_not(record)
+        if why:
+            raise Refused(f"damaged {k}", f"its record may not stand there: {why}")
+        book.keep(record)
     return book
 
 
@@ -200,6 +285,87 @@ def books(catalog_name, key_name, folder=".", file=contents):
             yield book_of(kept, header(data, order, key, file), entry, len(catalog["analysts"]))
         except Refused as refusal:
             yield f"journal {entry['name']} {refusal}"
+
+
+# A copy beside what became of it.
+
+
+def begun(data):
+    """The header of a journal's bytes and its open slots, up to the first closed one."""
+    gates = data[HEAD::SLOT]
+    return data[: HEAD + SLOT * (len(gates) - len(gates.lstrip(bytes([GATE]))))]
+
+
+def changes_since(copy, now):
+    """The numbers of the slots that a copy has and that aren't so now; None where the header isn't."""
+    kept = begun(copy)
+    if now[:HEAD] != kept[:HEAD]:
+        return None
+    return [(at - HEAD) // SLOT for at in range(HEAD, len(kept), SLOT) if now[at : at + SLOT] != kept[at : at + SLOT]]
+
+
+def in_slot(data, slot, entry, analysts):
+    """The record that a slot holds, in words, whatever may have become of it."""
+    bytes_of = data[HEAD + SLOT * slot : HEAD + SLOT * (slot + 1)]
+    record = decoded(bytes_of) if len(bytes_of) == SLOT and bytes_of[0] == GATE else None
+    try:
+        return record.said(entry, analysts) if record else "no record"
+    except IndexError:
+        return "a record of no such part or analyst"
+
+
+def compared(folder, catalog_name, key_name):
+    """A line an owner, and one for each record that a copy has otherwise; whether all is as it was."""
+    catalog, same = read(contents(catalog_name)), True
+    for order, entry in enumerate(catalog["owners"]):
+        try:
+            copy, now = contents(f"{folder}/{order}.bud"), contents(f"journals/{order}.bud")
+        except FileNotFoundError as fault:
+            print(f"{entry['name']}: there is no {fault.filename}")
+            same = False
+            continue
+        changed = changes_since(copy, now)
+        same = same and changed == []
+        if changed is None:
+            print(f"{entry['name']}: the header isn't that of the copy: it is another journal, or somebody has changed it")
+            changed = changes_since(copy, copy[:HEAD] + now[HEAD:])
+        total, kept = (max(len(begun(data)) - HEAD, 0) // SLOT for data in (now, copy))
+        print(f"{entry['name']}: records of the copy {kept}, changed {len(changed)}, now {total}")
+        for line in about_changed(copy, now, changed, lambda data, slot: in_slot(data, slot, entry, catalog["analysts"])):
+            print(f"    {line}")
+    return same
+
+
+def about_changed(copy, now, changed, said):
+    """What the first of the slots were and are that aren't as in a copy, and whether the last ones are gone."""
+    kept, left = ((len(begun(data)) - HEAD) // SLOT for data in (copy, now))
+    if left < kept:
+        yield f"the {kept - max(left, 0)} records from slot {max(left, 0)} on are gone: an older journal was put back, or its end was taken off"
+    for slot in changed[:MOST_TOLD]:
+        yield f"slot {slot} was: {said(copy, slot)}"
+        yield f"slot {slot} is: {said(now, slot)}"
+    if len(changed) > MOST_TOLD:
+        yield f"and {len(changed) - MOST_TOLD} more, up to slot {changed[-1]}"
+
+
+# Audits that were kept.
+
+FIGURES = ("reservations", "answered", "exhausted", "lost", "spent")
+AUDIT = re.compile(r"(\w+) " + " ".join(f"{name} ([0-9]+)" for name in FIGURES) + " budget [0-9]+")
+
+
+def fallen(lines):
+    """A sentence for each figure of an owner that is less than in the audit before; no figure falls."""
+    last = {}
+    for number, line in enumerate(lines, 1):
+        found = AUDIT.fullmatch(line.strip())
+        if not found:
+            continue
+        figures = dict(zip(FIGURES, map(int, found.groups()[1:])))
+        for name, before in last.get(found[1], {}).items():
+            if figures[name] < before:
+                yield f"line {number}: {found[1]} {name} fell from {before} to {figures[name]}: an old journal was put back, or somebody has changed it"
+        last[found[1]] = figures
 
 
 # Known values.
@@ -245,6 +411,14 @@ def check():
         (head + reservation.encoded() * 2 + bytes(64 * 98), "damaged 1"),
         (head + reservation.encoded() + settlement.encoded() * 2 + bytes(64 * 97), "damaged 2"),
     ]
+    check_sums(entry)
+    audits = ["census reservations 2 answered 1 exhausted 0 lost 1 spent 9 budget 10", "a day", "health reservations 1 answered 1 exhausted 0 lost 0 spent 3 "
+        "budget 9", "census reservations 2 answered 2 exhausted 0 lost 0 spent 9 budget 10"]  # fmt: skip
+    assert [line.split(":")[1] for line in fallen(audits)] == [" census lost fell from 1 to 0"] and not list(fallen(audits[:3] * 2))
+    # A copy of a reservation alone, beside what it became, and beside changes of it and of the header.
+    copy, grown = head + reservation.encoded() + bytes(64 * 99), head + reservation.encoded() + settlement.encoded() + bytes(64 * 98)
+    assert changes_since(copy, grown) == [] and changes_since(grown, copy) == [1] and changes_since(copy, head + bytes(6400)) == [0]
+    assert changes_since(copy, bytes(6528)) is None and changes_since(head + bytes(6400), grown) == [] and changes_since(copy, copy[:150]) == [0]
     for bytes_of, said in cases:
         try:
             book_of(bytes_of, head, entry, 2)
@@ -254,23 +428,62 @@ def check():
     print("all as known")
 
 
-def main():
-    if sys.argv[1:] == ["--check"]:
-        check()
-        return
-    if len(sys.argv) not in (3, 4):
-        sys.exit(__doc__)
-    analysts, refused = read(contents(sys.argv[1]))["analysts"], 0
-    for book in books(*sys.argv[1:]):
+def check_sums(entry):
+    """What is spent grows as the sums of all records say."""
+    parts = {**entry, "budget": 10**9, "partitions": [{"name": name, "keys": ["a", "b"]} for name in "xy"]}
+    book, held = Book(parts, 1), {}
+    for number, (view, e) in enumerate([(WHOLE, 5), ((0, 0), 3), ((0, 1), 4), ((1, 1), 2), ((0, 0), 2), (WHOLE, 1), ((0, 1), 9)]):
+        held[view] = held.get(view, 0) + e
+        one = Reservation(number, view, e, 1, 1, cost(held) - book.spent, 0, ONE)
+        assert book.add(one) and book.spent == cost(held), (number, book.spent, cost(held))
+    assert book.spent == 6 + 13 + 2
+
+
+def read_audits(name):
+    with open(name, encoding="utf-8", errors="replace") as file:
+        found = list(fallen(file))
+    print("\n".join(found) if found else f"{name}: no figure fell")
+    return not found
+
+
+def show(words):
+    """The records of each journal; whether none is refused."""
+    analysts, refused = read(contents(words[0]))["analysts"], False
+    for book in books(*words):
         if isinstance(book, str):
             print(book)
-            refused = 1
+            refused = True
             continue
         for record in book.records:
             print(record.said(book.entry, analysts))
         print(book.counts())
-    sys.exit(refused)
+    return not refused
+
+
+def main():
+    signal.signal(signal.SIGPIPE, signal.SIG_DFL)
+    words = sys.argv[1:]
+    if words == ["--check"]:
+        check()
+    elif words == ["--help"]:
+        print(__doc__.strip())
+    elif words[:1] == ["--compare"] and len(words) == 4:
+        sys.exit(0 if compared(*words[1:]) else 1)
+    elif words[:1] == ["--audits"] and len(words) == 2:
+        sys.exit(0 if read_audits(words[1]) else 1)
+    elif len(words) in (2, 3) and not words[0].startswith("--"):
+        sys.exit(0 if show(words) else 1)
+    else:
+        print(__doc__.strip(), file=sys.stderr)
+        sys.exit(2)
 
 
 if __name__ == "__main__":
-    main()
+    try:
+        main()
+    except OSError as fault:
+        print(f"journal.py: {fault.filename} can't be read: {fault.strerror}", file=sys.stderr)
+        sys.exit(2)
+    except BadCatalog:
+        print("journal.py: the catalog is none; tools/find_fault says where it is wrong, and why", file=sys.stderr)
+        sys.exit(2)

@@ -29,14 +29,13 @@ from cryptography.hazmat.primitives.ciphers import Cipher, algorithms
 
 from catalog import catalog, census, owner, read
 from journal import WHOLE, Book, Reservation, Settlement, books
+from lines import LINE_LIMIT, SCRIPT_LIMIT, lines_of, millionths, whole_number
 from programs import Refused
-from runs import Run, asked, judgement, value
+from runs import Run, asked, chain, judgement, unions, value
 from tables import cells, held, signature
 
 BUDGET = 10_000_000
 CAPACITY = 100
-LINE_LIMIT = 16_384
-SCRIPT_LIMIT = 2**24
 DRAW_LIMIT = 4096
 ROWS = (20, 30, 40)
 
@@ -98,31 +97,6 @@ class Sampler:
 def noise(epsilon, draws):
     scale = Fraction(10**6, epsilon)
     return Sampler(draws).laplace(scale.numerator, scale.denominator)
-
-
-def lines_of(script):
-    """The lines of a script. A last one without LF counts where it has a byte. One CR is dropped."""
-    lines = script.split(b"\n")
-    if lines[-1] == b"":
-        lines.pop()
-    return [line.removesuffix(b"\r") for line in lines]
-
-
-def millionths(text):
-    """An epsilon: 1 to 4 digits, perhaps a point and 1 to 6 digits; 0.000001 to 1000. None where it isn't one."""
-    whole, point, part = text.partition(b".")
-    digits = all(b in b"0123456789" for b in whole + part)
-    if not digits or not 1 <= len(whole) <= 4 or (point and not 1 <= len(part) <= 6):
-        return None
-    value = Fraction(int(whole)) + Fraction(int(part or b"0"), 10 ** len(part))
-    return int(value * 10**6) if 0 < value <= 1000 else None
-
-
-def whole_number(text):
-    """A number of 1 to 10 digits below 2^32, or None."""
-    if not 1 <= len(text) <= 10 or any(b not in b"0123456789" for b in text):
-        return None
-    return int(text) if int(text) < 2**32 else None
 
 
 def cost_of(charges):
@@ -353,22 +327,6 @@ KNOWN_DRAWS = """
 903df1a0ade0b876 28bd8653e56a5d40 1aed8da0b819d2bd c70d778bccef36a8 8d4857517c5941da 374ad8b83fe02477 1ca11815f4b8436a
 8665eeb269b687c3 7a385155bee7079f 0d082d737c97ba98 6965e348a0290fcb ed7aee323e53c612 434ee69c7621b729
 """.split()
-
-
-def chain(names, first, more, last):
-    """Lets of so many functions f0, f1, .., an @ standing for the one before, and then this call of the last one."""
-    text = f"let f0 = fun (x : num) => {first} in "
-    for name in range(1, names):
-        text += f"let f{name} = fun (x : num) => {more.replace('@', f'f{name - 1}')} in "
-    return (text + f"f{names - 1} {last}").encode()
-
-
-def unions(names):
-    """Lets of so many bags, each twice the one before, and then the size of the last one."""
-    text = "let a0 = union people people in "
-    for name in range(1, names):
-        text += f"let a{name} = union a{name - 1} a{name - 1} in "
-    return (text + f"size a{names - 1}").encode()
 
 
 KNOWN_PROGRAMS = [

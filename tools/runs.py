@@ -307,3 +307,22 @@ def judgement(text, tables=PEOPLE):
         return "ok " + sensitivity_text(asked(text, tables)[1])
     except Refused as refusal:
         return f"no {refusal}"
+
+
+# Programs at the limits of a run.
+
+
+def chain(names, first, more, last):
+    """Lets of so many functions f0, f1, .., an @ standing for the one before, and then this call of the last one."""
+    text = f"let f0 = fun (x : num) => {first} in "
+    for name in range(1, names):
+        text += f"let f{name} = fun (x : num) => {more.replace('@', f'f{name - 1}')} in "
+    return (text + f"f{names - 1} {last}").encode()
+
+
+def unions(names):
+    """Lets of so many bags, each twice the one before, and then the size of the last one."""
+    text = "let a0 = union people people in "
+    for name in range(1, names):
+        text += f"let a{name} = union a{name - 1} a{name - 1} in "
+    return (text + f"size a{names - 1}").encode()

@@ -24,7 +24,7 @@ use Rattle.discrete_laplace.specs.Noise.{noise_of}
 use Rattle.answer_path.specs.Reading.{read, IsReading}
 use Rattle.answer_path.specs.Judgement.{Judgement, HasValue}
 use Rattle.part_views.specs.Holding.{Holding}
-use Rattle.answer_path.specs.Owner.{Owner, IsOwnerOf, signature_of_view, rows_of_view}
+use Rattle.owner_house.specs.Owner.{Owner, IsOwnerOf, signature_of_view, rows_of_view}
 use Rattle.answer_path.specs.Query.{Query}
 use Rattle.answer_path.specs.Program.{IsCharged}
 use Rattle.answer_path.specs.Noise.{noise_at, scale_numerator, scale_denominator}
@@ -54,16 +54,16 @@ self records = ([], append-nil records)
 
 -- a grant has the next number
 abbrev given : Entry → ℕ → List Record → Ask → Grant
-given entry start records asking = record { number = next_number records; taken = rise_of records asking; seen = length records + 1 }
+given entry start records asking = record { number = next_number records; taken = rise_of entry records asking; seen = length records + 1 }
 
 pub grant_number : (entry : Entry) (start : ℕ) (records : List Record) (asking : Ask) (grant : Grant) → money_verdict entry start records asking ≡ Ok grant → grant.number ≡ next_number records
-grant_number entry start records asking grant is = over (nat_lt entry.budget (cost_with records asking)) is
+grant_number entry start records asking grant is = over (nat_lt entry.budget (cost_with entry records asking)) is
   where
     full : (b : Bool) → cond {A = Result Grant ReserveFault} b (Err (Full (length records) (open_from start records) entry.capacity)) (Ok (given entry start records asking)) ≡ Ok grant → grant.number ≡ next_number records
     full true is = cc
     full false is = let same : given entry start records asking ≡ grant = cc in ap (λ (g : Grant). g.number) (sym same)
 
-    over : (b : Bool) → cond {A = Result Grant ReserveFault} b (Err (OverBudget (cost_of records) (cost_with records asking) entry.budget (length records)))
+    over : (b : Bool) → cond {A = Result Grant ReserveFault} b (Err (OverBudget (cost_of entry records) (cost_with entry records asking) entry.budget (length records)))
         (cond (nat_lt entry.capacity (length records + open_from start records + 2)) (Err (Full (length records) (open_from start records) entry.capacity)) (Ok (given entry start records asking))) ≡ Ok grant
         → grant.number ≡ next_number records
     over true is = cc

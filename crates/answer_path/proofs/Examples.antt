@@ -4,7 +4,8 @@ use Rattle.std.specs.Prelude.{ℤ, ◌+ℤ◌}
 use Rattle.partition_charge.specs.declared.view.View.TheVariants.{Whole}
 use Rattle.journal_records.specs.declared.records.Outcome.TheVariants.{Answered, Exhausted, Lost}
 use Rattle.journal_records.specs.declared.records.Record.{Record}
-use Rattle.journal_records.specs.declared.records.Record.TheVariants.{Reserve, Settle}
+use Rattle.journal_records.specs.declared.records.Record.TheVariants.{Reserve}
+use Rattle.journal_records.specs.Records.{settling}
 use Rattle.sha2.specs.Sha256.{sha256}
 use Rattle.budget_core.specs.declared.entry.Ask.{Ask}
 use Rattle.budget_core.specs.declared.entry.Grant.{Grant}
@@ -32,15 +33,13 @@ use Rattle.wire_lines.specs.declared.refusal.NumberRefusal.TheVariants.{Exhauste
 use Rattle.wire_lines.specs.declared.refusal.TypeFault.TheVariants.{Unbound, Mismatch, NotGround, NotFlat}
 use Rattle.answer_path.specs.Reading.{unlexed, stuck, nested, read}
 use Rattle.answer_path.specs.Judgement.{refused_for, accepted, fault_refusal, shape_refusal, judgement_of, HasValue}
-use Rattle.answer_path.specs.Owner.{Owner}
+use Rattle.owner_house.specs.Owner.{Owner}
 use Rattle.answer_path.specs.Query.{Query}
 use Rattle.part_views.specs.Views.{signature_in, rows_in}
 use Rattle.answer_path.specs.Program.{IsCharged}
 use Rattle.answer_path.specs.Noise.{scale_numerator, scale_denominator, noise_at}
 use Rattle.answer_path.specs.Verdict.{program_refused, money_refused, granted, ask_for, money_refusal, IsVerdict}
 use Rattle.answer_path.specs.Answered.{HasWorthIn, IsSettledAt, IsSettledBy, HasSmallAnswer, answer_limit, outcome_reply, grant_records, IsAsked}
-use Rattle.budget_ledger.specs.Account.{Storage}
-use Rattle.answer_path.specs.Pass.{first_of_run, told_behind, records_told}
 use Rattle.answer_path.proofs.Answering.{money_says, noise_is}
 use Rattle.answer_path.proofs.Scales.{scale_is}
 use Rattle.answer_path.proofs.SizePeople.{size_people, size_term, size_reads, span}
@@ -236,18 +235,18 @@ refusal_is_small = tt
 
 -- an ask carries the query's analyst, view and epsilon, and the digest of its program, and a reservation the ask's
 abbrev pub a_query : List ℕ → Query
-a_query program = record { owner = 2; analyst = 5; view = Whole; e = 1000000; program = program }
+a_query program = record { analyst = 5; view = Whole; e = 1000000; program = program }
 
 abbrev pub an_ask : Ask
-an_ask = record { analyst = 5; view = Whole; e = 1000000; p = 1; q = 1; program = sha256 size_people }
+an_ask = record { analyst = 5; view = Whole; e = 1000000; p = 1; q = 1; digest = sha256 size_people }
 
 ask_is : ask_for (a_query size_people) 1 1 ≡ an_ask
 ask_is = refl
 
 abbrev pub reserved : ℕ → Record
-reserved number = Reserve (record { number = number; view = Whole; e = 1000000; p = 1; q = 1; taken = 1000000; analyst = 5; program = sha256 size_people })
+reserved number = Reserve (record { number = number; view = Whole; e = 1000000; p = 1; q = 1; taken = 1000000; analyst = 5; digest = sha256 size_people })
 
-records_are : grant_records an_ask (a_grant 4 1000000 9) Exhausted ≡ reserved 4 ∷ Settle 4 Exhausted ∷ []
+records_are : grant_records an_ask (a_grant 4 1000000 9) Exhausted ≡ reserved 4 ∷ settling 4 Exhausted ∷ []
 records_are = refl
 
 -- Verdicts: the budget is asked after the program, and then the journal's room.
@@ -277,9 +276,9 @@ over_budget : IsVerdict (owner 999999 2).entry (people ∷ []) 0 [] (a_query siz
 unfolding cost_of cost_of_charges partition_cost signature_in
 over_budget = money_says (owner 999999 2) 0 [] (a_query size_people) 1 1 _ charged refl
 
-no_room : IsVerdict (owner 2000000 3).entry (people ∷ []) 0 (reserved 0 ∷ Settle 0 Exhausted ∷ []) (a_query size_people) (money_refused (JournalFull 2 0 3))
+no_room : IsVerdict (owner 2000000 3).entry (people ∷ []) 0 (reserved 0 ∷ settling 0 Exhausted ∷ []) (a_query size_people) (money_refused (JournalFull 2 0 3))
 unfolding cost_of cost_of_charges partition_cost signature_in
-no_room = money_says (owner 2000000 3) 0 (reserved 0 ∷ Settle 0 Exhausted ∷ []) (a_query size_people) 1 1 _ charged refl
+no_room = money_says (owner 2000000 3) 0 (reserved 0 ∷ settling 0 Exhausted ∷ []) (a_query size_people) 1 1 _ charged refl
 
 -- the program's value and the noise settle its reservation, and so does want of memory
 pub settled_by_three : noise_at 1000000 draws_of_minus_one ≡ Some (negsuc 0) → IsSettledBy (owner 9000000 100) (λ number. draws_of_minus_one) (a_query size_people) 1 (Answered (pos 2))
@@ -292,13 +291,13 @@ settled_as_lost = subst (λ (k : Option ℤ). IsSettledAt (HasWorthIn (owner 900
 
 -- A line that saw nothing, where another line reserved and settled before it, and a third reserves meanwhile.
 abbrev pub before : List Record
-before = reserved 0 ∷ Settle 0 Exhausted ∷ []
+before = reserved 0 ∷ settling 0 Exhausted ∷ []
 
 abbrev meanwhile : List Record
 meanwhile = before ++ reserved 1 ∷ reserved 2 ∷ []
 
 asked_among_others : IsAsked (owner 9000000 100) (λ number. draws_of_minus_one) 0 (a_query size_people) [] (answered 1 (pos 2) 1000000)
-    ((2, reserved 1) ∷ (4, Settle 1 (Answered (pos 2))) ∷ []) (meanwhile ++ Settle 1 (Answered (pos 2)) ∷ [])
+    ((2, reserved 1) ∷ (4, settling 1 (Answered (pos 2))) ∷ []) (meanwhile ++ settling 1 (Answered (pos 2)) ∷ [])
 unfolding IsAsked cost_of cost_of_charges partition_cost signature_in
 asked_among_others = (
   before,
@@ -320,7 +319,7 @@ asked_among_others = (
 
 -- the same line where memory ran out after its reservation
 asked_and_lost : IsAsked (owner 9000000 100) (λ number. draws_of_minus_one) 0 (a_query size_people) [] (refused (by_number (NoAnswer 1)))
-    ((2, reserved 1) ∷ (4, Settle 1 Lost) ∷ []) (meanwhile ++ Settle 1 Lost ∷ [])
+    ((2, reserved 1) ∷ (4, settling 1 Lost) ∷ []) (meanwhile ++ settling 1 Lost ∷ [])
 unfolding IsAsked cost_of cost_of_charges partition_cost signature_in
 asked_and_lost = (
   before,
@@ -352,16 +351,3 @@ nothing_is_unseen draws after (g, begins, inl (money_refused r, is, (said, none,
 nothing_is_unseen draws after (g, begins, inl (granted asking grant, is, inl two)) gone = cc (two.told_is)
 nothing_is_unseen draws after (g, begins, inl (granted asking grant, is, inr (refusal, said, rest))) gone = cc (said)
 nothing_is_unseen draws after (g, begins, inr (said, none, rest)) gone = cc (begins.1, rest, gone)
-
--- What a pass shows: its own records have their places behind those found.
-told_is : told_behind (reserved 0 ∷ []) (reserved 0 ∷ reserved 1 ∷ Settle 1 Lost ∷ []) ≡ (1, reserved 1) ∷ (2, Settle 1 Lost) ∷ []
-told_is = refl
-
-told_records : records_told ((1, reserved 1) ∷ (4, Settle 1 Lost) ∷ []) ≡ reserved 1 ∷ Settle 1 Lost ∷ []
-told_records = refl
-
-abbrev pub a_storage : Storage
-a_storage = record { header = record { owner = 2; budget = 9000000; capacity = 100; digest = [] }; trace = None; faults = 3; closed = None }
-
-run_begins : first_of_run (record { entry = (owner 1 2).entry; found = reserved 0 ∷ Settle 0 Lost ∷ reserved 1 ∷ []; seen = []; own = []; storage = a_storage }) ≡ 2
-run_begins = refl

@@ -4,7 +4,7 @@ use Rattle.std.specs.Prelude.{ℤ}
 use Rattle.journal_records.specs.declared.records.Outcome.{Outcome}
 use Rattle.journal_records.specs.declared.records.Outcome.TheVariants.{Answered, Exhausted, Lost}
 use Rattle.journal_records.specs.declared.records.Record.{Record}
-use Rattle.journal_records.specs.declared.records.Record.TheVariants.{Settle}
+use Rattle.journal_records.specs.Records.{settling}
 use Rattle.budget_core.specs.declared.entry.Grant.{Grant}
 use Rattle.budget_core.specs.Cost.{cost_of}
 use Rattle.partition_charge.specs.Cost.{cost_of_charges, partition_cost}
@@ -18,7 +18,7 @@ use Rattle.wire_lines.specs.declared.refusal.NumberRefusal.TheVariants.{Exhauste
 use Rattle.wire_lines.specs.declared.refusal.TypeFault.TheVariants.{Unbound}
 use Rattle.answer_path.specs.Reading.{Reading, read, IsReading}
 use Rattle.answer_path.specs.Judgement.{Judgement, refused_for, accepted, judgement_of}
-use Rattle.answer_path.specs.Owner.{Owner}
+use Rattle.owner_house.specs.Owner.{Owner}
 use Rattle.answer_path.specs.Query.{Query}
 use Rattle.part_views.specs.Views.{signature_in}
 use Rattle.answer_path.specs.Program.{IsCharged}
@@ -75,7 +75,7 @@ exhausted_at : (draws : ℕ → ℕ) → noise_at 1000000 draws ≡ None → IsS
 exhausted_at draws none = subst (λ (k : Option ℤ). IsSettledAt (HasWorthIn (owner 9000000 100) query) k Exhausted) (sym none) refl
 
 asked_and_exhausted : (draws : ℕ → ℕ) → noise_at 1000000 draws ≡ None → IsAsked (owner 9000000 100) (λ number. draws) 0 query [] (refused (by_number (NoNoise 1)))
-    ((2, reserved 1) ∷ (3, Settle 1 Exhausted) ∷ []) (before ++ reserved 1 ∷ Settle 1 Exhausted ∷ [])
+    ((2, reserved 1) ∷ (3, settling 1 Exhausted) ∷ []) (before ++ reserved 1 ∷ settling 1 Exhausted ∷ [])
 unfolding IsAsked cost_of cost_of_charges partition_cost signature_in
 asked_and_exhausted draws none = (
   before,
@@ -191,7 +191,7 @@ not_lost_without_noise draws none told after (g, begins, inl (granted asking gra
 not_lost_without_noise draws none told after (g, begins, inr (said, nothing, rest)) = absurd (cc (said))
 
 -- The same of a line among which no other adds records: answered, lost and refused; and want of memory adds nothing.
-answered_alone : IsAnswered (owner 9000000 100) (λ number. draws_of_minus_one) 0 before query (answered 1 (pos 2) 1000000) (reserved 1 ∷ Settle 1 (Answered (pos 2)) ∷ [])
+answered_alone : IsAnswered (owner 9000000 100) (λ number. draws_of_minus_one) 0 before query (answered 1 (pos 2) 1000000) (reserved 1 ∷ settling 1 (Answered (pos 2)) ∷ [])
 unfolding IsAnswered cost_of cost_of_charges partition_cost signature_in
 answered_alone = (
   granted an_ask (a_grant 1 1000000 3),
@@ -199,7 +199,7 @@ answered_alone = (
   inl (Answered (pos 2), settled_by_three minus_one, refl, refl),
 )
 
-lost_alone : IsAnswered (owner 9000000 100) (λ number. draws_of_minus_one) 0 before query (refused (by_number (NoAnswer 1))) (reserved 1 ∷ Settle 1 Lost ∷ [])
+lost_alone : IsAnswered (owner 9000000 100) (λ number. draws_of_minus_one) 0 before query (refused (by_number (NoAnswer 1))) (reserved 1 ∷ settling 1 Lost ∷ [])
 unfolding IsAnswered cost_of cost_of_charges partition_cost signature_in
 lost_alone = (
   granted an_ask (a_grant 1 1000000 3),

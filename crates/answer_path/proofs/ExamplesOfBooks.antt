@@ -1,8 +1,9 @@
 -- Lines at a book whose disk fails, and what is said of a number and of the budget, at worked records.
-use Rattle.std.proofs.Common.{◌≡◌, ℕ, List, [], ◌∷◌, ◌++◌, Some, None, refl, ◌∙◌, ap, subst, arith, pos, inl, inr}
+use Rattle.std.proofs.Common.{◌≡◌, ℕ, List, [], ◌∷◌, ◌++◌, Some, None, codes, refl, ◌∙◌, ap, subst, arith, pos, inl, inr}
 use Rattle.journal_records.specs.declared.records.Outcome.TheVariants.{Answered, Exhausted, Lost}
 use Rattle.journal_records.specs.declared.records.Record.{Record}
 use Rattle.journal_records.specs.declared.records.Record.TheVariants.{Reserve, Settle}
+use Rattle.journal_records.specs.Records.{settling}
 use Rattle.budget_core.specs.declared.entry.Ask.{Ask}
 use Rattle.budget_core.specs.declared.entry.Grant.{Grant}
 use Rattle.budget_core.specs.Cost.{cost_of}
@@ -19,7 +20,8 @@ use Rattle.answer_path.specs.Judgement.{Judgement}
 use Rattle.answer_path.specs.Query.{Query}
 use Rattle.answer_path.specs.Verdict.{ask_for, granted, IsVerdict, IsVerdictBy}
 use Rattle.answer_path.specs.Answered.{IsAnswered, IsAsked, granted_record}
-use Rattle.answer_path.specs.Closing.{Closes, IsGrantPending}
+use Rattle.answer_path.specs.Shut.{IsGrantPending}
+use Rattle.answer_path.specs.Closing.{Closes}
 use Rattle.answer_path.specs.Standing.{IsBalance, IsRecalled}
 use Rattle.answer_path.proofs.Answering.{money_says}
 use Rattle.answer_path.proofs.SizePeople.{size_people}
@@ -32,6 +34,11 @@ query = a_query size_people
 -- an append of this record failed, the disk's third failure
 abbrev failed : Record → Failure
 failed next = record { failed_at = 3; pending = next }
+
+-- the number that a settlement settles
+abbrev settled_number : Record → ℕ
+settled_number (Settle settlement) = settlement.number
+settled_number (Reserve reservation) = 0
 
 -- 52 at the reservation: nothing was added, and the book is closed with that reservation pending.
 fault_at_reservation : (draws : ℕ → ℕ → ℕ) → IsAsked (owner 9000000 100) draws 0 query [] (refused (by_disk Fault)) [] before
@@ -51,7 +58,7 @@ unfolding signature_in
 closed_at_reservation draws = (failed (reserved 1), refl, refl, (1, 1, charged, a_grant 1 1000000 3, refl))
 
 -- That reservation is what is due: number 1, which raises the cost by 1000000. No other number or charge is.
-due_at_reservation : IsGrantPending (owner 9000000 100) 0 before query [] (refused (by_disk Fault)) (Some (failed (reserved 1)))
+due_at_reservation : IsGrantPending (owner 9000000 100) 0 query (refused (by_disk Fault)) [] before (Some (failed (reserved 1)))
 unfolding cost_of cost_of_charges partition_cost signature_in
 due_at_reservation = (failed (reserved 1), refl, (an_ask, a_grant 1 1000000 3, money_says (owner 9000000 100) 0 before query 1 1 _ charged refl, refl))
 
@@ -62,7 +69,7 @@ unfolding IsVerdict cost_of cost_of_charges partition_cost
 granted_once asking grant (reading, reads, by) =
     subst (λ (j : Judgement). IsVerdictBy (owner 9000000 100).entry 0 before query j (granted asking grant)) (judged_at_one reading reads) by
 
-pending_is : (next : Record) → IsGrantPending (owner 9000000 100) 0 before query [] (refused (by_disk Fault)) (Some (failed next)) → next ≡ reserved 1
+pending_is : (next : Record) → IsGrantPending (owner 9000000 100) 0 query (refused (by_disk Fault)) [] before (Some (failed next)) → next ≡ reserved 1
 unfolding signature_in
 pending_is next (failure, shut, (asking, grant, is, made)) =
     let same : failed next ≡ failure = cc shut in
@@ -73,17 +80,17 @@ pending_is next (failure, shut, (asking, grant, is, made)) =
 
 number_of : Record → ℕ
 number_of (Reserve reservation) = reservation.number
-number_of (Settle number outcome) = number
+number_of (Settle settlement) = settlement.number
 
-not_due_of_another_number : IsGrantPending (owner 9000000 100) 0 before query [] (refused (by_disk Fault)) (Some (failed (reserved 2))) → ⊥
+not_due_of_another_number : IsGrantPending (owner 9000000 100) 0 query (refused (by_disk Fault)) [] before (Some (failed (reserved 2))) → ⊥
 unfolding number_of
 not_due_of_another_number due = let same : 2 ≡ 1 = ap number_of (pending_is (reserved 2) due) in omega (arith, same)
 
 rise_by : Record → ℕ
 rise_by (Reserve reservation) = reservation.taken
-rise_by (Settle number outcome) = 0
+rise_by (Settle settlement) = 0
 
-not_due_at_another_charge : IsGrantPending (owner 9000000 100) 0 before query [] (refused (by_disk Fault)) (Some (failed (granted_record an_ask (a_grant 1 999999 3)))) → ⊥
+not_due_at_another_charge : IsGrantPending (owner 9000000 100) 0 query (refused (by_disk Fault)) [] before (Some (failed (granted_record an_ask (a_grant 1 999999 3)))) → ⊥
 unfolding rise_by
 not_due_at_another_charge due =
     let same : 999999 ≡ 1000000 = ap rise_by (pending_is (granted_record an_ask (a_grant 1 999999 3)) due) in omega (arith, same)
@@ -110,8 +117,8 @@ fault_alone draws = (
 )
 
 closed_at_settlement :
-    Closes (owner 9000000 100) (λ number. draws_of_minus_one) query (refused (by_disk Fault)) ((2, reserved 1) ∷ []) None (Some (failed (Settle 1 (Answered (pos 2)))))
-closed_at_settlement = (failed (Settle 1 (Answered (pos 2))), refl, refl, (Answered (pos 2), settled_by_three minus_one, refl))
+    Closes (owner 9000000 100) (λ number. draws_of_minus_one) query (refused (by_disk Fault)) ((2, reserved 1) ∷ []) None (Some (failed (settling 1 (Answered (pos 2)))))
+closed_at_settlement = (failed (settling 1 (Answered (pos 2))), refl, refl, (Answered (pos 2), settled_by_three minus_one, refl))
 
 -- 42 after it: the count of then is said, and nothing changes.
 closed_before : (draws : ℕ → ℕ → ℕ) (next : Record) → Closes (owner 9000000 100) draws query (refused (by_disk (Closed 3))) [] (Some (failed next)) (Some (failed next))
@@ -127,11 +134,14 @@ not_closed_while_open draws (failure, was, said, none, rest) = absurd (cc was)
 not_open_after_a_fault : (draws : ℕ → ℕ → ℕ) → Closes (owner 9000000 100) draws query (refused (by_disk Fault)) [] None None → ⊥
 not_open_after_a_fault draws (failure, was, shut, rest) = absurd (cc shut)
 
-not_of_another_number : (draws : ℕ → ℕ → ℕ) → Closes (owner 9000000 100) draws query (refused (by_disk Fault)) ((2, reserved 1) ∷ []) None (Some (failed (Settle 2 Lost))) → ⊥
-not_of_another_number draws (failure, was, shut, (outcome, settles, is)) = absurd (cc (shut, is))
+not_of_another_number : (draws : ℕ → ℕ → ℕ) → Closes (owner 9000000 100) draws query (refused (by_disk Fault)) ((2, reserved 1) ∷ []) None (Some (failed (settling 2 Lost))) → ⊥
+not_of_another_number draws (failure, was, shut, (outcome, settles, is)) =
+    let here : failed (settling 2 Lost) ≡ failure = cc (shut) in
+    let two : 2 ≡ 1 = ap settled_number (ap (λ (f : Failure). f.pending) here ∙ is) in
+    omega (arith, two)
 
 -- An answer leaves an open book open, and none comes of a closed one. What is refused before the budget leaves either as it is.
-answered_open : (draws : ℕ → ℕ → ℕ) → Closes (owner 9000000 100) draws query (answered 1 (pos 2) 1000000) ((2, reserved 1) ∷ (3, Settle 1 (Answered (pos 2))) ∷ []) None None
+answered_open : (draws : ℕ → ℕ → ℕ) → Closes (owner 9000000 100) draws query (answered 1 (pos 2) 1000000) ((2, reserved 1) ∷ (3, settling 1 (Answered (pos 2))) ∷ []) None None
 answered_open draws = (refl, refl)
 
 not_answered_closed : (draws : ℕ → ℕ → ℕ) (next : Record) → Closes (owner 9000000 100) draws query (answered 1 (pos 2) 1000000) [] (Some (failed next)) (Some (failed next)) → ⊥
@@ -141,23 +151,28 @@ refused_closed : (draws : ℕ → ℕ → ℕ) (next : Record) → Closes (owner
 refused_closed draws next = refl
 
 -- A reservation carries the digest of its program, and no other.
-program_of : Record → List ℕ
-program_of (Reserve reservation) = reservation.program
-program_of (Settle number outcome) = []
+digest_of : Record → List ℕ
+digest_of (Reserve reservation) = reservation.digest
+digest_of (Settle settlement) = []
 
-carries_the_digest : (grant : Grant) → program_of (granted_record (ask_for query 1 1) grant) ≡ sha256 size_people
-unfolding program_of
+carries_the_digest : (grant : Grant) → digest_of (granted_record (ask_for query 1 1) grant) ≡ sha256 size_people
+unfolding digest_of
 carries_the_digest grant = refl
 
-not_another_digest : (grant : Grant) (digest : List ℕ) → granted_record (record an_ask { program = digest }) grant ≡ granted_record (ask_for query 1 1) grant → digest ≡ sha256 size_people
-unfolding program_of
-not_another_digest grant digest is = ap program_of is
+not_another_digest : (grant : Grant) (digest : List ℕ) → granted_record (record an_ask { digest = digest }) grant ≡ granted_record (ask_for query 1 1) grant → digest ≡ sha256 size_people
+unfolding digest_of
+not_another_digest grant digest is = ap digest_of is
+
+-- Blanks at the ends are of the program.
+carries_the_blanks : (grant : Grant) → digest_of (granted_record (ask_for (record query { program = codes " size people " }) 1 1) grant) ≡ sha256 (codes " size people ")
+unfolding digest_of
+carries_the_blanks grant = refl
 
 -- What is recalled: an answer, a number that none has, another analyst's, one exhausted, one lost, one of this run that is open,
 -- and one that an earlier run left open.
 abbrev history : List Record
 history =
-    reserved 0 ∷ Settle 0 (Answered (pos 5)) ∷ reserved 1 ∷ Settle 1 Exhausted ∷ reserved 2 ∷ Settle 2 Lost ∷ reserved 3 ∷ reserved 4 ∷ []
+    reserved 0 ∷ settling 0 (Answered (pos 5)) ∷ reserved 1 ∷ settling 1 Exhausted ∷ reserved 2 ∷ settling 2 Lost ∷ reserved 3 ∷ reserved 4 ∷ []
 
 recalled_first : IsRecalled 4 5 0 before (recalled 0 StandsExhausted 2) before
 unfolding IsRecalled

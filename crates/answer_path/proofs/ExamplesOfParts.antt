@@ -22,7 +22,7 @@ use Rattle.wire_lines.specs.declared.refusal.MoneyRefusal.TheVariants.{OverBudge
 use Rattle.wire_lines.specs.declared.refusal.TypeFault.TheVariants.{Unbound}
 use Rattle.answer_path.specs.Reading.{Reading, read, IsReading}
 use Rattle.answer_path.specs.Judgement.{Judgement, accepted, judgement_of, refused_for, HasValue}
-use Rattle.answer_path.specs.Owner.{Owner, signature_of_view}
+use Rattle.owner_house.specs.Owner.{Owner, signature_of_view}
 use Rattle.answer_path.specs.Query.{Query}
 use Rattle.answer_path.specs.Program.{IsCharged}
 use Rattle.answer_path.specs.Verdict.{program_refused, money_refused, granted, ask_for, IsVerdict, IsVerdictBy}
@@ -71,7 +71,7 @@ owner budget = record {
 }
 
 abbrev query : View → (e : ℕ) → Query
-query view e = record { owner = 2; analyst = 5; view = view; e = e; program = size_people }
+query view e = record { analyst = 5; view = view; e = e; program = size_people }
 
 -- A query is of an analyst and a view of the entry, at an epsilon in its range: the last analyst and city, at the greatest.
 is_of_hull : IsQueryOf (owner 10).entry (query hull 1000000000)

@@ -2,6 +2,7 @@ mod Examples
 mod ExamplesOfAnswers
 mod ExamplesOfBooks
 mod ExamplesOfParts
+mod ExamplesOfShut
 mod Limits
 pub mod Told
 pub mod Readings
@@ -12,11 +13,11 @@ pub mod Charged
 pub mod Scales
 pub mod Blind
 pub mod Digests
-pub mod Passes
 pub mod Answering
-pub mod Booking
 pub mod Turns
 pub mod Standings
+pub mod Meets
 pub mod Alone
+pub mod Sole
 pub mod Lost
 pub mod SizePeople

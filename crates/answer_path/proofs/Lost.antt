@@ -8,7 +8,7 @@ use Rattle.wire_lines.specs.Refusal.{by_number}
 use Rattle.wire_lines.specs.declared.refusal.NumberRefusal.TheVariants.{Lost as NoAnswer}
 use Rattle.answer_path.specs.Verdict.{program_refused, money_refused, granted}
 use Rattle.answer_path.specs.Answered.{outcome_reply, grant_records, IsAsked}
-use Rattle.answer_path.specs.Pass.{records_told}
+use Rattle.owner_desk.specs.Passes.{records_told}
 use Rattle.answer_path.specs.Laws.{LostAreCharged}
 
 -- only a lost outcome is told so, by its grant's number

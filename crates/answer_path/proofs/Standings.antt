@@ -1,15 +1,35 @@
--- what a pass tells of a number and of the budget
-use Rattle.std.proofs.Common.{◌≡◌, ℕ, refl}
+-- what is told of a number and of the budget
+use Rattle.std.proofs.Common.{◌≡◌, ℕ, ap, subst, ◌∙◌, sym, refl}
 use Rattle.budget_core.specs.Answers.{left_of, recalled}
+use Rattle.budget_core.specs.Ledger.{Ledger}
+use Rattle.budget_core.specs.declared.answers.Left.{Left}
+use Rattle.budget_core.specs.declared.answers.Recall.{Recall}
+use Rattle.budget_core.specs.declared.answers.Recall.TheVariants.{Unknown, NotYours, Answer, Open, Lost, Exhausted}
 use Rattle.wire_lines.specs.Reply.{Replied}
-use Rattle.answer_path.specs.Pass.{Pass, first_of_run, ledger_of}
+use Rattle.owner_desk.specs.Passes.{Pass, first_of_run}
+use Rattle.owner_desk.specs.Answers.{HasLooked, Stays}
+use Rattle.answer_path.specs.Answered.{HasSmallAnswer}
 use Rattle.answer_path.specs.Standing.{IsBalance, IsRecalled, left_reply, recall_reply}
-use Rattle.answer_path.proofs.Answering.{self}
 
-pub is_recalled : (pass : Pass) (number analyst : ℕ) (reply : Replied) → reply ≡ recall_reply number (recalled (ledger_of pass) number analyst) → IsRecalled (first_of_run pass) analyst number pass.seen reply pass.seen
+-- where nothing was done to a book, the pass has the records on which it was told
+pub stays_so : (before after : Pass) (IsTold : Ledger → Type 0) → HasLooked before IsTold after → Stays before after.seen after
+stays_so before after IsTold (g, begins, told, stays) = record { seen = refl; own = stays.own; faults = stays.faults; closed = stays.closed }
+
+pub is_recalled : (before after : Pass) (recall : Recall) (number analyst : ℕ) (reply : Replied) → HasLooked before (λ ledger. recall ≡ recalled ledger number analyst) after → reply ≡ recall_reply number recall
+    → IsRecalled (first_of_run before) analyst number before.seen reply after.seen
 unfolding IsRecalled
-is_recalled pass number analyst reply is = (pass.seen, self pass.seen, is, refl)
+is_recalled before after recall number analyst reply (g, begins, told, stays) is = (g, begins, is ∙ ap (recall_reply number) told, stays.seen)
 
-pub is_balance : (pass : Pass) (reply : Replied) → reply ≡ left_reply (left_of (ledger_of pass)) → IsBalance pass.entry pass.seen reply pass.seen
+pub is_balance : (before after : Pass) (reply : Replied) (left : Left) → HasLooked before (λ ledger. left ≡ left_of ledger) after → reply ≡ left_reply left
+    → IsBalance before.opened.ledger.entry before.seen reply after.seen
 unfolding IsBalance
-is_balance pass reply is = (pass.seen, self pass.seen, is, refl)
+is_balance before after reply left (g, begins, told, stays) is = (g, begins, is ∙ ap left_reply told, stays.seen)
+
+-- what is told of a number is no answer that was drawn now
+pub recall_small : (number : ℕ) (recall : Recall) → HasSmallAnswer (recall_reply number recall)
+recall_small number (Unknown seen) = tt
+recall_small number (NotYours seen) = tt
+recall_small number (Answer value seen) = tt
+recall_small number (Open seen) = tt
+recall_small number (Lost seen) = tt
+recall_small number (Exhausted seen) = tt

@@ -30,7 +30,8 @@ use Rattle.shape_run.specs.declared.plan.ShapeFault.TheVariants.{TooDeep, TooLon
 use Rattle.shape_run.specs.Plans.{IsPlanOf, IsStopOf}
 use Rattle.wire_lines.specs.Refusal.{Refusal, by_line, by_program, by_money, by_disk, by_number, no_memory}
 use Rattle.answer_path.specs.Reading.{unlexed, stuck, nested, read, IsReading}
-use Rattle.answer_path.specs.Judgement.{accepted, judgement_of, judged_by, shaped_by, fault_refusal, AreNames}
+use Rattle.answer_path.specs.Judgement.{accepted, judgement_of, judged_by, shaped_by, fault_refusal}
+use Rattle.owner_house.specs.Names.{AreNames}
 use Rattle.answer_path.specs.Code.{IsProgramRefusal, IsTermRefusal, lex_refusal, parse_refusal, limit_refusal, HasTable, TellsFault}
 
 -- a table's name can be said in a reply

@@ -1,11 +1,15 @@
 -- what one line makes of a pass, by what comes of its program and of the budget
-use Rattle.std.proofs.Common.{◌≡◌, ℕ, List, [], ◌∷◌, ◌++◌, length, refl, sym, subst, ◌∙◌, append-nil, inl, inr, Option}
+use Rattle.std.proofs.Common.{◌≡◌, ℕ, List, [], ◌∷◌, ◌++◌, length, refl, sym, ap, subst, ◌∙◌, append-nil, append_assoc, inl, inr, Option, Some, None}
 use Rattle.std.specs.Prelude.{Result, Ok, Err}
+use Rattle.std.proofs.lemmas.List.{append_cancel_left}
+use mathlib.Core.List.{IsPrefix}
 use Rattle.journal_records.specs.declared.records.Outcome.{Outcome}
 use Rattle.journal_records.specs.declared.records.Outcome.TheVariants.{Answered, Exhausted, Lost}
-use Rattle.journal_records.specs.declared.records.Record.TheVariants.{Settle}
+use Rattle.journal_records.specs.declared.records.Record.{Record}
+use Rattle.journal_records.specs.Records.{settling}
 use Rattle.budget_core.specs.declared.entry.Ask.{Ask}
 use Rattle.budget_core.specs.declared.entry.Grant.{Grant}
+use Rattle.budget_core.specs.Ledger.{reservation_for}
 use Rattle.budget_ledger.specs.declared.failure.Failure.{Failure}
 use Rattle.budget_ledger.specs.declared.book.AppendFault.{AppendFault}
 use Rattle.budget_ledger.specs.declared.book.AppendFault.TheVariants.{Closed, DiskFault}
@@ -16,17 +20,31 @@ use Rattle.wire_lines.specs.Refusal.{Refusal, by_line, by_program, by_money, by_
 use Rattle.wire_lines.specs.declared.refusal.DiskRefusal.TheVariants.{Closed as IsClosed, Fault}
 use Rattle.part_views.specs.Holding.{Holding}
 use Rattle.part_views.specs.Views.{signature_in}
-use Rattle.answer_path.specs.Owner.{Owner, IsOwnerOf, signature_of_view}
+use Rattle.owner_house.specs.Owner.{Owner, IsOwnerOf, signature_of_view}
+use Rattle.owner_desk.specs.Passes.{Pass, Told, first_of_run}
+use Rattle.owner_desk.specs.Answers.{Adds, HasReserved, HasSettled, IsSettledOn, verdict_on}
 use Rattle.answer_path.specs.Query.{Query}
 use Rattle.answer_path.specs.Program.{IsCharged}
-use Rattle.answer_path.specs.Verdict.{program_refused, money_refused, granted, ask_for, money_refusal}
-use Rattle.answer_path.specs.Answered.{Told, HasSmallAnswer, IsAsked, IsSettledBy, granted_record, outcome_reply}
-use Rattle.answer_path.specs.Closing.{Closes, IsGrantPending, StaysOpen}
-use Rattle.answer_path.specs.Pass.{Pass, first_of_run}
-use Rattle.answer_path.specs.Turn.{IsTurn, HasReserved, HasSettled, book_refusal, settled_reply}
+use Rattle.answer_path.specs.Verdict.{program_refused, money_refused, granted, ask_for, money_refusal, IsVerdict}
+use Rattle.answer_path.specs.Answered.{HasSmallAnswer, IsAsked, IsSettledBy, granted_record, outcome_reply}
+use Rattle.answer_path.specs.Shut.{FailsBy, IsGrantPending, StaysShut, disk_word, shut_of}
+use Rattle.answer_path.specs.Turn.{IsTurn, book_refusal, settled_reply}
 use Rattle.answer_path.specs.Code.{IsProgramRefusal}
-use Rattle.answer_path.proofs.Passes.{both, nothing, same_told}
-use Rattle.answer_path.proofs.Answering.{money_says, owner_is, owner_with, program_says, self}
+use Rattle.answer_path.proofs.Answering.{granted_is, money_says, owner_is, owner_with, program_says, self}
+
+-- where nothing was added
+still : (before after : Option Failure) → ((failure : Failure) → before ≡ Some failure → after ≡ Some failure) → StaysShut [] before after
+still before after goes = record { still = goes; adds_nothing = λ failure was. refl }
+
+-- where the book was open
+opened : (told : List Told) (before after : Option Failure) → before ≡ None → StaysShut told before after
+opened told before after none = record {
+  still = λ failure was. absurd (let both : None ≡ Some failure = sym none ∙ was in cc);
+  adds_nothing = λ failure was. absurd (let both : None ≡ Some failure = sym none ∙ was in cc);
+}
+
+kept : (before after : Pass) → after.own ≡ before.own → after.own ≡ before.own ++ []
+kept before after is = is ∙ sym (append-nil before.own)
 
 -- a refusal before the budget is asked adds nothing
 pub refused_turn : (owner : Owner) (draws : ℕ → ℕ → ℕ) (query : Query) (pass : Pass) (refusal : Refusal) → IsProgramRefusal (signature_of_view owner query.view) query.program refusal
@@ -35,146 +53,196 @@ unfolding IsAsked
 refused_turn owner draws query pass (by_program refusal) h = record {
   told = [];
   asked = (pass.seen, self pass.seen, inl (program_refused refusal, program_says owner (first_of_run pass) pass.seen query refusal h, (refl, refl, refl)));
-  added = nothing pass;
-  closes = refl;
+  own = kept pass pass refl;
+  shuts = (still pass.failure pass.failure (λ failure was. was), refl);
   due = tt;
 }
-refused_turn owner draws query pass no_memory h = record { told = []; asked = (pass.seen, self pass.seen, inr (refl, refl, refl)); added = nothing pass; closes = refl; due = tt }
+refused_turn owner draws query pass no_memory h = record {
+  told = [];
+  asked = (pass.seen, self pass.seen, inr (refl, refl, refl));
+  own = kept pass pass refl;
+  shuts = (still pass.failure pass.failure (λ failure was. was), refl);
+  due = tt;
+}
 refused_turn owner draws query pass (by_line refusal) h = absurd h
 refused_turn owner draws query pass (by_money refusal) h = absurd h
 refused_turn owner draws query pass (by_disk refusal) h = absurd h
 refused_turn owner draws query pass (by_number refusal) h = absurd h
 
+-- the record of a grant
+record_of : (before : Pass) (g : List Record) (asking : Ask) (grant : Grant) → verdict_on before g asking ≡ Ok grant → reservation_for g asking grant.taken ≡ granted_record asking grant
+record_of before g asking grant is = sym (granted_is before.opened.ledger.entry (first_of_run before) g asking grant is)
+
 -- no reservation is made
 pub unreserved_turn : (name : List ℕ) (holding : Holding) (draws : ℕ → ℕ → ℕ) (query : Query) (before after : Pass) (p q : ℕ) (fault : BookFault)
     → IsCharged (signature_in holding.tables holding.partitions query.view) query.program p q → HasReserved before (ask_for query p q) (Err fault) after
-    → IsTurn (owner_with name before.entry holding) draws query before (refused (book_refusal fault)) after
+    → IsTurn (owner_with name before.opened.ledger.entry holding) draws query before (refused (book_refusal fault)) after
 unfolding IsAsked
-unreserved_turn name holding draws query before after p q (Refused fault) c (verdict, (stays, added)) = record {
+unreserved_turn name holding draws query before after p q (Refused fault) c (g, begins, (verdict, stays)) = record {
   told = [];
   asked = (
-    before.seen,
-    self before.seen,
+    g,
+    begins,
     inl (
       money_refused (money_refusal fault),
-      money_says (owner_with name before.entry holding) (first_of_run before) before.seen query p q (Err fault) c verdict,
-      (refl, refl, added.seen ∙ append-nil before.seen),
+      money_says (owner_with name before.opened.ledger.entry holding) (first_of_run before) g query p q (Err fault) c verdict,
+      (refl, refl, stays.seen),
     ),
   );
-  added = added;
-  closes = stays;
+  own = kept before after stays.own;
+  shuts = (still before.failure after.failure stays.closed, stays.faults);
   due = tt;
 }
-unreserved_turn name holding draws query before after p q (Unwritten (Closed failed_at)) c (grant, verdict, (failure, was, said, (stays, added))) = record {
+unreserved_turn name holding draws query before after p q (Unwritten (Closed failed_at)) c (g, begins, (grant, verdict, (failure, closed, said, stays))) = record {
   told = [];
   asked = (
-    before.seen,
-    self before.seen,
+    g,
+    begins,
     inl (
       granted (ask_for query p q) grant,
-      money_says (owner_with name before.entry holding) (first_of_run before) before.seen query p q (Ok grant) c verdict,
-      inr (IsClosed failed_at, refl, inl (refl, added.seen ∙ append-nil before.seen)),
+      money_says (owner_with name before.opened.ledger.entry holding) (first_of_run before) g query p q (Ok grant) c verdict,
+      inr (IsClosed failed_at, refl, inl (refl, stays.seen)),
     ),
   );
-  added = added;
-  closes = (failure, was, said, refl, stays);
+  own = kept before after stays.own;
+  shuts = (failure, closed, said, still before.failure after.failure stays.closed, stays.faults);
   due = tt;
 }
-unreserved_turn name holding draws query before after p q (Unwritten DiskFault) c (grant, verdict, (failure, free, shut, pending, added)) = record {
-  told = [];
-  asked = (
-    before.seen,
-    self before.seen,
-    inl (
-      granted (ask_for query p q) grant,
-      money_says (owner_with name before.entry holding) (first_of_run before) before.seen query p q (Ok grant) c verdict,
-      inr (Fault, refl, inl (refl, added.seen ∙ append-nil before.seen)),
-    ),
-  );
-  added = added;
-  closes = (failure, free, shut, (p, q, c, grant, pending));
-  due = (
-    failure,
-    shut,
-    (ask_for query p q, grant, money_says (owner_with name before.entry holding) (first_of_run before) before.seen query p q (Ok grant) c verdict, pending),
-  );
-}
-
-stays_open : (owner : Owner) (draws : ℕ → ℕ → ℕ) (query : Query) (grant : Grant) (outcome : Outcome) (told : List Told) (before after : Option Failure) → StaysOpen before after
-    → Closes owner draws query (outcome_reply grant outcome) told before after
-stays_open owner draws query grant (Answered value) told before after stays = stays
-stays_open owner draws query grant Exhausted told before after stays = stays
-stays_open owner draws query grant Lost told before after stays = stays
-
--- a reservation is made, and settled or not
-pub settled_turn : (name : List ℕ) (holding : Holding) (draws : ℕ → ℕ → ℕ) (query : Query) (before mid after : Pass) (p q : ℕ) (grant : Grant) (outcome : Outcome) (kept : Result ℕ AppendFault)
-    → IsCharged (signature_in holding.tables holding.partitions query.view) query.program p q → HasReserved before (ask_for query p q) (Ok grant) mid → IsSettledBy (owner_with name before.entry holding) draws query grant.number outcome
-    → HasSettled mid grant.number outcome kept after → IsTurn (owner_with name before.entry holding) draws query before (settled_reply grant outcome kept) after
-unfolding IsAsked
-settled_turn name holding draws query before mid after p q grant outcome (Ok seen) c (verdict, (opened, first)) settles (free, second) =
-    let asking : Ask = ask_for query p q in record {
-      told = (length before.seen, granted_record asking grant) ∷ (length mid.seen, Settle grant.number outcome) ∷ [];
-      asked = (
-        before.seen,
-        self before.seen,
-        inl (
-          granted asking grant,
-          money_says (owner_with name before.entry holding) (first_of_run before) before.seen query p q (Ok grant) c verdict,
-          inl (record {
-            outcome = outcome;
-            u = mid.seen;
-            settled = settles;
-            reserved = ([], append-nil (before.seen ++ granted_record asking grant ∷ []) ∙ sym first.seen);
-            reply_is = refl;
-            told_is = refl;
-            after_is = second.seen;
-          }),
+unreserved_turn name holding draws query before after p q (Unwritten DiskFault) c (g, begins, (grant, verdict, fails)) =
+    let owner : Owner = owner_with name before.opened.ledger.entry holding in
+    let asking : Ask = ask_for query p q in
+    let pending = fails.pending ∙ record_of before g asking grant verdict in
+    let says = money_says owner (first_of_run before) g query p q (Ok grant) c verdict in
+    record {
+      told = [];
+      asked = (g, begins, inl (granted asking grant, says, inr (Fault, refl, inl (refl, fails.seen))));
+      own = kept before after fails.own;
+      shuts = (fails.failure, fails.open_before, fails.closed, (p, q, c, grant, pending), fails.faults);
+      due = (
+        fails.failure,
+        fails.closed,
+        (
+          asking,
+          grant,
+          subst (λ (records : List Record). IsVerdict owner.entry (signature_of_view owner query.view) (first_of_run before) records query (granted asking grant)) (sym fails.seen) says,
+          pending,
         ),
       );
-      added = both before mid after _ _ first second;
-      closes = stays_open (owner_with name before.entry holding) draws query grant outcome _ before.storage.closed after.storage.closed (opened.0, free.1);
-      due = tt;
-    }
-settled_turn name holding draws query before mid after p q grant outcome (Err (Closed failed_at)) c (verdict, (opened, first)) settles (failure, was, said, stays) = absurd (cc (opened.1, was))
-settled_turn name holding draws query before mid after p q grant outcome (Err DiskFault) c (verdict, (opened, first)) settles (failure, free, shut, pending, second) =
-    let asking : Ask = ask_for query p q in record {
-      told = (length before.seen, granted_record asking grant) ∷ [];
-      asked = (
-        before.seen,
-        self before.seen,
-        inl (
-          granted asking grant,
-          money_says (owner_with name before.entry holding) (first_of_run before) before.seen query p q (Ok grant) c verdict,
-          inr (
-            Fault,
-            refl,
-            inr (refl, ([], append-nil (before.seen ++ granted_record asking grant ∷ []) ∙ sym first.seen ∙ sym (append-nil mid.seen) ∙ sym second.seen)),
-          ),
-        ),
-      );
-      added = both before mid after _ _ first second;
-      closes = (failure, opened.0, shut, (outcome, settles, pending));
-      due = tt;
     }
 
-pub settled_small : (grant : Grant) (outcome : Outcome) (kept : Result ℕ AppendFault) → ((grant : Grant) → HasSmallAnswer (outcome_reply grant outcome)) → HasSmallAnswer (settled_reply grant outcome kept)
+-- a settled grant's reply isn't for the disk, and nothing is pending after it
+unsaid : (grant : Grant) (outcome : Outcome) → disk_word (outcome_reply grant outcome) ≡ None
+unsaid grant (Answered value) = refl
+unsaid grant Exhausted = refl
+unsaid grant Lost = refl
+
+nothing_due : (owner : Owner) (start : ℕ) (query : Query) (grant : Grant) (outcome : Outcome) (told : List Told) (after : List Record) (failure : Option Failure)
+    → IsGrantPending owner start query (outcome_reply grant outcome) told after failure
+nothing_due owner start query grant (Answered value) told after failure = tt
+nothing_due owner start query grant Exhausted told after failure = tt
+nothing_due owner start query grant Lost told after failure = tt
+
+-- a reservation is made on some records g, and settled or not on some later ones u
+module _ (name : List ℕ) (holding : Holding) (draws : ℕ → ℕ → ℕ) (query : Query) (before mid after : Pass) (p q : ℕ) (grant : Grant) (outcome : Outcome) (g u : List Record)
+    (c : IsCharged (signature_in holding.tables holding.partitions query.view) query.program p q) (begins : IsPrefix before.seen g)
+    (verdict : verdict_on before g (ask_for query p q) ≡ Ok grant) (adds : Adds before g (reservation_for g (ask_for query p q) grant.taken) mid)
+    (settles : IsSettledBy (owner_with name before.opened.ledger.entry holding) draws query grant.number outcome) (between : IsPrefix mid.seen u) where
+  abbrev owner : Owner
+  owner = owner_with name before.opened.ledger.entry holding
+
+  abbrev asking : Ask
+  asking = ask_for query p q
+
+  abbrev next : Record
+  next = granted_record asking grant
+
+  abbrev last : Record
+  last = settling grant.number outcome
+
+  is : reservation_for g asking grant.taken ≡ next
+  is = record_of before g asking grant verdict
+
+  says : IsVerdict owner.entry (signature_of_view owner query.view) (first_of_run before) g query (granted asking grant)
+  says = money_says owner (first_of_run before) g query p q (Ok grant) c verdict
+
+  reserved : IsPrefix (g ++ next ∷ []) u
+  reserved = subst (λ (records : List Record). IsPrefix records u) (adds.seen ∙ ap (λ (r : Record). g ++ r ∷ []) is) between
+
+  own : mid.own ≡ before.own ++ (length g, next) ∷ []
+  own = adds.own ∙ ap (λ (r : Record). before.own ++ (length g, r) ∷ []) is
+
+  two_holds : (written : Result ℕ AppendFault) → IsSettledOn mid u grant.number outcome written after → IsTurn owner draws query before (settled_reply grant outcome written) after
+  unfolding IsAsked
+  two_holds (Ok seen) (added, counted) = record {
+    told = (length g, next) ∷ (length u, last) ∷ [];
+    asked = (
+      g,
+      begins,
+      inl (
+        granted asking grant,
+        says,
+        inl (record { outcome = outcome; u = u; settled = settles; reserved = reserved; reply_is = refl; told_is = refl; after_is = added.seen }),
+      ),
+    );
+    own = added.own ∙ ap (λ (told : List Told). told ++ (length u, last) ∷ []) own ∙ append_assoc before.own ((length g, next) ∷ []) ((length u, last) ∷ []);
+    shuts = subst (λ (word : Option (Option ℕ)). FailsBy owner draws query word ((length g, next) ∷ (length u, last) ∷ []) (shut_of before) (shut_of after)) (sym (unsaid grant outcome))
+        (opened ((length g, next) ∷ (length u, last) ∷ []) before.failure after.failure adds.open_before, added.faults ∙ adds.faults);
+    due = nothing_due owner (first_of_run before) query grant outcome ((length g, next) ∷ (length u, last) ∷ []) after.seen after.failure;
+  }
+  two_holds (Err (Closed failed_at)) (failure, closed, said, stays) = record {
+    told = (length g, next) ∷ [];
+    asked = (
+      g,
+      begins,
+      inl (granted asking grant, says, inr (IsClosed failed_at, refl, inr (refl, subst (λ (records : List Record). IsPrefix (g ++ next ∷ []) records) (sym stays.seen) reserved))),
+    );
+    own = stays.own ∙ own;
+    shuts = (failure, closed, said, opened ((length g, next) ∷ []) before.failure after.failure adds.open_before, stays.faults ∙ adds.faults);
+    due = tt;
+  }
+  two_holds (Err DiskFault) fails = record {
+    told = (length g, next) ∷ [];
+    asked = (
+      g,
+      begins,
+      inl (granted asking grant, says, inr (Fault, refl, inr (refl, subst (λ (records : List Record). IsPrefix (g ++ next ∷ []) records) (sym fails.seen) reserved))),
+    );
+    own = fails.own ∙ own;
+    shuts = (
+      fails.failure,
+      adds.open_before,
+      fails.closed,
+      (outcome, settles, fails.pending),
+      fails.faults ∙ ap (λ (faults : List Failure). faults ++ fails.failure ∷ []) adds.faults,
+    );
+    due = tt;
+  }
+
+pub settled_turn : (name : List ℕ) (holding : Holding) (draws : ℕ → ℕ → ℕ) (query : Query) (before mid after : Pass) (p q : ℕ) (grant : Grant) (outcome : Outcome) (written : Result ℕ AppendFault)
+    → IsCharged (signature_in holding.tables holding.partitions query.view) query.program p q → HasReserved before (ask_for query p q) (Ok grant) mid
+    → IsSettledBy (owner_with name before.opened.ledger.entry holding) draws query grant.number outcome → HasSettled mid grant.number outcome written after
+    → IsTurn (owner_with name before.opened.ledger.entry holding) draws query before (settled_reply grant outcome written) after
+settled_turn name holding draws query before mid after p q grant outcome written c (g, begins, (verdict, adds)) settles (u, between, second) =
+    two_holds name holding draws query before mid after p q grant outcome g u c begins verdict adds settles between written second
+
+pub settled_small : (grant : Grant) (outcome : Outcome) (written : Result ℕ AppendFault) → ((grant : Grant) → HasSmallAnswer (outcome_reply grant outcome)) → HasSmallAnswer (settled_reply grant outcome written)
 settled_small grant outcome (Ok seen) small = small grant
 settled_small grant outcome (Err fault) small = tt
 
 -- what is so of each owner of an entry and a holding by its name
-pub of_owner : (P : Owner → Type 0) (pass : Pass) (holding : Holding) → ((name : List ℕ) → P (owner_with name pass.entry holding)) → (owner : Owner) → IsOwnerOf pass.entry holding owner → P owner
-of_owner P pass holding all owner is = subst P (owner_is pass.entry holding owner is) (all owner.name)
+pub of_owner : (P : Owner → Type 0) (pass : Pass) (holding : Holding) → ((name : List ℕ) → P (owner_with name pass.opened.ledger.entry holding)) → (owner : Owner) → IsOwnerOf pass.opened.ledger.entry holding owner → P owner
+of_owner P pass holding all owner is = subst P (owner_is pass.opened.ledger.entry holding owner is) (all owner.name)
 
--- some owner of an entry and a holding
-pub some_owner : (pass : Pass) (holding : Holding) → IsOwnerOf pass.entry holding (owner_with [] pass.entry holding)
-some_owner pass holding = record { entry_is = refl; tables_are = refl; rows_are = refl; partitions_are = refl }
+-- what a pass added is all that was added
+same_told : (before after : Pass) (told other : List Told) → after.own ≡ before.own ++ told → after.own ≡ before.own ++ other → told ≡ other
+same_told before after told other first second = append_cancel_left before.own told other (sym first ∙ second)
 
-pub closes_by : (owner : Owner) (draws : ℕ → ℕ → ℕ) (query : Query) (before after : Pass) (reply : Replied) (turn : IsTurn owner draws query before reply after) (other : List Told) → after.own ≡ before.own ++ other
-    → Closes owner draws query reply other before.storage.closed after.storage.closed
-closes_by owner draws query before after reply turn other is =
-    subst (λ told. Closes owner draws query reply told before.storage.closed after.storage.closed) (sym (same_told before after turn.told other turn.added is)) turn.closes
+pub shuts_by : (owner : Owner) (draws : ℕ → ℕ → ℕ) (query : Query) (before after : Pass) (reply : Replied) (turn : IsTurn owner draws query before reply after) (other : List Told) → after.own ≡ before.own ++ other
+    → FailsBy owner draws query (disk_word reply) other (shut_of before) (shut_of after)
+shuts_by owner draws query before after reply turn other is =
+    subst (λ told. FailsBy owner draws query (disk_word reply) told (shut_of before) (shut_of after)) (same_told before after turn.told other turn.own is) turn.shuts
 
 pub due_by : (owner : Owner) (draws : ℕ → ℕ → ℕ) (query : Query) (before after : Pass) (reply : Replied) (turn : IsTurn owner draws query before reply after) (other : List Told) → after.own ≡ before.own ++ other
-    → IsGrantPending owner (first_of_run before) before.seen query other reply after.storage.closed
+    → IsGrantPending owner (first_of_run before) query reply other after.seen after.failure
 due_by owner draws query before after reply turn other is =
-    subst (λ told. IsGrantPending owner (first_of_run before) before.seen query told reply after.storage.closed) (sym (same_told before after turn.told other turn.added is)) turn.due
+    subst (λ told. IsGrantPending owner (first_of_run before) query reply told after.seen after.failure) (same_told before after turn.told other turn.own is) turn.due

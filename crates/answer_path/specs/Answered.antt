@@ -5,7 +5,8 @@ use mathlib.Core.List.{IsPrefix}
 use Rattle.journal_records.specs.declared.records.Outcome.{Outcome}
 use Rattle.journal_records.specs.declared.records.Outcome.TheVariants.{Answered, Exhausted, Lost}
 use Rattle.journal_records.specs.declared.records.Record.{Record}
-use Rattle.journal_records.specs.declared.records.Record.TheVariants.{Reserve, Settle}
+use Rattle.journal_records.specs.declared.records.Record.TheVariants.{Reserve}
+use Rattle.journal_records.specs.Records.{settling}
 use Rattle.budget_core.specs.declared.entry.Ask.{Ask}
 use Rattle.budget_core.specs.declared.entry.Grant.{Grant}
 use Rattle.budget_core.specs.Ledger.{reservation_numbered}
@@ -13,7 +14,8 @@ use Rattle.wire_lines.specs.Reply.{Replied, answered, refused}
 use Rattle.wire_lines.specs.Refusal.{Refusal, by_program, by_money, by_number, by_disk, no_memory}
 use Rattle.wire_lines.specs.declared.refusal.DiskRefusal.{DiskRefusal}
 use Rattle.wire_lines.specs.declared.refusal.NumberRefusal.TheVariants.{Exhausted as NoNoise, Lost as NoAnswer}
-use Rattle.answer_path.specs.Owner.{Owner, signature_of_view, rows_of_view}
+use Rattle.owner_house.specs.Owner.{Owner, signature_of_view, rows_of_view}
+pub use Rattle.owner_desk.specs.Passes.{Told}
 use Rattle.answer_path.specs.Query.{Query}
 use Rattle.answer_path.specs.Judgement.{HasValue}
 use Rattle.answer_path.specs.Noise.{noise_at}
@@ -53,7 +55,7 @@ granted_record asking grant = Reserve (reservation_numbered grant.number asking 
 
 -- A grant adds its reservation and its settlement.
 abbrev pub grant_records : Ask → Grant → Outcome → List Record
-grant_records asking grant outcome = granted_record asking grant ∷ Settle grant.number outcome ∷ []
+grant_records asking grant outcome = granted_record asking grant ∷ settling grant.number outcome ∷ []
 
 -- A grant is settled and told so.
 abbrev pub IsSettledAndTold : Owner → (ℕ → ℕ → ℕ) → Query → Ask → Grant → Replied → (added : List Record) → Type 0
@@ -83,10 +85,6 @@ IsAnswered owner draws start records query reply added =
 abbrev pub IsUnanswered : Replied → (added : List Record) → Type 0
 IsUnanswered reply added = (reply ≡ refused no_memory) × (added ≡ [])
 
--- A record that a line added, with its position.
-abbrev pub Told : Type 0
-Told = ℕ × Record
-
 -- a refusal adds nothing to these records
 abbrev pub AddsNothing : List Record → Refusal → Replied → (told : List Told) → (after : List Record) → Type 0
 AddsNothing g refusal reply told after = (reply ≡ refused refusal) × (told ≡ []) × (after ≡ g)
@@ -99,8 +97,8 @@ pub record AddsTwo (owner : Owner) (draws : ℕ → ℕ → ℕ) (query : Query)
   pub settled : IsSettledBy owner draws query grant.number outcome
   pub reserved : IsPrefix (g ++ granted_record asking grant ∷ []) u
   pub reply_is : reply ≡ outcome_reply grant outcome
-  pub told_is : told ≡ (length g, granted_record asking grant) ∷ (length u, Settle grant.number outcome) ∷ []
-  pub after_is : after ≡ u ++ Settle grant.number outcome ∷ []
+  pub told_is : told ≡ (length g, granted_record asking grant) ∷ (length u, settling grant.number outcome) ∷ []
+  pub after_is : after ≡ u ++ settling grant.number outcome ∷ []
 
 -- What was granted isn't kept: it adds neither record to the records g, or its reservation alone.
 abbrev pub IsUnkept : Ask → Grant → List Record → Replied → (told : List Told) → (after : List Record) → Type 0

@@ -13,7 +13,9 @@ use Rattle.linear_types.specs.Inferred.{Fault}
 use Rattle.metric_law.specs.Means.{Means}
 use Rattle.metric_values.specs.Tables.{rows_of}
 use Rattle.metric_values.specs.Values.{NumV}
+use Rattle.owner_catalog.specs.Entries.{PartitionEntry}
 use Rattle.part_views.specs.Holding.{Holding}
+use Rattle.part_views.specs.Partitions.{HasPart}
 use Rattle.part_views.specs.Views.{signature_in, rows_in}
 use Rattle.sensitivity_check.specs.declared.fault.CheckFault.{CheckFault}
 use Rattle.sensitivity_check.specs.declared.fault.CheckFault.TheVariants.{Unbounded, NoMemory as NoPlace}
@@ -25,9 +27,12 @@ use Rattle.wire_lines.specs.Refusal.{ProgramRefusal, no_token, no_term, too_nest
 use Rattle.answer_path.specs.Reading.{Reading, read, IsReading}
 use Rattle.answer_path.specs.Judgement.{refused_for, accepted, judgement_of, fault_refusal}
 use Rattle.answer_path.specs.Query.{Query}
+use Rattle.answer_path.specs.Demand.{Demand, asks, recalls, balances}
 use Rattle.answer_path.specs.declared.program.Accepted.{Accepted}
 use Rattle.answer_path.specs.declared.program.Judged.{Judged}
 use Rattle.answer_path.specs.declared.query.Query.{Query as QueryAt}
+use Rattle.answer_path.specs.declared.demand.Demand.{Demand as DemandAt}
+use Rattle.answer_path.specs.declared.demand.Demand.TheVariants.{Asks, Recalls, Balances}
 
 -- the program is this term, which is accepted with this sensitivity
 abbrev pub IsAccepted : Signature → List ℕ → Accepted → Type 0
@@ -100,10 +105,28 @@ TellsFault ts fault refusal = (f : Fault) → IsCheckFault ts fault f → refusa
 
 -- what a query in the program's memory asks
 abbrev pub query_of : QueryAt → Query
-query_of query = record { owner = query.owner; analyst = query.analyst; view = query.view; e = query.epsilon; program = query.program.now }
+query_of query = record { analyst = query.analyst; view = query.view; e = query.epsilon; program = query.program.now }
 
 -- a query is of an analyst and a view of the entry, at an epsilon in its range
 pub record IsQueryOf (entry : Entry) (query : Query) : Type 0 where
   pub analyst : query.analyst < entry.analysts
   pub view : HasView entry query.view
   pub epsilon : IsEpsilon query.e
+
+-- what is demanded, in the program's memory
+abbrev pub demand_of : DemandAt → Demand
+demand_of (Asks query) = asks (query_of query)
+demand_of (Recalls analyst number) = recalls analyst number
+demand_of Balances = balances
+
+-- A query is of the entry. The others may be demanded of every entry.
+abbrev pub IsDemandOf : Entry → Demand → Type 0
+IsDemandOf entry (asks query) = IsQueryOf entry query
+IsDemandOf entry (recalls analyst number) = ⊤
+IsDemandOf entry balances = ⊤
+
+-- a query's view is the whole, or a key of one of these partitions
+abbrev pub HasPartFor : List PartitionEntry → Demand → Type 0
+HasPartFor partitions (asks query) = HasPart partitions query.view
+HasPartFor partitions (recalls analyst number) = ⊤
+HasPartFor partitions balances = ⊤

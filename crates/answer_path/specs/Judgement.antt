@@ -57,8 +57,3 @@ judgement_of ts (read e) = judged_by ts e (sensitivity_of ts e)
 -- the program's value on some rows of the tables
 unfoldable pub HasValue : Signature → Dataset → List ℕ → ℤ → Type 0
 HasValue ts X program z = (e : Term) × IsReading program (read e) × Means (rows_of ts X) e (NumV z)
-
--- each table's name can be said in a reply
-abbrev pub AreNames : Signature → Type 0
-AreNames [] = ⊤
-AreNames (t ∷ ts) = IsTrue (is_name t.name) × AreNames ts

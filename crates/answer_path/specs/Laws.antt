@@ -1,7 +1,8 @@
 -- What is proved of readings and of judgements.
 use Rattle.std.specs.Prelude.{◌≡◌, ◌↔◌, ◌⊎◌, ℕ, ℤ, List, [], ◌∷◌, ◌++◌}
 use Rattle.journal_records.specs.declared.records.Record.{Record}
-use Rattle.journal_records.specs.declared.records.Record.TheVariants.{Reserve, Settle}
+use Rattle.journal_records.specs.declared.records.Record.TheVariants.{Reserve}
+use Rattle.journal_records.specs.Records.{settling}
 use Rattle.journal_records.specs.declared.records.Outcome.TheVariants.{Lost}
 use Rattle.budget_core.specs.declared.entry.Ask.{Ask}
 use Rattle.budget_core.specs.Ledger.{reservation_numbered}
@@ -21,12 +22,16 @@ use Rattle.metric_values.specs.Tables.{IsDataset}
 use Rattle.wire_lines.specs.Refusal.{by_number}
 use Rattle.wire_lines.specs.Reply.{Replied, refused}
 use Rattle.wire_lines.specs.declared.refusal.NumberRefusal.TheVariants.{Lost as NoAnswer}
-use Rattle.answer_path.specs.Owner.{Owner}
+use Rattle.owner_house.specs.Owner.{Owner}
 use Rattle.answer_path.specs.Query.{Query}
 use Rattle.answer_path.specs.Program.{IsCharged}
 use Rattle.answer_path.specs.Verdict.{Verdict, IsVerdict}
-use Rattle.answer_path.specs.Answered.{Told, IsAsked, IsAnswered, IsUnanswered}
-use Rattle.answer_path.specs.Pass.{records_told}
+use Rattle.owner_desk.specs.Passes.{Told, closing, records_told}
+use Rattle.answer_path.specs.Demand.{Demand, asks}
+use Rattle.answer_path.specs.Answered.{IsAsked, IsAnswered, IsUnanswered}
+use Rattle.answer_path.specs.Met.{IsMet, IsMetExactly}
+use Rattle.answer_path.specs.Shut.{Shut, ShutsBy}
+use Rattle.answer_path.specs.Closing.{Closes}
 use Rattle.answer_path.specs.Reading.{Reading, read, IsReading}
 use Rattle.answer_path.specs.Judgement.{accepted, judgement_of, HasValue}
 
@@ -85,10 +90,30 @@ AloneIsAnswered =
     → IsAsked owner draws start query seen reply told after → after ≡ seen ++ records_told told
     → IsAnswered owner draws start seen query reply (records_told told) ⊎ IsUnanswered reply (records_told told)
 
+-- a demand too is met on just the records that were known, and what it adds stands right behind them
+abbrev pub AloneIsMet : Type 0
+AloneIsMet =
+    (owner : Owner) (draws : ℕ → ℕ → ℕ) (start : ℕ) (demand : Demand) (seen : List Record) (reply : Replied) (told : List Told) (after : List Record)
+    → IsMet owner draws start demand seen reply told after → after ≡ seen ++ records_told told → IsMetExactly owner draws start demand seen reply told after
+
+-- what was met so is met
+abbrev pub ExactlyIsMet : Type 0
+ExactlyIsMet =
+    (owner : Owner) (draws : ℕ → ℕ → ℕ) (start : ℕ) (demand : Demand) (seen : List Record) (reply : Replied) (told : List Told) (after : List Record)
+    → IsMetExactly owner draws start demand seen reply told after → IsMet owner draws start demand seen reply told after × (after ≡ seen ++ records_told told)
+
+-- Where a book is shut by this pass's own appends alone, before and after a query: it is told 42 only where the book was shut
+-- before, which stays as it was, and nothing was added; an answer, 50 and 51 come of an open book, which stays open.
+abbrev pub OnePassCloses : Type 0
+OnePassCloses =
+    (owner : Owner) (draws : ℕ → ℕ → ℕ) (start : ℕ) (query : Query) (seen : List Record) (reply : Replied) (told : List Told) (after : List Record)
+    (before now : Shut) → IsAsked owner draws start query seen reply told after → ShutsBy owner draws (asks query) reply told before now
+    → before.own ≡ closing before.failure → now.own ≡ closing now.failure → Closes owner draws query reply told before.failure now.failure
+
 -- where memory ran out after a reservation, both records were added: the reservation of the number that is told, and its
 -- settlement as lost
 abbrev pub LostAreCharged : Type 0
 LostAreCharged =
     (owner : Owner) (draws : ℕ → ℕ → ℕ) (start : ℕ) (query : Query) (seen : List Record) (reply : Replied) (told : List Told)
     → (after : List Record) (n : ℕ) → IsAsked owner draws start query seen reply told after → reply ≡ refused (by_number (NoAnswer n))
-    → (asking : Ask) × (taken : ℕ) × (records_told told ≡ Reserve (reservation_numbered n asking taken) ∷ Settle n Lost ∷ [])
+    → (asking : Ask) × (taken : ℕ) × (records_told told ≡ Reserve (reservation_numbered n asking taken) ∷ settling n Lost ∷ [])

@@ -2,9 +2,8 @@
 use Rattle.std.specs.Prelude.{ℕ, List}
 use Rattle.partition_charge.specs.declared.view.View.{View}
 
--- which owner, by its number, which analyst, in which view, at which epsilon in millionths, and which program
+-- which analyst, in which view, at which epsilon in millionths, and which program
 pub record Query : Type 0 where
-  pub owner : ℕ
   pub analyst : ℕ
   pub view : View
   pub e : ℕ

@@ -26,7 +26,7 @@ pub data Verdict : Type 0 where
 -- what a query of sensitivity p/q asks of the budget; its reservation will carry the SHA-256 of the program's bytes
 abbrev pub ask_for : Query → (p q : ℕ) → Ask
 ask_for query p q =
-    record { analyst = query.analyst; view = query.view; e = query.e; p = p; q = q; program = sha256 query.program }
+    record { analyst = query.analyst; view = query.view; e = query.e; p = p; q = q; digest = sha256 query.program }
 
 abbrev pub money_refusal : ReserveFault → MoneyRefusal
 money_refusal (OverBudget spent after budget seen) = NoBudget spent after budget seen

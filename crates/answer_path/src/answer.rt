@@ -2,8 +2,6 @@
 
 ghost use Rattle.std.specs.Prelude.{◌≡◌, ◌++◌, ◌<◌, ◌≤◌, ◌^◌, ◌+ℤ◌, unsigned_abs, false, ℕ, List, Result, Some};
 ghost use Rattle.budget_core.specs.Entries.{IsEpsilon};
-ghost use Rattle.budget_core.specs.Ledger.{IsUnsettled};
-ghost use Rattle.budget_ledger.specs.Account.{Went};
 ghost use Rattle.journal_records.specs.Encoding.{IsByteList};
 ghost use Rattle.sha2.specs.Sha256.{sha256};
 ghost use Rattle.fz_ast.specs.Limits.{IsNumber};
@@ -13,18 +11,18 @@ ghost use Rattle.linear_types.specs.Program.{is_endless};
 ghost use Rattle.wire_lines.specs.Refusal.{refusal_at};
 ghost use Rattle.wire_lines.specs.Reply.{replied};
 ghost use Rattle.part_views.specs.Partitions.{HasPart};
-ghost use Rattle.answer_path.specs.Owner.{Owner, IsOwnerOf};
+ghost use Rattle.owner_house.specs.Owner.{Owner, IsOwnerOf};
+ghost use Rattle.owner_desk.specs.Answers.{HasGranted, HasSettled};
+ghost use Rattle.owner_desk.specs.Passes.{Told, first_of_run};
 ghost use Rattle.answer_path.specs.Noise.{scale_numerator, scale_denominator, noise_at};
 ghost use Rattle.answer_path.specs.Verdict.{ask_for, money_refusal};
-ghost use Rattle.answer_path.specs.Answered.{Told, HasSmallAnswer, IsAsked, IsSettledAt, answer_limit, outcome_reply};
-ghost use Rattle.answer_path.specs.Closing.{Closes, IsGrantPending};
-ghost use Rattle.answer_path.specs.Pass.{first_of_run, ledger_of, records_told};
-ghost use Rattle.answer_path.specs.Judgement.{AreNames};
+ghost use Rattle.answer_path.specs.Answered.{HasSmallAnswer, IsAsked, IsSettledAt, answer_limit, outcome_reply};
+ghost use Rattle.answer_path.specs.Shut.{FailsBy, IsGrantPending, disk_word, shut_of};
+ghost use Rattle.owner_house.specs.Names.{AreNames};
 ghost use Rattle.answer_path.specs.Reading.{read, IsReading};
-ghost use Rattle.answer_path.specs.Turn.{IsTurn, HasSettled, book_refusal, disk_refusal, settled_reply};
+ghost use Rattle.answer_path.specs.Turn.{IsTurn, book_refusal, disk_refusal, settled_reply};
 ghost use Rattle.answer_path.specs.Code.{IsJudgedIn, IsQueryOf, IsWorth, query_of};
 
-use crate::pass::{Desk, Pass};
 use crate::program::{Judged, judge, read_program};
 use crate::query::Query;
 use budget_core::entry::{Ask, Grant, ReserveFault};
@@ -35,6 +33,7 @@ use fz_frac::{Frac, Sens};
 use fz_outside::words::Streams;
 use journal_records::records::Outcome;
 use outside_disks::disk::Disk;
+use owner_desk::{Desk, Pass};
 use part_views::Dataset;
 use partition_charge::view::View;
 use sha2::{Digest, Sha256};
@@ -90,6 +89,7 @@ fn outcome_at<S: Streams>(
     judged: &Judged<'_>,
     dataset: &Dataset,
     streams: &S,
+    owner: u32,
     query: &Query<'_>,
     number: u32,
 ) -> Outcome
@@ -97,11 +97,11 @@ fn outcome_at<S: Streams>(
     requires judged { IsJudgedIn dataset.now query.now.view judged.now }
     requires epsilon { IsEpsilon query.now.epsilon }
     ensures settled { IsSettledAt (IsWorth dataset.now query.now.view (judged.now.checked.term.now))
-        (noise_at query.now.epsilon (S.given streams.now query.now.owner number)) result }
+        (noise_at query.now.epsilon (S.given streams.now owner number)) result }
     ensures fits { (grant : Grant) → HasSmallAnswer (outcome_reply grant result) }
 {
     let scale = scale_of(query.epsilon);
-    let mut words = streams.stream(query.owner, number);
+    let mut words = streams.stream(owner, number);
     match sample(scale.p, scale.q, &mut words) {
         Ok(noise) => outcome_with(alloc, judged, dataset, query.view, noise),
         Err(_) => Outcome::Exhausted,
@@ -193,7 +193,7 @@ fn digest_of(program: &[u8]) -> [u8; 32]
 /// What a query asks of the budget.
 fn asking_of(query: &Query<'_>, sens: Frac) -> Ask
     ensures asking { result ≡ ask_for (query_of query.now) sens.p sens.q }
-    ensures digest { IsByteList 32 result.program }
+    ensures digest { IsByteList 32 result.digest }
 {
     Ask {
         analyst: query.analyst,
@@ -201,18 +201,18 @@ fn asking_of(query: &Query<'_>, sens: Frac) -> Ask
         e: query.epsilon,
         p: sens.p,
         q: sens.q,
-        program: digest_of(query.program),
+        digest: digest_of(query.program),
     }
 }
 
 /// Settles a grant, and says its outcome only once the settlement is kept.
-fn settle<'a, D: Disk>(pass: &mut Pass<D>, grant: Grant, outcome: Outcome) -> Reply<'a>
-    requires { IsUnsettled (ledger_of pass.old) grant.number }
-    ensures settled { (kept : Result ℕ AppendFault) × HasSettled pass.old grant.number outcome kept pass.new
-        × (replied result ≡ settled_reply grant outcome kept) }
-    ensures went { Went pass.old.seen pass.new.seen pass.old.storage pass.new.storage }
+fn settle<'a, D: Disk>(desk: &Desk, pass: &mut Pass<D>, grant: Grant, outcome: Outcome) -> Reply<'a>
+    requires { HasGranted pass.old grant.number }
+    ensures settled { (written : Result ℕ AppendFault) × HasSettled pass.old grant.number outcome written pass.new
+        × (replied result ≡ settled_reply grant outcome written) }
+    ensures kept { pass.new.opened ≡ pass.old.opened }
 {
-    match pass.settle(grant.number, outcome) {
+    match desk.settle(pass, grant.number, outcome) {
         Ok(_) => reply_of(grant, outcome),
         Err(fault) => Reply::Refused(Refusal::Disk(disk_refusal_of(fault))),
     }
@@ -222,61 +222,61 @@ fn settle<'a, D: Disk>(pass: &mut Pass<D>, grant: Grant, outcome: Outcome) -> Re
 /// is settled.
 fn answer_judged<'a, D: Disk, S: Streams>(
     alloc: Global,
+    desk: &Desk,
     pass: &mut Pass<D>,
     judged: &Judged<'_>,
     dataset: &Dataset,
     streams: &S,
+    owner: u32,
     query: &Query<'_>,
 ) -> Reply<'a>
-    requires query { IsQueryOf pass.old.entry (query_of query.now) }
+    requires query { IsQueryOf pass.old.opened.ledger.entry (query_of query.now) }
     requires part { HasPart dataset.now.partitions query.now.view }
     requires reads { IsReading query.now.program.now (read (judged.now.checked.term.now)) }
     requires judged { IsJudgedIn dataset.now query.now.view judged.now }
-    ensures turn { (owner : Owner) → IsOwnerOf pass.old.entry dataset.now owner
-        → IsTurn owner (S.given streams.now query.now.owner) (query_of query.now) pass.old (replied result) pass.new }
-    ensures went { Went pass.old.seen pass.new.seen pass.old.storage pass.new.storage }
+    ensures turn { (whose : Owner) → IsOwnerOf pass.old.opened.ledger.entry dataset.now whose
+        → IsTurn whose (S.given streams.now owner) (query_of query.now) pass.old (replied result) pass.new }
+    ensures kept { pass.new.opened ≡ pass.old.opened }
     ensures fits { HasSmallAnswer (replied result) }
 {
     let asking = asking_of(query, fraction_of(judged.checked.sens));
-    match pass.reserve(&asking) {
+    match desk.reserve(pass, &asking) {
         Err(fault) => Reply::Refused(book_refusal_of(fault)),
         Ok(grant) => {
-            let outcome = outcome_at(alloc, judged, dataset, streams, query, grant.number);
-            settle(pass, grant, outcome)
+            let outcome = outcome_at(alloc, judged, dataset, streams, owner, query, grant.number);
+            settle(desk, pass, grant, outcome)
         }
     }
 }
 
-/// Answers a query: the program is read and judged over the tables of the query's view, the budget is asked, the noise is
-/// drawn, the program is run on the view's rows, and the reservation is settled. Want of memory is said before a
-/// reservation, and an answer is lost after it.
+/// Answers a query of the owner of this number: the program is read and judged over the tables of the query's view, the budget
+/// is asked, the noise is drawn, the program is run on the view's rows, and the reservation is settled. Want of memory is said
+/// before a reservation, and an answer is lost after it.
 pub fn ask<'d, D: Disk, S: Streams>(
     alloc: Global,
-    _desk: &Desk,
+    desk: &Desk,
     pass: &mut Pass<D>,
     dataset: &'d Dataset,
     streams: &S,
+    owner: u32,
     query: &Query<'_>,
 ) -> Reply<'d>
-    requires query { IsQueryOf pass.old.entry (query_of query.now) }
-    requires parts { HasPart dataset.now.partitions query.now.view }
+    requires query { IsQueryOf pass.old.opened.ledger.entry (query_of query.now) }
+    requires part { HasPart dataset.now.partitions query.now.view }
     requires names { AreNames dataset.now.tables }
     // The stated reply on some records that begin with those seen, and what the line added.
-    ensures step { (owner : Owner) → IsOwnerOf pass.old.entry dataset.now owner →
-        (told : List Told)
-        × IsAsked owner (S.given streams.now query.now.owner) (first_of_run pass.old) (query_of query.now) pass.old.seen (replied result) told pass.new.seen
+    ensures step { (whose : Owner) → IsOwnerOf pass.old.opened.ledger.entry dataset.now whose → (told : List Told)
+        × IsAsked whose (S.given streams.now owner) (first_of_run pass.old) (query_of query.now) pass.old.seen (replied result) told pass.new.seen
         × (pass.new.own ≡ pass.old.own ++ told) }
     // What the line did to the owner's book.
-    ensures closes { (owner : Owner) → IsOwnerOf pass.old.entry dataset.now owner → (told : List Told) → pass.new.own ≡ pass.old.own ++ told
-        → Closes owner (S.given streams.now query.now.owner) (query_of query.now) (replied result) told pass.old.storage.closed pass.new.storage.closed }
-    // Where the append of the reservation failed, what the disk may have is what was granted on the records seen.
-    ensures due { (owner : Owner) → IsOwnerOf pass.old.entry dataset.now owner → (told : List Told) → pass.new.own ≡ pass.old.own ++ told
-        → IsGrantPending owner (first_of_run pass.old) pass.old.seen (query_of query.now) told (replied result) pass.new.storage.closed }
-    // No other line added records meanwhile.
-    ensures alone { (told : List Told) → pass.new.own ≡ pass.old.own ++ told → pass.new.seen ≡ pass.old.seen ++ records_told told }
-    ensures kept { (pass.new.entry ≡ pass.old.entry) × (pass.new.found ≡ pass.old.found) }
-    // What a stop at any moment of the line leaves.
-    ensures went { Went pass.old.seen pass.new.seen pass.old.storage pass.new.storage }
+    ensures shuts { (whose : Owner) → IsOwnerOf pass.old.opened.ledger.entry dataset.now whose
+        → (told : List Told) → pass.new.own ≡ pass.old.own ++ told
+        → FailsBy whose (S.given streams.now owner) (query_of query.now) (disk_word (replied result)) told (shut_of pass.old) (shut_of pass.new) }
+    // Where the append of the reservation failed, what the disk may have is what was granted on the records seen then.
+    ensures due { (whose : Owner) → IsOwnerOf pass.old.opened.ledger.entry dataset.now whose
+        → (told : List Told) → pass.new.own ≡ pass.old.own ++ told
+        → IsGrantPending whose (first_of_run pass.old) (query_of query.now) (replied result) told pass.new.seen pass.new.failure }
+    ensures kept { pass.new.opened ≡ pass.old.opened }
     // An answer is within 2^50 + 2^33 in absolute value.
     ensures fits { HasSmallAnswer (replied result) }
 {
@@ -285,7 +285,7 @@ pub fn ask<'d, D: Disk, S: Streams>(
         Err(refusal) => return Reply::Refused(refusal),
     };
     match judge(alloc, dataset.sig(query.view), &term) {
-        Ok(judged) => answer_judged(alloc, pass, &judged, dataset, streams, query),
+        Ok(judged) => answer_judged(alloc, desk, pass, &judged, dataset, streams, owner, query),
         Err(refusal) => Reply::Refused(refusal),
     }
 }

@@ -1,7 +1,7 @@
 //! What is proved of the definitions. Each function does nothing: its contract is the law.
 
-ghost use Rattle.answer_path.specs.Laws.{AcceptedAreBounded, AcceptedHaveValues, AloneIsAnswered, ChargedAreBounded, ChargedHaveValues};
-ghost use Rattle.answer_path.specs.Laws.{EveryReading, LostAreCharged, OneReading, OneValue, VerdictsSeeNoAnswers};
+ghost use Rattle.answer_path.specs.Laws.{AcceptedAreBounded, AcceptedHaveValues, AloneIsAnswered, AloneIsMet, ChargedAreBounded, ChargedHaveValues};
+ghost use Rattle.answer_path.specs.Laws.{EveryReading, ExactlyIsMet, LostAreCharged, OnePassCloses, OneReading, OneValue, VerdictsSeeNoAnswers};
 
 /// Any bytes come to just one term or one fault.
 pub fn programs_are_read_in_one_way()
@@ -29,9 +29,16 @@ pub fn verdicts_see_no_answers()
     ensures { VerdictsSeeNoAnswers }
 {}
 
-/// A line that is alone is answered on the records that it saw.
+/// A line that is alone is answered on the records that it saw, and its book closed by its own appends alone.
 pub fn lone_asks_are_answered()
-    ensures { AloneIsAnswered }
+    ensures answered { AloneIsAnswered }
+    ensures closes { OnePassCloses }
+{}
+
+/// A demand whose line is alone is met on just the records that were known, and what it adds stands right behind them.
+pub fn lone_demands_are_met()
+    ensures exact { AloneIsMet }
+    ensures met { ExactlyIsMet }
 {}
 
 /// Where a reply says that an answer was lost, its reservation and its settlement were added.

@@ -1,21 +1,24 @@
-//! One query, from the bytes of its program to what an analyst is told of it.
+//! One demand of an owner: a query, from the bytes of its program to what an analyst is told of it, a recall or a balance.
 #![tactic(auto)]
 
 mod answer;
+pub mod demand;
 mod laws;
-mod pass;
+mod meeting;
 pub mod program;
 pub mod query;
 mod refusals;
 mod standing;
 
 pub use answer::ask;
+pub use demand::Demand;
 pub use laws::{
-    accepted_programs_have_values, lone_asks_are_answered, lost_answers_are_charged,
-    programs_are_bounded, programs_are_read_in_one_way, verdicts_see_no_answers,
+    accepted_programs_have_values, lone_asks_are_answered, lone_demands_are_met,
+    lost_answers_are_charged, programs_are_bounded, programs_are_read_in_one_way,
+    verdicts_see_no_answers,
 };
+pub use meeting::meet;
+pub use owner_desk::{Desk, Pass};
 pub use part_views::Dataset;
-pub use pass::{Desk, Pass};
 pub use program::{Accepted, Judged, check_program, judge, read_program};
 pub use query::Query;
-pub use standing::{left, recall};

@@ -4,7 +4,7 @@ ghost use Rattle.std.specs.Prelude.{◌≡◌, IfOk, IfErr};
 ghost use Rattle.fz_ast.specs.Signature.{Signature};
 ghost use Rattle.wire_lines.specs.Refusal.{refusal_at};
 ghost use Rattle.answer_path.specs.Reading.{read, IsReading};
-ghost use Rattle.answer_path.specs.Judgement.{AreNames};
+ghost use Rattle.owner_house.specs.Names.{AreNames};
 ghost use Rattle.answer_path.specs.Code.{IsAccepted, IsJudged, IsProgramRefusal, IsTermRefusal};
 
 use crate::refusals::{fault_refusal, lex_refusal, limit_refusal, parse_refusal};

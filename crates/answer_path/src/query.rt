@@ -5,8 +5,6 @@ use partition_charge::view::View;
 /// What an analyst asks of an owner. It borrows the line.
 #[derive(Clone, Copy)]
 pub struct Query<'a> {
-    /// The number of the owner.
-    pub owner: u32,
     /// The number of the analyst.
     pub analyst: u16,
     pub view: View,

@@ -3,7 +3,7 @@
 ghost use Rattle.std.specs.Prelude.{◌≡◌, ◌<◌, length, slice_get, Some};
 ghost use Rattle.fz_ast.specs.Signature.{TableType};
 ghost use Rattle.wire_lines.specs.Refusal.{ill_typed, unbounded, program_refusal_at, refusal_at};
-ghost use Rattle.answer_path.specs.Judgement.{AreNames};
+ghost use Rattle.owner_house.specs.Names.{AreNames};
 ghost use Rattle.answer_path.specs.Code.{HasPlace, HasTable, TellsFault, lex_refusal, limit_refusal, parse_refusal};
 
 use fz_ast::{Sig, Span};

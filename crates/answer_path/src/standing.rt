@@ -2,12 +2,14 @@
 
 ghost use Rattle.std.specs.Prelude.{◌≡◌};
 ghost use Rattle.wire_lines.specs.Reply.{replied};
-ghost use Rattle.answer_path.specs.Pass.{first_of_run};
+ghost use Rattle.owner_desk.specs.Passes.{first_of_run};
+ghost use Rattle.owner_desk.specs.Answers.{Stays};
+ghost use Rattle.answer_path.specs.Answered.{HasSmallAnswer};
 ghost use Rattle.answer_path.specs.Standing.{IsBalance, IsRecalled, left_reply, recall_reply};
 
-use crate::pass::{Desk, Pass};
 use budget_core::answers::{Left, Recall};
 use outside_disks::disk::Disk;
+use owner_desk::{Desk, Pass};
 use wire_lines::{NumberRefusal, Refusal, Reply, Standing};
 
 fn standing<'a>(number: u32, standing: Standing, seen: u32) -> Reply<'a>
@@ -52,22 +54,26 @@ fn left_reply_of<'a>(left: Left) -> Reply<'a>
 }
 
 /// Says what became of a reservation, to the analyst who asked for it.
-pub fn recall<D: Disk>(
-    _desk: &Desk,
+pub(crate) fn recall<D: Disk>(
+    desk: &Desk,
     pass: &mut Pass<D>,
     number: u32,
     analyst: u16,
 ) -> Reply<'static>
     ensures told { IsRecalled (first_of_run pass.old) analyst number pass.old.seen (replied result) pass.new.seen }
-    ensures same { pass.new ≡ pass.old }
+    ensures stays { Stays pass.old pass.new.seen pass.new }
+    ensures kept { pass.new.opened ≡ pass.old.opened }
+    ensures fits { HasSmallAnswer (replied result) }
 {
-    recall_reply_of(number, pass.recall(number, analyst))
+    recall_reply_of(number, desk.recall(pass, number, analyst))
 }
 
 /// Says what is spent of an owner's budget.
-pub fn left<D: Disk>(_desk: &Desk, pass: &mut Pass<D>) -> Reply<'static>
-    ensures told { IsBalance pass.old.entry pass.old.seen (replied result) pass.new.seen }
-    ensures same { pass.new ≡ pass.old }
+pub(crate) fn left<D: Disk>(desk: &Desk, pass: &mut Pass<D>) -> Reply<'static>
+    ensures told { IsBalance pass.old.opened.ledger.entry pass.old.seen (replied result) pass.new.seen }
+    ensures stays { Stays pass.old pass.new.seen pass.new }
+    ensures kept { pass.new.opened ≡ pass.old.opened }
+    ensures fits { HasSmallAnswer (replied result) }
 {
-    left_reply_of(pass.left())
+    left_reply_of(desk.left(pass))
 }

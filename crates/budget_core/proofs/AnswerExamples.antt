@@ -4,7 +4,8 @@ use Rattle.partition_charge.specs.declared.view.View.TheVariants.{Whole}
 use Rattle.partition_charge.specs.Cost.{cost_of_charges, partition_cost}
 use Rattle.journal_records.specs.declared.records.Outcome.TheVariants.{Answered, Exhausted, Lost}
 use Rattle.journal_records.specs.declared.records.Record.{Record}
-use Rattle.journal_records.specs.declared.records.Record.TheVariants.{Reserve, Settle}
+use Rattle.journal_records.specs.declared.records.Record.TheVariants.{Reserve}
+use Rattle.journal_records.specs.Records.{settling}
 use Rattle.budget_core.specs.declared.answers.Recall.TheVariants.{Unknown, NotYours, Answer, Open, Lost as IsLost, Exhausted as IsExhausted}
 use Rattle.budget_core.specs.Answers.{recalled, recalled_from, left_of, counts_of}
 use Rattle.budget_core.specs.Cost.{cost_of}
@@ -12,14 +13,14 @@ use Rattle.budget_core.specs.Ledger.{Ledger}
 
 -- a reservation of the whole by this analyst for one millionth
 abbrev made : (number analyst : ℕ) → Record
-made number analyst = Reserve (record { number = number; view = Whole; e = 1; p = 1; q = 1; taken = 1; analyst = analyst; program = replicate 32 9 })
+made number analyst = Reserve (record { number = number; view = Whole; e = 1; p = 1; q = 1; taken = 1; analyst = analyst; digest = replicate 32 9 })
 
 -- An earlier run answered number 0 and left number 1 open. This run reserved 2 to 5, and settled 2, 3 and 4.
 abbrev found : List Record
-found = made 0 0 ∷ Settle 0 (Answered (pos 5)) ∷ made 1 0 ∷ []
+found = made 0 0 ∷ settling 0 (Answered (pos 5)) ∷ made 1 0 ∷ []
 
 abbrev records : List Record
-records = found ++ made 2 1 ∷ Settle 2 (Answered (negsuc 6)) ∷ made 3 0 ∷ Settle 3 Exhausted ∷ made 4 0 ∷ Settle 4 Lost ∷ made 5 0 ∷ []
+records = found ++ made 2 1 ∷ settling 2 (Answered (negsuc 6)) ∷ made 3 0 ∷ settling 3 Exhausted ∷ made 4 0 ∷ settling 4 Lost ∷ made 5 0 ∷ []
 
 abbrev ledger : Ledger
 ledger = record { entry = record { budget = 10; capacity = 100; analysts = 2; keys = [] }; found = found; records = records }

@@ -116,25 +116,25 @@ bytes-test (byte ∷ bytes) all = and_from (nat_lt byte 256) (list_all (λ b. na
 
 pub ask-from : (entry : Entry) (ask : Ask) → is_ask_of entry ask ≡ true → IsAskOf entry ask
 ask-from entry ask is =
-    let first = both (nat_lt ask.analyst entry.analysts && has_view entry ask.view && is_epsilon ask.e && is_lowest ask.p ask.q) (is_digest ask.program) is in
+    let first = both (nat_lt ask.analyst entry.analysts && has_view entry ask.view && is_epsilon ask.e && is_lowest ask.p ask.q) (is_digest ask.digest) is in
     let second = both (nat_lt ask.analyst entry.analysts && has_view entry ask.view && is_epsilon ask.e) (is_lowest ask.p ask.q) first.0 in
     let third = both (nat_lt ask.analyst entry.analysts && has_view entry ask.view) (is_epsilon ask.e) second.0 in
     let fourth = both (nat_lt ask.analyst entry.analysts) (has_view entry ask.view) third.0 in
     let epsilon = both (nat_le 1 ask.e) (nat_le ask.e (10 ^ 9)) third.1 in
     let lowest = lowest-from ask.p ask.q second.1 in
-    let digest = both (length ask.program == 32) (list_all (λ byte. nat_lt byte 256) ask.program) first.1 in
+    let digest = both (length ask.digest == 32) (list_all (λ byte. nat_lt byte 256) ask.digest) first.1 in
     record {
       analyst = ltb-true ask.analyst entry.analysts fourth.0;
       view = view-from entry ask.view fourth.1;
       terms = record { above = leb-true 1 ask.e epsilon.0; most = leb-true ask.e (10 ^ 9) epsilon.1; positive = lowest.0; lowest = lowest.1 };
-      digest = (eqb-true (length ask.program) 32 digest.0, bytes-from ask.program digest.1);
+      digest = (eqb-true (length ask.digest) 32 digest.0, bytes-from ask.digest digest.1);
     }
 
 pub ask-test : (entry : Entry) (ask : Ask) → IsAskOf entry ask → is_ask_of entry ask ≡ true
 ask-test entry ask of =
     let epsilon = and_from (nat_le 1 ask.e) (nat_le ask.e (10 ^ 9)) (le-leb 1 ask.e of.terms.above) (le-leb ask.e (10 ^ 9) of.terms.most) in
-    let digest = and_from (length ask.program == 32) (list_all (λ byte. nat_lt byte 256) ask.program) (eq-eqb (length ask.program) 32 of.digest.0) (bytes-test ask.program of.digest.1) in
-    and_from (nat_lt ask.analyst entry.analysts && has_view entry ask.view && is_epsilon ask.e && is_lowest ask.p ask.q) (is_digest ask.program)
+    let digest = and_from (length ask.digest == 32) (list_all (λ byte. nat_lt byte 256) ask.digest) (eq-eqb (length ask.digest) 32 of.digest.0) (bytes-test ask.digest of.digest.1) in
+    and_from (nat_lt ask.analyst entry.analysts && has_view entry ask.view && is_epsilon ask.e && is_lowest ask.p ask.q) (is_digest ask.digest)
     (and_from (nat_lt ask.analyst entry.analysts && has_view entry ask.view && is_epsilon ask.e) (is_lowest ask.p ask.q)
     (and_from (nat_lt ask.analyst entry.analysts && has_view entry ask.view) (is_epsilon ask.e)
     (and_from (nat_lt ask.analyst entry.analysts) (has_view entry ask.view) (lt-ltb ask.analyst entry.analysts of.analyst) (view-test entry ask.view of.view)) epsilon)

@@ -8,12 +8,12 @@ use Rattle.journal_records.specs.declared.records.Record.{Record}
 use Rattle.journal_records.specs.declared.records.Record.TheVariants.{Reserve, Settle}
 use Rattle.budget_core.specs.declared.entry.Ask.{Ask}
 use Rattle.budget_core.specs.Bare.{bare_outcome, bare_record, without_answers}
-use Rattle.budget_core.specs.Cost.{charges_in, cost_of}
+use Rattle.budget_core.specs.Cost.{charge_by, charges_in, cost_of}
 use Rattle.budget_core.specs.Counts.{reservations_of, outcome_of, is_open_in, open_from}
 use Rattle.budget_core.specs.Entries.{Entry}
 use Rattle.budget_core.specs.Ledger.{next_number, reservation_numbered, cost_with, money_verdict}
 use Rattle.budget_core.proofs.Numbers.{one_if}
-use Rattle.budget_core.proofs.Costs.{charge_by, cost_of-same, cost_of-append-Reserve}
+use Rattle.budget_core.proofs.Costs.{cost_of-same, cost_of-append-Reserve}
 
 sum_by-mapped : {X : Type 0} → (f g : X → ℕ) (h : X → X) → ((x : X) → f (h x) ≡ g x) → (xs : List X) → sum_by f (map h xs) ≡ sum_by g xs
 sum_by-mapped f g h same [] = refl
@@ -22,22 +22,22 @@ sum_by-mapped f g h same (x ∷ xs) = omega (arith, sum_by-mapped f g h same xs,
 charges_in-without_answers : (records : List Record) → charges_in (without_answers records) ≡ charges_in records
 charges_in-without_answers [] = refl
 charges_in-without_answers (Reserve reservation ∷ records) = ap (λ (rest : List Charge). charge_by reservation ∷ rest) (charges_in-without_answers records)
-charges_in-without_answers (Settle number outcome ∷ records) = charges_in-without_answers records
+charges_in-without_answers (Settle settlement ∷ records) = charges_in-without_answers records
 
-pub cost_of-without_answers : (records : List Record) → cost_of (without_answers records) ≡ cost_of records
-cost_of-without_answers records = cost_of-same (without_answers records) records (charges_in-without_answers records)
+pub cost_of-without_answers : (entry : Entry) (records : List Record) → cost_of entry (without_answers records) ≡ cost_of entry records
+cost_of-without_answers entry records = cost_of-same entry (without_answers records) records (charges_in-without_answers records)
 
-pub cost_with-without_answers : (records : List Record) (ask : Ask) → cost_with (without_answers records) ask ≡ cost_with records ask
-cost_with-without_answers records ask =
+pub cost_with-without_answers : (entry : Entry) (records : List Record) (ask : Ask) → cost_with entry (without_answers records) ask ≡ cost_with entry records ask
+cost_with-without_answers entry records ask =
     let before : Reservation = reservation_numbered (next_number (without_answers records)) ask 0 in
     let after : Reservation = reservation_numbered (next_number records) ask 0 in
-    cost_of-append-Reserve (without_answers records) before ∙ ap (λ (charges : List Charge). cost_of_charges (charges ++ charge_by after ∷ [])) (charges_in-without_answers records)
-    ∙ sym (cost_of-append-Reserve records after)
+    cost_of-append-Reserve entry (without_answers records) before ∙ ap (λ (charges : List Charge). cost_of_charges (charges ++ charge_by after ∷ [])) (charges_in-without_answers records)
+    ∙ sym (cost_of-append-Reserve entry records after)
 
 pub reservations_of-without_answers : (records : List Record) → length (reservations_of (without_answers records)) ≡ length (reservations_of records)
 reservations_of-without_answers [] = refl
 reservations_of-without_answers (Reserve reservation ∷ records) = omega (arith, reservations_of-without_answers records)
-reservations_of-without_answers (Settle number outcome ∷ records) = reservations_of-without_answers records
+reservations_of-without_answers (Settle settlement ∷ records) = reservations_of-without_answers records
 
 settled_step : {X : Type 0} → (hit : Bool) (v w : X) (old new : Option X) → is_some old ≡ is_some new → is_some (cond hit (Some v) old) ≡ is_some (cond hit (Some w) new)
 settled_step true v w old new same = refl
@@ -46,15 +46,15 @@ settled_step false v w old new same = same
 settled-without_answers : (records : List Record) (n : ℕ) → is_some (outcome_of (without_answers records) n) ≡ is_some (outcome_of records n)
 settled-without_answers [] n = refl
 settled-without_answers (Reserve reservation ∷ records) n = settled-without_answers records n
-settled-without_answers (Settle number outcome ∷ records) n = settled_step (n == number) (bare_outcome outcome) outcome (outcome_of (without_answers records) n) (outcome_of records n) (settled-without_answers records n)
+settled-without_answers (Settle settlement ∷ records) n = settled_step (n == settlement.number) (bare_outcome settlement.outcome) settlement.outcome (outcome_of (without_answers records) n) (outcome_of records n) (settled-without_answers records n)
 
 pub open_from-without_answers : (start : ℕ) (records : List Record) → open_from start (without_answers records) ≡ open_from start records
 open_from-without_answers start records = sum_by-mapped (λ r. one_if (is_open_in (without_answers records) start r)) (λ r. one_if (is_open_in records start r)) bare_record same records
   where
     same : (r : Record) → one_if (is_open_in (without_answers records) start (bare_record r)) ≡ one_if (is_open_in records start r)
     same (Reserve reservation) = ap (λ b. one_if (nat_le start reservation.number && not b)) (settled-without_answers records reservation.number)
-    same (Settle number outcome) = refl
+    same (Settle settlement) = refl
 
 pub money_verdict-without_answers : (entry : Entry) (start : ℕ) (records : List Record) (ask : Ask) → money_verdict entry start (without_answers records) ask ≡ money_verdict entry start records ask
 money_verdict-without_answers entry start records ask =
-    cc (cost_of-without_answers records, cost_with-without_answers records ask, reservations_of-without_answers records, open_from-without_answers start records, length-map records bare_record)
+    cc (cost_of-without_answers entry records, cost_with-without_answers entry records ask, reservations_of-without_answers records, open_from-without_answers start records, length-map records bare_record)

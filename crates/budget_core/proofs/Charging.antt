@@ -3,27 +3,23 @@ use Rattle.std.proofs.Common.{◌≡◌, ℕ, ◌+◌, ◌≤◌, ◌<◌, List,
 use Rattle.std.proofs.lemmas.Option.{slice_get_within, get_or_from_slice_get}
 use Rattle.partition_charge.specs.declared.view.View.{View}
 use Rattle.partition_charge.specs.declared.view.View.TheVariants.{Whole, Part}
-use Rattle.partition_charge.specs.Views.{IsView, part_limit}
-use Rattle.partition_charge.specs.Cost.{Charge, charges_of, partition_cost, cost_of_charges}
-use Rattle.partition_charge.proofs.Charges.{greatest-at, whole-cost, part-cost}
+use Rattle.partition_charge.specs.Views.{IsView, partition_range, part_limit}
+use Rattle.partition_charge.specs.Cost.{Charge, cost_of_charges}
+use Rattle.partition_charge.proofs.Charges.{dearest-at, whole-cost, part-cost}
 use Rattle.budget_core.specs.Entries.{Entry, IsEntry, HasView}
-
-part-below : (charges : List Charge) (p j : ℕ) → j < 250 → charges_of (Part p j) charges ≤ partition_cost charges p
-unfolding partition_cost
-part-below charges p j lt = greatest-at part_limit (λ k. charges_of (Part p k) charges) j lt
 
 -- A charge raises the cost by at most its amount.
 pub rises : (charges : List Charge) (view : View) (amount : ℕ) → IsView view
     → cost_of_charges (charges ++ record { view = view; amount = amount } ∷ []) ≤ cost_of_charges charges + amount
 rises charges Whole amount valid = omega (arith, whole-cost charges amount)
-rises charges (Part p j) amount valid = omega (arith, part-cost charges amount p j valid.0 valid.1, part-below charges p j valid.1)
+rises charges (Part p j) amount valid = omega (arith, part-cost charges amount p j valid.0, dearest-at charges p j)
 
 -- An entry's view is within the limits of all views.
 pub view-valid : (entry : Entry) (view : View) → IsEntry entry → HasView entry view → IsView view
 view-valid entry Whole valid has = tt
 view-valid entry (Part p j) valid has = within (slice_get entry.keys p) refl has
   where
-    within : (found : Option ℕ) → slice_get entry.keys p ≡ found → IsSomeAnd found (λ keys. j < keys) → (p < 8) × (j < 250)
+    within : (found : Option ℕ) → slice_get entry.keys p ≡ found → IsSomeAnd found (λ keys. j < keys) → (p < partition_range) × (j < part_limit)
     within None at less = absurd less
     within (Some keys) at less =
         let inside : p < length entry.keys = slice_get_within entry.keys p keys at in

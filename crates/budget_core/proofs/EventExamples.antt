@@ -5,7 +5,8 @@ use Rattle.partition_charge.specs.declared.view.View.TheVariants.{Whole, Part}
 use Rattle.partition_charge.specs.Cost.{cost_of_charges, partition_cost}
 use Rattle.journal_records.specs.declared.records.Outcome.TheVariants.{Answered, Exhausted, Lost}
 use Rattle.journal_records.specs.declared.records.Record.{Record}
-use Rattle.journal_records.specs.declared.records.Record.TheVariants.{Reserve, Settle}
+use Rattle.journal_records.specs.declared.records.Record.TheVariants.{Reserve}
+use Rattle.journal_records.specs.Records.{settling}
 use Rattle.budget_core.specs.declared.entry.Ask.{Ask}
 use Rattle.budget_core.specs.declared.events.Event.TheVariants.{Reserve as ToReserve, Settle as ToSettle, Send, Stop, Open}
 use Rattle.budget_core.specs.Cost.{cost_of}
@@ -19,13 +20,13 @@ abbrev digest : List ℕ
 digest = replicate 32 9
 
 abbrev ask_of : View → ℕ → Ask
-ask_of view e = record { analyst = 1; view = view; e = e; p = 1; q = 1; program = digest }
+ask_of view e = record { analyst = 1; view = view; e = e; p = 1; q = 1; digest = digest }
 
 abbrev made : ℕ → View → ℕ → ℕ → Record
-made number view e taken = Reserve (record { number = number; view = view; e = e; p = 1; q = 1; taken = taken; analyst = 1; program = digest })
+made number view e taken = Reserve (record { number = number; view = view; e = e; p = 1; q = 1; taken = taken; analyst = 1; digest = digest })
 
 abbrev five : Record
-five = Settle 0 (Answered (pos 5))
+five = settling 0 (Answered (pos 5))
 
 -- ---- a run
 
@@ -41,7 +42,7 @@ nothing_happened = refl
 
 -- Numbers go on after a stop, and what was left open then is never settled.
 goes_on : ran (entry_of 10 100) (ToReserve (ask_of Whole 4) ∷ Stop ∷ Open ∷ ToReserve (ask_of Whole 6) ∷ ToSettle 0 Lost ∷ ToSettle 1 Exhausted ∷ [])
-    ≡ record { records = made 0 Whole 4 4 ∷ made 1 Whole 6 6 ∷ Settle 1 Exhausted ∷ []; start = 1; running = true; sent = [] }
+    ≡ record { records = made 0 Whole 4 4 ∷ made 1 Whole 6 6 ∷ settling 1 Exhausted ∷ []; start = 1; running = true; sent = [] }
 unfolding cost_of cost_of_charges partition_cost
 goes_on = refl
 
@@ -113,7 +114,7 @@ sends_open : stepped (entry_of 10 100) one_open (Send 0) ≡ one_open
 sends_open = refl
 
 abbrev ended : World
-ended = record { records = made 0 Whole 1 1 ∷ Settle 0 Exhausted ∷ made 1 Whole 1 1 ∷ Settle 1 Lost ∷ []; start = 0; running = true; sent = [] }
+ended = record { records = made 0 Whole 1 1 ∷ settling 0 Exhausted ∷ made 1 Whole 1 1 ∷ settling 1 Lost ∷ []; start = 0; running = true; sent = [] }
 
 sends_exhausted : stepped (entry_of 10 100) ended (Send 0) ≡ ended
 sends_exhausted = refl
@@ -161,7 +162,7 @@ part_past_the_last = refl
 no_such_partition : has_view (entry_of 10 100) (Part 1 0) ≡ false
 no_such_partition = refl
 
-short_digest : is_ask_of (entry_of 10 100) (record (ask_of Whole 1) { program = replicate 31 9 }) ≡ false
+short_digest : is_ask_of (entry_of 10 100) (record (ask_of Whole 1) { digest = replicate 31 9 }) ≡ false
 short_digest = refl
 
 greatest_byte : is_digest (replicate 32 255) ≡ true

@@ -5,7 +5,7 @@ use Rattle.std.proofs.lemmas.Bool.{leb-true}
 use Rattle.std.specs.List.{list_any}
 use Rattle.journal_records.specs.declared.records.Outcome.{Outcome}
 use Rattle.journal_records.specs.declared.records.Record.{Record}
-use Rattle.journal_records.specs.declared.records.Record.TheVariants.{Settle}
+use Rattle.journal_records.specs.Records.{settling}
 use Rattle.budget_core.specs.declared.entry.Ask.{Ask}
 use Rattle.budget_core.specs.declared.entry.Grant.{Grant}
 use Rattle.budget_core.specs.declared.entry.ReserveFault.{ReserveFault}
@@ -64,7 +64,7 @@ answers-at records (number ∷ sent) all (suc k) d short = answers-at records se
 good-first : (entry : Entry) → IsEntry entry → IsGood entry first_world
 good-first entry valid = record {
   found = [];
-  sound = sound-found entry [] valid (history-nil entry) (omega (arith, cost_of-nil)) (omega arith);
+  sound = sound-found entry [] valid (history-nil entry) (omega (arith, cost_of-nil entry)) (omega arith);
   start = refl;
   answered = tt;
 }
@@ -92,14 +92,14 @@ good-reserve entry world ask good asked (Ok grant) is =
     }
 
 good-settle : (entry : Entry) (world : World) (number : ℕ) (outcome : Outcome) → IsGood entry world → is_unsettled world.start world.records number ≡ true
-    → IsGood entry (record world { records = world.records ++ Settle number outcome ∷ [] })
+    → IsGood entry (record world { records = world.records ++ settling number outcome ∷ [] })
 good-settle entry world number outcome good holds =
     let ledger : Ledger = record { entry = entry; found = good.found; records = world.records } in
     record {
       found = good.found;
       sound = sound-Settle ledger number outcome good.sound (unsettled-from ledger world.start number good.start holds);
       start = good.start;
-      answered = answers-stay world.records (Settle number outcome) world.sent good.answered;
+      answered = answers-stay world.records (settling number outcome) world.sent good.answered;
     }
 
 -- a world that changes where a test holds
@@ -112,7 +112,7 @@ good-stepped entry world (ToReserve ask) good =
     good-if entry world (record world { records = records_after world.records ask (money_verdict entry world.start world.records ask) }) (world.running && is_ask_of entry ask) good
     (λ holds. good-reserve entry world ask good (ask-from entry ask (test-both world.running (is_ask_of entry ask) holds).1) (money_verdict entry world.start world.records ask) refl)
 good-stepped entry world (ToSettle number outcome) good =
-    good-if entry world (record world { records = world.records ++ Settle number outcome ∷ [] }) (world.running && is_unsettled world.start world.records number) good
+    good-if entry world (record world { records = world.records ++ settling number outcome ∷ [] }) (world.running && is_unsettled world.start world.records number) good
     (λ holds. good-settle entry world number outcome good (test-both world.running (is_unsettled world.start world.records number) holds).1)
 good-stepped entry world (Send number) good =
     good-if entry world (record world { sent = world.sent ++ number ∷ [] })

@@ -4,7 +4,8 @@ use Rattle.partition_charge.specs.declared.view.View.{View}
 use Rattle.partition_charge.specs.declared.view.View.TheVariants.{Whole, Part}
 use Rattle.journal_records.specs.declared.records.Outcome.TheVariants.{Answered, Exhausted, Lost}
 use Rattle.journal_records.specs.declared.records.Record.{Record}
-use Rattle.journal_records.specs.declared.records.Record.TheVariants.{Reserve, Settle}
+use Rattle.journal_records.specs.declared.records.Record.TheVariants.{Reserve}
+use Rattle.journal_records.specs.Records.{reservation_in, settling}
 use Rattle.budget_core.specs.declared.entry.Ask.{Ask}
 use Rattle.budget_core.specs.declared.entry.ReserveFault.TheVariants.{OverBudget, Full}
 use Rattle.partition_charge.specs.Cost.{cost_of_charges, partition_cost}
@@ -46,16 +47,16 @@ abbrev digest : List ℕ
 digest = replicate 32 9
 
 abbrev ask_of : View → ℕ → Ask
-ask_of view e = record { analyst = 0; view = view; e = e; p = 1; q = 1; program = digest }
+ask_of view e = record { analyst = 0; view = view; e = e; p = 1; q = 1; digest = digest }
 
 -- a reservation of sensitivity 1 by analyst 0
 abbrev made : ℕ → View → ℕ → ℕ → Record
-made number view e taken = Reserve (record { number = number; view = view; e = e; p = 1; q = 1; taken = taken; analyst = 0; program = digest })
+made number view e taken = Reserve (record { number = number; view = view; e = e; p = 1; q = 1; taken = taken; analyst = 0; digest = digest })
 
 -- n asks of the whole view at epsilon 1, each answered
 abbrev answered : ℕ → List Record
 answered zero = []
-answered (suc n) = answered n ++ made n Whole 1000000 1000000 ∷ Settle n (Answered (pos 5)) ∷ []
+answered (suc n) = answered n ++ made n Whole 1000000 1000000 ∷ settling n (Answered (pos 5)) ∷ []
 
 -- Ten fit into a budget of 10; the eleventh would make it 11.
 first_ask : money_verdict (entry_of 10000000 100) 0 (answered 0) (ask_of Whole 1000000) ≡ Ok (record { number = 0; taken = 1000000; seen = 1 })
@@ -77,23 +78,23 @@ no_room = refl
 
 -- Parts of one partition cost as much as the dearest one.
 abbrev part_a : List Record
-part_a = made 0 (Part 0 0) 6 6 ∷ Settle 0 (Answered (pos 1)) ∷ []
+part_a = made 0 (Part 0 0) 6 6 ∷ settling 0 (Answered (pos 1)) ∷ []
 
 abbrev parts_ab : List Record
-parts_ab = part_a ++ made 1 (Part 0 1) 6 0 ∷ Settle 1 (Answered (pos 1)) ∷ []
+parts_ab = part_a ++ made 1 (Part 0 1) 6 0 ∷ settling 1 (Answered (pos 1)) ∷ []
 
 abbrev parts_aba : List Record
-parts_aba = parts_ab ++ made 2 (Part 0 0) 4 4 ∷ Settle 2 (Answered (pos 1)) ∷ []
+parts_aba = parts_ab ++ made 2 (Part 0 0) 4 4 ∷ settling 2 (Answered (pos 1)) ∷ []
 
-costs_a : cost_of part_a ≡ 6
+costs_a : cost_of (entry_of 10 100) part_a ≡ 6
 unfolding cost_of cost_of_charges partition_cost
 costs_a = refl
 
-costs_ab : cost_of parts_ab ≡ 6
+costs_ab : cost_of (entry_of 10 100) parts_ab ≡ 6
 unfolding cost_of cost_of_charges partition_cost
 costs_ab = refl
 
-costs_aba : cost_of parts_aba ≡ 10
+costs_aba : cost_of (entry_of 10 100) parts_aba ≡ 10
 unfolding cost_of cost_of_charges partition_cost
 costs_aba = refl
 
@@ -113,27 +114,27 @@ whole_after_parts = refl
 abbrev two_partitions : List Record
 two_partitions = parts_aba ++ made 3 (Part 1 0) 3 3 ∷ made 4 (Part 1 1) 2 0 ∷ made 5 Whole 5 5 ∷ []
 
-costs_both : cost_of two_partitions ≡ 18
+costs_both : cost_of (entry_of 10 100) two_partitions ≡ 18
 unfolding cost_of cost_of_charges partition_cost
 costs_both = refl
 
 -- The last part of the last partition costs as well.
-last_of_all : cost_of (made 0 (Part 7 249) 6 6 ∷ made 1 Whole 1 1 ∷ []) ≡ 7
+last_of_all : cost_of (entry_of 10 100) (made 0 (Part 7 249) 6 6 ∷ made 1 Whole 1 1 ∷ []) ≡ 7
 unfolding cost_of cost_of_charges partition_cost
 last_of_all = refl
 
-no_records : cost_of [] ≡ 0
+no_records : cost_of (entry_of 10 100) [] ≡ 0
 unfolding cost_of cost_of_charges partition_cost
 no_records = refl
 
 -- An ask of sensitivity 0 costs nothing, and is granted on a budget that is spent.
-for_nothing : money_verdict (entry_of 10 100) 0 parts_aba (record { analyst = 0; view = Whole; e = 1000000000; p = 0; q = 1; program = digest }) ≡ Ok (record { number = 3; taken = 0; seen = 7 })
+for_nothing : money_verdict (entry_of 10 100) 0 parts_aba (record { analyst = 0; view = Whole; e = 1000000000; p = 0; q = 1; digest = digest }) ≡ Ok (record { number = 3; taken = 0; seen = 7 })
 unfolding cost_of cost_of_charges partition_cost
 for_nothing = refl
 
 -- A sensitivity of 3/2 at one millionth takes 2: granted where 2 are left, and over by one where 1 is.
 abbrev three_halves : Ask
-three_halves = record { analyst = 1; view = Whole; e = 1; p = 3; q = 2; program = digest }
+three_halves = record { analyst = 1; view = Whole; e = 1; p = 3; q = 2; digest = digest }
 
 exactly_the_budget : money_verdict (entry_of 12 100) 0 parts_aba three_halves ≡ Ok (record { number = 3; taken = 2; seen = 7 })
 unfolding cost_of cost_of_charges partition_cost
@@ -180,7 +181,7 @@ no_place_beside = refl
 
 -- What a grant adds has the ask's fields; a refusal adds nothing.
 granted : records_after left_open three_halves (Ok (record { number = 1; taken = 2; seen = 2 }))
-    ≡ made 0 Whole 4 4 ∷ Reserve (record { number = 1; view = Whole; e = 1; p = 3; q = 2; taken = 2; analyst = 1; program = digest }) ∷ []
+    ≡ made 0 Whole 4 4 ∷ Reserve (record { number = 1; view = Whole; e = 1; p = 3; q = 2; taken = 2; analyst = 1; digest = digest }) ∷ []
 granted = refl
 
 refused : records_after left_open three_halves (Err (Full 1 1 3)) ≡ left_open
@@ -188,18 +189,15 @@ refused = refl
 
 -- the records of a run that found one reservation settled and one open, and settled its own
 abbrev records : List Record
-records = part_a ++ made 1 Whole 4 4 ∷ made 2 Whole 1 1 ∷ Settle 2 Lost ∷ []
+records = part_a ++ made 1 Whole 4 4 ∷ made 2 Whole 1 1 ∷ settling 2 Lost ∷ []
 
 numbered : map reservation_number (reservations_of records) ≡ 0 ∷ 1 ∷ 2 ∷ []
 numbered = refl
 
-numbers : map reservation_number records ≡ 0 ∷ 0 ∷ 1 ∷ 2 ∷ 2 ∷ []
-numbers = refl
-
 took : map taken_of records ≡ 6 ∷ 0 ∷ 4 ∷ 1 ∷ 0 ∷ []
 took = refl
 
-reserved : reservation_of records 1 ≡ Some (made 1 Whole 4 4)
+reserved : reservation_of records 1 ≡ reservation_in (made 1 Whole 4 4)
 reserved = refl
 
 asked_by : asker_of records 1 ≡ Some 0
@@ -211,7 +209,7 @@ asked_by_none = refl
 not_reserved : reservation_of records 3 ≡ None
 not_reserved = refl
 
-settled_without_one : reservation_of (Settle 3 Lost ∷ []) 3 ≡ None
+settled_without_one : reservation_of (settling 3 Lost ∷ []) 3 ≡ None
 settled_without_one = refl
 
 answered_0 : outcome_of records 0 ≡ Some (Answered (pos 1))
@@ -230,12 +228,12 @@ starts_after_the_found : start_of (record { entry = entry_of 10 100; found = par
 starts_after_the_found = refl
 
 -- Only answers are set to 0.
-answers_are_gone : without_answers (made 0 Whole 4 4 ∷ Settle 0 (Answered (negsuc 6)) ∷ Settle 1 Exhausted ∷ Settle 2 Lost ∷ [])
-    ≡ made 0 Whole 4 4 ∷ Settle 0 (Answered (pos 0)) ∷ Settle 1 Exhausted ∷ Settle 2 Lost ∷ []
+answers_are_gone : without_answers (made 0 Whole 4 4 ∷ settling 0 (Answered (negsuc 6)) ∷ settling 1 Exhausted ∷ settling 2 Lost ∷ [])
+    ≡ made 0 Whole 4 4 ∷ settling 0 (Answered (pos 0)) ∷ settling 1 Exhausted ∷ settling 2 Lost ∷ []
 answers_are_gone = refl
 
 -- A reservation that an earlier run left open keeps its cost, and no room.
-still_costs : cost_of left_open ≡ 4
+still_costs : cost_of (entry_of 10 100) left_open ≡ 4
 unfolding cost_of cost_of_charges partition_cost
 still_costs = refl
 

@@ -1,7 +1,7 @@
 -- the numbers of grants
-use Rattle.std.proofs.Common.{◌≡◌, ℕ, zero, suc, ◌+◌, ◌≤◌, ◌<◌, nat_lt, List, [], ◌∷◌, ◌++◌, length, length-append, take, slice_get, Some, Ok, ap, arith}
+use Rattle.std.proofs.Common.{◌≡◌, ℕ, zero, suc, ◌+◌, ◌≤◌, ◌<◌, nat_lt, List, [], ◌∷◌, length, length-append, take, slice_get, Some, Ok, ap, arith}
 use Rattle.std.proofs.lemmas.Bool.{cases_lt}
-use Rattle.std.proofs.lemmas.List.Elements.{filter-append}
+use Rattle.std.proofs.lemmas.List.Elements.{filter_map-append}
 use mathlib.Core.Logic.{inl, inr}
 use mathlib.Core.List.{IsPrefix}
 use Rattle.journal_records.specs.declared.records.Reservation.{Reservation}
@@ -11,11 +11,11 @@ use Rattle.budget_core.specs.declared.entry.Ask.{Ask}
 use Rattle.budget_core.specs.declared.entry.Grant.{Grant}
 use Rattle.budget_core.specs.declared.entry.ReserveFault.TheVariants.{OverBudget, Full}
 use Rattle.budget_core.specs.Cost.{cost_of}
-use Rattle.budget_core.specs.Counts.{is_reservation, reservations_of, open_from}
+use Rattle.journal_records.specs.Records.{reservation_in}
+use Rattle.budget_core.specs.Counts.{reservations_of, open_from}
 use Rattle.budget_core.specs.Entries.{Entry}
 use Rattle.budget_core.specs.Laws.{NumbersNeverShared, NumbersGrow}
 use Rattle.budget_core.specs.Ledger.{next_number, reservation_numbered, cost_with, rise_of, money_verdict, records_after}
-use Rattle.budget_core.specs.Legal.{IsHistory}
 use Rattle.budget_core.proofs.LegalLemmas.{chosen}
 use Rattle.budget_core.proofs.Numbers.{reservations_of-append-Reserve}
 
@@ -25,9 +25,9 @@ counts-behind : (records : List Record) (j k : ℕ) (one : Reservation) → slic
 counts-behind [] j k one at lt = absurd cc
 counts-behind (x ∷ records) j zero one at lt = absurd (omega (arith, lt))
 counts-behind (Reserve first ∷ records) zero (suc k) one at lt = omega arith
-counts-behind (Settle number outcome ∷ records) zero (suc k) one at lt = absurd cc
+counts-behind (Settle settlement ∷ records) zero (suc k) one at lt = absurd cc
 counts-behind (Reserve first ∷ records) (suc j) (suc k) one at lt = omega (arith, counts-behind records j k one at (omega (arith, lt)))
-counts-behind (Settle number outcome ∷ records) (suc j) (suc k) one at lt = counts-behind records j k one at (omega (arith, lt))
+counts-behind (Settle settlement ∷ records) (suc j) (suc k) one at lt = counts-behind records j k one at (omega (arith, lt))
 
 pub never-shared : NumbersNeverShared
 never-shared entry records j k one other h first second same =
@@ -45,7 +45,7 @@ never-shared entry records j k one other h first second same =
 pub grant-number : (entry : Entry) (start : ℕ) (records : List Record) (ask : Ask) (grant : Grant) → money_verdict entry start records ask ≡ Ok grant → grant.number ≡ next_number records
 grant-number entry start records ask grant is =
     let used : ℕ = open_from start records in
-    let parts = chosen (nat_lt entry.budget (cost_with records ask)) (nat_lt entry.capacity (length records + used + 2)) (OverBudget (cost_of records) (cost_with records ask) entry.budget (length records)) (Full (length records) used entry.capacity) (record { number = next_number records; taken = rise_of records ask; seen = length records + 1 }) grant is in
+    let parts = chosen (nat_lt entry.budget (cost_with entry records ask)) (nat_lt entry.capacity (length records + used + 2)) (OverBudget (cost_of entry records) (cost_with entry records ask) entry.budget (length records)) (Full (length records) used entry.capacity) (record { number = next_number records; taken = rise_of entry records ask; seen = length records + 1 }) grant is in
     ap (λ (g : Grant). g.number) parts.2
 
 -- There are no fewer reservations in what begins with these records.
@@ -53,7 +53,7 @@ pub reservations-begin : (records later : List Record) → IsPrefix records late
 reservations-begin records later begins = omega (
   arith,
   ap (λ (xs : List Record). length (reservations_of xs)) begins.1,
-  ap length (filter-append is_reservation records begins.0),
+  ap length (filter_map-append reservation_in records begins.0),
   length-append (reservations_of records) (reservations_of begins.0),
 )
 

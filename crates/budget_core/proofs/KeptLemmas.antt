@@ -10,7 +10,8 @@ use Rattle.std.proofs.lemmas.List.Sums.{sum_by_push, count_by-le-length}
 use Rattle.journal_records.specs.declared.records.Outcome.{Outcome}
 use Rattle.journal_records.specs.declared.records.Reservation.{Reservation}
 use Rattle.journal_records.specs.declared.records.Record.{Record}
-use Rattle.journal_records.specs.declared.records.Record.TheVariants.{Reserve, Settle}
+use Rattle.journal_records.specs.declared.records.Record.TheVariants.{Reserve}
+use Rattle.journal_records.specs.Records.{settling}
 use Rattle.budget_core.specs.declared.totals.Row.{Row}
 use Rattle.budget_core.specs.declared.totals.Totals.{Totals}
 use Rattle.budget_core.specs.Cost.{charge_of, charges_in, cost_of}
@@ -33,17 +34,17 @@ kept-count entry records totals k = omega (arith, k.rows.count, reservations-wit
 pub kept-charging : (entry : Entry) (records : List Record) (totals : Totals) (view : View) (amount : ℕ) → IsTotalOf entry records totals → HasView entry view → amount ≤ 2 ^ 62 → HasRoom totals.costs view amount
 kept-charging entry records totals view amount k has bounded =
     let charges : List Charge = charges_in records in
-    (charges, k.costs, omega (arith, rises charges view amount (view-valid entry view k.valid has), cost_of-charges records, k.within, k.valid.budget))
+    (charges, k.costs, omega (arith, rises charges view amount (view-valid entry view k.valid has), cost_of-charges entry records, k.within, k.valid.budget))
 
-pub kept-grows : (records : List Record) (view : View) (amount : ℕ) → cost_of records ≤ cost_of_charges (charges_in records ++ record { view = view; amount = amount } ∷ [])
-kept-grows records view amount = omega (arith, cost_of-charges records, never-falls (charges_in records) (record { view = view; amount = amount }))
+pub kept-grows : (entry : Entry) (records : List Record) (view : View) (amount : ℕ) → cost_of entry records ≤ cost_of_charges (charges_in records ++ record { view = view; amount = amount } ∷ [])
+kept-grows entry records view amount = omega (arith, cost_of-charges entry records, never-falls (charges_in records) (record { view = view; amount = amount }))
 
 -- Whether a reservation within its budget may follow goes by what it says of the cost.
 pub may-reserve : (entry : Entry) (records : List Record) (r : Reservation) (charge after spent : ℕ) → r.number ≡ length (reservations_of records) → r.analyst < entry.analysts → HasView entry r.view
     → charge ≡ charge_of r.e r.p r.q → after ≡ cost_of_charges (charges_in records ++ record { view = r.view; amount = charge } ∷ [])
-    → cost_of records ≤ after → spent ≡ cost_of records → after ≤ entry.budget → IsTrue (nat_eq (after - spent) r.taken) ↔ IsReservationAfter entry records r
+    → cost_of entry records ≤ after → spent ≡ cost_of entry records → after ≤ entry.budget → IsTrue (nat_eq (after - spent) r.taken) ↔ IsReservationAfter entry records r
 may-reserve entry records r charge after spent numbered asked viewed is cost grows was within =
-    let now : cost_of (records ++ Reserve r ∷ []) ≡ after = with-one records r charge after is cost in (
+    let now : cost_of entry (records ++ Reserve r ∷ []) ≡ after = with-one records r charge after is cost in (
       λ yes. record {
         numbered = numbered;
         asked_by = asked;
@@ -55,16 +56,16 @@ may-reserve entry records r charge after spent numbered asked viewed is cost gro
     )
   where
     with-one : (records : List Record) (r : Reservation) (charge after : ℕ) → charge ≡ charge_of r.e r.p r.q
-        → after ≡ cost_of_charges (charges_in records ++ record { view = r.view; amount = charge } ∷ []) → cost_of (records ++ Reserve r ∷ []) ≡ after
+        → after ≡ cost_of_charges (charges_in records ++ record { view = r.view; amount = charge } ∷ []) → cost_of entry (records ++ Reserve r ∷ []) ≡ after
     with-one records r charge after is cost =
-        cost_of-append-Reserve records r ∙ ap (λ (n : ℕ). cost_of_charges (charges_in records ++ record { view = r.view; amount = n } ∷ [])) (sym is) ∙ sym cost
+        cost_of-append-Reserve entry records r ∙ ap (λ (n : ℕ). cost_of_charges (charges_in records ++ record { view = r.view; amount = n } ∷ [])) (sym is) ∙ sym cost
 
 -- Past the budget none may.
 pub may-not-reserve : (entry : Entry) (records : List Record) (r : Reservation) (charge after : ℕ) → charge ≡ charge_of r.e r.p r.q
     → after ≡ cost_of_charges (charges_in records ++ record { view = r.view; amount = charge } ∷ []) → entry.budget < after → IsReservationAfter entry records r → ⊥
 may-not-reserve entry records r charge after is cost over may =
-    let now : cost_of (records ++ Reserve r ∷ []) ≡ after
-    = cost_of-append-Reserve records r ∙ ap (λ (n : ℕ). cost_of_charges (charges_in records ++ record { view = r.view; amount = n } ∷ [])) (sym is) ∙ sym cost in
+    let now : cost_of entry (records ++ Reserve r ∷ []) ≡ after
+    = cost_of-append-Reserve entry records r ∙ ap (λ (n : ℕ). cost_of_charges (charges_in records ++ record { view = r.view; amount = n } ∷ [])) (sym is) ∙ sym cost in
     omega (arith, now, may.within)
 
 -- after a reservation
@@ -91,18 +92,18 @@ kept-Reserve entry records totals r charge costs rows k may is short stand lines
 -- after a settlement
 pub kept-Settle : (entry : Entry) (records : List Record) (totals : Totals) (number : ℕ) (outcome : Outcome) (rows : Vec Row Global) (one other : ℕ) → IsTotalOf entry records totals
     → IsSettlementAfter records number → length records < entry.capacity
-    → HasRows rows.items (records ++ Settle number outcome ∷ []) → vec_capacity rows ≡ vec_capacity totals.rows
-    → one ≡ one_if (is_answered (Settle number outcome)) → other ≡ one_if (is_exhausted (Settle number outcome))
-    → IsTotalOf entry (records ++ Settle number outcome ∷ []) (record totals { rows = rows; answered = totals.answered + one; exhausted = totals.exhausted + other })
+    → HasRows rows.items (records ++ settling number outcome ∷ []) → vec_capacity rows ≡ vec_capacity totals.rows
+    → one ≡ one_if (is_answered (settling number outcome)) → other ≡ one_if (is_exhausted (settling number outcome))
+    → IsTotalOf entry (records ++ settling number outcome ∷ []) (record totals { rows = rows; answered = totals.answered + one; exhausted = totals.exhausted + other })
 kept-Settle entry records totals number outcome rows one other k may short has broad answers exhausts = record {
   valid = k.valid;
-  history = history-append entry records (Settle number outcome) k.history may;
-  within = omega (arith, k.within, cost_of-append-Settle records number outcome);
+  history = history-append entry records (settling number outcome) k.history may;
+  within = omega (arith, k.within, cost_of-append-Settle entry records number outcome);
   costs = subst (AreTotalsOf totals.costs) (sym (charges_in-append-Settle records number outcome)) k.costs;
   rows = has;
-  answered = omega (arith, k.answered, answers, sum_by_push (λ x. one_if (is_answered x)) records (Settle number outcome));
-  exhausted = omega (arith, k.exhausted, exhausts, sum_by_push (λ x. one_if (is_exhausted x)) records (Settle number outcome));
-  fits = omega (arith, length-append records (Settle number outcome ∷ []), short);
+  answered = omega (arith, k.answered, answers, sum_by_push (λ x. one_if (is_answered x)) records (settling number outcome));
+  exhausted = omega (arith, k.exhausted, exhausts, sum_by_push (λ x. one_if (is_exhausted x)) records (settling number outcome));
+  fits = omega (arith, length-append records (settling number outcome ∷ []), short);
   row_room = omega (arith, k.row_room, broad);
 }
 

@@ -5,7 +5,8 @@ use Rattle.partition_charge.specs.declared.view.View.{View}
 use Rattle.partition_charge.specs.declared.view.View.TheVariants.{Whole, Part}
 use Rattle.journal_records.specs.declared.records.Outcome.TheVariants.{Answered, Exhausted, Lost}
 use Rattle.journal_records.specs.declared.records.Record.{Record}
-use Rattle.journal_records.specs.declared.records.Record.TheVariants.{Reserve, Settle}
+use Rattle.journal_records.specs.declared.records.Record.TheVariants.{Reserve}
+use Rattle.journal_records.specs.Records.{settling}
 use Rattle.budget_core.specs.declared.entry.Ask.{Ask}
 use Rattle.partition_charge.specs.Cost.{cost_of_charges, partition_cost}
 use Rattle.budget_core.specs.Cost.{cost_of}
@@ -121,14 +122,14 @@ abbrev digest : List ℕ
 digest = replicate 32 9
 
 abbrev made : ℕ → View → ℕ → ℕ → ℕ → Record
-made number view e taken analyst = Reserve (record { number = number; view = view; e = e; p = 1; q = 1; taken = taken; analyst = analyst; program = digest })
+made number view e taken analyst = Reserve (record { number = number; view = view; e = e; p = 1; q = 1; taken = taken; analyst = analyst; digest = digest })
 
 -- one reservation that is open, and the same settled
 abbrev left_open : List Record
 left_open = made 0 (Part 0 0) 6 6 0 ∷ []
 
 abbrev settled : List Record
-settled = left_open ++ Settle 0 Exhausted ∷ []
+settled = left_open ++ settling 0 Exhausted ∷ []
 
 -- The first reservation has number 0, the second number 1.
 first_may : MayFollow small [] (made 0 Whole 10 10 1)
@@ -157,13 +158,13 @@ unfolding cost_of cost_of_charges partition_cost
 over_budget may = let within : 11 ≤ 10 = may.within in omega (arith, within)
 
 -- An open reservation may be settled; one that isn't there, or is settled, may not.
-settles_open : MayFollow small left_open (Settle 0 (Answered (pos 5)))
+settles_open : MayFollow small left_open (settling 0 (Answered (pos 5)))
 settles_open = record { reserved = refl; unsettled = refl }
 
-settles_unknown : MayFollow small left_open (Settle 1 Lost) → ⊥
+settles_unknown : MayFollow small left_open (settling 1 Lost) → ⊥
 settles_unknown may = let no : false ≡ true = may.reserved in cc
 
-settles_settled : MayFollow small settled (Settle 0 Lost) → ⊥
+settles_settled : MayFollow small settled (settling 0 Lost) → ⊥
 settles_settled may = let no : Some Exhausted ≡ None = may.unsettled in cc
 
 -- A reservation has an epsilon of at least a millionth.
@@ -175,7 +176,7 @@ fits : IsLegal (entry_of 10 2 2 (2 ∷ [])) [] left_open
 unfolding cost_of cost_of_charges partition_cost
 fits = legal-append (entry_of 10 2 2 (2 ∷ [])) [] [] (made 0 (Part 0 0) 6 6 0) (legal-nil (entry_of 10 2 2 (2 ∷ [])))
     (record { numbered = refl; asked_by = omega arith; looks_at = omega arith; rise = refl; within = omega arith })
-    (ask-from (entry_of 10 2 2 (2 ∷ [])) (record { analyst = 0; view = Whole; e = 6; p = 1; q = 1; program = digest }) refl).terms
+    (ask-from (entry_of 10 2 2 (2 ∷ [])) (record { analyst = 0; view = Whole; e = 6; p = 1; q = 1; digest = digest }) refl).terms
     (λ number outcome other. cc) (λ within. omega arith)
 
 no_room : IsLegal (entry_of 10 1 2 (2 ∷ [])) [] left_open → ⊥
@@ -190,7 +191,7 @@ found_is_settled legal = omega (arith, legal.settles 1 0 Exhausted (omega arith)
 
 -- An ask is of the entry by its analyst, view, epsilon and sensitivity.
 abbrev ask_of : ℕ → View → ℕ → Ask
-ask_of analyst view e = record { analyst = analyst; view = view; e = e; p = 3; q = 2; program = digest }
+ask_of analyst view e = record { analyst = analyst; view = view; e = e; p = 3; q = 2; digest = digest }
 
 an_ask : IsAskOf small (ask_of 1 (Part 0 1) 1)
 an_ask = ask-from small (ask_of 1 (Part 0 1) 1) refl

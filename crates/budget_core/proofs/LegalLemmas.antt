@@ -3,32 +3,34 @@ use Rattle.std.proofs.Common.{◌≡◌, ◌≢◌, ℕ, ◌+◌, ◌≤◌, ◌
 use Rattle.std.proofs.lemmas.Bool.{cases_lt, ltb-true, ltb-false, cond-false, ne_eqb}
 use Rattle.std.proofs.lemmas.List.{take-append-le, length-take, take_all}
 use Rattle.std.specs.Option.{option_or}
-use Rattle.std.proofs.lemmas.List.Elements.{filter-append}
+use Rattle.std.proofs.lemmas.List.Elements.{filter_map-append}
 use Rattle.std.proofs.Math.Seq.{take-length}
 use mathlib.Core.Logic.{inl, inr}
 use Rattle.journal_records.specs.declared.records.Outcome.{Outcome}
 use Rattle.journal_records.specs.declared.records.Reservation.{Reservation}
 use Rattle.journal_records.specs.declared.records.Record.{Record}
 use Rattle.journal_records.specs.declared.records.Record.TheVariants.{Reserve, Settle}
+use Rattle.journal_records.specs.declared.records.Settlement.{Settlement}
+use Rattle.journal_records.specs.Records.{reservation_in, settlement_in, settling, number_or_zero}
 use Rattle.budget_core.specs.declared.entry.Ask.{Ask}
 use Rattle.budget_core.specs.declared.entry.Grant.{Grant}
 use Rattle.budget_core.specs.declared.entry.ReserveFault.TheVariants.{OverBudget, Full}
 use Rattle.budget_core.specs.Cost.{cost_of}
-use Rattle.budget_core.specs.Counts.{is_reservation, reservations_of, open_from}
+use Rattle.budget_core.specs.Counts.{reservations_of, open_from}
 use Rattle.budget_core.specs.Entries.{Entry}
-use Rattle.budget_core.specs.Legal.{MayFollow, HasTerms, IsReservationAfter, IsHistory, IsLegal}
-use Rattle.budget_core.specs.Ledger.{Ledger, start_of, next_number, reservation_numbered, reservation_for, cost_with, rise_of, money_verdict, IsAskOf, IsUnsettled}
+use Rattle.budget_core.specs.Legal.{MayFollow, HasTerms, IsHistory, IsLegal}
+use Rattle.budget_core.specs.Ledger.{Ledger, start_of, next_number, reservation_numbered, reservation_for, cost_with, rise_of, money_verdict, IsAskOf, MayReserve, IsUnsettled}
 use Rattle.budget_core.proofs.Costs.{cost_of-append-Settle, cost_of-append-taken, cost_of-le-append}
 use Rattle.budget_core.proofs.Histories.{push_cases, follows-push, prefix_split, legal-induction}
 use Rattle.budget_core.proofs.Numbers.{reserved_below, outcome_past, outcome_of-append-Reserve, outcome_of-append-Settle, reserved-append, reservation_of-next, open_from-append-Reserve, open_from-Settle}
 
 -- Legal records cost at most the budget, where the found ones do.
-pub legal-cost : (entry : Entry) (found records : List Record) → cost_of found ≤ entry.budget → IsLegal entry found records → cost_of records ≤ entry.budget
-legal-cost entry found records base l = legal-induction entry found (λ xs. cost_of xs ≤ entry.budget) base step records l
+pub legal-cost : (entry : Entry) (found records : List Record) → cost_of entry found ≤ entry.budget → IsLegal entry found records → cost_of entry records ≤ entry.budget
+legal-cost entry found records base l = legal-induction entry found (λ xs. cost_of entry xs ≤ entry.budget) base step records l
   where
-    step : (xs : List Record) (x : Record) → MayFollow entry xs x → cost_of xs ≤ entry.budget → cost_of (xs ++ x ∷ []) ≤ entry.budget
+    step : (xs : List Record) (x : Record) → MayFollow entry xs x → cost_of entry xs ≤ entry.budget → cost_of entry (xs ++ x ∷ []) ≤ entry.budget
     step xs (Reserve reservation) may known = may.within
-    step xs (Settle number outcome) may known = omega (arith, cost_of-append-Settle xs number outcome)
+    step xs (Settle settlement) may known = omega (arith, cost_of-append-Settle entry xs settlement.number settlement.outcome)
 
 -- what was found is no longer than the records
 found_within : (found records : List Record) → take (length found) records ≡ found → length found ≤ length records
@@ -38,17 +40,17 @@ found_within found records begins = omega (arith, ap length begins, length-take 
 pub reservations_within : (found records : List Record) → take (length found) records ≡ found → length (reservations_of found) ≤ length (reservations_of records)
 reservations_within found records begins =
     let rest : List Record = drop (length found) records in
-    omega (arith, ap (λ (xs : List Record). length (reservations_of xs)) (prefix_split found records begins), ap length (filter-append is_reservation found rest), length-append (reservations_of found) (reservations_of rest))
+    omega (arith, ap (λ (xs : List Record). length (reservations_of xs)) (prefix_split found records begins), ap length (filter_map-append reservation_in found rest), length-append (reservations_of found) (reservations_of rest))
 
 -- One record more is legal where it may follow, has terms, settles nothing that was found, and leaves room.
 pub legal-append : (entry : Entry) (found records : List Record) (next : Record) → IsLegal entry found records → MayFollow entry records next → HasTerms next
-    → ((number : ℕ) (outcome : Outcome) → next ≡ Settle number outcome → length (reservations_of found) ≤ number)
+    → ((number : ℕ) (outcome : Outcome) → next ≡ settling number outcome → length (reservations_of found) ≤ number)
     → (length found ≤ entry.capacity → length records + 1 + open_from (length (reservations_of found)) (records ++ next ∷ []) ≤ entry.capacity)
     → IsLegal entry found (records ++ next ∷ [])
 legal-append entry found records next l may terms ours room = record {
   begins = take-append-le (length found) records (next ∷ []) (found_within found records l.begins) ∙ l.begins;
   follows = λ k other past at. follows-push entry records next k other may (l.follows k other past) at;
-  settles = λ k number outcome past at. elim (push_cases records next k (Settle number outcome) at) [ inl before ↦ l.settles k number outcome past before.1 | inr seam ↦ ours number outcome seam.1 ];
+  settles = λ k number outcome past at. elim (push_cases records next k (settling number outcome) at) [ inl before ↦ l.settles k number outcome past before.1 | inr seam ↦ ours number outcome seam.1 ];
   room = λ fits k more upto. elim (cases_lt (length records) k) [
     | inl beyond ↦
         let all : k ≡ length (records ++ next ∷ []) = omega (arith, length-append records (next ∷ [])) in
@@ -69,45 +71,54 @@ chosen false false e f v w h = (refl, refl, cc)
 
 -- what a grant says
 pub record IsGranted (ledger : Ledger) (ask : Ask) (grant : Grant) : Type 0 where
-  pub within : cost_with ledger.records ask ≤ ledger.entry.budget
+  pub within : cost_with ledger.entry ledger.records ask ≤ ledger.entry.budget
   pub fits : length ledger.records + open_from (start_of ledger) ledger.records + 2 ≤ ledger.entry.capacity
-  pub is : grant ≡ record { number = next_number ledger.records; taken = rise_of ledger.records ask; seen = length ledger.records + 1 }
+  pub is : grant ≡ record { number = next_number ledger.records; taken = rise_of ledger.entry ledger.records ask; seen = length ledger.records + 1 }
 
 pub granted : (ledger : Ledger) (ask : Ask) (grant : Grant) → money_verdict ledger.entry (start_of ledger) ledger.records ask ≡ Ok grant → IsGranted ledger ask grant
 granted ledger ask grant is =
     let records : List Record = ledger.records in
     let used : ℕ = open_from (start_of ledger) records in
-    let parts = chosen (nat_lt ledger.entry.budget (cost_with records ask)) (nat_lt ledger.entry.capacity (length records + used + 2)) (OverBudget (cost_of records) (cost_with records ask) ledger.entry.budget (length records)) (Full (length records) used ledger.entry.capacity) (record { number = next_number records; taken = rise_of records ask; seen = length records + 1 }) grant is in
-    record { within = ltb-false ledger.entry.budget (cost_with records ask) parts.0; fits = ltb-false ledger.entry.capacity (length records + used + 2) parts.1; is = parts.2 }
+    let parts = chosen (nat_lt ledger.entry.budget (cost_with ledger.entry records ask)) (nat_lt ledger.entry.capacity (length records + used + 2)) (OverBudget (cost_of ledger.entry records) (cost_with ledger.entry records ask) ledger.entry.budget (length records)) (Full (length records) used ledger.entry.capacity) (record { number = next_number records; taken = rise_of ledger.entry records ask; seen = length records + 1 }) grant is in
+    record { within = ltb-false ledger.entry.budget (cost_with ledger.entry records ask) parts.0; fits = ltb-false ledger.entry.capacity (length records + used + 2) parts.1; is = parts.2 }
 
 -- what a granted reservation costs
-pub cost-granted : (ledger : Ledger) (ask : Ask) (taken : ℕ) → cost_of (ledger.records ++ reservation_for ledger.records ask taken ∷ []) ≡ cost_with ledger.records ask
-cost-granted ledger ask taken = cost_of-append-taken ledger.records (reservation_numbered (next_number ledger.records) ask taken) 0
+pub cost-granted : (ledger : Ledger) (ask : Ask) (taken : ℕ) → cost_of ledger.entry (ledger.records ++ reservation_for ledger.records ask taken ∷ []) ≡ cost_with ledger.entry ledger.records ask
+cost-granted ledger ask taken = cost_of-append-taken ledger.entry ledger.records (reservation_numbered (next_number ledger.records) ask taken) 0
 
--- A granted reservation may follow.
+-- A granted reservation may be made.
 pub may-grant : (ledger : Ledger) (ask : Ask) (grant : Grant) → IsAskOf ledger.entry ask → money_verdict ledger.entry (start_of ledger) ledger.records ask ≡ Ok grant
-    → IsReservationAfter ledger.entry ledger.records (reservation_numbered (next_number ledger.records) ask grant.taken)
+    → MayReserve ledger (reservation_numbered (next_number ledger.records) ask grant.taken)
 may-grant ledger ask grant asked is =
     let g : IsGranted ledger ask grant = granted ledger ask grant is in
     let cost = cost-granted ledger ask grant.taken in
-    let grows : cost_of ledger.records ≤ cost_with ledger.records ask = cost_of-le-append ledger.records (reservation_for ledger.records ask 0) in
-    let taken : grant.taken ≡ rise_of ledger.records ask = ap (λ (x : Grant). x.taken) g.is in
-    record { numbered = refl; asked_by = asked.analyst; looks_at = asked.view; rise = omega arith; within = omega (arith, g.within) }
+    let grows : cost_of ledger.entry ledger.records ≤ cost_with ledger.entry ledger.records ask = cost_of-le-append ledger.entry ledger.records (reservation_for ledger.records ask 0) in
+    let taken : grant.taken ≡ rise_of ledger.entry ledger.records ask = ap (λ (x : Grant). x.taken) g.is in
+    record {
+      follows = record { numbered = refl; asked_by = asked.analyst; looks_at = asked.view; rise = omega arith; within = omega (arith, g.within) };
+      terms = asked.terms;
+      room = g.fits;
+    }
 
 -- one reservation more is open
-pub open-granted : (ledger : Ledger) (ask : Ask) (taken : ℕ) → IsHistory ledger.entry ledger.records → IsLegal ledger.entry ledger.found ledger.records
-    → open_from (start_of ledger) (ledger.records ++ reservation_for ledger.records ask taken ∷ []) ≡ open_from (start_of ledger) ledger.records + 1
-open-granted ledger ask taken h l =
-    open_from-append-Reserve (start_of ledger) ledger.records (reservation_numbered (next_number ledger.records) ask taken) (reservations_within ledger.found ledger.records l.begins)
-    (outcome_past ledger.entry ledger.records h (next_number ledger.records) (omega arith))
+pub open-reserved : (ledger : Ledger) (reservation : Reservation) → IsHistory ledger.entry ledger.records → IsLegal ledger.entry ledger.found ledger.records → reservation.number ≡ next_number ledger.records
+    → open_from (start_of ledger) (ledger.records ++ Reserve reservation ∷ []) ≡ open_from (start_of ledger) ledger.records + 1
+open-reserved ledger reservation h l numbered =
+    open_from-append-Reserve (start_of ledger) ledger.records reservation (omega (arith, numbered, reservations_within ledger.found ledger.records l.begins))
+    (outcome_past ledger.entry ledger.records h reservation.number (omega (arith, numbered)))
+
+-- A reservation that may be made is legal.
+pub legal-reserved : (ledger : Ledger) (reservation : Reservation) → IsHistory ledger.entry ledger.records → IsLegal ledger.entry ledger.found ledger.records → MayReserve ledger reservation
+    → IsLegal ledger.entry ledger.found (ledger.records ++ Reserve reservation ∷ [])
+legal-reserved ledger reservation h l may =
+    legal-append ledger.entry ledger.found ledger.records (Reserve reservation) l may.follows may.terms
+    (λ number outcome other. cc) (λ fits. omega (arith, open-reserved ledger reservation h l may.follows.numbered, may.room))
 
 -- A granted reservation is legal.
 pub legal-Reserve : (ledger : Ledger) (ask : Ask) (grant : Grant) → IsHistory ledger.entry ledger.records → IsLegal ledger.entry ledger.found ledger.records → IsAskOf ledger.entry ask
     → money_verdict ledger.entry (start_of ledger) ledger.records ask ≡ Ok grant → IsLegal ledger.entry ledger.found (ledger.records ++ reservation_for ledger.records ask grant.taken ∷ [])
 legal-Reserve ledger ask grant h l asked is =
-    let g : IsGranted ledger ask grant = granted ledger ask grant is in
-    legal-append ledger.entry ledger.found ledger.records (reservation_for ledger.records ask grant.taken) l (may-grant ledger ask grant asked is) asked.terms
-    (λ number outcome other. cc) (λ fits. omega (arith, open-granted ledger ask grant.taken h l, g.fits))
+    legal-reserved ledger (reservation_numbered (next_number ledger.records) ask grant.taken) h l (may-grant ledger ask grant asked is)
 
 -- The reservation that a history makes next is of this run and unsettled.
 pub unsettled-Reserve : (ledger : Ledger) (reservation : Reservation) → IsHistory ledger.entry ledger.records → reservation.number ≡ next_number ledger.records
@@ -132,19 +143,19 @@ unsettled-append-Reserve ledger n reservation u = record {
 }
 
 pub unsettled-append-Settle : (ledger : Ledger) (n number : ℕ) (outcome : Outcome) → n ≢ number → IsUnsettled ledger n
-    → IsUnsettled (record ledger { records = ledger.records ++ Settle number outcome ∷ [] }) n
+    → IsUnsettled (record ledger { records = ledger.records ++ settling number outcome ∷ [] }) n
 unsettled-append-Settle ledger n number outcome other u = record {
   ours = u.ours;
-  reserved = reserved-append ledger.records (Settle number outcome) n u.reserved;
+  reserved = reserved-append ledger.records (settling number outcome) n u.reserved;
   unsettled = outcome_of-append-Settle ledger.records number outcome n ∙ ap (λ o. option_or o (cond (n == number) (Some outcome) None)) u.unsettled ∙ cond-false (n == number) (Some outcome) None (ne_eqb n number other);
 }
 
 -- A settlement is legal.
 pub legal-Settle : (ledger : Ledger) (number : ℕ) (outcome : Outcome) → IsHistory ledger.entry ledger.records → IsLegal ledger.entry ledger.found ledger.records → IsUnsettled ledger number
-    → IsLegal ledger.entry ledger.found (ledger.records ++ Settle number outcome ∷ [])
+    → IsLegal ledger.entry ledger.found (ledger.records ++ settling number outcome ∷ [])
 legal-Settle ledger number outcome h l u =
     let records : List Record = ledger.records in
-    let next : Record = Settle number outcome in
+    let next : Record = settling number outcome in
     let below : number < length (reservations_of records) = ltb-true number (length (reservations_of records)) (sym (reserved_below ledger.entry records h number) ∙ u.reserved) in
     let closed : open_from (start_of ledger) (records ++ next ∷ []) + 1 ≡ open_from (start_of ledger) records
     = open_from-Settle ledger.entry (start_of ledger) records number outcome h u.ours u.reserved u.unsettled in
@@ -157,7 +168,7 @@ legal-Settle ledger number outcome h l u =
     let upto : length ledger.found ≤ ledger.entry.capacity → length records + open_from (start_of ledger) records ≤ ledger.entry.capacity
     = λ fits. subst (λ (all : List Record). length records + open_from (start_of ledger) all ≤ ledger.entry.capacity) (take-length records) (l.room fits (length records) longer (omega arith)) in
     legal-append ledger.entry ledger.found records next l (record { reserved = u.reserved; unsettled = u.unsettled }) tt
-    (λ n other same. let hit : number ≡ n = cc in omega (arith, u.ours)) (λ fits. omega (arith, closed, upto fits))
+    (λ n other same. let hit : number ≡ n = ap (λ (x : Record). number_or_zero (λ (s : Settlement). s.number) (settlement_in x)) same in omega (arith, u.ours)) (λ fits. omega (arith, closed, upto fits))
 
 -- The records and a settlement for each open reservation fit into the capacity.
 pub legal-room : (entry : Entry) (records : List Record) → IsLegal entry [] records → length records + open_from 0 records ≤ entry.capacity

@@ -1,10 +1,10 @@
 -- reservations, settlements and what is open, one record more at a time
-use Rattle.std.proofs.Common.{◌≡◌, ℕ, zero, suc, ◌+◌, ◌≤◌, ◌<◌, Bool, true, false, cond, ◌&&◌, ◌||◌, ◌==◌, nat_le, nat_lt, List, [], ◌∷◌, ◌++◌, length, map, sum_by, count_by, Option, Some, None, IsSome, is_some, is_none, refl, sym, ◌∙◌, ap, subst, arith, add-zero, length-append, append-nil, zero-add}
+use Rattle.std.proofs.Common.{◌≡◌, ℕ, zero, suc, ◌+◌, ◌≤◌, ◌<◌, Bool, true, false, cond, ◌&&◌, ◌||◌, ◌==◌, nat_le, nat_lt, List, [], ◌∷◌, ◌++◌, length, map, sum_by, count_by, find, Option, Some, None, IsSome, is_some, is_none, refl, sym, ◌∙◌, ap, subst, arith, add-zero, length-append, append-nil, zero-add}
 use Rattle.std.specs.Option.{option_or}
 use Rattle.std.specs.List.{range_with_len}
 use Rattle.std.proofs.lemmas.Bool.{lt-leb, eqb-true, eq-eqb, ne_eqb, ltb-true, le-leb, cond-true, cond-false, and_from, le-ltb, lt-ltb}
 use Rattle.std.proofs.lemmas.Bool.Decides.{nat_tests}
-use Rattle.std.proofs.lemmas.List.Elements.{filter-append}
+use Rattle.std.proofs.lemmas.List.Elements.{filter_map-append}
 use Rattle.std.proofs.lemmas.List.Folds.{find-append}
 use Rattle.std.proofs.lemmas.List.Sums.{sum_by_push, sum_by-cons}
 use Rattle.std.proofs.lemmas.List.{map-append}
@@ -12,7 +12,8 @@ use Rattle.journal_records.specs.declared.records.Outcome.{Outcome}
 use Rattle.journal_records.specs.declared.records.Reservation.{Reservation}
 use Rattle.journal_records.specs.declared.records.Record.{Record}
 use Rattle.journal_records.specs.declared.records.Record.TheVariants.{Reserve, Settle}
-use Rattle.budget_core.specs.Counts.{is_reservation, reservations_of, reserves, reservation_of, outcome_of, settles, reservation_number, is_open_in, open_from}
+use Rattle.journal_records.specs.Records.{reservation_in, settling, is_some_and}
+use Rattle.budget_core.specs.Counts.{reservations_of, reservation_number, is_numbered, reservation_of, outcome_of, settles, is_open_in, open_from}
 use Rattle.budget_core.specs.Entries.{Entry}
 use Rattle.budget_core.specs.Legal.{MayFollow, IsHistory}
 use Rattle.budget_core.proofs.Histories.{history-induction}
@@ -33,32 +34,32 @@ one_if b = cond b 1 0
 pub reservations_of-append-Reserve : (records : List Record) (reservation : Reservation) → length (reservations_of (records ++ Reserve reservation ∷ [])) ≡ length (reservations_of records) + 1
 reservations_of-append-Reserve records reservation =
     let next : Record = Reserve reservation in
-    ap length (filter-append is_reservation records (next ∷ [])) ∙ length-append (reservations_of records) (next ∷ [])
+    ap length (filter_map-append reservation_in records (next ∷ [])) ∙ length-append (reservations_of records) (reservation ∷ [])
 
-pub reservations_of-append-Settle : (records : List Record) (number : ℕ) (outcome : Outcome) → length (reservations_of (records ++ Settle number outcome ∷ [])) ≡ length (reservations_of records)
+pub reservations_of-append-Settle : (records : List Record) (number : ℕ) (outcome : Outcome) → length (reservations_of (records ++ settling number outcome ∷ [])) ≡ length (reservations_of records)
 reservations_of-append-Settle records number outcome =
-    ap length (filter-append is_reservation records (Settle number outcome ∷ [])) ∙ length-append (reservations_of records) [] ∙ add-zero (length (reservations_of records))
+    ap length (filter_map-append reservation_in records (settling number outcome ∷ [])) ∙ length-append (reservations_of records) [] ∙ add-zero (length (reservations_of records))
 
 -- the reservation of a number with one record more
-pub reservation_of-append : (records : List Record) (next : Record) (n : ℕ) → reservation_of (records ++ next ∷ []) n ≡ option_or (reservation_of records n) (cond (reserves n next) (Some next) None)
-reservation_of-append records next n = find-append (reserves n) records (next ∷ [])
+pub reservation_of-append : (records more : List Record) (n : ℕ) → reservation_of (records ++ more) n ≡ option_or (reservation_of records n) (reservation_of more n)
+reservation_of-append records more n = ap (find (is_numbered n)) (filter_map-append reservation_in records more) ∙ find-append (is_numbered n) (reservations_of records) (reservations_of more)
 
 -- A reservation settles nothing.
 pub outcome_of-append-Reserve : (records : List Record) (reservation : Reservation) (n : ℕ) → outcome_of (records ++ Reserve reservation ∷ []) n ≡ outcome_of records n
 outcome_of-append-Reserve [] reservation n = refl
 outcome_of-append-Reserve (Reserve other ∷ records) reservation n = outcome_of-append-Reserve records reservation n
-outcome_of-append-Reserve (Settle m outcome ∷ records) reservation n = ap (cond (n == m) (Some outcome)) (outcome_of-append-Reserve records reservation n)
+outcome_of-append-Reserve (Settle settlement ∷ records) reservation n = ap (cond (n == settlement.number) (Some settlement.outcome)) (outcome_of-append-Reserve records reservation n)
 
 option_or-cond : {X : Type 0} → (b : Bool) (x y z : Option X) (v : X) → option_or (cond b (Some v) y) z ≡ cond b (Some v) (option_or y z)
 option_or-cond true x y z v = refl
 option_or-cond false x y z v = refl
 
 -- A settlement settles its number, where nothing settled it before.
-pub outcome_of-append-Settle : (records : List Record) (number : ℕ) (outcome : Outcome) (n : ℕ) → outcome_of (records ++ Settle number outcome ∷ []) n ≡ option_or (outcome_of records n) (cond (n == number) (Some outcome) None)
+pub outcome_of-append-Settle : (records : List Record) (number : ℕ) (outcome : Outcome) (n : ℕ) → outcome_of (records ++ settling number outcome ∷ []) n ≡ option_or (outcome_of records n) (cond (n == number) (Some outcome) None)
 outcome_of-append-Settle [] number outcome n = refl
 outcome_of-append-Settle (Reserve reservation ∷ records) number outcome n = outcome_of-append-Settle records number outcome n
-outcome_of-append-Settle (Settle m other ∷ records) number outcome n =
-    ap (cond (n == m) (Some other)) (outcome_of-append-Settle records number outcome n) ∙ sym (option_or-cond (n == m) None (outcome_of records n) (cond (n == number) (Some outcome) None) other)
+outcome_of-append-Settle (Settle settlement ∷ records) number outcome n =
+    ap (cond (n == settlement.number) (Some settlement.outcome)) (outcome_of-append-Settle records number outcome n) ∙ sym (option_or-cond (n == settlement.number) None (outcome_of records n) (cond (n == number) (Some outcome) None) settlement.outcome)
 
 is_some-option_or : {X : Type 0} → (a : Option X) (b : Bool) (x : X) → is_some (option_or a (cond b (Some x) None)) ≡ (is_some a || b)
 is_some-option_or None true x = refl
@@ -85,11 +86,11 @@ reserved_below entry = history-induction entry (λ records. (n : ℕ) → is_som
         let next : Record = Reserve reservation in
         let count : ℕ = length (reservations_of xs) in
         let more : length (reservations_of (xs ++ next ∷ [])) ≡ count + 1 = reservations_of-append-Reserve xs reservation in
-        ap is_some (reservation_of-append xs next n) ∙ is_some-option_or (reservation_of xs n) (n == reservation.number) next
+        ap is_some (reservation_of-append xs (next ∷ []) n) ∙ is_some-option_or (reservation_of xs n) (n == reservation.number) reservation
         ∙ ap (λ b. b || (n == reservation.number)) (before n) ∙ ap (λ m. nat_lt n count || (n == m)) may.numbered ∙ lt_or_eq n count ∙ ap (nat_lt n) (sym more)
-    step xs (Settle number outcome) h may before n =
-        ap is_some (reservation_of-append xs (Settle number outcome) n) ∙ ap is_some (option_or-None (reservation_of xs n)) ∙ before n
-        ∙ ap (nat_lt n) (sym (reservations_of-append-Settle xs number outcome))
+    step xs (Settle settlement) h may before n =
+        ap is_some (reservation_of-append xs (Settle settlement ∷ []) n) ∙ ap is_some (option_or-None (reservation_of xs n)) ∙ before n
+        ∙ ap (nat_lt n) (sym (reservations_of-append-Settle xs settlement.number settlement.outcome))
 
 none_from : {X : Type 0} → (o : Option X) → is_some o ≡ false → o ≡ None
 none_from None is = refl
@@ -97,26 +98,30 @@ none_from (Some x) is = absurd cc
 
 -- the reservation that a history makes next
 pub reservation_of-next : (entry : Entry) (records : List Record) (reservation : Reservation) → IsHistory entry records → reservation.number ≡ length (reservations_of records)
-    → reservation_of (records ++ Reserve reservation ∷ []) reservation.number ≡ Some (Reserve reservation)
+    → reservation_of (records ++ Reserve reservation ∷ []) reservation.number ≡ Some reservation
 reservation_of-next entry records reservation h numbered =
     let number : ℕ = reservation.number in
-    let next : Record = Reserve reservation in
     let none : reservation_of records number ≡ None = none_from (reservation_of records number) (reserved_below entry records h number ∙ le-ltb number (length (reservations_of records)) (omega arith)) in
-    reservation_of-append records next number ∙ ap (λ o. option_or o (cond (number == number) (Some next) None)) none ∙ cond-true (number == number) (Some next) None (eq-eqb number number refl)
+    reservation_of-append records (Reserve reservation ∷ []) number ∙ ap (λ o. option_or o (cond (number == number) (Some reservation) None)) none
+    ∙ cond-true (number == number) (Some reservation) None (eq-eqb number number refl)
 
 -- What was reserved or settled stays so.
-pub reservation_of-append-old : (records : List Record) (next : Record) (n : ℕ) (old : Record) → reservation_of records n ≡ Some old → reservation_of (records ++ next ∷ []) n ≡ Some old
-reservation_of-append-old records next n old is = reservation_of-append records next n ∙ ap (λ o. option_or o (cond (reserves n next) (Some next) None)) is
+pub reservation_of-append-old : (records : List Record) (next : Record) (n : ℕ) (old : Reservation) → reservation_of records n ≡ Some old → reservation_of (records ++ next ∷ []) n ≡ Some old
+reservation_of-append-old records next n old is = reservation_of-append records (next ∷ []) n ∙ ap (λ o. option_or o (reservation_of (next ∷ []) n)) is
 
 pub reserved-append : (records : List Record) (next : Record) (n : ℕ) → IsSome (reservation_of records n) → IsSome (reservation_of (records ++ next ∷ []) n)
-reserved-append records next n is = ap is_some (reservation_of-append records next n) ∙ is_some-option_or (reservation_of records n) (reserves n next) next ∙ ap (λ b. b || reserves n next) is
+reserved-append records next n is = ap is_some (reservation_of-append records (next ∷ []) n) ∙ stays (reservation_of records n) (reservation_of (next ∷ []) n) is
+  where
+    stays : {X : Type 0} → (old more : Option X) → is_some old ≡ true → is_some (option_or old more) ≡ true
+    stays None more some = absurd cc
+    stays (Some x) more some = refl
 
 pub outcome_of-append-old : (records : List Record) (next : Record) (n : ℕ) (old : Outcome) → outcome_of records n ≡ Some old → outcome_of (records ++ next ∷ []) n ≡ Some old
 outcome_of-append-old records (Reserve reservation) n old is = outcome_of-append-Reserve records reservation n ∙ is
-outcome_of-append-old records (Settle number outcome) n old is = outcome_of-append-Settle records number outcome n ∙ ap (λ o. option_or o (cond (n == number) (Some outcome) None)) is
+outcome_of-append-old records (Settle settlement) n old is = outcome_of-append-Settle records settlement.number settlement.outcome n ∙ ap (λ o. option_or o (cond (n == settlement.number) (Some settlement.outcome) None)) is
 
 -- how a number was settled just now
-pub outcome_of-append-new : (records : List Record) (number : ℕ) (outcome : Outcome) → outcome_of records number ≡ None → outcome_of (records ++ Settle number outcome ∷ []) number ≡ Some outcome
+pub outcome_of-append-new : (records : List Record) (number : ℕ) (outcome : Outcome) → outcome_of records number ≡ None → outcome_of (records ++ settling number outcome ∷ []) number ≡ Some outcome
 outcome_of-append-new records number outcome fresh =
     outcome_of-append-Settle records number outcome number ∙ ap (λ o. option_or o (cond (number == number) (Some outcome) None)) fresh ∙ cond-true (number == number) (Some outcome) None (eq-eqb number number refl)
 
@@ -128,12 +133,16 @@ outcome_past entry = history-induction entry (λ records. (n : ℕ) → length (
         → (n : ℕ) → length (reservations_of (xs ++ x ∷ [])) ≤ n → outcome_of (xs ++ x ∷ []) n ≡ None
     step xs (Reserve reservation) h may before n past =
         outcome_of-append-Reserve xs reservation n ∙ before n (omega (arith, reservations_of-append-Reserve xs reservation))
-    step xs (Settle number outcome) h may before n past =
+    step xs (Settle settlement) h may before n past =
         let count : ℕ = length (reservations_of xs) in
-        let beyond : count ≤ n = omega (arith, reservations_of-append-Settle xs number outcome) in
-        let below : number < count = ltb-true number count (sym (reserved_below entry xs h number) ∙ may.reserved) in
-        let other : (n == number) ≡ false = ne_eqb n number (λ same. omega arith) in
-        outcome_of-append-Settle xs number outcome n ∙ ap (λ o. option_or o (cond (n == number) (Some outcome) None)) (before n beyond) ∙ cond-false (n == number) (Some outcome) None other
+        let beyond : count ≤ n = omega (arith, reservations_of-append-Settle xs settlement.number settlement.outcome) in
+        let below : settlement.number < count = ltb-true settlement.number count (sym (reserved_below entry xs h settlement.number) ∙ may.reserved) in
+        let other : (n == settlement.number) ≡ false = ne_eqb n settlement.number (λ same. omega arith) in
+        outcome_of-append-Settle xs settlement.number settlement.outcome n ∙ ap (λ o. option_or o (cond (n == settlement.number) (Some settlement.outcome) None)) (before n beyond) ∙ cond-false (n == settlement.number) (Some settlement.outcome) None other
+
+-- the record is the reservation of this number
+abbrev pub reserves : ℕ → Record → Bool
+reserves n next = is_some_and (is_numbered n) (reservation_in next)
 
 -- A history has one reservation of each number that is reserved.
 pub reserved_once : (entry : Entry) (records : List Record) → IsHistory entry records → (n : ℕ) → count_by (reserves n) records ≡ one_if (nat_lt n (length (reservations_of records)))
@@ -147,9 +156,9 @@ reserved_once entry = history-induction entry (λ records. (n : ℕ) → count_b
         let more : length (reservations_of (xs ++ next ∷ [])) ≡ count + 1 = reservations_of-append-Reserve xs reservation in
         sum_by_push (λ r. one_if (reserves n r)) xs next ∙ ap (λ k. k + one_if (n == reservation.number)) (before n) ∙ ap (λ m. one_if (nat_lt n count) + one_if (n == m)) may.numbered
         ∙ one_more n count ∙ ap (λ m. one_if (nat_lt n m)) (sym more)
-    step xs (Settle number outcome) h may before n =
-        sum_by_push (λ r. one_if (reserves n r)) xs (Settle number outcome) ∙ add-zero (count_by (reserves n) xs) ∙ before n
-        ∙ ap (λ m. one_if (nat_lt n m)) (sym (reservations_of-append-Settle xs number outcome))
+    step xs (Settle settlement) h may before n =
+        sum_by_push (λ r. one_if (reserves n r)) xs (Settle settlement) ∙ add-zero (count_by (reserves n) xs) ∙ before n
+        ∙ ap (λ m. one_if (nat_lt n m)) (sym (reservations_of-append-Settle xs settlement.number settlement.outcome))
 
 -- One reservation more is open where it is of this run and not settled.
 pub open_from-append-Reserve : (start : ℕ) (records : List Record) (reservation : Reservation) → start ≤ reservation.number → outcome_of records reservation.number ≡ None
@@ -164,7 +173,7 @@ open_from-append-Reserve start records reservation ours fresh =
   where
     same : (r : Record) → one_if (is_open_in (records ++ Reserve reservation ∷ []) start r) ≡ one_if (is_open_in records start r)
     same (Reserve other) = ap (λ o. one_if (nat_le start other.number && is_none o)) (outcome_of-append-Reserve records reservation other.number)
-    same (Settle m other) = refl
+    same (Settle settlement) = refl
 
 -- A reservation numbered below start isn't counted.
 pub open_from-early : (start : ℕ) (records : List Record) (reservation : Reservation) → reservation.number < start
@@ -179,16 +188,16 @@ open_from-early start records reservation early =
   where
     same : (r : Record) → one_if (is_open_in (records ++ Reserve reservation ∷ []) start r) ≡ one_if (is_open_in records start r)
     same (Reserve other) = ap (λ o. one_if (nat_le start other.number && is_none o)) (outcome_of-append-Reserve records reservation other.number)
-    same (Settle m other) = refl
+    same (Settle settlement) = refl
 
 sum_by-le : {X : Type 0} → (f g : X → ℕ) → ((x : X) → f x ≤ g x) → (xs : List X) → sum_by f xs ≤ sum_by g xs
 sum_by-le f g below [] = omega arith
 sum_by-le f g below (x ∷ xs) = omega (arith, sum_by-le f g below xs, below x, sum_by-cons f x xs, sum_by-cons g x xs)
 
 -- A settlement opens none.
-pub open_from-le-Settle : (start : ℕ) (records : List Record) (number : ℕ) (outcome : Outcome) → open_from start (records ++ Settle number outcome ∷ []) ≤ open_from start records
+pub open_from-le-Settle : (start : ℕ) (records : List Record) (number : ℕ) (outcome : Outcome) → open_from start (records ++ settling number outcome ∷ []) ≤ open_from start records
 open_from-le-Settle start records number outcome =
-    let next : Record = Settle number outcome in
+    let next : Record = settling number outcome in
     let all : List Record = records ++ next ∷ [] in
     omega (arith, sum_by_push (λ r. one_if (is_open_in all start r)) records next, sum_by-le (λ r. one_if (is_open_in all start r)) (λ r. one_if (is_open_in records start r)) fewer records)
   where
@@ -201,12 +210,12 @@ open_from-le-Settle start records number outcome =
     still true (Some x) more = omega arith
     still false old more = omega arith
 
-    fewer : (r : Record) → one_if (is_open_in (records ++ Settle number outcome ∷ []) start r) ≤ one_if (is_open_in records start r)
+    fewer : (r : Record) → one_if (is_open_in (records ++ settling number outcome ∷ []) start r) ≤ one_if (is_open_in records start r)
     fewer (Reserve reservation) =
         subst (λ (o : Option Outcome). one_if (nat_le start reservation.number && is_none o) ≤ one_if (nat_le start reservation.number && is_none (outcome_of records reservation.number)))
         (sym (outcome_of-append-Settle records number outcome reservation.number))
         (still (nat_le start reservation.number) (outcome_of records reservation.number) (cond (reservation.number == number) (Some outcome) None))
-    fewer (Settle m other) = omega arith
+    fewer (Settle settlement) = omega arith
 
 eqb_turned : (n m : ℕ) → (n == m) ≡ (m == n)
 eqb_turned n m = grind (arith, nat_tests)
@@ -222,30 +231,30 @@ closes false true old v ours fresh = let no : false ≡ true = ours refl in cc
 closes false false old v ours fresh = refl
 
 -- One settlement more closes the reservations of its number.
-pub open_from-append-Settle : (start : ℕ) (records : List Record) (number : ℕ) (outcome : Outcome) → start ≤ number → outcome_of records number ≡ None → open_from start (records ++ Settle number outcome ∷ []) + count_by (reserves number) records ≡ open_from start records
+pub open_from-append-Settle : (start : ℕ) (records : List Record) (number : ℕ) (outcome : Outcome) → start ≤ number → outcome_of records number ≡ None → open_from start (records ++ settling number outcome ∷ []) + count_by (reserves number) records ≡ open_from start records
 open_from-append-Settle start records number outcome ours fresh =
-    let next : Record = Settle number outcome in
+    let next : Record = settling number outcome in
     let all : List Record = records ++ next ∷ [] in
     ap (λ k. k + count_by (reserves number) records) (sum_by_push (λ r. one_if (is_open_in all start r)) records next ∙ add-zero (count_by (is_open_in all start) records))
     ∙ sum_by-parts (λ r. one_if (is_open_in all start r)) (λ r. one_if (reserves number r)) (λ r. one_if (is_open_in records start r)) parts records
   where
-    parts : (r : Record) → one_if (is_open_in (records ++ Settle number outcome ∷ []) start r) + one_if (reserves number r) ≡ one_if (is_open_in records start r)
+    parts : (r : Record) → one_if (is_open_in (records ++ settling number outcome ∷ []) start r) + one_if (reserves number r) ≡ one_if (is_open_in records start r)
     parts (Reserve reservation) =
         let m : ℕ = reservation.number in
-        let settled : outcome_of (records ++ Settle number outcome ∷ []) m ≡ option_or (outcome_of records m) (cond (number == m) (Some outcome) None)
+        let settled : outcome_of (records ++ settling number outcome ∷ []) m ≡ option_or (outcome_of records m) (cond (number == m) (Some outcome) None)
         = outcome_of-append-Settle records number outcome m ∙ ap (λ b. option_or (outcome_of records m) (cond b (Some outcome) None)) (eqb_turned m number) in
         ap (λ o. one_if (nat_le start m && is_none o) + one_if (number == m)) settled
         ∙ closes (nat_le start m) (number == m) (outcome_of records m) outcome (λ hit. le-leb start m (omega (arith, eqb-true number m hit))) (λ hit. ap (outcome_of records) (sym (eqb-true number m hit)) ∙ fresh)
-    parts (Settle m other) = refl
+    parts (Settle settlement) = refl
 
 -- In a history a settlement closes just one reservation.
 pub open_from-Settle : (entry : Entry) (start : ℕ) (records : List Record) (number : ℕ) (outcome : Outcome) → IsHistory entry records → start ≤ number
-    → IsSome (reservation_of records number) → outcome_of records number ≡ None → open_from start (records ++ Settle number outcome ∷ []) + 1 ≡ open_from start records
+    → IsSome (reservation_of records number) → outcome_of records number ≡ None → open_from start (records ++ settling number outcome ∷ []) + 1 ≡ open_from start records
 open_from-Settle entry start records number outcome h ours reserved fresh =
     let count : ℕ = length (reservations_of records) in
     let below : number < count = ltb-true number count (sym (reserved_below entry records h number) ∙ reserved) in
     let once : count_by (reserves number) records ≡ 1 = reserved_once entry records h number ∙ ap one_if (lt-ltb number count below) in
-    ap (λ k. open_from start (records ++ Settle number outcome ∷ []) + k) (sym once) ∙ open_from-append-Settle start records number outcome ours fresh
+    ap (λ k. open_from start (records ++ settling number outcome ∷ []) + k) (sym once) ∙ open_from-append-Settle start records number outcome ours fresh
 
 range-push : (a n : ℕ) → range_with_len a (n + 1) ≡ range_with_len a n ++ (a + n) ∷ []
 range-push a zero = ap (λ x. x ∷ []) (sym (add-zero a))
@@ -263,12 +272,12 @@ numbered_in_order entry = history-induction entry (λ records. map reservation_n
     step xs (Reserve reservation) h may before =
         let next : Record = Reserve reservation in
         let count : ℕ = length (reservations_of xs) in
-        ap (map reservation_number) (filter-append is_reservation xs (next ∷ [])) ∙ map-append reservation_number (reservations_of xs) (next ∷ [])
+        ap (map reservation_number) (filter_map-append reservation_in xs (next ∷ [])) ∙ map-append reservation_number (reservations_of xs) (reservation ∷ [])
         ∙ ap (λ all. all ++ reservation.number ∷ []) before ∙ ap (λ m. range_with_len 0 count ++ m ∷ []) (may.numbered ∙ sym (zero-add count))
         ∙ sym (range-push 0 count) ∙ ap (range_with_len 0) (sym (reservations_of-append-Reserve xs reservation))
-    step xs (Settle number outcome) h may before =
-        let next : Record = Settle number outcome in
-        ap (map reservation_number) (filter-append is_reservation xs (next ∷ []) ∙ append-nil (reservations_of xs)) ∙ before ∙ ap (range_with_len 0) (sym (reservations_of-append-Settle xs number outcome))
+    step xs (Settle settlement) h may before =
+        let next : Record = Settle settlement in
+        ap (map reservation_number) (filter_map-append reservation_in xs (next ∷ []) ∙ append-nil (reservations_of xs)) ∙ before ∙ ap (range_with_len 0) (sym (reservations_of-append-Settle xs settlement.number settlement.outcome))
 
 settles_more : {X : Type 0} → (old : Option X) (hit : Bool) (v : X) → (hit ≡ true → old ≡ None) → one_if (is_some old) + one_if hit ≡ one_if (is_some (option_or old (cond hit (Some v) None)))
 settles_more None true v fresh = refl
@@ -285,7 +294,7 @@ settled_once entry = history-induction entry (λ records. (n : ℕ) → count_by
     step xs (Reserve reservation) h may before n =
         sum_by_push (λ r. one_if (settles n r)) xs (Reserve reservation) ∙ add-zero (count_by (settles n) xs) ∙ before n
         ∙ ap (λ o. one_if (is_some o)) (sym (outcome_of-append-Reserve xs reservation n))
-    step xs (Settle number outcome) h may before n =
-        sum_by_push (λ r. one_if (settles n r)) xs (Settle number outcome) ∙ ap (λ k. k + one_if (n == number)) (before n)
-        ∙ settles_more (outcome_of xs n) (n == number) outcome (λ hit. ap (outcome_of xs) (eqb-true n number hit) ∙ may.unsettled)
-        ∙ ap (λ o. one_if (is_some o)) (sym (outcome_of-append-Settle xs number outcome n))
+    step xs (Settle settlement) h may before n =
+        sum_by_push (λ r. one_if (settles n r)) xs (Settle settlement) ∙ ap (λ k. k + one_if (n == settlement.number)) (before n)
+        ∙ settles_more (outcome_of xs n) (n == settlement.number) settlement.outcome (λ hit. ap (outcome_of xs) (eqb-true n settlement.number hit) ∙ may.unsettled)
+        ∙ ap (λ o. one_if (is_some o)) (sym (outcome_of-append-Settle xs settlement.number settlement.outcome n))

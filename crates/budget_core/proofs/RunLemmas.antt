@@ -1,21 +1,21 @@
 -- what a ledger keeps, over its calls
-use Rattle.std.proofs.Common.{◌≡◌, ℕ, ◌+◌, ◌-◌, List, [], ◌∷◌, ◌++◌, length, length-append, take, Ok, refl, sym, ◌∙◌, ap, subst, arith}
+use Rattle.std.proofs.Common.{◌≡◌, ℕ, ◌+◌, ◌-◌, List, [], ◌∷◌, ◌++◌, length, length-append, take, sym, ◌∙◌, ap, subst, arith}
 use Rattle.std.proofs.lemmas.List.{take-append-le}
 use Rattle.std.proofs.Math.Seq.{take-length}
 use Rattle.journal_records.specs.declared.records.Outcome.{Outcome}
+use Rattle.journal_records.specs.declared.records.Reservation.{Reservation}
 use Rattle.journal_records.specs.declared.records.Record.{Record}
-use Rattle.journal_records.specs.declared.records.Record.TheVariants.{Settle}
-use Rattle.budget_core.specs.declared.entry.Ask.{Ask}
-use Rattle.budget_core.specs.declared.entry.Grant.{Grant}
+use Rattle.journal_records.specs.declared.records.Record.TheVariants.{Reserve}
+use Rattle.journal_records.specs.Records.{settling}
 use Rattle.budget_core.specs.declared.ledger.Ledger.TheInside.{Inside}
 use Rattle.budget_core.specs.Counts.{reservations_of, open_from}
-use Rattle.budget_core.specs.Ledger.{Ledger, start_of, next_number, reservation_numbered, reservation_for, money_verdict, IsAskOf, IsUnsettled}
+use Rattle.budget_core.specs.Ledger.{Ledger, start_of, next_number, MayReserve, IsUnsettled}
 use Rattle.budget_core.specs.Past.{Past}
 use Rattle.budget_core.specs.Run.{ledger_in, HoldsRun}
 use Rattle.budget_core.specs.Sound.{IsSound}
-use Rattle.budget_core.proofs.LegalLemmas.{granted, open-granted, unsettled-Reserve, reservations_within}
+use Rattle.budget_core.proofs.LegalLemmas.{open-reserved, unsettled-Reserve, reservations_within}
 use Rattle.budget_core.proofs.Standings.{open-past}
-use Rattle.budget_core.proofs.SoundLemmas.{sound-history, sound-Reserve, sound-Settle, open-settled, sound-found}
+use Rattle.budget_core.proofs.SoundLemmas.{sound-history, sound-reserved, sound-Settle, open-settled, sound-found}
 
 -- how many are open
 pub run-open : (l : Inside) → HoldsRun l → l.unsettled ≡ open_from (start_of (ledger_in l)) l.history.records
@@ -39,22 +39,20 @@ run-append l next unsettled k sound count =
 abbrev pub Grew : Past → Past → Record → Type 0
 Grew old new next = new ≡ record old { records = old.records ++ next ∷ [] }
 
-pub run-Reserve : (l : Inside) (history : Past) (next : Record) (ask : Ask) (grant : Grant) → HoldsRun l → IsAskOf l.history.entry ask
-    → money_verdict l.history.entry (start_of (ledger_in l)) l.history.records ask ≡ Ok grant → next ≡ reservation_for l.history.records ask grant.taken
-    → Grew l.history history next → HoldsRun (record l { history = history; unsettled = l.unsettled + 1 })
-run-Reserve l history next ask grant k asked is made grew =
-    let sound = sound-Reserve (ledger_in l) ask grant k.sound asked is in
-    let count = open-granted (ledger_in l) ask grant.taken (sound-history (ledger_in l) k.sound) k.sound.legal in
-    let kept = run-append l (reservation_for l.history.records ask grant.taken) (l.unsettled + 1) k sound (omega (arith, run-open l k, count)) in
-    let there = subst (λ (r : Record). HoldsRun (record l { history = record l.history { records = l.history.records ++ r ∷ [] }; unsettled = l.unsettled + 1 })) (sym made) kept in
-    subst (λ (h : Past). HoldsRun (record l { history = h; unsettled = l.unsettled + 1 })) (sym grew) there
+pub run-Reserve : (l : Inside) (history : Past) (reservation : Reservation) → HoldsRun l → MayReserve (ledger_in l) reservation → Grew l.history history (Reserve reservation)
+    → HoldsRun (record l { history = history; unsettled = l.unsettled + 1 })
+run-Reserve l history reservation k may grew =
+    let sound = sound-reserved (ledger_in l) reservation k.sound may in
+    let count = open-reserved (ledger_in l) reservation (sound-history (ledger_in l) k.sound) k.sound.legal may.follows.numbered in
+    let kept = run-append l (Reserve reservation) (l.unsettled + 1) k sound (omega (arith, run-open l k, count)) in
+    subst (λ (h : Past). HoldsRun (record l { history = h; unsettled = l.unsettled + 1 })) (sym grew) kept
 
-pub run-Settle : (l : Inside) (history : Past) (number : ℕ) (outcome : Outcome) → HoldsRun l → IsUnsettled (ledger_in l) number → Grew l.history history (Settle number outcome)
+pub run-Settle : (l : Inside) (history : Past) (number : ℕ) (outcome : Outcome) → HoldsRun l → IsUnsettled (ledger_in l) number → Grew l.history history (settling number outcome)
     → HoldsRun (record l { history = history; unsettled = l.unsettled - 1 })
 run-Settle l history number outcome k u grew =
     let sound = sound-Settle (ledger_in l) number outcome k.sound u in
     let count = open-settled (ledger_in l) number outcome k.sound u in
-    let kept = run-append l (Settle number outcome) (l.unsettled - 1) k sound (omega (arith, run-open l k, count)) in
+    let kept = run-append l (settling number outcome) (l.unsettled - 1) k sound (omega (arith, run-open l k, count)) in
     subst (λ (h : Past). HoldsRun (record l { history = h; unsettled = l.unsettled - 1 })) (sym grew) kept
 
 -- a ledger all of whose records were found
@@ -78,18 +76,14 @@ run-view l history next unsettled k grew =
     subst (λ (h : Past). record (ledger_in l) { records = l.history.records ++ next ∷ [] } ≡ ledger_in (record l { history = h; unsettled = unsettled })) (sym grew)
     (λ i. record { entry = l.history.entry; found = same i; records = l.history.records ++ next ∷ [] })
 
--- A granted reservation is unsettled.
-pub run-unsettled : (l : Inside) (history : Past) (next : Record) (ask : Ask) (grant : Grant) (unsettled : ℕ) → HoldsRun l
-    → money_verdict l.history.entry (start_of (ledger_in l)) l.history.records ask ≡ Ok grant → next ≡ reservation_for l.history.records ask grant.taken
-    → Grew l.history history next → IsUnsettled (ledger_in (record l { history = history; unsettled = unsettled })) grant.number
-run-unsettled l history next ask grant unsettled k is made grew =
+-- A reservation that was made is unsettled.
+pub run-unsettled : (l : Inside) (history : Past) (reservation : Reservation) (unsettled : ℕ) → HoldsRun l → MayReserve (ledger_in l) reservation
+    → Grew l.history history (Reserve reservation) → IsUnsettled (ledger_in (record l { history = history; unsettled = unsettled })) reservation.number
+run-unsettled l history reservation unsettled k may grew =
     let ledger : Ledger = ledger_in l in
-    let records : List Record = l.history.records in
-    let number : next_number records ≡ grant.number = sym (ap (λ (g : Grant). g.number) (granted ledger ask grant is).is) in
-    let u = unsettled-Reserve ledger (reservation_numbered (next_number records) ask grant.taken) (sound-history ledger k.sound) refl (reservations_within ledger.found records k.sound.legal.begins) in
-    let here : IsUnsettled (record ledger { records = records ++ next ∷ [] }) (next_number records)
-    = subst (λ (r : Record). IsUnsettled (record ledger { records = records ++ r ∷ [] }) (next_number records)) (sym made) u in
-    subst (λ (b : Ledger). IsUnsettled b grant.number) (run-view l history next unsettled k grew) (subst (IsUnsettled (record ledger { records = records ++ next ∷ [] })) number here)
+    let numbered : reservation.number ≡ next_number ledger.records = may.follows.numbered in
+    let u = unsettled-Reserve ledger reservation (sound-history ledger k.sound) numbered (omega (arith, numbered, reservations_within ledger.found ledger.records k.sound.legal.begins)) in
+    subst (λ (b : Ledger). IsUnsettled b reservation.number) (run-view l history (Reserve reservation) unsettled k grew) u
 
 -- All records of a ledger may count as found.
 pub sound-reopened : (l : Inside) → HoldsRun l → IsSound (record { entry = l.history.entry; found = l.history.records; records = l.history.records })

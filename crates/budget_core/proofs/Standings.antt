@@ -2,7 +2,7 @@
 use Rattle.std.proofs.Common.{◌≡◌, ℕ, zero, suc, ◌+◌, ◌≤◌, ◌<◌, false, ◌==◌, List, [], ◌∷◌, ◌++◌, length, length-append, count_by, slice_get, Option, Some, None, is_some, option_map, refl, sym, ◌∙◌, ap, subst, arith}
 use Rattle.std.proofs.lemmas.Bool.{le-ltb, ltb-true}
 use Rattle.std.proofs.lemmas.Option.{slice_get_within}
-use Rattle.std.proofs.lemmas.List.Sums.{length-filter, count_by-le-length, sum_by_push}
+use Rattle.std.proofs.lemmas.List.Sums.{sum_by_push}
 use Rattle.std.specs.Option.{option_or}
 use mathlib.Core.Logic.{inl, inr}
 use Rattle.std.proofs.lemmas.Bool.{cases_eq, ne_eqb, cond-false}
@@ -11,9 +11,10 @@ use Rattle.journal_records.specs.declared.records.Outcome.TheVariants.{Answered,
 use Rattle.journal_records.specs.declared.records.Reservation.{Reservation}
 use Rattle.journal_records.specs.declared.records.Record.{Record}
 use Rattle.journal_records.specs.declared.records.Record.TheVariants.{Reserve, Settle}
+use Rattle.journal_records.specs.Records.{settling}
 use Rattle.budget_core.specs.declared.totals.Row.{Row}
 use Rattle.budget_core.specs.Kept.{IsRowOf, HasRows}
-use Rattle.budget_core.specs.Counts.{is_reservation, reservations_of, reservation_of, outcome_of, analyst_of, asker_of, open_from}
+use Rattle.budget_core.specs.Counts.{reservations_of, reservation_of, outcome_of, asker_of, open_from}
 use Rattle.budget_core.specs.Answers.{is_answered, is_exhausted}
 use Rattle.budget_core.specs.Entries.{Entry}
 use Rattle.budget_core.specs.Legal.{MayFollow, IsHistory, IsReservationAfter, IsSettlementAfter}
@@ -22,13 +23,15 @@ use Rattle.budget_core.proofs.Numbers.{reserved_below, reservation_of-append-old
 
 -- There are no more reservations than records.
 pub reservations-within : (records : List Record) → length (reservations_of records) ≤ length records
-reservations-within records = omega (arith, length-filter is_reservation records, count_by-le-length is_reservation records)
+reservations-within [] = omega arith
+reservations-within (Reserve reservation ∷ records) = omega (arith, reservations-within records)
+reservations-within (Settle settlement ∷ records) = omega (arith, reservations-within records)
 
 -- A number is reserved exactly where someone reserved it.
 pub reserved-asker : (records : List Record) (n : ℕ) → is_some (asker_of records n) ≡ is_some (reservation_of records n)
 reserved-asker records n = one (reservation_of records n)
   where
-    one : (found : Option Record) → is_some (option_map analyst_of found) ≡ is_some found
+    one : (found : Option Reservation) → is_some (option_map (λ (reservation : Reservation). reservation.analyst) found) ≡ is_some found
     one None = refl
     one (Some reservation) = refl
 
@@ -49,12 +52,12 @@ not-past entry records h n past may =
 pub asker-append : (records : List Record) (next : Record) (n a : ℕ) → asker_of records n ≡ Some a → asker_of (records ++ next ∷ []) n ≡ Some a
 asker-append records next n a is = one (reservation_of records n) refl is
   where
-    one : (found : Option Record) → reservation_of records n ≡ found → option_map analyst_of found ≡ Some a → asker_of (records ++ next ∷ []) n ≡ Some a
+    one : (found : Option Reservation) → reservation_of records n ≡ found → option_map (λ (reservation : Reservation). reservation.analyst) found ≡ Some a → asker_of (records ++ next ∷ []) n ≡ Some a
     one None at was = absurd cc
-    one (Some old) at was = ap (option_map analyst_of) (reservation_of-append-old records next n old at) ∙ was
+    one (Some old) at was = ap (option_map (λ (reservation : Reservation). reservation.analyst)) (reservation_of-append-old records next n old at) ∙ was
 
 -- another number's settlement
-pub outcome-other : (records : List Record) (number : ℕ) (outcome : Outcome) (n : ℕ) → (n ≡ number → ⊥) → outcome_of (records ++ Settle number outcome ∷ []) n ≡ outcome_of records n
+pub outcome-other : (records : List Record) (number : ℕ) (outcome : Outcome) (n : ℕ) → (n ≡ number → ⊥) → outcome_of (records ++ settling number outcome ∷ []) n ≡ outcome_of records n
 outcome-other records number outcome n other =
     outcome_of-append-Settle records number outcome n
     ∙ ap (option_or (outcome_of records n)) (cond-false (n == number) (Some outcome) None (ne_eqb n number other)) ∙ option_or-None (outcome_of records n)
@@ -66,7 +69,7 @@ new-row reservation = record { analyst = reservation.analyst; outcome = None }
 first-row : (entry : Entry) (records : List Record) (reservation : Reservation) → IsHistory entry records → reservation.number ≡ length (reservations_of records)
     → IsRowOf (records ++ Reserve reservation ∷ []) reservation.number (new-row reservation)
 first-row entry records reservation h numbered = record {
-  analyst = ap (option_map analyst_of) (reservation_of-next entry records reservation h numbered);
+  analyst = ap (option_map (λ (reservation : Reservation). reservation.analyst)) (reservation_of-next entry records reservation h numbered);
   outcome = outcome_of-append-Reserve records reservation reservation.number ∙ outcome_past entry records h reservation.number (omega (arith, numbered));
 }
 
@@ -95,23 +98,23 @@ none-past (x ∷ xs) (suc n) none = omega (arith, none-past xs n none)
 -- a settlement in the row of its number
 pub rows-Settle : (records : List Record) (old new : List Row) (number : ℕ) (outcome : Outcome) → IsSettlementAfter records number → HasRows old records → length new ≡ length old
     → ((row : Row) → slice_get old number ≡ Some row → slice_get new number ≡ Some (record row { outcome = Some outcome }))
-    → ((k : ℕ) → (k ≡ number → ⊥) → slice_get new k ≡ slice_get old k) → HasRows new (records ++ Settle number outcome ∷ [])
+    → ((k : ℕ) → (k ≡ number → ⊥) → slice_get new k ≡ slice_get old k) → HasRows new (records ++ settling number outcome ∷ [])
 rows-Settle records old new number outcome may has long settled others = record {
   count = long ∙ has.count ∙ sym (reservations_of-append-Settle records number outcome);
   each = λ n row at. elim (cases_eq n number) [
-    | inl same ↦ subst (λ (m : ℕ). IsRowOf (records ++ Settle number outcome ∷ []) m row) (sym same) (here row (slice_get old number) refl (ap (slice_get new) (sym same) ∙ at))
+    | inl same ↦ subst (λ (m : ℕ). IsRowOf (records ++ settling number outcome ∷ []) m row) (sym same) (here row (slice_get old number) refl (ap (slice_get new) (sym same) ∙ at))
     | inr other ↦
         let was = has.each n row (sym (others n other) ∙ at) in
-        record { analyst = asker-append records (Settle number outcome) n row.analyst was.analyst; outcome = outcome-other records number outcome n other ∙ was.outcome }
+        record { analyst = asker-append records (settling number outcome) n row.analyst was.analyst; outcome = outcome-other records number outcome n other ∙ was.outcome }
   ];
 }
   where
-    here : (row : Row) (before : Option Row) → slice_get old number ≡ before → slice_get new number ≡ Some row → IsRowOf (records ++ Settle number outcome ∷ []) number row
+    here : (row : Row) (before : Option Row) → slice_get old number ≡ before → slice_get new number ≡ Some row → IsRowOf (records ++ settling number outcome ∷ []) number row
     here row None was now = absurd (omega (arith, slice_get_within new number row now, none-past old number was, long))
     here row (Some before) was now =
         let is : record before { outcome = Some outcome } ≡ row = cc (settled before was, now) in
-        subst (λ (x : Row). IsRowOf (records ++ Settle number outcome ∷ []) number x) is (record {
-          analyst = asker-append records (Settle number outcome) number before.analyst (has.each number before was).analyst;
+        subst (λ (x : Row). IsRowOf (records ++ settling number outcome ∷ []) number x) is (record {
+          analyst = asker-append records (settling number outcome) number before.analyst (has.each number before was).analyst;
           outcome = outcome_of-append-new records number outcome may.unsettled;
         })
 
@@ -120,7 +123,7 @@ pub settled-within : (entry : Entry) (records : List Record) → IsHistory entry
     → count_by is_answered records + count_by is_exhausted records + open_from 0 records ≤ length (reservations_of records)
 settled-within entry = history-induction entry (λ records. count_by is_answered records + count_by is_exhausted records + open_from 0 records ≤ length (reservations_of records)) (omega arith) step
   where
-    one : (number : ℕ) (outcome : Outcome) → one_if (is_answered (Settle number outcome)) + one_if (is_exhausted (Settle number outcome)) ≤ 1
+    one : (number : ℕ) (outcome : Outcome) → one_if (is_answered (settling number outcome)) + one_if (is_exhausted (settling number outcome)) ≤ 1
     one number (Answered value) = omega arith
     one number Exhausted = omega arith
     one number Lost = omega arith
@@ -135,14 +138,14 @@ settled-within entry = history-induction entry (λ records. count_by is_answered
       reservations_of-append-Reserve xs reservation,
       open_from-append-Reserve 0 xs reservation (omega arith) (outcome_past entry xs h reservation.number (omega (arith, may.numbered))),
     )
-    step xs (Settle number outcome) h may before = omega (
+    step xs (Settle settlement) h may before = omega (
       arith,
       before,
-      one number outcome,
-      sum_by_push (λ r. one_if (is_answered r)) xs (Settle number outcome),
-      sum_by_push (λ r. one_if (is_exhausted r)) xs (Settle number outcome),
-      reservations_of-append-Settle xs number outcome,
-      open_from-Settle entry 0 xs number outcome h (omega arith) may.reserved may.unsettled,
+      one settlement.number settlement.outcome,
+      sum_by_push (λ r. one_if (is_answered r)) xs (Settle settlement),
+      sum_by_push (λ r. one_if (is_exhausted r)) xs (Settle settlement),
+      reservations_of-append-Settle xs settlement.number settlement.outcome,
+      open_from-Settle entry 0 xs settlement.number settlement.outcome h (omega arith) may.reserved may.unsettled,
     )
 
 -- Those numbered from the next number on are none.
@@ -153,6 +156,6 @@ open-past entry records h = history-induction entry (λ xs. (start : ℕ) → le
         → (start : ℕ) → length (reservations_of (xs ++ x ∷ [])) ≤ start → open_from start (xs ++ x ∷ []) ≡ 0
     step xs (Reserve reservation) h may before start past =
         open_from-early start xs reservation (omega (arith, may.numbered, reservations_of-append-Reserve xs reservation, past)) ∙ before start (omega (arith, reservations_of-append-Reserve xs reservation, past))
-    step xs (Settle number outcome) h may before start past =
-        let none : open_from start xs ≡ 0 = before start (omega (arith, reservations_of-append-Settle xs number outcome, past)) in
-        omega (arith, none, open_from-le-Settle start xs number outcome)
+    step xs (Settle settlement) h may before start past =
+        let none : open_from start xs ≡ 0 = before start (omega (arith, reservations_of-append-Settle xs settlement.number settlement.outcome, past)) in
+        omega (arith, none, open_from-le-Settle start xs settlement.number settlement.outcome)

@@ -3,16 +3,17 @@ use Rattle.std.specs.Prelude.{ℕ, ◌+◌, ◌-◌, ◌==◌, nat_le, Bool, tru
 use Rattle.journal_records.specs.declared.records.Outcome.{Outcome}
 use Rattle.journal_records.specs.declared.records.Outcome.TheVariants.{Answered, Exhausted, Lost}
 use Rattle.journal_records.specs.declared.records.Record.{Record}
-use Rattle.journal_records.specs.declared.records.Record.TheVariants.{Reserve, Settle}
+use Rattle.journal_records.specs.Records.{outcome_in}
 use Rattle.budget_core.specs.declared.answers.Recall.{Recall}
 use Rattle.budget_core.specs.declared.answers.Recall.TheVariants.{Unknown, NotYours, Answer, Open, Lost as IsLost, Exhausted as IsExhausted}
 use Rattle.budget_core.specs.declared.answers.Left.{Left}
 use Rattle.budget_core.specs.declared.answers.Counts.{Counts}
 use Rattle.budget_core.specs.declared.answers.FoundFault.{FoundFault}
 use Rattle.budget_core.specs.declared.answers.FoundFault.TheVariants.{NoMemory, Astray}
-use Rattle.budget_core.specs.Cost.{cost_of}
+use Rattle.budget_core.specs.Cost.{cost_of, budget_of}
 use Rattle.budget_core.specs.Counts.{reservations_of, outcome_of, asker_of}
 use Rattle.budget_core.specs.Entries.{Entry}
+use Rattle.budget_core.specs.Events.{is_answer}
 use Rattle.budget_core.specs.Ledger.{Ledger, start_of}
 use Rattle.budget_core.specs.Legal.{IsFirstAstray}
 
@@ -41,23 +42,25 @@ recalled ledger number analyst = recalled_from (start_of ledger) ledger.records 
 
 -- what these records leave of the budget, and how many they are
 abbrev pub left_by : Entry → List Record → Left
-left_by entry records = record { spent = cost_of records; budget = entry.budget; seen = length records }
+left_by entry records = record { spent = cost_of entry records; budget = budget_of entry records; seen = length records }
 
 -- what a ledger has left
 abbrev pub left_of : Ledger → Left
 left_of ledger = left_by ledger.entry ledger.records
 
+-- the record settles a number with an answer
 abbrev pub is_answered : Record → Bool
-is_answered (Settle number (Answered value)) = true
-is_answered (Settle number Exhausted) = false
-is_answered (Settle number Lost) = false
-is_answered (Reserve reservation) = false
+is_answered next = is_answer (outcome_in next)
 
+abbrev pub is_exhaustion : Option Outcome → Bool
+is_exhaustion (Some Exhausted) = true
+is_exhaustion (Some (Answered value)) = false
+is_exhaustion (Some Lost) = false
+is_exhaustion None = false
+
+-- the record settles a number whose sampler ran out of draws
 abbrev pub is_exhausted : Record → Bool
-is_exhausted (Settle number Exhausted) = true
-is_exhausted (Settle number (Answered value)) = false
-is_exhausted (Settle number Lost) = false
-is_exhausted (Reserve reservation) = false
+is_exhausted next = is_exhaustion (outcome_in next)
 
 -- how many reservations there are, how many of them are answered and how many exhausted; all others are lost
 abbrev pub counts_of : List Record → Counts

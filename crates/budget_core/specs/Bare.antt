@@ -1,18 +1,19 @@
 -- Records without their answers.
-use Rattle.std.specs.Prelude.{pos, List, map}
+use Rattle.std.specs.Prelude.{pos, List, map, option_map, unwrap_or}
 use Rattle.journal_records.specs.declared.records.Outcome.{Outcome}
 use Rattle.journal_records.specs.declared.records.Outcome.TheVariants.{Answered, Exhausted, Lost}
 use Rattle.journal_records.specs.declared.records.Record.{Record}
-use Rattle.journal_records.specs.declared.records.Record.TheVariants.{Reserve, Settle}
+use Rattle.journal_records.specs.declared.records.Settlement.{Settlement}
+use Rattle.journal_records.specs.Records.{settlement_in, settling}
 
 abbrev pub bare_outcome : Outcome → Outcome
 bare_outcome (Answered answer) = Answered (pos 0)
 bare_outcome Exhausted = Exhausted
 bare_outcome Lost = Lost
 
+-- the record, with the answer set to 0 where it settles with one
 abbrev pub bare_record : Record → Record
-bare_record (Reserve reservation) = Reserve reservation
-bare_record (Settle number outcome) = Settle number (bare_outcome outcome)
+bare_record next = unwrap_or (option_map (λ (settlement : Settlement). settling settlement.number (bare_outcome settlement.outcome)) (settlement_in next)) next
 
 -- the records with every answer set to 0
 abbrev pub without_answers : List Record → List Record

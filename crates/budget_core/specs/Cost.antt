@@ -1,8 +1,10 @@
 -- What records cost.
-use Rattle.std.specs.Prelude.{ℕ, ◌+◌, ◌*◌, ◌-◌, ◌/◌, List, [], ◌∷◌}
+use Rattle.std.specs.Prelude.{ℕ, ◌+◌, ◌*◌, ◌-◌, ◌/◌, List, map}
 use Rattle.partition_charge.specs.Cost.{Charge, cost_of_charges}
 use Rattle.journal_records.specs.declared.records.Record.{Record}
-use Rattle.journal_records.specs.declared.records.Record.TheVariants.{Reserve, Settle}
+use Rattle.journal_records.specs.declared.records.Reservation.{Reservation}
+use Rattle.budget_core.specs.Counts.{reservations_of}
+use Rattle.budget_core.specs.Entries.{Entry}
 
 -- the least whole number that isn't below a/b
 abbrev pub ceil_div : ℕ → ℕ → ℕ
@@ -12,13 +14,18 @@ ceil_div a b = (a + (b - 1)) / b
 abbrev pub charge_of : (e p q : ℕ) → ℕ
 charge_of e p q = ceil_div (p * e) q
 
--- What records charge: each reservation the view that it looks at.
-abbrev pub charges_in : List Record → List Charge
-charges_in [] = []
-charges_in (Reserve reservation ∷ rest) =
-    record { view = reservation.view; amount = charge_of reservation.e reservation.p reservation.q } ∷ charges_in rest
-charges_in (Settle number outcome ∷ rest) = charges_in rest
+-- what a reservation charges the view that it looks at
+abbrev pub charge_by : Reservation → Charge
+charge_by reservation = record { view = reservation.view; amount = charge_of reservation.e reservation.p reservation.q }
 
--- what records cost: the whole view's charges, and for each partition its dearest part's
-unfoldable pub cost_of : List Record → ℕ
-cost_of records = cost_of_charges (charges_in records)
+-- what records charge
+abbrev pub charges_in : List Record → List Charge
+charges_in records = map charge_by (reservations_of records)
+
+-- what records cost an owner of this entry: the whole view's charges, and for each partition its dearest part's
+unfoldable pub cost_of : Entry → List Record → ℕ
+cost_of entry records = cost_of_charges (charges_in records)
+
+-- the budget that the cost of these records is held against
+abbrev pub budget_of : Entry → List Record → ℕ
+budget_of entry records = entry.budget

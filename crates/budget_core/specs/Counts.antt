@@ -1,60 +1,55 @@
 -- What is counted and found in records.
-use Rattle.std.specs.Prelude.{ℕ, Bool, true, false, ◌==◌, ◌&&◌, nat_le, List, [], ◌∷◌, filter, find, count_by, Option, Some, None, is_none, option_map, cond}
+use Rattle.std.specs.Prelude.{ℕ, Bool, ◌==◌, ◌&&◌, nat_le, List, [], ◌∷◌, filter_map, find, count_by, Option, Some, None, is_none, option_map, if◌then◌else◌}
+use Rattle.journal_records.specs.declared.records.Reservation.{Reservation}
+use Rattle.journal_records.specs.declared.records.Settlement.{Settlement}
 use Rattle.journal_records.specs.declared.records.Record.{Record}
-use Rattle.journal_records.specs.declared.records.Record.TheVariants.{Reserve, Settle}
 use Rattle.journal_records.specs.declared.records.Outcome.{Outcome}
-
-abbrev pub is_reservation : Record → Bool
-is_reservation (Reserve reservation) = true
-is_reservation (Settle number outcome) = false
+use Rattle.journal_records.specs.Records.{reservation_in, settlement_in, is_some_and, number_or_zero}
 
 -- the reservations, in order
-abbrev pub reservations_of : List Record → List Record
-reservations_of records = filter is_reservation records
+abbrev pub reservations_of : List Record → List Reservation
+reservations_of records = filter_map reservation_in records
 
--- the record is the reservation of this number
-abbrev pub reserves : ℕ → Record → Bool
-reserves n (Reserve reservation) = n == reservation.number
-reserves n (Settle number outcome) = false
+abbrev pub reservation_number : Reservation → ℕ
+reservation_number reservation = reservation.number
+
+-- the reservation is of this number
+abbrev pub is_numbered : ℕ → Reservation → Bool
+is_numbered n reservation = n == reservation.number
 
 -- the reservation of this number, if there is one
-abbrev pub reservation_of : List Record → ℕ → Option Record
-reservation_of records n = find (reserves n) records
+abbrev pub reservation_of : List Record → ℕ → Option Reservation
+reservation_of records n = find (is_numbered n) (reservations_of records)
+
+-- how a record settles this number, if it does; else what is known of it otherwise
+abbrev pub outcome_by : ℕ → Option Settlement → (otherwise : Option Outcome) → Option Outcome
+outcome_by n None otherwise = otherwise
+outcome_by n (Some settlement) otherwise = if n == settlement.number then Some settlement.outcome else otherwise
 
 -- how the reservation of this number was settled, if it was
 abbrev pub outcome_of : List Record → ℕ → Option Outcome
 outcome_of [] n = None
-outcome_of (Reserve reservation ∷ records) n = outcome_of records n
-outcome_of (Settle number outcome ∷ records) n = cond (n == number) (Some outcome) (outcome_of records n)
+outcome_of (next ∷ records) n = outcome_by n (settlement_in next) (outcome_of records n)
 
 -- the record settles the reservation of this number
 abbrev pub settles : ℕ → Record → Bool
-settles n (Reserve reservation) = false
-settles n (Settle number outcome) = n == number
-
--- the number of the reservation that a record makes or settles
-abbrev pub reservation_number : Record → ℕ
-reservation_number (Reserve reservation) = reservation.number
-reservation_number (Settle number outcome) = number
-
--- the analyst who asked for what a record reserves
-abbrev pub analyst_of : Record → ℕ
-analyst_of (Reserve reservation) = reservation.analyst
-analyst_of (Settle number outcome) = 0
+settles n next = is_some_and (λ (settlement : Settlement). n == settlement.number) (settlement_in next)
 
 -- who reserved this number, if anyone did
 abbrev pub asker_of : List Record → ℕ → Option ℕ
-asker_of records n = option_map analyst_of (reservation_of records n)
+asker_of records n = option_map (λ (reservation : Reservation). reservation.analyst) (reservation_of records n)
 
 -- by how much a record says that the cost rose
 abbrev pub taken_of : Record → ℕ
-taken_of (Reserve reservation) = reservation.taken
-taken_of (Settle number outcome) = 0
+taken_of next = number_or_zero (λ (reservation : Reservation). reservation.taken) (reservation_in next)
+
+-- the reservation is numbered from start on, and isn't settled in these records
+abbrev pub is_unsettled_in : List Record → ℕ → Reservation → Bool
+is_unsettled_in records start reservation = nat_le start reservation.number && is_none (outcome_of records reservation.number)
 
 -- the record is a reservation, numbered from start on, that isn't settled in these records
 abbrev pub is_open_in : List Record → ℕ → Record → Bool
-is_open_in records start (Reserve reservation) = nat_le start reservation.number && is_none (outcome_of records reservation.number)
-is_open_in records start (Settle number outcome) = false
+is_open_in records start next = is_some_and (is_unsettled_in records start) (reservation_in next)
 
 -- how many reservations numbered from start on have no settlement
 abbrev pub open_from : ℕ → List Record → ℕ

@@ -1,6 +1,7 @@
 -- What the catalog says of an owner's budget.
 use Rattle.std.specs.Prelude.{ℕ, ◌^◌, ◌≤◌, ◌<◌, List, length, All, slice_get, IsSomeAnd, ⊤}
 use Rattle.partition_charge.specs.Views.{partition_limit, part_limit}
+use Rattle.journal_records.specs.Encoding.{epsilon_limit}
 use Rattle.partition_charge.specs.declared.view.View.{View}
 use Rattle.partition_charge.specs.declared.view.View.TheVariants.{Whole, Part}
 
@@ -31,4 +32,4 @@ HasView entry (Part partition part) = IsSomeAnd (slice_get entry.keys partition)
 -- epsilon in millionths
 pub record IsEpsilon (e : ℕ) : Type 0 where
   pub least : 1 ≤ e
-  pub most : e ≤ 10 ^ 9
+  pub most : e ≤ epsilon_limit

@@ -1,12 +1,13 @@
 -- The pure machine: what each event does.
-use Rattle.std.specs.Prelude.{ℕ, ◌^◌, ◌-◌, ◌%◌, ◌==◌, ◌&&◌, nat_lt, nat_le, Bool, true, false, not, List, [], ◌∷◌, ◌++◌, length, slice_get, is_some, is_none, unwrap_or, fold, Option, Some, None, if◌then◌else◌}
+use Rattle.std.specs.Prelude.{ℕ, ◌-◌, ◌%◌, ◌==◌, ◌&&◌, nat_lt, nat_le, Bool, true, false, not, List, [], ◌∷◌, ◌++◌, length, slice_get, is_some, is_none, unwrap_or, fold, Option, Some, None, if◌then◌else◌}
 use Rattle.std.specs.List.{list_any, list_all, range_with_len}
 use Rattle.partition_charge.specs.declared.view.View.{View}
 use Rattle.partition_charge.specs.declared.view.View.TheVariants.{Whole, Part}
+use Rattle.journal_records.specs.Encoding.{epsilon_limit}
 use Rattle.journal_records.specs.declared.records.Outcome.{Outcome}
 use Rattle.journal_records.specs.declared.records.Outcome.TheVariants.{Answered, Exhausted, Lost}
 use Rattle.journal_records.specs.declared.records.Record.{Record}
-use Rattle.journal_records.specs.declared.records.Record.TheVariants.{Settle}
+use Rattle.journal_records.specs.Records.{settling}
 use Rattle.budget_core.specs.declared.entry.Ask.{Ask}
 use Rattle.budget_core.specs.declared.events.Event.{Event}
 use Rattle.budget_core.specs.declared.events.Event.TheVariants.{Reserve as ToReserve, Settle as ToSettle, Send, Stop, Open}
@@ -39,14 +40,14 @@ abbrev pub is_lowest : (p q : ℕ) → Bool
 is_lowest p q = nat_le 1 q && not (list_any (divides_both p q) (range_with_len 2 (q - 1)))
 
 abbrev pub is_epsilon : ℕ → Bool
-is_epsilon e = nat_le 1 e && nat_le e (10 ^ 9)
+is_epsilon e = nat_le 1 e && nat_le e epsilon_limit
 
 abbrev pub is_digest : List ℕ → Bool
 is_digest bytes = (length bytes == 32) && list_all (λ byte. nat_lt byte 256) bytes
 
 -- the ask is of the entry
 abbrev pub is_ask_of : Entry → Ask → Bool
-is_ask_of entry ask = nat_lt ask.analyst entry.analysts && has_view entry ask.view && is_epsilon ask.e && is_lowest ask.p ask.q && is_digest ask.program
+is_ask_of entry ask = nat_lt ask.analyst entry.analysts && has_view entry ask.view && is_epsilon ask.e && is_lowest ask.p ask.q && is_digest ask.digest
 
 -- ---- events
 
@@ -74,7 +75,7 @@ stepped entry world (ToReserve ask) =
     else world
 stepped entry world (ToSettle number outcome) =
     if world.running && is_unsettled world.start world.records number
-    then record world { records = world.records ++ Settle number outcome ∷ [] }
+    then record world { records = world.records ++ settling number outcome ∷ [] }
     else world
 stepped entry world (Send number) =
     if world.running && is_answer (outcome_of world.records number) && not (list_any (λ sent. sent == number) world.sent)

@@ -6,7 +6,7 @@ use Rattle.budget_core.specs.declared.totals.Row.{Row}
 use Rattle.budget_core.specs.declared.totals.Totals.{Totals}
 use Rattle.budget_core.specs.declared.history.History.TheInside.{Inside}
 use Rattle.budget_core.specs.Answers.{is_answered, is_exhausted}
-use Rattle.budget_core.specs.Cost.{charges_in, cost_of}
+use Rattle.budget_core.specs.Cost.{charges_in, cost_of, budget_of}
 use Rattle.budget_core.specs.Counts.{reservations_of, asker_of, outcome_of}
 use Rattle.budget_core.specs.Entries.{Entry, IsEntry}
 use Rattle.budget_core.specs.Legal.{MayFollow, IsHistory}
@@ -25,7 +25,7 @@ pub record HasRows (rows : List Row) (records : List Record) : Type 0 where
 pub record IsTotalOf (entry : Entry) (records : List Record) (totals : Totals) : Type 0 where
   pub valid : IsEntry entry
   pub history : IsHistory entry records
-  pub within : cost_of records ≤ entry.budget
+  pub within : cost_of entry records ≤ budget_of entry records
   pub costs : AreTotalsOf totals.costs (charges_in records)
   pub rows : HasRows totals.rows.items records
   pub answered : totals.answered ≡ count_by is_answered records

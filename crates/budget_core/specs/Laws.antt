@@ -8,7 +8,7 @@ use Rattle.journal_records.specs.declared.records.Record.TheVariants.{Reserve}
 use Rattle.budget_core.specs.declared.entry.Ask.{Ask}
 use Rattle.budget_core.specs.declared.entry.Grant.{Grant}
 use Rattle.budget_core.specs.Bare.{without_answers}
-use Rattle.budget_core.specs.Cost.{cost_of}
+use Rattle.budget_core.specs.Cost.{cost_of, budget_of}
 use Rattle.budget_core.specs.Counts.{reservations_of, settles, reservation_number, taken_of, open_from}
 use Rattle.budget_core.specs.Entries.{Entry, IsEntry}
 use Rattle.budget_core.specs.declared.events.Event.{Event}
@@ -19,8 +19,8 @@ use Rattle.budget_core.specs.Ledger.{money_verdict, records_after, IsAskOf}
 
 -- Legal records cost at most the budget, where the found ones do.
 abbrev pub StaysWithinBudget : Type 0
-StaysWithinBudget = (entry : Entry) (found records : List Record) → cost_of found ≤ entry.budget
-    → IsLegal entry found records → cost_of records ≤ entry.budget
+StaysWithinBudget = (entry : Entry) (found records : List Record) → cost_of entry found ≤ budget_of entry found
+    → IsLegal entry found records → cost_of entry records ≤ budget_of entry records
 
 -- Records that are legal after a history are a history.
 abbrev pub StaysHistory : Type 0
@@ -50,7 +50,7 @@ SettlesOnce = (entry : Entry) (records : List Record) (number : ℕ) → IsHisto
 
 -- What each reservation of a history took adds up to its cost.
 abbrev pub AddsUp : Type 0
-AddsUp = (entry : Entry) (records : List Record) → IsHistory entry records → sum_by taken_of records ≡ cost_of records
+AddsUp = (entry : Entry) (records : List Record) → IsHistory entry records → sum_by taken_of records ≡ cost_of entry records
 
 -- There is always room to settle what is open.
 abbrev pub KeepsRoom : Type 0

@@ -7,9 +7,10 @@ use Rattle.budget_core.specs.declared.entry.Ask.{Ask}
 use Rattle.budget_core.specs.declared.entry.Grant.{Grant}
 use Rattle.budget_core.specs.declared.entry.ReserveFault.{ReserveFault}
 use Rattle.budget_core.specs.declared.entry.ReserveFault.TheVariants.{OverBudget, Full}
-use Rattle.budget_core.specs.Cost.{cost_of}
+use Rattle.budget_core.specs.Cost.{cost_of, budget_of}
 use Rattle.budget_core.specs.Counts.{reservations_of, reservation_of, outcome_of, open_from}
 use Rattle.budget_core.specs.Entries.{Entry, HasView}
+use Rattle.budget_core.specs.Legal.{IsReservationAfter}
 use Rattle.journal_records.specs.Encoding.{IsByteList, AreChargeTerms}
 
 -- an owner's entry, the records found when the book was opened, and all records
@@ -29,41 +30,47 @@ next_number records = length (reservations_of records)
 -- the reservation of an ask under a number, by how much it raises the cost aside
 abbrev pub reservation_numbered : ℕ → Ask → ℕ → Reservation
 reservation_numbered number ask taken
-    = record { number = number; view = ask.view; e = ask.e; p = ask.p; q = ask.q; taken = taken; analyst = ask.analyst; program = ask.program }
+    = record { number = number; view = ask.view; e = ask.e; p = ask.p; q = ask.q; taken = taken; analyst = ask.analyst; digest = ask.digest }
 
 -- the record that an ask would make, by how much it raises the cost aside
 abbrev pub reservation_for : List Record → Ask → ℕ → Record
 reservation_for records ask taken = Reserve (reservation_numbered (next_number records) ask taken)
 
 -- the cost with this ask
-abbrev pub cost_with : List Record → Ask → ℕ
-cost_with records ask = cost_of (records ++ reservation_for records ask 0 ∷ [])
+abbrev pub cost_with : Entry → List Record → Ask → ℕ
+cost_with entry records ask = cost_of entry (records ++ reservation_for records ask 0 ∷ [])
 
 -- by how much this ask raises the cost
-abbrev pub rise_of : List Record → Ask → ℕ
-rise_of records ask = cost_with records ask - cost_of records
+abbrev pub rise_of : Entry → List Record → Ask → ℕ
+rise_of entry records ask = cost_with entry records ask - cost_of entry records
 
 -- An ask is over budget where the cost with it exceeds the budget; else the journal is full where its
 -- records, a settlement for each open reservation and these two records exceed its capacity; else it is granted.
 abbrev pub money_verdict : Entry → (start : ℕ) → List Record → Ask → Result Grant ReserveFault
 money_verdict entry start records ask =
-    if nat_lt entry.budget (cost_with records ask)
-    then Err (OverBudget (cost_of records) (cost_with records ask) entry.budget (length records))
+    if nat_lt (budget_of entry records) (cost_with entry records ask)
+    then Err (OverBudget (cost_of entry records) (cost_with entry records ask) (budget_of entry records) (length records))
     else if nat_lt entry.capacity (length records + open_from start records + 2)
     then Err (Full (length records) (open_from start records) entry.capacity)
-    else Ok (record { number = next_number records; taken = rise_of records ask; seen = length records + 1 })
+    else Ok (record { number = next_number records; taken = rise_of entry records ask; seen = length records + 1 })
 
 -- an ask is of the entry
 pub record IsAskOf (entry : Entry) (ask : Ask) : Type 0 where
   pub analyst : ask.analyst < entry.analysts
   pub view : HasView entry ask.view
   pub terms : AreChargeTerms ask.e ask.p ask.q
-  pub digest : IsByteList 32 ask.program
+  pub digest : IsByteList 32 ask.digest
 
 -- the records after an ask was answered
 abbrev pub records_after : List Record → Ask → Result Grant ReserveFault → List Record
 records_after records ask (Ok grant) = records ++ reservation_for records ask grant.taken ∷ []
 records_after records ask (Err fault) = records
+
+-- The reservation may be added to the ledger: it may follow, and there is room for it and its settlement.
+pub record MayReserve (ledger : Ledger) (reservation : Reservation) : Type 0 where
+  pub follows : IsReservationAfter ledger.entry ledger.records reservation
+  pub terms : AreChargeTerms reservation.e reservation.p reservation.q
+  pub room : length ledger.records + open_from (start_of ledger) ledger.records + 2 ≤ ledger.entry.capacity
 
 -- the reservation of this number was made in this run and isn't settled
 pub record IsUnsettled (ledger : Ledger) (number : ℕ) : Type 0 where

@@ -1,10 +1,12 @@
 -- Which records may follow which.
-use Rattle.std.specs.Prelude.{◌≡◌, ℕ, ◌+◌, ◌≤◌, ◌<◌, List, [], ◌∷◌, ◌++◌, length, take, slice_get, Some, None, IsSome, ⊤}
+use Rattle.std.specs.Prelude.{◌≡◌, ℕ, ◌+◌, ◌≤◌, ◌<◌, List, [], ◌∷◌, ◌++◌, length, take, slice_get, Some, None, IsSome, IfSome, MatchOption}
 use Rattle.journal_records.specs.declared.records.Outcome.{Outcome}
 use Rattle.journal_records.specs.declared.records.Reservation.{Reservation}
 use Rattle.journal_records.specs.declared.records.Record.{Record}
-use Rattle.journal_records.specs.declared.records.Record.TheVariants.{Reserve, Settle}
-use Rattle.budget_core.specs.Cost.{cost_of}
+use Rattle.journal_records.specs.declared.records.Settlement.{Settlement}
+use Rattle.journal_records.specs.declared.records.Record.TheVariants.{Reserve}
+use Rattle.journal_records.specs.Records.{reservation_in, settlement_in, settling}
+use Rattle.budget_core.specs.Cost.{cost_of, budget_of}
 use Rattle.budget_core.specs.Counts.{reservations_of, reservation_of, outcome_of, open_from}
 use Rattle.budget_core.specs.Entries.{Entry, HasView}
 use Rattle.journal_records.specs.Encoding.{AreChargeTerms}
@@ -15,8 +17,8 @@ pub record IsReservationAfter (entry : Entry) (records : List Record) (reservati
   pub numbered : reservation.number ≡ length (reservations_of records)
   pub asked_by : reservation.analyst < entry.analysts
   pub looks_at : HasView entry reservation.view
-  pub rise : cost_of (records ++ Reserve reservation ∷ []) ≡ cost_of records + reservation.taken
-  pub within : cost_of (records ++ Reserve reservation ∷ []) ≤ entry.budget
+  pub rise : cost_of entry (records ++ Reserve reservation ∷ []) ≡ cost_of entry records + reservation.taken
+  pub within : cost_of entry (records ++ Reserve reservation ∷ []) ≤ budget_of entry (records ++ Reserve reservation ∷ [])
 
 -- A settlement is of a reservation that has none yet.
 pub record IsSettlementAfter (records : List Record) (number : ℕ) : Type 0 where
@@ -25,8 +27,9 @@ pub record IsSettlementAfter (records : List Record) (number : ℕ) : Type 0 whe
 
 -- the record may follow these records
 abbrev pub MayFollow : Entry → List Record → Record → Type 0
-MayFollow entry records (Reserve reservation) = IsReservationAfter entry records reservation
-MayFollow entry records (Settle number outcome) = IsSettlementAfter records number
+MayFollow entry records next =
+    MatchOption (reservation_in next) (IfSome (settlement_in next) (λ (settlement : Settlement). IsSettlementAfter records settlement.number))
+    (IsReservationAfter entry records)
 
 -- each record may follow those before it
 pub record IsHistory (entry : Entry) (records : List Record) : Type 0 where
@@ -39,8 +42,7 @@ pub record IsFirstAstray (entry : Entry) (records : List Record) (k : ℕ) : Typ
 
 -- a reservation's numbers are an epsilon in millionths and a sensitivity in lowest terms
 abbrev pub HasTerms : Record → Type 0
-HasTerms (Reserve reservation) = AreChargeTerms reservation.e reservation.p reservation.q
-HasTerms (Settle number outcome) = ⊤
+HasTerms next = IfSome (reservation_in next) (λ (reservation : Reservation). AreChargeTerms reservation.e reservation.p reservation.q)
 
 -- Records are legal after those found at the start: they begin with the found ones; each later record may follow
 -- those before it; a later settlement is of a reservation that wasn't found; and there is always room to settle
@@ -48,7 +50,7 @@ HasTerms (Settle number outcome) = ⊤
 pub record IsLegal (entry : Entry) (found records : List Record) : Type 0 where
   pub begins : take (length found) records ≡ found
   pub follows : (k : ℕ) (next : Record) → length found ≤ k → slice_get records k ≡ Some next → MayFollow entry (take k records) next
-  pub settles : (k number : ℕ) (outcome : Outcome) → length found ≤ k → slice_get records k ≡ Some (Settle number outcome)
+  pub settles : (k number : ℕ) (outcome : Outcome) → length found ≤ k → slice_get records k ≡ Some (settling number outcome)
       → length (reservations_of found) ≤ number
   pub room : length found ≤ entry.capacity → (k : ℕ) → length found < k → k ≤ length records
       → k + open_from (length (reservations_of found)) (take k records) ≤ entry.capacity

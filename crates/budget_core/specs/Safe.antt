@@ -1,7 +1,7 @@
 -- What holds after all events.
 use Rattle.std.specs.Prelude.{◌≡◌, ℕ, ◌+◌, ◌≤◌, length, map, count_by, Contains, IsTrue}
 use Rattle.std.specs.List.{range_with_len}
-use Rattle.budget_core.specs.Cost.{cost_of}
+use Rattle.budget_core.specs.Cost.{cost_of, budget_of}
 use Rattle.budget_core.specs.Counts.{reservations_of, outcome_of, settles, reservation_number, open_from}
 use Rattle.budget_core.specs.Entries.{Entry}
 use Rattle.budget_core.specs.Events.{World, is_answer}
@@ -10,7 +10,7 @@ use Rattle.budget_core.specs.Events.{World, is_answer}
 -- each sent number is settled with an answer, and the records and a settlement for each open reservation of this run
 -- fit into the capacity.
 pub record IsSafe (entry : Entry) (world : World) : Type 0 where
-  pub within : cost_of world.records ≤ entry.budget
+  pub within : cost_of entry world.records ≤ budget_of entry world.records
   pub numbered : map reservation_number (reservations_of world.records) ≡ range_with_len 0 (length (reservations_of world.records))
   pub once : (number : ℕ) → count_by (settles number) world.records ≤ 1
   pub answered : (number : ℕ) → Contains world.sent number → IsTrue (is_answer (outcome_of world.records number))

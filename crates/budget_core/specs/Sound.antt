@@ -1,6 +1,6 @@
 -- What holds of every ledger.
 use Rattle.std.specs.Prelude.{◌+◌, ◌≤◌, length}
-use Rattle.budget_core.specs.Cost.{cost_of}
+use Rattle.budget_core.specs.Cost.{cost_of, budget_of}
 use Rattle.budget_core.specs.Counts.{open_from}
 use Rattle.budget_core.specs.Entries.{IsEntry}
 use Rattle.budget_core.specs.Legal.{IsHistory, IsLegal}
@@ -12,5 +12,5 @@ pub record IsSound (ledger : Ledger) : Type 0 where
   pub entry : IsEntry ledger.entry
   pub found : IsHistory ledger.entry ledger.found
   pub legal : IsLegal ledger.entry ledger.found ledger.records
-  pub within : cost_of ledger.records ≤ ledger.entry.budget
+  pub within : cost_of ledger.entry ledger.records ≤ budget_of ledger.entry ledger.records
   pub room : length ledger.records + open_from (start_of ledger) ledger.records ≤ ledger.entry.capacity

@@ -42,7 +42,7 @@ pub struct Ask {
     pub p: u32,
     pub q: u32,
     /// The SHA-256 of the program's bytes.
-    pub program: [u8; 32],
+    pub digest: [u8; 32],
 }
 
 /// A reservation that was made.
@@ -141,7 +141,7 @@ impl Entry {
     pub fn has_ask(&self, ask: &Ask) -> bool
         ensures { IsTrue result ↔ IsAskOf self.now ask.now }
     {
-        are_bytes(ask.program);
+        are_bytes(ask.digest);
         if ask.analyst >= self.analysts || !self.has_view(ask.view) {
             return false;
         }

@@ -9,7 +9,7 @@ ghost use Rattle.budget_core.specs.Safe.{IsSafe};
 
 use crate::entry::{Ask, Entry};
 use crate::ledger::Ledger;
-use journal_records::records::{Outcome, Record};
+use journal_records::records::{Outcome, Record, Settlement};
 use std::alloc::{AllocError, Global};
 use std::marker::Model;
 
@@ -64,7 +64,8 @@ impl Machine {
             return;
         }
         if let Ok(grant) = self.ledger.verdict(ask) {
-            self.ledger.reserve(ask, &grant);
+            let reservation = self.ledger.reservation(ask, &grant);
+            self.ledger.reserve(&reservation);
         }
     }
 
@@ -74,7 +75,7 @@ impl Machine {
         ensures entry { self.new.ledger.entry ≡ self.old.ledger.entry }
     {
         if self.running && self.ledger.is_unsettled(number) {
-            self.ledger.settle(number, outcome);
+            self.ledger.settle(&Settlement { number, outcome });
         }
     }
 

@@ -5,7 +5,7 @@ ghost use Rattle.std.specs.List.{All};
 ghost use Rattle.partition_charge.specs.Cost.{cost_of_charges};
 ghost use Rattle.journal_records.specs.Encoding.{IsValid};
 ghost use Rattle.budget_core.specs.Answers.{counts_of, IsFoundFault};
-ghost use Rattle.budget_core.specs.Cost.{charges_in, cost_of};
+ghost use Rattle.budget_core.specs.Cost.{charges_in, cost_of, budget_of};
 ghost use Rattle.budget_core.specs.Counts.{reservations_of, asker_of, outcome_of};
 ghost use Rattle.budget_core.specs.Entries.{IsEntry, HasView};
 ghost use Rattle.budget_core.specs.Legal.{MayFollow, HasTerms, IsHistory};
@@ -60,7 +60,7 @@ impl History {
         requires valid { All IsValid records.items }
         ensures found { IfOk result (λ history. history ≡ record { entry = entry; records = records.items }) }
         ensures history { IfOk result (λ _. IsHistory entry records.items) }
-        ensures within { IfOk result (λ _. cost_of records.items ≤ entry.budget) }
+        ensures within { IfOk result (λ _. cost_of entry records.items ≤ budget_of entry records.items) }
         ensures refused { IfErr result (IsFoundFault entry records.items) }
         ensures valid { IsEntry entry }
     {
@@ -110,7 +110,7 @@ impl History {
 
     /// What the records cost.
     pub fn spent(&self) -> u64
-        ensures { result ≡ cost_of self.now.records }
+        ensures { result ≡ cost_of self.now.entry self.now.records }
     {
         self.totals.costs.spent()
     }
@@ -120,7 +120,7 @@ impl History {
         requires view { HasView self.now.entry view }
         requires bounded { charge ≤ 2 ^ 62 }
         ensures cost { result ≡ cost_of_charges (charges_in self.now.records ++ record { view = view; amount = charge } ∷ []) }
-        ensures grows { cost_of self.now.records ≤ result }
+        ensures grows { cost_of self.now.entry self.now.records ≤ result }
     {
         self.totals.costs.after(view, charge)
     }

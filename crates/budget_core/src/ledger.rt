@@ -2,22 +2,21 @@
 
 ghost use Rattle.std.specs.Prelude.{◌≡◌, ℕ, ◌<◌, ◌≤◌, ◌∷◌, ◌++◌, [], ◌↔◌, length, IsTrue, IfOk, IfErr, Ok};
 ghost use Rattle.std.specs.List.{All};
-ghost use Rattle.journal_records.specs.declared.records.Record.TheVariants.{Settle};
-ghost use Rattle.journal_records.specs.Encoding.{IsValid};
+ghost use Rattle.journal_records.specs.declared.records.Record.TheVariants.{Reserve, Settle};
+ghost use Rattle.journal_records.specs.Encoding.{IsReservation, IsValid};
 ghost use Rattle.budget_core.specs.Answers.{standing, recalled, left_of, counts_of, IsFoundFault};
 ghost use Rattle.budget_core.specs.Cost.{cost_of};
 ghost use Rattle.budget_core.specs.Counts.{outcome_of};
 ghost use Rattle.budget_core.specs.Entries.{IsEntry};
 ghost use Rattle.budget_core.specs.Events.{is_answer};
-ghost use Rattle.budget_core.specs.Legal.{MayFollow};
-ghost use Rattle.budget_core.specs.Ledger.{start_of, money_verdict, reservation_for, IsAskOf, IsUnsettled};
+ghost use Rattle.budget_core.specs.Ledger.{start_of, money_verdict, next_number, reservation_numbered, IsAskOf, MayReserve, IsUnsettled};
 ghost use Rattle.budget_core.specs.Sound.{IsSound};
 
 use crate::answers::{Counts, FoundFault, Left, Recall};
 use crate::entry::{Ask, Entry, Grant, ReserveFault};
 use crate::history::History;
 use crate::totals::charge_for;
-use journal_records::records::{Outcome, Record, Reservation};
+use journal_records::records::{Outcome, Record, Reservation, Settlement};
 use std::alloc::{AllocError, Global};
 use std::marker::Model;
 
@@ -116,16 +115,16 @@ impl Ledger {
         })
     }
 
-    /// The record of a granted ask.
-    pub fn reservation(&self, ask: &Ask, grant: &Grant) -> Record
+    /// The reservation of a granted ask.
+    pub fn reservation(&self, ask: &Ask, grant: &Grant) -> Reservation
         requires asked { IsAskOf self.now.entry ask.now }
         requires granted { money_verdict self.now.entry (start_of self.now) self.now.records ask.now ≡ Ok grant.now }
-        ensures reservation { result ≡ reservation_for self.now.records ask.now grant.now.taken }
-        ensures valid { IsValid result }
-        ensures follows { MayFollow self.now.entry self.now.records result }
+        ensures reservation { result ≡ reservation_numbered (next_number self.now.records) ask.now grant.now.taken }
+        ensures valid { IsReservation result }
+        ensures may { MayReserve self.now result }
     {
         let (p, q) = (ask.p, ask.q);
-        Record::Reserve(Reservation {
+        Reservation {
             number: self.history.reservations(),
             view: ask.view,
             e: ask.e,
@@ -133,33 +132,30 @@ impl Ledger {
             q,
             taken: grant.taken,
             analyst: ask.analyst,
-            program: ask.program,
-        })
+            digest: ask.digest,
+        }
     }
 
-    /// Adds the reservation of a granted ask.
-    pub fn reserve(&mut self, ask: &Ask, grant: &Grant)
-        requires asked { IsAskOf self.old.entry ask.now }
-        requires granted { money_verdict self.old.entry (start_of self.old) self.old.records ask.now ≡ Ok grant.now }
-        ensures after { self.new ≡ record self.old { records = self.old.records ++ reservation_for self.old.records ask.now grant.now.taken ∷ [] } }
-        ensures unsettled { IsUnsettled self.new grant.now.number }
+    /// Adds a reservation that may be added.
+    pub fn reserve(&mut self, reservation: &Reservation)
+        requires { MayReserve self.old reservation.now }
+        ensures after { self.new ≡ record self.old { records = self.old.records ++ Reserve reservation.now ∷ [] } }
+        ensures unsettled { IsUnsettled self.new reservation.now.number }
         ensures sound { IsSound self.new }
     {
-        let next = self.reservation(ask, grant);
-        self.history.add(&next);
+        self.history.add(&Record::Reserve(*reservation));
         self.unsettled += 1;
     }
 
     /// Adds a settlement of a reservation of this run. It is never full: room was kept when the reservation was
     /// made. Gives the number of records.
-    pub fn settle(&mut self, number: u32, outcome: Outcome) -> u32
-        requires { IsUnsettled self.old number }
+    pub fn settle(&mut self, settlement: &Settlement) -> u32
+        requires { IsUnsettled self.old settlement.now.number }
         ensures seen { result ≡ length self.new.records }
-        ensures after { self.new ≡ record self.old { records = self.old.records ++ Settle number outcome ∷ [] } }
+        ensures after { self.new ≡ record self.old { records = self.old.records ++ Settle settlement.now ∷ [] } }
         ensures sound { IsSound self.new }
     {
-        let settlement = Record::Settle { number, outcome };
-        self.history.add(&settlement);
+        self.history.add(&Record::Settle(*settlement));
         self.unsettled -= 1;
         self.history.len()
     }
@@ -217,7 +213,7 @@ impl Ledger {
 
     /// The records' cost, within the budget.
     pub fn spent(&self) -> u64
-        ensures spent { result ≡ cost_of self.now.records }
+        ensures spent { result ≡ cost_of self.now.entry self.now.records }
         ensures sound { IsSound self.now }
     {
         // The look at a field tells the proof what a ledger keeps.

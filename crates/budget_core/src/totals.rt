@@ -6,14 +6,15 @@ ghost use Rattle.journal_records.specs.Encoding.{AreChargeTerms, IsReservation, 
 ghost use Rattle.journal_records.specs.declared.records.Record.{Record as Entered};
 ghost use Rattle.journal_records.specs.declared.records.Record.TheVariants.{Reserve, Settle};
 ghost use Rattle.budget_core.specs.declared.totals.Row.{Row as Known};
-ghost use Rattle.budget_core.specs.Answers.{is_answered, is_exhausted};
+ghost use Rattle.budget_core.specs.Answers.{is_exhaustion};
+ghost use Rattle.budget_core.specs.Events.{is_answer};
 ghost use Rattle.budget_core.specs.Cost.{charge_of};
 ghost use Rattle.budget_core.specs.Entries.{Entry as Terms};
 ghost use Rattle.budget_core.specs.Kept.{IsTotalOf, IsTotal, MayCount, HasCounted};
 ghost use Rattle.budget_core.specs.Legal.{MayFollow, HasTerms, IsReservationAfter, IsSettlementAfter, IsFirstAstray};
 
 use crate::entry::Entry;
-use journal_records::records::{Outcome, Record, Reservation};
+use journal_records::records::{Outcome, Record, Reservation, Settlement};
 use partition_charge::costs::Costs;
 use std::alloc::{AllocError, Global};
 
@@ -43,13 +44,13 @@ pub(crate) fn charge_for(e: u32, p: u32, q: u32) -> u64
 }
 
 fn is_answer(outcome: Outcome) -> bool
-    ensures { (number : ℕ) → result ≡ is_answered (Settle number outcome) }
+    ensures { result ≡ is_answer (Some outcome) }
 {
     matches!(outcome, Outcome::Answered(_))
 }
 
 fn is_exhaustion(outcome: Outcome) -> bool
-    ensures { (number : ℕ) → result ≡ is_exhausted (Settle number outcome) }
+    ensures { result ≡ is_exhaustion (Some outcome) }
 {
     matches!(outcome, Outcome::Exhausted)
 }
@@ -113,7 +114,7 @@ impl Totals {
     {
         match next {
             Record::Reserve(reservation) => self.may_reserve(entry, reservation),
-            Record::Settle { number, .. } => self.may_settle(*number),
+            Record::Settle(settlement) => self.may_settle(settlement.number),
         }
     }
 
@@ -132,13 +133,13 @@ impl Totals {
     }
 
     // Counts a settlement.
-    fn count_settlement(&mut self, number: u32, outcome: Outcome)
-        requires { MayCount self.old (Settle number outcome) }
-        ensures { HasCounted self.old (Settle number outcome) self.new }
+    fn count_settlement(&mut self, settlement: &Settlement)
+        requires { MayCount self.old (Settle settlement.now) }
+        ensures { HasCounted self.old (Settle settlement.now) self.new }
     {
-        settle_row(&mut self.rows, number, outcome);
-        self.answered += u32::from(is_answer(outcome));
-        self.exhausted += u32::from(is_exhaustion(outcome));
+        settle_row(&mut self.rows, settlement.number, settlement.outcome);
+        self.answered += u32::from(is_answer(settlement.outcome));
+        self.exhausted += u32::from(is_exhaustion(settlement.outcome));
     }
 
     /// Counts a record that may follow.
@@ -149,7 +150,7 @@ impl Totals {
     {
         match next {
             Record::Reserve(reservation) => self.count_reservation(reservation),
-            Record::Settle { number, outcome } => self.count_settlement(*number, *outcome),
+            Record::Settle(settlement) => self.count_settlement(settlement),
         }
     }
 

@@ -2,19 +2,29 @@
 use Rattle.std.proofs.Common.{◌≡◌, ◌≢◌, ℕ, zero, suc, ◌<◌, ◌≤◌, List, [], ◌∷◌, ◌++◌, length, take, drop, replicate, slice_index, refl, ap, subst, arith, inl, inr, Some}
 use Rattle.std.specs.Prelude.{slice_get}
 use Rattle.std.proofs.lemmas.Option.{same_Some}
+use Rattle.outside_disks.specs.Disks.{Step}
+use Rattle.outside_disks.specs.Disks.Step.{Wrote, Synced}
 use Rattle.journal_records.specs.Encoding.{gate, encoded, encoded_header, IsValid}
 use Rattle.journal_records.specs.declared.records.Outcome.TheVariants.{Exhausted}
 use Rattle.journal_records.specs.declared.records.Record.{Record}
 use Rattle.journal_records.specs.declared.records.Record.TheVariants.{Reserve, Settle}
+use Rattle.journal_records.specs.Records.{settling}
 use Rattle.journal_records.specs.declared.records.Header.{Header}
 use Rattle.budget_journal.specs.declared.opening.OpenFault.TheVariants.{NotInitialised, Changed}
-use Rattle.budget_journal.specs.Journals.{slot_place, slot, gate_of, Holds, Stands, IsTornOff, IsBeyond, IsUnreadable, IsDamaged, IsFirstDamaged, IsHeaderFault}
+use Rattle.budget_journal.specs.Journals.{Layout, one_area, slots_in, slot_place, slot, gate_of, Holds, Stands, AreZeros, MakesJournal, AreFirst, Begins, IsTornOff, IsBeyond, IsUnreadable, IsDamaged, IsFirstDamaged, IsHeaderFault}
 
 abbrev header : Header
 header = record { owner = 1; budget = 10; capacity = 2; digest = replicate 32 7 }
 
+-- the header gives one area of two slots
+abbrev two_slots : Layout
+two_slots = one_area 2
+
+laid_out : (bytes : List ℕ) → slots_in header bytes ≡ two_slots
+laid_out bytes = refl
+
 abbrev settled : Record
-settled = Settle 7 Exhausted
+settled = settling 7 Exhausted
 
 valid : IsValid settled
 valid = record { numbered = omega arith; settled = tt }
@@ -37,10 +47,10 @@ unreadable = encoded_header header ++ (165 ∷ replicate 127 0)
 
 -- ---- places
 
-first_slot : slot_place 0 ≡ 128
+first_slot : slot_place two_slots 0 ≡ 128
 first_slot = refl
 
-behind_a_hundred : slot_place 100 ≡ 6528
+behind_a_hundred : slot_place two_slots 100 ≡ 6528
 behind_a_hundred = refl
 
 -- ---- what stands for what
@@ -55,47 +65,53 @@ nothing_at k r is = absurd cc
 
 none_stands : Stands header [] none
 none_stands = record {
-  whole = refl;
   head = refl;
-  room = omega arith;
-  kept = λ k r is. absurd (nothing_at k r is);
-  shut = λ k le lt. both (λ n. gate_of none n ≢ gate) (λ is. let h : 0 ≡ 165 = is in omega (arith, h)) (λ is. let h : 0 ≡ 165 = is in omega (arith, h)) k lt;
+  fills = record {
+    whole = refl;
+    room = omega arith;
+    kept = λ k r is. absurd (nothing_at k r is);
+    shut = λ k le lt. both (λ n. gate_of two_slots none n ≢ gate) (λ is. let h : 0 ≡ 165 = is in omega (arith, h)) (λ is. let h : 0 ≡ 165 = is in omega (arith, h)) k lt;
+  };
 }
 
-at_first : (k : ℕ) (r : Record) → slice_get (settled ∷ []) k ≡ Some r → Holds (slot one k) r
-at_first zero r is = subst (λ (s : Record). Holds (slot one 0) s) (same_Some settled r is) (record { valid = valid; bytes = refl })
+at_first : (k : ℕ) (r : Record) → slice_get (settled ∷ []) k ≡ Some r → Holds (slot two_slots one k) r
+at_first zero r is = subst (λ (s : Record). Holds (slot two_slots one 0) s) (same_Some settled r is) (record { valid = valid; bytes = refl })
 at_first (suc k) r is = absurd cc
 
 one_stands : Stands header (settled ∷ []) one
 one_stands = record {
-  whole = refl;
   head = refl;
-  room = omega arith;
-  kept = at_first;
-  shut = λ k le lt. both (λ n. 1 ≤ n → gate_of one n ≢ gate) (λ late. absurd (omega arith)) (λ late is. let h : 0 ≡ 165 = is in omega (arith, h)) k lt le;
+  fills = record {
+    whole = refl;
+    room = omega arith;
+    kept = at_first;
+    shut = λ k le lt. both (λ n. 1 ≤ n → gate_of two_slots one n ≢ gate) (λ late. absurd (omega arith)) (λ late is. let h : 0 ≡ 165 = is in omega (arith, h)) k lt le;
+  };
 }
 
 -- a slot whose gate is another byte is closed, whatever stands behind it
 torn_stands : Stands header [] torn
 torn_stands = record {
-  whole = refl;
   head = refl;
-  room = omega arith;
-  kept = λ k r is. absurd (nothing_at k r is);
-  shut = λ k le lt. both (λ n. gate_of torn n ≢ gate) (λ is. let h : 37 ≡ 165 = is in omega (arith, h)) (λ is. let h : 0 ≡ 165 = is in omega (arith, h)) k lt;
+  fills = record {
+    whole = refl;
+    room = omega arith;
+    kept = λ k r is. absurd (nothing_at k r is);
+    shut = λ k le lt. both (λ n. gate_of two_slots torn n ≢ gate) (λ is. let h : 37 ≡ 165 = is in omega (arith, h)) (λ is. let h : 0 ≡ 165 = is in omega (arith, h)) k lt;
+  };
 }
 
 torn_holds_nothing : Stands header (settled ∷ []) torn → ⊥
-torn_holds_nothing stands = let h : 37 ≡ 165 = ap (λ (b : List ℕ). slice_index b 0) (stands.kept 0 settled refl).bytes in omega (arith, h)
+torn_holds_nothing stands = let h : 37 ≡ 165 = ap (λ (b : List ℕ). slice_index b 0) (stands.fills.kept 0 settled refl).bytes in omega (arith, h)
 
 an_open_slot_counts : Stands header [] one → ⊥
-an_open_slot_counts stands = stands.shut 0 (omega arith) (omega arith) refl
+an_open_slot_counts stands = stands.fills.shut 0 (omega arith) (omega arith) refl
 
 behind_a_closed_slot : Stands header [] behind → ⊥
-behind_a_closed_slot stands = stands.shut 1 (omega arith) (omega arith) refl
+behind_a_closed_slot stands = stands.fills.shut 1 (omega arith) (omega arith) refl
 
 too_short : Stands header [] (take 255 none) → ⊥
-too_short stands = let h : 255 ≡ 256 = stands.whole in omega (arith, h)
+too_short stands = let h : 255 ≡ 256 = stands.fills.whole in omega (arith, h)
 
 another_header : Stands (record header { owner = 2 }) [] none → ⊥
 another_header stands = let h : 1 ≡ 2 = ap (λ (b : List ℕ). slice_index b 13) stands.head in omega (arith, h)
@@ -116,39 +132,97 @@ changed_header : IsHeaderFault (record header { owner = 2 }) none (Changed (take
 changed_header = (omega arith, refl, refl, refl, λ same. let h : 1 ≡ 2 = ap (λ (b : List ℕ). slice_index b 13) same in omega (arith, h))
 
 -- a file that ends in slot 1, or one byte behind the last slot
-ends_in_a_slot : IsTornOff 2 (take 255 none) 1
+ends_in_a_slot : IsTornOff two_slots (take 255 none) 1
 ends_in_a_slot = let h : length (take 255 none) ≡ 255 = refl in (omega arith, omega (arith, h))
 
-whole_slot : IsTornOff 2 (take 192 none) 0 → ⊥
+whole_slot : IsTornOff two_slots (take 192 none) 0 → ⊥
 whole_slot off = let h : length (take 192 none) ≡ 192 = refl in let short = off.1 in omega (arith, h, short)
 
-one_byte_more : IsBeyond 2 (none ++ 0 ∷ []) 2
+one_byte_more : IsBeyond two_slots (none ++ 0 ∷ []) 2
 one_byte_more = let h : length (none ++ 0 ∷ []) ≡ 257 = refl in (omega arith, omega (arith, h))
 
-no_byte_more : IsBeyond 2 none 2 → ⊥
+no_byte_more : IsBeyond two_slots none 2 → ⊥
 no_byte_more beyond = let h : 256 < 256 = beyond.1 in omega (arith, h)
 
 -- the least damaged slot is the open one behind a closed one
-closed_is_right : IsDamaged 2 behind 0 → ⊥
+closed_is_right : IsDamaged two_slots behind 0 → ⊥
 closed_is_right (inl off) = let h : 256 < 192 = off.1 in omega (arith, h)
 closed_is_right (inr (inl beyond)) = let h : 2 ≤ 0 = beyond.0 in omega (arith, h)
 closed_is_right (inr (inr (inl open_one))) = let h : 0 ≡ 165 = open_one.0 in omega (arith, h)
 closed_is_right (inr (inr (inr late))) = let h : 0 ≡ 165 = late.0 in omega (arith, h)
 
-below_one : (j : ℕ) → j < 1 → IsDamaged 2 behind j → ⊥
+below_one : (j : ℕ) → j < 1 → IsDamaged two_slots behind j → ⊥
 below_one zero lt damaged = closed_is_right damaged
 below_one (suc j) lt damaged = absurd (omega arith)
 
-open_behind_a_closed_one : IsFirstDamaged 2 behind 1
+open_behind_a_closed_one : IsFirstDamaged two_slots behind 1
 open_behind_a_closed_one = record {
   damaged = inr (inr (inr (refl, (0, omega arith, λ is. let h : 0 ≡ 165 = is in omega (arith, h)))));
   first = below_one;
 }
 
 -- no record has a kind of 0
-no_record : (r : Record) → Holds (slot unreadable 0) r → ⊥
-no_record (Settle n o) holds = let h : 0 ≡ 2 = ap (λ (b : List ℕ). slice_index b 1) holds.bytes in omega (arith, h)
+no_record : (r : Record) → Holds (slot two_slots unreadable 0) r → ⊥
+no_record (Settle settlement) holds = let h : 0 ≡ 2 = ap (λ (b : List ℕ). slice_index b 1) holds.bytes in omega (arith, h)
 no_record (Reserve r) holds = let h : 0 ≡ 1 = ap (λ (b : List ℕ). slice_index b 1) holds.bytes in omega (arith, h)
 
-not_read : IsUnreadable unreadable 0
+not_read : IsUnreadable two_slots unreadable 0
 not_read = (refl, no_record)
+
+-- ---- the steps in which a journal is made
+
+abbrev zeros : List Step
+zeros = Wrote 64 (replicate 192 0) ∷ Wrote 0 (replicate 64 0) ∷ []
+
+zeros_over_the_whole : AreZeros zeros 256
+zeros_over_the_whole = (refl, refl, (refl, refl, refl))
+
+one_zero_left_out : AreZeros (Wrote 65 (replicate 191 0) ∷ Wrote 0 (replicate 64 0) ∷ []) 256 → ⊥
+one_zero_left_out are = let h : 65 ≡ 64 = are.2.1 in omega (arith, h)
+
+another_byte : AreZeros (Wrote 0 (0 ∷ 1 ∷ []) ∷ []) 2 → ⊥
+another_byte are = let h : 1 ≡ 0 = ap (λ (b : List ℕ). slice_index b 1) are.0 in omega (arith, h)
+
+abbrev header_behind_gate : Step
+header_behind_gate = Wrote 1 (drop 1 (encoded_header header))
+
+abbrev making : List Step
+making = Synced ∷ Wrote 0 (165 ∷ []) ∷ Synced ∷ header_behind_gate ∷ Synced ∷ zeros
+
+made_in_turn : MakesJournal header making
+made_in_turn = (zeros, zeros_over_the_whole, refl)
+
+synced_once : MakesJournal header (Synced ∷ Wrote 0 (165 ∷ []) ∷ header_behind_gate ∷ zeros) → ⊥
+synced_once makes = let h = makes.2 in absurd cc
+
+gate_with_the_header : MakesJournal header (Synced ∷ Wrote 0 (encoded_header header) ∷ Synced ∷ zeros) → ⊥
+gate_with_the_header makes = let h = makes.2 in absurd cc
+
+not_synced_at_the_end : MakesJournal header (Wrote 0 (165 ∷ []) ∷ Synced ∷ header_behind_gate ∷ Synced ∷ zeros) → ⊥
+not_synced_at_the_end makes = let h = makes.2 in absurd cc
+
+-- a fault at first, of the gate, and of the sync behind it
+nothing_done : Begins making []
+nothing_done = tt
+
+another_gate : Begins making (Wrote 0 (37 ∷ []) ∷ Synced ∷ header_behind_gate ∷ Synced ∷ zeros)
+another_gate = (165 ∷ [], omega arith, (Synced ∷ [], refl))
+
+all_but_a_sync : Begins making (Wrote 0 (165 ∷ []) ∷ Synced ∷ header_behind_gate ∷ Synced ∷ zeros)
+all_but_a_sync = (165 ∷ [], omega arith, (Synced ∷ [], refl))
+
+-- a sync that isn't among the steps
+no_such_sync : (bytes : List ℕ) → AreFirst (Wrote 0 bytes ∷ []) (Synced ∷ []) → ⊥
+no_such_sync bytes ([], same) = absurd cc
+no_such_sync bytes (x ∷ [], same) = absurd cc
+no_such_sync bytes (x ∷ y ∷ later, same) = absurd cc
+
+-- more bytes than were to be written
+one_byte_too_many : Begins (Wrote 0 (165 ∷ []) ∷ []) (Wrote 0 (165 ∷ 1 ∷ []) ∷ []) → ⊥
+one_byte_too_many (whole, le, ([], same)) =
+    let e : Wrote 0 (165 ∷ []) ∷ [] ≡ Wrote 0 whole ∷ [] = same in
+    let w : 165 ∷ [] ≡ whole = cc in
+    let h : 1 ≡ length whole = ap length w in
+    omega arith
+one_byte_too_many (whole, le, (x ∷ [], same)) = absurd cc
+one_byte_too_many (whole, le, (x ∷ y ∷ later, same)) = absurd cc

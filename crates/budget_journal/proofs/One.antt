@@ -12,7 +12,7 @@ no_longer : (header : Header) (records others : List Record) (bytes : List ℕ) 
 no_longer header records others bytes a b = ⊎_elim
     (λ longer.
     let e = element others (length records) longer in
-    absurd (a.shut (length records) (omega arith) (omega (arith, longer, b.room)) (holds-gate bytes (length records) e.0 (b.kept (length records) e.0 e.1))))
+    absurd (a.fills.shut (length records) (omega arith) (omega (arith, longer, b.fills.room)) (holds-gate bytes (length records) e.0 (b.fills.kept (length records) e.0 e.1))))
     (λ le. le)
     (cases_lt (length records) (length others))
 
@@ -30,4 +30,4 @@ stands-one header records others bytes a b =
     let here = no_longer header records others bytes a b in
     let there = no_longer header others records bytes b a in
     same-each records others (omega arith)
-    (λ k x y p q. let e = a.kept k x p in let f = b.kept k y q in record-one x y e.valid f.valid (sym e.bytes ∙ f.bytes))
+    (λ k x y p q. let e = a.fills.kept k x p in let f = b.fills.kept k y q in record-one x y e.valid f.valid (sym e.bytes ∙ f.bytes))

@@ -12,8 +12,8 @@ use Rattle.budget_journal.specs.declared.opening.OpenFault.{OpenFault}
 use Rattle.budget_journal.specs.declared.opening.OpenFault.TheVariants.{DiskFault, NoMemory, NotInitialised, Changed, Damaged}
 use Rattle.std.specs.declared.alloc.Global.{Global}
 use Rattle.journal_records.specs.declared.records.Header.{Header}
-use Rattle.budget_journal.specs.Journals.{Stands, Found, SlotsRead, JournalRead, SlotRead, IsSlotFault, slot_place, slot, gate_of, Holds, IsDamaged, FillsSlots, Scanned, IsFirstDamaged}
-use Rattle.budget_journal.proofs.Slots.{pushed-cases}
+use Rattle.budget_journal.specs.Journals.{Stands, Found, SlotsRead, JournalRead, SlotRead, IsSlotFault, one_area, slots_in, Holds, IsDamaged, FillsSlots, Scanned, IsFirstDamaged}
+use Rattle.budget_journal.proofs.Slots.{slot_at, slot_in, gate_in, pushed-cases}
 
 -- what a read gives, as a piece of the file
 pub gives-piece : (file buf : List ℕ) (place n : ℕ) → Gives file place buf → length buf ≡ n → place + n ≤ length file → buf ≡ take n (drop place file)
@@ -21,11 +21,11 @@ gives-piece file buf place n gives long within = ext_get_or 0 buf (take n (drop 
     (omega (arith, length-take n (drop place file), length-drop place file))
     (λ i lt. gives i lt ∙ sym (get_or-drop place file i 0) ∙ sym (get_or-take n (drop place file) i 0 (omega (arith, lt))))
 
-pub slot-gate : (bytes : List ℕ) (k : ℕ) → slice_index (slot bytes k) 0 ≡ gate_of bytes k
-slot-gate bytes k = let here : slot_place k + 0 ≡ slot_place k = omega arith in
-    get_or-take 64 (drop (slot_place k) bytes) 0 0 (omega arith) ∙ get_or-drop (slot_place k) bytes 0 0 ∙ ap (slice_index bytes) here
+pub slot-gate : (bytes : List ℕ) (k : ℕ) → slice_index (slot_in bytes k) 0 ≡ gate_in bytes k
+slot-gate bytes k = let here : slot_at k + 0 ≡ slot_at k = omega arith in
+    get_or-take 64 (drop (slot_at k) bytes) 0 0 (omega arith) ∙ get_or-drop (slot_at k) bytes 0 0 ∙ ap (slice_index bytes) here
 
-pub holds-gate : (bytes : List ℕ) (k : ℕ) (r : Record) → Holds (slot bytes k) r → gate_of bytes k ≡ gate
+pub holds-gate : (bytes : List ℕ) (k : ℕ) (r : Record) → Holds (slot_in bytes k) r → gate_in bytes k ≡ gate
 holds-gate bytes k r holds = sym (slot-gate bytes k) ∙ ap (λ (s : List ℕ). slice_index s 0) holds.bytes ∙ encoded-gate r
 
 -- an element of a list is some record
@@ -33,71 +33,71 @@ pub element : {X : Type 0} (records : List X) (j : ℕ) → j < length records �
 element [] j lt = absurd (omega arith)
 element (x ∷ records) j lt = (get_or (x ∷ records) j x, slice_get-get_or (x ∷ records) j x lt)
 
-module _ (bytes : List ℕ) (k : ℕ) (records : List Record) (scanned : Scanned bytes k records) where
-  pub scanned-none : slot_place k + 64 ≤ length bytes → gate_of bytes k ≢ gate → Scanned bytes (k + 1) records
+module _ (capacity : ℕ) (bytes : List ℕ) (k : ℕ) (records : List Record) (scanned : Scanned (one_area capacity) bytes k records) where
+  pub scanned-none : slot_at k + 64 ≤ length bytes → gate_in bytes k ≢ gate → Scanned (one_area capacity) bytes (k + 1) records
   scanned-none within shut = record {
     within = omega arith;
     counted = omega (arith, scanned.counted);
     kept = scanned.kept;
     shut = λ j le lt. ⊎_elim
-        (λ here is. shut (ap (gate_of bytes) (sym here) ∙ is))
+        (λ here is. shut (ap (gate_in bytes) (sym here) ∙ is))
         (λ other. scanned.shut j le (omega (arith, other)))
         (cases_eq j k);
   }
 
-  pub scanned-some : (r : Record) → length records ≡ k → slot_place k + 64 ≤ length bytes → Holds (slot bytes k) r → Scanned bytes (k + 1) (records ++ r ∷ [])
+  pub scanned-some : (r : Record) → length records ≡ k → slot_at k + 64 ≤ length bytes → Holds (slot_in bytes k) r → Scanned (one_area capacity) bytes (k + 1) (records ++ r ∷ [])
   scanned-some r all within holds = record {
     within = omega arith;
     counted = omega (arith, length_push records r);
     kept = λ j next is. ⊎_elim
         (λ early. scanned.kept j next early)
-        (λ last. subst (λ (i : ℕ). Holds (slot bytes i) next) (sym (last.0 ∙ all)) (subst (λ (s : Record). Holds (slot bytes k) s) (sym last.1) holds))
+        (λ last. subst (λ (i : ℕ). Holds (slot_in bytes i) next) (sym (last.0 ∙ all)) (subst (λ (s : Record). Holds (slot_in bytes k) s) (sym last.1) holds))
         (pushed-cases records r next j is);
     shut = λ j le lt. absurd (omega (arith, length_push records r));
   }
 
   -- an open slot below k holds a record
-  open-below : (j : ℕ) → j < k → gate_of bytes j ≡ gate → j < length records
+  open-below : (j : ℕ) → j < k → gate_in bytes j ≡ gate → j < length records
   open-below j lt is_open = ⊎_elim (λ within. within) (λ past. absurd (scanned.shut j past lt is_open)) (cases_lt j (length records))
 
-  pub sound-below : (capacity : ℕ) → k ≤ capacity → (j : ℕ) → j < k → IsDamaged capacity bytes j → ⊥
-  sound-below capacity le j lt (inl torn) = let a = torn.1 in let b = scanned.within in absurd (omega arith)
-  sound-below capacity le j lt (inr (inl beyond)) = let a = beyond.0 in absurd (omega arith)
-  sound-below capacity le j lt (inr (inr (inl unreadable))) =
+  pub sound-below : k ≤ capacity → (j : ℕ) → j < k → IsDamaged (one_area capacity) bytes j → ⊥
+  sound-below le j lt (inl torn) = let a = torn.1 in let b = scanned.within in absurd (omega arith)
+  sound-below le j lt (inr (inl beyond)) = let a = beyond.0 in absurd (omega arith)
+  sound-below le j lt (inr (inr (inl unreadable))) =
       let e = element records j (open-below j lt unreadable.0) in
       unreadable.1 e.0 (scanned.kept j e.0 e.1)
-  sound-below capacity le j lt (inr (inr (inr behind))) =
+  sound-below le j lt (inr (inr (inr behind))) =
       let within = open-below j lt behind.0 in
       let earlier : behind.1.0 < j = behind.1.1 in
       let e = element records behind.1.0 (omega arith) in
       behind.1.2 (holds-gate bytes behind.1.0 e.0 (scanned.kept behind.1.0 e.0 e.1))
 
-  pub first-damaged : (capacity : ℕ) → k ≤ capacity → IsDamaged capacity bytes k → IsFirstDamaged capacity bytes k
-  first-damaged capacity le damaged = record { damaged = damaged; first = λ j lt. sound-below capacity le j lt }
+  pub first-damaged : k ≤ capacity → IsDamaged (one_area capacity) bytes k → IsFirstDamaged (one_area capacity) bytes k
+  first-damaged le damaged = record { damaged = damaged; first = λ j lt. sound-below le j lt }
 
-  pub torn-off : (capacity : ℕ) → k < capacity → length bytes < slot_place k + 64 → IsFirstDamaged capacity bytes k
-  torn-off capacity lt short = first-damaged capacity (omega arith) (inl (lt, short))
+  pub torn-off : k < capacity → length bytes < slot_at k + 64 → IsFirstDamaged (one_area capacity) bytes k
+  torn-off lt short = first-damaged (omega arith) (inl (lt, short))
 
-  pub beyond : slot_place k < length bytes → IsFirstDamaged k bytes k
-  beyond long = first-damaged k (omega arith) (inr (inl (omega arith, long)))
+  pub beyond : k ≡ capacity → slot_at k < length bytes → IsFirstDamaged (one_area capacity) bytes k
+  beyond last long = first-damaged (omega arith) (inr (inl (omega arith, omega arith)))
 
-  pub unreadable : (capacity : ℕ) → k < capacity → gate_of bytes k ≡ gate → ((r : Record) → Holds (slot bytes k) r → ⊥) → IsFirstDamaged capacity bytes k
-  unreadable capacity lt is_open none = first-damaged capacity (omega arith) (inr (inr (inl (is_open, none))))
+  pub unreadable : k < capacity → gate_in bytes k ≡ gate → ((r : Record) → Holds (slot_in bytes k) r → ⊥) → IsFirstDamaged (one_area capacity) bytes k
+  unreadable lt is_open none = first-damaged (omega arith) (inr (inr (inl (is_open, none))))
 
-  pub behind-closed : (capacity : ℕ) → k < capacity → gate_of bytes k ≡ gate → length records < k → IsFirstDamaged capacity bytes k
-  behind-closed capacity lt is_open fewer = first-damaged capacity (omega arith)
+  pub behind-closed : k < capacity → gate_in bytes k ≡ gate → length records < k → IsFirstDamaged (one_area capacity) bytes k
+  behind-closed lt is_open fewer = first-damaged (omega arith)
       (inr (inr (inr (is_open, (length records, fewer, scanned.shut (length records) (omega arith) fewer)))))
 
-  pub fills : length bytes ≤ slot_place k → FillsSlots k bytes records
-  fills long = record {
+  pub fills : k ≡ capacity → length bytes ≤ slot_at k → FillsSlots (one_area capacity) bytes records
+  fills last long = record {
     whole = omega (arith, scanned.within);
-    room = scanned.counted;
+    room = omega (arith, scanned.counted);
     kept = scanned.kept;
-    shut = scanned.shut;
+    shut = λ j le lt. scanned.shut j le (omega arith);
   }
 
-pub scanned-start : (bytes : List ℕ) → 128 ≤ length bytes → Scanned bytes 0 []
-scanned-start bytes long = record {
+pub scanned-start : (capacity : ℕ) (bytes : List ℕ) → 128 ≤ length bytes → Scanned (one_area capacity) bytes 0 []
+scanned-start capacity bytes long = record {
   within = omega arith;
   counted = omega arith;
   kept = λ j r is. absurd cc;
@@ -105,24 +105,24 @@ scanned-start bytes long = record {
 }
 
 -- why a slot wasn't read is why the slots weren't
-pub slot-fault : (bytes : List ℕ) (k capacity : ℕ) (records : List Record) (closed : Bool) (fault : OpenFault) → Scanned bytes k records → k < capacity
+pub slot-fault : (bytes : List ℕ) (k capacity : ℕ) (records : List Record) (closed : Bool) (fault : OpenFault) → Scanned (one_area capacity) bytes k records → k < capacity
     → (closed ≡ true → length records < k)
-    → SlotRead bytes k closed (Err fault) → IsSlotFault capacity bytes fault
+    → SlotRead (one_area capacity) bytes k closed (Err fault) → IsSlotFault (one_area capacity) bytes fault
 slot-fault bytes k capacity records closed DiskFault scanned lt fewer read = tt
 slot-fault bytes k capacity records closed NoMemory scanned lt fewer read = tt
 slot-fault bytes k capacity records closed (NotInitialised n) scanned lt fewer read = read
 slot-fault bytes k capacity records closed (Changed kept found) scanned lt fewer read = read
 slot-fault bytes k capacity records closed (Damaged s) scanned lt fewer read =
-    subst (λ (i : ℕ). IsFirstDamaged capacity bytes i) (sym read.0) (⊎_elim
-    (λ is_closed. behind-closed bytes k records scanned capacity lt read.1 (fewer is_closed))
-    (λ none. unreadable bytes k records scanned capacity lt read.1 none)
+    subst (λ (i : ℕ). IsFirstDamaged (one_area capacity) bytes i) (sym read.0) (⊎_elim
+    (λ is_closed. behind-closed capacity bytes k records scanned lt read.1 (fewer is_closed))
+    (λ none. unreadable capacity bytes k records scanned lt read.1 none)
     read.2)
 
 -- the header and the slots
 pub journal-read : (header : Header) (bytes : List ℕ) (read : Result (Vec Record Global) OpenFault) → 128 ≤ length bytes
     → take 128 bytes ≡ encoded_header header
-    → SlotsRead header.capacity bytes read → JournalRead header bytes read
-journal-read header bytes (Ok records) long head fills = record { whole = fills.whole; head = head; room = fills.room; kept = fills.kept; shut = fills.shut }
+    → SlotsRead (slots_in header bytes) bytes read → JournalRead header bytes read
+journal-read header bytes (Ok records) long head fills = record { head = head; fills = fills }
 journal-read header bytes (Err DiskFault) long head fault = tt
 journal-read header bytes (Err NoMemory) long head fault = tt
 journal-read header bytes (Err (NotInitialised n)) long head fault = absurd fault

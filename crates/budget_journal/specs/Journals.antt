@@ -1,8 +1,8 @@
 -- What the bytes of a journal stand for.
-use Rattle.std.specs.Prelude.{◌≡◌, ◌≢◌, ◌⊎◌, ℕ, ◌+◌, ◌*◌, ◌<◌, ◌≤◌, List, [], ◌∷◌, ◌++◌, length, take, drop, slice_index, slice_get, Option, None, Some, Result, Ok, Err, Vec, Bool, true, false, ⊤}
+use Rattle.std.specs.Prelude.{◌≡◌, ◌≢◌, ◌⊎◌, ℕ, ◌+◌, ◌*◌, ◌<◌, ◌≤◌, List, [], ◌∷◌, ◌++◌, length, take, drop, slice_index, slice_get, replicate, Option, None, Some, Result, Ok, Err, Vec, Bool, true, false, ⊤}
 use Rattle.std.specs.declared.alloc.Global.{Global}
-use Rattle.outside_disks.specs.Disks.{Trace, after, noted, seen_of, Only, Passes}
-use Rattle.outside_disks.specs.Disks.Step.{Synced}
+use Rattle.outside_disks.specs.Disks.{Step, Trace, after, noted, seen_of, Only, Passes}
+use Rattle.outside_disks.specs.Disks.Step.{Wrote, Synced}
 use Rattle.journal_records.specs.Encoding.{gate, encoded, encoded_header, IsValid}
 use Rattle.journal_records.specs.declared.records.Record.{Record}
 use Rattle.journal_records.specs.declared.records.Header.{Header}
@@ -10,28 +10,52 @@ use Rattle.budget_journal.specs.declared.journal.Journal.{Journal}
 use Rattle.budget_journal.specs.declared.opening.OpenFault.{OpenFault}
 use Rattle.budget_journal.specs.declared.opening.OpenFault.TheVariants.{NotInitialised, Changed, Damaged}
 
+-- ---- where records stand
+
+-- Slots of 64 bytes, one behind the other: where they begin, how many there are, and how long the file is.
+pub record Layout : Type 0 where
+  pub begin : ℕ
+  pub slots : ℕ
+  pub size : ℕ
+
+-- so many slots behind the header, and nothing behind them
+abbrev pub one_area : ℕ → Layout
+one_area slots = record { begin = 128; slots = slots; size = 128 + 64 * slots }
+
+-- The bytes begin with this header.
+abbrev pub HasHeader : Header → List ℕ → Type 0
+HasHeader header bytes = take 128 bytes ≡ encoded_header header
+
+-- The layout that the header found on the disk gives. There is one version of it, whose slots are one area.
+abbrev pub slots_in : Header → List ℕ → Layout
+slots_in header bytes = one_area header.capacity
+
 -- where slot k is
-abbrev pub slot_place : ℕ → ℕ
-slot_place k = 128 + 64 * k
+abbrev pub slot_place : Layout → ℕ → ℕ
+slot_place layout k = layout.begin + 64 * k
 
-abbrev pub slot : List ℕ → ℕ → List ℕ
-slot bytes k = take 64 (drop (slot_place k) bytes)
+abbrev pub slot : Layout → List ℕ → ℕ → List ℕ
+slot layout bytes k = take 64 (drop (slot_place layout k) bytes)
 
-abbrev pub gate_of : List ℕ → ℕ → ℕ
-gate_of bytes k = slice_index bytes (slot_place k)
+abbrev pub gate_of : Layout → List ℕ → ℕ → ℕ
+gate_of layout bytes k = slice_index bytes (slot_place layout k)
 
 -- a slot holds this record
 pub record Holds (slot_bytes : List ℕ) (r : Record) : Type 0 where
   pub valid : IsValid r
   pub bytes : slot_bytes ≡ encoded r
 
--- The bytes are a journal with this header and these records: each slot in turn holds a record, and behind them no slot is open.
+-- The file is as long as the layout says. Each slot in turn holds a record, and behind them no slot is open.
+pub record FillsSlots (layout : Layout) (bytes : List ℕ) (records : List Record) : Type 0 where
+  pub whole : length bytes ≡ layout.size
+  pub room : length records ≤ layout.slots
+  pub kept : (k : ℕ) (r : Record) → slice_get records k ≡ Some r → Holds (slot layout bytes k) r
+  pub shut : (k : ℕ) → length records ≤ k → k < layout.slots → gate_of layout bytes k ≢ gate
+
+-- The bytes are a journal with this header and these records, which fill the slots that the header gives.
 pub record Stands (header : Header) (records : List Record) (bytes : List ℕ) : Type 0 where
-  pub whole : length bytes ≡ 128 + 64 * header.capacity
-  pub head : take 128 bytes ≡ encoded_header header
-  pub room : length records ≤ header.capacity
-  pub kept : (k : ℕ) (r : Record) → slice_get records k ≡ Some r → Holds (slot bytes k) r
-  pub shut : (k : ℕ) → length records ≤ k → k < header.capacity → gate_of bytes k ≢ gate
+  pub head : HasHeader header bytes
+  pub fills : FillsSlots (slots_in header bytes) bytes records
 
 abbrev pub StandsForOne : Type 0
 StandsForOne = (header : Header) (records others : List Record) (bytes : List ℕ) → Stands header records bytes → Stands header others bytes → records ≡ others
@@ -77,61 +101,55 @@ AppendFailed slots next t u =
 
 -- ---- opening
 
--- so many slots are right up to slot k, and slot k isn't
-abbrev pub IsTornOff : ℕ → List ℕ → ℕ → Type 0
-IsTornOff capacity bytes k = (k < capacity) × (length bytes < slot_place k + 64)
+-- slot k isn't wholly there
+abbrev pub IsTornOff : Layout → List ℕ → ℕ → Type 0
+IsTornOff layout bytes k = (k < layout.slots) × (length bytes < slot_place layout k + 64)
 
-abbrev pub IsBeyond : ℕ → List ℕ → ℕ → Type 0
-IsBeyond capacity bytes k = (capacity ≤ k) × (slot_place k < length bytes)
+-- slot k is past the last one, in a file that is too long
+abbrev pub IsBeyond : Layout → List ℕ → ℕ → Type 0
+IsBeyond layout bytes k = (layout.slots ≤ k) × (layout.size < length bytes)
 
-abbrev pub IsUnreadable : List ℕ → ℕ → Type 0
-IsUnreadable bytes k = (gate_of bytes k ≡ gate) × ((r : Record) → Holds (slot bytes k) r → ⊥)
+abbrev pub IsUnreadable : Layout → List ℕ → ℕ → Type 0
+IsUnreadable layout bytes k = (gate_of layout bytes k ≡ gate) × ((r : Record) → Holds (slot layout bytes k) r → ⊥)
 
-abbrev pub IsBehindClosed : List ℕ → ℕ → Type 0
-IsBehindClosed bytes k = (gate_of bytes k ≡ gate) × ((j : ℕ) × (j < k) × (gate_of bytes j ≢ gate))
+abbrev pub IsBehindClosed : Layout → List ℕ → ℕ → Type 0
+IsBehindClosed layout bytes k = (gate_of layout bytes k ≡ gate) × ((j : ℕ) × (j < k) × (gate_of layout bytes j ≢ gate))
 
 -- Slot k isn't wholly there, or is past the capacity, or is open and no record, or is open behind a closed one.
-abbrev pub IsDamaged : ℕ → List ℕ → ℕ → Type 0
-IsDamaged capacity bytes k = IsTornOff capacity bytes k ⊎ (IsBeyond capacity bytes k ⊎ (IsUnreadable bytes k ⊎ IsBehindClosed bytes k))
-
--- Each slot up to its capacity is right: records in turn, and behind them closed slots.
-pub record FillsSlots (capacity : ℕ) (bytes : List ℕ) (records : List Record) : Type 0 where
-  pub whole : length bytes ≡ 128 + 64 * capacity
-  pub room : length records ≤ capacity
-  pub kept : (k : ℕ) (r : Record) → slice_get records k ≡ Some r → Holds (slot bytes k) r
-  pub shut : (k : ℕ) → length records ≤ k → k < capacity → gate_of bytes k ≢ gate
+abbrev pub IsDamaged : Layout → List ℕ → ℕ → Type 0
+IsDamaged layout bytes k = IsTornOff layout bytes k ⊎ (IsBeyond layout bytes k ⊎ (IsUnreadable layout bytes k ⊎ IsBehindClosed layout bytes k))
 
 -- The slots below k were read: records in turn, and behind them closed slots.
-pub record Scanned (bytes : List ℕ) (k : ℕ) (records : List Record) : Type 0 where
-  pub within : slot_place k ≤ length bytes
+pub record Scanned (layout : Layout) (bytes : List ℕ) (k : ℕ) (records : List Record) : Type 0 where
+  pub within : slot_place layout k ≤ length bytes
   pub counted : length records ≤ k
-  pub kept : (j : ℕ) (r : Record) → slice_get records j ≡ Some r → Holds (slot bytes j) r
-  pub shut : (j : ℕ) → length records ≤ j → j < k → gate_of bytes j ≢ gate
+  pub kept : (j : ℕ) (r : Record) → slice_get records j ≡ Some r → Holds (slot layout bytes j) r
+  pub shut : (j : ℕ) → length records ≤ j → j < k → gate_of layout bytes j ≢ gate
 
 -- the least slot that is damaged
-pub record IsFirstDamaged (capacity : ℕ) (bytes : List ℕ) (k : ℕ) : Type 0 where
-  pub damaged : IsDamaged capacity bytes k
-  pub first : (j : ℕ) → j < k → IsDamaged capacity bytes j → ⊥
+pub record IsFirstDamaged (layout : Layout) (bytes : List ℕ) (k : ℕ) : Type 0 where
+  pub damaged : IsDamaged layout bytes k
+  pub first : (j : ℕ) → j < k → IsDamaged layout bytes j → ⊥
 
 -- why these slots weren't read
-abbrev pub IsSlotFault : ℕ → List ℕ → OpenFault → Type 0
-IsSlotFault capacity bytes (Damaged k) = IsFirstDamaged capacity bytes k
-IsSlotFault capacity bytes (NotInitialised n) = ⊥
-IsSlotFault capacity bytes (Changed kept found) = ⊥
-IsSlotFault capacity bytes _ = ⊤
+abbrev pub IsSlotFault : Layout → List ℕ → OpenFault → Type 0
+IsSlotFault layout bytes (Damaged k) = IsFirstDamaged layout bytes k
+IsSlotFault layout bytes (NotInitialised n) = ⊥
+IsSlotFault layout bytes (Changed kept found) = ⊥
+IsSlotFault layout bytes _ = ⊤
 
-abbrev pub SlotsRead : ℕ → List ℕ → Result (Vec Record Global) OpenFault → Type 0
-SlotsRead capacity bytes (Ok records) = FillsSlots capacity bytes records.items
-SlotsRead capacity bytes (Err fault) = IsSlotFault capacity bytes fault
+abbrev pub SlotsRead : Layout → List ℕ → Result (Vec Record Global) OpenFault → Type 0
+SlotsRead layout bytes (Ok records) = FillsSlots layout bytes records.items
+SlotsRead layout bytes (Err fault) = IsSlotFault layout bytes fault
 
 -- what one slot's read gives, where it is wholly there
-abbrev pub SlotRead : List ℕ → ℕ → Bool → Result (Option Record) OpenFault → Type 0
-SlotRead bytes k closed (Ok (Some r)) = Holds (slot bytes k) r × (closed ≡ false)
-SlotRead bytes k closed (Ok None) = gate_of bytes k ≢ gate
-SlotRead bytes k closed (Err (Damaged s)) = (s ≡ k) × (gate_of bytes k ≡ gate) × ((closed ≡ true) ⊎ ((r : Record) → Holds (slot bytes k) r → ⊥))
-SlotRead bytes k closed (Err (NotInitialised n)) = ⊥
-SlotRead bytes k closed (Err (Changed kept found)) = ⊥
-SlotRead bytes k closed (Err _) = ⊤
+abbrev pub SlotRead : Layout → List ℕ → ℕ → Bool → Result (Option Record) OpenFault → Type 0
+SlotRead layout bytes k closed (Ok (Some r)) = Holds (slot layout bytes k) r × (closed ≡ false)
+SlotRead layout bytes k closed (Ok None) = gate_of layout bytes k ≢ gate
+SlotRead layout bytes k closed (Err (Damaged s)) = (s ≡ k) × (gate_of layout bytes k ≡ gate) × ((closed ≡ true) ⊎ ((r : Record) → Holds (slot layout bytes k) r → ⊥))
+SlotRead layout bytes k closed (Err (NotInitialised n)) = ⊥
+SlotRead layout bytes k closed (Err (Changed kept found)) = ⊥
+SlotRead layout bytes k closed (Err _) = ⊤
 
 -- why a header wasn't the wanted one
 abbrev pub IsHeaderFault : Header → List ℕ → OpenFault → Type 0
@@ -142,14 +160,14 @@ IsHeaderFault header bytes (Damaged k) = ⊥
 IsHeaderFault header bytes _ = ⊤
 
 abbrev pub HeaderRead : Header → List ℕ → Result ℕ OpenFault → Type 0
-HeaderRead header bytes (Ok n) = (n ≡ length bytes) × (128 ≤ length bytes) × (take 128 bytes ≡ encoded_header header)
+HeaderRead header bytes (Ok n) = (n ≡ length bytes) × (128 ≤ length bytes) × HasHeader header bytes
 HeaderRead header bytes (Err fault) = IsHeaderFault header bytes fault
 
 -- Why these bytes weren't opened: the header first, and then the least damaged slot.
 abbrev pub IsOpenFault : Header → List ℕ → OpenFault → Type 0
 IsOpenFault header bytes (NotInitialised n) = IsHeaderFault header bytes (NotInitialised n)
 IsOpenFault header bytes (Changed kept found) = IsHeaderFault header bytes (Changed kept found)
-IsOpenFault header bytes (Damaged k) = (128 ≤ length bytes) × (take 128 bytes ≡ encoded_header header) × IsFirstDamaged header.capacity bytes k
+IsOpenFault header bytes (Damaged k) = (128 ≤ length bytes) × HasHeader header bytes × IsFirstDamaged (slots_in header bytes) bytes k
 IsOpenFault header bytes _ = ⊤
 
 abbrev pub JournalRead : Header → List ℕ → Result (Vec Record Global) OpenFault → Type 0
@@ -171,7 +189,31 @@ abbrev pub TellsSome : (Trace → Type 0) → Option Trace → Type 0
 TellsSome P None = ⊥
 TellsSome P (Some t) = P t
 
--- so many zeros are seen
-pub record IsZeroed (n : ℕ) (t : Trace) : Type 0 where
-  pub long : length (seen_of t) ≡ n
-  pub zeros : (i : ℕ) → slice_index (seen_of t) i ≡ 0
+-- Writes of zeros from the start of a file on, each where the one before it ended: so many bytes. The newest stands first.
+abbrev pub AreZeros : List Step → ℕ → Type 0
+AreZeros [] n = n ≡ 0
+AreZeros (Wrote place bytes ∷ earlier) n = (bytes ≡ replicate (length bytes) 0) × (n ≡ place + length bytes) × AreZeros earlier place
+AreZeros (Synced ∷ earlier) n = ⊥
+
+-- Zeros over the whole, the header without its gate, and the gate: each is stable before the next is written. The newest step stands first.
+abbrev pub MakesJournal : Header → List Step → Type 0
+MakesJournal header steps = (zeros : List Step) × AreZeros zeros (128 + 64 * header.capacity) ×
+    (steps ≡ Synced ∷ Wrote 0 (gate ∷ []) ∷ Synced ∷ Wrote 1 (drop 1 (encoded_header header)) ∷ Synced ∷ zeros)
+
+-- the oldest of these steps, some or none
+abbrev pub AreFirst : List Step → List Step → Type 0
+AreFirst steps first = (later : List Step) × (steps ≡ later ++ first)
+
+-- A beginning of these steps. Its last one, if it is a write, may have written other bytes, at most as many.
+abbrev pub Begins : List Step → List Step → Type 0
+Begins steps [] = ⊤
+Begins steps (Synced ∷ earlier) = AreFirst steps (Synced ∷ earlier)
+Begins steps (Wrote place bytes ∷ earlier) = (whole : List ℕ) × (length bytes ≤ length whole) × AreFirst steps (Wrote place whole ∷ earlier)
+
+-- a beginning of steps that have P
+abbrev pub BeginsSome : (List Step → Type 0) → List Step → Type 0
+BeginsSome P begun = (steps : List Step) × P steps × Begins steps begun
+
+-- from one trace to the other there were these steps, which have P
+abbrev pub AddsSteps : (List Step → Type 0) → Trace → Trace → Type 0
+AddsSteps P t u = (more : List Step) × P more × (u ≡ record { start = t.start; steps = more ++ t.steps })

@@ -1,10 +1,10 @@
 //! Making a journal on an empty disk.
 
-ghost use Rattle.std.specs.Prelude.{◌≡◌, ◌≢◌, ◌+◌, ◌*◌, Some, ℕ, [], ◌<◌, ◌^◌, length, IsErr, IsErrOf, IfErr, OnOk};
+ghost use Rattle.std.specs.Prelude.{◌≡◌, ◌≢◌, ◌+◌, ◌*◌, Some, ℕ, [], ◌<◌, ◌^◌, length, IsErr, IsErrOf, IfErr, OnOk, OnErr};
 ghost use Rattle.fz_outside.specs.Faults.{HasCause};
-ghost use Rattle.outside_disks.specs.Disks.{Trace, seen_of};
+ghost use Rattle.outside_disks.specs.Disks.{Trace, seen_of, WhereTold};
 ghost use Rattle.journal_records.specs.Encoding.{IsHeader};
-ghost use Rattle.budget_journal.specs.Journals.{IsAtRest, IsZeroed, TellsSome};
+ghost use Rattle.budget_journal.specs.Journals.{IsAtRest, AreZeros, MakesJournal, BeginsSome, AddsSteps, TellsSome};
 ghost use Rattle.budget_journal.specs.declared.making.InitFault.TheVariants.{DiskFault, AlreadyThere};
 
 use crate::journal::{Journal, put_stable};
@@ -33,7 +33,8 @@ impl From<Failed> for InitFault {
 // Writes zeros over so many pieces of 64 bytes, on an empty disk.
 fn put_zeros<D: Disk>(disk: &mut D, pieces: u64) -> Result<(), Failed>
     requires { pieces < 2 ^ 33 }
-    ensures zeroed { OnOk result ((t : Trace) → D.trace disk.old ≡ Some t → seen_of t ≡ [] → TellsSome (IsZeroed (64 * pieces)) (D.trace disk.new)) }
+    ensures zeroed { OnOk result (WhereTold (AddsSteps (λ zeros. AreZeros zeros (64 * pieces))) (D.trace disk.old) (D.trace disk.new)) }
+    ensures begun { OnErr result (WhereTold (AddsSteps (BeginsSome (λ zeros. AreZeros zeros (64 * pieces)))) (D.trace disk.old) (D.trace disk.new)) }
     ensures cause { HasCause (D.faults disk.old) (D.faults disk.new) (IsErr result) }
     ensures passed { OnOk result (D.faults disk.new ≡ D.faults disk.old) }
 {
@@ -49,6 +50,9 @@ impl<D: Disk> Journal<D> {
     pub fn init(disk: &mut D, header: &Header) -> Result<(), InitFault>
         requires { IsHeader header.now }
         ensures made { OnOk result ((t : Trace) → D.trace disk.old ≡ Some t → (seen_of t ≡ []) × TellsSome (IsAtRest header.now []) (D.trace disk.new)) }
+        ensures in_turn { OnOk result (WhereTold (AddsSteps (MakesJournal header.now)) (D.trace disk.old) (D.trace disk.new)) }
+        ensures begun { IfErr result (λ fault. fault ≡ DiskFault
+            → WhereTold (AddsSteps (BeginsSome (MakesJournal header.now))) (D.trace disk.old) (D.trace disk.new)) }
         ensures there { IfErr result (λ fault. (n : ℕ) → fault ≡ AlreadyThere n
             → (n ≢ 0) × (D.trace disk.new ≡ D.trace disk.old) × ((t : Trace) → D.trace disk.old ≡ Some t → n ≡ length (seen_of t))) }
         ensures cause { HasCause (D.faults disk.old) (D.faults disk.new) (IsErrOf result DiskFault) }

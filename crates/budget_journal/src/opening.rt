@@ -6,7 +6,7 @@ ghost use Rattle.fz_outside.specs.Faults.{HasCause};
 ghost use Rattle.outside_disks.specs.Disks.{Trace, seen_of, noted, WhereTold};
 ghost use Rattle.outside_disks.specs.Disks.Step.{Synced};
 ghost use Rattle.journal_records.specs.Encoding.{IsValid};
-ghost use Rattle.budget_journal.specs.Journals.{slot_place, Scanned, IsSlotFault, SlotRead, SlotsRead, HeaderRead, JournalRead, Found, IsOpenFault, MayHaveSynced, disk_of, used, is_closed, capacity_of};
+ghost use Rattle.budget_journal.specs.Journals.{one_area, slot_place, Scanned, IsSlotFault, SlotRead, SlotsRead, HeaderRead, JournalRead, Found, IsOpenFault, MayHaveSynced, disk_of, used, is_closed, capacity_of};
 ghost use Rattle.budget_journal.specs.declared.opening.OpenFault.TheVariants.{DiskFault, NoMemory};
 
 use crate::journal::Journal;
@@ -95,8 +95,8 @@ fn read_header<D: Disk>(disk: &mut D, header: &Header) -> Result<u64, OpenFault>
 
 // The record in a slot that was read, if it is open.
 fn judge_slot(slot: u32, bytes: &[u8; 64], closed: bool) -> Result<Option<Record>, OpenFault>
-    ensures judged { (file : List ℕ) → slot_place slot + 64 ≤ length file → bytes.now ≡ take 64 (drop (slot_place slot) file)
-        → SlotRead file slot closed result }
+    ensures judged { (file : List ℕ) (slots : ℕ) → slot_place (one_area slots) slot + 64 ≤ length file → bytes.now ≡ take 64 (drop (slot_place (one_area slots) slot) file)
+        → SlotRead (one_area slots) file slot closed result }
     ensures valid { IfOk result (λ found. IfSome found IsValid) }
     ensures sound { IsErrOf result DiskFault → ⊥ }
 {
@@ -114,7 +114,8 @@ fn judge_slot(slot: u32, bytes: &[u8; 64], closed: bool) -> Result<Option<Record
 
 // Reads a slot that is wholly there.
 fn read_slot<D: Disk>(disk: &mut D, slot: u32, closed: bool) -> Result<Option<Record>, OpenFault>
-    ensures judged { (t : Trace) → D.trace disk.old ≡ Some t → slot_place slot + 64 ≤ length (seen_of t) → SlotRead (seen_of t) slot closed result }
+    ensures judged { (t : Trace) (slots : ℕ) → D.trace disk.old ≡ Some t → slot_place (one_area slots) slot + 64 ≤ length (seen_of t)
+        → SlotRead (one_area slots) (seen_of t) slot closed result }
     ensures valid { IfOk result (λ found. IfSome found IsValid) }
     ensures same { D.trace disk.new ≡ D.trace disk.old }
     ensures cause { HasCause (D.faults disk.old) (D.faults disk.new) (IsErrOf result DiskFault) }
@@ -133,8 +134,8 @@ fn add_slot<D: Disk>(
     records: &mut Vec<Record>,
 ) -> Result<(), OpenFault>
     ensures judged { (t : Trace) (capacity : ℕ) → D.trace disk.old ≡ Some t → size ≡ length (seen_of t) → slot < capacity
-        → Scanned (seen_of t) slot records.old.items
-        → OnOk result (Scanned (seen_of t) (slot + 1) records.new.items) × IfErr result (IsSlotFault capacity (seen_of t)) }
+        → Scanned (one_area capacity) (seen_of t) slot records.old.items
+        → OnOk result (Scanned (one_area capacity) (seen_of t) (slot + 1) records.new.items) × IfErr result (IsSlotFault (one_area capacity) (seen_of t)) }
     ensures bounded { length records.new.items ≤ length records.old.items + 1 }
     ensures valid { All IsValid records.old.items → All IsValid records.new.items }
     ensures same { D.trace disk.new ≡ D.trace disk.old }
@@ -159,7 +160,7 @@ fn read_slots<D: Disk>(
     capacity: u32,
 ) -> Result<Vec<Record>, OpenFault>
     requires { 128 ≤ size }
-    ensures judged { (t : Trace) → D.trace disk.old ≡ Some t → size ≡ length (seen_of t) → SlotsRead capacity (seen_of t) result }
+    ensures judged { (t : Trace) → D.trace disk.old ≡ Some t → size ≡ length (seen_of t) → SlotsRead (one_area capacity) (seen_of t) result }
     ensures bounded { IfOk result (λ records. length records.items ≤ capacity) }
     ensures small { IfOk result (λ records. length records.items < 2 ^ 32) }
     ensures valid { IfOk result (λ records. All IsValid records.items) }

@@ -3,35 +3,38 @@ use Rattle.std.proofs.Common.{◌≡◌, ℕ, ◌++◌, List, [], ◌∷◌, len
 use Rattle.outside_disks.specs.Disks.{Trace}
 use Rattle.journal_records.specs.declared.records.Outcome.TheVariants.{Lost}
 use Rattle.journal_records.specs.declared.records.Record.{Record}
-use Rattle.journal_records.specs.declared.records.Record.TheVariants.{Reserve, Settle}
+use Rattle.journal_records.specs.declared.records.Record.TheVariants.{Reserve}
+use Rattle.journal_records.specs.Records.{settling}
 use Rattle.journal_records.specs.declared.records.Header.{Header}
 use Rattle.budget_journal.specs.Journals.{Stands}
 use Rattle.budget_journal.proofs.One.{stands-one}
 use Rattle.partition_charge.specs.declared.view.View.TheVariants.{Whole}
 use Rattle.partition_charge.specs.Cost.{cost_of_charges, partition_cost}
 use Rattle.budget_core.specs.declared.entry.Ask.{Ask}
+use Rattle.budget_core.specs.declared.entry.ReserveFault.TheVariants.{OverBudget, Full}
 use Rattle.budget_core.specs.Entries.{Entry}
 use Rattle.budget_core.specs.Cost.{cost_of}
 use Rattle.budget_core.specs.Ledger.{Ledger, money_verdict, records_after}
 use Rattle.budget_core.specs.Legal.{MayFollow, IsFirstAstray}
 use Rattle.budget_core.proofs.Histories.{history-nil}
 use Rattle.budget_ledger.specs.Account.{Failure, Storage, Account, IsMoment, Went}
-use Rattle.budget_ledger.specs.Booked.{IsSettlementOf}
+use Rattle.budget_ledger.specs.Booked.{IsReserved, IsSettlementOf}
 use Rattle.budget_ledger.specs.Laws.{LeadTo}
 use Rattle.budget_ledger.specs.declared.book.AppendFault.TheVariants.{Closed, DiskFault}
+use Rattle.budget_ledger.specs.declared.book.BookFault.TheVariants.{Refused, Unwritten}
 
 abbrev lost : Record
-lost = Settle 0 Lost
+lost = settling 0 Lost
 
 abbrev other : Record
-other = Settle 1 Lost
+other = settling 1 Lost
 
 -- an ask of the whole at sensitivity 1, and the reservation that it makes first, for a budget of 20
 abbrev one : Ask
-one = record { analyst = 0; view = Whole; e = 6; p = 1; q = 1; program = [] }
+one = record { analyst = 0; view = Whole; e = 6; p = 1; q = 1; digest = [] }
 
 abbrev left_open : List Record
-left_open = Reserve (record { number = 0; view = Whole; e = 6; p = 1; q = 1; taken = 6; analyst = 0; program = [] }) ∷ []
+left_open = Reserve (record { number = 0; view = Whole; e = 6; p = 1; q = 1; taken = 6; analyst = 0; digest = [] }) ∷ []
 
 abbrev small : Entry
 small = record { budget = 20; capacity = 10; analysts = 1; keys = [] }
@@ -139,3 +142,37 @@ first_records = refl
 grant_behind_the_stop : money_verdict small 1 left_open one ≡ Ok (record { number = 1; taken = 6; seen = 2 })
 unfolding cost_of cost_of_charges partition_cost
 grant_behind_the_stop = refl
+
+-- ---- which refusal of an ask comes first
+
+-- a journal of three records, the first of which is a reservation that a fault left open
+module _ (header : Header) (trace : Option Trace) where
+  abbrev after_a_fault : Option Failure → Account
+  after_a_fault closed = record {
+    ledger = record { entry = record small { capacity = 3 }; found = []; records = left_open };
+    storage = record { header = header; trace = trace; faults = 3; closed = closed };
+  }
+
+  abbrev three_shut : Account
+  three_shut = after_a_fault (Some (record { failed_at = 3; pending = lost }))
+
+  -- the budget and the room are looked at before the book that is closed: the ask would take the cost to 26, and the records to four
+  over_budget_first : IsReserved three_shut (record one { e = 20 }) (Err (Refused (OverBudget 6 26 20 1))) three_shut
+  unfolding cost_of cost_of_charges partition_cost
+  over_budget_first = (refl, refl)
+
+  full_first : IsReserved three_shut one (Err (Refused (Full 1 1 3))) three_shut
+  unfolding cost_of cost_of_charges partition_cost
+  full_first = (refl, refl)
+
+  not_closed_first : (new : Account) → IsReserved three_shut one (Err (Unwritten (Closed 3))) new → ⊥
+  unfolding cost_of cost_of_charges partition_cost
+  not_closed_first new answer = absurd (cc answer.1)
+
+  -- with room for it the ask is refused for the book
+  abbrev four_shut : Account
+  four_shut = record three_shut { ledger = record three_shut.ledger { entry = record small { capacity = 4 } } }
+
+  then_closed : IsReserved four_shut one (Err (Unwritten (Closed 3))) four_shut
+  unfolding cost_of cost_of_charges partition_cost
+  then_closed = (record { number = 1; taken = 6; seen = 2 }, refl, (record { failed_at = 3; pending = lost }, refl, refl, refl))

@@ -8,7 +8,7 @@ use Rattle.journal_records.specs.declared.records.Header.{Header}
 use Rattle.journal_records.proofs.Shapes.{encoded_header-gate}
 use Rattle.budget_journal.specs.declared.opening.OpenFault.{OpenFault}
 use Rattle.budget_journal.specs.declared.opening.OpenFault.TheVariants.{NotInitialised, Changed, Damaged, DiskFault, NoMemory}
-use Rattle.budget_journal.specs.Journals.{slot_place, gate_of, Stands, IsDamaged, IsOpenFault}
+use Rattle.budget_journal.specs.Journals.{slots_in, slot_place, gate_of, Stands, IsDamaged, IsOpenFault}
 use Rattle.budget_journal.proofs.One.{stands-one}
 use Rattle.budget_journal.proofs.Scans.{element, holds-gate}
 use Rattle.budget_core.specs.Entries.{Entry}
@@ -16,28 +16,28 @@ use Rattle.budget_core.specs.Legal.{IsHistory, IsFirstAstray}
 use Rattle.budget_ledger.specs.Opened.{IsBookFault}
 
 module _ (header : Header) (records : List Record) (bytes : List ℕ) (stands : Stands header records bytes) where
-  open_gate : (k : ℕ) → k < length records → gate_of bytes k ≡ gate
-  open_gate k lt = let e = element records k lt in holds-gate bytes k e.0 (stands.kept k e.0 e.1)
+  open_gate : (k : ℕ) → k < length records → gate_of (slots_in header bytes) bytes k ≡ gate
+  open_gate k lt = let e = element records k lt in holds-gate bytes k e.0 (stands.fills.kept k e.0 e.1)
 
-  open_slot : (k : ℕ) → gate_of bytes k ≡ gate → k < length records
+  open_slot : (k : ℕ) → gate_of (slots_in header bytes) bytes k ≡ gate → k < length records
   open_slot k is_open = ⊎_elim (λ within. within) (λ past. absurd (⊎_elim
-      (λ lt. stands.shut k past lt is_open)
-      (λ beyond. let none : slice_index bytes (slot_place k) ≡ 0 = get_or_past bytes (slot_place k) 0 (omega (arith, stands.whole)) in
+      (λ lt. stands.fills.shut k past lt is_open)
+      (λ beyond. let none : slice_index bytes (slot_place (slots_in header bytes) k) ≡ 0 = get_or_past bytes (slot_place (slots_in header bytes) k) 0 (omega (arith, stands.fills.whole)) in
       omega (arith, none, is_open))
       (cases_lt k header.capacity)))
       (cases_lt k (length records))
 
-  none_damaged : (k : ℕ) → IsDamaged header.capacity bytes k → ⊥
-  none_damaged k (inl (lt, short)) = omega (arith, lt, short, stands.whole)
-  none_damaged k (inr (inl (past, long))) = omega (arith, past, long, stands.whole)
-  none_damaged k (inr (inr (inl (is_open, none)))) = let e = element records k (open_slot k is_open) in none e.0 (stands.kept k e.0 e.1)
+  none_damaged : (k : ℕ) → IsDamaged (slots_in header bytes) bytes k → ⊥
+  none_damaged k (inl (lt, short)) = omega (arith, lt, short, stands.fills.whole)
+  none_damaged k (inr (inl (past, long))) = omega (arith, past, long, stands.fills.whole)
+  none_damaged k (inr (inr (inl (is_open, none)))) = let e = element records k (open_slot k is_open) in none e.0 (stands.fills.kept k e.0 e.1)
   none_damaged k (inr (inr (inr (is_open, (j, before, shut))))) = let lt = open_slot k is_open in shut (open_gate j (omega (arith, before, lt)))
 
   head_open : slice_index bytes 0 ≡ gate
   head_open = sym (get_or-take 128 bytes 0 0 (omega arith)) ∙ ap (λ (head : List ℕ). slice_index head 0) stands.head ∙ encoded_header-gate header
 
   journal_stands : (fault : OpenFault) → IsOpenFault header bytes fault → (fault ≡ DiskFault) ⊎ (fault ≡ NoMemory)
-  journal_stands (NotInitialised n) (long, inl short) = absurd (omega (arith, short, stands.whole))
+  journal_stands (NotInitialised n) (long, inl short) = absurd (omega (arith, short, stands.fills.whole))
   journal_stands (NotInitialised n) (long, inr closed) = absurd (closed head_open)
   journal_stands (Changed kept found) (long, is_open, kept_is, found_is, differ) = absurd (differ (kept_is ∙ stands.head ∙ sym found_is))
   journal_stands (Damaged k) (long, head, first) = absurd (none_damaged k first.damaged)

@@ -2,7 +2,7 @@
 use Rattle.std.specs.Prelude.{◌≡◌, ℕ, [], ◌∷◌, ◌++◌, length, Result, Ok, Err, None, Some}
 use Rattle.journal_records.specs.declared.records.Outcome.{Outcome}
 use Rattle.journal_records.specs.declared.records.Record.{Record}
-use Rattle.journal_records.specs.declared.records.Record.TheVariants.{Settle}
+use Rattle.journal_records.specs.Records.{settling}
 use Rattle.budget_core.specs.declared.entry.Ask.{Ask}
 use Rattle.budget_core.specs.declared.entry.Grant.{Grant}
 use Rattle.budget_core.specs.declared.entry.ReserveFault.{ReserveFault}
@@ -44,5 +44,5 @@ IsReserved old ask (Err (Unwritten fault)) new = (grant : Grant) × HasVerdict o
 
 -- A settlement is written, but to a closed book.
 abbrev pub IsSettlementOf : Account → (number : ℕ) → Outcome → Result ℕ AppendFault → Account → Type 0
-IsSettlementOf old number outcome (Ok seen) new = HasGained old (Settle number outcome) new × (seen ≡ length new.ledger.records)
-IsSettlementOf old number outcome (Err fault) new = IsUnwritten old (Settle number outcome) fault new
+IsSettlementOf old number outcome (Ok seen) new = HasGained old (settling number outcome) new × (seen ≡ length new.ledger.records)
+IsSettlementOf old number outcome (Err fault) new = IsUnwritten old (settling number outcome) fault new

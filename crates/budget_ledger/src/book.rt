@@ -20,7 +20,7 @@ use budget_core::answers::{Counts, Left, Recall};
 use budget_core::entry::{Ask, Grant, ReserveFault};
 use budget_core::ledger::Ledger;
 use budget_journal::journal::Journal;
-use journal_records::records::{Header, Outcome, Record};
+use journal_records::records::{Header, Outcome, Record, Settlement};
 use outside_disks::disk::Disk;
 use std::marker::Model;
 
@@ -105,10 +105,11 @@ impl<D: Disk> Book<D> {
             Ok(grant) => grant,
             Err(fault) => return Err(BookFault::Refused(fault)),
         };
-        let next = self.ledger.reservation(ask, &grant);
+        let reservation = self.ledger.reservation(ask, &grant);
+        let next = Record::Reserve(reservation);
         match write_down(&mut self.journal, &mut self.failure, &next) {
             Ok(()) => {
-                self.ledger.reserve(ask, &grant);
+                self.ledger.reserve(&reservation);
                 Ok(grant)
             }
             Err(fault) => Err(BookFault::Unwritten(fault)),
@@ -123,9 +124,10 @@ impl<D: Disk> Book<D> {
         ensures went { Went self.old.ledger.records self.new.ledger.records self.old.storage self.new.storage }
         ensures kept { IsBook self.new }
     {
-        let next = Record::Settle { number, outcome };
+        let settlement = Settlement { number, outcome };
+        let next = Record::Settle(settlement);
         write_down(&mut self.journal, &mut self.failure, &next)?;
-        Ok(self.ledger.settle(number, outcome))
+        Ok(self.ledger.settle(&settlement))
     }
 
     /// What an analyst is told of a number, by the records that were acknowledged.
@@ -151,7 +153,7 @@ impl<D: Disk> Book<D> {
 
     /// The records' cost, within the budget.
     pub fn spent(&self) -> u64
-        ensures spent { result ≡ cost_of self.now.ledger.records }
+        ensures spent { result ≡ cost_of self.now.ledger.entry self.now.ledger.records }
         ensures book { IsBook self.now }
     {
         self.ledger.spent()

@@ -10,7 +10,7 @@ use budget_journal::journal::Journal;
 use budget_journal::opening::OpenFault;
 use budget_ledger::book::{AppendFault, Book, BookFault};
 use journal_records::coding::encode;
-use journal_records::records::{Header, Outcome, Record};
+use journal_records::records::{Header, Outcome, Record, Settlement};
 use outside_disks::disk::Disk;
 use outside_disks::failing::{BlipDisk, FuseDisk};
 use outside_disks::memory::{Limits, MemDisk};
@@ -56,7 +56,7 @@ fn ask<D: Disk>(book: &mut Book<D>) -> Result<Grant, BookFault>
         e: 1_000_000,
         p: 1,
         q: 1,
-        program: [0; 32],
+        digest: [0; 32],
     })
 }
 
@@ -82,10 +82,10 @@ fn used<D: Disk>(alloc: Global, disk: D) -> D {
 fn second_settlement() -> Record
     ensures { IsValid result }
 {
-    Record::Settle {
+    Record::Settle(Settlement {
         number: 0,
         outcome: Outcome::Lost,
-    }
+    })
 }
 
 const GRANT: Grant = Grant {

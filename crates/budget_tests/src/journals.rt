@@ -6,7 +6,7 @@ ghost use Rattle.journal_records.specs.Encoding.{IsHeader, IsValid};
 use budget_journal::journal::{DiskFault, Journal};
 use budget_journal::making::InitFault;
 use budget_journal::opening::OpenFault;
-use journal_records::records::{Header, Outcome, Record};
+use journal_records::records::{Header, Outcome, Record, Settlement};
 use outside_disks::disk::Disk;
 use outside_disks::failing::BlipDisk;
 use outside_disks::memory::{Limits, MemDisk};
@@ -33,10 +33,10 @@ fn header_of(digest: u8) -> Header
 fn settlement(number: u32) -> Record
     ensures { IsValid result }
 {
-    Record::Settle {
+    Record::Settle(Settlement {
         number,
         outcome: Outcome::Exhausted,
-    }
+    })
 }
 
 /// What an opening answers: how many records, or why none.

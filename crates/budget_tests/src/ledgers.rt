@@ -27,7 +27,7 @@ const ASK: Ask = Ask {
     e: 1,
     p: 1,
     q: 1,
-    program: [9; 32],
+    digest: [9; 32],
 };
 
 // A budget of 10, room for 6 records, two analysts, and a partition with two keys.
@@ -149,7 +149,7 @@ fn first_reservation(alloc: Global) -> Option<Record>
         return None;
     }
     let grant = ledger.verdict(&FIRST_ASK).ok()?;
-    Some(ledger.reservation(&FIRST_ASK, &grant))
+    Some(Record::Reserve(ledger.reservation(&FIRST_ASK, &grant)))
 }
 
 #[test]

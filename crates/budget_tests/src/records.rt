@@ -2,7 +2,7 @@
 
 use journal_records::coding::{encode, encode_header};
 use journal_records::decoding::{decode, decode_header};
-use journal_records::records::{Header, Outcome, Record, Reservation};
+use journal_records::records::{Header, Outcome, Record, Reservation, Settlement};
 use partition_charge::view::View;
 
 const FIRST: Reservation = Reservation {
@@ -13,7 +13,7 @@ const FIRST: Reservation = Reservation {
     q: 1,
     taken: 1_000_000,
     analyst: 0,
-    program: [9; 32],
+    digest: [9; 32],
 };
 
 fn encoding(record_in: &Record) -> [u8; 64] {
@@ -58,10 +58,10 @@ fn a_reservation(rt: HostRuntime) {
 
 #[test]
 fn a_settlement(rt: HostRuntime) {
-    let settled = Record::Settle {
+    let settled = Record::Settle(Settlement {
         number: 0,
         outcome: Outcome::Answered(5),
-    };
+    });
     let bytes = encoding(&settled);
     assert!(rt; bytes.starts_with(b"\xA5\x02\x01\x00\0\0\0\0\0\0\0\0\0\0\0\x05"));
     assert!(rt; decode(&bytes) == Some(settled));

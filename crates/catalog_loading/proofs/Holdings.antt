@@ -5,7 +5,7 @@ use Rattle.std.proofs.lemmas.Option.{slice_get-get_or}
 use Rattle.owner_catalog.specs.Catalog.{Catalog, IsCatalog, owner_signature}
 use Rattle.owner_catalog.specs.Entries.{owner_entry_at}
 use Rattle.part_views.specs.Holding.{Holding, IsHolding}
-use Rattle.session_core.specs.House.{IsRegister, register_with}
+use Rattle.owner_house.specs.House.{IsRegister, register_with}
 use Rattle.catalog_loading.specs.Files.{Contents}
 use Rattle.catalog_loading.specs.Steps.{one_by_one}
 use Rattle.catalog_loading.specs.Loaded.{IsLoading, LoadedOwner, holding_in, loading_with, owner_read}

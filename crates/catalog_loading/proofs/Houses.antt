@@ -3,7 +3,7 @@ use Rattle.std.proofs.Common.{◌≡◌, ℕ, List, ◌++◌, Option, refl, sym,
 use Rattle.std.specs.Prelude.{Result, Ok, Err}
 use Rattle.catalog_loading.specs.Files.{Contents, ReadsToCome}
 use Rattle.catalog_loading.specs.Steps.{StepOutcome, FileStep, ◌>>=◌, behind, continued, done}
-use Rattle.catalog_loading.specs.Loaded.{Loading, catalog_read, house_read, key_read, loaded, with_house}
+use Rattle.catalog_loading.specs.Loaded.{KeyedHouse, Loading, catalog_read, house_read, key_read, keyed, loaded, with_house}
 use Rattle.catalog_loading.specs.Given.{IsStopAt}
 use Rattle.catalog_loading.specs.declared.stops.Stop.{Stop}
 use Rattle.catalog_loading.specs.declared.stops.Stop.TheVariants.{Usage, Refused, Journal, Disk, Fault, NoMemory}
@@ -27,20 +27,20 @@ then_valued {A} f step next other same reads = here (step reads).given
     here (Err name) = refl
 
 house_valued : {A : Type 0} (work : Loading → List ℕ → A) (catalog key : List ℕ) (reads : ReadsToCome)
-    → with_house work catalog key reads ≡ valued (λ (p : Loading × List ℕ). work p.0 p.1) (house_read catalog key reads)
+    → with_house work catalog key reads ≡ valued (λ (h : KeyedHouse). work h.loading h.key) (house_read catalog key reads)
 house_valued {A} work catalog key reads =
-    let f : Loading × List ℕ → A = λ p. work p.0 p.1 in
-    then_valued f (catalog_read catalog) (λ house. key_read key >>= (λ bytes. loaded house >>= (λ loading. done (loading, bytes))))
+    let f : KeyedHouse → A = λ h. work h.loading h.key in
+    then_valued f (catalog_read catalog) (λ house. key_read key >>= (λ bytes. loaded house >>= (λ loading. done (keyed loading bytes))))
     (λ house. key_read key >>= (λ bytes. loaded house >>= (λ loading. done (work loading bytes))))
-    (λ house. then_valued f (key_read key) (λ bytes. loaded house >>= (λ loading. done (loading, bytes))) (λ bytes. loaded house >>= (λ loading. done (work loading bytes)))
-    (λ bytes. then_valued f (loaded house) (λ loading. done (loading, bytes)) (λ loading. done (work loading bytes)) (λ loading rest. refl))) reads
+    (λ house. then_valued f (key_read key) (λ bytes. loaded house >>= (λ loading. done (keyed loading bytes))) (λ bytes. loaded house >>= (λ loading. done (work loading bytes)))
+    (λ bytes. then_valued f (loaded house) (λ loading. done (keyed loading bytes)) (λ loading. done (work loading bytes)) (λ loading rest. refl))) reads
 
 -- what was read of a house is what is read for any work
-pub house_done : {A : Type 0} (held : Option Contents) (old new : List (List ℕ)) (work : Loading → List ℕ → A) (catalog key : List ℕ) (loading : Loading) (bytes : List ℕ)
-    → IsDone held old new (house_read catalog key) (loading, bytes) → IsDone held old new (with_house work catalog key) (work loading bytes)
-house_done {A} held old new work catalog key loading bytes is = λ rest told.
+pub house_done : {A : Type 0} (held : Option Contents) (old new : List (List ℕ)) (work : Loading → List ℕ → A) (catalog key : List ℕ) (house : KeyedHouse)
+    → IsDone held old new (house_read catalog key) house → IsDone held old new (with_house work catalog key) (work house.loading house.key)
+house_done {A} held old new work catalog key house is = λ rest told.
     let one = is rest told in
-    let f : Loading × List ℕ → A = λ p. work p.0 p.1 in
+    let f : KeyedHouse → A = λ h. work h.loading h.key in
     let same = house_valued work catalog key one.0 in (
       one.0,
       one.1,
@@ -64,7 +64,7 @@ pub house_stopped : {A : Type 0} (held : Option Contents) (old new : List (List 
     → IsStopped held old new (house_read catalog key) stop → IsStopped held old new (with_house work catalog key) stop
 house_stopped {A} held old new work catalog key stop is = λ rest told.
     let one = is rest told in
-    let f : Loading × List ℕ → A = λ p. work p.0 p.1 in (
+    let f : KeyedHouse → A = λ h. work h.loading h.key in (
       one.0,
       one.1,
       subst (λ (o : StepOutcome A). IsStopAt o old new stop) (sym (house_valued work catalog key one.0)) (valued_stop f (house_read catalog key one.0) old new stop one.2),

@@ -9,3 +9,4 @@ pub mod Hashes
 pub mod Fits
 pub mod Houses
 pub mod ExamplesOfFit
+mod ExamplesOfFiles

@@ -15,13 +15,12 @@ use Rattle.owner_catalog.specs.Catalog.{Catalog, OwnerEntry, TableEntry, IsCatal
 use Rattle.owner_catalog.specs.Entries.{table_type_of}
 use Rattle.owner_catalog.specs.Lawful.{IsOwner, IsTableEntry}
 use Rattle.owner_catalog.proofs.Laws.{every_catalog_keeps_the_rules}
-use Rattle.answer_path.specs.Judgement.{AreNames}
+use Rattle.owner_house.specs.Names.{AreNames}
 use Rattle.part_views.specs.Holding.{Holding}
 use Rattle.part_views.proofs.Lawful.{owner_partitions}
-use Rattle.session_core.proofs.Signed.{signature_signed}
-use Rattle.session_core.specs.House.{IsHeldBy}
-use Rattle.session_core.proofs.Names.{sayable}
-use Rattle.session_core.proofs.Signed.{table_named}
+use Rattle.owner_house.proofs.Signed.{signature_signed, table_named}
+use Rattle.owner_house.specs.House.{IsHeldBy}
+use Rattle.owner_house.proofs.Names.{sayable}
 use Rattle.catalog_loading.specs.Files.{ReadsToCome}
 use Rattle.catalog_loading.specs.Steps.{◌>>=◌, done, one_by_one, file_read, from}
 use Rattle.catalog_loading.specs.Loaded.{LoadedOwner, LoadedTable, Loading, catalog_read, loaded, loading_with, or_refused, owner_read, owner_with, table_read, table_with, IsLoading}

@@ -4,7 +4,7 @@ use Rattle.std.specs.Prelude.{Vec, map, ◌≡◌, ℕ, List, ◌++◌, Option, 
 use Rattle.metric_values.specs.Tables.{Dataset}
 use Rattle.owner_catalog.specs.Entries.{Catalog, OwnerEntry, owner_entry_at, owner_signature}
 use Rattle.part_views.specs.Holding.{Holding}
-use Rattle.session_core.specs.House.{Register, register_with}
+use Rattle.owner_house.specs.House.{Register, register_with}
 use Rattle.fz_outside.specs.declared.FileFault.{FileFault}
 use Rattle.fz_outside.specs.declared.FileFault.TheVariants.{Failed, NoMemory as NoneToRead}
 use Rattle.catalog_loading.specs.Files.{Contents, ReadsToCome, AreTold}

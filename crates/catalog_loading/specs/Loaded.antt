@@ -9,7 +9,7 @@ use Rattle.owner_catalog.specs.Catalog.{Catalog, OwnerEntry, TableEntry, catalog
 use Rattle.owner_catalog.specs.Digest.{digest_of}
 use Rattle.owner_catalog.specs.Entries.{owner_entry_at}
 use Rattle.part_views.specs.Holding.{Holding}
-use Rattle.session_core.specs.House.{Register, IsRegister, entry_of}
+use Rattle.owner_house.specs.House.{Register, IsRegister, entry_of}
 use Rattle.catalog_loading.specs.Steps.{FileStep, ◌>>=◌, done, one_by_one, file_read, from}
 
 -- this name is refused, where something is wrong
@@ -88,15 +88,27 @@ with_house work catalog key = do
   loading ← loaded house
   done (work loading bytes)
 
--- a house, with the key of its draws
-abbrev pub house_read : (catalog key : List ℕ) → FileStep (Loading × List ℕ)
-house_read = with_house (λ loading key. (loading, key))
+-- a house that was loaded, and the key of its draws
+pub record KeyedHouse : Type 0 where
+  pub loading : Loading
+  pub key : List ℕ
+
+abbrev pub keyed : Loading → (key : List ℕ) → KeyedHouse
+keyed loading key = record { loading = loading; key = key }
+
+abbrev pub house_read : (catalog key : List ℕ) → FileStep KeyedHouse
+house_read = with_house keyed
 
 -- what may be loaded: a register, and the SHA-256 of each of an owner's tables
 pub record IsLoading (loading : Loading) : Type 0 where
   pub register : IsRegister loading.register
   pub hashed : (o : ℕ) → o < length loading.register.catalog.owners
       → length (get_or loading.hashes o []) ≡ length (owner_entry_at loading.register.catalog o).tables
+
+-- a house that may be opened, under a key of 32 bytes
+pub record IsKeyedHouse (house : KeyedHouse) : Type 0 where
+  pub lawful : IsLoading house.loading
+  pub whole_key : length house.key ≡ 32
 
 -- how many owners there are, and what is known of each by its number
 abbrev pub owners_in : Loading → ℕ

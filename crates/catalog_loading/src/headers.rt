@@ -4,9 +4,7 @@ ghost use Rattle.std.specs.Prelude.{◌≡◌, ◌<◌, ◌≤◌, ℕ, get_or, 
 ghost use Rattle.std.specs.List.{All};
 ghost use Rattle.journal_records.specs.Encoding.{IsHeader};
 ghost use Rattle.journal_records.specs.declared.records.Header.{Header as HeaderModel};
-ghost use Rattle.catalog_loading.specs.Loaded.{IsLoading, header_of};
-ghost use Rattle.catalog_loading.specs.Loaded.{owners_in};
-ghost use Rattle.catalog_loading.specs.Given.{loading_by};
+ghost use Rattle.catalog_loading.specs.Loaded.{IsKeyedHouse, header_of, owners_in};
 
 use crate::opening::Opened;
 use crate::stops::Stop;
@@ -16,15 +14,14 @@ use std::alloc::Global;
 
 /// The header of an owner's journal.
 fn header_for(opened: &Opened, owner: u32) -> Result<Header, Stop>
-    requires loaded { IsLoading (loading_by opened.now.house opened.now.hashes.items) }
-    requires owner { owner < owners_in (loading_by opened.now.house opened.now.hashes.items) }
-    ensures header { IfOk result (λ header. header ≡ header_of (loading_by opened.now.house opened.now.hashes.items) opened.now.key owner) }
+    requires { owner < owners_in opened.now.loading }
+    ensures header { IfOk result (λ header. header ≡ header_of opened.now.loading opened.now.key owner) }
     ensures valid { IfOk result IsHeader }
     ensures memory { IfErr result (λ stop. stop ≡ Stop.NoMemory) }
 {
-    let catalog = opened.house.catalog();
-    let hashes = &opened.hashes[owner as usize];
-    let digest = digest(catalog, owner, &opened.key, hashes)?;
+    let catalog = opened.catalog();
+    let key = opened.key();
+    let digest = digest(catalog, owner, &key, opened.hashes(owner))?;
     Ok(Header {
         owner,
         budget: catalog.budget(owner),
@@ -35,16 +32,16 @@ fn header_for(opened: &Opened, owner: u32) -> Result<Header, Stop>
 
 /// The header of each owner's journal, in order.
 pub fn headers_of(alloc: Global, opened: &Opened) -> Result<Vec<Header>, Stop>
-    requires { IsLoading (loading_by opened.now.house opened.now.hashes.items) }
-    ensures count { IfOk result (λ headers. length headers.items ≡ owners_in (loading_by opened.now.house opened.now.hashes.items)) }
+    ensures count { IfOk result (λ headers. length headers.items ≡ owners_in opened.now.loading) }
     ensures few { IfOk result (λ headers. length headers.items ≤ 16) }
-    ensures headers { IfOk result (λ headers. (o : ℕ) (d : HeaderModel) → o < owners_in (loading_by opened.now.house opened.now.hashes.items) →
-        get_or headers.items o d ≡ header_of (loading_by opened.now.house opened.now.hashes.items) opened.now.key o) }
+    ensures headers { IfOk result (λ headers. (o : ℕ) (d : HeaderModel) → o < owners_in opened.now.loading →
+        get_or headers.items o d ≡ header_of opened.now.loading opened.now.key o) }
     ensures valid { IfOk result (λ headers. All IsHeader headers.items) }
     ensures memory { IfErr result (λ stop. stop ≡ Stop.NoMemory) }
+    ensures lawful { IsKeyedHouse opened.now }
 {
     let mut headers = Vec::new(alloc);
-    for owner in 0..opened.house.catalog().owners() as u32 {
+    for owner in 0..opened.catalog().owners() as u32 {
         let header = header_for(opened, owner)?;
         headers.push(header)?;
     }

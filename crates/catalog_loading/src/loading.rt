@@ -4,7 +4,7 @@ ghost use Rattle.std.specs.Prelude.{◌≡◌, ◌<◌, ℕ, List, length, IfOk,
 ghost use Rattle.sha2.specs.Sha256.{sha256};
 ghost use Rattle.fz_outside.specs.Faults.{HasCause};
 ghost use Rattle.table_store.specs.Table.{table_in_file};
-ghost use Rattle.answer_path.specs.Judgement.{AreNames};
+ghost use Rattle.owner_house.specs.Names.{AreNames};
 ghost use Rattle.owner_catalog.specs.Catalog.{IsCatalog, catalog_in_file, owner_signature};
 ghost use Rattle.owner_catalog.specs.Entries.{owner_entry_at, table_entry_at};
 ghost use Rattle.catalog_loading.specs.Steps.{one_by_one};

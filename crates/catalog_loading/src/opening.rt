@@ -1,24 +1,75 @@
 //! A house is opened: a catalog, a key, and the tables of all owners.
 
-ghost use Rattle.std.specs.Prelude.{◌≡◌, ℕ, List, IfOk, IsErrOf, MatchResult, OnOk};
+ghost use Rattle.std.specs.Prelude.{◌≡◌, ◌<◌, [], get_or, length, IsErrOf, MatchResult, OnOk};
+ghost use Rattle.owner_catalog.specs.Entries.{owner_entry_at};
 ghost use Rattle.fz_outside.specs.Faults.{HasCause};
-ghost use Rattle.catalog_loading.specs.Loaded.{IsLoading, entry_named, house_read};
-ghost use Rattle.catalog_loading.specs.Given.{IsOwnerAt, IsRefusedBy, IsStep, loading_by};
+ghost use Rattle.catalog_loading.specs.Loaded.{IsKeyedHouse, entry_named, house_read, owners_in};
+ghost use Rattle.catalog_loading.specs.Given.{IsOwnerAt, IsRefusedBy, IsStep};
 
 use crate::loading::{load_all, open_catalog};
 use crate::reading::read_key;
 use crate::stops::Stop;
 use fz_outside::files::Files;
 use owner_catalog::Catalog;
-use session_core::house::House;
+use owner_house::house::House;
 use std::alloc::Global;
+use std::marker::Model;
 
 /// A house with the SHA-256 of its owners' table files and the key of its draws.
 #[derive(Drop)]
 pub struct Opened {
-    pub house: House,
-    pub hashes: Vec<Vec<[u8; 32]>>,
-    pub key: [u8; 32],
+    house: House,
+    hashes: Vec<Vec<[u8; 32]>>,
+    key: [u8; 32],
+}
+
+impl Model for Opened {
+    ghost use Rattle.std.specs.Coded.{codes};
+    ghost use Rattle.part_views.specs.Holding.{holding_code};
+    ghost use Rattle.catalog_loading.specs.Loaded.{IsKeyedHouse, KeyedHouse, keyed};
+    ghost use Rattle.catalog_loading.specs.Given.{loading_by};
+
+    ghost Value = { KeyedHouse };
+
+    ghost coded = { Prim.hlevel (codes, holding_code) };
+
+    ghost view = { λ o. keyed (loading_by o.house o.hashes.items) o.key };
+
+    ghost invariant = { λ o. IsKeyedHouse (keyed (loading_by o.house o.hashes.items) o.key) };
+}
+
+impl Opened {
+    /// The house.
+    pub fn house(&self) -> &House
+        ensures house { result.now ≡ self.now.loading.register }
+        ensures lawful { IsKeyedHouse self.now }
+    {
+        &self.house
+    }
+
+    /// The house's catalog.
+    pub fn catalog(&self) -> &Catalog
+        ensures catalog { result.now ≡ self.now.loading.register.catalog }
+        ensures lawful { IsKeyedHouse self.now }
+    {
+        self.house.catalog()
+    }
+
+    /// The SHA-256 of each of an owner's table files, in order.
+    pub(crate) fn hashes(&self, owner: u32) -> &[[u8; 32]]
+        requires { owner < owners_in self.now.loading }
+        ensures hashes { result.now ≡ get_or self.now.loading.hashes owner [] }
+        ensures counted { length result.now ≡ length (owner_entry_at self.now.loading.register.catalog owner).tables }
+    {
+        &self.hashes[owner as usize]
+    }
+
+    /// The key of the house's draws.
+    pub fn key(&self) -> [u8; 32]
+        ensures { result ≡ self.now.key }
+    {
+        self.key
+    }
 }
 
 /// Opens a house: its catalog, its key, and then the tables of all owners.
@@ -28,9 +79,7 @@ pub fn open_house<F: Files>(
     catalog: &str,
     key: &str,
 ) -> Result<Opened, Stop>
-    ensures step { IsStep (F.held files.old) (F.names files.old) (F.names files.new) (house_read catalog.now key.now)
-        (λ opened. (loading_by opened.house opened.hashes.items, opened.key)) result }
-    ensures loading { IfOk result (λ opened. IsLoading (loading_by opened.house opened.hashes.items)) }
+    ensures step { IsStep (F.held files.old) (F.names files.old) (F.names files.new) (house_read catalog.now key.now) (λ opened. opened) result }
     ensures same { F.held files.new ≡ F.held files.old }
     ensures cause { HasCause (F.faults files.old) (F.faults files.new) (IsErrOf result Stop.Fault) }
     ensures passed { OnOk result (F.faults files.new ≡ F.faults files.old) }

@@ -2,7 +2,7 @@
 
 use crate::commands::{RUN, ends, refuses};
 use fz_outside::files::MemFile;
-use memory_runs::{AGE, KEY, TABLE, TableText, file, owner_text};
+use memory_runs::{AGE, CATALOG, KEY, TABLE, TableText, file, joined, owner_text};
 use query_server::Status;
 use std::alloc::{AllocError, Global};
 use std::test::Fail;
@@ -129,5 +129,25 @@ fn last_of_all(rt: HostRuntime) -> Result<(), Fail> {
     let catalog = catalog_of(alloc, 64, 16, 8)?;
     let held = files_of(&catalog, "key", &KEY);
     assert!(rt; ends(alloc, &RUN, &held, SCRIPT, Status::Done, REPLIES)?);
+    Ok(())
+}
+
+// Whether `check` refuses this table by its name: that it is too long is no want of memory.
+fn is_too_long(alloc: Global, table: &[u8]) -> Result<bool, AllocError> {
+    let held = [
+        file("cat.json", CATALOG),
+        file("people.csv", table),
+        file("program", b"size people"),
+    ];
+    let words = ["check", "cat.json", "census", "program"];
+    refuses(alloc, &words, &held, b"refused people.csv\n")
+}
+
+// A byte more than 2^26. The table would be right.
+#[test]
+fn a_byte_too_many(rt: HostRuntime) -> Result<(), Fail> {
+    let mut table = joined(rt.alloc(), &[(b"age\n", 1)])?;
+    table.resize(67_108_865, b'0')?;
+    assert!(rt; is_too_long(rt.alloc(), &table)?);
     Ok(())
 }

@@ -4,6 +4,11 @@ use owner_catalog::{Catalog, CatalogFault, FaultKind, Place, digest, read};
 use std::alloc::{AllocError, Global};
 use std::test::Fail;
 
+// Words that programs reserve are names of all but tables.
+const RESERVED: &str =
+    "{\"analysts\":[\"fun\"],\"owners\":[{\"name\":\"fun\",\"budget\":1,\"capacity\":2,\"tables\":[{\"name\":\"t\",\"file\":\"f\",\
+    \"columns\":[{\"name\":\"fun\",\"type\":\"text\"}]}],\"partitions\":[{\"name\":\"fun\",\"table\":\"t\",\"column\":\"fun\",\"keys\":[\"fun\"]}]}]}";
+
 const FIRST: &str = "{\"analysts\":[\"ann\"],\"owners\":[";
 
 #[rattlefmt::skip]
@@ -38,6 +43,7 @@ const PARTS: [Part; 7] = [
         ("{\"owners\":0,\"analysts\":[\"ann\",\"bob\",\"ann\"]}", "Double Analyst 0 2 0"),
         ("{\"owners\":0,\"analysts\":[\"ann\"]}", "Kind Owners 0 0 0"),
         ("{\"owners\":[],\"analysts\":[\"ann\"]}", "Count Owners 0 0 0"),
+        (RESERVED, "ok"),
     ], ""),
     // members of the second owner
     (&[FIRST, OWNER, ",{"], &[
@@ -64,6 +70,9 @@ const PARTS: [Part; 7] = [
         ("{\"name\":7,\"columns\":7,\"file\":7,\"z\":7}", "Unknown z Table 1 1 0"),
         ("{\"name\":7,\"columns\":7,\"file\":7}", "Kind TableName 1 1 0"),
         ("{\"name\":\"union\",\"columns\":7,\"file\":7}", "Form TableName 1 1 0"),
+        ("{\"name\":\"do\",\"columns\":7,\"file\":7}", "Form TableName 1 1 0"),
+        ("{\"name\":\"release\",\"columns\":7,\"file\":7}", "Form TableName 1 1 0"),
+        ("{\"name\":\"at\",\"columns\":7,\"file\":7}", "Form TableName 1 1 0"),
         ("{\"name\":\"u\",\"columns\":7,\"file\":7}", "Kind File 1 1 0"),
         ("{\"name\":\"u\",\"columns\":7,\"file\":\"a\\u001fb\"}", "Form File 1 1 0"),
         ("{\"name\":\"u\",\"columns\":7,\"file\":\"g\"}", "Kind Columns 1 1 0"),
@@ -96,6 +105,10 @@ const PARTS: [Part; 7] = [
         ("\"name\":\"r\",\"table\":\"t\",\"column\":\"a\",\"keys\":[]}", "Count Keys 1 1 0"),
         ("\"name\":\"r\",\"table\":\"t\",\"column\":\"a\",\"keys\":[7]}", "Kind Key 1 1 0"),
         ("\"name\":\"r\",\"table\":\"t\",\"column\":\"a\",\"keys\":[\"A\",\"a b\"]}", "Form Key 1 1 1"),
+        ("\"name\":\"r\",\"table\":\"t\",\"column\":\"a\",\"keys\":[\"a\\u001f\"]}", "Form Key 1 1 0"),
+        // bytes count, and not characters: 64 of them, and 66
+        ("\"name\":\"r\",\"table\":\"t\",\"column\":\"a\",\"keys\":[\"A\",\"éééééééééééééééééééééééééééééééé\",7]}", "Kind Key 1 1 2"),
+        ("\"name\":\"r\",\"table\":\"t\",\"column\":\"a\",\"keys\":[\"A\",\"ééééééééééééééééééééééééééééééééé\",7]}", "Form Key 1 1 1"),
         ("\"name\":\"r\",\"table\":\"t\",\"column\":\"a\",\"keys\":[\"A\",\"B\",\"A\"]}", "Double Key 1 1 2"),
         ("\"name\":\"q\",\"table\":\"t\",\"column\":\"a\",\"keys\":[\"A\"]}", "Double Partition 1 1 0"),
     ], "]}]}"),
@@ -230,6 +243,12 @@ fn has_clinic(catalog: &Catalog) -> bool {
     name == "clinic" && numbers == (1_000_000_000_000_000_000, 262_144) && parts == (1, 0)
 }
 
+// The same of the first owner, with digests of 32 bytes 9 and of 32 bytes 8, in this order.
+const DIGEST_OF_TWO: [u8; 32] = [
+    0xb5, 0x24, 0x26, 0xbc, 0x39, 0x6e, 0x8e, 0x16, 0x2c, 0x99, 0x4d, 0x22, 0x80, 0xa0, 0x5f, 0x42,
+    0x21, 0xc1, 0xcc, 0xd2, 0x87, 0x99, 0x24, 0x10, 0xa6, 0x4e, 0x90, 0x64, 0x7e, 0x89, 0x20, 0x9b,
+];
+
 #[test]
 fn calls(rt: HostRuntime) -> Result<(), Fail> {
     let catalog = read(rt.alloc(), CATALOG.as_bytes())?;
@@ -242,5 +261,7 @@ fn calls(rt: HostRuntime) -> Result<(), Fail> {
     assert!(rt; catalog.signature(rt.alloc(), 0)?.len() == 2);
     assert!(rt; catalog.tables(1) == 1);
     assert!(rt; digest(&catalog, 1, &[7; 32], &[[9; 32]])? == DIGEST);
+    assert!(rt; catalog.tables(0) == 2);
+    assert!(rt; digest(&catalog, 0, &[7; 32], &[[9; 32], [8; 32]])? == DIGEST_OF_TWO);
     Ok(())
 }

@@ -18,7 +18,7 @@ type Row = (
 );
 
 #[rattlefmt::skip]
-const FILES: [Row; 19] = [
+const FILES: [Row; 21] = [
     // one byte order mark or two, and ends of lines
     (TOWN, &[(b"\xEF\xBB\xBFtown\nA\n", 1)], b"size people", b"answer 0 3 1000000\n"),
     (TOWN, &[(b"\xEF\xBB\xBF\xEF\xBB\xBFtown\r\nA\r\nB", 1)], b"size people", b"answer 0 4 1000000\n"),
@@ -34,6 +34,9 @@ const FILES: [Row; 19] = [
     // texts of 64 bytes and 65
     (TOWN, &[(b"town\n", 1), (b"x", 64), (b"\n", 1)], b"size people", b"answer 0 3 1000000\n"),
     (TOWN, &[(b"town\n", 1), (b"x", 65), (b"\n", 1)], b"size people", b"refused people.csv\n"),
+    // the same in characters of two bytes
+    (TOWN, &[(b"town\n", 1), (b"\xC3\xA9", 32), (b"\n", 1)], b"size people", b"answer 0 3 1000000\n"),
+    (TOWN, &[(b"town\n", 1), (b"\xC3\xA9", 33), (b"\n", 1)], b"size people", b"refused people.csv\n"),
     // numbers
     (TOWN_AGE, &[(b"town,age\nA,-0\nB,007\n", 1)], b"sum[-9,9] (map (fn (r : text * num) => let (t, n) = r in n) people)", b"answer 0 9 9000000\n"),
     (TOWN_AGE, &[(b"town,age\nA,-1125899906842624\nB,1125899906842624\n", 1)], b"size people", b"answer 0 4 1000000\n"),

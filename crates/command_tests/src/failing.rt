@@ -226,3 +226,38 @@ fn failing_owners(rt: HostRuntime) -> Result<(), Fail> {
     }
     Ok(())
 }
+
+// Which call of a disk with room for three records fails, and what a run writes: opening takes six calls, and then each record four.
+#[rattlefmt::skip]
+static THREE_RECORDS: [(u64, &[u8]); 3] = [
+    (NEVER, b"hello ann\nanswer 0 5 1000000\nno 41 2 0 3\nno 40 1000000 12000000 10000000 2\n"),
+    // the reservation isn't kept: there is room, and the book is closed
+    (6, b"hello ann\nno 52\nno 42 1\nno 40 0 11000000 10000000 0\n"),
+    // the settlement isn't: budget and room are looked at before the book that is closed
+    (10, b"hello ann\nno 52\nno 41 1 1 3\nno 40 1000000 12000000 10000000 1\n"),
+];
+
+const NEVER: u64 = u64::MAX;
+
+#[test]
+fn failing_full_books(rt: HostRuntime) -> Result<(), Fail> {
+    let made = ran_again(rt.alloc(), &[], &["init", "three.json", "key"], b"")?;
+    let script =
+        b"hello ann\nask census 1 size people\nask census 1 size people\nask census 11 size people\n";
+    for (call, wanted) in &THREE_RECORDS {
+        let faults = Faults {
+            first: &[*call],
+            ..NO_FAULTS
+        };
+        let bytes = (made.first.as_slice(), b"".as_slice());
+        let asked = ran_over(
+            rt.alloc(),
+            bytes,
+            &faults,
+            &["run", "three.json", "key"],
+            script,
+        )?;
+        assert!(rt; asked.out.as_slice() == *wanted, "{call}");
+    }
+    Ok(())
+}

@@ -3,6 +3,7 @@
 
 use crate::commands::{AUDIT, INIT, RUN, held};
 use memory_runs::journals::empty_journals;
+use memory_runs::{KEY, TABLE, census_files};
 use query_server::Status;
 use std::alloc::{AllocError, Global};
 use std::test::Fail;
@@ -106,5 +107,20 @@ fn commands_in_a_row(rt: HostRuntime) -> Result<(), Fail> {
         let done = as_wanted(rt.alloc(), steps)?;
         assert!(rt; done == steps.len(), "{done}");
     }
+    Ok(())
+}
+
+// A table's file is known by all of its bytes: without the byte order mark that it had it is another.
+#[test]
+fn mark_taken_off(rt: HostRuntime) -> Result<(), Fail> {
+    let alloc = rt.alloc();
+    let marked = census_files(b"\xEF\xBB\xBFage\n20\n30\n40\n", "key", &KEY);
+    let plain = census_files(TABLE, "key", &KEY);
+    let mut journals = empty_journals(alloc)?;
+    journals.ran(alloc, INIT, &marked, b"")?;
+    let (kept, replies) = journals.ran(alloc, RUN, &marked, ASK)?;
+    let (refused, line) = journals.ran(alloc, RUN, &plain, ASK)?;
+    assert!(rt; kept == Status::Done && replies.starts_with(b"hello ann\nanswer 0 5 1000000\n"));
+    assert!(rt; refused == Status::JournalRefused && line.starts_with(b"journal census changed\n"));
     Ok(())
 }

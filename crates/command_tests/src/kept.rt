@@ -18,6 +18,10 @@ const RESERVED: &[u8; 32] =
 const PROGRAM: &[u8; 32] =
     b"\xf2\x67\x09\xab\xda\xb8\xd6\xd5\xcd\xb6\x6b\x3f\x26\x6f\xfa\x51\xb8\x5c\x79\xd8\x69\x75\x6a\x3c\x88\xf7\x9c\x09\x17\x1f\x1f\x40";
 
+// The SHA-256 of ` size people `, also by Python's hashlib.
+const WITH_BLANKS: &[u8; 32] =
+    b"\xbd\xb6\x12\x6b\xbf\x67\x70\xfd\xbd\x60\xe0\x53\xa6\xce\x41\x93\x1b\xa1\x01\x53\xbb\x59\x83\x84\x46\xd2\x9e\xed\x11\x8b\xfe\x02";
+
 const SETTLED: &[u8; 16] = b"\xA5\x02\x01\0\0\0\0\0\0\0\0\0\0\0\0\x05";
 
 // Pieces put over the bytes of a file, at their places.
@@ -133,21 +137,28 @@ static REFUSED: [Refused; 33] = [
     (6528, &[(256, SETTLED)], b"journal census damaged 2\n"),
 ];
 
+// The file of a journal behind this script.
+fn file_behind(alloc: Global, script: &[u8]) -> Result<Vec<u8>, AllocError> {
+    let made = ran_again(alloc, &[], INIT, b"")?;
+    Ok(ran_again(alloc, &made.first, RUN, script)?.first)
+}
+
 // The file of a journal behind one ask, which is answered.
 fn answered(alloc: Global) -> Result<Vec<u8>, AllocError> {
-    let made = ran_again(alloc, &[], INIT, b"")?;
-    let script = b"hello ann\nask census 1 size people\nbye\n";
-    Ok(ran_again(alloc, &made.first, RUN, script)?.first)
+    file_behind(alloc, b"hello ann\nask census 1 size people\nbye\n")
 }
 
 #[rattlefmt::skip]
 static WRITTEN: [(usize, &[u8]); 5] = [(0, HEADER), (64, DIGEST), (128, RESERVED), (160, PROGRAM), (192, SETTLED)];
 
-// Its bytes are as the format says.
+// Its bytes are as the format says. Blanks at a program's ends are of the program.
 #[test]
 fn written_file(rt: HostRuntime) -> Result<(), Fail> {
     let due = patched(rt.alloc(), &[], 6528, &WRITTEN)?;
     assert!(rt; answered(rt.alloc())?.as_slice() == due.as_slice());
+    let blanks = file_behind(rt.alloc(), b"hello ann\nask census 1  size people \n")?;
+    let due_then = patched(rt.alloc(), &due, 6528, &[(160, WITH_BLANKS)])?;
+    assert!(rt; blanks.as_slice() == due_then.as_slice());
     Ok(())
 }
 

@@ -35,7 +35,7 @@ fn agrees(plain: &[u8], transcript: &[u8]) -> bool {
 type Script<'a> = (&'a [Piece<'a>], &'a [u8]);
 
 #[rattlefmt::skip]
-static SCRIPTS: [Script<'static>; 16] = [
+static SCRIPTS: [Script<'static>; 17] = [
     // one ask
     (&[(b"hello ann\nask census 1 size people\nbye\n", 1)], b"hello ann\nanswer 0 5 1000000\nbye\n"),
     // nothing
@@ -58,6 +58,10 @@ static SCRIPTS: [Script<'static>; 16] = [
     // long programs
     (&[(b"hello ann\nask census 1 ", 1), (b"(", 4097), (b"\nask census 1 ", 1), (b"(", 4096), (b"\nask census 1 ", 1), (b" ", 16001), (b"\n", 1)],
         b"hello ann\nno 20 4096\nno 21 4096\nno 20 16000\n"),
+    // two names that are bound nowhere, terms 66 and 100 deep, token 4,097 behind a space
+    (&[(b"hello ann\nask census 1 y z\nask census 1 1", 1), (b" + 1", 65), (b"\nask census 1 1", 1), (b" + 1", 99),
+        (b"\nask census 1 ", 1), (b"(", 4096), (b" (\n", 1)],
+        b"hello ann\nno 30 unbound 0 1\nno 22 66\nno 22 100\nno 20 4097\n"),
     // epsilons
     (&[(b"hello ann\nask census 0.5 size people\nask census 0.000001 size people\nask census 3 size people\nask census 1000 size people\n", 1)],
         b"hello ann\nanswer 0 7 500000\nanswer 1 1853682 1\nanswer 2 3 3000000\nno 40 3500001 1003500001 10000000 6\n"),
@@ -131,10 +135,10 @@ const LONG: &[Piece<'static>] = &[(b"\n", 16_777_217)];
 
 // Words, the table's file, the key's and the script; how the run ends, and what it writes.
 #[rattlefmt::skip]
-type Ending<'a> = (&'a [&'a str], &'a [u8], &'a [u8], &'a [Piece<'a>], Status, &'a [u8]);
+type Work<'a> = (&'a [&'a str], &'a [u8], &'a [u8], &'a [Piece<'a>], Status, &'a [u8]);
 
 #[rattlefmt::skip]
-static STATUSES: [Ending<'static>; 20] = [
+static STATUSES: [Work<'static>; 20] = [
     (&[], TABLE, &KEY, &[], Status::Usage, b"usage\n"),
     (&["run", "cat.json"], TABLE, &KEY, &[], Status::Usage, b"usage\n"),
     (&["run", "cat.json", "key", "x"], TABLE, &KEY, &[], Status::Usage, b"usage\n"),
@@ -160,7 +164,7 @@ static STATUSES: [Ending<'static>; 20] = [
 ];
 
 // Whether a run ends so, and writes what is wanted.
-fn ends_so(alloc: Global, row: &Ending<'_>) -> Result<bool, AllocError> {
+fn ends_so(alloc: Global, row: &Work<'_>) -> Result<bool, AllocError> {
     let (words, table, key, pieces, status, wanted) = row;
     let script = joined(alloc, pieces)?;
     let held = census_files(table, "key", key);

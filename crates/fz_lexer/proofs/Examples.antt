@@ -1,16 +1,16 @@
 -- The definitions at worked examples, from the written rules of tokens.
-use Rattle.std.proofs.Common.{◌≡◌, ℕ, zero, suc, ◌+◌, List, [], ◌∷◌, ◌++◌, Bool, true, false, cond, refl, arith, inl, length}
+use Rattle.std.proofs.Common.{◌≡◌, ℕ, zero, suc, ◌+◌, ◌<◌, ◌≤◌, List, [], ◌∷◌, ◌++◌, Bool, true, false, cond, refl, arith, ap, sym, ◌∙◌, inl, length, append_assoc, length-append}
 use Rattle.std.specs.Prelude.{codes, not}
 use Rattle.fz_lexer.specs.declared.token.Token.{Token}
 use Rattle.fz_lexer.specs.declared.token.Kind.{Kind}
 use Rattle.fz_lexer.specs.declared.token.Kind.TheVariants.{Name, Number, Text, Reserved, Punctuation}
 use Rattle.fz_lexer.specs.declared.token.Word.TheVariants.{Fun, Fn, Let, In, Case, Of, Inl, Inr, If, Then, Else, Fst, Snd, True, False, Num, Text as TextWord, Unit as UnitWord, Bool as BoolWord, Bag, Inf, Size, Sum, Clip, Least, Greatest, Map, Filter, Split, Union, Do, Release, At}
 use Rattle.fz_lexer.specs.declared.token.Sign.TheVariants.{LeftParenthesis, RightParenthesis, LeftAngle, RightAngle, LeftBracket, RightBracket, Comma, Colon, Is, Bang, Bar, Plus, Minus, Star, Ampersand, Slash, Yields, Arrow, Lollipop, AtMost, EqualTo}
-use Rattle.fz_lexer.specs.declared.token.LexFault.TheVariants.{Bad}
-use Rattle.fz_lexer.specs.Bytes.{is_blank, is_digit, is_letter, is_name_byte, is_text_byte, value_from}
+use Rattle.fz_lexer.specs.declared.token.LexFault.TheVariants.{Bad, TooManyTokens}
+use Rattle.fz_lexer.specs.Bytes.{is_blank, is_digit, is_letter, is_name_byte, is_text_byte, stops, value_from}
 use Rattle.fz_lexer.specs.Words.{spelling}
 use Rattle.fz_lexer.specs.Signs.{mark, may_follow}
-use Rattle.fz_lexer.specs.Tokens.{AreTokens, IsLexed, ExplainsLex}
+use Rattle.fz_lexer.specs.Tokens.{AreTokens, Cut, IsLexed, IsToken, ExplainsLex}
 use Rattle.fz_lexer.proofs.Spellings.{same, find_word, word_with}
 use Rattle.fz_lexer.proofs.Lexing.{word_kind, spells, prefix_of, tokens_from, answer, answer_holds, Answer, Tokens, Refused}
 
@@ -208,3 +208,31 @@ one_byte_too_many w ts b h = omega (arith, b, h.bytes)
 
 refused_at_the_limit : (w : List ℕ) → length w ≡ 16001 → ExplainsLex w (Bad 16000)
 refused_at_the_limit w b = inl (omega (arith, b), refl)
+
+-- Token 4,097 is told by the byte at which it begins: no blank, and with that many bytes before it. Behind 4,096 brackets and a space that is 4097.
+record BeginsAt (w : List ℕ) (place : ℕ) : Type 0 where
+  front : List ℕ
+  rest : List ℕ
+  whole : w ≡ front ++ rest
+  far : place ≡ length front
+  no_blank : stops is_blank rest ≡ true
+
+begins_at : (ts : List Token) (p : ℕ) (w : List ℕ) (q : ℕ) (end : List ℕ) → Cut p w ts q end
+    → (front : List ℕ) × (w ≡ front ++ end) × (q ≡ p + length front) × (stops is_blank end ≡ true)
+begins_at [] p w q end h = (h.0, h.1, h.4, h.3)
+begins_at (t ∷ ts) p w q end h =
+    let on = begins_at ts t.span.to h.2 q end h.8 in (
+      h.0 ++ (h.1 ++ on.0),
+      h.3 ∙ ap (λ x. h.0 ++ (h.1 ++ x)) on.1 ∙ ap (λ x. h.0 ++ x) (sym (append_assoc h.1 on.0 end)) ∙ sym (append_assoc h.0 (h.1 ++ on.0) end),
+      omega (arith, on.2, h.6, h.7, length-append h.0 (h.1 ++ on.0), length-append h.1 on.0),
+      on.3,
+    )
+
+told_by_its_first_byte : (w : List ℕ) (place : ℕ) → ExplainsLex w (TooManyTokens place) → BeginsAt w place
+told_by_its_first_byte w place h =
+    let cut = begins_at h.1 0 w place (h.2 ++ h.3) h.5 in
+    record { front = cut.0; rest = h.2 ++ h.3; whole = cut.1; far = omega (arith, cut.2); no_blank = cut.3 }
+
+behind_a_space : (w : List ℕ) (ts : List Token) (after : List ℕ) → length w ≤ 16000 → length ts ≡ 4096 → Cut 0 w ts 4097 (40 ∷ after)
+    → IsToken (40 ∷ []) after (Punctuation LeftParenthesis) → ExplainsLex w (TooManyTokens 4097)
+behind_a_space w ts after short many cut token = (short, ts, 40 ∷ [], after, Punctuation LeftParenthesis, cut, many, token)

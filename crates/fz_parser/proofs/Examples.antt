@@ -354,3 +354,13 @@ term_64_deep ts e h d = record { term = h; nesting = omega (arith, d) }
 
 term_65_deep : (ts : List Token) (e : Term) → IsTerm ts e → depth e ≡ 65 → ExplainsParse ts (TooNested 65)
 term_65_deep ts e h d = (omega arith, e, h, d)
+
+-- what is told is the depth, however far over the limit it is
+term_66_deep : (ts : List Token) (e : Term) → IsTerm ts e → depth e ≡ 66 → ExplainsParse ts (TooNested 66)
+term_66_deep ts e h d = (omega arith, e, h, d)
+
+term_100_deep : (ts : List Token) (e : Term) → IsTerm ts e → depth e ≡ 100 → ExplainsParse ts (TooNested 100)
+term_100_deep ts e h d = (omega arith, e, h, d)
+
+term_66_deep_is_not_told_65 : (ts : List Token) (e : Term) → ((other : Term) → IsTerm ts other → other ≡ e) → depth e ≡ 66 → ExplainsParse ts (TooNested 65) → ⊥
+term_66_deep_is_not_told_65 ts e one d h = omega (arith, d, h.3, ap depth (one h.1 h.2))

@@ -1,11 +1,12 @@
 -- Encodings, worked out byte by byte.
-use Rattle.std.proofs.Common.{◌≡◌, ◌<◌, pos, negsuc, [], ◌∷◌, ◌++◌, take, drop, replicate, refl, arith}
+use Rattle.std.proofs.Common.{◌≡◌, ◌<◌, ◌==◌, true, false, Some, None, pos, negsuc, [], ◌∷◌, ◌++◌, take, drop, replicate, refl, arith}
 use Rattle.std.specs.Int.{IsGcd}
 use Rattle.std.proofs.lemmas.Nat.Gcd.{IsGcd-from_zero, IsGcd-from_mod, same_from_IsGcd}
 use Rattle.partition_charge.specs.declared.view.View.TheVariants.{Whole, Part}
 use Rattle.journal_records.specs.declared.records.Outcome.TheVariants.{Answered, Exhausted, Lost}
 use Rattle.journal_records.specs.declared.records.Reservation.{Reservation}
-use Rattle.journal_records.specs.declared.records.Record.TheVariants.{Reserve, Settle}
+use Rattle.journal_records.specs.declared.records.Record.TheVariants.{Reserve}
+use Rattle.journal_records.specs.Records.{reservation_in, settlement_in, outcome_in, settling, is_some_and, number_or_zero}
 use Rattle.journal_records.specs.Encoding.{encoded, encoded_header, AreChargeTerms, IsReservation, IsSettlement, IsHeader}
 use Rattle.journal_records.proofs.Shapes.{digest-replicate}
 
@@ -13,14 +14,14 @@ use Rattle.journal_records.proofs.Shapes.{digest-replicate}
 
 -- the first one, of the whole view at epsilon 1 and sensitivity 1
 abbrev first : Reservation
-first = record { number = 0; view = Whole; e = 1000000; p = 1; q = 1; taken = 1000000; analyst = 0; program = replicate 32 9 }
+first = record { number = 0; view = Whole; e = 1000000; p = 1; q = 1; taken = 1000000; analyst = 0; digest = replicate 32 9 }
 
 first_bytes : take 32 (encoded (Reserve first)) ≡
     165 ∷ 1 ∷ 255 ∷ 0 ∷ 0 ∷ 0 ∷ 0 ∷ 0 ∷ 0 ∷ 15 ∷ 66 ∷ 64 ∷ 0 ∷ 0 ∷ 0 ∷ 1 ∷ 0 ∷ 0 ∷ 0 ∷ 1 ∷ 0 ∷ 0 ∷ 0 ∷ 0 ∷ 0 ∷ 15 ∷ 66 ∷ 64 ∷ 0 ∷ 0 ∷ 0 ∷ 0 ∷ []
 first_bytes = refl
 
-first_program : drop 32 (encoded (Reserve first)) ≡ replicate 32 9
-first_program = refl
+first_digest : drop 32 (encoded (Reserve first)) ≡ replicate 32 9
+first_digest = refl
 
 -- each field at its greatest
 abbrev greatest : Reservation
@@ -32,7 +33,7 @@ greatest = record {
   q = 4294967294;
   taken = 18446744073709551615;
   analyst = 65535;
-  program = replicate 32 255;
+  digest = replicate 32 255;
 }
 
 greatest_bytes : encoded (Reserve greatest) ≡
@@ -42,7 +43,7 @@ greatest_bytes = refl
 
 -- bytes in order: each field has its place
 abbrev placed : Reservation
-placed = record { number = 16909060; view = Part 3 4; e = 84281096; p = 9; q = 10; taken = 72623859790382856; analyst = 4386; program = replicate 32 5 }
+placed = record { number = 16909060; view = Part 3 4; e = 84281096; p = 9; q = 10; taken = 72623859790382856; analyst = 4386; digest = replicate 32 5 }
 
 placed_bytes : take 32 (encoded (Reserve placed)) ≡
     165 ∷ 1 ∷ 3 ∷ 4 ∷ 1 ∷ 2 ∷ 3 ∷ 4 ∷ 5 ∷ 6 ∷ 7 ∷ 8 ∷ 0 ∷ 0 ∷ 0 ∷ 9 ∷ 0 ∷ 0 ∷ 0 ∷ 10 ∷ 1 ∷ 2 ∷ 3 ∷ 4 ∷ 5 ∷ 6 ∷ 7 ∷ 8 ∷ 17 ∷ 34 ∷ 0 ∷ 0 ∷ []
@@ -50,25 +51,60 @@ placed_bytes = refl
 
 -- ---- settlements
 
-settled_bytes : encoded (Settle 0 (Answered (pos 5))) ≡ (165 ∷ 2 ∷ 1 ∷ 0 ∷ []) ++ replicate 4 0 ++ (0 ∷ 0 ∷ 0 ∷ 0 ∷ 0 ∷ 0 ∷ 0 ∷ 5 ∷ []) ++ replicate 48 0
+settled_bytes : encoded (settling 0 (Answered (pos 5))) ≡ (165 ∷ 2 ∷ 1 ∷ 0 ∷ []) ++ replicate 4 0 ++ (0 ∷ 0 ∷ 0 ∷ 0 ∷ 0 ∷ 0 ∷ 0 ∷ 5 ∷ []) ++ replicate 48 0
 settled_bytes = refl
 
 -- two's complement
-minus_one : encoded (Settle 1 (Answered (negsuc 0))) ≡ (165 ∷ 2 ∷ 1 ∷ 0 ∷ 0 ∷ 0 ∷ 0 ∷ 1 ∷ []) ++ replicate 8 255 ++ replicate 48 0
+minus_one : encoded (settling 1 (Answered (negsuc 0))) ≡ (165 ∷ 2 ∷ 1 ∷ 0 ∷ 0 ∷ 0 ∷ 0 ∷ 1 ∷ []) ++ replicate 8 255 ++ replicate 48 0
 minus_one = refl
 
-least_answer : encoded (Settle 1 (Answered (negsuc 9223372036854775807))) ≡ (165 ∷ 2 ∷ 1 ∷ 0 ∷ 0 ∷ 0 ∷ 0 ∷ 1 ∷ []) ++ (128 ∷ []) ++ replicate 55 0
+least_answer : encoded (settling 1 (Answered (negsuc 9223372036854775807))) ≡ (165 ∷ 2 ∷ 1 ∷ 0 ∷ 0 ∷ 0 ∷ 0 ∷ 1 ∷ []) ++ (128 ∷ []) ++ replicate 55 0
 least_answer = refl
 
-greatest_answer : encoded (Settle 1 (Answered (pos 9223372036854775807))) ≡
+greatest_answer : encoded (settling 1 (Answered (pos 9223372036854775807))) ≡
     (165 ∷ 2 ∷ 1 ∷ 0 ∷ 0 ∷ 0 ∷ 0 ∷ 1 ∷ []) ++ (127 ∷ []) ++ replicate 7 255 ++ replicate 48 0
 greatest_answer = refl
 
-exhausted_bytes : encoded (Settle 258 Exhausted) ≡ (165 ∷ 2 ∷ 2 ∷ 0 ∷ 0 ∷ 0 ∷ 1 ∷ 2 ∷ []) ++ replicate 56 0
+exhausted_bytes : encoded (settling 258 Exhausted) ≡ (165 ∷ 2 ∷ 2 ∷ 0 ∷ 0 ∷ 0 ∷ 1 ∷ 2 ∷ []) ++ replicate 56 0
 exhausted_bytes = refl
 
-lost_bytes : encoded (Settle 4294967295 Lost) ≡ (165 ∷ 2 ∷ 3 ∷ 0 ∷ []) ++ replicate 4 255 ++ replicate 56 0
+lost_bytes : encoded (settling 4294967295 Lost) ≡ (165 ∷ 2 ∷ 3 ∷ 0 ∷ []) ++ replicate 4 255 ++ replicate 56 0
 lost_bytes = refl
+
+-- ---- what a record is of
+
+reserves_the_first : reservation_in (Reserve first) ≡ Some first
+reserves_the_first = refl
+
+settles_nothing : settlement_in (Reserve first) ≡ None
+settles_nothing = refl
+
+settles_five : settlement_in (settling 5 Lost) ≡ Some (record { number = 5; outcome = Lost })
+settles_five = refl
+
+reserves_nothing : reservation_in (settling 5 Lost) ≡ None
+reserves_nothing = refl
+
+settled_so : outcome_in (settling 5 (Answered (negsuc 0))) ≡ Some (Answered (negsuc 0))
+settled_so = refl
+
+unsettled_so : outcome_in (Reserve first) ≡ None
+unsettled_so = refl
+
+passes : is_some_and (λ n. n == 5) (Some 5) ≡ true
+passes = refl
+
+fails : is_some_and (λ n. n == 5) (Some 4) ≡ false
+fails = refl
+
+nothing_to_pass : is_some_and (λ n. n == 5) None ≡ false
+nothing_to_pass = refl
+
+taken_by_the_first : number_or_zero (λ (r : Reservation). r.taken) (reservation_in (Reserve first)) ≡ 1000000
+taken_by_the_first = refl
+
+taken_by_none : number_or_zero (λ (r : Reservation). r.taken) (reservation_in (settling 5 Lost)) ≡ 0
+taken_by_none = refl
 
 -- ---- headers
 
@@ -132,16 +168,19 @@ no_such_partition valid = let h = valid.viewed.0 in omega (arith, h)
 no_such_analyst : IsReservation (record first { analyst = 65536 }) → ⊥
 no_such_analyst valid = let h = valid.asked in omega (arith, h)
 
-short_digest : IsReservation (record first { program = replicate 31 9 }) → ⊥
+short_digest : IsReservation (record first { digest = replicate 31 9 }) → ⊥
 short_digest valid = let h : 31 ≡ 32 = valid.hashed.0 in omega (arith, h)
 
-no_byte : IsReservation (record first { program = 256 ∷ replicate 31 9 }) → ⊥
+no_byte : IsReservation (record first { digest = 256 ∷ replicate 31 9 }) → ⊥
 no_byte valid = let h : 256 < 256 = valid.hashed.1 0 in omega (arith, h)
 
-least_settled : IsSettlement 4294967295 (Answered (negsuc 9223372036854775807))
+least_settled : IsSettlement (record { number = 4294967295; outcome = Answered (negsuc 9223372036854775807) })
 least_settled = record { numbered = omega arith; settled = omega arith }
 
-too_great_an_answer : IsSettlement 0 (Answered (pos 9223372036854775808)) → ⊥
+too_great_a_settled_number : IsSettlement (record { number = 4294967296; outcome = Lost }) → ⊥
+too_great_a_settled_number valid = let h = valid.numbered in omega (arith, h)
+
+too_great_an_answer : IsSettlement (record { number = 0; outcome = Answered (pos 9223372036854775808) }) → ⊥
 too_great_an_answer valid = let h = valid.settled in omega (arith, h)
 
 full_header : IsHeader (record { owner = 4294967295; budget = 18446744073709551615; capacity = 4294967295; digest = replicate 32 255 })

@@ -58,14 +58,14 @@ record-one (Reserve r) (Reserve s) x y is =
     ∙ from_be_bytes-to_be_bytes_8 s.taken y.charged in
     let i7 : r.analyst ≡ s.analyst = sym (from_be_bytes-to_be_bytes_2 r.analyst x.asked) ∙ ap (λ (b : List ℕ). from_be_bytes w16 (take 2 (drop 28 b))) is
     ∙ from_be_bytes-to_be_bytes_2 s.analyst y.asked in
-    let i8 : r.program ≡ s.program = ap (λ (b : List ℕ). drop 32 b) is in
-    λ i. Reserve (record { number = i1 i; view = i2 i; e = i3 i; p = i4 i; q = i5 i; taken = i6 i; analyst = i7 i; program = i8 i })
-record-one (Settle n o) (Settle n' o') x y is =
-    let i1 : n ≡ n' = sym (from_be_bytes-to_be_bytes_4 n x.numbered) ∙ ap (λ (b : List ℕ). from_be_bytes w32 (take 4 (drop 4 b))) is
-    ∙ from_be_bytes-to_be_bytes_4 n' y.numbered in
-    let i2 : answer_number o ≡ answer_number o' = sym (from_be_bytes-to_be_bytes_8 (answer_number o) (answer-fits o x.settled))
-    ∙ ap (λ (b : List ℕ). from_be_bytes w64 (take 8 (drop 8 b))) is ∙ from_be_bytes-to_be_bytes_8 (answer_number o') (answer-fits o' y.settled) in
-    let i3 = outcome-one o o' x.settled y.settled (ap (λ (b : List ℕ). slice_index b 2) is) i2 in
-    λ i. Settle (i1 i) (i3 i)
-record-one (Reserve r) (Settle n' o') x y is = absurd (kinds _ _ (ap (λ (b : List ℕ). slice_index b 1) is) refl refl)
-record-one (Settle n' o') (Reserve r) x y is = absurd (kinds _ _ (ap (λ (b : List ℕ). slice_index b 1) (sym is)) refl refl)
+    let i8 : r.digest ≡ s.digest = ap (λ (b : List ℕ). drop 32 b) is in
+    λ i. Reserve (record { number = i1 i; view = i2 i; e = i3 i; p = i4 i; q = i5 i; taken = i6 i; analyst = i7 i; digest = i8 i })
+record-one (Settle s) (Settle t) x y is =
+    let i1 : s.number ≡ t.number = sym (from_be_bytes-to_be_bytes_4 s.number x.numbered) ∙ ap (λ (b : List ℕ). from_be_bytes w32 (take 4 (drop 4 b))) is
+    ∙ from_be_bytes-to_be_bytes_4 t.number y.numbered in
+    let i2 : answer_number s.outcome ≡ answer_number t.outcome = sym (from_be_bytes-to_be_bytes_8 (answer_number s.outcome) (answer-fits s.outcome x.settled))
+    ∙ ap (λ (b : List ℕ). from_be_bytes w64 (take 8 (drop 8 b))) is ∙ from_be_bytes-to_be_bytes_8 (answer_number t.outcome) (answer-fits t.outcome y.settled) in
+    let i3 = outcome-one s.outcome t.outcome x.settled y.settled (ap (λ (b : List ℕ). slice_index b 2) is) i2 in
+    λ i. Settle (record { number = i1 i; outcome = i3 i })
+record-one (Reserve r) (Settle s) x y is = absurd (kinds _ _ (ap (λ (b : List ℕ). slice_index b 1) is) refl refl)
+record-one (Settle s) (Reserve r) x y is = absurd (kinds _ _ (ap (λ (b : List ℕ). slice_index b 1) (sym is)) refl refl)

@@ -9,11 +9,11 @@ use Rattle.journal_records.specs.declared.records.Record.TheVariants.{Reserve, S
 
 pub length-encoded : (r : Record) → IsValid r → length (encoded r) ≡ 64
 length-encoded (Reserve r) valid = omega (arith, valid.hashed.0)
-length-encoded (Settle number outcome) valid = refl
+length-encoded (Settle settlement) valid = refl
 
 pub encoded-gate : (r : Record) → slice_index (encoded r) 0 ≡ gate
 encoded-gate (Reserve r) = refl
-encoded-gate (Settle number outcome) = refl
+encoded-gate (Settle settlement) = refl
 
 pub length-encoded_header : (h : Header) → IsHeader h → length (encoded_header h) ≡ 128
 length-encoded_header h valid = omega (arith, valid.digest.0, length-append h.digest (replicate 32 0), length-replicate {A = ℕ} 32 0)

@@ -7,6 +7,7 @@ use Rattle.partition_charge.specs.Views.{IsView}
 use Rattle.journal_records.specs.declared.records.Outcome.{Outcome}
 use Rattle.journal_records.specs.declared.records.Outcome.TheVariants.{Answered, Exhausted, Lost}
 use Rattle.journal_records.specs.declared.records.Reservation.{Reservation}
+use Rattle.journal_records.specs.declared.records.Settlement.{Settlement}
 use Rattle.journal_records.specs.declared.records.Record.{Record}
 use Rattle.journal_records.specs.declared.records.Record.TheVariants.{Reserve, Settle}
 use Rattle.journal_records.specs.declared.records.Header.{Header}
@@ -42,19 +43,23 @@ answer_number Lost = 0
 abbrev pub encoded : Record → List ℕ
 encoded (Reserve r) =
     (gate ∷ 1 ∷ partition_byte r.view ∷ part_byte r.view ∷ []) ++ to_be_bytes w32 r.number ++ to_be_bytes w32 r.e ++ to_be_bytes w32 r.p ++ to_be_bytes w32 r.q
-    ++ to_be_bytes w64 r.taken ++ to_be_bytes w16 r.analyst ++ (0 ∷ 0 ∷ []) ++ r.program
-encoded (Settle number outcome) =
-    (gate ∷ 2 ∷ outcome_byte outcome ∷ 0 ∷ []) ++ to_be_bytes w32 number ++ to_be_bytes w64 (answer_number outcome) ++ replicate 48 0
+    ++ to_be_bytes w64 r.taken ++ to_be_bytes w16 r.analyst ++ (0 ∷ 0 ∷ []) ++ r.digest
+encoded (Settle s) =
+    (gate ∷ 2 ∷ outcome_byte s.outcome ∷ 0 ∷ []) ++ to_be_bytes w32 s.number ++ to_be_bytes w64 (answer_number s.outcome) ++ replicate 48 0
 
 abbrev pub IsOutcome : Outcome → Type 0
 IsOutcome (Answered z) = FitsSigned w64 z
 IsOutcome Exhausted = ⊤
 IsOutcome Lost = ⊤
 
+-- the greatest epsilon, in millionths
+abbrev pub epsilon_limit : ℕ
+epsilon_limit = 10 ^ 9
+
 -- an epsilon in millionths, and a sensitivity p/q in lowest terms
 pub record AreChargeTerms (e p q : ℕ) : Type 0 where
   pub above : 1 ≤ e
-  pub most : e ≤ 1000000000
+  pub most : e ≤ epsilon_limit
   pub positive : 1 ≤ q
   pub lowest : IsGcd p q 1
 
@@ -66,15 +71,16 @@ pub record IsReservation (r : Reservation) : Type 0 where
   pub narrow : (r.p < 2 ^ 32) × (r.q < 2 ^ 32)
   pub charged : r.taken < 2 ^ 64
   pub asked : r.analyst < 2 ^ 16
-  pub hashed : IsByteList 32 r.program
+  pub hashed : IsByteList 32 r.digest
 
-pub record IsSettlement (number : ℕ) (outcome : Outcome) : Type 0 where
-  pub numbered : number < 2 ^ 32
-  pub settled : IsOutcome outcome
+-- what a settlement's fields may be
+pub record IsSettlement (s : Settlement) : Type 0 where
+  pub numbered : s.number < 2 ^ 32
+  pub settled : IsOutcome s.outcome
 
 abbrev pub IsValid : Record → Type 0
 IsValid (Reserve r) = IsReservation r
-IsValid (Settle number outcome) = IsSettlement number outcome
+IsValid (Settle s) = IsSettlement s
 
 -- ---- headers
 

@@ -5,7 +5,7 @@ ghost use Rattle.journal_records.specs.declared.records.Record.TheVariants.{Rese
 ghost use Rattle.journal_records.specs.Encoding.{encoded, encoded_header, partition_byte, part_byte, outcome_byte, answer_number};
 
 use crate::fields::put;
-use crate::records::{Header, Outcome, Record, Reservation};
+use crate::records::{Header, Outcome, Record, Reservation, Settlement};
 use partition_charge::view::View;
 
 /// The length of a record.
@@ -51,16 +51,16 @@ fn encode_reservation(reservation: &Reservation, out: &mut [u8; 64])
     put(out, 20, &reservation.taken.to_be_bytes());
     put(out, 28, &reservation.analyst.to_be_bytes());
     put(out, 30, &[0, 0]);
-    put(out, 32, &reservation.program);
+    put(out, 32, &reservation.digest);
 }
 
 // The encoding of a settlement.
-fn encode_settlement(number: u32, outcome: Outcome, out: &mut [u8; 64])
-    ensures { out.new ≡ encoded (Settle number outcome) }
+fn encode_settlement(settlement: &Settlement, out: &mut [u8; 64])
+    ensures { out.new ≡ encoded (Settle settlement.now) }
 {
-    let (kind, answer) = outcome_parts(outcome);
+    let (kind, answer) = outcome_parts(settlement.outcome);
     put(out, 0, &[GATE, 2, kind, 0]);
-    put(out, 4, &number.to_be_bytes());
+    put(out, 4, &settlement.number.to_be_bytes());
     put(out, 8, &answer.to_be_bytes());
     put(out, 16, &[0; 48]);
 }
@@ -71,7 +71,7 @@ pub fn encode(record_in: &Record, out: &mut [u8; 64])
 {
     match record_in {
         Record::Reserve(reservation) => encode_reservation(reservation, out),
-        Record::Settle { number, outcome } => encode_settlement(*number, *outcome, out),
+        Record::Settle(settlement) => encode_settlement(settlement, out),
     }
 }
 

@@ -6,14 +6,15 @@ ghost use Rattle.partition_charge.specs.Views.{IsView};
 ghost use Rattle.journal_records.specs.declared.records.Outcome.{Outcome as Outcomes};
 ghost use Rattle.journal_records.specs.declared.records.Record.{Record as Records};
 ghost use Rattle.journal_records.specs.declared.records.Reservation.{Reservation as Reservations};
+ghost use Rattle.journal_records.specs.declared.records.Settlement.{Settlement as Settlements};
 ghost use Rattle.journal_records.specs.declared.records.Header.{Header as Headers};
 ghost use Rattle.journal_records.specs.declared.records.Record.TheVariants.{Reserve, Settle};
 ghost use Rattle.journal_records.specs.Encoding.{encoded, encoded_header, IsHeader, partition_byte, part_byte, outcome_byte, answer_number, IsOutcome, AreChargeTerms, IsReservation, IsSettlement, IsValid};
 
 use crate::coding::{encode, encode_header};
 use crate::fields::{common_divisor, digest_at, u16_at, u32_at, u64_at};
-use crate::records::{Header, Outcome, Record, Reservation};
-use partition_charge::view::View;
+use crate::records::{Header, Outcome, Record, Reservation, Settlement};
+use partition_charge::view::{PARTITIONS, PARTS, View};
 
 // The view of these two bytes.
 fn view_of(partition: u8, part: u8) -> Option<View>
@@ -22,7 +23,7 @@ fn view_of(partition: u8, part: u8) -> Option<View>
 {
     if partition == 255 && part == 0 {
         Some(View::Whole)
-    } else if partition < 8 && part < 250 {
+    } else if (partition as usize) < PARTITIONS && (part as usize) < PARTS {
         Some(View::Part { partition, part })
     } else {
         None
@@ -64,7 +65,7 @@ fn reservation_of(bytes: &[u8; 64]) -> Option<Record>
     let q = u32_at(bytes, 16);
     let taken = u64_at(bytes, 20);
     let analyst = u16_at(bytes, 28);
-    let program = digest_at(bytes, 32);
+    let digest = digest_at(bytes, 32);
     if !are_terms(e, p, q) {
         return None;
     }
@@ -76,19 +77,18 @@ fn reservation_of(bytes: &[u8; 64]) -> Option<Record>
         q,
         taken,
         analyst,
-        program,
+        digest,
     }))
 }
 
 // The settlement that these bytes would be.
 fn settlement_of(bytes: &[u8; 64]) -> Option<Record>
     ensures valid { IfSome result IsValid }
-    ensures only { (number : ℕ) (outcome : Outcomes) → IsSettlement number outcome
-        → bytes.now ≡ encoded (Settle number outcome) → result ≡ Some (Settle number outcome) }
+    ensures only { (s : Settlements) → IsSettlement s → bytes.now ≡ encoded (Settle s) → result ≡ Some (Settle s) }
 {
     let outcome = outcome_of(bytes[2], u64_at(bytes, 8))?;
     let number = u32_at(bytes, 4);
-    Some(Record::Settle { number, outcome })
+    Some(Record::Settle(Settlement { number, outcome }))
 }
 
 // What the bytes would be.

@@ -29,15 +29,21 @@ pub struct Reservation {
     /// The number of the analyst who asked.
     pub analyst: u16,
     /// The SHA-256 of the program's bytes.
-    pub program: [u8; 32],
+    pub digest: [u8; 32],
+}
+
+/// How the reservation of a number ended.
+#[derive(Clone, Copy, Debug, Drop, PartialEq, Eq)]
+pub struct Settlement {
+    pub number: u32,
+    pub outcome: Outcome,
 }
 
 /// One record.
 #[derive(Clone, Copy, Debug, Drop, PartialEq, Eq)]
 pub enum Record {
     Reserve(Reservation),
-    /// The reservation of that number is settled.
-    Settle { number: u32, outcome: Outcome },
+    Settle(Settlement),
 }
 
 /// What a journal begins with.

@@ -15,6 +15,7 @@ enum Verdict {
     Range(u32, u32),
     TooSensitive(u32, u32, u32),
     NotNum,
+    Unbound(u32, u32),
     Another,
 }
 
@@ -35,6 +36,7 @@ fn verdict_on(answer: &Result<Checked<'_>, CheckFault>) -> Verdict {
             Verdict::TooSensitive(span.from, span.to, whole(*r))
         }
         Err(CheckFault::NotNum { .. }) => Verdict::NotNum,
+        Err(CheckFault::Unbound { span }) => Verdict::Unbound(span.from, span.to),
         Err(_) => Verdict::Another,
     }
 }
@@ -70,6 +72,35 @@ fn worked_verdicts(rt: HostRuntime) -> Result<(), Fail> {
     for (pieces, want) in &VERDICTS {
         let program = joined(alloc, pieces)?;
         assert!(rt; verdict_of(alloc, &sig, &program) == *want, "{pieces:?}");
+    }
+    Ok(())
+}
+
+// Of several names that are bound nowhere the one that stands first is told.
+#[rattlefmt::skip]
+const UNBOUND: [(&[u8], Verdict); 12] = [
+    (b"y z", Verdict::Unbound(0, 1)),
+    (b"(y, z)", Verdict::Unbound(1, 2)),
+    (b"<y, z>", Verdict::Unbound(1, 2)),
+    (b"y + z", Verdict::Unbound(0, 1)),
+    (b"y - z", Verdict::Unbound(0, 1)),
+    (b"y <= z", Verdict::Unbound(0, 1)),
+    (b"y == z", Verdict::Unbound(0, 1)),
+    (b"union y z", Verdict::Unbound(6, 7)),
+    (b"map y z", Verdict::Unbound(4, 5)),
+    (b"filter y z", Verdict::Unbound(7, 8)),
+    (b"split y z", Verdict::Unbound(6, 7)),
+    (b"if y then z else x", Verdict::Unbound(3, 4)),
+];
+
+#[test]
+fn first_unbound(rt: HostRuntime) -> Result<(), Fail> {
+    let sig = people(rt.alloc())?;
+    for (program, want) in &UNBOUND {
+        assert!(rt;
+            verdict_of(rt.alloc(), &sig, program) == *want,
+            "{program:?}"
+        );
     }
     Ok(())
 }

@@ -227,11 +227,13 @@ fn productions(rt: HostRuntime) -> Result<(), Fail> {
 
 // A tree is wanted by how it begins, and another outcome whole.
 #[rattlefmt::skip]
-const DEEP_PROGRAMS: [(&[Piece], &str); 9] = [
+const DEEP_PROGRAMS: [(&[Piece], &str); 11] = [
     (&[("(", 4096)], "stuck 4096"),
     (&[("(", 2047), ("1", 1), (")", 2047)], "1[2047-2048]"),
     (&[("(", 2048), (")", 2048)], "()[2047-2049]"),
     (&[("1+", 64), ("1", 1)], "too nested 65"),
+    (&[("1+", 65), ("1", 1)], "too nested 66"),
+    (&[("1+", 99), ("1", 1)], "too nested 100"),
     (&[("fst ", 64), ("x", 1)], "stuck 1"),
     (&[("(fst ", 63), ("x", 1), (")", 63)], "Fst[1-378]("),
     (&[("(fst ", 64), ("x", 1), (")", 64)], "too nested 65"),

@@ -1,5 +1,5 @@
 //! Programs by hand, and a plain reader that tries each length.
-use crate::programs::letters;
+use crate::programs::{joined, letters};
 use fz_lexer::{Kind, LexFault, Token, lex};
 use std::alloc::{AllocError, Global};
 use std::test::Fail;
@@ -101,6 +101,8 @@ fn limits(rt: HostRuntime) -> Result<(), Fail> {
         let found = outcome(rt.alloc(), &program)?;
         assert!(rt; found.as_str() == *wanted, "{found}");
     }
+    let behind_a_space = joined(rt.alloc(), &[("(", 4096), (" (", 1)])?;
+    assert!(rt; outcome(rt.alloc(), &behind_a_space)?.as_str() == "too many 4097");
     Ok(())
 }
 

@@ -14,6 +14,7 @@ mod ExamplesOfBags
 mod ExamplesOfPrograms
 mod ExamplesOfEnvironments
 mod ExamplesOfFractions
+mod ExamplesOfOrder
 pub mod Programs
 pub mod Quotient
 pub mod Rest

@@ -59,7 +59,7 @@ impl<B: Bay + Drop> Journals<B> {
         source: &mut S,
         sink: &mut K,
     ) -> Status {
-        run_server(alloc, words, files, &mut self.bay, source, sink)
+        run_server(&(), alloc, words, files, &mut self.bay, source, sink)
     }
 
     /// The bay.

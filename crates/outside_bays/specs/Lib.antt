@@ -1,1 +1,2 @@
 pub mod Bays
+pub mod Failing

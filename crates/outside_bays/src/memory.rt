@@ -1,8 +1,10 @@
 //! A bay of disks in memory, some of whose calls fail.
 
-ghost use Rattle.std.specs.Prelude.{◌≡◌, ℕ, length, IsErr, OnOk};
+ghost use Rattle.std.specs.Prelude.{◌≡◌, ℕ, ◌<◌, Some, None, IsSome, length, is_err, IsErr, IfOk, OnOk, OnErr};
 ghost use Rattle.fz_outside.specs.Faults.{HasCause};
-ghost use Rattle.outside_bays.specs.Bays.{shelf_of};
+ghost use Rattle.fz_outside.specs.Schedule.{is_listed, began};
+ghost use Rattle.outside_bays.specs.Bays.{Changes, Same, shelf_of};
+ghost use Rattle.outside_bays.specs.Failing.{disks_of, schedule_of};
 
 use crate::bay::Bay;
 use fz_outside::Failed;
@@ -23,6 +25,8 @@ impl<'a, D: Disk + Drop> MemBay<'a, D> {
         ensures shelf { (n : ℕ) → ⟦<MemBay<'a, D> as Bay>⟧.shelf result n ≡ shelf_of
             (λ disk. record { trace = D.trace disk; faults = D.faults disk }) disks.items n }
         ensures faults { ⟦<MemBay<'a, D> as Bay>⟧.faults result ≡ 0 }
+        ensures calls { (schedule_of result).calls ≡ 0 }
+        ensures failing { (schedule_of result).failing.now ≡ failing.now }
     {
         MemBay {
             disks,
@@ -37,6 +41,8 @@ impl<'a, D: Disk + Drop> MemBay<'a, D> {
 
 // Begins a call, which fails where it is listed.
 fn begin(schedule: &mut Schedule<'_>) -> Result<(), Failed>
+    ensures listed { is_err result ≡ is_listed schedule.old }
+    ensures began { schedule.new ≡ began schedule.old }
     ensures cause { HasCause schedule.old.faults schedule.new.faults (IsErr result) }
     ensures passed { OnOk result (schedule.new.faults ≡ schedule.old.faults) }
 {
@@ -53,7 +59,23 @@ impl<D: Disk + Drop> Bay for MemBay<'_, D> {
 
     ghost faults = { λ bay. bay.schedule.faults };
 
-    fn take(&mut self, owner: u32) -> Result<D, Failed> {
+    fn take(&mut self, owner: u32) -> Result<D, Failed>
+        requires owner { owner < length (disks_of self.old) }
+        requires home { IsSome (shelf_of (λ disk. record { trace = D.trace disk; faults = D.faults disk }) (disks_of self.old) owner) }
+
+        ensures began { schedule_of self.new ≡ began (schedule_of self.old) }
+        ensures listed { is_err result ≡ is_listed (schedule_of self.old) }
+
+        // As of any bay.
+        ensures given { IfOk result (λ disk. shelf_of (λ disk. record { trace = D.trace disk; faults = D.faults disk }) (disks_of self.old) owner ≡ Some (record { trace = D.trace disk; faults = D.faults disk })) }
+        ensures taken { OnOk result (Changes owner None (shelf_of (λ disk. record { trace = D.trace disk; faults = D.faults disk }) (disks_of self.old))
+            (shelf_of (λ disk. record { trace = D.trace disk; faults = D.faults disk }) (disks_of self.new))) }
+        ensures err { OnErr result (Same (shelf_of (λ disk. record { trace = D.trace disk; faults = D.faults disk }) (disks_of self.old))
+            (shelf_of (λ disk. record { trace = D.trace disk; faults = D.faults disk }) (disks_of self.new))) }
+        ensures owners { length (disks_of self.new) ≡ length (disks_of self.old) }
+        ensures cause { HasCause (schedule_of self.old).faults (schedule_of self.new).faults (IsErr result) }
+        ensures passed { OnOk result ((schedule_of self.new).faults ≡ (schedule_of self.old).faults) }
+    {
         begin(&mut self.schedule)?;
         match self.disks[owner as usize].take() {
             Some(disk) => Ok(disk),
@@ -61,7 +83,19 @@ impl<D: Disk + Drop> Bay for MemBay<'_, D> {
         }
     }
 
-    fn put_back(&mut self, owner: u32, disk: D) {
+    fn put_back(&mut self, owner: u32, disk: D)
+        requires owner { owner < length (disks_of self.old) }
+        requires taken { shelf_of (λ disk. record { trace = D.trace disk; faults = D.faults disk }) (disks_of self.old) owner ≡ None }
+
+        ensures same { schedule_of self.new ≡ schedule_of self.old }
+
+        // As of any bay.
+        ensures home { Changes owner (Some (record { trace = D.trace disk; faults = D.faults disk }))
+            (shelf_of (λ disk. record { trace = D.trace disk; faults = D.faults disk }) (disks_of self.old))
+            (shelf_of (λ disk. record { trace = D.trace disk; faults = D.faults disk }) (disks_of self.new)) }
+        ensures owners { length (disks_of self.new) ≡ length (disks_of self.old) }
+        ensures passed { (schedule_of self.new).faults ≡ (schedule_of self.old).faults }
+    {
         self.disks[owner as usize] = Some(disk);
     }
 }

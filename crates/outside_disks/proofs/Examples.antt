@@ -1,5 +1,7 @@
 -- The model of a disk, worked out on small files.
-use Rattle.std.proofs.Common.{◌≡◌, ℕ, zero, suc, ◌≤◌, ◌<◌, List, [], ◌∷◌, length, slice_index, refl, ap, inl, inr, arith, Option, Some, None}
+use Rattle.std.proofs.Common.{◌≡◌, ℕ, zero, suc, ◌≤◌, ◌<◌, List, [], ◌∷◌, length, slice_index, true, false, refl, ap, inl, inr, arith, Option, Some, None}
+use Rattle.outside_disks.specs.Shown.{calls_of, failing_of, limits_of, written_of, is_refused, IsPastLimits}
+use Rattle.outside_disks.specs.declared.memory.MemDisk.{MemDisk}
 use Rattle.outside_disks.specs.Disks.{Step, Trace, moment, after, noted, overlaid, seen_of, Gives, Torn, IsImageOf, WasImageOf, WhereTold, MayHaveWritten}
 use Rattle.outside_disks.specs.Disks.Step.{Wrote, Synced}
 use Rattle.outside_disks.proofs.Overlaid.{torn-same}
@@ -193,3 +195,29 @@ last_size None = 0
 more_tried : MayHaveWritten 1 1 (Some once) (Some twice) → ⊥
 more_tried (inl same) = let h : 2 ≡ 1 = ap (moments_of) same in omega (arith, h)
 more_tried (inr wrote) = let h : 2 ≡ length wrote.0 = ap last_size wrote.2 in let le = wrote.1 in omega (arith, h)
+
+-- ---- which calls of a disk in memory fail
+
+-- calls 1 and 3 are listed, of at most 9
+listed : (disk : MemDisk) → failing_of disk ≡ 1 ∷ 3 ∷ [] → calls_of disk ≡ 3 → (limits_of disk).calls ≡ 9 → is_refused disk ≡ true
+listed disk failing calls most = simp (failing, calls, most) refl
+
+not_listed : (disk : MemDisk) → failing_of disk ≡ 1 ∷ 3 ∷ [] → calls_of disk ≡ 2 → (limits_of disk).calls ≡ 9 → is_refused disk ≡ false
+not_listed disk failing calls most = simp (failing, calls, most) refl
+
+ninth_call : (disk : MemDisk) → failing_of disk ≡ [] → calls_of disk ≡ 8 → (limits_of disk).calls ≡ 9 → is_refused disk ≡ false
+ninth_call disk failing calls most = simp (failing, calls, most) refl
+
+tenth_call : (disk : MemDisk) → failing_of disk ≡ [] → calls_of disk ≡ 9 → (limits_of disk).calls ≡ 9 → is_refused disk ≡ true
+tenth_call disk failing calls most = simp (failing, calls, most) refl
+
+-- at most 8 bytes long, and 10 bytes written, of which there were 7
+past_the_length : (disk : MemDisk) → (limits_of disk).length ≡ 8 → IsPastLimits disk 6 3
+past_the_length disk long = inl (omega arith)
+
+past_the_sum : (disk : MemDisk) → (limits_of disk).written ≡ 10 → written_of disk ≡ 7 → IsPastLimits disk 0 4
+past_the_sum disk most before = inr (omega arith)
+
+within_both : (disk : MemDisk) → (limits_of disk).length ≡ 8 → (limits_of disk).written ≡ 10 → written_of disk ≡ 7 → IsPastLimits disk 5 3 → ⊥
+within_both disk long most before (inl past) = omega arith
+within_both disk long most before (inr past) = omega arith

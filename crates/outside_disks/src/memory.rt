@@ -1,13 +1,17 @@
 //! A disk in memory. It tells what was done to it: it keeps its first bytes, and each write and sync since.
 
-ghost use Rattle.std.specs.Prelude.{◌≡◌, ◌+◌, ◌-◌, ◌<◌, ◌≤◌, ◌^◌, ◌++◌, [], ◌∷◌, Some, length, slice_index, take, drop, replicate, vec_len, IfOk, OnOk, OnErr};
-ghost use Rattle.outside_disks.specs.Disks.{seen, overlaid, Gives};
+ghost use Rattle.std.specs.Prelude.{◌≡◌, ◌+◌, ◌-◌, ◌<◌, ◌≤◌, ◌^◌, ◌||◌, ◌++◌, [], ◌∷◌, Some, length, slice_index, take, drop, replicate, vec_len, min, nat_le, is_err, IsTrue, IsErr, IfOk, IfSome, OnOk, OnErr};
+ghost use Rattle.fz_outside.specs.Faults.{HasCause, last_count};
+ghost use Rattle.fz_outside.specs.Schedule.{is_listed};
+ghost use Rattle.outside_disks.specs.Disks.{seen, seen_of, noted, overlaid, Gives, MayHaveWritten};
+ghost use Rattle.outside_disks.specs.Disks.Step.{Wrote as Written, Synced as Flushed};
 ghost use Rattle.outside_disks.specs.Memory.{steps_of, sizes};
 ghost use Rattle.outside_disks.specs.declared.memory.Kept.TheVariants.{Wrote, Synced};
 
 use crate::disk::Disk;
 use crate::fault;
 use fz_outside::Failed;
+use fz_outside::flaky::Schedule;
 use std::alloc::{AllocError, Global};
 
 /// A step that is kept. The bytes of the writes stand one after another in `written`.
@@ -36,16 +40,14 @@ pub struct MemDisk<'a> {
     written: Vec<u8>,
     steps: Vec<Kept>,
     limits: Limits,
-    failing: &'a [u64],
-    calls: u64,
-    faults: u64,
+    schedule: Schedule<'a>,
     ghost pooled: { length written.items ≡ sizes steps.items },
     ghost current: { bytes.items ≡ seen start.items (steps_of steps.items written.items) },
 }
 
 impl<'a> MemDisk<'a> {
     ghost use Rattle.std.specs.Prelude.{[]};
-    ghost use Rattle.outside_disks.specs.Shown.{bytes_in};
+    ghost use Rattle.outside_disks.specs.Shown.{bytes_in, calls_of, limits_of, failing_of};
 
     /// A disk with these bytes, all of them stable.
     pub fn new(
@@ -56,6 +58,9 @@ impl<'a> MemDisk<'a> {
     ) -> Result<Self, AllocError>
         ensures told { IfOk result (λ disk. ⟦<MemDisk<'a> as Disk>⟧.trace disk ≡ Some (record { start = start.now; steps = [] })) }
         ensures faults { IfOk result (λ disk. ⟦<MemDisk<'a> as Disk>⟧.faults disk ≡ 0) }
+        ensures calls { IfOk result (λ disk. calls_of disk ≡ 0) }
+        ensures limits { IfOk result (λ disk. limits_of disk ≡ limits) }
+        ensures failing { IfOk result (λ disk. failing_of disk ≡ failing.now) }
     {
         let mut bytes = Vec::with_capacity(alloc, limits.length as usize)?;
         bytes.extend_from_slice(start)?;
@@ -65,9 +70,11 @@ impl<'a> MemDisk<'a> {
             written: Vec::with_capacity(alloc, limits.written as usize)?,
             steps: Vec::with_capacity(alloc, limits.calls as usize)?,
             limits,
-            failing,
-            calls: 0,
-            faults: 0,
+            schedule: Schedule {
+                failing,
+                calls: 0,
+                faults: 0,
+            },
         })
     }
 
@@ -79,11 +86,20 @@ impl<'a> MemDisk<'a> {
     }
 }
 
-// Begins a call: whether it may go on.
-fn begin(calls: &mut u64, limits: &Limits, failing: &[u64]) -> bool {
-    let call = *calls;
-    *calls = calls.saturating_add(1);
-    call < u64::from(limits.calls) && !failing.contains(&call)
+// Begins a call, which fails where it is listed, or where there were as many calls as this.
+fn begin(schedule: &mut Schedule<'_>, most: u32) -> Result<(), Failed>
+    ensures refused { is_err result ≡ (is_listed schedule.old || nat_le most schedule.old.calls) }
+    ensures counted { schedule.new.calls ≡ min (schedule.old.calls + 1) last_count }
+    ensures failing { schedule.new.failing ≡ schedule.old.failing }
+    ensures cause { HasCause schedule.old.faults schedule.new.faults (IsErr result) }
+    ensures passed { OnOk result (schedule.new.faults ≡ schedule.old.faults) }
+{
+    let call = schedule.calls;
+    schedule.begin()?;
+    if call >= u64::from(most) {
+        return Err(fault(&mut schedule.faults));
+    }
+    Ok(())
 }
 
 // Puts zeros behind the end, up to a place.
@@ -183,32 +199,60 @@ fn fill(bytes: &[u8], place: u64, buf: &mut [u8])
 }
 
 impl Disk for MemDisk<'_> {
-    ghost trace = { λ disk. Some (record { start = disk.start.items; steps = steps_of disk.steps.items disk.written.items }) };
+    ghost use Rattle.outside_disks.specs.Shown.{told, faults_of, written_of, is_refused, IsPastLimits, IsBegun};
 
-    ghost faults = { λ disk. disk.faults };
+    ghost trace = { λ disk. told disk };
 
-    fn len(&mut self) -> Result<u64, Failed> {
-        if !begin(&mut self.calls, &self.limits, self.failing) {
-            return Err(fault(&mut self.faults));
-        }
+    ghost faults = { λ disk. faults_of disk };
+
+    fn len(&mut self) -> Result<u64, Failed>
+        ensures begun { IsBegun self.old self.new }
+        ensures refused { is_err result ≡ is_refused self.old }
+
+        // As of any disk.
+        ensures length { IfOk result (λ n. IfSome (told self.old) (λ t. n ≡ length (seen_of t))) }
+        ensures same { told self.new ≡ told self.old }
+        ensures cause { HasCause (faults_of self.old) (faults_of self.new) (IsErr result) }
+        ensures passed { OnOk result (faults_of self.new ≡ faults_of self.old) }
+    {
+        begin(&mut self.schedule, self.limits.calls)?;
         Ok(self.bytes.len() as u64)
     }
 
-    fn read_at(&mut self, place: u64, buf: &mut [u8]) -> Result<(), Failed> {
-        if !begin(&mut self.calls, &self.limits, self.failing) {
-            return Err(fault(&mut self.faults));
-        }
+    fn read_at(&mut self, place: u64, buf: &mut [u8]) -> Result<(), Failed>
+        ensures begun { IsBegun self.old self.new }
+        ensures refused { is_err result ≡ is_refused self.old }
+
+        // As of any disk.
+        ensures bytes { OnOk result (IfSome (told self.old) (λ t. Gives (seen_of t) place buf.new)) }
+        ensures same { told self.new ≡ told self.old }
+        ensures cause { HasCause (faults_of self.old) (faults_of self.new) (IsErr result) }
+        ensures passed { OnOk result (faults_of self.new ≡ faults_of self.old) }
+    {
+        begin(&mut self.schedule, self.limits.calls)?;
         fill(&self.bytes, place, buf);
         Ok(())
     }
 
-    fn write_at(&mut self, place: u64, bytes: &[u8]) -> Result<(), Failed> {
-        if !begin(&mut self.calls, &self.limits, self.failing)
-            || place > u64::from(self.limits.length)
+    fn write_at(&mut self, place: u64, bytes: &[u8]) -> Result<(), Failed>
+        ensures begun { IsBegun self.old self.new }
+        ensures refused { IsTrue (is_refused self.old) → IsErr result }
+        ensures limited { IsPastLimits self.old place (length bytes.now) → IsErr result }
+        ensures unchanged { OnErr result (told self.new ≡ told self.old) }
+        ensures summed { OnOk result (written_of self.new ≡ written_of self.old + length bytes.now) }
+
+        // As of any disk.
+        ensures written { OnOk result (told self.new ≡ noted (Written place bytes.now) (told self.old)) }
+        ensures err { OnErr result (MayHaveWritten place (length bytes.now) (told self.old) (told self.new)) }
+        ensures cause { HasCause (faults_of self.old) (faults_of self.new) (IsErr result) }
+        ensures passed { OnOk result (faults_of self.new ≡ faults_of self.old) }
+    {
+        begin(&mut self.schedule, self.limits.calls)?;
+        if place > u64::from(self.limits.length)
             || bytes.len() as u64 > u64::from(self.limits.length) - place
             || self.written.len() + bytes.len() > self.limits.written as usize
         {
-            return Err(fault(&mut self.faults));
+            return Err(fault(&mut self.schedule.faults));
         }
         match write_down(
             &mut self.bytes,
@@ -218,21 +262,28 @@ impl Disk for MemDisk<'_> {
             bytes,
         ) {
             Ok(()) => Ok(()),
-            Err(_) => Err(fault(&mut self.faults)),
+            Err(_) => Err(fault(&mut self.schedule.faults)),
         }
     }
 
-    fn sync(&mut self) -> Result<(), Failed> {
-        if !begin(&mut self.calls, &self.limits, self.failing) {
-            return Err(fault(&mut self.faults));
-        }
+    fn sync(&mut self) -> Result<(), Failed>
+        ensures begun { IsBegun self.old self.new }
+        ensures refused { IsTrue (is_refused self.old) → IsErr result }
+
+        // As of any disk.
+        ensures synced { OnOk result (told self.new ≡ noted Flushed (told self.old)) }
+        ensures err { OnErr result (told self.new ≡ told self.old) }
+        ensures cause { HasCause (faults_of self.old) (faults_of self.new) (IsErr result) }
+        ensures passed { OnOk result (faults_of self.new ≡ faults_of self.old) }
+    {
+        begin(&mut self.schedule, self.limits.calls)?;
         match self.steps.push(Kept::Synced) {
             Ok(()) => Ok(()),
-            Err(_) => Err(fault(&mut self.faults)),
+            Err(_) => Err(fault(&mut self.schedule.faults)),
         }
     }
 
     fn fault_count(&self) -> u64 {
-        self.faults
+        self.schedule.faults
     }
 }

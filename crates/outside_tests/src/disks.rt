@@ -5,8 +5,9 @@ use outside_disks::disk::Disk;
 use outside_disks::failing::{BlipDisk, FuseDisk};
 use outside_disks::memory::{Limits, MemDisk};
 use outside_disks::real::{FileDisk, FilePlace, open_file};
-use std::fs;
+use std::alloc::Global;
 use std::test::Fail;
+use std::{fs, rt};
 
 const LIMITS: Limits = Limits {
     length: 8,
@@ -126,5 +127,42 @@ fn no_file_of_the_system(rt: HostRuntime) -> Result<(), Fail> {
     assert!(rt; write_and_read(&mut nowhere, 0, b"x") == Err(Failed));
     assert!(rt; nowhere.fault_count() == 1);
     fs::remove_dir_all(&rt, "outside_disks_none")?;
+    Ok(())
+}
+
+fn disk_at<'a, R: rt::Files<File = fs::File>>(
+    rt: &'a R,
+    alloc: Global,
+    folder: &str,
+    name: &str,
+) -> Result<FileDisk<'a, R>, Fail> {
+    let home = FilePlace::new(alloc, folder, name)?;
+    let file = open_file(rt, &home)?;
+    Ok(FileDisk::new(rt, home, file))
+}
+
+// What the system refuses is a fault, and counts: a write to a full device, and the sync of one that can't be synced.
+#[test]
+fn devices_that_refuse(rt: HostRuntime) -> Result<(), Fail> {
+    let mut full = disk_at(&rt, rt.alloc(), "/dev", "full")?;
+    assert!(rt; full.write_at(0, b"x") == Err(Failed));
+    assert!(rt; full.fault_count() == 1);
+    let mut null = disk_at(&rt, rt.alloc(), "/dev", "null")?;
+    assert!(rt; null.sync() == Err(Failed));
+    assert!(rt; null.fault_count() == 1);
+    Ok(())
+}
+
+// A folder that is there is no fault, so a second file is made in it. A file that another made since the opening is one, and stays.
+#[test]
+fn what_is_there_at_the_first_write(rt: HostRuntime) -> Result<(), Fail> {
+    fs::create_dir_all(&rt, "outside_disks_there")?;
+    let mut second = disk_at(&rt, rt.alloc(), "outside_disks_there", "1.bud")?;
+    assert!(rt; second.write_at(0, b"x") == Ok(()));
+    let mut late = disk_at(&rt, rt.alloc(), "outside_disks_there", "2.bud")?;
+    let _ = fs::create(&rt, "outside_disks_there/2.bud")?;
+    assert!(rt; late.write_at(0, b"x") == Err(Failed));
+    assert!(rt; fs::metadata(&rt, "outside_disks_there/2.bud")?.len() == 0);
+    fs::remove_dir_all(&rt, "outside_disks_there")?;
     Ok(())
 }

@@ -1,4 +1,5 @@
 mod ExamplesOfFaults
+mod ExamplesOfForms
 mod ExamplesOfLimits
 pub mod Laws
 pub mod Lists

@@ -1,18 +1,19 @@
 -- How far two datasets are apart in each view of an owner's partitions, and what charges times these come to.
-use Rattle.std.proofs.Common.{◌≡◌, ℕ, ◌*◌, ◌≤◌, ◌<◌, List, length, Some, None, slice_get, get_or, ◌⊎◌, inl, inr, refl, subst, arith}
+use Rattle.std.proofs.Common.{◌≡◌, ℕ, zero, suc, ◌*◌, ◌≤◌, ◌<◌, List, length, Some, None, slice_get, get_or, ◌⊎◌, inl, inr, refl, subst, arith}
 use Rattle.std.proofs.lemmas.Option.{slice_get_cases, slice_get_past}
 use Rattle.std.proofs.lemmas.List.Elements.{All-get_or}
 use Rattle.partition_charge.specs.declared.view.View.{View}
 use Rattle.partition_charge.specs.declared.view.View.TheVariants.{Whole, Part}
-use Rattle.partition_charge.specs.Views.{partition_limit, part_limit}
-use Rattle.partition_charge.specs.Cost.{Charge, charges_of, greatest_below, partition_cost, cost_of_charges}
+use Rattle.partition_charge.specs.Views.{partition_range, part_limit}
+use Rattle.partition_charge.specs.Cost.{Charge, charges_of, partition_cost, cost_of_charges}
+use Rattle.partition_charge.proofs.Charges.{dearest-at}
 use Rattle.fz_ast.specs.Signature.{Signature}
 use Rattle.metric_values.specs.Tables.{Dataset, IsDataset, apart}
 use Rattle.owner_catalog.specs.Entries.{PartitionEntry}
 use Rattle.part_views.specs.Partitions.{ArePartitions, IsPartitionOf}
 use Rattle.part_views.specs.Views.{rows_in}
 use Rattle.part_views.proofs.Laws.{parts_are_no_further_apart}
-use Rattle.owner_history.proofs.Sums.{IsSpread, weighed, weighed-within}
+use Rattle.owner_history.proofs.Sums.{IsSpread, greatest_below, weighed, weighed-within}
 
 module _ (partitions : List PartitionEntry) (rows other : Dataset) where
   -- how far two datasets are apart in a view
@@ -39,7 +40,7 @@ few-keys tables partitions are p partition lt is =
 
 -- the distances are spread over the views
 far-spread : (tables : Signature) (partitions : List PartitionEntry) (rows other : Dataset) → ArePartitions tables partitions → IsDataset tables rows → IsDataset tables other
-    → IsSpread partition_limit part_limit (apart rows other) (far partitions rows other)
+    → IsSpread partition_range part_limit (apart rows other) (far partitions rows other)
 far-spread tables partitions rows other are first second = record {
   whole = omega (arith, whole-far partitions rows other);
   parts = λ p. parts_are_no_further_apart tables partitions p rows other are first second;
@@ -54,12 +55,12 @@ far-spread tables partitions rows other are first second = record {
     here p j beyond (inl (partition, lt, at, is)) = no-key partitions rows other p j partition at
         (slice_get_past partition.keys j (omega (arith, few-keys tables partitions are p partition lt is, beyond)))
 
-no-more : (n : ℕ) → n ≤ n
-no-more n = omega arith
+greatest-within : (n bound : ℕ) (f : ℕ → ℕ) → ((j : ℕ) → f j ≤ bound) → greatest_below n f ≤ bound
+greatest-within zero bound f each = omega arith
+greatest-within (suc n) bound f each = omega (arith, greatest-within n bound f each, each n)
 
 dearest-within : (charges : List Charge) (p : ℕ) → greatest_below part_limit (λ j. charges_of (Part p j) charges) ≤ partition_cost charges p
-unfolding partition_cost
-dearest-within charges p = no-more (partition_cost charges p)
+dearest-within charges p = greatest-within part_limit (partition_cost charges p) (λ j. charges_of (Part p j) charges) (dearest-at charges p)
 
 -- Charges times how far two datasets are apart in their views are at most the charges' cost times how far they are apart.
 pub charges-within : (tables : Signature) (partitions : List PartitionEntry) (rows other : Dataset) (charges : List Charge)
@@ -67,4 +68,4 @@ pub charges-within : (tables : Signature) (partitions : List PartitionEntry) (ro
     → weighed (far partitions rows other) charges ≤ cost_of_charges charges * apart rows other
 unfolding cost_of_charges
 charges-within tables partitions rows other charges are first second =
-    weighed-within partition_limit part_limit (far partitions rows other) (apart rows other) (far-spread tables partitions rows other are first second) charges (partition_cost charges) (dearest-within charges)
+    weighed-within partition_range part_limit (far partitions rows other) (apart rows other) (far-spread tables partitions rows other are first second) charges (partition_cost charges) (dearest-within charges)

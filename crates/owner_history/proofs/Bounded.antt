@@ -1,14 +1,13 @@
 -- The displacement that records show is at most their cost times how far the datasets are apart, whatever views they name.
-use Rattle.std.proofs.Common.{◌≡◌, ℕ, ◌+◌, ◌*◌, ◌≤◌, List, [], ◌∷◌, Option, Some, None, slice_get, length, zero, suc, refl, ap, arith}
+use Rattle.std.proofs.Common.{◌≡◌, ℕ, ◌+◌, ◌*◌, ◌≤◌, List, [], ◌∷◌, Option, Some, None, slice_get, length, map, suc, refl, arith}
 use Rattle.std.specs.Prelude.{⊤}
 use Rattle.journal_records.specs.declared.records.Reservation.{Reservation}
 use Rattle.partition_charge.specs.declared.view.View.{View}
-use Rattle.partition_charge.specs.Cost.{Charge}
 use Rattle.journal_records.specs.declared.records.Outcome.{Outcome}
 use Rattle.journal_records.specs.declared.records.Outcome.TheVariants.{Answered, Exhausted, Lost}
 use Rattle.journal_records.specs.declared.records.Record.{Record}
-use Rattle.journal_records.specs.declared.records.Record.TheVariants.{Reserve, Settle}
-use Rattle.budget_core.specs.Cost.{cost_of, charge_of, charges_in}
+use Rattle.budget_core.specs.Cost.{cost_of, charge_of, charge_by, charges_in}
+use Rattle.budget_core.specs.Entries.{Entry}
 use Rattle.budget_core.specs.Counts.{reservations_of, outcome_of}
 use Rattle.metric_values.specs.Distances.{gap}
 use Rattle.metric_values.specs.Tables.{Dataset, IsDataset, apart}
@@ -17,9 +16,9 @@ use Rattle.owner_catalog.specs.Entries.{PartitionEntry}
 use Rattle.part_views.specs.Partitions.{ArePartitions}
 use Rattle.part_views.specs.Views.{signature_in, rows_in}
 use Rattle.answer_path.specs.Program.{IsCharged}
-use Rattle.answer_path.specs.Owner.{Owner}
+use Rattle.owner_house.specs.Owner.{Owner, HasData}
 use Rattle.owner_history.specs.Explains.{Explains}
-use Rattle.owner_history.specs.Sound.{HasData, IsDisplacementBounded}
+use Rattle.owner_history.specs.Sound.{IsDisplacementBounded}
 use Rattle.owner_history.specs.Shown.{IsDisplacedIf, AreDisplaced, IsShown}
 use Rattle.answer_path.proofs.Charged.{charged_have_values}
 use Rattle.owner_history.proofs.Sums.{weighed, weighed-cons}
@@ -27,11 +26,10 @@ use Rattle.owner_history.proofs.Apart.{far, charges-within}
 use Rattle.owner_history.proofs.Charges.{charged_lowest, charged_moves, charge_bounds}
 
 -- a reservation is charged by its program's sensitivity in its view
-abbrev pub IsChargedFor : Signature → List PartitionEntry → List ℕ → Record → Type 0
-IsChargedFor tables partitions program (Reserve r) = IsCharged (signature_in tables partitions r.view) program r.p r.q
-IsChargedFor tables partitions program (Settle number outcome) = ⊥
+abbrev pub IsChargedFor : Signature → List PartitionEntry → List ℕ → Reservation → Type 0
+IsChargedFor tables partitions program r = IsCharged (signature_in tables partitions r.view) program r.p r.q
 
-abbrev pub AreCharged : Signature → List PartitionEntry → List (List ℕ) → List Record → Type 0
+abbrev pub AreCharged : Signature → List PartitionEntry → List (List ℕ) → List Reservation → Type 0
 AreCharged tables partitions [] [] = ⊤
 AreCharged tables partitions (program ∷ programs) (reservation ∷ reservations) = IsChargedFor tables partitions program reservation × AreCharged tables partitions programs reservations
 AreCharged tables partitions [] (reservation ∷ reservations) = ⊥
@@ -43,10 +41,6 @@ pub record ArePair (tables : Signature) (partitions : List PartitionEntry) (rows
   pub divided : ArePartitions tables partitions
   pub first : IsDataset tables rows
   pub second : IsDataset tables other
-
--- what a reservation charges
-abbrev charge_in : Reservation → Charge
-charge_in r = record { view = r.view; amount = charge_of r.e r.p r.q }
 
 module _ (tables : Signature) (partitions : List PartitionEntry) (rows other : Dataset) (pair : ArePair tables partitions rows other) where
   -- one answer's displacement is at most its charge times how far the datasets are apart in its view
@@ -64,44 +58,28 @@ module _ (tables : Signature) (partitions : List PartitionEntry) (rows other : D
   outcome_bounded view e p q program (Some Lost) c = (0, refl, omega arith)
 
   -- all together at most the charges times how far the datasets are apart in their views
-  all_bounded : (records : List Record) (programs : List (List ℕ)) (reservations : List Record) → AreCharged tables partitions programs reservations
-      → (d : ℕ) × AreDisplaced tables partitions records rows other programs reservations d × (d ≤ weighed (far partitions rows other) (charges_in reservations))
+  all_bounded : (records : List Record) (programs : List (List ℕ)) (reservations : List Reservation) → AreCharged tables partitions programs reservations
+      → (d : ℕ) × AreDisplaced tables partitions records rows other programs reservations d × (d ≤ weighed (far partitions rows other) (map charge_by reservations))
   all_bounded records [] [] charged = (0, refl, omega arith)
   all_bounded records [] (r ∷ rs) charged = absurd charged
   all_bounded records (program ∷ programs) [] charged = absurd charged
-  all_bounded records (program ∷ programs) (Settle number outcome ∷ rs) charged = absurd charged.0
-  all_bounded records (program ∷ programs) (Reserve r ∷ rs) charged =
+  all_bounded records (program ∷ programs) (r ∷ rs) charged =
       let one = outcome_bounded r.view r.e r.p r.q program (outcome_of records r.number) charged.0 in
       let more = all_bounded records programs rs charged.1 in
-      let sum = weighed-cons (far partitions rows other) (charge_in r) (charges_in rs) in
+      let sum = weighed-cons (far partitions rows other) (charge_by r) (map charge_by rs) in
       (one.0 + more.0, (one.0, more.0, one.1, more.1, refl), omega (arith, one.2, more.2, sum))
 
--- settlements charge nothing
-charges_of_reservations : (records : List Record) → charges_in (reservations_of records) ≡ charges_in records
-charges_of_reservations [] = refl
-charges_of_reservations (Reserve r ∷ records) = ap (λ (rest : List Charge). charge_in r ∷ rest) (charges_of_reservations records)
-charges_of_reservations (Settle number outcome ∷ records) = charges_of_reservations records
-
 -- What records show is at most their cost times the distance.
-pub shown_bounded : (tables : Signature) (partitions : List PartitionEntry) (records : List Record) (rows other : Dataset) (programs : List (List ℕ)) → ArePair tables partitions rows other
-    → AreCharged tables partitions programs (reservations_of records) → (d : ℕ) × IsShown tables partitions programs records rows other d × (d ≤ cost_of records * apart rows other)
+pub shown_bounded : (entry : Entry) (tables : Signature) (partitions : List PartitionEntry) (records : List Record) (rows other : Dataset) (programs : List (List ℕ)) → ArePair tables partitions rows other
+    → AreCharged tables partitions programs (reservations_of records) → (d : ℕ) × IsShown tables partitions programs records rows other d × (d ≤ cost_of entry records * apart rows other)
 unfolding IsShown cost_of
-shown_bounded tables partitions records rows other programs pair charged =
+shown_bounded entry tables partitions records rows other programs pair charged =
     let all = all_bounded tables partitions rows other pair records programs (reservations_of records) charged in
-    let same : weighed (far partitions rows other) (charges_in (reservations_of records)) ≡ weighed (far partitions rows other) (charges_in records)
-    = ap (λ (charges : List Charge). weighed (far partitions rows other) charges) (charges_of_reservations records) in
     let within = charges-within tables partitions rows other (charges_in records) pair.divided pair.first pair.second in
-    (all.0, all.1, omega (arith, all.2, same, within))
+    (all.0, all.1, omega (arith, all.2, within))
 
--- no settlement is among the reservations
-reserved_only : (records : List Record) (i n : ℕ) (outcome : Outcome) → slice_get (reservations_of records) i ≡ Some (Settle n outcome) → ⊥
-reserved_only [] i n outcome at = cc
-reserved_only (Reserve r ∷ records) zero n outcome at = cc
-reserved_only (Reserve r ∷ records) (suc i) n outcome at = reserved_only records i n outcome at
-reserved_only (Settle number settled ∷ records) i n outcome at = reserved_only records i n outcome at
-
-charged_from : (tables : Signature) (partitions : List PartitionEntry) (programs : List (List ℕ)) (reservations : List Record) → length programs ≡ length reservations
-    → ((i : ℕ) (program : List ℕ) (r : Record) → slice_get programs i ≡ Some program → slice_get reservations i ≡ Some r → IsChargedFor tables partitions program r)
+charged_from : (tables : Signature) (partitions : List PartitionEntry) (programs : List (List ℕ)) (reservations : List Reservation) → length programs ≡ length reservations
+    → ((i : ℕ) (program : List ℕ) (r : Reservation) → slice_get programs i ≡ Some program → slice_get reservations i ≡ Some r → IsChargedFor tables partitions program r)
     → AreCharged tables partitions programs reservations
 charged_from tables partitions [] [] same each = tt
 charged_from tables partitions [] (r ∷ rs) same each = absurd (omega arith)
@@ -112,9 +90,8 @@ charged_from tables partitions (program ∷ programs) (r ∷ rs) same each =
 -- Whatever programs explain an owner's records, against any second dataset these show at most their cost times the distance.
 pub explained_bounded : (owner : Owner) (draws : ℕ → ℕ → ℕ) (programs : List (List ℕ)) (records : List Record) → HasData owner → Explains owner draws programs records → IsDisplacementBounded owner programs records
 explained_bounded owner draws programs records has ex = λ other others.
-    shown_bounded owner.tables owner.partitions records owner.rows other programs (record { well = has.tables; divided = has.partitions; first = has.rows; second = others })
+    shown_bounded owner.entry owner.tables owner.partitions records owner.rows other programs (record { well = has.tables; divided = has.partitions; first = has.rows; second = others })
     (charged_from owner.tables owner.partitions programs (reservations_of records) ex.each_has of)
   where
-    of : (i : ℕ) (program : List ℕ) (r : Record) → slice_get programs i ≡ Some program → slice_get (reservations_of records) i ≡ Some r → IsChargedFor owner.tables owner.partitions program r
-    of i program (Settle number outcome) at there = absurd (reserved_only records i number outcome there)
-    of i program (Reserve r) at there = (ex.explained i program r at there).charged
+    of : (i : ℕ) (program : List ℕ) (r : Reservation) → slice_get programs i ≡ Some program → slice_get (reservations_of records) i ≡ Some r → IsChargedFor owner.tables owner.partitions program r
+    of i program r at there = (ex.explained i program r at there).charged

@@ -6,7 +6,8 @@ use Rattle.journal_records.specs.declared.records.Outcome.{Outcome}
 use Rattle.journal_records.specs.declared.records.Outcome.TheVariants.{Answered, Exhausted, Lost}
 use Rattle.journal_records.specs.declared.records.Reservation.{Reservation}
 use Rattle.journal_records.specs.declared.records.Record.{Record}
-use Rattle.journal_records.specs.declared.records.Record.TheVariants.{Reserve, Settle}
+use Rattle.journal_records.specs.declared.records.Record.TheVariants.{Reserve}
+use Rattle.journal_records.specs.Records.{settling}
 use Rattle.fz_frac.specs.Lowest.{gcd, gcd_in}
 use Rattle.fz_ast.specs.Signature.{TableType, row_of}
 use Rattle.fz_ast.specs.Types.{NumT}
@@ -22,7 +23,7 @@ use Rattle.wire_lines.specs.declared.refusal.LineRefusal.TheVariants.{NoHello}
 use Rattle.wire_lines.specs.declared.refusal.MoneyRefusal.TheVariants.{JournalFull}
 use Rattle.wire_lines.specs.declared.refusal.NumberRefusal.TheVariants.{Exhausted as NoNoise, Lost as NoAnswer}
 use Rattle.sha2.specs.Sha256.{sha256}
-use Rattle.answer_path.specs.Owner.{Owner}
+use Rattle.owner_house.specs.Owner.{Owner}
 use Rattle.answer_path.specs.Query.{Query}
 use Rattle.answer_path.specs.Judgement.{judgement_of, HasValue}
 use Rattle.answer_path.specs.Program.{IsCharged}
@@ -31,7 +32,7 @@ use Rattle.answer_path.proofs.Programs.{one_value}
 use Rattle.answer_path.proofs.SizePeople.{size_people, size_term, size_reads}
 use Rattle.owner_history.specs.Explains.{ExplainsOutcome, IsExplained, Explains}
 use Rattle.owner_history.specs.Shown.{IsShown}
-use Rattle.owner_history.specs.Granted.{settlement_in, recall_in, IsGranted, IsBorneOut, IsSettledFor, IsRecallBorneOut}
+use Rattle.owner_history.specs.Granted.{told_settlement, recall_in, IsGranted, IsBorneOut, IsSettledFor, IsRecallBorneOut}
 
 abbrev pub people : TableType
 people = record { name = codes "people"; row = row_of NumT [] }
@@ -63,10 +64,10 @@ two_value = (size_term, size_reads, (2, (NumF (pos 30) ∷ NumF (pos 40) ∷ [],
 
 -- the size at epsilon 1, by the first analyst, and its answer: three rows and the noise -1
 abbrev pub reserved : Reservation
-reserved = record { number = 0; view = Whole; e = 1000000; p = 1; q = 1; taken = 1000000; analyst = 0; program = sha256 size_people }
+reserved = record { number = 0; view = Whole; e = 1000000; p = 1; q = 1; taken = 1000000; analyst = 0; digest = sha256 size_people }
 
 abbrev pub settled_as : Outcome → List Record
-settled_as outcome = Reserve reserved ∷ Settle 0 outcome ∷ []
+settled_as outcome = Reserve reserved ∷ settling 0 outcome ∷ []
 
 pub explained_two : (draws : ℕ → ℕ) → noise_at 1000000 draws ≡ Some (negsuc 0) → IsExplained three draws reserved size_people (Some (Answered (pos 2)))
 unfolding signature_in rows_in
@@ -96,7 +97,7 @@ lost_is : (draws : ℕ → ℕ) → ExplainsOutcome three draws reserved size_pe
 lost_is draws = tt
 
 -- a reservation with another program's digest isn't explained
-other_digest : (draws : ℕ → ℕ) → (sha256 [] ≡ sha256 size_people → ⊥) → IsExplained three draws (record reserved { program = sha256 [] }) size_people None → ⊥
+other_digest : (draws : ℕ → ℕ) → (sha256 [] ≡ sha256 size_people → ⊥) → IsExplained three draws (record reserved { digest = sha256 [] }) size_people None → ⊥
 other_digest draws others h = others h.digest
 
 -- a reservation without a program isn't explained
@@ -121,34 +122,34 @@ unfolding IsShown
 shown_open = (0, 0, refl, refl, refl)
 
 -- which replies speak of a reservation
-of_answer : settlement_in (answered 7 (pos 2) 1000000) ≡ Some (7, Answered (pos 2))
+of_answer : told_settlement (answered 7 (pos 2) 1000000) ≡ Some (7, Answered (pos 2))
 of_answer = refl
 
-of_exhausted : settlement_in (refused (by_number (NoNoise 7))) ≡ Some (7, Exhausted)
+of_exhausted : told_settlement (refused (by_number (NoNoise 7))) ≡ Some (7, Exhausted)
 of_exhausted = refl
 
-of_lost : settlement_in (refused (by_number (NoAnswer 7))) ≡ Some (7, Lost)
+of_lost : told_settlement (refused (by_number (NoAnswer 7))) ≡ Some (7, Lost)
 of_lost = refl
 
-of_greeting : settlement_in (greeted (codes "ann")) ≡ None
+of_greeting : told_settlement (greeted (codes "ann")) ≡ None
 of_greeting = refl
 
-of_end : settlement_in ended ≡ None
+of_end : told_settlement ended ≡ None
 of_end = refl
 
-of_line : settlement_in (refused (by_line NoHello)) ≡ None
+of_line : told_settlement (refused (by_line NoHello)) ≡ None
 of_line = refl
 
-of_program : settlement_in (refused (by_program no_number)) ≡ None
+of_program : told_settlement (refused (by_program no_number)) ≡ None
 of_program = refl
 
-of_money : settlement_in (refused (by_money (JournalFull 2 0 3))) ≡ None
+of_money : told_settlement (refused (by_money (JournalFull 2 0 3))) ≡ None
 of_money = refl
 
-of_memory : settlement_in (refused no_memory) ≡ None
+of_memory : told_settlement (refused no_memory) ≡ None
 of_memory = refl
 
-of_disk : settlement_in (refused (by_disk Fault)) ≡ None
+of_disk : told_settlement (refused (by_disk Fault)) ≡ None
 of_disk = refl
 
 -- a recalled answer is told by another reply than the first one, and is the value that was settled
@@ -182,14 +183,14 @@ not_recalled_three h = let s = h 0 (Answered (pos 3)) refl in cc (s.settled)
 not_recalled_by_another : IsRecallBorneOut (settled_as (Answered (pos 2))) 1 (recalled 0 (WasAnswered (pos 2)) 2) → ⊥
 not_recalled_by_another h =
     let s = h 0 (Answered (pos 2)) refl in
-    let both : Some (Reserve reserved) ≡ Some (Reserve s.reserved) = s.numbered in
+    let both : Some reserved ≡ Some s.reserved = s.numbered in
     let same : reserved ≡ s.reserved = cc (both) in
     let other : 0 ≡ 1 = ap (λ (r : Reservation). r.analyst) same ∙ s.asked_by in
     cc (other)
 
 -- a query, and what the records say of it
 abbrev query_by : (analyst e : ℕ) → Query
-query_by analyst e = record { owner = 0; analyst = analyst; view = Whole; e = e; program = size_people }
+query_by analyst e = record { analyst = analyst; view = Whole; e = e; program = size_people }
 
 granted_two : IsGranted (size_people ∷ []) (settled_as (Answered (pos 2))) (query_by 0 1000000) 0 (Answered (pos 2))
 granted_two = record { reserved = reserved; numbered = refl; analyst = refl; view = refl; epsilon = refl; settled = refl; program = refl }
@@ -211,7 +212,7 @@ not_the_number h = let g = h 1 (Answered (pos 2)) refl in cc (g.settled)
 not_the_analyst : IsBorneOut (size_people ∷ []) (settled_as (Answered (pos 2))) (query_by 1 1000000) (answered 0 (pos 2) 1000000) → ⊥
 not_the_analyst h =
     let g = h 0 (Answered (pos 2)) refl in
-    let both : Some (Reserve reserved) ≡ Some (Reserve g.reserved) = g.numbered in
+    let both : Some reserved ≡ Some g.reserved = g.numbered in
     let same : reserved ≡ g.reserved = cc (both) in
     let other : 0 ≡ 1 = ap (λ (r : Reservation). r.analyst) same ∙ g.analyst in
     cc (other)
@@ -219,7 +220,7 @@ not_the_analyst h =
 not_the_epsilon : IsBorneOut (size_people ∷ []) (settled_as (Answered (pos 2))) (query_by 0 500000) (answered 0 (pos 2) 1000000) → ⊥
 not_the_epsilon h =
     let g = h 0 (Answered (pos 2)) refl in
-    let both : Some (Reserve reserved) ≡ Some (Reserve g.reserved) = g.numbered in
+    let both : Some reserved ≡ Some g.reserved = g.numbered in
     let same : reserved ≡ g.reserved = cc (both) in
     let other : 1000000 ≡ 500000 = ap (λ (r : Reservation). r.e) same ∙ g.epsilon in
     omega (arith, other)

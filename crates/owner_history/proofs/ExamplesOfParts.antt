@@ -7,8 +7,10 @@ use Rattle.partition_charge.specs.declared.view.View.TheVariants.{Whole, Part}
 use Rattle.partition_charge.specs.Cost.{cost_of_charges, partition_cost}
 use Rattle.journal_records.specs.declared.records.Outcome.TheVariants.{Answered}
 use Rattle.journal_records.specs.declared.records.Record.{Record}
-use Rattle.journal_records.specs.declared.records.Record.TheVariants.{Reserve, Settle}
+use Rattle.journal_records.specs.declared.records.Record.TheVariants.{Reserve}
+use Rattle.journal_records.specs.Records.{settling}
 use Rattle.budget_core.specs.Cost.{cost_of}
+use Rattle.budget_core.specs.Entries.{Entry}
 use Rattle.budget_core.specs.Counts.{reservations_of}
 use Rattle.fz_frac.specs.Lowest.{gcd, gcd_in}
 use Rattle.fz_ast.specs.Signature.{IsSignature, Signature, TableType, row_of}
@@ -24,13 +26,12 @@ use Rattle.part_views.specs.Views.{signature_in, rows_in}
 use Rattle.sha2.specs.Sha256.{sha256}
 use Rattle.shape_law.specs.Walk.{depth_limit}
 use Rattle.answer_path.specs.Judgement.{HasValue, judgement_of}
-use Rattle.answer_path.specs.Owner.{Owner}
+use Rattle.owner_house.specs.Owner.{Owner, HasData}
 use Rattle.answer_path.specs.Program.{IsCharged}
 use Rattle.answer_path.specs.Reading.{read, IsReading}
 use Rattle.answer_path.proofs.Programs.{one_value}
 use Rattle.answer_path.proofs.SizePeople.{size_people, size_term, size_reads, span}
 use Rattle.owner_history.specs.Shown.{IsShown}
-use Rattle.owner_history.specs.Sound.{HasData}
 use Rattle.owner_history.proofs.Bounded.{AreCharged, shown_bounded}
 use Rattle.owner_history.proofs.OneShown.{shown_once}
 
@@ -69,11 +70,17 @@ other = (a_blue ∷ []) ∷ (TextF (codes "park") ∷ []) ∷ []
 three_apart : apart rows other ≡ 3
 three_apart = refl
 
+abbrev entry_with : List ℕ → Entry
+entry_with keys = record { budget = 10000000; capacity = 100; analysts = 1; keys = keys }
+
+abbrev an_entry : Entry
+an_entry = entry_with (2 ∷ 1 ∷ 1 ∷ [])
+
 -- the owner's entry says how many keys each partition has: 2, 1 and 1
 abbrev with_keys : List ℕ → Owner
 with_keys keys = record {
   name = codes "census";
-  entry = record { budget = 10000000; capacity = 100; analysts = 1; keys = keys };
+  entry = entry_with keys;
   tables = tables;
   rows = rows;
   partitions = partitions;
@@ -142,16 +149,16 @@ other_at_pool reads = (visits_term, reads, (2, ([], refl, refl)))
 -- a size at an epsilon, by the first analyst, and its answer
 abbrev asked : (number : ℕ) → View → (e taken : ℕ) → (program : List ℕ) → Record
 asked number view e taken program
-    = Reserve (record { number = number; view = view; e = e; p = 1; q = 1; taken = taken; analyst = 0; program = sha256 program })
+    = Reserve (record { number = number; view = view; e = e; p = 1; q = 1; taken = taken; analyst = 0; digest = sha256 program })
 
 abbrev settled : ℕ → Record
-settled number = Settle number (Answered (pos 2))
+settled number = settling number (Answered (pos 2))
 
 -- B costs nothing more: cities have no row in common
 abbrev both_cities : List Record
 both_cities = asked 0 (Part 0 0) 1000000 1000000 size_people ∷ settled 0 ∷ asked 1 (Part 0 1) 1000000 0 size_people ∷ settled 1 ∷ []
 
-cities_cost_once : cost_of both_cities ≡ 1000000
+cities_cost_once : cost_of an_entry both_cities ≡ 1000000
 unfolding cost_of cost_of_charges partition_cost
 cities_cost_once = refl
 
@@ -195,7 +202,7 @@ mix =
     ∷ asked 4 (Part 2 0) 250000 250000 size_visits ∷ settled 4 ∷ []
 
 -- the whole 500000, cities 1000000, teams 1000000, places 250000
-mix_costs : cost_of mix ≡ 2750000
+mix_costs : cost_of an_entry mix ≡ 2750000
 unfolding cost_of cost_of_charges partition_cost
 mix_costs = refl
 
@@ -299,7 +306,7 @@ mix_charged reads = (charged_alone, (charged_beside, (charged_alone, (charged_al
 mix_bounded : IsReading size_visits (read visits_term)
     → (d : ℕ) × IsShown tables partitions (size_people ∷ size_people ∷ size_people ∷ size_people ∷ size_visits ∷ []) mix rows other d × (d ≤ 8250000)
 mix_bounded reads =
-    let shown = shown_bounded tables partitions mix rows other (size_people ∷ size_people ∷ size_people ∷ size_people ∷ size_visits ∷ [])
+    let shown = shown_bounded an_entry tables partitions mix rows other (size_people ∷ size_people ∷ size_people ∷ size_people ∷ size_visits ∷ [])
     (record { well = tables_signed; divided = are_partitions; first = rows_typed; second = other_typed }) (mix_charged reads) in
     let within : shown.0 ≤ 2750000 * 3 = subst (λ (cost : ℕ). shown.0 ≤ cost * 3) mix_costs shown.2 in
     (shown.0, shown.1, omega (arith, within))

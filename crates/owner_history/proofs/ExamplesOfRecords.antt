@@ -6,7 +6,8 @@ use Rattle.partition_charge.specs.declared.view.View.TheVariants.{Whole, Part}
 use Rattle.journal_records.specs.declared.records.Outcome.TheVariants.{Answered, Exhausted}
 use Rattle.journal_records.specs.declared.records.Reservation.{Reservation}
 use Rattle.journal_records.specs.declared.records.Record.{Record}
-use Rattle.journal_records.specs.declared.records.Record.TheVariants.{Reserve, Settle}
+use Rattle.journal_records.specs.declared.records.Record.TheVariants.{Reserve}
+use Rattle.journal_records.specs.Records.{settling}
 use Rattle.budget_core.specs.Counts.{outcome_of, reservations_of}
 use Rattle.metric_values.specs.Distances.{gap}
 use Rattle.part_views.specs.Views.{signature_in, rows_in}
@@ -25,7 +26,7 @@ explains_one : (draws : ℕ → ℕ → ℕ) → noise_at 1000000 (draws 0) ≡ 
 explains_one draws noise = record { each_has = refl; explained = each }
   where
     each : (n : ℕ) (program : List ℕ) (r : Reservation) → slice_get (size_people ∷ []) n ≡ Some program
-        → slice_get (reservations_of (settled_as (Answered (pos 2)))) n ≡ Some (Reserve r) → IsExplained three (draws n) r program (outcome_of (settled_as (Answered (pos 2))) n)
+        → slice_get (reservations_of (settled_as (Answered (pos 2)))) n ≡ Some r → IsExplained three (draws n) r program (outcome_of (settled_as (Answered (pos 2))) n)
     each zero program r is numbered =
         let p : size_people ≡ program = cc (is) in
         let q : reserved ≡ r = cc (numbered) in
@@ -41,13 +42,13 @@ not_by_two draws h = absurd (cc (h.each_has))
 
 -- At epsilon 1/2 one row less moves the answer half as far; with the answer at epsilon 1 before it, both add up.
 abbrev at_half : Reservation
-at_half = record { number = 1; view = Whole; e = 500000; p = 1; q = 1; taken = 500000; analyst = 0; program = sha256 size_people }
+at_half = record { number = 1; view = Whole; e = 500000; p = 1; q = 1; taken = 500000; analyst = 0; digest = sha256 size_people }
 
 abbrev half_alone : List Record
-half_alone = Reserve (record at_half { number = 0 }) ∷ Settle 0 (Answered (pos 4)) ∷ []
+half_alone = Reserve (record at_half { number = 0 }) ∷ settling 0 (Answered (pos 4)) ∷ []
 
 abbrev two_answers : List Record
-two_answers = Reserve reserved ∷ Settle 0 (Answered (pos 2)) ∷ Reserve at_half ∷ Settle 1 (Answered (pos 4)) ∷ []
+two_answers = Reserve reserved ∷ settling 0 (Answered (pos 2)) ∷ Reserve at_half ∷ settling 1 (Answered (pos 4)) ∷ []
 
 shown_at_half : IsShown (people ∷ []) [] (size_people ∷ []) half_alone three.rows two_rows 500000
 unfolding IsShown signature_in rows_in
@@ -59,7 +60,7 @@ shown_two = (1000000, 500000, (pos 3, pos 2, three_value, two_value, refl), (500
 
 -- the second alone was answered
 shown_second : IsShown (people ∷ []) [] (size_people ∷ size_people ∷ [])
-    (Reserve reserved ∷ Reserve at_half ∷ Settle 1 (Answered (pos 4)) ∷ Settle 0 Exhausted ∷ []) three.rows two_rows 500000
+    (Reserve reserved ∷ Reserve at_half ∷ settling 1 (Answered (pos 4)) ∷ settling 0 Exhausted ∷ []) three.rows two_rows 500000
 unfolding IsShown signature_in rows_in
 shown_second = (0, 500000, refl, (500000, 0, (pos 3, pos 2, three_value, two_value, refl), refl, refl), refl)
 
@@ -77,14 +78,14 @@ not_shown_by_one (m, n, first, rest, sum) = rest
 
 -- A query in another view wasn't granted that number.
 abbrev query_in : View → Query
-query_in view = record { owner = 0; analyst = 0; view = view; e = 1000000; program = size_people }
+query_in view = record { analyst = 0; view = view; e = 1000000; program = size_people }
 
 granted_in_the_whole : IsGranted (size_people ∷ []) (settled_as (Answered (pos 2))) (query_in Whole) 0 (Answered (pos 2))
 granted_in_the_whole = record { reserved = reserved; numbered = refl; analyst = refl; view = refl; epsilon = refl; settled = refl; program = refl }
 
 not_the_view : IsGranted (size_people ∷ []) (settled_as (Answered (pos 2))) (query_in (Part 0 0)) 0 (Answered (pos 2)) → ⊥
 not_the_view g =
-    let both : Some (Reserve reserved) ≡ Some (Reserve g.reserved) = g.numbered in
+    let both : Some reserved ≡ Some g.reserved = g.numbered in
     let same : reserved ≡ g.reserved = cc (both) in
     let other : Whole ≡ Part 0 0 = ap (λ (r : Reservation). r.view) same ∙ g.view in
     absurd (cc (other))

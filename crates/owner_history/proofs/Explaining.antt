@@ -3,19 +3,21 @@ use Rattle.std.proofs.Common.{◌≡◌, ℕ, ◌+◌, cond, List, [], ◌∷◌
 use Rattle.std.specs.Prelude.{ℤ}
 use Rattle.std.specs.Option.{option_or}
 use Rattle.std.proofs.lemmas.Bool.{ne_eqb}
-use Rattle.std.proofs.lemmas.List.Elements.{filter-append}
+use Rattle.std.proofs.lemmas.Option.{same_Some}
+use Rattle.std.proofs.lemmas.List.Elements.{filter_map-append}
 use mathlib.Core.Logic.{dite, inl, inr}
 use native.Mathlib.Decide.{ℕ_discrete}
 use Rattle.journal_records.specs.declared.records.Outcome.{Outcome}
 use Rattle.journal_records.specs.declared.records.Reservation.{Reservation}
 use Rattle.journal_records.specs.declared.records.Record.{Record}
-use Rattle.journal_records.specs.declared.records.Record.TheVariants.{Reserve, Settle}
-use Rattle.budget_core.specs.Counts.{is_reservation, reservations_of, outcome_of}
+use Rattle.journal_records.specs.declared.records.Record.TheVariants.{Reserve}
+use Rattle.journal_records.specs.Records.{reservation_in, settling}
+use Rattle.budget_core.specs.Counts.{reservations_of, outcome_of}
 use Rattle.budget_core.specs.Legal.{IsHistory}
 use Rattle.budget_core.proofs.Histories.{push_cases}
 use Rattle.budget_core.proofs.Numbers.{outcome_past, outcome_of-append-Reserve, outcome_of-append-Settle, outcome_of-append-new}
 use Rattle.sha2.specs.Sha256.{sha256}
-use Rattle.answer_path.specs.Owner.{Owner, signature_of_view, rows_of_view}
+use Rattle.owner_house.specs.Owner.{Owner, signature_of_view, rows_of_view}
 use Rattle.answer_path.specs.Query.{Query}
 use Rattle.answer_path.specs.Judgement.{HasValue}
 use Rattle.answer_path.specs.Program.{IsCharged}
@@ -23,15 +25,12 @@ use Rattle.answer_path.specs.Noise.{noise_at}
 use Rattle.answer_path.specs.Answered.{IsSettledAt, IsSettledBy}
 use Rattle.owner_history.specs.Explains.{ExplainsOutcome, IsExplained, Explains}
 
-same_reserved : (r s : Reservation) → Some (Reserve r) ≡ Some (Reserve s) → r ≡ s
-same_reserved r s is = cc
-
 or_none : {X : Type 0} → (o : Option X) → option_or o None ≡ o
 or_none None = refl
 or_none (Some x) = refl
 
-settlements_reserve_nothing : (records : List Record) (n : ℕ) (outcome : Outcome) → reservations_of (records ++ Settle n outcome ∷ []) ≡ reservations_of records
-settlements_reserve_nothing records n outcome = filter-append is_reservation records (Settle n outcome ∷ []) ∙ append-nil (reservations_of records)
+settlements_reserve_nothing : (records : List Record) (n : ℕ) (outcome : Outcome) → reservations_of (records ++ settling n outcome ∷ []) ≡ reservations_of records
+settlements_reserve_nothing records n outcome = filter_map-append reservation_in records (settling n outcome ∷ []) ∙ append-nil (reservations_of records)
 
 -- nothing explains nothing
 pub explains_none : (owner : Owner) (draws : ℕ → ℕ → ℕ) → Explains owner draws [] []
@@ -39,14 +38,14 @@ explains_none owner draws = record { each_has = refl; explained = λ n program r
 
 module _ (owner : Owner) (draws : ℕ → ℕ → ℕ) (programs : List (List ℕ)) (records : List Record) (ex : Explains owner draws programs records) where
   -- a reservation more, which has its program's digest and is charged its sensitivity in its view
-  pub explains_reservation : (program : List ℕ) (reserved : Reservation) → IsHistory owner.entry records → reserved.program ≡ sha256 program → IsCharged (signature_of_view owner reserved.view) program reserved.p reserved.q
+  pub explains_reservation : (program : List ℕ) (reserved : Reservation) → IsHistory owner.entry records → reserved.digest ≡ sha256 program → IsCharged (signature_of_view owner reserved.view) program reserved.p reserved.q
       → Explains owner draws (programs ++ program ∷ []) (records ++ Reserve reserved ∷ [])
   explains_reservation program reserved h digest charged =
-      let made : reservations_of (records ++ Reserve reserved ∷ []) ≡ reservations_of records ++ Reserve reserved ∷ [] = filter-append is_reservation records (Reserve reserved ∷ []) in
+      let made : reservations_of (records ++ Reserve reserved ∷ []) ≡ reservations_of records ++ reserved ∷ [] = filter_map-append reservation_in records (Reserve reserved ∷ []) in
       record {
-        each_has = length-append programs (program ∷ []) ∙ ap (λ m. m + 1) ex.each_has ∙ sym (ap length made ∙ length-append (reservations_of records) (Reserve reserved ∷ []));
+        each_has = length-append programs (program ∷ []) ∙ ap (λ m. m + 1) ex.each_has ∙ sym (ap length made ∙ length-append (reservations_of records) (reserved ∷ []));
         explained = λ m other found at made_at. subst (λ (o : Option Outcome). IsExplained owner (draws m) found other o) (sym (outcome_of-append-Reserve records reserved m))
-            (elim (push_cases (reservations_of records) (Reserve reserved) m (Reserve found) (ap (λ (rs : List Record). slice_get rs m) (sym made) ∙ made_at)) [
+            (elim (push_cases (reservations_of records) reserved m found (ap (λ (rs : List Reservation). slice_get rs m) (sym made) ∙ made_at)) [
               | inl before ↦ elim (push_cases programs program m other at) [
                 | inl known ↦ ex.explained m other found known.1 before.1
                 | inr seam ↦ absurd (omega (arith, ex.each_has, before.0, seam.0))
@@ -55,7 +54,7 @@ module _ (owner : Owner) (draws : ℕ → ℕ → ℕ) (programs : List (List �
                 | inl known ↦ absurd (omega (arith, ex.each_has, known.0, last.0))
                 | inr seam ↦
                     let none : outcome_of records m ≡ None = outcome_past owner.entry records h m (omega (arith, last.0)) in
-                    let same : reserved ≡ found = same_reserved reserved found (ap (λ r. Some r) last.1) in
+                    let same : reserved ≡ found = last.1 in
                     let new : IsExplained owner (draws m) reserved program None = record { digest = digest; charged = charged; settled = tt } in
                     subst (λ (o : Option Outcome). IsExplained owner (draws m) found other o) (sym none)
                     (subst (λ (r : Reservation). IsExplained owner (draws m) r other None) same
@@ -66,29 +65,29 @@ module _ (owner : Owner) (draws : ℕ → ℕ → ℕ) (programs : List (List �
 
   -- a settlement more, which the reservation's program explains
   pub explains_settlement : (n : ℕ) (program : List ℕ) (reserved : Reservation) (outcome : Outcome) → slice_get programs n ≡ Some program
-      → slice_get (reservations_of records) n ≡ Some (Reserve reserved) → outcome_of records n ≡ None → ExplainsOutcome owner (draws n) reserved program (Some outcome)
-      → Explains owner draws programs (records ++ Settle n outcome ∷ [])
+      → slice_get (reservations_of records) n ≡ Some reserved → outcome_of records n ≡ None → ExplainsOutcome owner (draws n) reserved program (Some outcome)
+      → Explains owner draws programs (records ++ settling n outcome ∷ [])
   explains_settlement n program reserved outcome at_n made_n none settled =
-      let same : reservations_of (records ++ Settle n outcome ∷ []) ≡ reservations_of records = settlements_reserve_nothing records n outcome in
+      let same : reservations_of (records ++ settling n outcome ∷ []) ≡ reservations_of records = settlements_reserve_nothing records n outcome in
       record {
         each_has = ex.each_has ∙ ap length (sym same);
         explained = λ m other found at made_at.
-            let made : slice_get (reservations_of records) m ≡ Some (Reserve found) = ap (λ (rs : List Record). slice_get rs m) (sym same) ∙ made_at in
+            let made : slice_get (reservations_of records) m ≡ Some found = ap (λ (rs : List Reservation). slice_get rs m) (sym same) ∙ made_at in
             let before = ex.explained m other found at made in record {
               digest = before.digest;
               charged = before.charged;
               settled = dite (ℕ_discrete m n)
                   (λ is.
-                  let here : Some (Reserve reserved) ≡ Some (Reserve found) = sym made_n ∙ ap (λ k. slice_get (reservations_of records) k) (sym is) ∙ made in
+                  let here : Some reserved ≡ Some found = sym made_n ∙ ap (λ k. slice_get (reservations_of records) k) (sym is) ∙ made in
                   let there : Some program ≡ Some other = sym at_n ∙ ap (λ k. slice_get programs k) (sym is) ∙ at in
                   let asked : program ≡ other = cc in
-                  let now : outcome_of (records ++ Settle n outcome ∷ []) m ≡ Some outcome = ap (λ k. outcome_of (records ++ Settle n outcome ∷ []) k) is ∙ outcome_of-append-new records n outcome none in
+                  let now : outcome_of (records ++ settling n outcome ∷ []) m ≡ Some outcome = ap (λ k. outcome_of (records ++ settling n outcome ∷ []) k) is ∙ outcome_of-append-new records n outcome none in
                   subst (λ (o : Option Outcome). ExplainsOutcome owner (draws m) found other o) (sym now)
                   (subst (λ (x : List ℕ). ExplainsOutcome owner (draws m) found x (Some outcome)) asked
-                  (subst (λ (r : Reservation). ExplainsOutcome owner (draws m) r program (Some outcome)) (same_reserved reserved found here)
+                  (subst (λ (r : Reservation). ExplainsOutcome owner (draws m) r program (Some outcome)) (same_Some reserved found here)
                   (subst (λ (k : ℕ). ExplainsOutcome owner (draws k) reserved program (Some outcome)) (sym is) settled))))
                   (λ other_number.
-                  let old : outcome_of (records ++ Settle n outcome ∷ []) m ≡ outcome_of records m
+                  let old : outcome_of (records ++ settling n outcome ∷ []) m ≡ outcome_of records m
                   = outcome_of-append-Settle records n outcome m ∙ ap (λ b. option_or (outcome_of records m) (cond b (Some outcome) None)) (ne_eqb m n other_number) ∙ or_none (outcome_of records m) in
                   subst (λ (o : Option Outcome). ExplainsOutcome owner (draws m) found other o) (sym old) before.settled);
             };

@@ -4,7 +4,7 @@ use Rattle.std.specs.Prelude.{ℤ}
 use Rattle.journal_records.specs.declared.records.Outcome.{Outcome}
 use Rattle.journal_records.specs.declared.records.Outcome.TheVariants.{Answered, Exhausted, Lost}
 use Rattle.journal_records.specs.declared.records.Record.{Record}
-use Rattle.journal_records.specs.declared.records.Record.TheVariants.{Reserve, Settle}
+use Rattle.journal_records.specs.declared.records.Reservation.{Reservation}
 use Rattle.budget_core.specs.Counts.{reservations_of, outcome_of}
 use Rattle.metric_values.specs.Distances.{gap}
 use Rattle.metric_values.specs.Tables.{Dataset}
@@ -25,13 +25,12 @@ displaced_once tables rows other e program (Some Exhausted) c d f g = f ∙ sym 
 displaced_once tables rows other e program (Some Lost) c d f g = f ∙ sym g
 
 module _ (tables : Signature) (partitions : List PartitionEntry) (records : List Record) (rows other : Dataset) where
-  reservation_once : (program : List ℕ) (r : Record) (c d : ℕ)
+  reservation_once : (program : List ℕ) (r : Reservation) (c d : ℕ)
       → IsDisplaced tables partitions records rows other program r c → IsDisplaced tables partitions records rows other program r d → c ≡ d
-  reservation_once program (Settle number outcome) c d f g = absurd f
-  reservation_once program (Reserve r) c d f g =
+  reservation_once program r c d f g =
       displaced_once (signature_in tables partitions r.view) (rows_in partitions r.view rows) (rows_in partitions r.view other) r.e program (outcome_of records r.number) c d f g
 
-  sum_once : (programs : List (List ℕ)) (reservations : List Record) (c d : ℕ)
+  sum_once : (programs : List (List ℕ)) (reservations : List Reservation) (c d : ℕ)
       → AreDisplaced tables partitions records rows other programs reservations c → AreDisplaced tables partitions records rows other programs reservations d → c ≡ d
   sum_once [] [] c d f g = f ∙ sym g
   sum_once [] (r ∷ rs) c d f g = absurd f

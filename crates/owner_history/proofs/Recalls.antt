@@ -1,13 +1,12 @@
 -- what is recalled is what was settled
-use Rattle.std.proofs.Common.{◌≡◌, ℕ, ◌==◌, Bool, true, false, cond, List, [], ◌∷◌, length, Option, Some, None, option_map, refl, ap, subst, eqb-true}
+use Rattle.std.proofs.Common.{◌≡◌, ℕ, ◌==◌, Bool, true, false, List, length, Option, Some, None, option_map, refl, ap, subst, eqb-true}
 use Rattle.std.specs.Prelude.{nat_le, if◌then◌else◌}
 use Rattle.journal_records.specs.declared.records.Outcome.{Outcome}
 use Rattle.journal_records.specs.declared.records.Outcome.TheVariants.{Answered, Exhausted, Lost}
 use Rattle.journal_records.specs.declared.records.Reservation.{Reservation}
 use Rattle.journal_records.specs.declared.records.Record.{Record}
-use Rattle.journal_records.specs.declared.records.Record.TheVariants.{Reserve, Settle}
 use Rattle.budget_core.specs.declared.answers.Recall.TheVariants.{NotYours, Open, Lost as IsLost}
-use Rattle.budget_core.specs.Counts.{reservation_of, outcome_of, analyst_of}
+use Rattle.budget_core.specs.Counts.{reservation_of, outcome_of}
 use Rattle.budget_core.specs.Answers.{standing, recalled_by, recalled_from}
 use Rattle.answer_path.specs.Standing.{recall_reply}
 use Rattle.owner_history.specs.Granted.{IsSettledFor, IsRecallBorneOut}
@@ -21,18 +20,8 @@ told_one records analyst n m outcome other s is =
     let settled : outcome ≡ other = ap (λ (z : ℕ × Outcome). z.1) pair in
     subst (λ (k : ℕ). IsSettledFor records analyst k other) number (subst (λ (u : Outcome). IsSettledFor records analyst n u) settled s)
 
--- no settlement is found for a reservation
-reserved_never : (records : List Record) (n m : ℕ) (outcome : Outcome) → reservation_of records n ≡ Some (Settle m outcome) → ⊥
-reserved_never [] n m outcome is = cc (is)
-reserved_never (Settle k other ∷ records) n m outcome is = reserved_never records n m outcome is
-reserved_never (Reserve reserved ∷ records) n m outcome is = here (reserved_never records n m outcome) (n == reserved.number) is
-  where
-    here : (reservation_of records n ≡ Some (Settle m outcome) → ⊥) → (b : Bool) → cond b (Some (Reserve reserved)) (reservation_of records n) ≡ Some (Settle m outcome) → ⊥
-    here rest true is = cc (is)
-    here rest false is = rest is
-
 module _ (start : ℕ) (records : List Record) (number analyst : ℕ) where
-  standing_borne : (reserved : Reservation) → reservation_of records number ≡ Some (Reserve reserved) → reserved.analyst ≡ analyst → (o : Option Outcome) → outcome_of records number ≡ o
+  standing_borne : (reserved : Reservation) → reservation_of records number ≡ Some reserved → reserved.analyst ≡ analyst → (o : Option Outcome) → outcome_of records number ≡ o
       → IsRecallBorneOut records analyst (recall_reply number (standing start number (length records) o))
   standing_borne reserved made ours (Some (Answered value)) is = λ n outcome said. told_one records analyst number n (Answered value) outcome (record { reserved = reserved; numbered = made; asked_by = ours; settled = is }) said
   standing_borne reserved made ours (Some Exhausted) is = λ n outcome said. told_one records analyst number n Exhausted outcome (record { reserved = reserved; numbered = made; asked_by = ours; settled = is }) said
@@ -44,10 +33,9 @@ module _ (start : ℕ) (records : List Record) (number analyst : ℕ) where
       here false = λ n outcome said. absurd (cc (said))
 
   -- by the analyst who reserved it
-  asked_borne : (reserved : Option Record) → reservation_of records number ≡ reserved → IsRecallBorneOut records analyst (recall_reply number (recalled_by start records number analyst (option_map analyst_of reserved)))
+  asked_borne : (reserved : Option Reservation) → reservation_of records number ≡ reserved → IsRecallBorneOut records analyst (recall_reply number (recalled_by start records number analyst (option_map (λ (reservation : Reservation). reservation.analyst) reserved)))
   asked_borne None is = λ n outcome said. absurd (cc (said))
-  asked_borne (Some (Settle m other)) is = absurd (reserved_never records number m other is)
-  asked_borne (Some (Reserve reserved)) is = here (reserved.analyst == analyst) refl
+  asked_borne (Some reserved) is = here (reserved.analyst == analyst) refl
     where
       here : (b : Bool) → (reserved.analyst == analyst) ≡ b
           → IsRecallBorneOut records analyst (recall_reply number (if b then standing start number (length records) (outcome_of records number) else NotYours (length records)))

@@ -3,12 +3,12 @@ use Rattle.std.proofs.Common.{◌≡◌, ℕ, ◌≤◌, List, length, slice_get
 use Rattle.std.proofs.lemmas.Option.{slice_get_within}
 use Rattle.std.proofs.Math.Seq.{take-length}
 use Rattle.journal_records.specs.declared.records.Record.{Record}
-use Rattle.budget_core.specs.Cost.{cost_of}
+use Rattle.budget_core.specs.Cost.{cost_of, budget_of}
 use Rattle.budget_core.specs.Entries.{Entry}
 use Rattle.budget_core.specs.Legal.{IsLegal}
 use Rattle.budget_core.proofs.LegalLemmas.{legal-cost}
-use Rattle.answer_path.specs.Owner.{Owner}
-use Rattle.owner_history.specs.Sound.{IsBacked, IsFound, IsOwed, MayBeFound, HasData}
+use Rattle.owner_house.specs.Owner.{Owner, HasData}
+use Rattle.owner_history.specs.Sound.{IsBacked, IsFound, IsOwed, MayBeFound}
 use Rattle.owner_history.proofs.Bounded.{explained_bounded}
 use Rattle.owner_history.proofs.Steps.{IsLawful, IsWell}
 
@@ -28,7 +28,7 @@ legal_self entry found = record {
 pub lawful_found : (owner : Owner) (draws : ℕ → ℕ → ℕ) (found : List Record) → MayBeFound owner found → IsLawful owner draws found found
 lawful_found owner draws found f = record { history = f.history; legal = legal_self owner.entry found; later = omega arith }
 
-pub lawful_owed : (owner : Owner) (draws : ℕ → ℕ → ℕ) (found records : List Record) → cost_of found ≤ owner.entry.budget → IsLawful owner draws found records → IsOwed owner found records
+pub lawful_owed : (owner : Owner) (draws : ℕ → ℕ → ℕ) (found records : List Record) → cost_of owner.entry found ≤ budget_of owner.entry found → IsLawful owner draws found records → IsOwed owner found records
 lawful_owed owner draws found records within w = record { legal = w.legal; within = legal-cost owner.entry found records within w.legal }
 
 -- what programs explain may be found
@@ -38,7 +38,7 @@ found_may owner draws found programs f = record { history = f.history; within = 
 pub well_found : (owner : Owner) (draws : ℕ → ℕ → ℕ) (found : List Record) (programs : List (List ℕ)) → IsFound owner draws programs found → IsWell owner draws found programs found
 well_found owner draws found programs f = record { lawful = lawful_found owner draws found (found_may owner draws found programs f); explained = f.explained }
 
-pub well_backed : (owner : Owner) (draws : ℕ → ℕ → ℕ) (found : List Record) (programs : List (List ℕ)) (records : List Record) → HasData owner → cost_of found ≤ owner.entry.budget
+pub well_backed : (owner : Owner) (draws : ℕ → ℕ → ℕ) (found : List Record) (programs : List (List ℕ)) (records : List Record) → HasData owner → cost_of owner.entry found ≤ budget_of owner.entry found
     → IsWell owner draws found programs records → IsBacked owner draws found programs records
 well_backed owner draws found programs records has within w = record {
   legal = w.lawful.legal;

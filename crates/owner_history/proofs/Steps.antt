@@ -1,21 +1,22 @@
 -- an owner's history with one reservation more, and with one settlement more
 use Rattle.std.specs.Prelude.{Ok}
 use Rattle.std.proofs.Common.{◌≡◌, ℕ, ◌+◌, ◌≤◌, List, [], ◌∷◌, ◌++◌, length, slice_get, Some, refl, sym, ◌∙◌, ap, subst, arith, append_assoc}
-use Rattle.std.proofs.lemmas.List.Elements.{filter-append}
+use Rattle.std.proofs.lemmas.List.Elements.{filter_map-append}
 use Rattle.journal_records.specs.declared.records.Outcome.{Outcome}
 use Rattle.journal_records.specs.declared.records.Reservation.{Reservation}
 use Rattle.journal_records.specs.declared.records.Record.{Record}
-use Rattle.journal_records.specs.declared.records.Record.TheVariants.{Reserve, Settle}
+use Rattle.journal_records.specs.declared.records.Record.TheVariants.{Reserve}
+use Rattle.journal_records.specs.Records.{reservation_in, settling}
 use Rattle.budget_core.specs.declared.entry.Ask.{Ask}
 use Rattle.budget_core.specs.declared.entry.Grant.{Grant}
-use Rattle.budget_core.specs.Counts.{is_reservation, reservations_of, reservation_of}
+use Rattle.budget_core.specs.Counts.{reservations_of, reservation_of}
 use Rattle.journal_records.specs.Encoding.{AreChargeTerms}
 use Rattle.budget_core.specs.Legal.{IsHistory, IsLegal}
 use Rattle.budget_core.specs.Ledger.{Ledger, IsAskOf, IsUnsettled, next_number, reservation_numbered, money_verdict}
 use Rattle.budget_core.proofs.Histories.{legal-history, slice_get-append-seam}
 use Rattle.budget_core.proofs.Numbers.{reservations_of-append-Reserve, reservations_of-append-Settle, reservation_of-append-old, reservation_of-next, outcome_of-append-new}
 use Rattle.budget_core.proofs.LegalLemmas.{granted as money_granted, legal-Reserve, legal-Settle, unsettled-Reserve}
-use Rattle.answer_path.specs.Owner.{Owner, signature_of_view}
+use Rattle.owner_house.specs.Owner.{Owner, signature_of_view}
 use Rattle.answer_path.specs.Query.{Query}
 use Rattle.answer_path.specs.Code.{IsQueryOf}
 use Rattle.answer_path.specs.Program.{IsCharged}
@@ -60,12 +61,12 @@ module _ (owner : Owner) (draws : ℕ → ℕ → ℕ) (found : List Record) whe
     pub lawful : IsLawful after
     pub after_is : after ≡ records ++ Reserve r ∷ []
     pub is_number : r.number ≡ n
-    pub numbered : reservation_of after n ≡ Some (Reserve r)
+    pub numbered : reservation_of after n ≡ Some r
     pub unsettled : IsUnsettled (ledger_of after) n
     pub analyst : r.analyst ≡ query.analyst
     pub view : r.view ≡ query.view
     pub epsilon : r.e ≡ query.e
-    pub digest : r.program ≡ sha256 query.program
+    pub digest : r.digest ≡ sha256 query.program
     pub charged : IsCharged (signature_of_view owner r.view) query.program r.p r.q
 
   -- the reservation that is granted for an ask
@@ -106,9 +107,9 @@ module _ (owner : Owner) (draws : ℕ → ℕ → ℕ) (found : List Record) whe
       (reserved_for begun records w query of g.p g.q grant g.charged g.money)
 
   -- One settlement more.
-  pub settle : IsHistory owner.entry found → (records : List Record) → IsLawful records → (n : ℕ) (outcome : Outcome) → IsUnsettled (ledger_of records) n → IsLawful (records ++ Settle n outcome ∷ [])
+  pub settle : IsHistory owner.entry found → (records : List Record) → IsLawful records → (n : ℕ) (outcome : Outcome) → IsUnsettled (ledger_of records) n → IsLawful (records ++ settling n outcome ∷ [])
   settle begun records w n outcome unsettled =
-      let after : List Record = records ++ Settle n outcome ∷ [] in
+      let after : List Record = records ++ settling n outcome ∷ [] in
       let legal : IsLegal owner.entry found after = legal-Settle (ledger_of records) n outcome w.history w.legal unsettled in
       record { history = legal-history owner.entry found after begun legal; legal = legal; later = omega (arith, w.later, reservations_of-append-Settle records n outcome) }
 
@@ -129,13 +130,13 @@ module _ (owner : Owner) (draws : ℕ → ℕ → ℕ) (found : List Record) whe
     pub granted : IsGranted (programs ++ query.program ∷ []) after query n outcome
 
   settled_step : IsHistory owner.entry found → (programs : List (List ℕ)) (records : List Record) → IsWell programs records → (query : Query) (n : ℕ) (r : Reservation) (first : List Record) (outcome : Outcome)
-      → IsReserved records query n r first → IsSettledBy owner draws query n outcome → IsStep programs records query n outcome (first ++ Settle n outcome ∷ [])
+      → IsReserved records query n r first → IsSettledBy owner draws query n outcome → IsStep programs records query n outcome (first ++ settling n outcome ∷ [])
   settled_step begun programs records w query n r first outcome made settles =
       let counted : n ≡ length programs = made.number ∙ sym w.explained.each_has in
       let at : slice_get (programs ++ query.program ∷ []) n ≡ Some query.program = ap (λ k. slice_get (programs ++ query.program ∷ []) k) counted ∙ slice_get-append-seam programs query.program [] in
-      let listed : slice_get (reservations_of first) n ≡ Some (Reserve r)
-      = ap (λ (rs : List Record). slice_get (reservations_of rs) n) made.after_is ∙ ap (λ (rs : List Record). slice_get rs n) (filter-append is_reservation records (Reserve r ∷ []))
-      ∙ ap (λ k. slice_get (reservations_of records ++ Reserve r ∷ []) k) made.number ∙ slice_get-append-seam (reservations_of records) (Reserve r) [] in
+      let listed : slice_get (reservations_of first) n ≡ Some r
+      = ap (λ (rs : List Record). slice_get (reservations_of rs) n) made.after_is ∙ ap (λ (rs : List Reservation). slice_get rs n) (filter_map-append reservation_in records (Reserve r ∷ []))
+      ∙ ap (λ k. slice_get (reservations_of records ++ r ∷ []) k) made.number ∙ slice_get-append-seam (reservations_of records) r [] in
       let reserved : IsWell (programs ++ query.program ∷ []) first = well_reserved programs records w query n r first made in
       record {
         number = made.number;
@@ -147,7 +148,7 @@ module _ (owner : Owner) (draws : ℕ → ℕ → ℕ) (found : List Record) whe
         };
         granted = record {
           reserved = r;
-          numbered = reservation_of-append-old first (Settle n outcome) n (Reserve r) made.numbered;
+          numbered = reservation_of-append-old first (settling n outcome) n r made.numbered;
           analyst = made.analyst;
           view = made.view;
           epsilon = made.epsilon;
@@ -162,7 +163,7 @@ module _ (owner : Owner) (draws : ℕ → ℕ → ℕ) (found : List Record) whe
       → IsStep programs records query grant.number outcome (records ++ grant_records asking grant outcome)
   step begun programs records w query of asking grant outcome is settles =
       let made = reserve begun records w.lawful query of asking grant is in
-      subst (λ (rs : List Record). IsStep programs records query grant.number outcome rs) (append_assoc records (granted_record asking grant ∷ []) (Settle grant.number outcome ∷ []))
+      subst (λ (rs : List Record). IsStep programs records query grant.number outcome rs) (append_assoc records (granted_record asking grant ∷ []) (settling grant.number outcome ∷ []))
       (settled_step begun programs records w query grant.number (reservation_numbered grant.number asking grant.taken) (records ++ granted_record asking grant ∷ []) outcome made settles)
 
   -- The same of the records alone, whatever was found.
@@ -170,7 +171,7 @@ module _ (owner : Owner) (draws : ℕ → ℕ → ℕ) (found : List Record) whe
       → IsVerdict owner.entry (signature_of_view owner query.view) (length (reservations_of found)) records query (granted asking grant) → IsLawful (records ++ grant_records asking grant outcome)
   lawful_step begun records w query of asking grant outcome is =
       let made = reserve begun records w query of asking grant is in
-      subst IsLawful (append_assoc records (granted_record asking grant ∷ []) (Settle grant.number outcome ∷ []))
+      subst IsLawful (append_assoc records (granted_record asking grant ∷ []) (settling grant.number outcome ∷ []))
       (settle begun (records ++ granted_record asking grant ∷ []) made.lawful grant.number outcome made.unsettled)
 
 -- what is said of a number stays so in records and programs that go on
@@ -178,7 +179,7 @@ pub granted_on : (programs more : List (List ℕ)) (records after : List Record)
     → IsGranted programs records query n outcome → IsGranted more after query n outcome
 granted_on programs more records after query n outcome p r g = record {
   reserved = g.reserved;
-  numbered = reservation_prefix records after n (Reserve g.reserved) r g.numbered;
+  numbered = reservation_prefix records after n g.reserved r g.numbered;
   analyst = g.analyst;
   view = g.view;
   epsilon = g.epsilon;
@@ -189,7 +190,7 @@ granted_on programs more records after query n outcome p r g = record {
 pub settled_for_on : (records after : List Record) (analyst n : ℕ) (outcome : Outcome) → IsPrefix records after → IsSettledFor records analyst n outcome → IsSettledFor after analyst n outcome
 settled_for_on records after analyst n outcome r s = record {
   reserved = s.reserved;
-  numbered = reservation_prefix records after n (Reserve s.reserved) r s.numbered;
+  numbered = reservation_prefix records after n s.reserved r s.numbered;
   asked_by = s.asked_by;
   settled = outcome_prefix records after n outcome r s.settled;
 }

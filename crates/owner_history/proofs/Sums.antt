@@ -6,7 +6,7 @@ use Rattle.std.proofs.lemmas.List.Sums.{sum_by-cons}
 use Rattle.partition_charge.specs.declared.view.View.{View}
 use Rattle.partition_charge.specs.declared.view.View.TheVariants.{Whole, Part}
 use Rattle.partition_charge.specs.Views.{same_view}
-use Rattle.partition_charge.specs.Cost.{Charge, charged_to, charges_of, greatest_below, total_below}
+use Rattle.partition_charge.specs.Cost.{Charge, charged_to, charges_of, total_below}
 
 -- ---- sums
 
@@ -21,6 +21,11 @@ total-more (suc n) f g a j lt below more = ⊎_elim
     (λ is. let here : f j ≡ f n = ap f is in let there : g j ≡ g n = ap g is in omega (arith, total-le n f g below))
     (λ isnt. omega (arith, total-more n f g a j (omega arith) below more, below n))
     (cases_eq j n)
+
+-- the greatest of f 0 to f (n - 1)
+abbrev pub greatest_below : ℕ → (ℕ → ℕ) → ℕ
+greatest_below zero f = 0
+greatest_below (suc n) f = max (greatest_below n f) (f n)
 
 -- the greatest times the sum covers the sum of products
 pub total-weighed : (n : ℕ) (c far : ℕ → ℕ) → total_below n (λ j. c j * far j) ≤ greatest_below n c * total_below n far

@@ -4,11 +4,10 @@ use Rattle.journal_records.specs.declared.records.Outcome.{Outcome}
 use Rattle.journal_records.specs.declared.records.Outcome.TheVariants.{Answered, Exhausted, Lost}
 use Rattle.journal_records.specs.declared.records.Reservation.{Reservation}
 use Rattle.journal_records.specs.declared.records.Record.{Record}
-use Rattle.journal_records.specs.declared.records.Record.TheVariants.{Reserve}
 use Rattle.budget_core.specs.Counts.{reservations_of, outcome_of}
 use Rattle.sha2.specs.Sha256.{sha256}
 use Rattle.answer_path.specs.Judgement.{HasValue}
-use Rattle.answer_path.specs.Owner.{Owner, signature_of_view, rows_of_view}
+use Rattle.owner_house.specs.Owner.{Owner, signature_of_view, rows_of_view}
 use Rattle.answer_path.specs.Program.{IsCharged}
 use Rattle.answer_path.specs.Noise.{noise_at}
 
@@ -30,7 +29,7 @@ ExplainsOutcome owner draws reserved program (Some Lost) = ⊤
 -- A reservation has its program's digest, is charged by its sensitivity over the tables of the reservation's view, and settled
 -- by its value and noise.
 pub record IsExplained (owner : Owner) (draws : ℕ → ℕ) (reserved : Reservation) (program : List ℕ) (outcome : Option Outcome) : Type 0 where
-  pub digest : reserved.program ≡ sha256 program
+  pub digest : reserved.digest ≡ sha256 program
   pub charged : IsCharged (signature_of_view owner reserved.view) program reserved.p reserved.q
   pub settled : ExplainsOutcome owner draws reserved program outcome
 
@@ -38,5 +37,5 @@ pub record IsExplained (owner : Owner) (draws : ℕ → ℕ) (reserved : Reserva
 pub record Explains (owner : Owner) (draws : ℕ → ℕ → ℕ) (programs : List (List ℕ)) (records : List Record) : Type 0 where
   pub each_has : length programs ≡ length (reservations_of records)
   pub explained : (n : ℕ) (program : List ℕ) (reserved : Reservation)
-      → slice_get programs n ≡ Some program → slice_get (reservations_of records) n ≡ Some (Reserve reserved)
+      → slice_get programs n ≡ Some program → slice_get (reservations_of records) n ≡ Some reserved
       → IsExplained owner (draws n) reserved program (outcome_of records n)

@@ -4,7 +4,6 @@ use Rattle.journal_records.specs.declared.records.Outcome.{Outcome}
 use Rattle.journal_records.specs.declared.records.Outcome.TheVariants.{Answered, Exhausted, Lost}
 use Rattle.journal_records.specs.declared.records.Reservation.{Reservation}
 use Rattle.journal_records.specs.declared.records.Record.{Record}
-use Rattle.journal_records.specs.declared.records.Record.TheVariants.{Reserve}
 use Rattle.budget_core.specs.Counts.{reservation_of, outcome_of}
 use Rattle.wire_lines.specs.Reply.{Replied, greeted, answered, recalled, remaining, ended, refused}
 use Rattle.wire_lines.specs.Refusal.{by_line, by_program, by_money, by_disk, by_number, no_memory}
@@ -16,7 +15,7 @@ use Rattle.answer_path.specs.Query.{Query}
 -- epsilon, and its program is the query's.
 pub record IsGranted (programs : List (List ℕ)) (records : List Record) (query : Query) (n : ℕ) (outcome : Outcome) : Type 0 where
   pub reserved : Reservation
-  pub numbered : reservation_of records n ≡ Some (Reserve reserved)
+  pub numbered : reservation_of records n ≡ Some reserved
   pub analyst : reserved.analyst ≡ query.analyst
   pub view : reserved.view ≡ query.view
   pub epsilon : reserved.e ≡ query.e
@@ -24,31 +23,31 @@ pub record IsGranted (programs : List (List ℕ)) (records : List Record) (query
   pub program : slice_get programs n ≡ Some query.program
 
 -- the number of the reservation that a reply to a query speaks of, and how it was settled
-abbrev pub settlement_in : Replied → Option (ℕ × Outcome)
-settlement_in (answered n value taken) = Some (n, Answered value)
-settlement_in (refused (by_number (NoNoise n))) = Some (n, Exhausted)
-settlement_in (refused (by_number (NoAnswer n))) = Some (n, Lost)
-settlement_in (refused (by_number (Unknown n seen))) = None
-settlement_in (refused (by_number (NotYours n seen))) = None
-settlement_in (refused (by_line refusal)) = None
-settlement_in (refused (by_program refusal)) = None
-settlement_in (refused (by_money refusal)) = None
-settlement_in (refused (by_disk refusal)) = None
-settlement_in (refused no_memory) = None
-settlement_in (recalled n standing seen) = None
-settlement_in (remaining spent budget seen) = None
-settlement_in (greeted name) = None
-settlement_in ended = None
+abbrev pub told_settlement : Replied → Option (ℕ × Outcome)
+told_settlement (answered n value taken) = Some (n, Answered value)
+told_settlement (refused (by_number (NoNoise n))) = Some (n, Exhausted)
+told_settlement (refused (by_number (NoAnswer n))) = Some (n, Lost)
+told_settlement (refused (by_number (Unknown n seen))) = None
+told_settlement (refused (by_number (NotYours n seen))) = None
+told_settlement (refused (by_line refusal)) = None
+told_settlement (refused (by_program refusal)) = None
+told_settlement (refused (by_money refusal)) = None
+told_settlement (refused (by_disk refusal)) = None
+told_settlement (refused no_memory) = None
+told_settlement (recalled n standing seen) = None
+told_settlement (remaining spent budget seen) = None
+told_settlement (greeted name) = None
+told_settlement ended = None
 
 -- The records bear out what a reply to a query says: a reservation that it speaks of was granted, and settled so.
 abbrev pub IsBorneOut : (programs : List (List ℕ)) → List Record → Query → Replied → Type 0
 IsBorneOut programs records query reply =
-    (n : ℕ) (outcome : Outcome) → settlement_in reply ≡ Some (n, outcome) → IsGranted programs records query n outcome
+    (n : ℕ) (outcome : Outcome) → told_settlement reply ≡ Some (n, outcome) → IsGranted programs records query n outcome
 
 -- The analyst reserved the number n, and the records settle n so.
 pub record IsSettledFor (records : List Record) (analyst n : ℕ) (outcome : Outcome) : Type 0 where
   pub reserved : Reservation
-  pub numbered : reservation_of records n ≡ Some (Reserve reserved)
+  pub numbered : reservation_of records n ≡ Some reserved
   pub asked_by : reserved.analyst ≡ analyst
   pub settled : outcome_of records n ≡ Some outcome
 

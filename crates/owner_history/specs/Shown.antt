@@ -3,7 +3,7 @@ use Rattle.std.specs.Prelude.{◌≡◌, ℕ, ◌+◌, ◌*◌, ℤ, List, [], �
 use Rattle.journal_records.specs.declared.records.Outcome.{Outcome}
 use Rattle.journal_records.specs.declared.records.Outcome.TheVariants.{Answered, Exhausted, Lost}
 use Rattle.journal_records.specs.declared.records.Record.{Record}
-use Rattle.journal_records.specs.declared.records.Record.TheVariants.{Reserve, Settle}
+use Rattle.journal_records.specs.declared.records.Reservation.{Reservation}
 use Rattle.budget_core.specs.Counts.{reservations_of, outcome_of}
 use Rattle.fz_ast.specs.Signature.{Signature}
 use Rattle.metric_values.specs.Distances.{gap}
@@ -22,15 +22,14 @@ IsDisplacedIf tables rows other epsilon program (Some Lost) d = d ≡ 0
 IsDisplacedIf tables rows other epsilon program None d = d ≡ 0
 
 -- A reservation's program sees the tables and the rows of the reservation's view, on either dataset.
-abbrev pub IsDisplaced : Signature → List PartitionEntry → List Record → (rows other : Dataset) → List ℕ → Record → ℕ → Type 0
-IsDisplaced tables partitions records rows other program (Reserve reserved) d =
+abbrev pub IsDisplaced : Signature → List PartitionEntry → List Record → (rows other : Dataset) → List ℕ → Reservation → ℕ → Type 0
+IsDisplaced tables partitions records rows other program reserved d =
     IsDisplacedIf (signature_in tables partitions reserved.view) (rows_in partitions reserved.view rows)
     (rows_in partitions reserved.view other) reserved.e program (outcome_of records reserved.number) d
-IsDisplaced tables partitions records rows other program (Settle number outcome) d = ⊥
 
 -- added up over reservations and their programs
 abbrev pub AreDisplaced :
-    Signature → List PartitionEntry → List Record → (rows other : Dataset) → List (List ℕ) → List Record → ℕ → Type 0
+    Signature → List PartitionEntry → List Record → (rows other : Dataset) → List (List ℕ) → List Reservation → ℕ → Type 0
 AreDisplaced tables partitions records rows other [] [] d = d ≡ 0
 AreDisplaced tables partitions records rows other (program ∷ programs) (reservation ∷ reservations) d =
     (m n : ℕ) × IsDisplaced tables partitions records rows other program reservation m

@@ -5,10 +5,10 @@ ghost use Rattle.journal_records.specs.declared.records.Record.{Record};
 ghost use Rattle.fz_ast.specs.Signature.{Signature};
 ghost use Rattle.metric_values.specs.Tables.{Dataset};
 ghost use Rattle.owner_catalog.specs.Entries.{PartitionEntry};
-ghost use Rattle.answer_path.specs.Owner.{Owner};
+ghost use Rattle.owner_house.specs.Owner.{Owner, HasData};
 ghost use Rattle.owner_history.specs.Explains.{Explains};
 ghost use Rattle.owner_history.specs.Shown.{IsShown};
-ghost use Rattle.owner_history.specs.Sound.{HasData, IsDisplacementBounded};
+ghost use Rattle.owner_history.specs.Sound.{IsDisplacementBounded};
 
 /// Whatever programs explain an owner's records, these show against any second dataset a displacement of at most their
 /// cost times the distance, for records of the whole and of parts in any mix. (It is proved for programs of every sensitivity,

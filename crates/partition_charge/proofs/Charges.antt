@@ -1,12 +1,12 @@
 -- What one more charge costs.
-use Rattle.std.proofs.Common.{◌≡◌, ℕ, zero, suc, ◌+◌, ◌-◌, ◌≤◌, ◌<◌, max, Bool, true, false, ◌&&◌, List, [], ◌∷◌, ◌++◌, sum_by, refl, sym, subst, ◌∙◌, ap, arith, add-zero, if◌then◌else◌, ⊎_elim, All, eqb}
+use Rattle.std.proofs.Common.{◌≡◌, ℕ, zero, suc, ◌+◌, ◌-◌, ◌≤◌, ◌<◌, max, Bool, true, false, ◌&&◌, List, [], ◌∷◌, ◌++◌, sum_by, refl, sym, subst, ◌∙◌, ap, arith, add-zero, if◌then◌else◌, ⊎_elim, All, eqb, inl, inr, ◌⊎◌, ◌↔◌}
 use Rattle.std.proofs.lemmas.Bool.{cases_eq, eqb-true, eq-eqb}
 use Rattle.std.proofs.lemmas.List.Sums.{sum_by-cons, sum_by_push}
 use Rattle.std.proofs.lemmas.List.Elements.{All-head, All-tail}
 use Rattle.partition_charge.specs.declared.view.View.{View}
 use Rattle.partition_charge.specs.declared.view.View.TheVariants.{Whole, Part}
-use Rattle.partition_charge.specs.Views.{IsView, same_view, partition_limit, part_limit}
-use Rattle.partition_charge.specs.Cost.{Charge, charged_to, charges_of, greatest_below, total_below, partition_cost, cost_of_charges}
+use Rattle.partition_charge.specs.Views.{IsView, same_view, partition_range, part_limit}
+use Rattle.partition_charge.specs.Cost.{Charge, charged_to, charges_of, greatest_by, total_below, part_cost, partition_cost, cost_of_charges}
 
 -- ---- sums and greatest ones
 
@@ -18,20 +18,10 @@ total-le : (n : ℕ) (f g : ℕ → ℕ) → ((k : ℕ) → f k ≤ g k) → tot
 total-le zero f g below = omega arith
 total-le (suc n) f g below = omega (arith, total-le n f g below, below n)
 
-greatest-same : (n : ℕ) (f g : ℕ → ℕ) → ((k : ℕ) → k < n → g k ≡ f k) → greatest_below n g ≡ greatest_below n f
-greatest-same zero f g same = refl
-greatest-same (suc n) f g same = cc (greatest-same n f g (λ k lt. same k (omega arith)), same n (omega arith))
-
-greatest-le : (n : ℕ) (f g : ℕ → ℕ) → ((k : ℕ) → f k ≤ g k) → greatest_below n f ≤ greatest_below n g
-greatest-le zero f g below = omega arith
-greatest-le (suc n) f g below = omega (arith, greatest-le n f g below, below n)
-
-pub greatest-at : (n : ℕ) (f : ℕ → ℕ) (k : ℕ) → k < n → f k ≤ greatest_below n f
-greatest-at zero f k lt = absurd (omega arith)
-greatest-at (suc n) f k lt = ⊎_elim
-    (λ is. let here : f k ≡ f n = ap f is in omega arith)
-    (λ isnt. omega (arith, greatest-at n f k (omega arith)))
-    (cases_eq k n)
+-- what none of them exceeds the greatest doesn't
+greatest-le : {A : Type 0} → (f : A → ℕ) (bound : ℕ) → ((x : A) → f x ≤ bound) → (xs : List A) → greatest_by f xs ≤ bound
+greatest-le f bound each [] = omega arith
+greatest-le f bound each (x ∷ xs) = omega (arith, each x, greatest-le f bound each xs)
 
 total-at : (n : ℕ) (f : ℕ → ℕ) (k : ℕ) → k < n → f k ≤ total_below n f
 total-at zero f k lt = absurd (omega arith)
@@ -43,19 +33,6 @@ total-at (suc n) f k lt = ⊎_elim
 total-zero : (n : ℕ) (f : ℕ → ℕ) → ((k : ℕ) → f k ≡ 0) → total_below n f ≡ 0
 total-zero zero f none = refl
 total-zero (suc n) f none = omega (arith, total-zero n f none, none n)
-
-greatest-zero : (n : ℕ) (f : ℕ → ℕ) → ((k : ℕ) → f k ≡ 0) → greatest_below n f ≡ 0
-greatest-zero zero f none = refl
-greatest-zero (suc n) f none = omega (arith, greatest-zero n f none, none n)
-
--- one of them rises
-greatest-raised : (n : ℕ) (f g : ℕ → ℕ) (j : ℕ) → j < n → f j ≤ g j → ((k : ℕ) → (k ≡ j → ⊥) → g k ≡ f k) → greatest_below n g ≡ max (greatest_below n f) (g j)
-greatest-raised zero f g j lt up others = absurd (omega arith)
-greatest-raised (suc n) f g j lt up others = ⊎_elim
-    (λ is. let below : greatest_below n g ≡ greatest_below n f = greatest-same n f g (λ k less. others k (λ same. omega arith)) in
-    let here : g j ≡ g n = ap g is in let there : f j ≡ f n = ap f is in omega arith)
-    (λ isnt. let last : g n ≡ f n = others n (λ same. isnt (sym same)) in omega (arith, greatest-raised n f g j (omega arith) up others))
-    (cases_eq j n)
 
 -- one of them changes
 total-changed : (n : ℕ) (f g : ℕ → ℕ) (j : ℕ) → j < n → ((k : ℕ) → (k ≡ j → ⊥) → g k ≡ f k) → total_below n g + f j ≡ total_below n f + g j
@@ -92,6 +69,69 @@ pub charges-append : (view : View) (charges : List Charge) (next : Charge)
     → charges_of view (charges ++ next ∷ []) ≡ charges_of view charges + charged_to view next
 charges-append view charges next = sum_by_push (charged_to view) charges next
 
+-- ---- a partition's dearest part
+
+-- a part that none of the charges is for was charged nothing
+of-none-or-some : (all charges : List Charge) (p j : ℕ) → (charges_of (Part p j) charges ≡ 0)
+    ⊎ (charges_of (Part p j) all ≤ greatest_by (λ (charge : Charge). part_cost all p charge.view) charges)
+of-none-or-some all [] p j = inl refl
+of-none-or-some all (charge ∷ charges) p j = by charge.view refl (of-none-or-some all charges p j)
+  where
+    none-more : charged_to (Part p j) charge ≡ 0 → charges_of (Part p j) charges ≡ 0 → charges_of (Part p j) (charge ∷ charges) ≡ 0
+    none-more nothing none = omega (arith, sum_by-cons (charged_to (Part p j)) charge charges, nothing, none)
+
+    by : (view : View) → charge.view ≡ view
+        → (charges_of (Part p j) charges ≡ 0) ⊎ (charges_of (Part p j) all ≤ greatest_by (λ (c : Charge). part_cost all p c.view) charges)
+        → (charges_of (Part p j) (charge ∷ charges) ≡ 0) ⊎ (charges_of (Part p j) all ≤ greatest_by (λ (c : Charge). part_cost all p c.view) (charge ∷ charges))
+    by view is (inr known) = inr (omega (arith, known))
+    by Whole is (inl none) = inl (none-more (ap (λ (v : View). if same_view (Part p j) v then charge.amount else 0) is) none)
+    by (Part q k) is (inl none) = within (eqb p q) refl (eqb j k) refl
+      where
+        within : (b : Bool) → eqb p q ≡ b → (d : Bool) → eqb j k ≡ d
+            → (charges_of (Part p j) (charge ∷ charges) ≡ 0) ⊎ (charges_of (Part p j) all ≤ greatest_by (λ (c : Charge). part_cost all p c.view) (charge ∷ charges))
+        within true same true part =
+            let here : part_cost all p charge.view ≡ charges_of (Part p j) all = ap (part_cost all p) is
+            ∙ ap (λ (b : Bool). if b then charges_of (Part q k) all else 0) same
+            ∙ ap (λ (n : ℕ). charges_of (Part n k) all) (sym (eqb-true p q same)) ∙ ap (λ (n : ℕ). charges_of (Part p n) all) (sym (eqb-true j k part)) in
+            inr (omega (arith, here))
+        within true same false part = inl (none-more (ap (λ (v : View). if same_view (Part p j) v then charge.amount else 0) is
+            ∙ ap (λ (b : Bool). if b && eqb j k then charge.amount else 0) same ∙ ap (λ (b : Bool). if b then charge.amount else 0) part) none)
+        within false other d part = inl (none-more (ap (λ (v : View). if same_view (Part p j) v then charge.amount else 0) is
+            ∙ ap (λ (b : Bool). if b && eqb j k then charge.amount else 0) other) none)
+
+-- no part costs more than its partition
+pub dearest-at : (charges : List Charge) (p j : ℕ) → charges_of (Part p j) charges ≤ partition_cost charges p
+unfolding partition_cost
+dearest-at charges p j = by (of-none-or-some charges charges p j)
+  where
+    by : (charges_of (Part p j) charges ≡ 0) ⊎ (charges_of (Part p j) charges ≤ greatest_by (λ (charge : Charge). part_cost charges p charge.view) charges)
+        → charges_of (Part p j) charges ≤ greatest_by (λ (charge : Charge). part_cost charges p charge.view) charges
+    by (inl none) = omega (arith, none)
+    by (inr known) = known
+
+-- and what no part costs more than, the partition doesn't
+pub dearest-le : (charges : List Charge) (p bound : ℕ) → ((j : ℕ) → charges_of (Part p j) charges ≤ bound) → partition_cost charges p ≤ bound
+unfolding partition_cost
+dearest-le charges p bound each = greatest-le (λ (charge : Charge). part_cost charges p charge.view) bound (λ charge. by charge.view) charges
+  where
+    by : (view : View) → part_cost charges p view ≤ bound
+    by Whole = omega arith
+    by (Part q k) = within (eqb p q) refl
+      where
+        within : (b : Bool) → eqb p q ≡ b → (if b then charges_of (Part q k) charges else 0) ≤ bound
+        within true same = subst (λ (n : ℕ). charges_of (Part n k) charges ≤ bound) (eqb-true p q same) (each k)
+        within false other = omega arith
+
+pub costs-its-dearest : (charges : List Charge) (p cost : ℕ) → partition_cost charges p ≤ cost ↔ ((j : ℕ) → charges_of (Part p j) charges ≤ cost)
+costs-its-dearest charges p cost = (λ most j. omega (arith, most, dearest-at charges p j), dearest-le charges p cost)
+
+-- partitions whose parts cost the same
+same-partition : (xs ys : List Charge) (p : ℕ) → ((j : ℕ) → charges_of (Part p j) ys ≡ charges_of (Part p j) xs) → partition_cost ys p ≡ partition_cost xs p
+same-partition xs ys p same =
+    let up : partition_cost ys p ≤ partition_cost xs p = dearest-le ys p (partition_cost xs p) (λ j. omega (arith, same j, dearest-at xs p j)) in
+    let down : partition_cost xs p ≤ partition_cost ys p = dearest-le xs p (partition_cost ys p) (λ j. omega (arith, same j, dearest-at ys p j)) in
+    omega (arith, up, down)
+
 module _ (charges : List Charge) (amount : ℕ) where
   -- ---- to the whole
 
@@ -102,15 +142,14 @@ module _ (charges : List Charge) (amount : ℕ) where
   whole-part p j = charges-append (Part p j) charges (record { view = Whole; amount = amount }) ∙ add-zero (charges_of (Part p j) charges)
 
   pub whole-partition : (p : ℕ) → partition_cost (charges ++ record { view = Whole; amount = amount } ∷ []) p ≡ partition_cost charges p
-  unfolding partition_cost
-  whole-partition p = greatest-same part_limit (λ j. charges_of (Part p j) charges) (λ j. charges_of (Part p j) with_whole) (λ j lt. whole-part p j)
+  whole-partition p = same-partition charges with_whole p (whole-part p)
 
   pub whole-cost : cost_of_charges (charges ++ record { view = Whole; amount = amount } ∷ []) ≡ cost_of_charges charges + amount
   unfolding cost_of_charges
   whole-cost =
       let whole : charges_of Whole with_whole ≡ charges_of Whole charges + amount = charges-append Whole charges (record { view = Whole; amount = amount }) in
-      let parts : total_below partition_limit (partition_cost with_whole) ≡ total_below partition_limit (partition_cost charges)
-      = total-same partition_limit (partition_cost charges) (partition_cost with_whole) (λ p lt. whole-partition p) in
+      let parts : total_below partition_range (partition_cost with_whole) ≡ total_below partition_range (partition_cost charges)
+      = total-same partition_range (partition_cost charges) (partition_cost with_whole) (λ p lt. whole-partition p) in
       omega arith
 
   -- ---- to a part
@@ -135,35 +174,44 @@ module _ (charges : List Charge) (amount : ℕ) where
         ∙ ap (λ (b : Bool). charges_of (Part q i) charges + (if b then amount else 0)) (other-partition p q i j isnt) ∙ add-zero (charges_of (Part q i) charges)
 
     pub elsewhere-partition : (q : ℕ) → (q ≡ p → ⊥) → partition_cost (charges ++ record { view = Part p j; amount = amount } ∷ []) q ≡ partition_cost charges q
-    unfolding partition_cost
-    elsewhere-partition q isnt = greatest-same part_limit (λ i. charges_of (Part q i) charges) (λ i. charges_of (Part q i) with_part)
-        (λ i lt. part-elsewhere q i isnt)
+    elsewhere-partition q isnt = same-partition charges with_part q (λ i. part-elsewhere q i isnt)
 
-    pub part-partition : j < part_limit → partition_cost (charges ++ record { view = Part p j; amount = amount } ∷ []) p ≡ max (partition_cost charges p)
+    pub part-partition : partition_cost (charges ++ record { view = Part p j; amount = amount } ∷ []) p ≡ max (partition_cost charges p)
         (charges_of (Part p j) charges + amount)
-    unfolding partition_cost
-    part-partition lt =
-        greatest-raised part_limit (λ i. charges_of (Part p i) charges) (λ i. charges_of (Part p i) with_part) j lt (omega (arith, part-at)) part-other
-        ∙ ap (λ (n : ℕ). max (greatest_below part_limit (λ i. charges_of (Part p i) charges)) n) part-at
+    part-partition =
+        let up : partition_cost with_part p ≤ max (partition_cost charges p) (charges_of (Part p j) charges + amount)
+        = dearest-le with_part p (max (partition_cost charges p) (charges_of (Part p j) charges + amount)) each in
+        let old : partition_cost charges p ≤ partition_cost with_part p = dearest-le charges p (partition_cost with_part p) (λ i. omega (arith, grows i, dearest-at with_part p i)) in
+        let here : charges_of (Part p j) charges + amount ≤ partition_cost with_part p = omega (arith, part-at, dearest-at with_part p j) in
+        omega (arith, up, old, here)
+      where
+        each : (i : ℕ) → charges_of (Part p i) with_part ≤ max (partition_cost charges p) (charges_of (Part p j) charges + amount)
+        each i = ⊎_elim
+            (λ is. let same : charges_of (Part p i) with_part ≡ charges_of (Part p j) with_part = ap (λ (n : ℕ). charges_of (Part p n) with_part) is in omega (arith, same, part-at))
+            (λ isnt. omega (arith, part-other i isnt, dearest-at charges p i))
+            (cases_eq i j)
+
+        grows : (i : ℕ) → charges_of (Part p i) charges ≤ charges_of (Part p i) with_part
+        grows i = omega (arith, charges-append (Part p i) charges charge)
 
     part-whole : charges_of Whole with_part ≡ charges_of Whole charges
     part-whole = charges-append Whole charges charge ∙ add-zero (charges_of Whole charges)
 
-    pub part-cost : p < partition_limit → j < part_limit
+    pub part-cost : p < partition_range
         → cost_of_charges (charges ++ record { view = Part p j; amount = amount } ∷ []) ≡ cost_of_charges charges +
         (charges_of (Part p j) charges + amount - partition_cost charges p)
     unfolding cost_of_charges
-    part-cost lt within =
-        let parts : total_below partition_limit (partition_cost with_part) + partition_cost charges p ≡ total_below partition_limit
+    part-cost lt =
+        let parts : total_below partition_range (partition_cost with_part) + partition_cost charges p ≡ total_below partition_range
         (partition_cost charges) + partition_cost with_part p
-        = total-changed partition_limit (partition_cost charges) (partition_cost with_part) p lt elsewhere-partition in
-        omega (arith, parts, part-whole, part-partition within)
+        = total-changed partition_range (partition_cost charges) (partition_cost with_part) p lt elsewhere-partition in
+        omega (arith, parts, part-whole, part-partition)
 
     -- a part's sum is at most the cost
-    pub part-le : p < partition_limit → j < part_limit → charges_of (Part p j) charges + amount ≤ cost_of_charges
+    pub part-le : p < partition_range → charges_of (Part p j) charges + amount ≤ cost_of_charges
         (charges ++ record { view = Part p j; amount = amount } ∷ [])
     unfolding cost_of_charges
-    part-le lt within = omega (arith, part-partition within, total-at partition_limit (partition_cost with_part) p lt)
+    part-le lt = omega (arith, part-partition, total-at partition_range (partition_cost with_part) p lt)
 
 -- ---- laws
 
@@ -176,10 +224,9 @@ unfolding partition_cost
 partition-nil p = refl
 
 parts-le : (xs ys : List Charge) → ((p j : ℕ) → charges_of (Part p j) xs ≤ charges_of (Part p j) ys)
-    → total_below partition_limit (partition_cost xs) ≤ total_below partition_limit (partition_cost ys)
-unfolding partition_cost
-parts-le xs ys below = total-le partition_limit (partition_cost xs) (partition_cost ys)
-    (λ p. greatest-le part_limit (λ j. charges_of (Part p j) xs) (λ j. charges_of (Part p j) ys) (below p))
+    → total_below partition_range (partition_cost xs) ≤ total_below partition_range (partition_cost ys)
+parts-le xs ys below = total-le partition_range (partition_cost xs) (partition_cost ys)
+    (λ p. dearest-le xs p (partition_cost ys p) (λ j. omega (arith, below p j, dearest-at ys p j)))
 
 pub never-falls : (charges : List Charge) (next : Charge) → cost_of_charges charges ≤ cost_of_charges (charges ++ next ∷ [])
 unfolding cost_of_charges
@@ -204,13 +251,14 @@ sum-parts p j (c ∷ charges) all =
     sum_by-cons (charged_to (Part p j)) c charges ∙ (λ i. here i + rest i)
 
 whole-partitions : (charges : List Charge) → All is_whole charges → (p : ℕ) → partition_cost charges p ≡ 0
-unfolding partition_cost
-whole-partitions charges all p = greatest-zero part_limit (λ j. charges_of (Part p j) charges) (λ j. sum-parts p j charges all)
+whole-partitions charges all p =
+    let most : partition_cost charges p ≤ 0 = dearest-le charges p 0 (λ j. omega (arith, sum-parts p j charges all)) in
+    omega (arith, most)
 
 pub adds-up-whole : (charges : List Charge) → All is_whole charges → cost_of_charges charges ≡ sum_by (λ (charge : Charge). charge.amount) charges
 unfolding cost_of_charges
 adds-up-whole charges all =
-    ap (λ (n : ℕ). charges_of Whole charges + n) (total-zero partition_limit (partition_cost charges) (whole-partitions charges all))
+    ap (λ (n : ℕ). charges_of Whole charges + n) (total-zero partition_range (partition_cost charges) (whole-partitions charges all))
     ∙ add-zero (charges_of Whole charges) ∙ sum-whole charges all
 
 -- ---- where the view is given
@@ -220,14 +268,14 @@ module _ (charges : List Charge) (view : View) (amount : ℕ) where
   cost-with-whole is = ap (λ (v : View). cost_of_charges (charges ++ record { view = v; amount = amount } ∷ [])) is ∙ whole-cost charges amount
 
   module _ (p j : ℕ) (valid : IsView view) (is : view ≡ Part p j) where
-    pub view-within : (p < 8) × (j < 250)
+    pub view-within : (p < partition_range) × (j < part_limit)
     view-within = subst IsView is valid
 
     pub cost-with-part : cost_of_charges (charges ++ record { view = view; amount = amount } ∷ []) ≡ cost_of_charges charges +
         (charges_of (Part p j) charges + amount - partition_cost charges p)
     cost-with-part = ap (λ (v : View). cost_of_charges (charges ++ record { view = v; amount = amount } ∷ [])) is
-        ∙ part-cost charges amount p j view-within.0 view-within.1
+        ∙ part-cost charges amount p j view-within.0
 
     pub part-within : charges_of (Part p j) charges + amount ≤ cost_of_charges (charges ++ record { view = view; amount = amount } ∷ [])
     part-within = subst (λ (v : View). charges_of (Part p j) charges + amount ≤ cost_of_charges (charges ++ record { view = v; amount = amount } ∷ [])) (sym is)
-        (part-le charges amount p j view-within.0 view-within.1)
+        (part-le charges amount p j view-within.0)

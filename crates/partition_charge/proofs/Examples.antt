@@ -1,8 +1,8 @@
 -- Costs, worked out by computation.
-use Rattle.std.proofs.Common.{◌≡◌, ℕ, true, false, [], ◌∷◌, refl, arith}
+use Rattle.std.proofs.Common.{◌≡◌, ℕ, ◌≤◌, true, false, [], ◌∷◌, refl, arith}
 use Rattle.partition_charge.specs.declared.view.View.TheVariants.{Whole, Part}
-use Rattle.partition_charge.specs.Views.{IsView, same_view}
-use Rattle.partition_charge.specs.Cost.{Charge, charges_of, partition_cost, cost_of_charges}
+use Rattle.partition_charge.specs.Views.{IsView, same_view, partition_limit, partition_range}
+use Rattle.partition_charge.specs.Cost.{Charge, charges_of, greatest_by, partition_cost, cost_of_charges}
 
 abbrev whole : ℕ → Charge
 whole amount = record { view = Whole; amount = amount }
@@ -48,18 +48,37 @@ whole_and_parts : cost_of_charges (whole 3 ∷ part 0 0 6 ∷ part 1 0 5 ∷ par
 unfolding cost_of_charges partition_cost
 whole_and_parts = refl
 
--- the last part of the last partition counts, and what is past it doesn't
+-- the last part of the last partition counts, and what is past the partitions doesn't
 last_part : cost_of_charges (part 7 249 5 ∷ []) ≡ 5
 unfolding cost_of_charges partition_cost
 last_part = refl
 
-past_the_parts : cost_of_charges (part 0 250 5 ∷ []) ≡ 0
-unfolding cost_of_charges partition_cost
-past_the_parts = refl
-
 past_the_partitions : cost_of_charges (part 8 0 5 ∷ []) ≡ 0
 unfolding cost_of_charges partition_cost
 past_the_partitions = refl
+
+-- a partition costs nothing where it was charged nothing, or only others and the whole were
+one_of_two : partition_cost (part 0 1 6 ∷ part 1 1 4 ∷ whole 9 ∷ []) 1 ≡ 4
+unfolding partition_cost
+one_of_two = refl
+
+neither_of_two : partition_cost (part 0 1 6 ∷ part 1 1 4 ∷ whole 9 ∷ []) 2 ≡ 0
+unfolding partition_cost
+neither_of_two = refl
+
+-- the greatest stands first, last, and twice
+greatest_first : greatest_by (λ (n : ℕ). n) (9 ∷ 4 ∷ 2 ∷ []) ≡ 9
+greatest_first = refl
+
+greatest_last : greatest_by (λ (n : ℕ). n) (2 ∷ 9 ∷ 4 ∷ 9 ∷ []) ≡ 9
+greatest_last = refl
+
+greatest_of_none : greatest_by (λ (n : ℕ). n) [] ≡ 0
+greatest_of_none = refl
+
+-- each partition that an owner may have has views
+views_for_all : partition_limit ≤ partition_range
+views_for_all = omega arith
 
 -- which views there are
 last_view : IsView (Part 7 249)

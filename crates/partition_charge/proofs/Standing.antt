@@ -8,7 +8,7 @@ use Rattle.partition_charge.specs.declared.costs.Parts.{Parts}
 use Rattle.partition_charge.specs.declared.costs.Costs.{Costs}
 use Rattle.partition_charge.specs.declared.view.View.{View}
 use Rattle.partition_charge.specs.declared.view.View.TheVariants.{Whole, Part}
-use Rattle.partition_charge.specs.Views.{IsView}
+use Rattle.partition_charge.specs.Views.{IsView, partition_range, part_limit}
 use Rattle.partition_charge.specs.Cost.{Charge, charges_of, cost_of_charges}
 use Rattle.partition_charge.specs.Totals.{AreTotalsOf, HasSums}
 use Rattle.partition_charge.proofs.Charges.{cost-nil, partition-nil, whole-part, whole-partition, part-at, part-other, part-elsewhere, elsewhere-partition, part-partition, view-within}
@@ -19,15 +19,15 @@ sums-at costs charges p d stands lt = stands.partitions p (get_or costs.partitio
 
 -- nothing was charged
 abbrev pub none : Parts
-none = record { sums = replicate 250 0; greatest = 0 }
+none = record { sums = replicate part_limit 0; greatest = 0 }
 
-pub new-stands : AreTotalsOf (record { spent = 0; partitions = replicate 8 none }) []
+pub new-stands : AreTotalsOf (record { spent = 0; partitions = replicate partition_range none }) []
 new-stands = record {
   spent = sym cost-nil;
   partitions = λ p parts is.
-      let lt : p < length (replicate 8 none) = slice_get_within (replicate 8 none) p parts is in
-      let same : none ≡ parts = sym (get_or-replicate 8 p none none lt) ∙ get_or_from_slice_get (replicate 8 none) p parts none is in
-      subst (λ (x : Parts). HasSums [] p x) same (record { sums = λ j within. get_or-replicate 250 j 0 0 within; greatest = sym (partition-nil p) });
+      let lt : p < length (replicate partition_range none) = slice_get_within (replicate partition_range none) p parts is in
+      let same : none ≡ parts = sym (get_or-replicate partition_range p none none lt) ∙ get_or_from_slice_get (replicate partition_range none) p parts none is in
+      subst (λ (x : Parts). HasSums [] p x) same (record { sums = λ j within. get_or-replicate part_limit j 0 0 within; greatest = sym (partition-nil p) });
 }
 
 -- what a partition holds after another's charge, or the whole's
@@ -46,7 +46,7 @@ sums-elsewhere charges amount p j q parts isnt has = record {
 }
 
 -- and after its own
-sums-raised : (charges : List Charge) (amount p j : ℕ) (old new : Parts) → j < 250 → HasSums charges p old
+sums-raised : (charges : List Charge) (amount p j : ℕ) (old new : Parts) → j < part_limit → HasSums charges p old
     → slice_index new.sums j ≡ slice_index old.sums j + amount
     → ((k : ℕ) → (k ≡ j → ⊥) → slice_index new.sums k ≡ slice_index old.sums k) → new.greatest ≡ max old.greatest (slice_index old.sums j + amount)
     → HasSums (charges ++ record { view = Part p j; amount = amount } ∷ []) p new
@@ -56,7 +56,7 @@ sums-raised charges amount p j old new lt has raised others greatest = record {
       ∙ ap (λ (k : ℕ). charges_of (Part p k) (charges ++ record { view = Part p j; amount = amount } ∷ [])) (sym is))
       (λ isnt. others i isnt ∙ has.sums i within ∙ sym (part-other charges amount p j i isnt))
       (cases_eq i j);
-  greatest = omega (arith, greatest, has.sums j lt, has.greatest, part-partition charges amount p j lt);
+  greatest = omega (arith, greatest, has.sums j lt, has.greatest, part-partition charges amount p j);
 }
 
 -- one element was put in

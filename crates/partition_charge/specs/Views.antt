@@ -10,10 +10,14 @@ partition_limit = 8
 abbrev pub part_limit : ℕ
 part_limit = 250
 
--- the numbers of a view are within the limits
+-- A view names its partition by a number below this, whatever an owner may have.
+abbrev pub partition_range : ℕ
+partition_range = 8
+
+-- the numbers of a view are within their ranges
 abbrev pub IsView : View → Type 0
 IsView Whole = ⊤
-IsView (Part partition part) = (partition < partition_limit) × (part < part_limit)
+IsView (Part partition part) = (partition < partition_range) × (part < part_limit)
 
 abbrev pub same_view : View → View → Bool
 same_view Whole Whole = true

@@ -2,14 +2,10 @@
 
 ghost use Rattle.std.specs.Prelude.{◌≡◌, ℕ, ◌+◌, ◌-◌, ◌^◌, ◌<◌, max, [], ◌∷◌, ◌++◌, List, length, slice_index};
 ghost use Rattle.partition_charge.specs.Cost.{Charge as Charged, cost_of_charges};
-ghost use Rattle.partition_charge.specs.Views.{IsView};
+ghost use Rattle.partition_charge.specs.Views.{IsView, part_limit};
 ghost use Rattle.partition_charge.specs.Totals.{AreTotalsOf, HasRoom};
 
-use crate::view::View;
-
-const PARTITIONS: usize = 8;
-
-const PARTS: usize = 250;
+use crate::view::{PARTITIONS, PARTS, View};
 
 // The sums of one partition's parts.
 #[derive(Clone, Copy, Drop)]
@@ -21,7 +17,7 @@ struct Parts {
 impl Parts {
     // By how much the greatest sum rises if this part is charged this amount.
     fn rise(&self, part: u8, amount: u64) -> u64
-        requires part { part < 250 }
+        requires part { part < part_limit }
         requires fits { slice_index self.now.sums part + amount < 2 ^ 63 }
         ensures { result ≡ slice_index self.now.sums part + amount - self.now.greatest }
     {
@@ -30,7 +26,7 @@ impl Parts {
 
     // Charges a part.
     fn add(&mut self, part: u8, amount: u64)
-        requires part { part < 250 }
+        requires part { part < part_limit }
         requires fits { slice_index self.old.sums part + amount < 2 ^ 63 }
         ensures raised { slice_index self.new.sums part ≡ slice_index self.old.sums part + amount }
         ensures others { (k : ℕ) → (k ≡ part → ⊥) → slice_index self.new.sums k ≡ slice_index self.old.sums k }

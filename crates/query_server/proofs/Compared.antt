@@ -9,16 +9,16 @@ use Rattle.metric_values.specs.Tables.{Dataset, IsDataset}
 use Rattle.owner_catalog.specs.Catalog.{Catalog, IsCatalog, owner_signature}
 use Rattle.owner_catalog.specs.Entries.{OwnerEntry, owner_entry_at}
 use Rattle.part_views.specs.Holding.{Holding}
-use Rattle.session_core.specs.House.{IsHeldBy, Register}
-use Rattle.session_core.proofs.Signed.{signature_signed}
+use Rattle.owner_house.specs.House.{IsHeldBy, Register}
+use Rattle.owner_house.proofs.Signed.{signature_signed}
 use Rattle.command_words.specs.Command.{Command, init, run, audit, check, gap, command_of}
 use Rattle.catalog_loading.specs.Files.{ReadsToCome}
 use Rattle.catalog_loading.specs.Steps.{FileStep, ◌>>=◌, continued, done, file_read, from}
 use Rattle.catalog_loading.specs.Loaded.{catalog_read, entry_named, holding_in, loaded, owner_loaded}
 use Rattle.catalog_loading.specs.Fit.{fitting, if_fitting, same_table}
-use Rattle.query_server.specs.Ending.{Ending, ended, refused, to_answer, to_make, to_count, to_compare}
+use Rattle.query_server.specs.Work.{Work, ended, refused, to_answer, to_make, to_count, to_compare}
 use Rattle.query_server.specs.Gap.{gap_steps}
-use Rattle.query_server.specs.Due.{ending_of, command_steps}
+use Rattle.query_server.specs.Due.{work_of, command_steps}
 use Rattle.query_server.specs.Laws.{GapsAreOfDatasets}
 use Rattle.catalog_loading.proofs.Pairs.{inverted}
 use Rattle.catalog_loading.proofs.Owners.{find_place}
@@ -27,7 +27,7 @@ use Rattle.catalog_loading.proofs.Loaded.{catalog_lawful, loaded_register}
 use Rattle.query_server.proofs.Endings.{check_cases, house_cases}
 
 -- What holds of a refused name, and of what the next steps come to with what a step gave, holds of both.
-then_known : {A : Type 0} (P : Ending → Type 0) → ((name : List ℕ) → P (refused name)) → (step : FileStep A) (next : A → FileStep Ending) (reads : ReadsToCome)
+then_known : {A : Type 0} (P : Work → Type 0) → ((name : List ℕ) → P (refused name)) → (step : FileStep A) (next : A → FileStep Work) (reads : ReadsToCome)
     → ((a : A) → (step reads).given ≡ Ok a → P (ended (next a (step reads).rest).given)) → P (ended ((step >>= next) reads).given)
 unfolding ◌>>=◌
 then_known {A} P by_name step next reads by_work = here (step reads).given refl
@@ -88,7 +88,7 @@ fits_named entry catalog name other is = here (entry_named catalog name) refl is
     here (Err wrong) was is = cc
 
 -- what is said of an ending
-abbrev IsOfDatasets : Ending → Type 0
+abbrev IsOfDatasets : Work → Type 0
 IsOfDatasets ending = (tables : Signature) (X Y : Dataset) (program : List ℕ) → ending ≡ to_compare tables X Y program → IsSignature tables × IsDataset tables X × IsDataset tables Y
 
 both_known : (entry other : OwnerEntry) (first second : Holding) (bytes : List ℕ) → owner_signature other ≡ owner_signature entry → IsKnown entry first → IsKnown other second → IsOfDatasets (to_compare first.tables first.rows second.rows bytes)
@@ -119,12 +119,12 @@ gap_known catalog owner second_catalog file reads =
     (known second_house owner _ other second_holding (catalog_lawful second_catalog _ second_house second_opened) (fits_named entry second_house owner other fits) second_loads))))))))
 
 pub gaps_of_datasets : GapsAreOfDatasets
-unfolding ending_of
+unfolding work_of
 gaps_of_datasets words reads = here (command_of words)
   where
     here : (command : Option Command) → IsOfDatasets (ended (command_steps command reads).given)
     here None = λ tables X Y program is. cc
-    here (Some (run catalog key workers)) = house_cases IsOfDatasets (λ name tables X Y program is. cc) to_answer (λ loading key tables X Y program is. cc) catalog key reads
+    here (Some (run catalog key workers)) = house_cases IsOfDatasets (λ name tables X Y program is. cc) (to_answer workers) (λ loading key tables X Y program is. cc) catalog key reads
     here (Some (init catalog key)) = house_cases IsOfDatasets (λ name tables X Y program is. cc) to_make (λ loading key tables X Y program is. cc) catalog key reads
     here (Some (audit catalog key)) = house_cases IsOfDatasets (λ name tables X Y program is. cc) to_count (λ loading key tables X Y program is. cc) catalog key reads
     here (Some (check catalog owner file)) = check_cases IsOfDatasets (λ name tables X Y program is. cc) (λ ts bytes tables X Y program is. cc) catalog owner file reads

@@ -17,10 +17,10 @@ use Rattle.budget_core.specs.Entries.{Entry}
 use Rattle.owner_catalog.specs.Entries.{OwnerEntry}
 use Rattle.catalog_loading.specs.Loaded.{Loading, header_of, owners_in, entry_at}
 use Rattle.session_core.specs.Transcript.{Journals}
-use Rattle.query_server.specs.Shelves.{Shelf, Became, IsOnlySynced, SomeRose, StandsStill, bytes_on}
+use Rattle.query_server.specs.Shelves.{Shelf, EachDisk, IsOnlySynced, SomeRose, StandsStill, bytes_on}
 use Rattle.query_server.specs.Opened.{AreOpened, AreOpenedBefore, IsOpened, IsUnopened}
-use Rattle.query_server.specs.Ending.{to_count}
-use Rattle.query_server.specs.Count.{counted_line, counted_text}
+use Rattle.query_server.specs.Work.{to_count}
+use Rattle.query_server.specs.Audit.{counted_line, counted_text}
 use Rattle.query_server.specs.Ends.{IsEndOf, end_by}
 use Rattle.query_server.specs.declared.end.End.TheVariants.{Listed}
 use Rattle.query_server.specs.Books.{IsBookStop, IsOpenStop, LeftDisk}
@@ -44,18 +44,18 @@ pub last_piece : {T E : Type 0} (r : Result T E) (new before piece text : List �
 last_piece (Ok x) new before piece text is whole = is ∙ whole
 last_piece (Err x) new before piece text is whole = tt
 
-abbrev pub line_by : Journals → ℕ × OwnerEntry → List ℕ
-line_by found numbered = counted_line numbered.1 (found numbered.0)
+abbrev pub line_by : (ℕ → Entry) → Journals → ℕ × OwnerEntry → List ℕ
+line_by entries found numbered = counted_line (entries numbered.0) numbered.1 (found numbered.0)
 
-abbrev pub lines_from : ℕ → List OwnerEntry → Journals → List ℕ
-lines_from k owners found = flat_map (line_by found) (enumerate_from k owners)
+abbrev pub lines_from : (ℕ → Entry) → ℕ → List OwnerEntry → Journals → List ℕ
+lines_from entries k owners found = flat_map (line_by entries found) (enumerate_from k owners)
 
-same_lines : (k : ℕ) (owners : List OwnerEntry) (f g : Journals) → ((p : ℕ) → k ≤ p → p < k + length owners → f p ≡ g p)
-    → lines_from k owners f ≡ lines_from k owners g
-same_lines k [] f g agree = refl
-same_lines k (x ∷ xs) f g agree =
-    ap₂ (λ (a b : List ℕ). a ++ b) (ap (counted_line x) (agree k (omega arith) (omega arith)))
-    (same_lines (k + 1) xs f g (λ p low high. agree p (omega (arith, low)) (omega (arith, high))))
+same_lines : (entries : ℕ → Entry) (k : ℕ) (owners : List OwnerEntry) (f g : Journals) → ((p : ℕ) → k ≤ p → p < k + length owners → f p ≡ g p)
+    → lines_from entries k owners f ≡ lines_from entries k owners g
+same_lines entries k [] f g agree = refl
+same_lines entries k (x ∷ xs) f g agree =
+    ap₂ (λ (a b : List ℕ). a ++ b) (ap (counted_line (entries k) x) (agree k (omega arith) (omega arith)))
+    (same_lines entries (k + 1) xs f g (λ p low high. agree p (omega (arith, low)) (omega (arith, high))))
 
 numbered_more : (k : ℕ) (xs ys : List OwnerEntry) → enumerate_from k (xs ++ ys) ≡ enumerate_from k xs ++ enumerate_from (k + length xs) ys
 numbered_more k [] ys = let same : k ≡ k + 0 = omega arith in ap (λ (j : ℕ). enumerate_from j ys) same
@@ -63,15 +63,15 @@ numbered_more k (x ∷ xs) ys =
     let same : (k + 1) + length xs ≡ k + length (x ∷ xs) = omega arith in
     ap (λ (rest : List (ℕ × OwnerEntry)). (k, x) ∷ rest) (numbered_more (k + 1) xs ys ∙ ap (λ (j : ℕ). enumerate_from (k + 1) xs ++ enumerate_from j ys) same)
 
-line_more : (owners : List OwnerEntry) (f : Journals) (n : ℕ) (d : OwnerEntry) → n < length owners
-    → lines_from 0 (take (n + 1) owners) f ≡ lines_from 0 (take n owners) f ++ counted_line (get_or owners n d) (f n)
-line_more owners f n d less =
+line_more : (entries : ℕ → Entry) (owners : List OwnerEntry) (f : Journals) (n : ℕ) (d : OwnerEntry) → n < length owners
+    → lines_from entries 0 (take (n + 1) owners) f ≡ lines_from entries 0 (take n owners) f ++ counted_line (entries n) (get_or owners n d) (f n)
+line_more entries owners f n d less =
     let some : length (take n owners) ≡ n = length-take-le n owners (omega (arith, less)) in
-    ap (λ (xs : List OwnerEntry). lines_from 0 xs f) (take_more owners n d less)
-    ∙ ap (flat_map (line_by f)) (numbered_more 0 (take n owners) (get_or owners n d ∷ []))
-    ∙ flat_map-append (line_by f) (enumerate_from 0 (take n owners)) (enumerate_from (0 + length (take n owners)) (get_or owners n d ∷ []))
-    ∙ ap (λ (text : List ℕ). lines_from 0 (take n owners) f ++ text) (append-nil (counted_line (get_or owners n d) (f (0 + length (take n owners)))))
-    ∙ ap (λ (j : ℕ). lines_from 0 (take n owners) f ++ counted_line (get_or owners n d) (f j)) (omega (arith, some))
+    ap (λ (xs : List OwnerEntry). lines_from entries 0 xs f) (take_more owners n d less)
+    ∙ ap (flat_map (line_by entries f)) (numbered_more 0 (take n owners) (get_or owners n d ∷ []))
+    ∙ flat_map-append (line_by entries f) (enumerate_from 0 (take n owners)) (enumerate_from (0 + length (take n owners)) (get_or owners n d ∷ []))
+    ∙ ap (λ (text : List ℕ). lines_from entries 0 (take n owners) f ++ text) (append-nil (counted_line (entries (0 + length (take n owners))) (get_or owners n d) (f (0 + length (take n owners)))))
+    ∙ ap (λ (j : ℕ). lines_from entries 0 (take n owners) f ++ counted_line (entries j) (get_or owners n d) (f j)) (omega (arith, some))
 
 -- the records of one owner more
 abbrev with_next : Journals → ℕ → List Record → Journals
@@ -84,20 +84,20 @@ next_elsewhere : (found : Journals) (o : ℕ) (records : List Record) (p : ℕ) 
 next_elsewhere found o records p isnt = ap (λ (b : Bool). cond b records (found p)) (not-equal p o isnt)
 
 -- the first owners' records, which are known to be so, and their lines
-abbrev pub AreCounted : (Known : ℕ → List Record → Type 0) → List OwnerEntry → (n : ℕ) → (lines : List ℕ) → Type 0
-AreCounted Known owners n lines = (found : Journals) × ((o : ℕ) → o < n → Known o (found o)) × (lines ≡ lines_from 0 (take n owners) found)
+abbrev pub AreCounted : (ℕ → Entry) → (Known : ℕ → List Record → Type 0) → List OwnerEntry → (n : ℕ) → (lines : List ℕ) → Type 0
+AreCounted entries Known owners n lines = (found : Journals) × ((o : ℕ) → o < n → Known o (found o)) × (lines ≡ lines_from entries 0 (take n owners) found)
 
-pub none_counted : (Known : ℕ → List Record → Type 0) (owners : List OwnerEntry) (lines : List ℕ) → lines ≡ [] → AreCounted Known owners 0 lines
-none_counted Known owners lines is = (λ o. [], λ o less. absurd (omega (arith, less)), is)
+pub none_counted : (entries : ℕ → Entry) (Known : ℕ → List Record → Type 0) (owners : List OwnerEntry) (lines : List ℕ) → lines ≡ [] → AreCounted entries Known owners 0 lines
+none_counted entries Known owners lines is = (λ o. [], λ o less. absurd (omega (arith, less)), is)
 
-pub one_counted : (Known : ℕ → List Record → Type 0) (owners : List OwnerEntry) (o : ℕ) (d : OwnerEntry) (records : List Record) (lines more : List ℕ) → o < length owners
-    → AreCounted Known owners o lines → Known o records → more ≡ lines ++ counted_line (get_or owners o d) records → AreCounted Known owners (o + 1) more
-one_counted Known owners o d records lines more within (found, known, text) last is = (
+pub one_counted : (entries : ℕ → Entry) (Known : ℕ → List Record → Type 0) (owners : List OwnerEntry) (o : ℕ) (d : OwnerEntry) (records : List Record) (lines more : List ℕ) → o < length owners
+    → AreCounted entries Known owners o lines → Known o records → more ≡ lines ++ counted_line (entries o) (get_or owners o d) records → AreCounted entries Known owners (o + 1) more
+one_counted entries Known owners o d records lines more within (found, known, text) last is = (
   with_next found o records,
   λ p less. here p less (cases_eq p o),
-  is ∙ ap (λ (t : List ℕ). t ++ counted_line (get_or owners o d) records) (text ∙ same_lines 0 (take o owners) found (with_next found o records) (λ p low high. sym (elsewhere p (few high))))
-      ∙ ap (λ (rs : List Record). lines_from 0 (take o owners) (with_next found o records) ++ counted_line (get_or owners o d) rs) (sym (next_here found o records))
-      ∙ sym (line_more owners (with_next found o records) o d within),
+  is ∙ ap (λ (t : List ℕ). t ++ counted_line (entries o) (get_or owners o d) records) (text ∙ same_lines entries 0 (take o owners) found (with_next found o records) (λ p low high. sym (elsewhere p (few high))))
+      ∙ ap (λ (rs : List Record). lines_from entries 0 (take o owners) (with_next found o records) ++ counted_line (entries o) (get_or owners o d) rs) (sym (next_here found o records))
+      ∙ sym (line_more entries owners (with_next found o records) o d within),
 )
   where
     few : {p : ℕ} → p < 0 + length (take o owners) → p < o
@@ -114,7 +114,7 @@ one_counted Known owners o d records lines more within (found, known, text) last
         before p o less isnt = grind (arith, less, isnt)
 
 -- one disk more was synced at most
-pub one_left : (o : ℕ) (old mid new : Shelf) → Became o (λ _. IsOnlySynced) old mid → LeftDisk o mid new → Became (o + 1) (λ _. IsOnlySynced) old new
+pub one_left : (o : ℕ) (old mid new : Shelf) → EachDisk o (λ _. IsOnlySynced) old mid → LeftDisk o mid new → EachDisk (o + 1) (λ _. IsOnlySynced) old new
 one_left o old mid new before left = record {
   owned = λ p shown less at. here p shown less at (cases_eq p o);
   others = λ p past. left.elsewhere p (λ same. omega (arith, past, same)) ∙ before.others p (omega (arith, past));
@@ -132,7 +132,7 @@ one_left o old mid new before left = record {
         closer p o less isnt = grind (arith, less, isnt)
 
 -- and those behind it are as they were
-pub all_left : (o n : ℕ) (old new : Shelf) → o ≤ n → ((shown : Shown) → IsOnlySynced shown shown) → Became o (λ _. IsOnlySynced) old new → Became n (λ _. IsOnlySynced) old new
+pub all_left : (o n : ℕ) (old new : Shelf) → o ≤ n → ((shown : Shown) → IsOnlySynced shown shown) → EachDisk o (λ _. IsOnlySynced) old new → EachDisk n (λ _. IsOnlySynced) old new
 all_left o n old new few still before = record {
   owned = λ p shown less at. here p shown at (cases_lt p o);
   others = λ p past. before.others p (omega (arith, past, few));
@@ -178,7 +178,7 @@ some_of : (shown : Option Shown) → IsSome shown → (x : Shown) × (shown ≡ 
 some_of (Some x) is = (x, refl)
 some_of None is = cc is
 
-pub rose_since : (o : ℕ) (old mid new : Shelf) (a b c : ℕ) → a ≤ b → b ≤ c → ((p : ℕ) → p < o → IsSome (old p)) → Became o (λ _. IsOnlySynced) old mid → LeftDisk o mid new
+pub rose_since : (o : ℕ) (old mid new : Shelf) (a b c : ℕ) → a ≤ b → b ≤ c → ((p : ℕ) → p < o → IsSome (old p)) → EachDisk o (λ _. IsOnlySynced) old mid → LeftDisk o mid new
     → HasRisen b c ⊎ SomeRose mid new → HasRisen a c ⊎ SomeRose old new
 rose_since o old mid new a b c first second home before left (inl rose) = inl (risen a b c first second rose)
 rose_since o old mid new a b c first second home before left (inr (p, was, is, at, now, rose)) = inr (here (cases_lt p o))
@@ -202,7 +202,7 @@ opened_as entry one header mid old o found same at opened =
 -- what counting comes to ends an `audit`
 pub count_end : (loading : Loading) (key : List ℕ) (old new : Shelf) (result : Result (Vec ℕ Global) Stop) (script : List ℕ)
     → IfOk result (λ lines. (found : Journals) × AreOpened loading key old found × (lines.items ≡ counted_text loading found))
-    → Became (owners_in loading) (λ _. IsOnlySynced) old new → IfErr result (IsOpenStop loading key old new)
+    → EachDisk (owners_in loading) (λ _. IsOnlySynced) old new → IfErr result (IsOpenStop loading key old new)
     → IsEndOf (to_count loading key) old new script (end_by Listed result)
 count_end loading key old new (Ok lines) script (found, opened, text) disks stop = inl (inr (found, opened, refl, text, disks))
 count_end loading key old new (Err (Journal line)) script counted disks (o, refusal, at, text) =

@@ -4,7 +4,7 @@ use Rattle.std.specs.Prelude.{Vec}
 use Rattle.std.specs.declared.alloc.Global.{Global}
 use mathlib.Core.Logic.{◌⊎◌, inl, inr}
 use Rattle.catalog_loading.specs.Files.{Contents}
-use Rattle.query_server.specs.Ending.{Ending, refused, to_check, to_compare}
+use Rattle.query_server.specs.Work.{Work, refused, to_check, to_compare}
 use Rattle.query_server.specs.Shelves.{Shelf}
 use Rattle.query_server.specs.Check.{check_steps}
 use Rattle.query_server.specs.Gap.{gap_steps}
@@ -15,18 +15,18 @@ use Rattle.query_server.specs.declared.end.Status.TheVariants as code
 use Rattle.catalog_loading.specs.declared.stops.Stop.TheVariants.{Usage, Refused, Journal, Disk, Fault, NoMemory}
 use Rattle.query_server.specs.declared.end.End.{End}
 use Rattle.query_server.specs.declared.end.End.TheVariants.{Stopped, Run, Listed, Check, Gap}
-use Rattle.query_server.specs.declared.running.RunEnd.TheVariants.{Answered, TooLong}
+use Rattle.query_server.specs.declared.run.RunEnd.TheVariants.{Answered, TooLong}
 use Rattle.query_server.specs.declared.programs.ProgramEnd.TheVariants.{Accepted, Refused as Unaccepted}
 use Rattle.query_server.proofs.Endings.{check_cases, gap_cases}
 use Rattle.query_server.proofs.Outcomes.{IsStatusOf, due_status}
 
 -- an ending that names no disk
-no_line : (ending : Ending) (b a : Shelf) (line : Vec ℕ Global) → ((text : List ℕ) → IsDiskLine ending b a text → ⊥) → IsCut ending b a (Stopped (Disk line)) → ⊥
+no_line : (ending : Work) (b a : Shelf) (line : Vec ℕ Global) → ((text : List ℕ) → IsDiskLine ending b a text → ⊥) → IsCut ending b a (Stopped (Disk line)) → ⊥
 no_line ending b a line none (inl is) = cc
 no_line ending b a line none (inr (inl is)) = cc
 no_line ending b a line none (inr (inr (other, is, names))) = none other.items names
 
-no_disk : (ending : Ending) (b a : Shelf) (script : List ℕ) (line : Vec ℕ Global) → (IsStatusOf ending code.DiskFault → ⊥) → ((text : List ℕ) → IsDiskLine ending b a text → ⊥)
+no_disk : (ending : Work) (b a : Shelf) (script : List ℕ) (line : Vec ℕ Global) → (IsStatusOf ending code.DiskFault → ⊥) → ((text : List ℕ) → IsDiskLine ending b a text → ⊥)
     → IsEndOf ending b a script (Stopped (Disk line)) → ⊥
 no_disk ending b a script line status none (inl due) = status (due_status ending b a script code.DiskFault line.items due)
 no_disk ending b a script line status none (inr (cut, may)) = no_line ending b a line none cut

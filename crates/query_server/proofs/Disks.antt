@@ -2,21 +2,21 @@
 use Rattle.std.proofs.Common.{◌≡◌, ℕ, ◌≤◌, Some, refl, sym, ◌∙◌, ap, subst, arith}
 use mathlib.Core.Logic.{inl}
 use Rattle.outside_disks.specs.Disks.{Shown}
-use Rattle.query_server.specs.Ending.{Ending, usage, refused, to_answer, to_make, to_count, to_check, to_compare}
-use Rattle.query_server.specs.Shelves.{Shelf, Became, IsOnlySynced, StandsStill}
+use Rattle.query_server.specs.Work.{Work, usage, refused, to_answer, to_make, to_count, to_check, to_compare}
+use Rattle.query_server.specs.Shelves.{Shelf, EachDisk, IsOnlySynced, StandsStill}
 use Rattle.query_server.specs.Due.{MayStop}
 
 pub synced_same : (shown : Shown) → IsOnlySynced shown shown
 synced_same shown = record { synced = inl refl; counts = omega arith }
 
 -- disks that weren't taken
-pub became_same : (n : ℕ) (shelf : Shelf) → Became n (λ _. IsOnlySynced) shelf shelf
+pub became_same : (n : ℕ) (shelf : Shelf) → EachDisk n (λ _. IsOnlySynced) shelf shelf
 became_same n shelf = record { owned = λ o before less at. (before, at, synced_same before); others = λ o past. refl }
 
-pub may_stop_same : (ending : Ending) (shelf : Shelf) → MayStop ending shelf shelf
+pub may_stop_same : (ending : Work) (shelf : Shelf) → MayStop ending shelf shelf
 may_stop_same usage shelf = λ n. refl
 may_stop_same (refused name) shelf = λ n. refl
-may_stop_same (to_answer loading key) shelf = became_same _ shelf
+may_stop_same (to_answer workers loading key) shelf = became_same _ shelf
 may_stop_same (to_make loading key) shelf = inl (λ n. refl)
 may_stop_same (to_count loading key) shelf = became_same _ shelf
 may_stop_same (to_check tables program) shelf = λ n. refl

@@ -4,22 +4,16 @@ use Rattle.std.specs.Prelude.{Result, Ok, Err}
 use Rattle.fz_ast.specs.Signature.{Signature}
 use Rattle.metric_values.specs.Tables.{Dataset}
 use Rattle.owner_catalog.specs.Catalog.{Catalog}
-use Rattle.wire_lines.specs.Reply.{Replied}
-use Rattle.session_core.specs.House.{house_of}
-use Rattle.session_core.specs.Transcript.{Journals, IsScriptRun}
-use Rattle.session_core.specs.Headline.{AreFound, Headline, Programs}
-use Rattle.session_core.proofs.Owners.{register_owners}
-use Rattle.session_core.proofs.Headlines.{headline_of}
 use Rattle.command_words.specs.Command.{Command, init, run, audit, check, gap, command_of}
 use Rattle.catalog_loading.specs.Files.{Contents, ReadsToCome, always}
 use Rattle.catalog_loading.specs.Steps.{FileStep, ◌>>=◌, continued, done, file_read, from}
 use Rattle.catalog_loading.specs.Loaded.{Loading, IsLoading, catalog_read, key_read, loaded, entry_named, owner_loaded, with_house}
 use Rattle.catalog_loading.specs.Fit.{fitting}
-use Rattle.query_server.specs.Ending.{Ending, ended, refused, to_answer, to_make, to_count, to_check, to_compare}
+use Rattle.query_server.specs.Work.{Work, ended, refused, to_answer, to_make, to_count, to_check, to_compare}
 use Rattle.query_server.specs.Run.{run_steps}
 use Rattle.query_server.specs.Check.{check_steps}
 use Rattle.query_server.specs.Gap.{gap_steps}
-use Rattle.query_server.specs.Due.{ending_of, command_steps}
+use Rattle.query_server.specs.Due.{work_of, command_steps}
 use Rattle.query_server.specs.Promise.{IsHouseOf}
 use Rattle.catalog_loading.proofs.Pairs.{inverted}
 use Rattle.catalog_loading.proofs.Told.{keeps_catalog, keeps_key}
@@ -37,7 +31,7 @@ house_gives work catalog key reads a is =
     (house.0, bytes.0, loading.0, house.1, bytes.1, loading.1, same)
 
 -- What holds of a refused name, and of all that a step's next ones come to, holds of what it comes to with them.
-then_cases : {A : Type 0} (P : Ending → Type 0) → ((name : List ℕ) → P (refused name)) → (step : FileStep A) (next : A → FileStep Ending) → ((a : A) (reads : ReadsToCome) → P (ended (next a reads).given))
+then_cases : {A : Type 0} (P : Work → Type 0) → ((name : List ℕ) → P (refused name)) → (step : FileStep A) (next : A → FileStep Work) → ((a : A) (reads : ReadsToCome) → P (ended (next a reads).given))
     → (reads : ReadsToCome) → P (ended ((step >>= next) reads).given)
 unfolding ◌>>=◌
 then_cases {A} P by_name step next each reads = here (step reads).given
@@ -47,7 +41,7 @@ then_cases {A} P by_name step next each reads = here (step reads).given
     here (Err name) = by_name name
 
 -- of a `run`, an `init` and an `audit`, what is to be done with each house
-pub house_cases : (P : Ending → Type 0) → ((name : List ℕ) → P (refused name)) → (work : Loading → List ℕ → Ending) → ((loading : Loading) (key : List ℕ) → P (work loading key))
+pub house_cases : (P : Work → Type 0) → ((name : List ℕ) → P (refused name)) → (work : Loading → List ℕ → Work) → ((loading : Loading) (key : List ℕ) → P (work loading key))
     → (catalog key : List ℕ) (reads : ReadsToCome) → P (ended (with_house work catalog key reads).given)
 house_cases P by_name work by_work catalog key =
     then_cases P by_name (catalog_read catalog) (λ house. key_read key >>= (λ bytes. loaded house >>= (λ loading. done (work loading bytes))))
@@ -55,7 +49,7 @@ house_cases P by_name work by_work catalog key =
     (λ bytes. then_cases P by_name (loaded house) (λ loading. done (work loading bytes)) (λ loading reads. by_work loading bytes)))
 
 -- of a `check`, each program to be checked
-pub check_cases : (P : Ending → Type 0) → ((name : List ℕ) → P (refused name)) → ((tables : Signature) (program : List ℕ) → P (to_check tables program))
+pub check_cases : (P : Work → Type 0) → ((name : List ℕ) → P (refused name)) → ((tables : Signature) (program : List ℕ) → P (to_check tables program))
     → (catalog owner file : List ℕ) (reads : ReadsToCome) → P (ended (check_steps catalog owner file reads).given)
 check_cases P by_name by_work catalog owner file =
     then_cases P by_name (catalog_read catalog) (λ house. from (entry_named house owner) >>= (λ entry. owner_loaded house owner >>= (λ holding. file_read file >>= (λ program. done (to_check holding.tables program)))))
@@ -64,7 +58,7 @@ check_cases P by_name by_work catalog owner file =
     (λ holding. then_cases P by_name (file_read file) (λ program. done (to_check holding.tables program)) (λ program reads. by_work holding.tables program))))
 
 -- and of a `gap`, each program to be compared
-pub gap_cases : (P : Ending → Type 0) → ((name : List ℕ) → P (refused name)) → ((tables : Signature) (X Y : Dataset) (program : List ℕ) → P (to_compare tables X Y program))
+pub gap_cases : (P : Work → Type 0) → ((name : List ℕ) → P (refused name)) → ((tables : Signature) (X Y : Dataset) (program : List ℕ) → P (to_compare tables X Y program))
     → (catalog owner second_catalog file : List ℕ) (reads : ReadsToCome) → P (ended (gap_steps catalog owner second_catalog file reads).given)
 gap_cases P by_name by_work catalog owner second_catalog file =
     then_cases P by_name (catalog_read catalog) _
@@ -77,10 +71,11 @@ gap_cases P by_name by_work catalog owner second_catalog file =
     (λ program reads. by_work holding.tables holding.rows second_holding.rows program)))))))
 
 -- A script is answered over a house of the files.
-house_of_run : (words : List (List ℕ)) (held : Contents) (catalog name : List ℕ) (workers : ℕ) (loading : Loading) (key : List ℕ) → command_of words ≡ Some (run catalog name workers)
-    → (run_steps catalog name (always held)).given ≡ Ok (to_answer loading key) → IsHouseOf words held loading key
-house_of_run words held catalog name workers loading key commanded is =
-    let found = house_gives to_answer catalog name (always held) (to_answer loading key) is in
+house_of_run : (words : List (List ℕ)) (held : Contents) (catalog name : List ℕ) (asked workers : ℕ) (loading : Loading) (key : List ℕ) → command_of words ≡ Some (run catalog name asked)
+    → (run_steps catalog name asked (always held)).given ≡ Ok (to_answer workers loading key) → IsHouseOf words held workers loading key
+house_of_run words held catalog name asked workers loading key commanded is =
+    let found = house_gives (to_answer asked) catalog name (always held) (to_answer workers loading key) is in
+    let crew : asked ≡ workers = cc in
     let same : found.2 ≡ loading = cc in
     let bytes : found.1 ≡ key = cc in
     let first = keeps_catalog held catalog in
@@ -92,8 +87,7 @@ house_of_run words held catalog name workers loading key commanded is =
     record {
       catalog = catalog;
       key_name = name;
-      workers = workers;
-      commanded = commanded;
+      commanded = commanded ∙ ap (λ (w : ℕ). Some (run catalog name w)) crew;
       has_catalog = found.3 ∙ ap Ok its;
       has_tables = subst (λ (c : Catalog). (loaded c (always held)).given ≡ Ok loading) its (loads ∙ ap Ok same);
       has_key = key_found ∙ ap Ok bytes;
@@ -101,51 +95,35 @@ house_of_run words held catalog name workers loading key commanded is =
     }
 
 -- what ended as a script that is to be answered was given
-given_answer : (given : Result Ending (List ℕ)) (loading : Loading) (key : List ℕ) → ended given ≡ to_answer loading key → given ≡ Ok (to_answer loading key)
-given_answer (Ok ending) loading key is = ap Ok is
-given_answer (Err name) loading key is = cc
+given_answer : (given : Result Work (List ℕ)) (workers : ℕ) (loading : Loading) (key : List ℕ) → ended given ≡ to_answer workers loading key → given ≡ Ok (to_answer workers loading key)
+given_answer (Ok ending) workers loading key is = ap Ok is
+given_answer (Err name) workers loading key is = cc
 
 -- no other command comes to a script
-other_house : (loading : Loading) (key : List ℕ) (work : Loading → List ℕ → Ending) → ((l : Loading) (k : List ℕ) → work l k ≡ to_answer loading key → ⊥) → (catalog name : List ℕ) (reads : ReadsToCome)
-    → ended (with_house work catalog name reads).given ≡ to_answer loading key → ⊥
-other_house loading key work other = house_cases (λ ending. ending ≡ to_answer loading key → ⊥) (λ name is. cc) work other
+other_house : (workers : ℕ) (loading : Loading) (key : List ℕ) (work : Loading → List ℕ → Work) → ((l : Loading) (k : List ℕ) → work l k ≡ to_answer workers loading key → ⊥) → (catalog name : List ℕ) (reads : ReadsToCome)
+    → ended (with_house work catalog name reads).given ≡ to_answer workers loading key → ⊥
+other_house workers loading key work other = house_cases (λ ending. ending ≡ to_answer workers loading key → ⊥) (λ name is. cc) work other
 
-check_answers : (loading : Loading) (key catalog owner file : List ℕ) (reads : ReadsToCome) → ended (check_steps catalog owner file reads).given ≡ to_answer loading key → ⊥
-check_answers loading key = check_cases (λ ending. ending ≡ to_answer loading key → ⊥) (λ name is. cc) (λ tables program is. cc)
+check_answers : (workers : ℕ) (loading : Loading) (key catalog owner file : List ℕ) (reads : ReadsToCome) → ended (check_steps catalog owner file reads).given ≡ to_answer workers loading key → ⊥
+check_answers workers loading key = check_cases (λ ending. ending ≡ to_answer workers loading key → ⊥) (λ name is. cc) (λ tables program is. cc)
 
-gap_answers : (loading : Loading) (key catalog owner second_catalog file : List ℕ) (reads : ReadsToCome) → ended (gap_steps catalog owner second_catalog file reads).given ≡ to_answer loading key → ⊥
-gap_answers loading key = gap_cases (λ ending. ending ≡ to_answer loading key → ⊥) (λ name is. cc) (λ tables X Y program is. cc)
+gap_answers : (workers : ℕ) (loading : Loading) (key catalog owner second_catalog file : List ℕ) (reads : ReadsToCome) → ended (gap_steps catalog owner second_catalog file reads).given ≡ to_answer workers loading key → ⊥
+gap_answers workers loading key = gap_cases (λ ending. ending ≡ to_answer workers loading key → ⊥) (λ name is. cc) (λ tables X Y program is. cc)
 
-pub house_by : (words : List (List ℕ)) (held : Contents) (loading : Loading) (key : List ℕ) → ending_of words (always held) ≡ to_answer loading key → IsHouseOf words held loading key
-unfolding ending_of
-house_by words held loading key is = here (command_of words) refl is
+pub house_by : (words : List (List ℕ)) (held : Contents) (workers : ℕ) (loading : Loading) (key : List ℕ) → work_of words (always held) ≡ to_answer workers loading key → IsHouseOf words held workers loading key
+unfolding work_of
+house_by words held workers loading key is = here (command_of words) refl is
   where
-    here : (command : Option Command) → command_of words ≡ command → ended (command_steps command (always held)).given ≡ to_answer loading key → IsHouseOf words held loading key
+    here : (command : Option Command) → command_of words ≡ command → ended (command_steps command (always held)).given ≡ to_answer workers loading key → IsHouseOf words held workers loading key
     here None was is = cc
-    here (Some (run catalog name workers)) was is = house_of_run words held catalog name workers loading key was (given_answer (run_steps catalog name (always held)).given loading key is)
-    here (Some (init catalog name)) was is = absurd (other_house loading key to_make (λ l k wrong. cc) catalog name (always held) is)
-    here (Some (audit catalog name)) was is = absurd (other_house loading key to_count (λ l k wrong. cc) catalog name (always held) is)
-    here (Some (gap catalog owner second_catalog file)) was is = absurd (gap_answers loading key catalog owner second_catalog file (always held) is)
-    here (Some (check catalog owner file)) was is = absurd (check_answers loading key catalog owner file (always held) is)
+    here (Some (run catalog name asked)) was is =
+        house_of_run words held catalog name asked workers loading key was (given_answer (run_steps catalog name asked (always held)).given workers loading key is)
+    here (Some (init catalog name)) was is = absurd (other_house workers loading key to_make (λ l k wrong. cc) catalog name (always held) is)
+    here (Some (audit catalog name)) was is = absurd (other_house workers loading key to_count (λ l k wrong. cc) catalog name (always held) is)
+    here (Some (gap catalog owner second_catalog file)) was is = absurd (gap_answers workers loading key catalog owner second_catalog file (always held) is)
+    here (Some (check catalog owner file)) was is = absurd (check_answers workers loading key catalog owner file (always held) is)
 
 -- the ending of the words that are this command, or none
-pub ending_by : (words : List (List ℕ)) (reads : ReadsToCome) (command : Option Command) → command_of words ≡ command → ending_of words reads ≡ ended (command_steps command reads).given
-unfolding ending_of
-ending_by words reads command is = ap (λ c. ended (command_steps c reads).given) is
-
--- a `run` checks no program, and compares none
-pub no_check : (words : List (List ℕ)) (held : Contents) (catalog key : List ℕ) (workers : ℕ) (tables : Signature) (program : List ℕ) → command_of words ≡ Some (run catalog key workers) → ending_of words (always held) ≡ to_check tables program → ⊥
-no_check words held catalog key workers tables program commanded is =
-    house_cases (λ ending. ending ≡ to_check tables program → ⊥) (λ name is. cc) to_answer (λ loading key is. cc) catalog key (always held) (sym (ending_by words (always held) (Some (run catalog key workers)) commanded) ∙ is)
-
-pub no_gap : (words : List (List ℕ)) (held : Contents) (catalog key : List ℕ) (workers : ℕ) (tables : Signature) (X Y : Dataset) (program : List ℕ) → command_of words ≡ Some (run catalog key workers)
-    → ending_of words (always held) ≡ to_compare tables X Y program → ⊥
-no_gap words held catalog key workers tables X Y program commanded is =
-    house_cases (λ ending. ending ≡ to_compare tables X Y program → ⊥) (λ name is. cc) to_answer (λ loading key is. cc) catalog key (always held) (sym (ending_by words (always held) (Some (run catalog key workers)) commanded) ∙ is)
-
--- what is replied to a script in a house keeps the promises
-pub house_headline : (loading : Loading) (draws : ℕ → ℕ → ℕ → ℕ) (found : Journals) (earlier : Programs) (script : List ℕ) (replies : List Replied) (records : Journals) → IsLoading loading
-    → AreFound (house_of loading.register) draws earlier found → IsScriptRun (house_of loading.register) draws found script replies records
-    → Headline (house_of loading.register) draws found earlier script replies records
-house_headline loading draws found earlier script replies records lawful explained kept =
-    headline_of (house_of loading.register) draws found earlier script replies records (register_owners loading.register lawful.register) explained kept
+pub work_by : (words : List (List ℕ)) (reads : ReadsToCome) (command : Option Command) → command_of words ≡ command → work_of words reads ≡ ended (command_steps command reads).given
+unfolding work_of
+work_by words reads command is = ap (λ c. ended (command_steps c reads).given) is

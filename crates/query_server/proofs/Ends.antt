@@ -3,7 +3,7 @@ use Rattle.std.proofs.Common.{◌≡◌, ℕ, ◌<◌, List, [], ◌++◌, lengt
 use Rattle.std.specs.Prelude.{Result, Ok, Err, IsErrAnd}
 use Rattle.std.specs.Io.KnownBytes.{prepend_known, IsAtEnd}
 use mathlib.Core.Logic.{inl, inr}
-use Rattle.query_server.specs.Ending.{Ending, ended}
+use Rattle.query_server.specs.Work.{Work, ended}
 use Rattle.catalog_loading.specs.Files.{Contents}
 use Rattle.query_server.specs.Due.{IsLeft}
 use Rattle.catalog_loading.specs.Steps.{StepOutcome, FileStep}
@@ -24,13 +24,13 @@ use Rattle.catalog_loading.proofs.Reached.{IsDone, IsStopped, any_reads}
 use Rattle.query_server.proofs.Contents.{any_left}
 
 -- What stops a command is due, and its files were read. No disk was taken.
-stop_end : (o : StepOutcome Ending) (old new : List (List ℕ)) (shelf : Shelf) (script : List ℕ) (stop : Stop) → IsStopAt o old new stop
+stop_end : (o : StepOutcome Work) (old new : List (List ℕ)) (shelf : Shelf) (script : List ℕ) (stop : Stop) → IsStopAt o old new stop
     → IsEndOf (ended o.given) shelf shelf script (Stopped stop) × AreRead (stop_status stop) o.names old new
 stop_end o old new shelf script Usage is = absurd is
 stop_end o old new shelf script (Journal line) is = absurd is
 stop_end o old new shelf script (Disk line) is = absurd is
 stop_end o old new shelf script (Refused name) (given, read) = (
-  inl (subst (λ (e : Ending). IsDue e shelf shelf script code.Refused (refused_text (string_bytes name))) (sym (ap ended given)) (refl, refl, λ n. refl)),
+  inl (subst (λ (e : Work). IsDue e shelf shelf script code.Refused (refused_text (string_bytes name))) (sym (ap ended given)) (refl, refl, λ n. refl)),
   record { names = o.names; is = read; some = ([], sym (append-nil o.names)); all = inr (inr (inr refl)) },
 )
 stop_end o old new shelf script Fault (some, more, is, both) =
@@ -38,7 +38,7 @@ stop_end o old new shelf script Fault (some, more, is, both) =
 stop_end o old new shelf script NoMemory (some, more, is, both) =
     (inr (inr (inl refl), may_stop_same (ended o.given) shelf), record { names = some; is = is; some = (more, both); all = inr (inl refl) })
 
-pub stopped_end : (held : Option Contents) (left : Option (List ℕ)) (old new : List (List ℕ)) (shelf : Shelf) (steps : FileStep Ending) (stop : Stop) → IsStopped held old new steps stop
+pub stopped_end : (held : Option Contents) (left : Option (List ℕ)) (old new : List (List ℕ)) (shelf : Shelf) (steps : FileStep Work) (stop : Stop) → IsStopped held old new steps stop
     → ForContents held left (IsStepEnd old new shelf shelf steps (Stopped stop))
 stopped_end held left old new shelf steps stop is =
     let some = any_reads held in
@@ -47,7 +47,7 @@ stopped_end held left old new shelf steps stop is =
     (one.0, script.0, one.1, script.1, stop_end (steps one.0) old new shelf script.0 stop one.2)
 
 -- a stop that is passed on
-pub passed_end : {T : Type 0} (held : Option Contents) (left : Option (List ℕ)) (old new : List (List ℕ)) (shelf : Shelf) (steps : FileStep Ending) (make : T → End) (stop : Stop) (result : Result T Stop)
+pub passed_end : {T : Type 0} (held : Option Contents) (left : Option (List ℕ)) (old new : List (List ℕ)) (shelf : Shelf) (steps : FileStep Work) (make : T → End) (stop : Stop) (result : Result T Stop)
     → IsStopped held old new steps stop → IsErrAnd result (λ e. e ≡ stop) → ForContents held left (IsStepEnd old new shelf shelf steps (end_by make result))
 passed_end held left old new shelf steps make stop (Ok x) is wrong = absurd wrong
 passed_end held left old new shelf steps make stop (Err other) is same =
@@ -59,7 +59,7 @@ end_passed make stop (Ok x) wrong = absurd wrong
 end_passed make stop (Err other) same = ap Stopped same
 
 -- What ends the work that the steps gave ends the command.
-pub done_end : (held : Option Contents) (left : Option (List ℕ)) (old new : List (List ℕ)) (before after : Shelf) (steps : FileStep Ending) (ending : Ending) (script : List ℕ) (end : End)
+pub done_end : (held : Option Contents) (left : Option (List ℕ)) (old new : List (List ℕ)) (before after : Shelf) (steps : FileStep Work) (ending : Work) (script : List ℕ) (end : End)
     → IsDone held old new steps ending → IsLeft left script → IsEndOf ending before after script end → ForContents held left (IsStepEnd old new before after steps end)
 done_end held left old new before after steps ending script end is told due =
     let some = any_reads held in
@@ -69,13 +69,13 @@ done_end held left old new before after steps ending script end is told due =
       one.1,
       told,
       (
-        subst (λ (e : Ending). IsEndOf e before after script end) (sym (ap ended one.2.given)) due,
+        subst (λ (e : Work). IsEndOf e before after script end) (sym (ap ended one.2.given)) due,
         record { names = (steps one.0).names; is = one.2.names; some = ([], sym (append-nil (steps one.0).names)); all = inr (inr (inr refl)) },
       ),
     )
 
 -- Work that fails is no end of its own.
-pub failed_end : (held : Option Contents) (left : Option (List ℕ)) (old new : List (List ℕ)) (before after : Shelf) (steps : FileStep Ending) (ending : Ending) (end : End) → IsDone held old new steps ending
+pub failed_end : (held : Option Contents) (left : Option (List ℕ)) (old new : List (List ℕ)) (before after : Shelf) (steps : FileStep Work) (ending : Work) (end : End) → IsDone held old new steps ending
     → ((script : List ℕ) → IsEndOf ending before after script end) → ForContents held left (IsStepEnd old new before after steps end)
 failed_end held left old new before after steps ending end is due = let script = any_left left in done_end held left old new before after steps ending script.0 end is script.1 (due script.0)
 

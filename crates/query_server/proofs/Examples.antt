@@ -1,27 +1,30 @@
 -- worked examples of the definitions, from the written rules, on both sides of each choice and at each limit
-use Rattle.std.proofs.Common.{◌≡◌, ℕ, ◌+◌, ◌<◌, ◌≤◌, cond, List, [], ◌∷◌, ◌++◌, length, Option, Some, None, refl, ap, replicate, subst, arith}
+use Rattle.std.proofs.Common.{◌≡◌, ℕ, ◌+◌, ◌<◌, ◌≤◌, Bool, true, false, cond, List, [], ◌∷◌, ◌++◌, length, Option, Some, None, refl, ap, replicate, subst, arith}
 use Rattle.std.specs.Prelude.{◌^◌, Result, Ok, Err, codes, pos, negsuc}
 use Rattle.std.proofs.lemmas.Bool.{le-leb, lt-leb}
 use Rattle.std.specs.Fmt.{digits}
 use Rattle.std.specs.Io.KnownBytes.{prepend_known}
 use mathlib.Core.Logic.{inl, inr}
 use Rattle.fz_frac.specs.Distance.{Fin}
+use Rattle.fz_ast.specs.Signature.{Signature}
 use Rattle.metric_values.specs.Tables.{Dataset}
 use Rattle.wire_lines.specs.Refusal.{no_token}
 use Rattle.wire_lines.specs.Reply.{reply_text}
 use Rattle.answer_path.specs.Reading.{IsReading, unlexed}
 use Rattle.answer_path.specs.Judgement.{judgement_of, refused_for}
 use Rattle.query_server.specs.Status.{code_of, refused_text, usage_text}
-use Rattle.query_server.specs.Ending.{usage, refused}
+use Rattle.command_words.specs.Command.{Command, audit, check, gap, init, run}
+use Rattle.query_server.specs.Work.{usage, refused, to_check}
+use Rattle.query_server.specs.Outside.{BayStays, FilesStay}
 use Rattle.catalog_loading.specs.Steps.{◌>>=◌}
 use Rattle.catalog_loading.specs.Files.{always, readable}
 use Rattle.catalog_loading.specs.Loaded.{Loading, key_read, owners_in}
-use Rattle.query_server.specs.Shelves.{Shelf, Became, IsOnlySynced}
+use Rattle.query_server.specs.Shelves.{Shelf, EachDisk, IsOnlySynced}
 use Rattle.query_server.specs.Run.{script_limit, IsAnswerDue, IsScriptDue}
 use Rattle.session_core.specs.Transcript.{Journals}
 use Rattle.query_server.specs.Check.{accepted_text}
 use Rattle.query_server.specs.Gap.{IsGapBy, IsGapDue, gap_text}
-use Rattle.query_server.specs.Due.{AreRead, IfFinished, IsFaultyWordsEnd, IsBeginning, IsWrittenAt}
+use Rattle.query_server.specs.Due.{AreRead, IfFinished, IsFaultyWordsEnd, IsBeginning, IsForProgram, IsWrittenAt, kind_of}
 use Rattle.query_server.specs.Taken.{IsTaken}
 use Rattle.query_server.specs.declared.end.Status.TheVariants.{Done, ProgramRefused, Usage, Refused, JournalRefused, Fault, DiskFault, NoMemory, ScriptTooLong}
 
@@ -90,20 +93,20 @@ long_key = refl
 
 -- scripts of 2^24 bytes and of one more, where all journals are opened
 module _ (loading : Loading) (key : List ℕ) (old new : Shelf) (found : Journals) (script : List ℕ) where
-  longest_script : (text : List ℕ) → length script ≡ 16777216 → IsAnswerDue loading key old new found script ScriptTooLong text → ⊥
+  longest_script : (text : List ℕ) → length script ≡ 16777216 → IsAnswerDue loading key 1 old new found script ScriptTooLong text → ⊥
   longest_script text is (inl (wrong, short, due)) = cc
   longest_script text is (inr (over, long, due, disks)) = let more : script_limit < length script = long in omega (arith, more, is)
 
-  longer_script : length script ≡ 16777217 → Became (owners_in loading) (λ o. IsOnlySynced) old new
-      → IsAnswerDue loading key old new found script ScriptTooLong (codes "script too long\n")
+  longer_script : length script ≡ 16777217 → EachDisk (owners_in loading) (λ o. IsOnlySynced) old new
+      → IsAnswerDue loading key 1 old new found script ScriptTooLong (codes "script too long\n")
   longer_script is disks = inr (refl, omega (arith, is), refl, disks)
 
-  longer_unanswered : (text : List ℕ) → length script ≡ 16777217 → IsAnswerDue loading key old new found script Done text → ⊥
+  longer_unanswered : (text : List ℕ) → length script ≡ 16777217 → IsAnswerDue loading key 1 old new found script Done text → ⊥
   longer_unanswered text is (inl (over, short, due)) = let few : length script ≤ script_limit = short in omega (arith, few, is)
   longer_unanswered text is (inr (wrong, long, due, disks)) = cc
 
   -- A script is neither answered nor too long where a journal is refused, and comes to no other status than these.
-  unusable : (text : List ℕ) → IsScriptDue loading key old new script Refused text → ⊥
+  unusable : (text : List ℕ) → IsScriptDue loading key 1 old new script Refused text → ⊥
   unusable text (inl due) = let wrong = due.is_status in cc
   unusable text (inr (records, opened, inl (wrong, short, due))) = cc
   unusable text (inr (records, opened, inr (wrong, long, due, disks))) = cc
@@ -146,6 +149,55 @@ module _ (old new : Shelf) where
   name_unwritten (inl (inr (inl (wrong, is), may))) = cc
   name_unwritten (inl (inr (inr (wrong, line), may))) = cc
   name_unwritten (inr (wrong, is)) = cc
+
+-- what a command takes: a `run` the source and the disks, an `init` and an `audit` the disks, a `check` and a `gap` a program
+abbrev Takes : Option Command → (source disks program : Bool) → Type 0
+Takes command source disks program =
+    ((kind_of command).source ≡ source) × ((kind_of command).disks ≡ disks) × ((kind_of command).program ≡ program)
+
+run_takes : Takes (Some (run (codes "c") (codes "k") 2)) true true false
+run_takes = (refl, refl, refl)
+
+init_takes : Takes (Some (init (codes "c") (codes "k"))) false true false
+init_takes = (refl, refl, refl)
+
+audit_takes : Takes (Some (audit (codes "c") (codes "k"))) false true false
+audit_takes = (refl, refl, refl)
+
+check_takes : Takes (Some (check (codes "c") (codes "o") (codes "f"))) false false true
+check_takes = (refl, refl, refl)
+
+gap_takes : Takes (Some (gap (codes "c") (codes "o") (codes "d") (codes "f"))) false false true
+gap_takes = (refl, refl, refl)
+
+nothing_taken : Takes None false false false
+nothing_taken = (refl, refl, refl)
+
+-- of the work that is left some is judged, and some isn't
+judged_program : IsForProgram [] (codes "1") (to_check [] (codes "1"))
+judged_program = refl
+
+-- how long the program is that is judged
+length_judged : Option (Signature × List ℕ) → ℕ
+length_judged None = 0
+length_judged (Some judged) = length judged.1
+
+judged_other : IsForProgram [] (codes "1") (to_check [] (codes "22")) → ⊥
+unfolding length_judged
+judged_other is = let two : 2 ≡ 1 = ap length_judged is in omega (arith, two)
+
+judged_none : IsForProgram [] (codes "1") (refused (codes "f")) → ⊥
+judged_none is = cc is
+
+-- what stays: a count may rise and not fall, a bay has its owners, and files hold what they held
+count_rises : FilesStay (record { held = None; names = []; faults = 1 }) (record { held = None; names = codes "f" ∷ []; faults = 2 })
+count_rises = (refl, omega arith)
+
+count_falls : FilesStay (record { held = None; names = []; faults = 2 }) (record { held = None; names = []; faults = 1 }) → ⊥
+count_falls (same, less) = absurd (omega (arith, less))
+
+fewer_owners : (shelf : Shelf) → BayStays (record { shelf = shelf; owners = 16; faults = 0 }) (record { shelf = shelf; owners = 15; faults = 0 }) → ⊥
+fewer_owners shelf (same, less) = absurd (omega (arith, same))
 
 -- a text begins with its first byte and not with its second
 first_byte : IsBeginning (1 ∷ []) (1 ∷ 2 ∷ [])

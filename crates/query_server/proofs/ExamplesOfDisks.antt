@@ -9,7 +9,8 @@ use Rattle.partition_charge.specs.declared.view.View.TheVariants.{Whole}
 use Rattle.partition_charge.specs.Cost.{cost_of_charges, partition_cost}
 use Rattle.journal_records.specs.declared.records.Outcome.TheVariants.{Answered, Exhausted}
 use Rattle.journal_records.specs.declared.records.Record.{Record}
-use Rattle.journal_records.specs.declared.records.Record.TheVariants.{Reserve, Settle}
+use Rattle.journal_records.specs.declared.records.Record.TheVariants.{Reserve}
+use Rattle.journal_records.specs.Records.{settling}
 use Rattle.journal_records.specs.declared.records.Header.{Header}
 use Rattle.budget_core.specs.Cost.{cost_of}
 use Rattle.budget_core.specs.Entries.{Entry}
@@ -17,12 +18,12 @@ use Rattle.owner_catalog.specs.Catalog.{Catalog, OwnerEntry}
 use Rattle.owner_catalog.specs.Digest.{digest_of}
 use Rattle.session_core.specs.Transcript.{Journals}
 use Rattle.catalog_loading.specs.Loaded.{Loading, header_of, owner_name_at}
-use Rattle.query_server.specs.Shelves.{Shelf, bytes_on, TellBytes, AreAtHome, Became, IsOnlySynced, NoOtherRose}
+use Rattle.query_server.specs.Shelves.{Shelf, bytes_on, TellBytes, AreAtHome, EachDisk, IsOnlySynced, NoOtherRose}
 use Rattle.query_server.specs.Opened.{AreOpenedBefore, IsUnopened, IsRefusedAt, IsRefusalDue}
-use Rattle.query_server.specs.Make.{AreMadeBefore, IsMade, IsExistingDue, IsMakingNamed, MayBeMadeInPart, MayHaveFailed, made_line}
-use Rattle.query_server.specs.Count.{counted_line, counted_text}
+use Rattle.query_server.specs.Init.{AreMadeBefore, IsMade, IsExistingDue, IsMakingNamed, MayBeMadeInPart, MayHaveFailed, made_line}
+use Rattle.query_server.specs.Audit.{counted_line, counted_text}
 use Rattle.query_server.specs.Due.{IsDiskLine, IsStopLine}
-use Rattle.query_server.specs.Ending.{refused, to_answer, to_make, to_count}
+use Rattle.query_server.specs.Work.{refused, to_answer, to_make, to_count}
 use Rattle.query_server.specs.Status.{journal_text, disk_text}
 use Rattle.query_server.specs.declared.end.Status.{Status}
 use Rattle.query_server.specs.declared.end.Status.TheVariants.{Done, JournalRefused, DiskFault}
@@ -69,12 +70,12 @@ line_of_a_made_journal = refl
 
 -- one reservation answered, one exhausted and one open, at 2 millionths each
 abbrev made : ℕ → Record
-made number = Reserve (record { number = number; view = Whole; e = 2; p = 1; q = 1; taken = 2; analyst = 0; program = replicate 32 9 })
+made number = Reserve (record { number = number; view = Whole; e = 2; p = 1; q = 1; taken = 2; analyst = 0; digest = replicate 32 9 })
 
 abbrev three : List Record
-three = made 0 ∷ Settle 0 (Answered (pos 5)) ∷ made 1 ∷ Settle 1 Exhausted ∷ made 2 ∷ []
+three = made 0 ∷ settling 0 (Answered (pos 5)) ∷ made 1 ∷ settling 1 Exhausted ∷ made 2 ∷ []
 
-line_of_three : counted_line (owner census 10000000 100) three ≡ codes "census reservations 3 answered 1 exhausted 1 lost 1 spent 6 budget 10000000\n"
+line_of_three : counted_line (record { budget = 10000000; capacity = 100; analysts = 1; keys = [] }) (owner census 10000000 100) three ≡ codes "census reservations 3 answered 1 exhausted 1 lost 1 spent 6 budget 10000000\n"
 unfolding digits cost_of cost_of_charges partition_cost
 line_of_three = refl
 
@@ -158,14 +159,14 @@ not_a_sync more is = cc
 written : (bytes more : List ℕ) → IsOnlySynced (shown bytes) (record { trace = Some (record { start = bytes; steps = Wrote 0 more ∷ [] }); faults = 0 }) → ⊥
 written bytes more goes = elim goes.synced [ inl is ↦ not_unchanged more (ap steps_in is) | inr is ↦ not_a_sync more (ap steps_in is) ]
 
-as_they_were : (owners : ℕ) (shelf : Shelf) → Became owners (λ o. IsOnlySynced) shelf shelf
+as_they_were : (owners : ℕ) (shelf : Shelf) → EachDisk owners (λ o. IsOnlySynced) shelf shelf
 as_they_were owners shelf = record { owned = λ o before lt is. (before, is, as_it_was before); others = λ o le. refl }
 
-one_is_gone : Became 1 (λ o. IsOnlySynced) (shelf_with []) (λ o. None) → ⊥
+one_is_gone : EachDisk 1 (λ o. IsOnlySynced) (shelf_with []) (λ o. None) → ⊥
 one_is_gone became = let gone : None ≡ Some (became.owned 0 (shown []) (omega arith) refl).0 = (became.owned 0 (shown []) (omega arith) refl).1 in cc gone
 
 -- a disk of no owner of the catalog is as it was
-another_is_gone : Became 0 (λ o. IsOnlySynced) (shelf_with []) (λ o. None) → ⊥
+another_is_gone : EachDisk 0 (λ o. IsOnlySynced) (shelf_with []) (λ o. None) → ⊥
 another_is_gone became = let gone : None ≡ telling [] = became.others 0 (omega arith) in cc gone
 
 -- ---- which journals are opened
@@ -206,7 +207,7 @@ first_refused = record { known = omega arith; before = λ p lt. absurd (omega (a
 second_refused : IsRefusedAt loading key (shelf_with []) 1 (Damaged 7) → ⊥
 second_refused at =
     let opened = at.before 0 (omega arith) in
-    let whole : 0 ≡ 128 + 64 * 100 = opened.1.stands.whole in
+    let whole : 0 ≡ 128 + 64 * 100 = opened.1.stands.fills.whole in
     omega (arith, whole)
 
 third_refused : (refusal : JournalRefusal) → IsRefusedAt loading key (shelf_with []) 2 refusal → ⊥
@@ -319,10 +320,10 @@ another_owners_disk (o, lt, is, opened, others) = first_disk o lt is others
 -- the first one's journal was not made, so the second one's disk isn't opened
 unmade_before : (o : ℕ) → o < 2 → codes "disk b\n" ≡ disk_text (owner_name_at loading o) → AreOpenedBefore loading key (shelf_with []) o → ⊥
 unmade_before zero lt is opened = let wrong : 10 ≡ 101 = ap (λ text. slice_index text 6) is in omega (arith, wrong)
-unmade_before (suc zero) lt is opened = let whole : 0 ≡ 128 + 64 * 100 = (opened 0 (omega arith)).1.stands.whole in omega (arith, whole)
+unmade_before (suc zero) lt is opened = let whole : 0 ≡ 128 + 64 * 100 = (opened 0 (omega arith)).1.stands.fills.whole in omega (arith, whole)
 unmade_before (suc (suc o)) lt is opened = omega (arith, lt)
 
-behind_an_unmade_journal : (new : Shelf) → IsDiskLine (to_answer loading key) (shelf_with []) new (codes "disk b\n") → ⊥
+behind_an_unmade_journal : (new : Shelf) → IsDiskLine (to_answer 1 loading key) (shelf_with []) new (codes "disk b\n") → ⊥
 behind_an_unmade_journal new (o, lt, is, opened, others) = unmade_before o lt is opened
 
 other_at : (o : ℕ) → o < 2 → codes "disk c\n" ≡ disk_text (owner_name_at loading o) → ⊥

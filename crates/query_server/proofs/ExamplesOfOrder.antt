@@ -3,13 +3,13 @@ use Rattle.std.proofs.Common.{◌≡◌, ℕ, zero, suc, List, [], ◌∷◌, �
 use Rattle.std.specs.Prelude.{Result, Ok, Err, codes, pos, ok_or}
 use Rattle.fz_ast.specs.declared.row.Column.TheVariants.{Num}
 use Rattle.owner_catalog.specs.Catalog.{OwnerEntry, TableEntry, Catalog, owner_signature}
-use Rattle.query_server.specs.Ending.{usage, Ending, to_answer, to_make, to_count, to_check, to_compare}
+use Rattle.query_server.specs.Work.{usage, Work, to_answer, to_make, to_count, to_check, to_compare}
 use Rattle.catalog_loading.specs.Files.{ReadsToCome, always, readable, Contents}
 use Rattle.catalog_loading.specs.Steps.{StepOutcome, ◌>>=◌, behind, one_by_one, file_read, FileStep, continued}
 use Rattle.catalog_loading.specs.Loaded.{LoadedTable, LoadedOwner, Loading, key_read, catalog_read, table_read, owner_read, loaded, with_house}
 use Rattle.query_server.specs.Run.{run_steps}
-use Rattle.query_server.specs.Make.{make_steps}
-use Rattle.query_server.specs.Count.{count_steps}
+use Rattle.query_server.specs.Init.{init_steps}
+use Rattle.query_server.specs.Audit.{audit_steps}
 use Rattle.query_server.specs.Check.{check_steps}
 use Rattle.query_server.specs.Gap.{gap_steps}
 use Rattle.query_server.specs.Due.{files_of, command_steps}
@@ -199,13 +199,13 @@ module _ {A : Type 0} (work : Loading → List ℕ → A) (held : Contents) wher
   house_whole bytes has has_key first second =
       goes_on _ _ held _ _ _ _ has (goes_on _ _ held _ _ _ _ has_key (goes_on _ _ held _ _ _ _ (all_loaded held first second) refl))
 
-of_run : run_steps cat key ≡ with_house to_answer cat key
+of_run : run_steps cat key 1 ≡ with_house (to_answer 1) cat key
 of_run = refl
 
-of_init : make_steps cat key ≡ with_house to_make cat key
+of_init : init_steps cat key ≡ with_house to_make cat key
 of_init = refl
 
-of_audit : count_steps cat key ≡ with_house to_count cat key
+of_audit : audit_steps cat key ≡ with_house to_count cat key
 of_audit = refl
 
 -- `check`: CATALOG, OWNER, the tables of all owners, FILE
@@ -271,4 +271,4 @@ check_words : (held : Contents) → HasCatalog held → HasRows held a_csv → H
 unfolding files_of
 check_words held has first second none =
     ap (λ (command : Option Command). (command_steps command (always held)).names) is_check
-    ∙ ap (λ (o : StepOutcome Ending). o.names) (check_file held has first second none)
+    ∙ ap (λ (o : StepOutcome Work). o.names) (check_file held has first second none)

@@ -12,11 +12,11 @@ use Rattle.session_core.specs.Transcript.{Journals}
 use Rattle.command_words.specs.Command.{Command, init, run, audit, check, gap, command_of}
 use Rattle.catalog_loading.specs.Files.{ReadsToCome}
 use Rattle.catalog_loading.specs.Loaded.{Loading, header_of, entry_at, owners_in}
-use Rattle.query_server.specs.Ending.{ended, refused, to_answer, to_make, to_count}
-use Rattle.query_server.specs.Shelves.{Shelf, AreAtHome, Became, TellBytes, bytes_on}
+use Rattle.query_server.specs.Work.{ended, refused, to_answer, to_make, to_count}
+use Rattle.query_server.specs.Shelves.{Shelf, AreAtHome, EachDisk, TellBytes, bytes_on}
 use Rattle.query_server.specs.Opened.{AreOpened, IsOpened, IsUnopened}
-use Rattle.query_server.specs.Make.{AreMadeBefore}
-use Rattle.query_server.specs.Due.{IfFinished, IsDue, IsOfDisks, ending_of, command_steps}
+use Rattle.query_server.specs.Init.{AreMadeBefore}
+use Rattle.query_server.specs.Due.{IfFinished, IsDue, IsOfDisks, work_of, command_steps}
 use Rattle.query_server.specs.Ends.{IsEndOf}
 use Rattle.query_server.specs.declared.refusals.JournalRefusal.{JournalRefusal}
 use Rattle.query_server.specs.declared.refusals.JournalRefusal.TheVariants.{Uninitialised, Changed, Damaged, Exists}
@@ -42,7 +42,7 @@ is_some shown x is = subst IsSome (sym is) refl
 same_back : (b a : Shelf) → Same b a → AreBack b a
 same_back b a same = λ o home. subst IsSome (sym (same o)) home
 
-became_back : (n : ℕ) (Goes : (o : ℕ) → Shown → Shown → Type 0) (b a : Shelf) → Became n Goes b a → AreBack b a
+became_back : (n : ℕ) (Goes : (o : ℕ) → Shown → Shown → Type 0) (b a : Shelf) → EachDisk n Goes b a → AreBack b a
 became_back n Goes b a became = λ o home. here o home (cases_lt o n)
   where
     here : (o : ℕ) → IsSome (b o) → (o < n) ⊎ (n ≤ o) → IsSome (a o)
@@ -73,11 +73,11 @@ refused_back : (name : List ℕ) (b a : Shelf) (script : List ℕ) (end : End) �
 refused_back name b a script end (inl (is, text, same)) = same_back b a same
 refused_back name b a script end (inr (cut, same)) = same_back b a same
 
-answer_back : (b a : Shelf) (script : List ℕ) (end : End) (loading : Loading) (key : List ℕ) → IsEndOf (to_answer loading key) b a script end → AreBack b a
-answer_back b a script end loading key (inl (inl refusal)) = became_back _ _ b a refusal.disks
-answer_back b a script end loading key (inl (inr (found, opened, inl (done, short, answered)))) = became_back _ _ b a answered.disks
-answer_back b a script end loading key (inl (inr (found, opened, inr (over, long, text, disks)))) = became_back _ _ b a disks
-answer_back b a script end loading key (inr (cut, disks)) = became_back _ _ b a disks
+answer_back : (b a : Shelf) (script : List ℕ) (end : End) (workers : ℕ) (loading : Loading) (key : List ℕ) → IsEndOf (to_answer workers loading key) b a script end → AreBack b a
+answer_back b a script end workers loading key (inl (inl refusal)) = became_back _ _ b a refusal.disks
+answer_back b a script end workers loading key (inl (inr (found, opened, inl (done, short, answered)))) = became_back _ _ b a answered.disks
+answer_back b a script end workers loading key (inl (inr (found, opened, inr (over, long, text, disks)))) = became_back _ _ b a disks
+answer_back b a script end workers loading key (inr (cut, disks)) = became_back _ _ b a disks
 
 make_back : (b a : Shelf) (script : List ℕ) (end : End) (loading : Loading) (key : List ℕ) → IsEndOf (to_make loading key) b a script end → AreBack b a
 make_back b a script end loading key (inl (inl (done, text, disks))) = became_back _ _ b a disks
@@ -91,20 +91,20 @@ count_back b a script end loading key (inl (inr (found, opened, done, text, disk
 count_back b a script end loading key (inr (cut, disks)) = became_back _ _ b a disks
 
 command_back : (command : Option Command) (reads : ReadsToCome) (b a : Shelf) (script : List ℕ) (end : End) → IsOfDisks command → IsEndOf (ended (command_steps command reads).given) b a script end → AreBack b a
-command_back None reads b a script end takes due = absurd takes
+command_back None reads b a script end takes due = cc takes
 command_back (Some (run catalog key workers)) reads b a script end takes due =
-    house_cases (λ e. IsEndOf e b a script end → AreBack b a) (λ name. refused_back name b a script end) to_answer (answer_back b a script end) catalog key reads due
+    house_cases (λ e. IsEndOf e b a script end → AreBack b a) (λ name. refused_back name b a script end) (to_answer workers) (answer_back b a script end workers) catalog key reads due
 command_back (Some (init catalog key)) reads b a script end takes due =
     house_cases (λ e. IsEndOf e b a script end → AreBack b a) (λ name. refused_back name b a script end) to_make (make_back b a script end) catalog key reads due
 command_back (Some (audit catalog key)) reads b a script end takes due =
     house_cases (λ e. IsEndOf e b a script end → AreBack b a) (λ name. refused_back name b a script end) to_count (count_back b a script end) catalog key reads due
-command_back (Some (check catalog owner file)) reads b a script end takes due = absurd takes
-command_back (Some (gap catalog owner second_catalog file)) reads b a script end takes due = absurd takes
+command_back (Some (check catalog owner file)) reads b a script end takes due = cc takes
+command_back (Some (gap catalog owner second_catalog file)) reads b a script end takes due = cc takes
 
 -- Every disk is at home again.
 pub home_again : {T : Type 0} (shelf : T → Shelf) (words : List (List ℕ)) (old new : T) (reads : ReadsToCome) (script : List ℕ) (end : End) → IsOfDisks (command_of words) ⊎ (new ≡ old)
-    → IsEndOf (ending_of words reads) (shelf old) (shelf new) script end → AreBack (shelf old) (shelf new)
-unfolding ending_of
+    → IsEndOf (work_of words reads) (shelf old) (shelf new) script end → AreBack (shelf old) (shelf new)
+unfolding work_of
 home_again shelf words old new reads script end (inl takes) due = command_back (command_of words) reads (shelf old) (shelf new) script end takes due
 home_again shelf words old new reads script end (inr same) due = λ o home. subst (λ (bay : _). IsSome (shelf bay o)) (sym same) home
 
@@ -121,16 +121,16 @@ unrefused entry header None found Changed told opened isnt = cc
 unrefused entry header None found (Damaged slot) told opened isnt = cc
 unrefused entry header None found (Exists n) told opened isnt = isnt
 
-pub complete_by : (loading : Loading) (key : List ℕ) (b a : Shelf) (found : Journals) (script : List ℕ) (status : Status) (text : List ℕ) → TellBytes (owners_in loading) b → AreOpened loading key b found
-    → (status ≡ code.Fault → ⊥) → (status ≡ code.DiskFault → ⊥) → IfFinished status (IsDue (to_answer loading key) b a script status text)
+pub complete_by : (workers : ℕ) (loading : Loading) (key : List ℕ) (b a : Shelf) (found : Journals) (script : List ℕ) (status : Status) (text : List ℕ) → TellBytes (owners_in loading) b → AreOpened loading key b found
+    → (status ≡ code.Fault → ⊥) → (status ≡ code.DiskFault → ⊥) → IfFinished status (IsDue (to_answer workers loading key) b a script status text)
     → (status ≡ code.Done) ⊎ ((status ≡ code.ScriptTooLong) ⊎ (status ≡ code.NoMemory))
-complete_by loading key b a found script status text told opened fault disk (inl is) = absurd (fault is)
-complete_by loading key b a found script status text told opened fault disk (inr (inl is)) = inr (inr is)
-complete_by loading key b a found script status text told opened fault disk (inr (inr (inl is))) = absurd (disk is)
-complete_by loading key b a found script status text told opened fault disk (inr (inr (inr (inl r)))) =
+complete_by workers loading key b a found script status text told opened fault disk (inl is) = absurd (fault is)
+complete_by workers loading key b a found script status text told opened fault disk (inr (inl is)) = inr (inr is)
+complete_by workers loading key b a found script status text told opened fault disk (inr (inr (inl is))) = absurd (disk is)
+complete_by workers loading key b a found script status text told opened fault disk (inr (inr (inr (inl r)))) =
     absurd (unrefused (entry_at loading r.o) (header_of loading key r.o) (bytes_on b r.o) (found r.o) r.refusal (told r.o r.at.known) (opened r.o r.at.known) r.at.refused)
-complete_by loading key b a found script status text told opened fault disk (inr (inr (inr (inr (other, opens, inl (done, short, answered)))))) = inl done
-complete_by loading key b a found script status text told opened fault disk (inr (inr (inr (inr (other, opens, inr (over, long, is, disks)))))) = inr (inl over)
+complete_by workers loading key b a found script status text told opened fault disk (inr (inr (inr (inr (other, opens, inl (done, short, answered)))))) = inl done
+complete_by workers loading key b a found script status text told opened fault disk (inr (inr (inr (inr (other, opens, inr (over, long, is, disks)))))) = inr (inl over)
 
 -- no cause, no failure
 pub no_cause : {OfRun Files Source Sink : Type 0} (end : End) → (Files → ⊥) → (Source → ⊥) → (Sink → ⊥) → (end ≡ Stopped Fault) ⊎ Sink → (end ≡ Stopped Fault → Files ⊎ (OfRun × Source)) → ⊥

@@ -19,6 +19,7 @@ pub mod Made
 pub mod Counted
 pub mod Diskless
 pub mod Outcomes
+pub mod Lines
 pub mod Causes
 pub mod Taking
 pub mod Compared

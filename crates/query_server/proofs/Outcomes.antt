@@ -1,7 +1,8 @@
 -- what is written at the end of a command, and what follows from it
-use Rattle.std.proofs.Common.{◌≡◌, ℕ, ◌≤◌, List, [], ◌∷◌, ◌++◌, append-nil, length, Option, Some, None, refl, sym, ap, subst, ◌∙◌}
+use Rattle.std.proofs.Common.{◌≡◌, ℕ, ◌≤◌, Bool, true, false, List, [], ◌∷◌, ◌++◌, append-nil, length, Option, Some, None, refl, sym, ap, subst, ◌∙◌}
 use Rattle.fz_ast.specs.Signature.{Signature}
 use Rattle.std.specs.Io.KnownBytes.{append_known}
+use Rattle.std.specs.Prelude.{IsSome, MatchBool}
 use mathlib.Core.Logic.{◌⊎◌, inl, inr}
 use Rattle.word_streams.specs.Draws.{draws_of}
 use Rattle.answer_path.specs.Reading.{Reading, IsReading}
@@ -10,19 +11,19 @@ use Rattle.answer_path.proofs.Readings.{one_reading}
 use Rattle.metric_values.specs.Tables.{Dataset}
 use Rattle.session_core.specs.Transcript.{Journals}
 use Rattle.command_words.specs.Command.{Command, init, run, audit, check, gap, command_of}
-use Rattle.query_server.specs.Ending.{Ending, ended, usage, refused, to_answer, to_make, to_count, to_check, to_compare}
+use Rattle.query_server.specs.Work.{Work, ended, usage, refused, to_answer, to_make, to_count, to_check, to_compare}
 use Rattle.catalog_loading.specs.Files.{Contents, ReadsToCome, always}
 use Rattle.catalog_loading.specs.Loaded.{Loading, owners_in}
-use Rattle.query_server.specs.Shelves.{Shelf, Became, IsOnlySynced}
+use Rattle.query_server.specs.Shelves.{Shelf, EachDisk, IsOnlySynced}
 use Rattle.query_server.specs.Opened.{AreOpened}
-use Rattle.query_server.specs.Run.{IsScriptAnswered, IsScriptDue, script_limit}
+use Rattle.query_server.specs.Run.{IsScriptAnswered, IsScriptDue, crew_size, script_limit}
 use Rattle.query_server.specs.Check.{status_by}
 use Rattle.query_server.specs.Gap.{IsGapDue}
 use Rattle.query_server.specs.Status.{refused_text, memory_text}
-use Rattle.query_server.specs.Due.{AreRead, ForContents, IfFinished, IsDiskLine, IsDue, IsFaultyWordsEnd, IsForProgram, IsOfDisks, IsOfProgram, IsOfRun, IsBeginning, IsStopLine, IsToWrite, IsWrittenAt, MayStop, ending_of, files_of, command_steps}
+use Rattle.query_server.specs.Due.{AreRead, ForContents, IfFinished, IsDiskLine, IsDue, IsForProgram, IsOfDisks, IsOfProgram, IsOfRun, IsBeginning, IsStopLine, IsToWrite, IsWrittenAt, MayStop, work_of, files_of, command_steps, duty_of, kind_of}
 use Rattle.query_server.specs.Promise.{IsAnsweredScript, IsRunLeft}
 use Rattle.query_server.specs.Ends.{IsCut, IsEndOf, IsEndingWith, IsStepEnd, status_at, text_at}
-use Rattle.query_server.specs.Taken.{IsTakenAt}
+use Rattle.query_server.specs.Taken.{IsTaken, IsTakenAt}
 use Rattle.query_server.specs.declared.end.Status.{Status}
 use Rattle.query_server.specs.declared.end.Status.TheVariants as code
 use Rattle.catalog_loading.specs.declared.stops.Stop.TheVariants.{Usage, Fault, NoMemory}
@@ -30,18 +31,21 @@ use Rattle.query_server.specs.declared.end.End.{End}
 use Rattle.query_server.specs.declared.end.End.TheVariants.{Stopped}
 use Rattle.query_server.proofs.Judged.{gap_status}
 use Rattle.query_server.proofs.Contents.{at_held, at_some, at_told, for_contents}
-use Rattle.query_server.proofs.Prefixes.{prefix_empty, prefix_whole}
-use Rattle.query_server.proofs.Endings.{ending_by, house_by, house_cases, check_cases, gap_cases, house_headline}
+use Rattle.query_server.proofs.Prefixes.{prefix_empty, prefix_of_prefix, prefix_whole}
+use Rattle.query_server.proofs.Endings.{work_by, house_by, house_cases, check_cases, gap_cases}
 use Rattle.query_server.proofs.Disks.{may_stop_same}
-use Rattle.query_server.proofs.Owed.{records_owed}
+use Rattle.query_server.proofs.Owed.{histories}
+use Rattle.session_laws.proofs.Scripts.{headline_of, owed_of}
+use Rattle.owner_house.specs.House.{house_of}
+use Rattle.owner_house.proofs.Owners.{register_owners}
 
 -- The end's text is written whole or in part: so it is written what is due.
-cut_line : (ending : Ending) (b a : Shelf) (end : End) → IsCut ending b a end → (end ≡ Stopped Fault) ⊎ IsStopLine ending b a (status_at end) (text_at end)
+cut_line : (ending : Work) (b a : Shelf) (end : End) → IsCut ending b a end → (end ≡ Stopped Fault) ⊎ IsStopLine ending b a (status_at end) (text_at end)
 cut_line ending b a end (inl fault) = inl fault
 cut_line ending b a end (inr (inl memory)) = inr (inl (ap status_at memory, ap text_at memory))
 cut_line ending b a end (inr (inr (line, disk, is))) = inr (inr (ap status_at disk, subst (IsDiskLine ending b a) (sym (ap text_at disk)) is))
 
-pub written_by : (end : End) (status : Status) (text : List ℕ) → IsEndingWith end status text → (ending : Ending) (b a : Shelf) (script : List ℕ) → IsEndOf ending b a script end → IsWrittenAt ending b a script status text
+pub written_by : (end : End) (status : Status) (text : List ℕ) → IsEndingWith end status text → (ending : Work) (b a : Shelf) (script : List ℕ) → IsEndOf ending b a script end → IsWrittenAt ending b a script status text
 written_by end status text with ending b a script is = here is
   where
     whole : IsToWrite ending b a script (status_at end) (text_at end) → ((status ≡ status_at end) × (text ≡ text_at end)) ⊎ (status ≡ code.Fault) → IsWrittenAt ending b a script status text
@@ -63,30 +67,8 @@ written_by end status text with ending b a script is = here is
     here (inl due) = whole (inl due) with.whole
     here (inr (stopped, may)) = cut (cut_line ending b a end stopped) may
 
--- at faulty words
-pub usage_written : (end : End) (status : Status) (text : List ℕ) (Risen : Type 0) → (end ≡ Stopped Usage) ⊎ (end ≡ Stopped NoMemory) → IsEndingWith end status text
-    → (status ≡ code.Fault → (end ≡ Stopped Fault) ⊎ Risen) → IsFaultyWordsEnd status text Risen
-usage_written end status text Risen (inl is) with cause = here with.whole
-  where
-    risen : (end ≡ Stopped Fault) ⊎ Risen → Risen
-    risen (inl fault) = cc
-    risen (inr up) = up
-
-    here : ((status ≡ status_at end) × (text ≡ text_at end)) ⊎ (status ≡ code.Fault) → IsFaultyWordsEnd status text Risen
-    here (inl (same, whole)) = inl (same ∙ ap status_at is, whole ∙ ap text_at is)
-    here (inr fault) = inr (inr (fault, inl (subst (λ (t : List ℕ). IsBeginning text t) (ap text_at is) with.prefix), risen (cause fault)))
-usage_written end status text Risen (inr is) with cause = here with.whole
-  where
-    risen : (end ≡ Stopped Fault) ⊎ Risen → Risen
-    risen (inl fault) = cc
-    risen (inr up) = up
-
-    here : ((status ≡ status_at end) × (text ≡ text_at end)) ⊎ (status ≡ code.Fault) → IsFaultyWordsEnd status text Risen
-    here (inl (same, whole)) = inr (inl (same ∙ ap status_at is, whole ∙ ap text_at is))
-    here (inr fault) = inr (inr (fault, inr (subst (λ (t : List ℕ). IsBeginning text t) (ap text_at is) with.prefix), risen (cause fault)))
-
 -- what is due, where nothing failed and memory sufficed
-pub finished_due : (ending : Ending) (b a : Shelf) (script : List ℕ) (status : Status) (text : List ℕ) → IsWrittenAt ending b a script status text → IfFinished status (IsDue ending b a script status text)
+pub finished_due : (ending : Work) (b a : Shelf) (script : List ℕ) (status : Status) (text : List ℕ) → IsWrittenAt ending b a script status text → IfFinished status (IsDue ending b a script status text)
 finished_due ending b a script status text (inl (inl due)) = inr (inr (inr due))
 finished_due ending b a script status text (inl (inr (inl memory, may))) = inr (inl memory.0)
 finished_due ending b a script status text (inl (inr (inr disk, may))) = inr (inr (inl disk.0))
@@ -113,22 +95,16 @@ gap_verdict : (tables : Signature) (X Y : Dataset) (program : List ℕ) (status 
 gap_verdict tables X Y program status text due =
     no_verdict (judgement_of tables due.reading) status (gap_status (judgement_of tables due.reading) tables X Y program status text due.due)
 
--- the statuses of each ending
-abbrev pub IsStatusOf : Ending → Status → Type 0
-IsStatusOf usage status = status ≡ code.Usage
-IsStatusOf (refused name) status = status ≡ code.Refused
-IsStatusOf (to_answer loading key) status = (status ≡ code.Done) ⊎ ((status ≡ code.ScriptTooLong) ⊎ (status ≡ code.JournalRefused))
-IsStatusOf (to_make loading key) status = (status ≡ code.Done) ⊎ (status ≡ code.JournalRefused)
-IsStatusOf (to_count loading key) status = (status ≡ code.Done) ⊎ (status ≡ code.JournalRefused)
-IsStatusOf (to_check tables program) status = (status ≡ code.Done) ⊎ (status ≡ code.ProgramRefused)
-IsStatusOf (to_compare tables X Y program) status = (status ≡ code.Done) ⊎ (status ≡ code.ProgramRefused)
+-- the statuses of each work
+abbrev pub IsStatusOf : Work → Status → Type 0
+IsStatusOf work = (duty_of work).statuses
 
-pub due_status : (ending : Ending) (b a : Shelf) (script : List ℕ) (status : Status) (text : List ℕ) → IsDue ending b a script status text → IsStatusOf ending status
+pub due_status : (ending : Work) (b a : Shelf) (script : List ℕ) (status : Status) (text : List ℕ) → IsDue ending b a script status text → IsStatusOf ending status
 due_status usage b a script status text due = due.0
 due_status (refused name) b a script status text due = due.0
-due_status (to_answer loading key) b a script status text (inl due) = inr (inr due.is_status)
-due_status (to_answer loading key) b a script status text (inr (found, opened, inl due)) = inl due.0
-due_status (to_answer loading key) b a script status text (inr (found, opened, inr due)) = inr (inl due.0)
+due_status (to_answer workers loading key) b a script status text (inl due) = inr (inr due.is_status)
+due_status (to_answer workers loading key) b a script status text (inr (found, opened, inl due)) = inl due.0
+due_status (to_answer workers loading key) b a script status text (inr (found, opened, inr due)) = inr (inl due.0)
 due_status (to_make loading key) b a script status text (inl due) = inl due.0
 due_status (to_make loading key) b a script status text (inr due) = inr due.is_status
 due_status (to_count loading key) b a script status text (inl due) = inr due.is_status
@@ -137,7 +113,7 @@ due_status (to_check tables program) b a script status text due = no_verdict (ju
 due_status (to_compare tables X Y program) b a script status text due = gap_verdict tables X Y program status text due
 
 -- what is written at a status that is neither of a failure nor of want of memory
-pub written_status : (ending : Ending) (b a : Shelf) (script : List ℕ) (status : Status) (text : List ℕ) → (status ≡ code.Fault → ⊥) → (status ≡ code.NoMemory → ⊥) → (status ≡ code.DiskFault → ⊥)
+pub written_status : (ending : Work) (b a : Shelf) (script : List ℕ) (status : Status) (text : List ℕ) → (status ≡ code.Fault → ⊥) → (status ≡ code.NoMemory → ⊥) → (status ≡ code.DiskFault → ⊥)
     → IsWrittenAt ending b a script status text → IsStatusOf ending status
 written_status ending b a script status text fault memory disk written =
     due_status ending b a script status text (finished_at status (IsDue ending b a script status text) fault memory disk (finished_due ending b a script status text written))
@@ -152,19 +128,19 @@ one_of_three status a b c first second third (inl is) = first (sym is)
 one_of_three status a b c first second third (inr is) = either status b c second third is
 
 -- the name that is refused
-refused_only : (ending : Ending) → IsStatusOf ending code.Refused → (name : List ℕ) × (ending ≡ refused name)
+refused_only : (ending : Work) → IsStatusOf ending code.Refused → (name : List ℕ) × (ending ≡ refused name)
 refused_only usage is = cc
 refused_only (refused name) is = (name, refl)
-refused_only (to_answer loading key) is = absurd (one_of_three code.Refused code.Done code.ScriptTooLong code.JournalRefused (λ w. cc) (λ w. cc) (λ w. cc) is)
+refused_only (to_answer workers loading key) is = absurd (one_of_three code.Refused code.Done code.ScriptTooLong code.JournalRefused (λ w. cc) (λ w. cc) (λ w. cc) is)
 refused_only (to_make loading key) is = absurd (either code.Refused code.Done code.JournalRefused (λ w. cc) (λ w. cc) is)
 refused_only (to_count loading key) is = absurd (either code.Refused code.Done code.JournalRefused (λ w. cc) (λ w. cc) is)
 refused_only (to_check tables program) is = absurd (either code.Refused code.Done code.ProgramRefused (λ w. cc) (λ w. cc) is)
 refused_only (to_compare tables X Y program) is = absurd (either code.Refused code.Done code.ProgramRefused (λ w. cc) (λ w. cc) is)
 
-refused_text_of : (ending : Ending) (name : List ℕ) (b a : Shelf) (script : List ℕ) (status : Status) (text : List ℕ) → ending ≡ refused name → IsDue ending b a script status text → text ≡ refused_text name
-refused_text_of ending name b a script status text is due = (subst (λ (e : Ending). IsDue e b a script status text) is due).1
+refused_text_of : (ending : Work) (name : List ℕ) (b a : Shelf) (script : List ℕ) (status : Status) (text : List ℕ) → ending ≡ refused name → IsDue ending b a script status text → text ≡ refused_text name
+refused_text_of ending name b a script status text is due = (subst (λ (e : Work). IsDue e b a script status text) is due).1
 
-pub name_by : (ending : Ending) (b a : Shelf) (script : List ℕ) (status : Status) (text : List ℕ) → status ≡ code.Refused → IsWrittenAt ending b a script status text
+pub name_by : (ending : Work) (b a : Shelf) (script : List ℕ) (status : Status) (text : List ℕ) → status ≡ code.Refused → IsWrittenAt ending b a script status text
     → (name : List ℕ) × (ending ≡ refused name) × (text ≡ refused_text name)
 name_by ending b a script status text is written =
     let due = finished_at status (IsDue ending b a script status text) (λ w. cc) (λ w. cc) (λ w. cc) (finished_due ending b a script status text written) in
@@ -172,13 +148,13 @@ name_by ending b a script status text is written =
     (named.0, named.1, refused_text_of ending named.0 b a script status text named.1 due)
 
 -- what is said of a program
-pub program_by : (ending : Ending) (b a : Shelf) (tables : Signature) (program script : List ℕ) (status : Status) (text : List ℕ) → ending ≡ to_check tables program → IsWrittenAt ending b a script status text
+pub program_by : (ending : Work) (b a : Shelf) (tables : Signature) (program script : List ℕ) (status : Status) (text : List ℕ) → ending ≡ to_check tables program → IsWrittenAt ending b a script status text
     → IsWrittenAt (to_check tables program) b a [] status text
-program_by ending b a tables program script status text is written = subst (λ (e : Ending). IsWrittenAt e b a script status text) is written
+program_by ending b a tables program script status text is written = subst (λ (e : Work). IsWrittenAt e b a script status text) is written
 
-pub comparison_by : (ending : Ending) (b a : Shelf) (tables : Signature) (X Y : Dataset) (program script : List ℕ) (status : Status) (text : List ℕ) → ending ≡ to_compare tables X Y program
+pub comparison_by : (ending : Work) (b a : Shelf) (tables : Signature) (X Y : Dataset) (program script : List ℕ) (status : Status) (text : List ℕ) → ending ≡ to_compare tables X Y program
     → IsWrittenAt ending b a script status text → IsWrittenAt (to_compare tables X Y program) b a [] status text
-comparison_by ending b a tables X Y program script status text is written = subst (λ (e : Ending). IsWrittenAt e b a script status text) is written
+comparison_by ending b a tables X Y program script status text is written = subst (λ (e : Work). IsWrittenAt e b a script status text) is written
 
 -- and by its one reading
 same_verdict : (tables : Signature) (program : List ℕ) (reading other : Reading) (status : Status) → IsReading program reading → IsReading program other
@@ -186,22 +162,33 @@ same_verdict : (tables : Signature) (program : List ℕ) (reading other : Readin
 same_verdict tables program reading other status reads read is =
     is ∙ ap (λ (r : Reading). status_by (judgement_of tables r)) (one_reading program other reading read reads)
 
-verdict_due : (ending : Ending) (b a : Shelf) (tables : Signature) (program script : List ℕ) (reading : Reading) (status : Status) (text : List ℕ) → IsForProgram tables program ending → IsReading program reading
-    → IsDue ending b a script status text → status ≡ status_by (judgement_of tables reading)
-verdict_due usage b a tables program script reading status text is reads due = absurd is
-verdict_due (refused name) b a tables program script reading status text is reads due = absurd is
-verdict_due (to_answer loading key) b a tables program script reading status text is reads due = absurd is
-verdict_due (to_make loading key) b a tables program script reading status text is reads due = absurd is
-verdict_due (to_count loading key) b a tables program script reading status text is reads due = absurd is
-verdict_due (to_check over other) b a tables program script reading status text (same, is) reads due =
-    subst (λ (ts : Signature). status ≡ status_by (judgement_of ts reading)) same
-    (same_verdict over program reading due.reading status reads (subst (λ (p : List ℕ). IsReading p due.reading) is due.reads) due.is_status)
-verdict_due (to_compare over X Y other) b a tables program script reading status text (same, is) reads due =
-    subst (λ (ts : Signature). status ≡ status_by (judgement_of ts reading)) same
-    (same_verdict over program reading due.reading status reads (subst (λ (p : List ℕ). IsReading p due.reading) is due.reads)
+some_same : {A : Type 0} (a b : A) → Some a ≡ Some b → a ≡ b
+some_same a b is = cc
+
+-- what is to be judged is this program over these tables
+judged_as : (over tables : Signature) (other program : List ℕ) → IsForProgram tables program (to_check over other) → (over ≡ tables) × (other ≡ program)
+judged_as over tables other program is =
+    let same = some_same {A = Signature × List ℕ} (over, other) (tables, program) is in
+    (ap (λ (p : Signature × List ℕ). p.0) same, ap (λ (p : Signature × List ℕ). p.1) same)
+
+verdict_due : (work : Work) (b a : Shelf) (tables : Signature) (program script : List ℕ) (reading : Reading) (status : Status) (text : List ℕ) → IsForProgram tables program work → IsReading program reading
+    → IsDue work b a script status text → status ≡ status_by (judgement_of tables reading)
+verdict_due usage b a tables program script reading status text is reads due = absurd (cc is)
+verdict_due (refused name) b a tables program script reading status text is reads due = absurd (cc is)
+verdict_due (to_answer workers loading key) b a tables program script reading status text is reads due = absurd (cc is)
+verdict_due (to_make loading key) b a tables program script reading status text is reads due = absurd (cc is)
+verdict_due (to_count loading key) b a tables program script reading status text is reads due = absurd (cc is)
+verdict_due (to_check over other) b a tables program script reading status text is reads due =
+    let same = judged_as over tables other program is in
+    subst (λ (ts : Signature). status ≡ status_by (judgement_of ts reading)) same.0
+    (same_verdict over program reading due.reading status reads (subst (λ (p : List ℕ). IsReading p due.reading) same.1 due.reads) due.is_status)
+verdict_due (to_compare over X Y other) b a tables program script reading status text is reads due =
+    let same = judged_as over tables other program is in
+    subst (λ (ts : Signature). status ≡ status_by (judgement_of ts reading)) same.0
+    (same_verdict over program reading due.reading status reads (subst (λ (p : List ℕ). IsReading p due.reading) same.1 due.reads)
     (gap_status (judgement_of over due.reading) over X Y other status text due.due))
 
-pub verdict_by : (ending : Ending) (b a : Shelf) (tables : Signature) (program script : List ℕ) (reading : Reading) (status : Status) (text : List ℕ) → IsForProgram tables program ending → IsReading program reading
+pub verdict_by : (ending : Work) (b a : Shelf) (tables : Signature) (program script : List ℕ) (reading : Reading) (status : Status) (text : List ℕ) → IsForProgram tables program ending → IsReading program reading
     → IsWrittenAt ending b a script status text → IfFinished status (status ≡ status_by (judgement_of tables reading))
 verdict_by ending b a tables program script reading status text is reads written =
     finished_map status (IsDue ending b a script status text) (status ≡ status_by (judgement_of tables reading)) (verdict_due ending b a tables program script reading status text is reads)
@@ -209,7 +196,7 @@ verdict_by ending b a tables program script reading status text is reads written
 
 usage_of : (command : Option Command) (reads : ReadsToCome) → IsStatusOf (ended (command_steps command reads).given) code.Usage → command ≡ None
 usage_of None reads is = refl
-usage_of (Some (run catalog key workers)) reads is = absurd (house_cases (λ ending. IsStatusOf ending code.Usage → ⊥) (λ name is. cc) to_answer
+usage_of (Some (run catalog key workers)) reads is = absurd (house_cases (λ ending. IsStatusOf ending code.Usage → ⊥) (λ name is. cc) (to_answer workers)
     (λ loading key is. one_of_three code.Usage code.Done code.ScriptTooLong code.JournalRefused (λ w. cc) (λ w. cc) (λ w. cc) is) catalog key reads is)
 usage_of (Some (init catalog key)) reads is = absurd (house_cases (λ ending. IsStatusOf ending code.Usage → ⊥) (λ name is. cc) to_make
     (λ loading key is. either code.Usage code.Done code.JournalRefused (λ w. cc) (λ w. cc) is) catalog key reads is)
@@ -222,18 +209,18 @@ usage_of (Some (gap catalog owner second_catalog file)) reads is =
 
 program_of : (command : Option Command) (reads : ReadsToCome) → IsStatusOf (ended (command_steps command reads).given) code.ProgramRefused → IsOfProgram command
 program_of None reads is = let wrong : code.ProgramRefused ≡ code.Usage = is in cc
-program_of (Some (run catalog key workers)) reads is = absurd (house_cases (λ ending. IsStatusOf ending code.ProgramRefused → ⊥) (λ name is. cc) to_answer
+program_of (Some (run catalog key workers)) reads is = absurd (house_cases (λ ending. IsStatusOf ending code.ProgramRefused → ⊥) (λ name is. cc) (to_answer workers)
     (λ loading key is. one_of_three code.ProgramRefused code.Done code.ScriptTooLong code.JournalRefused (λ w. cc) (λ w. cc) (λ w. cc) is) catalog key reads is)
 program_of (Some (init catalog key)) reads is = absurd (house_cases (λ ending. IsStatusOf ending code.ProgramRefused → ⊥) (λ name is. cc) to_make
     (λ loading key is. either code.ProgramRefused code.Done code.JournalRefused (λ w. cc) (λ w. cc) is) catalog key reads is)
 program_of (Some (audit catalog key)) reads is = absurd (house_cases (λ ending. IsStatusOf ending code.ProgramRefused → ⊥) (λ name is. cc) to_count
     (λ loading key is. either code.ProgramRefused code.Done code.JournalRefused (λ w. cc) (λ w. cc) is) catalog key reads is)
-program_of (Some (check catalog owner file)) reads is = tt
-program_of (Some (gap catalog owner second_catalog file)) reads is = tt
+program_of (Some (check catalog owner file)) reads is = refl
+program_of (Some (gap catalog owner second_catalog file)) reads is = refl
 
 run_of : (command : Option Command) (reads : ReadsToCome) → IsStatusOf (ended (command_steps command reads).given) code.ScriptTooLong → IsOfRun command
 run_of None reads is = let wrong : code.ScriptTooLong ≡ code.Usage = is in cc
-run_of (Some (run catalog key workers)) reads is = tt
+run_of (Some (run catalog key workers)) reads is = refl
 run_of (Some (init catalog key)) reads is = absurd (house_cases (λ ending. IsStatusOf ending code.ScriptTooLong → ⊥) (λ name is. cc) to_make
     (λ loading key is. either code.ScriptTooLong code.Done code.JournalRefused (λ w. cc) (λ w. cc) is) catalog key reads is)
 run_of (Some (audit catalog key)) reads is = absurd (house_cases (λ ending. IsStatusOf ending code.ScriptTooLong → ⊥) (λ name is. cc) to_count
@@ -246,9 +233,9 @@ run_of (Some (gap catalog owner second_catalog file)) reads is =
 -- a journal is refused to a command that takes the owners' disks
 disks_of : (command : Option Command) (reads : ReadsToCome) → IsStatusOf (ended (command_steps command reads).given) code.JournalRefused → IsOfDisks command
 disks_of None reads is = let wrong : code.JournalRefused ≡ code.Usage = is in cc
-disks_of (Some (run catalog key workers)) reads is = tt
-disks_of (Some (init catalog key)) reads is = tt
-disks_of (Some (audit catalog key)) reads is = tt
+disks_of (Some (run catalog key workers)) reads is = refl
+disks_of (Some (init catalog key)) reads is = refl
+disks_of (Some (audit catalog key)) reads is = refl
 disks_of (Some (check catalog owner file)) reads is =
     absurd (check_cases (λ ending. IsStatusOf ending code.JournalRefused → ⊥) (λ name is. cc) (λ tables program is. either code.JournalRefused code.Done code.ProgramRefused (λ w. cc) (λ w. cc) is) catalog owner file reads is)
 disks_of (Some (gap catalog owner second_catalog file)) reads is =
@@ -256,40 +243,43 @@ disks_of (Some (gap catalog owner second_catalog file)) reads is =
 
 -- the status of what is written, where it is of no failure
 status_written : (words : List (List ℕ)) (reads : ReadsToCome) (b a : Shelf) (script : List ℕ) (status wanted : Status) (text : List ℕ) → status ≡ wanted → (wanted ≡ code.Fault → ⊥) → (wanted ≡ code.NoMemory → ⊥)
-    → (wanted ≡ code.DiskFault → ⊥) → IsWrittenAt (ending_of words reads) b a script status text → IsStatusOf (ending_of words reads) wanted
+    → (wanted ≡ code.DiskFault → ⊥) → IsWrittenAt (work_of words reads) b a script status text → IsStatusOf (work_of words reads) wanted
 status_written words reads b a script status wanted text is fault memory disk written =
-    subst (IsStatusOf (ending_of words reads)) is
-    (written_status (ending_of words reads) b a script status text (λ w. fault (sym is ∙ w)) (λ w. memory (sym is ∙ w)) (λ w. disk (sym is ∙ w)) written)
+    subst (IsStatusOf (work_of words reads)) is
+    (written_status (work_of words reads) b a script status text (λ w. fault (sym is ∙ w)) (λ w. memory (sym is ∙ w)) (λ w. disk (sym is ∙ w)) written)
 
-pub usage_by : (words : List (List ℕ)) (reads : ReadsToCome) (b a : Shelf) (script : List ℕ) (status : Status) (text : List ℕ) → status ≡ code.Usage → IsWrittenAt (ending_of words reads) b a script status text → command_of words ≡ None
-unfolding ending_of
+pub usage_by : (words : List (List ℕ)) (reads : ReadsToCome) (b a : Shelf) (script : List ℕ) (status : Status) (text : List ℕ) → status ≡ code.Usage → IsWrittenAt (work_of words reads) b a script status text → command_of words ≡ None
+unfolding work_of
 usage_by words reads b a script status text is written =
     usage_of (command_of words) reads (status_written words reads b a script status code.Usage text is (λ w. cc) (λ w. cc) (λ w. cc) written)
 
-pub of_program_by : (words : List (List ℕ)) (reads : ReadsToCome) (b a : Shelf) (script : List ℕ) (status : Status) (text : List ℕ) → status ≡ code.ProgramRefused → IsWrittenAt (ending_of words reads) b a script status text
+pub of_program_by : (words : List (List ℕ)) (reads : ReadsToCome) (b a : Shelf) (script : List ℕ) (status : Status) (text : List ℕ) → status ≡ code.ProgramRefused → IsWrittenAt (work_of words reads) b a script status text
     → IsOfProgram (command_of words)
-unfolding ending_of
+unfolding work_of
 of_program_by words reads b a script status text is written =
     program_of (command_of words) reads (status_written words reads b a script status code.ProgramRefused text is (λ w. cc) (λ w. cc) (λ w. cc) written)
 
-pub of_run_by : (words : List (List ℕ)) (reads : ReadsToCome) (b a : Shelf) (script : List ℕ) (status : Status) (text : List ℕ) → status ≡ code.ScriptTooLong → IsWrittenAt (ending_of words reads) b a script status text
+pub of_run_by : (words : List (List ℕ)) (reads : ReadsToCome) (b a : Shelf) (script : List ℕ) (status : Status) (text : List ℕ) → status ≡ code.ScriptTooLong → IsWrittenAt (work_of words reads) b a script status text
     → IsOfRun (command_of words)
-unfolding ending_of
+unfolding work_of
 of_run_by words reads b a script status text is written =
     run_of (command_of words) reads (status_written words reads b a script status code.ScriptTooLong text is (λ w. cc) (λ w. cc) (λ w. cc) written)
 
-pub of_disks_by : (words : List (List ℕ)) (reads : ReadsToCome) (b a : Shelf) (script : List ℕ) (status : Status) (text : List ℕ) → status ≡ code.JournalRefused → IsWrittenAt (ending_of words reads) b a script status text
+pub of_disks_by : (words : List (List ℕ)) (reads : ReadsToCome) (b a : Shelf) (script : List ℕ) (status : Status) (text : List ℕ) → status ≡ code.JournalRefused → IsWrittenAt (work_of words reads) b a script status text
     → IsOfDisks (command_of words)
-unfolding ending_of
+unfolding work_of
 of_disks_by words reads b a script status text is written =
     disks_of (command_of words) reads (status_written words reads b a script status code.JournalRefused text is (λ w. cc) (λ w. cc) (λ w. cc) written)
 
 -- a script that is answered
-answered_by : (words : List (List ℕ)) (held : Contents) (b a : Shelf) (script text : List ℕ) (loading : Loading) (key : List ℕ) → ending_of words (always held) ≡ to_answer loading key
-    → (found : Journals) → AreOpened loading key b found → length script ≤ script_limit → IsScriptAnswered loading key b a found script text → IsAnsweredScript words held b a script text
-answered_by words held b a script text loading key ending found opened short answered =
-    let house = house_by words held loading key ending in
+answered_by : (words : List (List ℕ)) (held : Contents) (b a : Shelf) (script text : List ℕ) (workers : ℕ) (loading : Loading) (key : List ℕ) → work_of words (always held) ≡ to_answer workers loading key
+    → (found : Journals) → AreOpened loading key b found → length script ≤ script_limit → IsScriptAnswered loading key workers b a found script text → IsAnsweredScript words held b a script text
+answered_by words held b a script text workers loading key work found opened short answered =
+    let house = house_by words held workers loading key work in
+    let owners = register_owners loading.register house.lawful.register in
+    let histories = histories loading key b found house.lawful opened in
     record {
+      workers = workers;
       loading = loading;
       key = key;
       house = house;
@@ -297,56 +287,67 @@ answered_by words held b a script text loading key ending found opened short ans
       found = found;
       opened = opened;
       answered = answered;
-      owed = records_owed loading key b found script answered.replies answered.records house.lawful opened answered.run;
-      headline = λ earlier explained. house_headline loading (draws_of key) found earlier script answered.replies answered.records house.lawful explained answered.run;
+      owed = owed_of (house_of loading.register) (draws_of key) found script (crew_size workers) answered.crew answered.exchanges answered.records owners histories answered.gathered;
+      headline = λ earlier explained.
+          headline_of (house_of loading.register) (draws_of key) found earlier script (crew_size workers) answered.crew answered.exchanges answered.records owners explained answered.gathered;
     }
 
-done_not_refused : code.Done ≡ code.JournalRefused → ⊥
-done_not_refused is = cc
+-- what is left of some work
+abbrev IsLeftBy : (words : List (List ℕ)) → (held : Contents) → (b a : Shelf) → (script : List ℕ) → Work → (status : Status) → (text : List ℕ) → Type 0
+IsLeftBy words held b a script work status text =
+    ((due : List ℕ) × IsAnsweredScript words held b a script due × IsBeginning text due × (status ≡ code.Done → text ≡ due))
+    ⊎ ((status ≡ code.Done → ⊥) × MayStop work b a)
 
-done_not_long : code.Done ≡ code.ScriptTooLong → ⊥
-done_not_long is = cc
+-- what a `run` leaves: where a script is to be answered
+not_done : {A : Type 0} (status wanted : Status) → status ≡ wanted → (code.Done ≡ wanted → ⊥) → status ≡ code.Done → A
+not_done status wanted is isnt done = absurd (isnt (sym done ∙ is))
 
--- what is due to a script at status Done
-done_due : (words : List (List ℕ)) (held : Contents) (b a : Shelf) (script text : List ℕ) (loading : Loading) (key : List ℕ) → ending_of words (always held) ≡ to_answer loading key
-    → IsScriptDue loading key b a script code.Done text → IsAnsweredScript words held b a script text
-done_due words held b a script text loading key ending (inl due) = absurd (done_not_refused due.is_status)
-done_due words held b a script text loading key ending (inr (found, opened, inl (done, short, answered))) = answered_by words held b a script text loading key ending found opened short answered
-done_due words held b a script text loading key ending (inr (found, opened, inr (wrong, long, is, disks))) = absurd (done_not_long wrong)
+left_whole : (words : List (List ℕ)) (held : Contents) (b a : Shelf) (script text : List ℕ) (status : Status) (workers : ℕ) (loading : Loading) (key : List ℕ) → work_of words (always held) ≡ to_answer workers loading key
+    → IsToWrite (to_answer workers loading key) b a script status text → IsLeftBy words held b a script (to_answer workers loading key) status text
+left_whole words held b a script text status workers loading key work (inl (inl refusal)) = inr (not_done status code.JournalRefused refusal.is_status (λ w. cc), refusal.disks)
+left_whole words held b a script text status workers loading key work (inl (inr (found, opened, inl (done, short, answered)))) =
+    inl (text, answered_by words held b a script text workers loading key work found opened short answered, prefix_whole text, λ is. refl)
+left_whole words held b a script text status workers loading key work (inl (inr (found, opened, inr (over, long, is, disks)))) = inr (not_done status code.ScriptTooLong over (λ w. cc), disks)
+left_whole words held b a script text status workers loading key work (inr (inl (memory, is), may)) = inr (not_done status code.NoMemory memory (λ w. cc), may)
+left_whole words held b a script text status workers loading key work (inr (inr (disk, is), may)) = inr (not_done status code.DiskFault disk (λ w. cc), may)
 
--- a `run` comes to a script that is to be answered, or to the name of a file that is refused
-run_ending : (words : List (List ℕ)) (held : Contents) (catalog name : List ℕ) (workers : ℕ) (ending : Ending) → command_of words ≡ Some (run catalog name workers) → ending_of words (always held) ≡ ending
-    → IsStatusOf ending code.Done → (loading : Loading) × (key : List ℕ) × (ending ≡ to_answer loading key)
-run_ending words held catalog name workers ending commanded is = subst (λ (e : Ending). IsStatusOf e code.Done → (loading : Loading) × (key : List ℕ) × (e ≡ to_answer loading key))
-    (sym (ending_by words (always held) (Some (run catalog name workers)) commanded) ∙ is)
-    (house_cases (λ e. IsStatusOf e code.Done → (loading : Loading) × (key : List ℕ) × (e ≡ to_answer loading key)) (λ other wrong. cc) to_answer (λ loading key done. (loading, key, refl)) catalog name (always held))
+-- a prefix was written, since something failed
+left_part : (words : List (List ℕ)) (held : Contents) (b a : Shelf) (script text due : List ℕ) (status whole : Status) (workers : ℕ) (loading : Loading) (key : List ℕ) → status ≡ code.Fault → IsBeginning text due
+    → IsLeftBy words held b a script (to_answer workers loading key) whole due → IsLeftBy words held b a script (to_answer workers loading key) status text
+left_part words held b a script text due status whole workers loading key fault prefix (inl (all, answered, begins, same)) =
+    inl (all, answered, prefix_of_prefix text due all prefix begins, not_done status code.Fault fault (λ w. cc))
+left_part words held b a script text due status whole workers loading key fault prefix (inr (isnt, may)) = inr (not_done status code.Fault fault (λ w. cc), may)
 
-pub headline_by : (words : List (List ℕ)) (held : Contents) (b a : Shelf) (catalog name : List ℕ) (workers : ℕ) (script text : List ℕ) (status : Status) → command_of words ≡ Some (run catalog name workers) → status ≡ code.Done
-    → IsWrittenAt (ending_of words (always held)) b a script status text → IsAnsweredScript words held b a script text
-headline_by words held b a catalog name workers script text status commanded is written =
-    let ending = ending_of words (always held) in
-    let due = finished_at status (IsDue ending b a script status text) (λ w. cc) (λ w. cc) (λ w. cc) (finished_due ending b a script status text written) in
-    let at_done = subst (λ (s : Status). IsDue ending b a script s text) is due in
-    let work = run_ending words held catalog name workers ending commanded refl (due_status ending b a script code.Done text at_done) in
-    done_due words held b a script text work.0 work.1 work.2 (subst (λ (e : Ending). IsDue e b a script code.Done text) work.2 at_done)
+left_answer : (words : List (List ℕ)) (held : Contents) (b a : Shelf) (script text : List ℕ) (status : Status) (workers : ℕ) (loading : Loading) (key : List ℕ) → work_of words (always held) ≡ to_answer workers loading key
+    → IsWrittenAt (to_answer workers loading key) b a script status text → IsLeftBy words held b a script (to_answer workers loading key) status text
+left_answer words held b a script text status workers loading key work (inl due) = left_whole words held b a script text status workers loading key work due
+left_answer words held b a script text status workers loading key work (inr (fault, (whole, due, is, prefix))) =
+    left_part words held b a script text due status whole workers loading key fault prefix (left_whole words held b a script due whole workers loading key work is)
 
--- what a `run` leaves
-left_due : (words : List (List ℕ)) (held : Contents) (b a : Shelf) (script text : List ℕ) (loading : Loading) (key : List ℕ) → ending_of words (always held) ≡ to_answer loading key → (whole : Status) (due : List ℕ)
-    → IsToWrite (to_answer loading key) b a script whole due → IsBeginning text due → Became (owners_in loading) (λ _. IsOnlySynced) b a ⊎ ((due : List ℕ) × IsAnsweredScript words held b a script due × IsBeginning text due)
-left_due words held b a script text loading key ending whole due (inr (line, may)) prefix = inl may
-left_due words held b a script text loading key ending whole due (inl (inl refusal)) prefix = inl refusal.disks
-left_due words held b a script text loading key ending whole due (inl (inr (found, opened, inl (done, short, answered)))) prefix =
-    inr (due, answered_by words held b a script due loading key ending found opened short answered, prefix)
-left_due words held b a script text loading key ending whole due (inl (inr (found, opened, inr (over, long, is, disks)))) prefix = inl disks
+-- and where a file is refused
+left_refused : (words : List (List ℕ)) (held : Contents) (b a : Shelf) (script text : List ℕ) (status : Status) (name : List ℕ) → IsWrittenAt (refused name) b a script status text
+    → IsLeftBy words held b a script (refused name) status text
+left_refused words held b a script text status name (inl (inl (is, line, same))) = inr (not_done status code.Refused is (λ w. cc), same)
+left_refused words held b a script text status name (inl (inr (inl (memory, is), may))) = inr (not_done status code.NoMemory memory (λ w. cc), may)
+left_refused words held b a script text status name (inl (inr (inr (disk, is), may))) = absurd is
+left_refused words held b a script text status name (inr (fault, (whole, due, inl (is, line, same), prefix))) = inr (not_done status code.Fault fault (λ w. cc), same)
+left_refused words held b a script text status name (inr (fault, (whole, due, inr (line, may), prefix))) = inr (not_done status code.Fault fault (λ w. cc), may)
 
-left_at : (words : List (List ℕ)) (held : Contents) (b a : Shelf) (script text : List ℕ) (status : Status) (loading : Loading) (key : List ℕ) → ending_of words (always held) ≡ to_answer loading key
-    → IsWrittenAt (to_answer loading key) b a script status text → Became (owners_in loading) (λ _. IsOnlySynced) b a ⊎ ((due : List ℕ) × IsAnsweredScript words held b a script due × IsBeginning text due)
-left_at words held b a script text status loading key ending (inl due) = left_due words held b a script text loading key ending status text due (prefix_whole text)
-left_at words held b a script text status loading key ending (inr (fault, (whole, due, is, prefix))) = left_due words held b a script text loading key ending whole due is prefix
+left_work : (words : List (List ℕ)) (held : Contents) (b a : Shelf) (script text : List ℕ) (status : Status) (command : Option Command) → IsOfRun command → command_of words ≡ command
+    → (work : Work) → work_of words (always held) ≡ work → IsWrittenAt work b a script status text → IsLeftBy words held b a script work status text
+left_work words held b a script text status None takes commanded work is = cc takes
+left_work words held b a script text status (Some (init catalog key)) takes commanded work is = cc takes
+left_work words held b a script text status (Some (audit catalog key)) takes commanded work is = cc takes
+left_work words held b a script text status (Some (check catalog owner file)) takes commanded work is = cc takes
+left_work words held b a script text status (Some (gap catalog owner second_catalog file)) takes commanded work is = cc takes
+left_work words held b a script text status (Some (run catalog key workers)) takes commanded work is =
+    subst (λ (w : Work). work_of words (always held) ≡ w → IsWrittenAt w b a script status text → IsLeftBy words held b a script w status text) (sym (work_by words (always held) (Some (run catalog key workers)) commanded) ∙ is)
+    (house_cases (λ w. work_of words (always held) ≡ w → IsWrittenAt w b a script status text → IsLeftBy words held b a script w status text) (λ name same written. left_refused words held b a script text status name written)
+    (to_answer workers) (λ loading bytes same written. left_answer words held b a script text status workers loading bytes same written) catalog key (always held)) is
 
-pub left_by_run : (words : List (List ℕ)) (held : Contents) (b a : Shelf) (script text : List ℕ) (status : Status) → IsWrittenAt (ending_of words (always held)) b a script status text → IsRunLeft words held b a script text
-left_by_run words held b a script text status written = λ loading key is.
-    left_at words held b a script text status loading key is (subst (λ (e : Ending). IsWrittenAt e b a script status text) is written)
+pub left_by_run : (words : List (List ℕ)) (held : Contents) (b a : Shelf) (script text : List ℕ) (status : Status) → IsOfRun (command_of words) → IsWrittenAt (work_of words (always held)) b a script status text
+    → IsRunLeft words held b a script status text
+left_by_run words held b a script text status takes written = left_work words held b a script text status (command_of words) takes refl (work_of words (always held)) refl written
 
 -- what was read, whether or not the end's text is written
 read_with : (end : End) (status : Status) (text : List ℕ) (files old new : List (List ℕ)) → IsEndingWith end status text → AreRead (status_at end) files old new → AreRead status files old new
@@ -358,15 +359,15 @@ read_with end status text files old new with is = here with.whole
 
 -- How words end over some contents, and what is written at that.
 abbrev pub Ends : (words : List (List ℕ)) → (old new : List (List ℕ)) → (b a : Shelf) → End → ReadsToCome → (script : List ℕ) → Type 0
-Ends words old new b a end reads script = IsEndOf (ending_of words reads) b a script end × AreRead (status_at end) (files_of words reads) old new
+Ends words old new b a end reads script = IsEndOf (work_of words reads) b a script end × AreRead (status_at end) (files_of words reads) old new
 
 abbrev pub Comes : (words : List (List ℕ)) → (old new : List (List ℕ)) → (b a : Shelf) → (status : Status) → (text : List ℕ) → ReadsToCome → (script : List ℕ) → Type 0
-Comes words old new b a status text reads script = IsWrittenAt (ending_of words reads) b a script status text × AreRead status (files_of words reads) old new
+Comes words old new b a status text reads script = IsWrittenAt (work_of words reads) b a script status text × AreRead status (files_of words reads) old new
 
 pub all_written : (words : List (List ℕ)) (held : Option Contents) (left : Option (List ℕ)) (old new : List (List ℕ)) (b a : Shelf) (end : End) (status : Status) (text : List ℕ) → IsEndingWith end status text
     → ForContents held left (Ends words old new b a end) → ForContents held left (Comes words old new b a status text)
 all_written words held left old new b a end status text with = for_contents held left (Ends words old new b a end) (Comes words old new b a status text)
-    (λ reads script (due, read). (written_by end status text with (ending_of words reads) b a script due, read_with end status text (files_of words reads) old new with read))
+    (λ reads script (due, read). (written_by end status text with (work_of words reads) b a script due, read_with end status text (files_of words reads) old new with read))
 
 -- the same where the files tell what they hold
 pub held_written : (words : List (List ℕ)) (told : Contents) (held : Option Contents) (left : Option (List ℕ)) (old new : List (List ℕ)) (b a : Shelf) (end : End) (status : Status) (text : List ℕ) → IsEndingWith end status text
@@ -383,7 +384,7 @@ told_written words told script held left old new b a end status text with ends f
 -- A command's steps end so: so do its words.
 pub command_end : (words : List (List ℕ)) (command : Option Command) (held : Option Contents) (left : Option (List ℕ)) (old new : List (List ℕ)) (b a : Shelf) (end : End) → command_of words ≡ command
     → ForContents held left (IsStepEnd old new b a (command_steps command) end) → ForContents held left (Ends words old new b a end)
-unfolding ending_of files_of
+unfolding work_of files_of
 command_end words command held left old new b a end is = subst (λ (c : Option Command). ForContents held left (IsStepEnd old new b a (command_steps c) end) → ForContents held left (Ends words old new b a end)) is (λ ends. ends)
 
 -- Faulty words, and want of memory before anything is read.
@@ -395,7 +396,7 @@ faulty_end words held left old shelf none = command_end words None held left old
 pub unread_end : (words : List (List ℕ)) (held : Option Contents) (left : Option (List ℕ)) (old : List (List ℕ)) (shelf : Shelf) → ForContents held left (Ends words old old shelf shelf (Stopped NoMemory))
 unread_end words held left old shelf =
     at_some held left (Ends words old old shelf shelf (Stopped NoMemory))
-    (λ reads script. (inr (inr (inl refl), may_stop_same (ending_of words reads) shelf), record { names = []; is = sym (append-nil old); some = (files_of words reads, refl); all = inr (inl refl) }))
+    (λ reads script. (inr (inr (inl refl), may_stop_same (work_of words reads) shelf), record { names = []; is = sym (append-nil old); some = (files_of words reads, refl); all = inr (inl refl) }))
 
 -- Where nothing failed to be written, a failed read wrote nothing.
 nothing_written : (end : End) (text : List ℕ) (status : Status) (before after : Option (List ℕ)) → end ≡ Stopped Fault → IsEndingWith end status text → after ≡ append_known before text → after ≡ before
@@ -417,15 +418,26 @@ pub silent_by : (end : End) (text : List ℕ) (status : Status) (before after : 
 silent_by end text status before after Risen with written (inl is) = inr (nothing_written end text status before after is with written)
 silent_by end text status before after Risen with written (inr risen) = inl risen
 
+-- what failed: at faulty words nothing but the sink
+pub failed_by : {Files OfRun Source Sink : Type 0} (command : Option Command) (end : End) → (end ≡ Stopped Fault) ⊎ Sink → (end ≡ Stopped Fault → Files ⊎ (OfRun × Source))
+    → (command ≡ None → (end ≡ Stopped Usage) ⊎ (end ≡ Stopped NoMemory)) → (IsSome command × Files) ⊎ (OfRun × Source) ⊎ Sink
+failed_by command end (inr rose) cause idle = inr (inr rose)
+failed_by {Files} {OfRun} {Source} {Sink} command end (inl is) cause idle = here command idle (cause is)
+  where
+    unfailed : {A : Type 0} → (end ≡ Stopped Usage) ⊎ (end ≡ Stopped NoMemory) → A
+    unfailed (inl faulty) = absurd (cc (sym is ∙ faulty))
+    unfailed (inr memory) = absurd (cc (sym is ∙ memory))
+
+    here : (command : Option Command) → (command ≡ None → (end ≡ Stopped Usage) ⊎ (end ≡ Stopped NoMemory)) → Files ⊎ (OfRun × Source) → (IsSome command × Files) ⊎ (OfRun × Source) ⊎ Sink
+    here None idle failed = unfailed (idle refl)
+    here (Some command) idle (inl rose) = inl (refl, rose)
+    here (Some command) idle (inr rose) = inr (inl rose)
+
 -- what was taken, whether or not the end's text is written
-taken_at_fault : (command : Option Command) (before after : Option (List ℕ)) (s : Status) → IsTakenAt command before after s → IsTakenAt command before after code.Fault
-taken_at_fault None before after s is = is
-taken_at_fault (Some (run catalog key workers)) before after s is =
+taken_at_fault : (takes : Bool) (before after : Option (List ℕ)) (s : Status) → MatchBool takes (IsTaken before after s) (after ≡ before) → MatchBool takes (IsTaken before after code.Fault) (after ≡ before)
+taken_at_fault true before after s is =
     record { taken = is.taken; is = is.is; few = is.few; refused = λ same. cc; unopened = λ is. absurd (either code.Fault code.JournalRefused code.DiskFault (λ w. cc) (λ w. cc) is); too_long = λ same. cc; done = λ same. cc }
-taken_at_fault (Some (init catalog key)) before after s is = is
-taken_at_fault (Some (audit catalog key)) before after s is = is
-taken_at_fault (Some (gap catalog owner second_catalog file)) before after s is = is
-taken_at_fault (Some (check catalog owner file)) before after s is = is
+taken_at_fault false before after s is = is
 
 pub taken_with : (command : Option Command) (before after : Option (List ℕ)) (end : End) (status : Status) (text : List ℕ) → IsEndingWith end status text
     → IsTakenAt command before after (status_at end) → IsTakenAt command before after status
@@ -433,4 +445,4 @@ taken_with command before after end status text with is = here with.whole
   where
     here : ((status ≡ status_at end) × (text ≡ text_at end)) ⊎ (status ≡ code.Fault) → IsTakenAt command before after status
     here (inl (same, whole)) = subst (λ (s : Status). IsTakenAt command before after s) (sym same) is
-    here (inr fault) = subst (λ (s : Status). IsTakenAt command before after s) (sym fault) (taken_at_fault command before after (status_at end) is)
+    here (inr fault) = subst (λ (s : Status). IsTakenAt command before after s) (sym fault) (taken_at_fault (kind_of command).source before after (status_at end) is)

@@ -9,12 +9,12 @@ use Rattle.journal_records.specs.declared.records.Header.{Header}
 use Rattle.journal_records.specs.declared.records.Record.{Record}
 use Rattle.budget_journal.specs.Journals.{Found, MayHaveSynced}
 use Rattle.budget_core.specs.Entries.{Entry}
-use Rattle.budget_ledger.specs.Account.{Account}
-use Rattle.answer_path.specs.Pass.{Pass}
-use Rattle.session_core.specs.Code.{no_pass, pass_at}
+use Rattle.budget_ledger.specs.Account.{Account, Storage}
+use Rattle.owner_desk.specs.Passes.{Pass}
+use Rattle.session_core.specs.Code.{fresh_pass, no_pass, pass_at}
 use Rattle.fz_outside.specs.Faults.{HasRisen, last_count}
-use Rattle.query_server.specs.Shelves.{Shelf, Became, IsOnlySynced, NoOtherRose, SomeRose, StandsStill}
-use Rattle.query_server.specs.Books.{ArePassesOn, ArePutBack, IsNewBook, IsNewPass, LeftDisk, TookDisk, shown_by}
+use Rattle.query_server.specs.Shelves.{Shelf, EachDisk, IsOnlySynced, NoOtherRose, SomeRose, StandsStill}
+use Rattle.query_server.specs.Books.{ArePassesOn, ArePutBack, GaveBook, IsNewBook, IsNewPass, LeftDisk, TookDisk, shown_by}
 use Rattle.query_server.proofs.Disks.{same_still, shown_still}
 use Rattle.query_server.proofs.Places.{earlier}
 
@@ -40,13 +40,13 @@ new_at entries headers old passes pass n count new each o less (inr isnt) =
     before o n less isnt = grind (arith, less, isnt)
 
 -- a pass on a book that was just opened
-pub opened_pass : (entry : Entry) (header wanted : Header) (mid old : Option Shown) (book : Account) (pass : Pass) → header ≡ wanted → mid ≡ old
-    → pass ≡ record { entry = book.ledger.entry; found = book.ledger.found; seen = book.ledger.found; own = []; storage = book.storage } → IsNewBook entry header mid book → IsNewPass entry wanted old pass
+pub opened_pass : (entry : Entry) (header wanted : Header) (mid old : Option Shown) (book : Account) (pass : Pass) → header ≡ wanted → mid ≡ old → pass ≡ fresh_pass book → IsNewBook entry header mid book
+    → IsNewPass entry wanted old pass
 opened_pass entry header wanted mid old book pass of_header at is new =
-    subst (λ (p : Pass). IsNewPass entry wanted old p) (sym is)
-    (subst (λ (h : Header). IsNewPass entry h old (record { entry = book.ledger.entry; found = book.ledger.found; seen = book.ledger.found; own = []; storage = book.storage })) of_header
-    (subst (λ (s : Option Shown). IsNewPass entry header s (record { entry = book.ledger.entry; found = book.ledger.found; seen = book.ledger.found; own = []; storage = book.storage })) at
-    (record { of_entry = new.of_entry; fresh = refl; of_header = new.of_header; unclosed = new.unclosed; history = new.history; on = new.on })))
+    subst (λ (p : Pass). IsNewPass entry wanted old p) (sym is) (record {
+      fresh = refl;
+      book = subst (λ (h : Header). IsNewBook entry h old book) of_header (subst (λ (s : Option Shown). IsNewBook entry header s book) at new);
+    })
 
 -- one more
 pub one_opened : (entries : ℕ → Entry) (headers : ℕ → Header) (n : ℕ) (old mid new : Shelf) (passes : List Pass) (pass : Pass) → ArePassesOn entries headers n old mid passes → TookDisk n mid new
@@ -73,33 +73,49 @@ synced_trace header found None (Some u) f = absurd f
 synced_trace header found (Some t) None f = absurd f
 synced_trace header found (Some t) (Some u) f = inr (ap Some f.0)
 
-pub new_synced : (entry : Entry) (header : Header) (before : Shown) (shown : Option Shown) (pass : Pass) → shown ≡ Some before → IsNewPass entry header shown pass → IsOnlySynced before (shown_by pass)
-new_synced entry header before shown pass at new =
-    let on = subst (λ (s : Option Shown). IfSome s (λ b. WhereTold (Found header pass.found) b.trace pass.storage.trace × (pass.storage.faults ≡ b.faults))) at new.on in
-    record { synced = synced_trace header pass.found before.trace pass.storage.trace on.0; counts = omega (arith, on.1) }
+book_synced : (entry : Entry) (header : Header) (before : Shown) (shown : Option Shown) (book : Account) → shown ≡ Some before → IsNewBook entry header shown book → IsOnlySynced before (shown_by book)
+book_synced entry header before shown book at new =
+    let on = subst (λ (s : Option Shown). IfSome s (λ b. WhereTold (Found header book.ledger.found) b.trace book.storage.trace × (book.storage.faults ≡ b.faults))) at new.on in
+    record { synced = synced_trace header book.ledger.found before.trace book.storage.trace on.0; counts = omega (arith, on.1) }
+
+-- A pass that added nothing gives the disk back as the book showed it when it was opened.
+given_back : (entry : Entry) (header : Header) (shown : Option Shown) (pass : Pass) (book : Account) → IsNewPass entry header shown pass → GaveBook pass book → shown_by pass.opened ≡ shown_by book
+given_back entry header shown pass book new gave =
+    let same : book.storage ≡ pass.opened.storage = gave.untouched (ap (λ (p : Pass). p.own) new.fresh) (ap (λ (p : Pass). p.faults) new.fresh) in
+    ap (λ (s : Storage). record { trace = s.trace; faults = s.faults }) (sym same)
+
+new_synced : (entry : Entry) (header : Header) (before : Shown) (shown : Option Shown) (pass : Pass) (book : Account) → shown ≡ Some before → IsNewPass entry header shown pass → GaveBook pass book
+    → IsOnlySynced before (shown_by book)
+new_synced entry header before shown pass book at new gave =
+    subst (IsOnlySynced before) (given_back entry header shown pass book new gave) (book_synced entry header before shown pass.opened at new.book)
 
 synced_self : (shown : Shown) → IsOnlySynced shown shown
 synced_self shown = record { synced = inl refl; counts = omega arith }
 
 -- all
-pub all_back : (entries : ℕ → Entry) (headers : ℕ → Header) (n : ℕ) (old mid new : Shelf) (passes : List Pass) → ArePassesOn entries headers n old mid passes → ArePutBack (length passes) passes mid new
-    → Became n (λ _. IsOnlySynced) old new
-all_back entries headers n old mid new passes on back = record {
-  owned = λ o before less at. (shown_by (pass_at passes o), back.each o (omega (arith, less, on.count)), new_synced (entries o) (headers o) before (old o) (pass_at passes o) at (on.each o less));
+pub all_back : (entries : ℕ → Entry) (headers : ℕ → Header) (n : ℕ) (old mid new : Shelf) (passes : List Pass) (books : ℕ → Account) → ArePassesOn entries headers n old mid passes → ArePutBack (length passes) passes books mid new
+    → EachDisk n (λ _. IsOnlySynced) old new
+all_back entries headers n old mid new passes books on back = record {
+  owned = λ o before less at. (
+    shown_by (books o),
+    back.each o (omega (arith, less, on.count)),
+    new_synced (entries o) (headers o) before (old o) (pass_at passes o) (books o) at (on.each o less) (back.gave o (omega (arith, less, on.count))),
+  );
   others = λ o past. back.others o (omega (arith, past, on.count)) ∙ on.others o past;
 }
 
 -- some, and one that wasn't opened
-pub some_back : (entries : ℕ → Entry) (headers : ℕ → Header) (n k : ℕ) (old mid left new : Shelf) (passes : List Pass) → k < n → ArePassesOn entries headers k old mid passes → LeftDisk k mid left
-    → ArePutBack (length passes) passes left new → Became n (λ _. IsOnlySynced) old new
-some_back entries headers n k old mid left new passes within on stays back = record {
+pub some_back : (entries : ℕ → Entry) (headers : ℕ → Header) (n k : ℕ) (old mid left new : Shelf) (passes : List Pass) (books : ℕ → Account) → k < n → ArePassesOn entries headers k old mid passes → LeftDisk k mid left
+    → ArePutBack (length passes) passes books left new → EachDisk n (λ _. IsOnlySynced) old new
+some_back entries headers n k old mid left new passes books within on stays back = record {
   owned = λ o before less at. here o before at (cases_lt o k) (cases_eq o k);
   others = λ o past. back.others o (omega (arith, past, within, on.count)) ∙ stays.elsewhere o (λ same. omega (arith, past, within, same)) ∙ on.others o (omega (arith, past, within));
 }
   where
     here : (o : ℕ) (before : Shown) → old o ≡ Some before → (o < k) ⊎ (k ≤ o) → (o ≡ k) ⊎ (o ≡ k → ⊥) → (after : Shown) × (new o ≡ Some after) × IsOnlySynced before after
     here o before at (inl first) same =
-        (shown_by (pass_at passes o), back.each o (omega (arith, first, on.count)), new_synced (entries o) (headers o) before (old o) (pass_at passes o) at (on.each o first))
+        let less : o < length passes = omega (arith, first, on.count) in
+        (shown_by (books o), back.each o less, new_synced (entries o) (headers o) before (old o) (pass_at passes o) (books o) at (on.each o first) (back.gave o less))
     here o before at (inr past) (inl same) =
         let one = stays.here before (on.others k (omega arith) ∙ ap old (sym same) ∙ at) in
         (one.0, ap new same ∙ back.others k (omega (arith, on.count)) ∙ one.1, one.2)
@@ -108,19 +124,23 @@ some_back entries headers n k old mid left new passes within on stays back = rec
 
 -- ---- a disk of which a call failed
 
--- a pass that was just opened shows its disk's count
-opened_still : (entry : Entry) (header : Header) (before : Shown) (shown : Option Shown) (pass : Pass) → shown ≡ Some before → IsNewPass entry header shown pass → pass.storage.faults ≡ before.faults
-opened_still entry header before shown pass at new =
-    let on = subst (λ (s : Option Shown). IfSome s (λ b. WhereTold (Found header pass.found) b.trace pass.storage.trace × (pass.storage.faults ≡ b.faults))) at new.on in on.1
+-- a pass that was just opened, and did nothing, shows its disk's count
+opened_still : (entry : Entry) (header : Header) (before : Shown) (shown : Option Shown) (pass : Pass) (book : Account) → shown ≡ Some before → IsNewPass entry header shown pass → GaveBook pass book
+    → (shown_by book).faults ≡ before.faults
+opened_still entry header before shown pass book at new gave =
+    let on = subst (λ (s : Option Shown). IfSome s (λ b. WhereTold (Found header pass.opened.ledger.found) b.trace pass.opened.storage.trace × (pass.opened.storage.faults ≡ b.faults))) at new.book.on in
+    sym (ap (λ (s : Shown). s.faults) (given_back entry header shown pass book new gave)) ∙ on.1
 
 -- It is the one that wasn't opened: those of the owners before it are put back as they were opened.
-pub no_other_opened : (entries : ℕ → Entry) (headers : ℕ → Header) (k : ℕ) (old mid left new : Shelf) (passes : List Pass) → ArePassesOn entries headers k old mid passes → LeftDisk k mid left
-    → ArePutBack (length passes) passes left new → NoOtherRose k old new
-no_other_opened entries headers k old mid left new passes on stays back o isnt = here (cases_lt o k)
+pub no_other_opened : (entries : ℕ → Entry) (headers : ℕ → Header) (k : ℕ) (old mid left new : Shelf) (passes : List Pass) (books : ℕ → Account) → ArePassesOn entries headers k old mid passes → LeftDisk k mid left
+    → ArePutBack (length passes) passes books left new → NoOtherRose k old new
+no_other_opened entries headers k old mid left new passes books on stays back o isnt = here (cases_lt o k)
   where
     here : (o < k) ⊎ (k ≤ o) → StandsStill o old new
-    here (inl first) = shown_still o old new (shown_by (pass_at passes o)) (back.each o (omega (arith, first, on.count)))
-        (λ before was. opened_still (entries o) (headers o) before (old o) (pass_at passes o) was (on.each o first))
+    here (inl first) =
+        let less : o < length passes = omega (arith, first, on.count) in
+        shown_still o old new (shown_by (books o)) (back.each o less)
+        (λ before was. opened_still (entries o) (headers o) before (old o) (pass_at passes o) (books o) was (on.each o first) (back.gave o less))
     here (inr past) = same_still o old new (back.others o (omega (arith, past, on.count)) ∙ stays.elsewhere o isnt ∙ on.others o past)
 
 pub risen_from : (old mid new : ℕ) → old ≤ mid → mid ≤ new → HasRisen mid new → HasRisen old new
@@ -134,9 +154,9 @@ none_rose : (before : Shown) → None ≡ Some before → ⊥
 none_rose before is = cc
 
 -- Where it is one of those that weren't taken, or were put back as they were, it is so still.
-pub rose_still : (entries : ℕ → Entry) (headers : ℕ → Header) (k : ℕ) (old mid left new : Shelf) (passes : List Pass) → ArePassesOn entries headers k old mid passes → ArePutBack (length passes) passes left new
+pub rose_still : (entries : ℕ → Entry) (headers : ℕ → Header) (k : ℕ) (old mid left new : Shelf) (passes : List Pass) (books : ℕ → Account) → ArePassesOn entries headers k old mid passes → ArePutBack (length passes) passes books left new
     → SomeRose mid left → SomeRose old new
-rose_still entries headers k old mid left new passes on back (o, before, after, was, is, rose) = here (cases_lt o k)
+rose_still entries headers k old mid left new passes books on back (o, before, after, was, is, rose) = here (cases_lt o k)
   where
     here : (o < k) ⊎ (k ≤ o) → SomeRose old new
     here (inl first) = absurd (none_rose before (sym (on.taken o first) ∙ was))

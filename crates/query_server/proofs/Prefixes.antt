@@ -11,6 +11,9 @@ prefix_take n line = (drop n line, sym (take-append-drop n line))
 pub prefix_whole : (text : List ℕ) → IsBeginning text text
 prefix_whole text = ([], sym (append-nil text))
 
+pub prefix_of_prefix : (text due all : List ℕ) → IsBeginning text due → IsBeginning due all → IsBeginning text all
+prefix_of_prefix text due all (more, is) (rest, whole) = (more ++ rest, whole ∙ ap (λ xs. xs ++ rest) is ∙ append_assoc text more rest)
+
 pub prefix_empty : (text rest : List ℕ) → [] ≡ text ++ rest → (line : List ℕ) → IsBeginning text line
 prefix_empty [] rest is line = (line, refl)
 prefix_empty (x ∷ xs) rest is line = cc

@@ -1,5 +1,5 @@
 -- a script that was answered over passes, and what became of the owners' disks
-use Rattle.std.proofs.Common.{◌≡◌, ℕ, ◌<◌, ◌≤◌, List, length, map, slice_get, Option, Some, refl, sym, ◌∙◌, ap, subst, arith}
+use Rattle.std.proofs.Common.{◌≡◌, ℕ, ◌<◌, ◌≤◌, List, length, slice_get, Option, Some, refl, sym, ◌∙◌, ap, subst, arith}
 use Rattle.std.specs.Prelude.{IfSome, Result, Ok, Err, IsErrAnd, Vec}
 use Rattle.std.specs.declared.alloc.Global.{Global}
 use mathlib.Core.Logic.{inl, inr}
@@ -11,29 +11,30 @@ use Rattle.journal_records.specs.declared.records.Record.{Record}
 use Rattle.budget_journal.specs.Journals.{Found}
 use Rattle.budget_core.specs.Entries.{Entry}
 use Rattle.budget_core.specs.Legal.{MayFollow}
-use Rattle.budget_ledger.specs.Account.{Went}
+use Rattle.budget_core.specs.Ledger.{Ledger}
+use Rattle.budget_ledger.specs.Account.{Account, Went}
 use Rattle.budget_ledger.specs.declared.failure.Failure.{Failure}
-use Rattle.answer_path.specs.Pass.{Pass}
-use Rattle.session_core.specs.House.{House, house_of}
-use Rattle.session_core.specs.Code.{AreAlone, ArePasses, AreFresh, HasServed, found_by, owner_at, pass_at, seen_by}
-use Rattle.session_core.specs.Exchanges.{Exchange}
-use Rattle.session_core.specs.Served.{ClosesOn}
-use Rattle.session_core.specs.Transcript.{LeadExactly, first_new}
-use Rattle.session_core.proofs.Owners.{entry_said, in_catalog, owner_there, owners_length}
+use Rattle.owner_desk.specs.Passes.{Pass}
+use Rattle.owner_house.specs.House.{House, Register, house_of, owner_at}
+use Rattle.session_core.specs.Code.{AreClosed, ArePasses, AreFresh, HasServed, found_by, pass_at}
+use Rattle.session_core.specs.Gathered.{one_worker}
+use Rattle.session_core.specs.Transcript.{Journals}
+use Rattle.session_laws.proofs.Scripts.{lines_gathered, script_gathered}
+use Rattle.owner_house.proofs.Owners.{entry_said, in_catalog, owner_there, owners_length}
 use Rattle.std.proofs.lemmas.Option.{slice_get_within}
 use Rattle.catalog_loading.specs.Given.{stop_at_fault}
 use Rattle.catalog_loading.specs.Loaded.{IsLoading, Loading, header_of, entry_at, owners_in}
-use Rattle.query_server.specs.Ending.{to_answer}
-use Rattle.query_server.specs.Shelves.{Shelf, Became, IsOnlySynced}
+use Rattle.query_server.specs.Work.{to_answer}
+use Rattle.query_server.specs.Shelves.{Shelf, EachDisk, IsOnlySynced}
 use Rattle.query_server.specs.Opened.{AreOpened}
 use Rattle.query_server.specs.Run.{IsScriptAnswered, WentOn}
-use Rattle.query_server.specs.Books.{ArePassesOn, ArePutBack, IsNewPass, IsOpenStop, IsStored, shown_by}
+use Rattle.query_server.specs.Books.{ArePassesOn, ArePutBack, GaveBook, IsNewPass, IsOpenStop, shown_by}
 use Rattle.query_server.specs.Ends.{IsAnsweredOn, IsEndOf, IsFailing, end_by}
 use Rattle.catalog_loading.specs.declared.stops.Stop.{Stop}
 use Rattle.catalog_loading.specs.declared.stops.Stop.TheVariants.{Usage, Refused, Journal, Disk, Fault, NoMemory}
 use Rattle.query_server.specs.declared.end.End.TheVariants.{Stopped, Run}
-use Rattle.query_server.specs.declared.running.RunEnd.{RunEnd}
-use Rattle.query_server.specs.declared.running.RunEnd.TheVariants.{Answered, TooLong}
+use Rattle.query_server.specs.declared.run.RunEnd.{RunEnd}
+use Rattle.query_server.specs.declared.run.RunEnd.TheVariants.{Answered, TooLong}
 use Rattle.query_server.proofs.Passes.{all_back}
 use Rattle.query_server.proofs.Stops.{err_same, pass_opened}
 use Rattle.query_server.proofs.Went.{went_on}
@@ -46,10 +47,16 @@ memory_no_disk line is = cc
 
 -- what was served, by the draws and the script as they are called elsewhere
 pub served_as : (house : House) (given draws : ℕ → ℕ → ℕ → ℕ) (script other text : List ℕ) (old new : List Pass) → given ≡ draws → script ≡ other
-    → (h : HasServed house given script text old new) × AreAlone house given h.exchanges old new → (h : HasServed house draws other text old new) × AreAlone house draws h.exchanges old new
+    → HasServed house given script text old new → HasServed house draws other text old new
 served_as house given draws script other text old new drawn same served =
-    subst (λ (d : ℕ → ℕ → ℕ → ℕ). (h : HasServed house d other text old new) × AreAlone house d h.exchanges old new) drawn
-    (subst (λ (s : List ℕ). (h : HasServed house given s text old new) × AreAlone house given h.exchanges old new) same served)
+    subst (λ (d : ℕ → ℕ → ℕ → ℕ). HasServed house d other text old new) drawn (subst (λ (s : List ℕ). HasServed house given s text old new) same served)
+
+-- what was answered over a house and a key, by the names that they have elsewhere
+pub answered_in : (register other : Register) (bytes key : List ℕ) (script : List ℕ) (old new : List Pass) (result : Result RunEnd Stop) → register ≡ other → bytes ≡ key
+    → IsAnsweredOn (house_of register) (draws_of bytes) script old new result → IsAnsweredOn (house_of other) (draws_of key) script old new result
+answered_in register other bytes key script old new result same is answered =
+    subst (λ (r : Register). IsAnsweredOn (house_of r) (draws_of key) script old new result) same
+    (subst (λ (k : List ℕ). IsAnsweredOn (house_of register) (draws_of k) script old new result) is answered)
 
 module _ (loading : Loading) (key : List ℕ) (lawful : IsLoading loading) where
   abbrev house : House
@@ -66,72 +73,80 @@ module _ (loading : Loading) (key : List ℕ) (lawful : IsLoading loading) where
   opened_passes old mid passes on = record {
     each_has = on.count ∙ sym count_owners;
     entries = λ o owner at.
-        (let within = in_catalog loading.register lawful.register o (slice_get_within house.owners o owner at) in (on.each o within).of_entry ∙ entry_said loading.register o owner at);
+        (let within = in_catalog loading.register lawful.register o (slice_get_within house.owners o owner at) in (on.each o within).book.of_entry ∙ entry_said loading.register o owner at);
   }
 
-  pub opened_fresh : (old mid : Shelf) (passes : List Pass) → ArePassesOn (entry_at loading) (header_of loading key) (owners_in loading) old mid passes → AreFresh (house_of loading.register) passes
+  opened_fresh : (old mid : Shelf) (passes : List Pass) → ArePassesOn (entry_at loading) (header_of loading key) (owners_in loading) old mid passes → AreFresh (house_of loading.register) passes
   opened_fresh old mid passes on = λ o owner at. (on.each o (in_catalog loading.register lawful.register o (slice_get_within house.owners o owner at))).fresh
 
-  pub passes_opened : (old mid : Shelf) (passes : List Pass) → ArePassesOn (entry_at loading) (header_of loading key) (owners_in loading) old mid passes → AreOpened loading key old (found_by passes)
+  passes_opened : (old mid : Shelf) (passes : List Pass) → ArePassesOn (entry_at loading) (header_of loading key) (owners_in loading) old mid passes → AreOpened loading key old (found_by passes)
   passes_opened old mid passes on = λ o within. pass_opened (entry_at loading o) (header_of loading key o) (old o) (pass_at passes o) (on.each o within)
 
-  -- an owner's disk, by its pass before and after the script
-  owner_went : (o : ℕ) (old : Shelf) (before : Shown) (p q : Pass) → old o ≡ Some before → IsNewPass (entry_at loading o) (header_of loading key o) (old o) p → Went p.seen q.seen p.storage q.storage → q.entry ≡ p.entry → IsStored q
-      → WentOn (entry_at loading o) (header_of loading key o) p.found q.seen q.storage.closed before (shown_by q)
-  owner_went o old before p q at new went same stored =
-      let on = subst (λ (s : Option Shown). IfSome s (λ b. WhereTold (Found (header_of loading key o) p.found) b.trace p.storage.trace × (p.storage.faults ≡ b.faults))) at new.on in
-      went_on (entry_at loading o) (header_of loading key o) p.found q.seen p.storage q.storage before new.of_header new.unclosed on.1 on.0
-      (subst (λ (records : List Record). Went records q.seen p.storage q.storage) new.fresh went) stored.kept
-      (subst (λ (e : Entry). (failure : Failure) → q.storage.closed ≡ Some failure → MayFollow e q.seen failure.pending) (same ∙ new.of_entry) stored.follows)
+  -- the records and the closings of the owners' books
+  abbrev records_of : (ℕ → Account) → Journals
+  records_of books o = (books o).ledger.records
 
-  pub answered_over : (old mid new : Shelf) (passes after : List Pass) (script text : List ℕ) → ArePassesOn (entry_at loading) (header_of loading key) (owners_in loading) old mid passes
-      → (h : HasServed (house_of loading.register) (draws_of key) script text passes after) → AreAlone (house_of loading.register) (draws_of key) h.exchanges passes after → ArePutBack (length after) after mid new
-      → IsScriptAnswered loading key old new (found_by passes) script text
-  answered_over old mid new passes after script text on h alone back =
+  abbrev closings_of : (ℕ → Account) → ℕ → Option Failure
+  closings_of books o = (books o).storage.closed
+
+  books_closed : (mid new : Shelf) (after : List Pass) (books : ℕ → Account) → length after ≡ owners_in loading → ArePutBack (length after) after books mid new
+      → AreClosed (house_of loading.register) after (records_of books) (closings_of books)
+  books_closed mid new after books count back = λ o owner at.
+      let within = in_catalog loading.register lawful.register o (slice_get_within house.owners o owner at) in
+      (back.gave o (omega (arith, within, count))).closed
+
+  -- an owner's disk, by its pass before the script and the book that the pass after it gave
+  owner_went : (o : ℕ) (old : Shelf) (before : Shown) (p q : Pass) (book : Account) → old o ≡ Some before → IsNewPass (entry_at loading o) (header_of loading key o) (old o) p → q.opened ≡ p.opened → GaveBook q book
+      → WentOn (entry_at loading o) (header_of loading key o) p.opened.ledger.found book.ledger.records book.storage.closed before (shown_by book)
+  owner_went o old before p q book at new same gave =
+      let found = p.opened.ledger.found in
+      let on = subst (λ (s : Option Shown). IfSome s (λ b. WhereTold (Found (header_of loading key o) found) b.trace p.opened.storage.trace × (p.opened.storage.faults ≡ b.faults))) at new.book.on in
+      let went = subst (λ (a : Account). Went a.ledger.records book.ledger.records a.storage book.storage) same gave.went in
+      let entry : book.ledger.entry ≡ entry_at loading o = ap (λ (l : Ledger). l.entry) gave.ledger ∙ ap (λ (a : Account). a.ledger.entry) same ∙ new.book.of_entry in
+      went_on (entry_at loading o) (header_of loading key o) found book.ledger.records p.opened.storage book.storage before new.book.of_header new.book.unclosed on.1 on.0
+      (subst (λ (rs : List Record). Went rs book.ledger.records p.opened.storage book.storage) new.book.fresh went) gave.sound.kept
+      (subst (λ (e : Entry). (failure : Failure) → book.storage.closed ≡ Some failure → MayFollow e book.ledger.records failure.pending) entry gave.sound.follows)
+
+  pub answered_over : (workers : ℕ) (old mid new : Shelf) (passes after : List Pass) (books : ℕ → Account) (script text : List ℕ) → ArePassesOn (entry_at loading) (header_of loading key) (owners_in loading) old mid passes
+      → HasServed (house_of loading.register) (draws_of key) script text passes after → ArePutBack (length after) after books mid new → IsScriptAnswered loading key workers old new (found_by passes) script text
+  answered_over workers old mid new passes after books script text on h back =
       let count : length after ≡ owners_in loading = h.served.each_has ∙ on.count in
       let fresh = opened_fresh old mid passes on in
+      let shut = books_closed mid new after books count back in
       record {
-        replies = map (λ (x : Exchange). x.reply) h.exchanges;
-        records = seen_by after;
-        run = record {
-          exchanges = h.exchanges;
-          turns = h.turns;
-          replied = refl;
-          plain = h.served.plain;
-          owners = λ o owner at.
-              subst (λ (seen : List Record). LeadExactly house (draws_of key) o (first_new (pass_at passes o).found) seen h.exchanges (pass_at after o).seen) (fresh o owner at) (alone o owner at);
-        };
+        crew = one_worker;
+        exchanges = h.exchanges;
+        records = records_of books;
+        gathered = script_gathered (house_of loading.register) (draws_of key) script text passes after (records_of books) (closings_of books) fresh h shut;
         written = h.written;
-        closed = λ o. (pass_at after o).storage.closed;
-        closes = λ o within. subst (λ (c : Option Failure). ClosesOn house (draws_of key) o c h.exchanges (pass_at after o).storage.closed) (on.each o within).unclosed
-            (h.served.owners o (owner_at house o) (there o within)).closes;
+        closed = closings_of books;
+        shut = λ o owner at. (lines_gathered (house_of loading.register) (draws_of key) h.exchanges passes after (records_of books) (closings_of books) fresh h.served shut o owner at).1;
         disks = record {
           owned = λ o before within at. (
-            shown_by (pass_at after o),
+            shown_by (books o),
             back.each o (omega (arith, within, count)),
-            owner_went o old before (pass_at passes o) (pass_at after o) at (on.each o within) (h.served.owners o (owner_at house o) (there o within)).went
-                (h.served.owners o (owner_at house o) (there o within)).entry (back.kept o (omega (arith, within, count))),
+            owner_went o old before (pass_at passes o) (pass_at after o) (books o) at (on.each o within) (h.served.owners o (owner_at house o) (there o within)).opened (back.gave o (omega (arith, within, count))),
           );
           others = λ o past. back.others o (omega (arith, past, count)) ∙ on.others o past;
         };
       }
 
   -- How the script that was to be answered ends, once the disks are put back.
-  pub run_ends : (old mid new : Shelf) (passes after : List Pass) (script : List ℕ) (result : Result RunEnd Stop) → ArePassesOn (entry_at loading) (header_of loading key) (owners_in loading) old mid passes
-      → IsAnsweredOn (house_of loading.register) (draws_of key) script passes after result → ArePutBack (length after) after mid new → IsEndOf (to_answer loading key) old new script (end_by Run result)
-  run_ends old mid new passes after script (Ok (Answered replies)) on (short, (h, alone)) back =
-      inl (inr (found_by passes, passes_opened old mid passes on, inl (refl, short, answered_over old mid new passes after script replies.items on h alone back)))
-  run_ends old mid new passes after script (Ok TooLong) on (long, same) back =
+  pub run_ends : (workers : ℕ) (old mid new : Shelf) (passes after : List Pass) (books : ℕ → Account) (script : List ℕ) (result : Result RunEnd Stop) → ArePassesOn (entry_at loading) (header_of loading key) (owners_in loading) old mid passes
+      → IsAnsweredOn (house_of loading.register) (draws_of key) script passes after result → ArePutBack (length after) after books mid new → IsEndOf (to_answer workers loading key) old new script (end_by Run result)
+  run_ends workers old mid new passes after books script (Ok (Answered replies)) on (short, h) back =
+      inl (inr (found_by passes, passes_opened old mid passes on, inl (refl, short, answered_over workers old mid new passes after books script replies.items on h back)))
+  run_ends workers old mid new passes after books script (Ok TooLong) on (long, same) back =
       inl (inr (found_by passes, passes_opened old mid passes on, inr (refl, long, refl, still)))
     where
-      still : Became (owners_in loading) (λ _. IsOnlySynced) old new
-      still = all_back (entry_at loading) (header_of loading key) (owners_in loading) old mid new passes on (subst (λ (ps : List Pass). ArePutBack (length ps) ps mid new) same back)
-  run_ends old mid new passes after script (Err stop) on (failing, same) back = cut failing
+      still : EachDisk (owners_in loading) (λ _. IsOnlySynced) old new
+      still = all_back (entry_at loading) (header_of loading key) (owners_in loading) old mid new passes books on (subst (λ (ps : List Pass). ArePutBack (length ps) ps books mid new) same back)
+  run_ends workers old mid new passes after books script (Err stop) on (failing, same) back = cut failing
     where
-      still : Became (owners_in loading) (λ _. IsOnlySynced) old new
-      still = all_back (entry_at loading) (header_of loading key) (owners_in loading) old mid new passes on (subst (λ (ps : List Pass). ArePutBack (length ps) ps mid new) same back)
+      still : EachDisk (owners_in loading) (λ _. IsOnlySynced) old new
+      still = all_back (entry_at loading) (header_of loading key) (owners_in loading) old mid new passes books on (subst (λ (ps : List Pass). ArePutBack (length ps) ps books mid new) same back)
 
-      cut : IsFailing stop → IsEndOf (to_answer loading key) old new script (Stopped stop)
+      cut : IsFailing stop → IsEndOf (to_answer workers loading key) old new script (Stopped stop)
       cut (inl is) = inr (inl (ap Stopped is), still)
       cut (inr is) = inr (inr (inl (ap Stopped is)), still)
 
@@ -140,7 +155,7 @@ module _ (loading : Loading) (key : List ℕ) (lawful : IsLoading loading) where
   few_owners = lawful.register.catalog.few_owners
 
   pub answered_count : (draws : ℕ → ℕ → ℕ → ℕ) (passes after : List Pass) (script : List ℕ) (result : Result RunEnd Stop) → IsAnsweredOn (house_of loading.register) draws script passes after result → length after ≡ length passes
-  answered_count draws passes after script (Ok (Answered replies)) (short, (h, alone)) = h.served.each_has
+  answered_count draws passes after script (Ok (Answered replies)) (short, h) = h.served.each_has
   answered_count draws passes after script (Ok TooLong) (long, same) = ap length same
   answered_count draws passes after script (Err stop) (failing, same) = ap length same
 
@@ -155,18 +170,18 @@ module _ (loading : Loading) (key : List ℕ) (lawful : IsLoading loading) where
       no_disk (inr memory) is = memory_no_disk line (sym memory ∙ is)
 
   -- what stopped the opening ends the run
-  open_ends : (old new : Shelf) (script : List ℕ) (stop : Stop) → IsOpenStop loading key old new stop → Became (owners_in loading) (λ _. IsOnlySynced) old new → IsEndOf (to_answer loading key) old new script (Stopped stop)
-  open_ends old new script Usage is disks = absurd is
-  open_ends old new script (Refused name) is disks = absurd is
-  open_ends old new script (Journal line) (o, refusal, at, is) disks = inl (inl (record { o = o; refusal = refusal; at = at; is_status = refl; is_text = is; disks = disks }))
-  open_ends old new script (Disk line) named disks = inr (inr (inr (line, refl, named)), disks)
-  open_ends old new script Fault is disks = absurd is
-  open_ends old new script NoMemory is disks = inr (inr (inl refl), disks)
+  open_ends : (workers : ℕ) (old new : Shelf) (script : List ℕ) (stop : Stop) → IsOpenStop loading key old new stop → EachDisk (owners_in loading) (λ _. IsOnlySynced) old new → IsEndOf (to_answer workers loading key) old new script (Stopped stop)
+  open_ends workers old new script Usage is disks = absurd is
+  open_ends workers old new script (Refused name) is disks = absurd is
+  open_ends workers old new script (Journal line) (o, refusal, at, is) disks = inl (inl (record { o = o; refusal = refusal; at = at; is_status = refl; is_text = is; disks = disks }))
+  open_ends workers old new script (Disk line) named disks = inr (inr (inr (line, refl, named)), disks)
+  open_ends workers old new script Fault is disks = absurd is
+  open_ends workers old new script NoMemory is disks = inr (inr (inl refl), disks)
 
-  pub open_passed : (old new : Shelf) (script : List ℕ) (stop : Stop) (result : Result RunEnd Stop) → IsOpenStop loading key old new stop → Became (owners_in loading) (λ _. IsOnlySynced) old new → IsErrAnd result (λ e. e ≡ stop)
-      → IsEndOf (to_answer loading key) old new script (end_by Run result)
-  open_passed old new script stop (Ok end) is disks wrong = absurd wrong
-  open_passed old new script stop (Err other) is disks same = subst (λ (s : Stop). IsEndOf (to_answer loading key) old new script (Stopped s)) (sym same) (open_ends old new script stop is disks)
+  pub open_passed : (workers : ℕ) (old new : Shelf) (script : List ℕ) (stop : Stop) (result : Result RunEnd Stop) → IsOpenStop loading key old new stop → EachDisk (owners_in loading) (λ _. IsOnlySynced) old new → IsErrAnd result (λ e. e ≡ stop)
+      → IsEndOf (to_answer workers loading key) old new script (end_by Run result)
+  open_passed workers old new script stop (Ok end) is disks wrong = absurd wrong
+  open_passed workers old new script stop (Err other) is disks same = subst (λ (s : Stop). IsEndOf (to_answer workers loading key) old new script (Stopped s)) (sym same) (open_ends workers old new script stop is disks)
 
 -- a fault of the source is passed on
 pub unread_passed : (house : House) (draws : ℕ → ℕ → ℕ → ℕ) (script : List ℕ) (passes : List Pass) (fault : FileFault) (result : Result RunEnd Stop) → IsErrAnd result (λ e. e ≡ stop_at_fault fault)

@@ -13,11 +13,11 @@ use Rattle.budget_core.specs.Ledger.{Ledger}
 use Rattle.budget_core.specs.Legal.{IsHistory}
 use Rattle.budget_ledger.specs.Account.{Account, IsBook, Storage}
 use Rattle.budget_ledger.specs.Opened.{IsBookFault}
-use Rattle.answer_path.specs.Pass.{Pass}
-use Rattle.answer_path.specs.Owner.{Owner}
-use Rattle.session_core.specs.Code.{owner_at, pass_at}
-use Rattle.session_core.specs.House.{house_of}
-use Rattle.session_core.proofs.Owners.{entry_said, owner_there, owners_length}
+use Rattle.owner_desk.specs.Passes.{Pass}
+use Rattle.owner_house.specs.Owner.{Owner}
+use Rattle.owner_house.specs.House.{owner_at, house_of}
+use Rattle.session_core.specs.Code.{pass_at}
+use Rattle.owner_house.proofs.Owners.{entry_said, owner_there, owners_length}
 use Rattle.catalog_loading.specs.Files.{Contents}
 use Rattle.catalog_loading.specs.Steps.{FileStep}
 use Rattle.catalog_loading.specs.Loaded.{IsLoading, Loading, header_of, entry_at, owner_name_at, owners_in}
@@ -45,15 +45,18 @@ stands_shown : (header : Header) (found : List Record) (now : Option Trace) (sho
 stands_shown header found now None faults on = tt
 stands_shown header found now (Some b) faults on = stands_told header found b.trace now on.0
 
-pub pass_opened : (entry : Entry) (header : Header) (shown : Option Shown) (pass : Pass) → IsNewPass entry header shown pass → IsOpened entry header (bytes_shown shown) pass.found
-pass_opened entry header shown pass new = record { stands = stands_shown header pass.found pass.storage.trace shown pass.storage.faults new.on; history = new.history }
+pub pass_opened : (entry : Entry) (header : Header) (shown : Option Shown) (pass : Pass) → IsNewPass entry header shown pass → IsOpened entry header (bytes_shown shown) pass.opened.ledger.found
+pass_opened entry header shown pass new = record {
+  stands = stands_shown header pass.opened.ledger.found pass.opened.storage.trace shown pass.opened.storage.faults new.book.on;
+  history = new.book.history;
+}
 
 unopened_as : (entry : Entry) (header : Header) (refusal : JournalRefusal) (mid old : Option Shown) → mid ≡ old → IsUnopened entry header (bytes_shown mid) refusal → IsUnopened entry header (bytes_shown old) refusal
 unopened_as entry header refusal mid old is = subst (λ (s : Option Shown). IsUnopened entry header (bytes_shown s) refusal) is
 
 opened_before : (loading : Loading) (key : List ℕ) (k : ℕ) (old mid : Shelf) (passes : List Pass) → ArePassesOn (entry_at loading) (header_of loading key) k old mid passes → AreOpenedBefore loading key old k
 opened_before loading key k old mid passes on p less =
-    ((pass_at passes p).found, pass_opened (entry_at loading p) (header_of loading key p) (old p) (pass_at passes p) (on.each p less))
+    ((pass_at passes p).opened.ledger.found, pass_opened (entry_at loading p) (header_of loading key p) (old p) (pass_at passes p) (on.each p less))
 
 -- A book that isn't opened, behind others that are, stops the opening.
 pub open_stopped : (loading : Loading) (key : List ℕ) (k : ℕ) (old mid new : Shelf) (passes : List Pass) (stop : Stop) → k < owners_in loading → ArePassesOn (entry_at loading) (header_of loading key) k old mid passes
@@ -128,6 +131,7 @@ new_book entry wanted header before trace faults book is at found fresh sound = 
   history = subst (λ (e : Entry). IsHistory e book.ledger.found) (ap (λ (l : Ledger). l.entry) fresh.0 ∙ is) sound.sound.found;
   on = subst (λ (s : Option Shown). IfSome s (λ b. WhereTold (Found header book.ledger.found) b.trace book.storage.trace × (book.storage.faults ≡ b.faults))) (sym at)
       (found, ap (λ (s : Storage). s.faults) fresh.1);
+  sound = sound;
 }
 
 -- an owner's entry, by its number

@@ -4,7 +4,7 @@ use Rattle.partition_charge.specs.declared.view.View.TheVariants.{Whole}
 use Rattle.fz_ast.specs.Signature.{Signature}
 use Rattle.metric_values.specs.Tables.{Dataset}
 use Rattle.owner_catalog.specs.Entries.{PartitionEntry}
-use Rattle.answer_path.specs.Judgement.{AreNames}
+use Rattle.owner_house.specs.Names.{AreNames}
 use Rattle.part_views.specs.Views.{rows_in, signature_in}
 
 -- what a view shows is all there is, where it is the whole

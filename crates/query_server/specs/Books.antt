@@ -1,14 +1,13 @@
 -- What the code's books and passes are of the owners' disks.
-use Rattle.std.specs.Prelude.{◌≡◌, ℕ, ◌<◌, ◌≤◌, List, length, Option, Some, None, IfSome, ⊤}
+use Rattle.std.specs.Prelude.{◌≡◌, ℕ, ◌<◌, ◌≤◌, List, [], length, Option, Some, None, IfSome, ⊤}
 use Rattle.outside_disks.specs.Disks.{Shown, WhereTold}
 use Rattle.journal_records.specs.declared.records.Header.{Header}
 use Rattle.budget_journal.specs.Journals.{Found}
 use Rattle.budget_core.specs.Entries.{Entry}
-use Rattle.budget_core.specs.Legal.{IsHistory, MayFollow}
-use Rattle.budget_ledger.specs.declared.failure.Failure.{Failure}
-use Rattle.budget_ledger.specs.Account.{Account, IsKeptNow}
-use Rattle.answer_path.specs.Pass.{Pass}
-use Rattle.session_core.specs.Code.{pass_at}
+use Rattle.budget_core.specs.Legal.{IsHistory}
+use Rattle.budget_ledger.specs.Account.{Account, IsBook, Went}
+use Rattle.owner_desk.specs.Passes.{Pass, ledger_on}
+use Rattle.session_core.specs.Code.{HasClosed, fresh_pass, pass_at}
 use Rattle.catalog_loading.specs.Loaded.{Loading, header_of, entry_at, owner_name_at, owners_in}
 use Rattle.query_server.specs.Shelves.{Shelf, IsOnlySynced, bytes_on}
 use Rattle.query_server.specs.Opened.{IsDiskNamed, IsRefusedAt, IsUnopened}
@@ -28,6 +27,7 @@ pub record IsNewBook (entry : Entry) (header : Header) (before : Option Shown) (
   pub unclosed : book.storage.closed ≡ None
   pub history : IsHistory entry book.ledger.found
   pub on : IfSome before (λ b. WhereTold (Found header book.ledger.found) b.trace book.storage.trace × (book.storage.faults ≡ b.faults))
+  pub sound : IsBook book
 
 -- A book was opened: its owner's disk is taken. Or it wasn't, and the disk is at home again, with nothing written.
 abbrev pub TookDisk : (o : ℕ) → (old new : Shelf) → Type 0
@@ -72,14 +72,10 @@ IsOpenStop loading key old new (Disk line) = IsDiskNamed loading key old new lin
 IsOpenStop loading key old new NoMemory = ⊤
 IsOpenStop loading key old new stop = ⊥
 
--- A pass on which nothing was done yet, over a disk that showed this.
+-- A pass on which nothing was done yet, on a book that was just opened on a disk that showed this.
 pub record IsNewPass (entry : Entry) (header : Header) (before : Option Shown) (pass : Pass) : Type 0 where
-  pub of_entry : pass.entry ≡ entry
-  pub fresh : pass.seen ≡ pass.found
-  pub of_header : pass.storage.header ≡ header
-  pub unclosed : pass.storage.closed ≡ None
-  pub history : IsHistory entry pass.found
-  pub on : IfSome before (λ b. WhereTold (Found header pass.found) b.trace pass.storage.trace × (pass.storage.faults ≡ b.faults))
+  pub fresh : pass ≡ fresh_pass pass.opened
+  pub book : IsNewBook entry header before pass.opened
 
 -- The first owners' passes were just opened on their disks, which are taken; the others are as they were.
 pub record ArePassesOn (entries : ℕ → Entry) (headers : ℕ → Header) (n : ℕ) (old new : Shelf) (passes : List Pass) : Type 0 where
@@ -88,17 +84,20 @@ pub record ArePassesOn (entries : ℕ → Entry) (headers : ℕ → Header) (n :
   pub taken : (o : ℕ) → o < n → new o ≡ None
   pub others : (o : ℕ) → n ≤ o → new o ≡ old o
 
--- what a pass shows of its disk
-abbrev pub shown_by : Pass → Shown
-shown_by pass = record { trace = pass.storage.trace; faults = pass.storage.faults }
+-- what a book shows of its disk
+abbrev pub shown_by : Account → Shown
+shown_by book = record { trace = book.storage.trace; faults = book.storage.faults }
 
--- A stop leaves the records that a pass has seen; where an append failed, its record may follow them.
-pub record IsStored (pass : Pass) : Type 0 where
-  pub kept : IfSome pass.storage.trace (IsKeptNow pass.storage.header pass.seen pass.storage.closed)
-  pub follows : (failure : Failure) → pass.storage.closed ≡ Some failure → MayFollow pass.entry pass.seen failure.pending
+-- A pass was closed, and gave its book back: with the records found and the pass's own, and where that is none, as it was opened.
+pub record GaveBook (pass : Pass) (book : Account) : Type 0 where
+  pub ledger : book.ledger ≡ ledger_on pass.opened book.ledger.records
+  pub closed : HasClosed pass book.ledger.records book.storage.closed
+  pub went : Went pass.opened.ledger.records book.ledger.records pass.opened.storage book.storage
+  pub untouched : pass.own ≡ [] → pass.faults ≡ [] → book.storage ≡ pass.opened.storage
+  pub sound : IsBook book
 
--- The first owners' disks were put back as their passes show them, and stand for these passes' records; the others are as they were.
-pub record ArePutBack (n : ℕ) (passes : List Pass) (old new : Shelf) : Type 0 where
-  pub each : (o : ℕ) → o < n → new o ≡ Some (shown_by (pass_at passes o))
-  pub kept : (o : ℕ) → o < n → IsStored (pass_at passes o)
+-- The first owners' disks were put back as these books show them, which their passes gave; the others are as they were.
+pub record ArePutBack (n : ℕ) (passes : List Pass) (books : ℕ → Account) (old new : Shelf) : Type 0 where
+  pub each : (o : ℕ) → o < n → new o ≡ Some (shown_by (books o))
+  pub gave : (o : ℕ) → o < n → GaveBook (pass_at passes o) (books o)
   pub others : (o : ℕ) → n ≤ o → new o ≡ old o

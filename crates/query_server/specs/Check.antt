@@ -1,25 +1,30 @@
 -- `check`: a program is checked.
-use Rattle.std.specs.Prelude.{◌≡◌, ℕ, List, ◌++◌, codes}
+use Rattle.std.specs.Prelude.{◌≡◌, ◌⊎◌, Bool, true, false, ℕ, List, ◌++◌, Some, codes}
 use Rattle.fz_ast.specs.Signature.{Signature}
 use Rattle.fz_frac.specs.Distance.{Distance}
 use Rattle.wire_lines.specs.Refusal.{by_program}
 use Rattle.wire_lines.specs.Reply.{refused as refused_reply, sensitivity_text, reply_text}
 use Rattle.answer_path.specs.Reading.{Reading, IsReading}
 use Rattle.answer_path.specs.Judgement.{Judgement, refused_for, accepted, judgement_of}
+use Rattle.outside_bays.specs.Bays.{Same}
 use Rattle.catalog_loading.specs.Steps.{FileStep, ◌>>=◌, done, file_read, from}
 use Rattle.catalog_loading.specs.Loaded.{catalog_read, entry_named, owner_loaded}
-use Rattle.query_server.specs.Ending.{Ending, to_check}
+use Rattle.query_server.specs.Work.{Work, to_check}
+use Rattle.query_server.specs.Duty.{Duty, Kind}
 use Rattle.query_server.specs.declared.end.Status.{Status}
 use Rattle.query_server.specs.declared.end.Status.TheVariants.{Done, ProgramRefused}
 
 -- CATALOG, then OWNER in it, then the tables of all owners, then FILE
-abbrev pub check_steps : (catalog owner file : List ℕ) → FileStep Ending
+abbrev pub check_steps : (catalog owner file : List ℕ) → FileStep Work
 check_steps catalog owner file = do
   house ← catalog_read catalog
   entry ← from (entry_named house owner)
   holding ← owner_loaded house owner
   program ← file_read file
   done (to_check holding.tables program)
+
+abbrev pub check_kind : (catalog owner file : List ℕ) → Kind
+check_kind catalog owner file = record { steps = check_steps catalog owner file; source = false; disks = false; program = true }
 
 -- the line of an accepted program with this sensitivity
 abbrev pub accepted_text : Distance → List ℕ
@@ -41,3 +46,12 @@ pub record IsProgramDue (tables : Signature) (program : List ℕ) (status : Stat
   pub reads : IsReading program reading
   pub is_status : status ≡ status_by (judgement_of tables reading)
   pub is_text : text ≡ text_by (judgement_of tables reading)
+
+abbrev pub check_duty : (tables : Signature) (program : List ℕ) → Duty
+check_duty tables program = record {
+  due = λ old new script. IsProgramDue tables program;
+  may_stop = Same;
+  names_disk = λ old new text. ⊥;
+  statuses = λ status. (status ≡ Done) ⊎ (status ≡ ProgramRefused);
+  judges = Some (tables, program);
+}

@@ -1,75 +1,89 @@
 -- What is due, and what is written.
-use Rattle.std.specs.Prelude.{◌≡◌, ◌⊎◌, ℕ, ◌<◌, ◌≤◌, List, ◌++◌, Option, Some, None, IfSome, ⊤}
+use Rattle.std.specs.Prelude.{◌≡◌, ◌⊎◌, ℕ, List, ◌++◌, Option, Some, None, IfSome, IsSome, IsTrue}
+use Rattle.std.specs.Io.KnownBytes.{append_known}
+use Rattle.fz_outside.specs.Faults.{HasRisen}
 use Rattle.fz_ast.specs.Signature.{Signature}
 use Rattle.command_words.specs.Command.{Command, init, run, audit, check, gap, command_of}
-use Rattle.query_server.specs.Ending.{Ending, ended, usage, refused, to_answer, to_make, to_count, to_check, to_compare}
 use Rattle.catalog_loading.specs.Files.{Contents, ReadsToCome, AreTold}
-use Rattle.catalog_loading.specs.Steps.{FileStep, done}
-use Rattle.outside_bays.specs.Bays.{Same}
-use Rattle.query_server.specs.Shelves.{Shelf, Became, IsOnlySynced}
-use Rattle.catalog_loading.specs.Loaded.{owners_in}
-use Rattle.query_server.specs.Opened.{IsDiskNamed}
-use Rattle.query_server.specs.Run.{run_steps, IsScriptDue}
-use Rattle.query_server.specs.Make.{make_steps, IsMakingDue, IsMakingNamed, MayBeMadeInPart}
-use Rattle.query_server.specs.Count.{count_steps, IsCountDue}
-use Rattle.query_server.specs.Check.{check_steps, IsProgramDue}
-use Rattle.query_server.specs.Gap.{gap_steps, IsGapDue}
+use Rattle.catalog_loading.specs.Steps.{FileStep}
+use Rattle.query_server.specs.Work.{Work, ended, usage, refused, to_answer, to_make, to_count, to_check, to_compare}
+use Rattle.query_server.specs.Duty.{Duty, Kind, line_duty, no_kind}
+use Rattle.query_server.specs.Shelves.{Shelf}
+use Rattle.query_server.specs.Outside.{Outside}
+use Rattle.query_server.specs.Init.{init_duty, init_kind}
+use Rattle.query_server.specs.Run.{run_duty, run_kind}
+use Rattle.query_server.specs.Audit.{audit_duty, audit_kind}
+use Rattle.query_server.specs.Check.{check_duty, check_kind}
+use Rattle.query_server.specs.Gap.{gap_duty, gap_kind}
 use Rattle.query_server.specs.Status.{usage_text, refused_text, memory_text}
 use Rattle.query_server.specs.declared.end.Status.{Status}
 use Rattle.query_server.specs.declared.end.Status.TheVariants.{Usage, Refused, Fault, DiskFault, NoMemory}
 
--- The steps of a command: the words decide first.
-abbrev pub command_steps : Option Command → FileStep Ending
-command_steps None = done usage
-command_steps (Some (run catalog key workers)) = run_steps catalog key
-command_steps (Some (init catalog key)) = make_steps catalog key
-command_steps (Some (audit catalog key)) = count_steps catalog key
-command_steps (Some (check catalog owner file)) = check_steps catalog owner file
-command_steps (Some (gap catalog owner second_catalog file)) = gap_steps catalog owner second_catalog file
+-- The commands.
+abbrev pub kind_of : Option Command → Kind
+kind_of None = no_kind
+kind_of (Some (init catalog key)) = init_kind catalog key
+kind_of (Some (run catalog key workers)) = run_kind catalog key workers
+kind_of (Some (audit catalog key)) = audit_kind catalog key
+kind_of (Some (check catalog owner file)) = check_kind catalog owner file
+kind_of (Some (gap catalog owner second_catalog file)) = gap_kind catalog owner second_catalog file
+
+-- The work that they come to.
+abbrev pub duty_of : Work → Duty
+duty_of usage = line_duty Usage usage_text
+duty_of (refused name) = line_duty Refused (refused_text name)
+duty_of (to_make loading key) = init_duty loading key
+duty_of (to_answer workers loading key) = run_duty loading key workers
+duty_of (to_count loading key) = audit_duty loading key
+duty_of (to_check tables program) = check_duty tables program
+duty_of (to_compare tables X Y program) = gap_duty tables X Y program
+
+-- the steps of a command: the words decide first
+abbrev pub command_steps : Option Command → FileStep Work
+command_steps command = (kind_of command).steps
+
+-- a command that takes the source's bytes, as a `run` does; one that takes the owners' disks; and one that reads a program
+abbrev pub IsOfRun : Option Command → Type 0
+IsOfRun command = IsTrue (kind_of command).source
+
+abbrev pub IsOfDisks : Option Command → Type 0
+IsOfDisks command = IsTrue (kind_of command).disks
+
+abbrev pub IsOfProgram : Option Command → Type 0
+IsOfProgram command = IsTrue (kind_of command).program
 
 -- What words come to over what files hold when they are read.
-unfoldable pub ending_of : (words : List (List ℕ)) → ReadsToCome → Ending
-ending_of words reads = ended (command_steps (command_of words) reads).given
+unfoldable pub work_of : (words : List (List ℕ)) → ReadsToCome → Work
+work_of words reads = ended (command_steps (command_of words) reads).given
 
 -- the files that are read for it, in order: those that the words name, and those that the catalogs of these name
 unfoldable pub files_of : (words : List (List ℕ)) → ReadsToCome → List (List ℕ)
 files_of words reads = (command_steps (command_of words) reads).names
 
 -- Where nothing fails and memory suffices, this status and this text may be due, and this may become of the owners' disks.
-abbrev pub IsDue : Ending → (old new : Shelf) → (script : List ℕ) → (status : Status) → (text : List ℕ) → Type 0
-IsDue usage old new script status text = (status ≡ Usage) × (text ≡ usage_text) × Same old new
-IsDue (refused name) old new script status text = (status ≡ Refused) × (text ≡ refused_text name) × Same old new
-IsDue (to_answer loading key) old new script status text = IsScriptDue loading key old new script status text
-IsDue (to_make loading key) old new script status text = IsMakingDue loading key old new status text
-IsDue (to_count loading key) old new script status text = IsCountDue loading key old new status text
-IsDue (to_check tables program) old new script status text = IsProgramDue tables program status text
-IsDue (to_compare tables X Y program) old new script status text = IsGapDue tables X Y program status text
+abbrev pub IsDue : Work → (old new : Shelf) → (script : List ℕ) → (status : Status) → (text : List ℕ) → Type 0
+IsDue work = (duty_of work).due
 
 -- What may become of the owners' disks where a failure or want of memory ends the work: nothing is written to any, but that an
 -- `init` may have made the first owners' journals, and that the next one's disk may have failed.
-abbrev pub MayStop : Ending → (old new : Shelf) → Type 0
-MayStop usage old new = Same old new
-MayStop (refused name) old new = Same old new
-MayStop (to_answer loading key) old new = Became (owners_in loading) (λ _. IsOnlySynced) old new
-MayStop (to_make loading key) old new = MayBeMadeInPart loading key old new
-MayStop (to_count loading key) old new = Became (owners_in loading) (λ _. IsOnlySynced) old new
-MayStop (to_check tables program) old new = Same old new
-MayStop (to_compare tables X Y program) old new = Same old new
+abbrev pub MayStop : Work → (old new : Shelf) → Type 0
+MayStop work = (duty_of work).may_stop
 
 -- this line names the owner whose disk failed as its journal was to be opened or made
-abbrev pub IsDiskLine : Ending → (old new : Shelf) → (text : List ℕ) → Type 0
-IsDiskLine (to_answer loading key) old new text = IsDiskNamed loading key old new text
-IsDiskLine (to_make loading key) old new text = IsMakingNamed loading key old new text
-IsDiskLine (to_count loading key) old new text = IsDiskNamed loading key old new text
-IsDiskLine ending old new text = ⊥
+abbrev pub IsDiskLine : Work → (old new : Shelf) → (text : List ℕ) → Type 0
+IsDiskLine work = (duty_of work).names_disk
+
+-- this program is to be checked or compared over these tables
+abbrev pub IsForProgram : (tables : Signature) → (program : List ℕ) → Work → Type 0
+IsForProgram tables program work = (duty_of work).judges ≡ Some (tables, program)
 
 -- Memory ran out, or a disk failed: the line of that.
-abbrev pub IsStopLine : Ending → (old new : Shelf) → (status : Status) → (text : List ℕ) → Type 0
-IsStopLine ending old new status text = ((status ≡ NoMemory) × (text ≡ memory_text)) ⊎ ((status ≡ DiskFault) × IsDiskLine ending old new text)
+abbrev pub IsStopLine : Work → (old new : Shelf) → (status : Status) → (text : List ℕ) → Type 0
+IsStopLine work old new status text = ((status ≡ NoMemory) × (text ≡ memory_text)) ⊎ ((status ≡ DiskFault) × IsDiskLine work old new text)
 
 -- What is to be written with a status: what is due, or what ended the work before.
-abbrev pub IsToWrite : Ending → (old new : Shelf) → (script : List ℕ) → (status : Status) → (text : List ℕ) → Type 0
-IsToWrite ending old new script status text = IsDue ending old new script status text ⊎ (IsStopLine ending old new status text × MayStop ending old new)
+abbrev pub IsToWrite : Work → (old new : Shelf) → (script : List ℕ) → (status : Status) → (text : List ℕ) → Type 0
+IsToWrite work old new script status text = IsDue work old new script status text ⊎ (IsStopLine work old new status text × MayStop work old new)
 
 -- something failed, or memory ran out, or else this holds
 abbrev pub IfFinished : Status → Type 0 → Type 0
@@ -80,10 +94,10 @@ abbrev pub IsBeginning : (prefix text : List ℕ) → Type 0
 IsBeginning prefix text = (rest : List ℕ) × (text ≡ prefix ++ rest)
 
 -- What is written with the status; where files, source or sink failed, a prefix of what was to be written.
-abbrev pub IsWrittenAt : Ending → (old new : Shelf) → (script : List ℕ) → (status : Status) → (text : List ℕ) → Type 0
-IsWrittenAt ending old new script status text =
-    IsToWrite ending old new script status text
-    ⊎ ((status ≡ Fault) × ((whole : Status) × (due : List ℕ) × IsToWrite ending old new script whole due × IsBeginning text due))
+abbrev pub IsWrittenAt : Work → (old new : Shelf) → (script : List ℕ) → (status : Status) → (text : List ℕ) → Type 0
+IsWrittenAt work old new script status text =
+    IsToWrite work old new script status text
+    ⊎ ((status ≡ Fault) × ((whole : Status) × (due : List ℕ) × IsToWrite work old new script whole due × IsBeginning text due))
 
 -- What is written at faulty words: the line `usage` with its status, or where memory ran out the line `memory`; where the sink
 -- failed, a prefix of either.
@@ -109,25 +123,17 @@ IsLeft left script = IfSome left (λ told. script ≡ told)
 abbrev pub ForContents : (held : Option Contents) → (left : Option (List ℕ)) → (Comes : ReadsToCome → (script : List ℕ) → Type 0) → Type 0
 ForContents held left Comes = (reads : ReadsToCome) × (script : List ℕ) × AreTold held reads × IsLeft left script × Comes reads script
 
-abbrev pub IsOfRun : Option Command → Type 0
-IsOfRun (Some (run catalog key workers)) = ⊤
-IsOfRun command = ⊥
+-- What the top call says of what it writes and reads: its clause `line`, of this text.
+abbrev pub IsLine : (words : List (List ℕ)) → (before after : Outside) → (status : Status) → (text : List ℕ) → Type 0
+IsLine words before after status text =
+    (after.sink.contents ≡ append_known before.sink.contents text)
+    × ForContents before.files.held before.source.left
+    (λ reads script. IsWrittenAt (work_of words reads) before.bay.shelf after.bay.shelf script status text
+    × AreRead status (files_of words reads) before.files.names after.files.names)
 
--- a command that takes the owners' disks
-abbrev pub IsOfDisks : Option Command → Type 0
-IsOfDisks (Some (run catalog key workers)) = ⊤
-IsOfDisks (Some (init catalog key)) = ⊤
-IsOfDisks (Some (audit catalog key)) = ⊤
-IsOfDisks command = ⊥
-
--- a command that reads a program
-abbrev pub IsOfProgram : Option Command → Type 0
-IsOfProgram (Some (check catalog owner file)) = ⊤
-IsOfProgram (Some (gap catalog owner second_catalog file)) = ⊤
-IsOfProgram command = ⊥
-
--- this program is to be checked or compared over these tables
-abbrev pub IsForProgram : (tables : Signature) → (program : List ℕ) → Ending → Type 0
-IsForProgram tables program (to_check over other) = (over ≡ tables) × (other ≡ program)
-IsForProgram tables program (to_compare over X Y other) = (over ≡ tables) × (other ≡ program)
-IsForProgram tables program ending = ⊥
+-- What failed where the status is Fault: files, at words that are a command; the source, in a run; or the sink.
+abbrev pub SomeFailed : Option Command → (before after : Outside) → Type 0
+SomeFailed command before after =
+    (IsSome command × HasRisen before.files.faults after.files.faults)
+    ⊎ (IsOfRun command × HasRisen before.source.faults after.source.faults)
+    ⊎ HasRisen before.sink.faults after.sink.faults

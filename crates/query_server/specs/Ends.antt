@@ -6,12 +6,12 @@ use Rattle.metric_values.specs.Tables.{Dataset}
 use Rattle.query_server.specs.Check.{IsProgramDue}
 use Rattle.query_server.specs.Gap.{IsGapDue}
 use Rattle.catalog_loading.specs.Files.{ReadsToCome}
-use Rattle.answer_path.specs.Pass.{Pass}
-use Rattle.session_core.specs.Code.{AreAlone, HasServed}
-use Rattle.session_core.specs.House.{House}
+use Rattle.owner_desk.specs.Passes.{Pass}
+use Rattle.session_core.specs.Code.{HasServed}
+use Rattle.owner_house.specs.House.{House}
 use Rattle.query_server.specs.Run.{script_limit}
 use Rattle.catalog_loading.specs.Steps.{FileStep}
-use Rattle.query_server.specs.Ending.{Ending, ended}
+use Rattle.query_server.specs.Work.{Work, ended}
 use Rattle.query_server.specs.Status.{usage_text, refused_text, memory_text, too_long_text}
 use Rattle.query_server.specs.Due.{AreRead, IsDiskLine, IsDue, IsBeginning, MayStop}
 use Rattle.query_server.specs.Shelves.{Shelf}
@@ -21,8 +21,8 @@ use Rattle.catalog_loading.specs.declared.stops.Stop.{Stop}
 use Rattle.catalog_loading.specs.declared.stops.Stop.TheVariants.{Usage, Refused, Journal, Disk, Fault, NoMemory}
 use Rattle.query_server.specs.declared.end.End.{End}
 use Rattle.query_server.specs.declared.end.End.TheVariants.{Stopped, Run, Listed, Check, Gap}
-use Rattle.query_server.specs.declared.running.RunEnd.{RunEnd}
-use Rattle.query_server.specs.declared.running.RunEnd.TheVariants.{Answered, TooLong}
+use Rattle.query_server.specs.declared.run.RunEnd.{RunEnd}
+use Rattle.query_server.specs.declared.run.RunEnd.TheVariants.{Answered, TooLong}
 use Rattle.query_server.specs.declared.programs.ProgramEnd.{ProgramEnd}
 use Rattle.query_server.specs.declared.programs.ProgramEnd.TheVariants.{Accepted, Refused as Unaccepted}
 
@@ -79,7 +79,7 @@ end_by end_of (Ok end) = end_of end
 end_by end_of (Err stop) = Stopped stop
 
 -- The work was ended before: files, source or an owner's disk failed, or memory ran out.
-abbrev pub IsCut : Ending → (old new : Shelf) → End → Type 0
+abbrev pub IsCut : Work → (old new : Shelf) → End → Type 0
 IsCut ending old new end =
     (end ≡ Stopped Fault) ⊎ (end ≡ Stopped NoMemory) ⊎ ((line : Vec ℕ Global) × (end ≡ Stopped (Disk line)) × IsDiskLine ending old new line.items)
 
@@ -87,7 +87,7 @@ abbrev pub IsFailing : Stop → Type 0
 IsFailing stop = (stop ≡ Fault) ⊎ (stop ≡ NoMemory)
 
 -- The end is due, or the work was ended before.
-abbrev pub IsEndOf : Ending → (old new : Shelf) → (script : List ℕ) → End → Type 0
+abbrev pub IsEndOf : Work → (old new : Shelf) → (script : List ℕ) → End → Type 0
 IsEndOf ending old new script end =
     IsDue ending old new script (status_at end) (text_at end) ⊎ (IsCut ending old new end × MayStop ending old new)
 
@@ -100,15 +100,14 @@ abbrev pub IsGapOn : (tables : Signature) → (X Y : Dataset) → (program : Lis
 IsGapOn tables X Y program end = IsGapDue tables X Y program (program_status end) (program_text end)
 
 -- A command that reads by these steps ends so, where files and source held this.
-abbrev pub IsStepEnd : (old new : List (List ℕ)) → (before after : Shelf) → FileStep Ending → End → ReadsToCome → (script : List ℕ) → Type 0
+abbrev pub IsStepEnd : (old new : List (List ℕ)) → (before after : Shelf) → FileStep Work → End → ReadsToCome → (script : List ℕ) → Type 0
 IsStepEnd old new before after steps end reads script =
     IsEndOf (ended (steps reads).given) before after script end × AreRead (status_at end) (steps reads).names old new
 
--- How a script ends that was to be answered over these passes: its replies, each on the records so far of the owner that it asks;
--- or the passes are as they were.
+-- How a script ends that was to be answered over these passes: its replies; or the passes are as they were.
 abbrev pub IsAnsweredOn : House → (draws : ℕ → ℕ → ℕ → ℕ) → (script : List ℕ) → (old new : List Pass) → Result RunEnd Stop → Type 0
 IsAnsweredOn house draws script old new (Ok (Answered replies)) =
-    (length script ≤ script_limit) × ((h : HasServed house draws script replies.items old new) × AreAlone house draws h.exchanges old new)
+    (length script ≤ script_limit) × HasServed house draws script replies.items old new
 IsAnsweredOn house draws script old new (Ok TooLong) = (script_limit < length script) × (new ≡ old)
 IsAnsweredOn house draws script old new (Err stop) = IsFailing stop × (new ≡ old)
 

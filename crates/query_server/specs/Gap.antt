@@ -1,5 +1,5 @@
 -- `gap`: a program's values on two datasets are compared.
-use Rattle.std.specs.Prelude.{◌≡◌, ℕ, ℤ, List, ◌++◌, codes, decimal}
+use Rattle.std.specs.Prelude.{◌≡◌, ◌⊎◌, Bool, true, false, ℕ, ℤ, List, ◌++◌, Some, codes, decimal}
 use Rattle.std.specs.Fmt.{signed_decimal}
 use Rattle.fz_ast.specs.Signature.{Signature, IsSignature}
 use Rattle.fz_frac.specs.Distance.{Distance, Fin, mul, ◌⊑◌}
@@ -10,16 +10,18 @@ use Rattle.wire_lines.specs.Reply.{refused as refused_reply, sensitivity_text, r
 use Rattle.answer_path.specs.Reading.{Reading, IsReading}
 use Rattle.answer_path.specs.Judgement.{Judgement, HasValue, refused_for, accepted, judgement_of}
 use Rattle.owner_catalog.specs.Entries.{Catalog, OwnerEntry}
+use Rattle.outside_bays.specs.Bays.{Same}
 use Rattle.catalog_loading.specs.Steps.{FileStep, ◌>>=◌, done, file_read, from}
 use Rattle.catalog_loading.specs.Loaded.{catalog_read, entry_named, owner_loaded}
 use Rattle.catalog_loading.specs.Fit.{fitting}
-use Rattle.query_server.specs.Ending.{Ending, to_compare}
+use Rattle.query_server.specs.Work.{Work, to_compare}
+use Rattle.query_server.specs.Duty.{Duty, Kind}
 use Rattle.query_server.specs.declared.end.Status.{Status}
 use Rattle.query_server.specs.declared.end.Status.TheVariants.{Done, ProgramRefused}
 
 -- CATALOG, then OWNER in it, then CATALOG2, then OWNER in it with the same tables, then the tables of all owners of CATALOG, then
 -- those of CATALOG2, then FILE
-abbrev pub gap_steps : (catalog owner second_catalog file : List ℕ) → FileStep Ending
+abbrev pub gap_steps : (catalog owner second_catalog file : List ℕ) → FileStep Work
 gap_steps catalog owner second_catalog file = do
   house ← catalog_read catalog
   entry ← from (entry_named house owner)
@@ -30,8 +32,11 @@ gap_steps catalog owner second_catalog file = do
   program ← file_read file
   done (to_compare holding.tables holding.rows second_holding.rows program)
 
+abbrev pub gap_kind : (catalog owner second_catalog file : List ℕ) → Kind
+gap_kind catalog owner second_catalog file = record { steps = gap_steps catalog owner second_catalog file; source = false; disks = false; program = true }
+
 -- the work that is left where the owner is found in both catalogs
-abbrev pub loading_steps : (house second_house : Catalog) → (owner file : List ℕ) → FileStep Ending
+abbrev pub loading_steps : (house second_house : Catalog) → (owner file : List ℕ) → FileStep Work
 loading_steps house second_house owner file = do
   holding ← owner_loaded house owner
   second_holding ← owner_loaded second_house owner
@@ -39,7 +44,7 @@ loading_steps house second_house owner file = do
   done (to_compare holding.tables holding.rows second_holding.rows program)
 
 -- and where it is found in the first one
-abbrev pub second_steps : (house : Catalog) → OwnerEntry → (owner second_catalog file : List ℕ) → FileStep Ending
+abbrev pub second_steps : (house : Catalog) → OwnerEntry → (owner second_catalog file : List ℕ) → FileStep Work
 second_steps house entry owner second_catalog file = do
   second_house ← catalog_read second_catalog
   second_entry ← from (fitting entry second_house owner)
@@ -67,6 +72,15 @@ pub record IsGapDue (tables : Signature) (X Y : Dataset) (program : List ℕ) (s
   pub reading : Reading
   pub reads : IsReading program reading
   pub due : IsGapBy (judgement_of tables reading) tables X Y program status text
+
+abbrev pub gap_duty : (tables : Signature) (X Y : Dataset) (program : List ℕ) → Duty
+gap_duty tables X Y program = record {
+  due = λ old new script. IsGapDue tables X Y program;
+  may_stop = Same;
+  names_disk = λ old new text. ⊥;
+  statuses = λ status. (status ≡ Done) ⊎ (status ≡ ProgramRefused);
+  judges = Some (tables, program);
+}
 
 -- The values of an accepted program differ by at most its sensitivity times how far the datasets are apart.
 abbrev pub GapsAreBounded : Type 0

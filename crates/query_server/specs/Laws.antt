@@ -1,34 +1,122 @@
 -- What is proved of the definitions.
-use Rattle.std.specs.Prelude.{◌≡◌, ℕ, ◌<◌, List, slice_get, Some}
+use Rattle.std.specs.Prelude.{◌≡◌, ◌⊎◌, ℕ, ◌<◌, List, [], ◌++◌, map, slice_get, None, Some}
+use Rattle.word_streams.specs.Draws.{draws_of}
 use Rattle.fz_outside.specs.Faults.{HasRisen}
 use Rattle.fz_ast.specs.Signature.{Signature, IsSignature}
 use Rattle.metric_values.specs.Tables.{Dataset, IsDataset}
 use Rattle.outside_disks.specs.Disks.{Shown}
-use Rattle.wire_lines.specs.Reply.{refused}
+use Rattle.wire_lines.specs.Reply.{refused as refused_reply}
 use Rattle.wire_lines.specs.Refusal.{by_disk}
 use Rattle.wire_lines.specs.declared.refusal.DiskRefusal.{DiskRefusal}
-use Rattle.answer_path.specs.Owner.{Owner}
+use Rattle.wire_lines.specs.declared.refusal.DiskRefusal.TheVariants.{Fault as DiskFault}
+use Rattle.owner_house.specs.Owner.{Owner}
 use Rattle.answer_path.specs.Query.{Query}
-use Rattle.session_core.specs.House.{house_of}
-use Rattle.session_core.specs.Meant.{asks, wants}
+use Rattle.answer_path.specs.Reading.{Reading, IsReading}
+use Rattle.answer_path.specs.Judgement.{judgement_of}
+use Rattle.owner_house.specs.House.{house_of}
+use Rattle.answer_path.specs.Demand.{asks}
+use Rattle.answer_path.specs.Shut.{IsPendingOf}
+use Rattle.budget_ledger.specs.declared.failure.Failure.{Failure}
+use Rattle.session_core.specs.Meant.{wants}
 use Rattle.session_core.specs.Turns.{meant_at}
 use Rattle.session_core.specs.Exchanges.{Exchange}
-use Rattle.session_core.specs.Transcript.{Journals}
-use Rattle.catalog_loading.specs.Files.{ReadsToCome}
-use Rattle.catalog_loading.specs.Loaded.{Loading, owners_in}
-use Rattle.query_server.specs.Ending.{to_compare}
-use Rattle.query_server.specs.Shelves.{Shelf}
-use Rattle.query_server.specs.Run.{IsScriptAnswered}
-use Rattle.query_server.specs.Due.{ending_of}
+use Rattle.session_core.specs.Transcript.{IsScriptRun, Journals}
+use Rattle.command_words.specs.Command.{command_of}
+use Rattle.catalog_loading.specs.Files.{Contents, ReadsToCome, always}
+use Rattle.catalog_loading.specs.Loaded.{IsLoading, Loading, owners_in}
+use Rattle.query_server.specs.Work.{refused, to_answer, to_check, to_compare}
+use Rattle.query_server.specs.Shelves.{EachDisk, IsOnlySynced, Shelf}
+use Rattle.query_server.specs.Outside.{Outside, Stays}
+use Rattle.query_server.specs.Run.{IsScriptAnswered, crew_size}
+use Rattle.query_server.specs.Check.{status_by}
+use Rattle.query_server.specs.Status.{refused_text}
+use Rattle.query_server.specs.Due.{IsOfDisks, IsOfProgram, IsOfRun, SomeFailed, files_of, work_of}
+use Rattle.query_server.specs.Due.{AreRead, IfFinished, IsBeginning, IsDue, IsFaultyWordsEnd, IsForProgram, IsLine, IsWrittenAt}
+use Rattle.query_server.specs.Promise.{IsAnsweredScript, IsRunLeft}
+use Rattle.query_server.specs.declared.end.Status.{Status}
+use Rattle.query_server.specs.declared.end.Status.TheVariants.{Done, Fault, JournalRefused, ProgramRefused, Refused, ScriptTooLong, Usage}
+
+-- What follows from the clauses of the top call. Where files, source and sink tell what they hold, its clause `line` is exact: what
+-- is written is due, and the names that were read are those that are due, in order.
+abbrev pub LinesAreExact : Type 0
+LinesAreExact = (words : List (List ℕ)) (before after : Outside) (status : Status) (text : List ℕ) → IsLine words before after status text
+    → (held : Contents) → before.files.held ≡ Some held
+    → AreRead status (files_of words (always held)) before.files.names after.files.names
+    × ((script : List ℕ) → before.source.left ≡ Some script → IsWrittenAt (work_of words (always held)) before.bay.shelf after.bay.shelf script status text)
+    × ((written : List ℕ) → before.sink.contents ≡ Some written → after.sink.contents ≡ Some (written ++ text))
+
+-- Usage and Refused, and the name that is refused, are as the words and the files give them, whatever the source tells.
+abbrev pub RefusalsAreExact : Type 0
+RefusalsAreExact = (words : List (List ℕ)) (before after : Outside) (status : Status) (text : List ℕ) → IsLine words before after status text
+    → (held : Contents) → before.files.held ≡ Some held
+    → IfFinished status ((script : List ℕ) × IsDue (work_of words (always held)) before.bay.shelf after.bay.shelf script status text)
+    × (status ≡ Refused → (name : List ℕ) × (work_of words (always held) ≡ refused name) × (text ≡ refused_text name))
+
+-- So is what is written for a program that is checked or compared,
+abbrev pub ProgramsAreExact : Type 0
+ProgramsAreExact = (words : List (List ℕ)) (before after : Outside) (status : Status) (text : List ℕ) → IsLine words before after status text
+    → (held : Contents) (tables : Signature) (program : List ℕ) → before.files.held ≡ Some held
+    → (work_of words (always held) ≡ to_check tables program → IsWrittenAt (to_check tables program) before.bay.shelf after.bay.shelf [] status text)
+    × ((X Y : Dataset) → work_of words (always held) ≡ to_compare tables X Y program
+    → IsWrittenAt (to_compare tables X Y program) before.bay.shelf after.bay.shelf [] status text)
+
+-- and the verdict: status 1 comes exactly where the program is refused, by its reading, and 0 where it is accepted.
+abbrev pub VerdictsAreExact : Type 0
+VerdictsAreExact = (words : List (List ℕ)) (before after : Outside) (status : Status) (text : List ℕ) → IsLine words before after status text
+    → (held : Contents) (tables : Signature) (program : List ℕ) (reading : Reading) → before.files.held ≡ Some held
+    → IsForProgram tables program (work_of words (always held)) → IsReading program reading
+    → IfFinished status (status ≡ status_by (judgement_of tables reading))
+
+-- Usage comes only where the words are no command, status 1 of a check or a gap alone, 8 of a run, and 4 of a command that takes the
+-- owners' disks, whatever files and source tell.
+abbrev pub StatusesAreOfCommands : Type 0
+StatusesAreOfCommands = (words : List (List ℕ)) (before after : Outside) (status : Status) (text : List ℕ) → IsLine words before after status text
+    → (status ≡ Usage → command_of words ≡ None)
+    × (status ≡ ProgramRefused → IsOfProgram (command_of words))
+    × (status ≡ ScriptTooLong → IsOfRun (command_of words))
+    × (status ≡ JournalRefused → IsOfDisks (command_of words))
+
+-- At faulty words the line of Usage is written, unless memory ran out or the sink failed: from `line` and `fault`.
+abbrev pub FaultyWordsAreTold : Type 0
+FaultyWordsAreTold = (words : List (List ℕ)) (before after : Outside) (status : Status) (text : List ℕ) → IsLine words before after status text
+    → (status ≡ Fault → SomeFailed (command_of words) before after) → command_of words ≡ None
+    → IsFaultyWordsEnd status text (HasRisen before.sink.faults after.sink.faults)
+
+-- A run that ends with status Done has answered its script; and one that was to answer a script has done so, or has written to no
+-- owner's disk: from `headline`.
+abbrev pub RunsAreAnswered : Type 0
+RunsAreAnswered = (words : List (List ℕ)) (held : Contents) (old new : Shelf) (script : List ℕ) (status : Status) (written : List ℕ)
+    → (IsOfRun (command_of words) → IsRunLeft words held old new script status written)
+    → (IsOfRun (command_of words) → status ≡ Done → IsAnsweredScript words held old new script written)
+    × ((workers : ℕ) (loading : Loading) (key : List ℕ) → work_of words (always held) ≡ to_answer workers loading key
+    → EachDisk (owners_in loading) (λ _. IsOnlySynced) old new
+    ⊎ ((due : List ℕ) × IsAnsweredScript words held old new script due × IsBeginning written due))
+
+-- What stays through work goes on to stay.
+abbrev pub OutsideStays : Type 0
+OutsideStays = ((before : Outside) → Stays before before)
+    × ((before mid after : Outside) → Stays before mid → Stays mid after → Stays before after)
 
 -- A `gap` compares a program on two datasets of the tables that it may name.
 abbrev pub GapsAreOfDatasets : Type 0
 GapsAreOfDatasets = (words : List (List ℕ)) (reads : ReadsToCome) (tables : Signature) (X Y : Dataset) (program : List ℕ)
-    → ending_of words reads ≡ to_compare tables X Y program → IsSignature tables × IsDataset tables X × IsDataset tables Y
+    → work_of words reads ≡ to_compare tables X Y program → IsSignature tables × IsDataset tables X × IsDataset tables Y
 
--- A query is refused for its owner's disk (42 or 52) only where the count of faults of that disk rose in the run.
+-- With one worker the replies are the script's transcript, each line on the records so far of the owner that it asks, and the records are
+-- those after it.
+abbrev pub OneWorkerTranscribes : Type 0
+OneWorkerTranscribes = (loading : Loading) (key : List ℕ) (workers : ℕ) (old new : Shelf) (found : Journals) (script text : List ℕ)
+    → (answered : IsScriptAnswered loading key workers old new found script text) → crew_size workers ≡ 1
+    → IsScriptRun (house_of loading.register) (draws_of key) found script (map (λ x. x.reply) answered.exchanges) answered.records
+
+-- A query is refused for its owner's disk (42 or 52) only where the count of faults of that disk rose in the run. Of a line that is told
+-- 52 it is its own record that may stand in the journal behind the others.
 abbrev pub DiskRefusalsHaveCauses : Type 0
-DiskRefusalsHaveCauses = (loading : Loading) (key : List ℕ) (old new : Shelf) (found : Journals) (script text : List ℕ) →
-    (answered : IsScriptAnswered loading key old new found script text) (k o : ℕ) (x : Exchange) (owner : Owner) (query : Query) (refusal : DiskRefusal) →
-    o < owners_in loading → slice_get answered.run.exchanges k ≡ Some x → meant_at (house_of loading.register) x.turn ≡ wants o owner (asks query)
-    → x.reply ≡ refused (by_disk refusal) → (before : Shown) → old o ≡ Some before → (after : Shown) × (new o ≡ Some after) × HasRisen before.faults after.faults
+DiskRefusalsHaveCauses = (loading : Loading) (key : List ℕ) (workers : ℕ) (old new : Shelf) (found : Journals) (script text : List ℕ) →
+    (answered : IsScriptAnswered loading key workers old new found script text) → IsLoading loading →
+    (k o : ℕ) (x : Exchange) (owner : Owner) (query : Query) (refusal : DiskRefusal) → o < owners_in loading →
+    slice_get answered.exchanges k ≡ Some x → meant_at (house_of loading.register) x.turn ≡ wants o owner (asks query) →
+    x.reply ≡ refused_reply (by_disk refusal) →
+    ((before : Shown) → old o ≡ Some before → (after : Shown) × (new o ≡ Some after) × HasRisen before.faults after.faults)
+    × (refusal ≡ DiskFault → (failure : Failure) × (answered.closed o ≡ Some failure)
+    × IsPendingOf owner (draws_of key o) query x.told failure.pending)

@@ -1,10 +1,12 @@
 pub mod Status
-pub mod Ending
+pub mod Work
 pub mod Shelves
+pub mod Outside
 pub mod Opened
+pub mod Duty
 pub mod Run
-pub mod Make
-pub mod Count
+pub mod Init
+pub mod Audit
 pub mod Check
 pub mod Gap
 pub mod Due

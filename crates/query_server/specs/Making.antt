@@ -3,7 +3,7 @@ use Rattle.std.specs.Prelude.{◌≡◌, ◌<◌, ◌≤◌, ℕ, List, length, 
 use Rattle.outside_disks.specs.Disks.{Shown, seen_of}
 use Rattle.catalog_loading.specs.Loaded.{Loading, owner_name_at, owners_in}
 use Rattle.query_server.specs.Shelves.{Shelf, bytes_on, IsOnlySynced}
-use Rattle.query_server.specs.Make.{AreMadeBefore, IsMakingNamed, MayBeMadeInPart, MayHaveFailed}
+use Rattle.query_server.specs.Init.{AreMadeBefore, IsMakingNamed, MayBeMadeInPart, MayHaveFailed}
 use Rattle.query_server.specs.Books.{IsDiskStop, IsJournalStop}
 use Rattle.query_server.specs.Status.{journal_text}
 use Rattle.query_server.specs.declared.refusals.JournalRefusal.TheVariants.{Exists}

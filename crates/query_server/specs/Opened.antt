@@ -9,7 +9,7 @@ use Rattle.budget_core.specs.Legal.{IsHistory}
 use Rattle.budget_ledger.specs.Opened.{IsBookFault}
 use Rattle.session_core.specs.Transcript.{Journals}
 use Rattle.catalog_loading.specs.Loaded.{Loading, entry_at, header_of, owner_name_at, owners_in}
-use Rattle.query_server.specs.Shelves.{Shelf, Became, IsOnlySynced, NoOtherRose, bytes_on}
+use Rattle.query_server.specs.Shelves.{Shelf, EachDisk, IsOnlySynced, NoOtherRose, bytes_on}
 use Rattle.query_server.specs.Status.{disk_text, journal_text}
 use Rattle.query_server.specs.declared.end.Status.{Status}
 use Rattle.query_server.specs.declared.end.Status.TheVariants.{JournalRefused}
@@ -52,7 +52,7 @@ pub record IsRefusalDue (loading : Loading) (key : List ℕ) (old new : Shelf) (
   pub at : IsRefusedAt loading key old o refusal
   pub is_status : status ≡ JournalRefused
   pub is_text : text ≡ journal_text (owner_name_at loading o) refusal
-  pub disks : Became (owners_in loading) (λ _. IsOnlySynced) old new
+  pub disks : EachDisk (owners_in loading) (λ _. IsOnlySynced) old new
 
 -- The line names the owner whose disk failed as its journal was to be opened: those of the owners before it are opened, and no
 -- other owner's disk has a count that rose.

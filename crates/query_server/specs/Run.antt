@@ -1,5 +1,5 @@
 -- `run`: a script is answered.
-use Rattle.std.specs.Prelude.{◌≡◌, ◌⊎◌, ℕ, ◌^◌, ◌<◌, ◌≤◌, List, length, Option, None, Some, IfSome}
+use Rattle.std.specs.Prelude.{◌≡◌, ◌⊎◌, Bool, true, false, ℕ, ◌^◌, ◌<◌, ◌≤◌, List, length, map, slice_get, Option, None, Some, IfSome}
 use mathlib.Core.List.{IsPrefix}
 use Rattle.std.specs.List.{flat_map}
 use Rattle.word_streams.specs.Draws.{draws_of}
@@ -12,26 +12,32 @@ use Rattle.budget_core.specs.Entries.{Entry}
 use Rattle.budget_core.specs.Legal.{MayFollow}
 use Rattle.budget_ledger.specs.Account.{IsKeptNow, IsMoment}
 use Rattle.budget_ledger.specs.declared.failure.Failure.{Failure}
-use Rattle.wire_lines.specs.Reply.{Replied, reply_text}
-use Rattle.session_core.specs.House.{house_of}
-use Rattle.session_core.specs.Served.{ClosesOn}
-use Rattle.session_core.specs.Transcript.{Journals, IsScriptRun}
+use Rattle.wire_lines.specs.Reply.{reply_text}
+use Rattle.owner_house.specs.House.{house_of}
+use Rattle.owner_house.specs.Owner.{Owner}
+use Rattle.session_core.specs.Exchanges.{Exchange}
+use Rattle.session_core.specs.Gathered.{AreShut, IsGatheredScript}
+use Rattle.session_core.specs.Transcript.{Journals}
 use Rattle.catalog_loading.specs.Steps.{FileStep}
 use Rattle.catalog_loading.specs.Loaded.{Loading, header_of, with_house, entry_at, owners_in}
-use Rattle.query_server.specs.Ending.{Ending, to_answer}
-use Rattle.query_server.specs.Shelves.{Shelf, Became, IsOnlySynced}
-use Rattle.query_server.specs.Opened.{AreOpened, IsRefusalDue}
+use Rattle.query_server.specs.Work.{Work, to_answer}
+use Rattle.query_server.specs.Duty.{Duty, Kind}
+use Rattle.query_server.specs.Shelves.{Shelf, EachDisk, IsOnlySynced}
+use Rattle.query_server.specs.Opened.{AreOpened, IsDiskNamed, IsRefusalDue}
 use Rattle.query_server.specs.Status.{too_long_text}
 use Rattle.query_server.specs.declared.end.Status.{Status}
-use Rattle.query_server.specs.declared.end.Status.TheVariants.{Done, ScriptTooLong}
+use Rattle.query_server.specs.declared.end.Status.TheVariants.{Done, JournalRefused, ScriptTooLong}
 
 -- the most bytes of a script
 abbrev pub script_limit : ℕ
 script_limit = 2 ^ 24
 
 -- CATALOG, then KEY, then the tables of all owners
-abbrev pub run_steps : (catalog key : List ℕ) → FileStep Ending
-run_steps catalog key = with_house to_answer catalog key
+abbrev pub run_steps : (catalog key : List ℕ) → (workers : ℕ) → FileStep Work
+run_steps catalog key workers = with_house (to_answer workers) catalog key
+
+abbrev pub run_kind : (catalog key : List ℕ) → (workers : ℕ) → Kind
+run_kind catalog key workers = record { steps = run_steps catalog key workers; source = true; disks = true; program = false }
 
 -- An owner's disk through a run. Each file that a stop may have left since its journal was opened, which synced the disk, stands
 -- for the first of these records, among them those found; where an append failed, it may have that one's record too. What a stop
@@ -46,27 +52,44 @@ pub record WentOn (entry : Entry) (header : Header) (found records : List Record
   pub failed : (failure : Failure) → closed ≡ Some failure → HasRisen before.faults after.faults × (failure.failed_at ≡ after.faults)
   pub follows : (failure : Failure) → closed ≡ Some failure → MayFollow entry records failure.pending
 
--- A script was answered, each line on the records so far of the owner that it asks, where these records were found. Its replies
--- are the text; an owner's disk has its records and, by its replies, failed or didn't.
-pub record IsScriptAnswered (loading : Loading) (key : List ℕ) (old new : Shelf) (found : Journals) (script text : List ℕ) : Type 0 where
-  pub replies : List Replied
+-- how many workers answer a script, whatever the words say: one, so far
+abbrev pub crew_size : (workers : ℕ) → ℕ
+crew_size workers = 1
+
+-- A script was answered by a crew of workers, each at its own places and in any order, where these records were found. The replies
+-- are the text; an owner's disk has its records and, by the replies, failed or didn't.
+pub record IsScriptAnswered (loading : Loading) (key : List ℕ) (workers : ℕ) (old new : Shelf) (found : Journals) (script text : List ℕ) :
+    Type 0 where
+  pub crew : ℕ → ℕ
+  pub exchanges : List Exchange
   pub records : Journals
-  pub run : IsScriptRun (house_of loading.register) (draws_of key) found script replies records
-  pub written : text ≡ flat_map reply_text replies
+  pub gathered : IsGatheredScript (house_of loading.register) (draws_of key) (crew_size workers) crew found script exchanges records
+  pub written : text ≡ flat_map reply_text (map (λ x. x.reply) exchanges)
   -- what became of each owner's book: an append to its journal failed, or none did
   pub closed : ℕ → Option Failure
-  pub closes : (o : ℕ) → o < owners_in loading → ClosesOn (house_of loading.register) (draws_of key) o None run.exchanges (closed o)
-  pub disks : Became (owners_in loading) (λ o. WentOn (entry_at loading o) (header_of loading key o) (found o) (records o) (closed o)) old new
+  pub shut : (o : ℕ) (owner : Owner) → slice_get (house_of loading.register).owners o ≡ Some owner
+      → AreShut (house_of loading.register) (draws_of key) (crew_size workers) crew o exchanges (closed o)
+  pub disks : EachDisk (owners_in loading) (λ o. WentOn (entry_at loading o) (header_of loading key o) (found o) (records o) (closed o)) old new
 
 -- the script is answered, or has too many bytes, and then no disk was written
-abbrev pub IsAnswerDue : Loading → (key : List ℕ) → (old new : Shelf) → (found : Journals) → (script : List ℕ) → (status : Status) → (text : List ℕ) → Type 0
-IsAnswerDue loading key old new found script status text =
-    ((status ≡ Done) × (length script ≤ script_limit) × IsScriptAnswered loading key old new found script text)
-    ⊎ ((status ≡ ScriptTooLong) × (script_limit < length script) × (text ≡ too_long_text) × Became (owners_in loading) (λ _. IsOnlySynced) old new)
+abbrev pub IsAnswerDue :
+    Loading → (key : List ℕ) → (workers : ℕ) → (old new : Shelf) → (found : Journals) → (script : List ℕ) → (status : Status) → (text : List ℕ) → Type 0
+IsAnswerDue loading key workers old new found script status text =
+    ((status ≡ Done) × (length script ≤ script_limit) × IsScriptAnswered loading key workers old new found script text)
+    ⊎ ((status ≡ ScriptTooLong) × (script_limit < length script) × (text ≡ too_long_text) × EachDisk (owners_in loading) (λ _. IsOnlySynced) old new)
 
 -- What is due to a script, by what the owners' disks hold: the line of the journal that is refused; or where all are opened, the
 -- replies, or that the script has too many bytes.
-abbrev pub IsScriptDue : Loading → (key : List ℕ) → (old new : Shelf) → (script : List ℕ) → (status : Status) → (text : List ℕ) → Type 0
-IsScriptDue loading key old new script status text =
+abbrev pub IsScriptDue : Loading → (key : List ℕ) → (workers : ℕ) → (old new : Shelf) → (script : List ℕ) → (status : Status) → (text : List ℕ) → Type 0
+IsScriptDue loading key workers old new script status text =
     IsRefusalDue loading key old new status text
-    ⊎ ((found : Journals) × AreOpened loading key old found × IsAnswerDue loading key old new found script status text)
+    ⊎ ((found : Journals) × AreOpened loading key old found × IsAnswerDue loading key workers old new found script status text)
+
+abbrev pub run_duty : Loading → (key : List ℕ) → (workers : ℕ) → Duty
+run_duty loading key workers = record {
+  due = IsScriptDue loading key workers;
+  may_stop = EachDisk (owners_in loading) (λ _. IsOnlySynced);
+  names_disk = IsDiskNamed loading key;
+  statuses = λ status. (status ≡ Done) ⊎ ((status ≡ ScriptTooLong) ⊎ (status ≡ JournalRefused));
+  judges = None;
+}

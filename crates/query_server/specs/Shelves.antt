@@ -24,7 +24,7 @@ abbrev pub AreAtHome : (owners : ℕ) → Shelf → Type 0
 AreAtHome owners shelf = (o : ℕ) → o < 16 → (o < owners) × IsSome (shelf o)
 
 -- Each of the first owners' disks that was at home is so again, and went on like this; those of others are as they were.
-pub record Became (owners : ℕ) (Goes : (o : ℕ) → Shown → Shown → Type 0) (old new : Shelf) : Type 0 where
+pub record EachDisk (owners : ℕ) (Goes : (o : ℕ) → Shown → Shown → Type 0) (old new : Shelf) : Type 0 where
   pub owned : (o : ℕ) (before : Shown) → o < owners → old o ≡ Some before → (after : Shown) × (new o ≡ Some after) × Goes o before after
   pub others : (o : ℕ) → owners ≤ o → new o ≡ old o
 

@@ -1,8 +1,9 @@
 -- What is taken of the source.
-use Rattle.std.specs.Prelude.{◌≡◌, ◌⊎◌, ℕ, ◌+◌, ◌≤◌, ◌<◌, List, [], length, Option, Some, None}
+use Rattle.std.specs.Prelude.{◌≡◌, ◌⊎◌, ℕ, ◌+◌, ◌≤◌, ◌<◌, List, [], length, Option, MatchBool}
 use Rattle.std.specs.Io.KnownBytes.{prepend_known, IsAtEnd}
-use Rattle.command_words.specs.Command.{Command, init, run, audit, check, gap}
+use Rattle.command_words.specs.Command.{Command}
 use Rattle.query_server.specs.Run.{script_limit}
+use Rattle.query_server.specs.Due.{kind_of}
 use Rattle.query_server.specs.declared.end.Status.{Status}
 use Rattle.query_server.specs.declared.end.Status.TheVariants.{Done, Refused, JournalRefused, DiskFault, ScriptTooLong}
 
@@ -17,11 +18,6 @@ pub record IsTaken (before after : Option (List ℕ)) (status : Status) : Type 0
   pub too_long : status ≡ ScriptTooLong → script_limit < length taken
   pub done : status ≡ Done → (length taken ≤ script_limit) × IsAtEnd after
 
--- Nothing is taken but by a `run`.
+-- Nothing is taken but by a command that takes the source.
 abbrev pub IsTakenAt : Option Command → (before after : Option (List ℕ)) → (status : Status) → Type 0
-IsTakenAt None before after status = after ≡ before
-IsTakenAt (Some (run catalog key workers)) before after status = IsTaken before after status
-IsTakenAt (Some (init catalog key)) before after status = after ≡ before
-IsTakenAt (Some (audit catalog key)) before after status = after ≡ before
-IsTakenAt (Some (gap catalog owner second_catalog file)) before after status = after ≡ before
-IsTakenAt (Some (check catalog owner file)) before after status = after ≡ before
+IsTakenAt command before after status = MatchBool (kind_of command).source (IsTaken before after status) (after ≡ before)

@@ -1,21 +1,22 @@
 //! The owners' books are opened on their disks, and the disks are put back.
 
-ghost use Rattle.std.specs.Prelude.{◌≡◌, ◌⊎◌, ℕ, Vec, ◌<◌, ◌≤◌, length, Err, None, IfErr, IfOk, IsSome, OnErr, OnOk};
-ghost use Rattle.std.specs.declared.alloc.Global.{Global as Heap};
-ghost use Rattle.fz_outside.specs.Faults.{HasRisen};
-ghost use Rattle.catalog_loading.specs.Loaded.{IsLoading, header_of};
-ghost use Rattle.catalog_loading.specs.Given.{loading_by};
-ghost use Rattle.query_server.specs.Shelves.{AreAtHome, Became, IsOnlySynced, SomeRose};
-ghost use Rattle.catalog_loading.specs.Loaded.{entry_at, owners_in};
-ghost use Rattle.query_server.specs.Books.{ArePassesOn, ArePutBack, IsBookFaultStop, IsBookStop, IsDiskStop, IsJournalStop, IsNewBook, IsOpenStop, LeftDisk, TookDisk};
+ghost use Rattle.std.specs.Prelude.{◌≡◌, ℕ, ◌<◌, ◌≤◌, length, None, IfErr, IfOk, IsSome, OnErr, OnOk};
+ghost use Rattle.budget_ledger.specs.Account.{Account};
+ghost use Rattle.owner_house.specs.House.{house_of};
+ghost use Rattle.session_core.specs.Code.{ArePasses};
+ghost use Rattle.catalog_loading.specs.Loaded.{entry_at, header_of, owners_in};
+ghost use Rattle.query_server.specs.Shelves.{AreAtHome, EachDisk, IsOnlySynced};
+ghost use Rattle.query_server.specs.Outside.{HasDiskCause, KeepsBay};
+ghost use Rattle.query_server.specs.Books.{ArePassesOn, ArePutBack, IsNewBook, LeftDisk, TookDisk};
+ghost use Rattle.query_server.specs.Books.{IsBookFaultStop, IsBookStop, IsDiskStop, IsJournalStop, IsOpenStop};
 
 use crate::refusals::{JournalRefusal, disk_line, journal_line};
-use answer_path::Pass;
 use budget_journal::opening::OpenFault;
 use budget_ledger::book::Book;
 use catalog_loading::{Opened, Stop, headers_of};
 use journal_records::records::Header;
 use outside_bays::bay::Bay;
+use owner_desk::Pass;
 use std::alloc::Global;
 
 /// The bay or an owner's disk has failed.
@@ -65,22 +66,20 @@ pub(crate) fn open_book<B: Bay>(
     header: &Header,
     owner: u32,
 ) -> Result<Book<B::D>, Stop>
-    requires loaded { IsLoading (loading_by opened.now.house opened.now.hashes.items) }
-    requires owner { owner < owners_in (loading_by opened.now.house opened.now.hashes.items) }
-    requires header { header.now ≡ header_of (loading_by opened.now.house opened.now.hashes.items) opened.now.key owner }
+    requires owner { owner < owners_in opened.now.loading }
+    requires header { header.now ≡ header_of opened.now.loading opened.now.key owner }
     requires known { owner < B.owners bay.old }
     requires home { IsSome (B.shelf bay.old owner) }
-    ensures book { IfOk result (IsNewBook (entry_at (loading_by opened.now.house opened.now.hashes.items) owner) header.now (B.shelf bay.old owner)) }
+    ensures book { IfOk result (IsNewBook (entry_at opened.now.loading owner) header.now (B.shelf bay.old owner)) }
     ensures taken { OnOk result (TookDisk owner (B.shelf bay.old) (B.shelf bay.new)) }
     ensures left { OnErr result (LeftDisk owner (B.shelf bay.old) (B.shelf bay.new)) }
-    ensures stop { IfErr result (IsBookStop (loading_by opened.now.house opened.now.hashes.items) opened.now.key (B.shelf bay.old) owner) }
-    ensures owners { B.owners bay.new ≡ B.owners bay.old }
-    ensures faults { B.faults bay.old ≤ B.faults bay.new }
-    ensures cause { (line : Vec ℕ Heap) → result ≡ Err (Stop.Disk line) →
-        HasRisen (B.faults bay.old) (B.faults bay.new) ⊎ SomeRose (B.shelf bay.old) (B.shelf bay.new) }
+    ensures stop { IfErr result (IsBookStop opened.now.loading opened.now.key (B.shelf bay.old) owner) }
+    ensures bay { KeepsBay B.shelf B.owners B.faults bay.old bay.new }
+    ensures cause { HasDiskCause B.shelf B.owners B.faults bay.old bay.new result }
 {
-    let entry = opened.house.entry(alloc, owner)?;
-    let name = opened.house.catalog().owner_name(owner);
+    let house = opened.house();
+    let entry = house.entry(alloc, owner)?;
+    let name = opened.catalog().owner_name(owner);
     let Ok(disk) = bay.take(owner) else {
         return Err(disk_stop(alloc, name));
     };
@@ -99,14 +98,14 @@ pub fn put_back<B: Bay>(bay: &mut B, passes: Vec<Pass<B::D>>)
     requires few { length passes.items ≤ 16 }
     requires known { length passes.items ≤ B.owners bay.old }
     requires taken { (o : ℕ) → o < length passes.items → B.shelf bay.old o ≡ None }
-    ensures back { ArePutBack (length passes.items) passes.items (B.shelf bay.old) (B.shelf bay.new) }
+    ensures back { (books : ℕ → Account) × ArePutBack (length passes.items) passes.items books (B.shelf bay.old) (B.shelf bay.new) }
     ensures owners { B.owners bay.new ≡ B.owners bay.old }
     ensures faults { B.faults bay.new ≡ B.faults bay.old }
 {
     let mut rest = passes;
     while let Some(pass) = rest.pop() {
         let owner = rest.len() as u32;
-        bay.put_back(owner, pass.into_book().into_disk());
+        bay.put_back(owner, pass.close().into_disk());
     }
 }
 
@@ -116,16 +115,14 @@ pub fn open_passes<B: Bay>(
     bay: &mut B,
     opened: &Opened,
 ) -> Result<Vec<Pass<B::D>>, Stop>
-    requires loaded { IsLoading (loading_by opened.now.house opened.now.hashes.items) }
     requires home { AreAtHome (B.owners bay.old) (B.shelf bay.old) }
-    ensures passes { IfOk result (λ passes. ArePassesOn (entry_at (loading_by opened.now.house opened.now.hashes.items))
-        (header_of (loading_by opened.now.house opened.now.hashes.items) opened.now.key) (owners_in (loading_by opened.now.house opened.now.hashes.items)) (B.shelf bay.old) (B.shelf bay.new) passes.items) }
-    ensures left { OnErr result (Became (owners_in (loading_by opened.now.house opened.now.hashes.items)) (λ _. IsOnlySynced) (B.shelf bay.old) (B.shelf bay.new)) }
-    ensures stop { IfErr result (IsOpenStop (loading_by opened.now.house opened.now.hashes.items) opened.now.key (B.shelf bay.old) (B.shelf bay.new)) }
-    ensures owners { B.owners bay.new ≡ B.owners bay.old }
-    ensures faults { B.faults bay.old ≤ B.faults bay.new }
-    ensures cause { (line : Vec ℕ Heap) → result ≡ Err (Stop.Disk line) →
-        HasRisen (B.faults bay.old) (B.faults bay.new) ⊎ SomeRose (B.shelf bay.old) (B.shelf bay.new) }
+    ensures passes { IfOk result (λ passes. ArePassesOn (entry_at opened.now.loading)
+        (header_of opened.now.loading opened.now.key) (owners_in opened.now.loading) (B.shelf bay.old) (B.shelf bay.new) passes.items) }
+    ensures house { IfOk result (λ passes. ArePasses (house_of opened.now.loading.register) passes.items) }
+    ensures left { OnErr result (EachDisk (owners_in opened.now.loading) (λ _. IsOnlySynced) (B.shelf bay.old) (B.shelf bay.new)) }
+    ensures stop { IfErr result (IsOpenStop opened.now.loading opened.now.key (B.shelf bay.old) (B.shelf bay.new)) }
+    ensures bay { KeepsBay B.shelf B.owners B.faults bay.old bay.new }
+    ensures cause { HasDiskCause B.shelf B.owners B.faults bay.old bay.new result }
 {
     let headers = headers_of(alloc, opened)?;
     let mut passes = Vec::with_capacity(alloc, headers.len())?;

@@ -5,7 +5,7 @@ ghost use Rattle.query_server.specs.Status.{code_of};
 ghost use Rattle.query_server.specs.Ends.{stop_status};
 
 use crate::programs::ProgramEnd;
-use crate::running::RunEnd;
+use crate::run::RunEnd;
 use catalog_loading::Stop;
 
 /// The status of a command.

@@ -1,7 +1,54 @@
 //! What is proved of the definitions.
 
 ghost use Rattle.query_server.specs.Gap.{GapsAreBounded};
-ghost use Rattle.query_server.specs.Laws.{DiskRefusalsHaveCauses, GapsAreOfDatasets};
+ghost use Rattle.query_server.specs.Laws.{DiskRefusalsHaveCauses, GapsAreOfDatasets, OneWorkerTranscribes, OutsideStays, RunsAreAnswered};
+ghost use Rattle.query_server.specs.Laws.{LinesAreExact, ProgramsAreExact, RefusalsAreExact, VerdictsAreExact};
+ghost use Rattle.query_server.specs.Laws.{FaultyWordsAreTold, StatusesAreOfCommands};
+
+/// Where files, source and sink tell what they hold, what the top call writes and reads is exactly what is due.
+pub fn lines_are_exact()
+    ensures { LinesAreExact }
+{}
+
+/// Usage and refused names are as the words and the files give them.
+pub fn refusals_are_exact()
+    ensures { RefusalsAreExact }
+{}
+
+/// What is written for a program is as the words and the files give it.
+pub fn programs_are_exact()
+    ensures { ProgramsAreExact }
+{}
+
+/// Status 1 comes exactly where a program is refused, and 0 where it is accepted.
+pub fn verdicts_are_exact()
+    ensures { VerdictsAreExact }
+{}
+
+/// Statuses 1, 2, 4 and 8 are of those commands alone that may end so.
+pub fn statuses_are_of_commands()
+    ensures { StatusesAreOfCommands }
+{}
+
+/// At faulty words the line of Usage is written, unless memory ran out or the sink failed.
+pub fn faulty_words_are_told()
+    ensures { FaultyWordsAreTold }
+{}
+
+/// A run with status Done has answered its script; at another it has, or has written to no owner's disk.
+pub fn runs_are_answered()
+    ensures { RunsAreAnswered }
+{}
+
+/// What stays of the outside through some work, and through what follows it, stays through both.
+pub fn outside_stays()
+    ensures { OutsideStays }
+{}
+
+/// One worker's replies are the script's transcript.
+pub fn one_worker_transcribes()
+    ensures { OneWorkerTranscribes }
+{}
 
 /// Where a `gap` is accepted, its last line's number is at most the sensitivity times the distance.
 pub fn gaps_are_bounded()
@@ -13,7 +60,8 @@ pub fn gaps_are_of_datasets()
     ensures { GapsAreOfDatasets }
 {}
 
-/// A query is refused for its owner's disk only where the count of faults of that disk rose in the run.
+/// A query is refused for its owner's disk only where the count of faults of that disk rose in the run; and of a line that is told
+/// 52 it is its own record that may stand in the journal.
 pub fn disk_refusals_have_causes()
     ensures { DiskRefusalsHaveCauses }
 {}

@@ -1,21 +1,25 @@
 //! The top call of the server: one command, from its words to its status.
 #![tactic(auto)]
 
-mod auditing;
+mod audit;
 pub mod books;
-mod checking;
-mod comparing;
+mod check;
 mod end;
+mod gap;
+mod init;
 mod laws;
-mod making;
 mod numbers;
 mod programs;
 mod refusals;
-mod running;
+mod run;
 mod server;
 mod whole;
 mod writing;
 
 pub use crate::end::Status;
-pub use crate::laws::{disk_refusals_have_causes, gaps_are_bounded, gaps_are_of_datasets};
+pub use crate::laws::{
+    disk_refusals_have_causes, faulty_words_are_told, gaps_are_bounded, gaps_are_of_datasets,
+    lines_are_exact, one_worker_transcribes, outside_stays, programs_are_exact, refusals_are_exact,
+    runs_are_answered, statuses_are_of_commands, verdicts_are_exact,
+};
 pub use crate::server::run_server;

@@ -2,7 +2,7 @@
 
 ghost use Rattle.std.specs.Prelude.{◌≡◌};
 ghost use Rattle.part_views.specs.Holding.{IsHolding};
-ghost use Rattle.answer_path.specs.Judgement.{AreNames};
+ghost use Rattle.owner_house.specs.Names.{AreNames};
 
 use fz_ast::Sig;
 use metric_values::Tables;

@@ -1,92 +1,69 @@
--- a demand that is met on just the records that were known
-use Rattle.std.proofs.Common.{◌≡◌, ℕ, ◌+◌, List, [], ◌∷◌, ◌++◌, length, Some, refl, sym, ◌∙◌, ap, subst, append-nil, append_assoc, length-append}
+-- lines that are met on just the records that were known
+use Rattle.std.proofs.Common.{◌≡◌, ℕ, ◌+◌, ◌==◌, Bool, true, false, List, [], ◌∷◌, ◌++◌, length, Some, refl, sym, ◌∙◌, ap, arith, append-nil, append_assoc, length-append}
+use Rattle.std.specs.Prelude.{MatchBool, if◌then◌else◌}
 use Rattle.std.specs.List.{enumerate_from}
-use mathlib.Core.Logic.{inl, inr}
-use mathlib.Core.List.{IsPrefix}
 use Rattle.journal_records.specs.declared.records.Outcome.{Outcome}
 use Rattle.journal_records.specs.declared.records.Outcome.TheVariants.{Answered, Exhausted, Lost}
 use Rattle.journal_records.specs.declared.records.Record.{Record}
-use Rattle.journal_records.specs.declared.records.Record.TheVariants.{Settle}
-use Rattle.budget_core.specs.declared.entry.Ask.{Ask}
 use Rattle.budget_core.specs.declared.entry.Grant.{Grant}
-use Rattle.budget_core.proofs.Histories.{slice_get-append-seam}
-use Rattle.answer_path.specs.Owner.{Owner}
-use Rattle.answer_path.specs.Query.{Query}
-use Rattle.answer_path.specs.Verdict.{Verdict, program_refused, money_refused, granted}
-use Rattle.answer_path.specs.Answered.{outcome_reply, granted_record, IsSettledAndTold, IsUnrecorded, IsAnsweredBy, IsAnswered, Told, AddsTwo, IsUnkept, IsAskedBy, IsAsked}
-use Rattle.answer_path.specs.Standing.{IsRecalled, IsBalance}
-use Rattle.owner_history.specs.Granted.{settlement_in}
-use Rattle.owner_history.proofs.Prefixes.{prefix_self, slice_get_prefix}
-use Rattle.session_core.specs.House.{House}
-use Rattle.session_core.specs.Meant.{Demand, asks, recalls, balances}
-use Rattle.session_core.specs.Exchanges.{Exchange}
+use Rattle.owner_house.specs.House.{House}
+use Rattle.owner_desk.specs.Passes.{Told}
+use Rattle.answer_path.specs.Answered.{outcome_reply}
+use Rattle.owner_history.specs.Granted.{told_settlement}
+use Rattle.session_core.specs.Meant.{Meant, says, wants}
+use Rattle.session_core.specs.Turns.{meant_at}
+use Rattle.session_core.specs.Exchanges.{Exchange, TurnLeads, is_of, told_of}
 use Rattle.session_core.specs.Transcript.{MeetsExactly, LeadExactly}
-use Rattle.session_core.specs.Served.{MeetsOnSome, AnswersOn, StandIn}
+use Rattle.session_core.specs.Served.{MeetsOnSome, AnswersOn}
 use Rattle.session_core.proofs.Exchanges.{lead_map}
+use Rattle.session_core.proofs.Demands.{exactly_met, exactly_adds}
 
-pub nothing_told : (k : ℕ) (added : List Record) (told : List Told) → told ≡ enumerate_from k added → added ≡ [] → told ≡ []
-nothing_told k added told is none = is ∙ ap (enumerate_from k) none
-
-pub nothing_after : (seen added after : List Record) → after ≡ seen ++ added → added ≡ [] → after ≡ seen
-nothing_after seen added after is none = is ∙ ap (λ rs. seen ++ rs) none ∙ append-nil seen
-
--- a grant that was settled
-settled_by : (owner : Owner) (draws : ℕ → ℕ → ℕ) (query : Query) (seen : List Record) (x : Exchange) (after added : List Record) (asking : Ask) (grant : Grant)
-    → IsSettledAndTold owner draws query asking grant x.reply added → x.told ≡ enumerate_from (length seen) added → after ≡ seen ++ added → AddsTwo owner draws query asking grant seen x.reply x.told after
-settled_by owner draws query seen x after added asking grant by told is = record {
-  outcome = by.0;
-  u = seen ++ granted_record asking grant ∷ [];
-  settled = by.1;
-  reserved = prefix_self (seen ++ granted_record asking grant ∷ []);
-  reply_is = by.2;
-  told_is = told ∙ ap (enumerate_from (length seen)) by.3
-      ∙ ap (λ (k : ℕ). (length seen, granted_record asking grant) ∷ (k, Settle grant.number by.0) ∷ []) (sym (length-append seen (granted_record asking grant ∷ [])));
-  after_is = is ∙ ap (λ rs. seen ++ rs) by.3 ∙ sym (append_assoc seen (granted_record asking grant ∷ []) (Settle grant.number by.0 ∷ []));
-}
-
--- a grant that wasn't wholly written
-unkept_by : (seen : List Record) (x : Exchange) (after added : List Record) (asking : Ask) (grant : Grant) → IsUnrecorded asking grant x.reply added
-    → x.told ≡ enumerate_from (length seen) added → after ≡ seen ++ added → IsUnkept asking grant seen x.reply x.told after
-unkept_by seen x after added asking grant (refusal, said, inl none) told is = (refusal, said, inl (nothing_told (length seen) added x.told told none, nothing_after seen added after is none))
-unkept_by seen x after added asking grant (refusal, said, inr one) told is =
-    let ends : after ≡ seen ++ granted_record asking grant ∷ [] = is ∙ ap (λ rs. seen ++ rs) one in
-    (refusal, said, inr (told ∙ ap (enumerate_from (length seen)) one, subst (λ (rs : List Record). IsPrefix (seen ++ granted_record asking grant ∷ []) rs) (sym ends) (prefix_self (seen ++ granted_record asking grant ∷ []))))
-
-asked_by : (owner : Owner) (draws : ℕ → ℕ → ℕ) (query : Query) (seen : List Record) (x : Exchange) (after added : List Record) (v : Verdict) → IsAnsweredBy owner draws query v x.reply added
-    → x.told ≡ enumerate_from (length seen) added → after ≡ seen ++ added → IsAskedBy owner draws query v seen x.reply x.told after
-asked_by owner draws query seen x after added (program_refused refusal) by told is = (by.0, nothing_told (length seen) added x.told told by.1, nothing_after seen added after is by.1)
-asked_by owner draws query seen x after added (money_refused refusal) by told is = (by.0, nothing_told (length seen) added x.told told by.1, nothing_after seen added after is by.1)
-asked_by owner draws query seen x after added (granted asking grant) (inl by) told is = inl (settled_by owner draws query seen x after added asking grant by told is)
-asked_by owner draws query seen x after added (granted asking grant) (inr by) told is = inr (unkept_by seen x after added asking grant by told is)
-
--- What is met on just the records that were known is met on some that begin with them.
-pub meets_on_some : (draws : ℕ → ℕ → ℕ) (start : ℕ) (owner : Owner) (demand : Demand) (seen : List Record) (x : Exchange) (after : List Record)
-    → MeetsExactly draws start owner demand seen x after → MeetsOnSome draws start owner demand seen x after
-unfolding IsAnswered IsAsked IsRecalled IsBalance
-meets_on_some draws start owner (asks query) seen x after (added, inl by, told, is) = (seen, prefix_self seen, inl (by.0, by.1, asked_by owner draws query seen x after added by.0 by.2 told is))
-meets_on_some draws start owner (asks query) seen x after (added, inr lack, told, is) =
-    (seen, prefix_self seen, inr (lack.0, nothing_told (length seen) added x.told told lack.1, nothing_after seen added after is lack.1))
-meets_on_some draws start owner (recalls analyst number) seen x after (said, told, is) = ((seen, prefix_self seen, said, is), told)
-meets_on_some draws start owner balances seen x after (said, told, is) = ((seen, prefix_self seen, said, is), told)
-
+-- They are met on some records that begin with what was known ..
 pub answers_on : (house : House) (draws : ℕ → ℕ → ℕ → ℕ) (o start : ℕ) (seen : List Record) (xs : List Exchange) (last : List Record) → LeadExactly house draws o start seen xs last → AnswersOn house draws o start seen xs last
-answers_on house draws o start seen xs last h = lead_map house o (MeetsExactly (draws o) start) (MeetsOnSome (draws o) start) (λ owner demand s x after. meets_on_some (draws o) start owner demand s x after) seen xs last h
+answers_on house draws o start seen xs last h = lead_map house o (MeetsExactly (draws o) start) (MeetsOnSome (draws o) start) (λ owner demand s x after. exactly_met owner (draws o) start demand s x.reply x.told after) seen xs last h
 
--- records that are put at the end stand at their places
-pub placed_stand : (xs ys : List Record) → StandIn (xs ++ ys) (enumerate_from (length xs) ys)
-placed_stand xs [] = tt
-placed_stand xs (y ∷ ys) = (
-  slice_get-append-seam xs y ys,
-  subst (λ (rs : List Record). StandIn rs (enumerate_from (length xs + 1) ys)) (append_assoc xs (y ∷ []) ys)
-      (subst (λ (k : ℕ). StandIn ((xs ++ y ∷ []) ++ ys) (enumerate_from k ys)) (length-append xs (y ∷ [])) (placed_stand (xs ++ y ∷ []) ys)),
-)
+-- .. and what they add stands right behind it, in order.
+pub record AddsInOrder (house : House) (o : ℕ) (seen : List Record) (xs : List Exchange) (last : List Record) : Type 0 where
+  pub added : List Record
+  pub told_is : told_of house o xs ≡ enumerate_from (length seen) added
+  pub last_is : last ≡ seen ++ added
 
-pub stand_on : (xs ys : List Record) (told : List Told) → IsPrefix xs ys → StandIn xs told → StandIn ys told
-stand_on xs ys [] f h = tt
-stand_on xs ys (z ∷ zs) f h = (slice_get_prefix xs ys z.0 z.1 f h.0, stand_on xs ys zs f h.1)
+numbered_append : (k : ℕ) (xs ys : List Record) → enumerate_from k xs ++ enumerate_from (k + length xs) ys ≡ enumerate_from k (xs ++ ys)
+numbered_append k [] ys = ap (λ n. enumerate_from n ys) (omega arith)
+numbered_append k (x ∷ xs) ys =
+    let far : k + length (x ∷ xs) ≡ k + 1 + length xs = omega arith in
+    ap (λ n. enumerate_from k (x ∷ xs) ++ enumerate_from n ys) far ∙ ap (λ (zs : List Told). (k, x) ∷ zs) (numbered_append (k + 1) xs ys)
+
+module _ (house : House) (draws : ℕ → ℕ → ℕ → ℕ) (o start : ℕ) where
+  join : (seen after last : List Record) (told more : List Told) → (first : (added : List Record) × (told ≡ enumerate_from (length seen) added) × (after ≡ seen ++ added))
+      → (rest : (added : List Record) × (more ≡ enumerate_from (length after) added) × (last ≡ after ++ added)) → (added : List Record) × (told ++ more ≡ enumerate_from (length seen) added) × (last ≡ seen ++ added)
+  join seen after last told more (a, told_is, after_is) (b, more_is, last_is) =
+      let long : length after ≡ length seen + length a = ap length after_is ∙ length-append seen a in (
+        a ++ b,
+        ap (λ ts. ts ++ more) told_is ∙ ap (λ ts. enumerate_from (length seen) a ++ ts) (more_is ∙ ap (λ n. enumerate_from n b) long) ∙ numbered_append (length seen) a b,
+        last_is ∙ ap (λ rs. rs ++ b) after_is ∙ append_assoc seen a b,
+      )
+
+  turn_adds : (m : Meant) (seen : List Record) (x : Exchange) (Rest : List Record → Type 0) (last : List Record) (more : List Told) → TurnLeads house o (MeetsExactly (draws o) start) m seen x Rest
+      → ((after : List Record) → Rest after → (added : List Record) × (more ≡ enumerate_from (length after) added) × (last ≡ after ++ added))
+      → (added : List Record) × ((if is_of o m then x.told else []) ++ more ≡ enumerate_from (length seen) added) × (last ≡ seen ++ added)
+  turn_adds (says reply next) seen x Rest last more h rest = rest seen h
+  turn_adds (wants n owner demand) seen x Rest last more h rest = here (n == o) h
+    where
+      here : (b : Bool) → MatchBool b ((after : List Record) × MeetsExactly (draws o) start owner demand seen x after × Rest after) (Rest seen)
+          → (added : List Record) × ((if b then x.told else []) ++ more ≡ enumerate_from (length seen) added) × (last ≡ seen ++ added)
+      here true h = join seen h.0 last x.told more (exactly_adds owner (draws o) start demand seen x.reply x.told h.0 h.1) (rest h.0 h.2)
+      here false h = rest seen h
+
+  lead_adds : (seen : List Record) (xs : List Exchange) (last : List Record) → LeadExactly house draws o start seen xs last → (added : List Record) × (told_of house o xs ≡ enumerate_from (length seen) added) × (last ≡ seen ++ added)
+  lead_adds seen [] last h = ([], refl, h ∙ sym (append-nil seen))
+  lead_adds seen (x ∷ xs) last h = turn_adds (meant_at house x.turn) seen x (λ after. LeadExactly house draws o start after xs last) last (told_of house o xs) h (λ after more. lead_adds after xs last more)
+
+  pub adds_in_order : (seen : List Record) (xs : List Exchange) (last : List Record) → LeadExactly house draws o start seen xs last → AddsInOrder house o seen xs last
+  adds_in_order seen xs last h = let a = lead_adds seen xs last h in record { added = a.0; told_is = a.1; last_is = a.2 }
 
 -- a grant's reply speaks of its number
-pub outcome_said : (grant : Grant) (outcome : Outcome) → settlement_in (outcome_reply grant outcome) ≡ Some (grant.number, outcome)
+pub outcome_said : (grant : Grant) (outcome : Outcome) → told_settlement (outcome_reply grant outcome) ≡ Some (grant.number, outcome)
 outcome_said grant (Answered value) = refl
 outcome_said grant Exhausted = refl
 outcome_said grant Lost = refl

@@ -31,7 +31,8 @@ use Rattle.owner_catalog.specs.Entries.{TableEntry, OwnerEntry}
 use Rattle.sha2.specs.Sha256.{sha256}
 use Rattle.part_views.specs.Holding.{Holding}
 use Rattle.part_views.specs.Views.{signature_in, rows_in}
-use Rattle.answer_path.specs.Owner.{Owner, signature_of_view}
+use Rattle.owner_house.specs.Owner.{Owner, signature_of_view}
+use Rattle.answer_path.specs.Met.{IsMet, IsMetExactly}
 use Rattle.answer_path.specs.Query.{Query}
 use Rattle.answer_path.specs.Judgement.{judgement_of, HasValue}
 use Rattle.answer_path.specs.Program.{IsCharged}
@@ -40,9 +41,8 @@ use Rattle.answer_path.specs.Verdict.{program_refused, money_refused, granted, a
 use Rattle.answer_path.specs.Answered.{outcome_reply, grant_records, HasWorthIn, IsSettledAt, IsAnswered, IsAsked}
 use Rattle.answer_path.proofs.Answering.{money_says}
 use Rattle.answer_path.proofs.SizePeople.{size_people, size_term, size_reads}
-use Rattle.owner_history.specs.Granted.{settlement_in}
-use Rattle.session_core.specs.House.{Register, house_of}
-use Rattle.session_core.specs.Code.{owner_at}
+use Rattle.owner_history.specs.Granted.{told_settlement}
+use Rattle.owner_house.specs.House.{Register, house_of, owner_at}
 use Rattle.session_core.specs.Meant.{meant_by}
 use Rattle.session_core.specs.Turns.{Turn, turns_of}
 use Rattle.session_core.specs.Exchanges.{Exchange, told_of}
@@ -104,10 +104,10 @@ unfolding HasValue
 no_value = (size_term, size_reads, (2, ([], refl, refl)))
 
 abbrev pub a_query : Query
-a_query = record { owner = 0; analyst = 0; view = Whole; e = 1000000; program = size_people }
+a_query = record { analyst = 0; view = Whole; e = 1000000; program = size_people }
 
 abbrev pub an_ask : Ask
-an_ask = record { analyst = 0; view = Whole; e = 1000000; p = 1; q = 1; program = sha256 size_people }
+an_ask = record { analyst = 0; view = Whole; e = 1000000; p = 1; q = 1; digest = sha256 size_people }
 
 abbrev pub a_grant : Grant
 a_grant = record { number = 0; taken = 1000000; seen = 1 }
@@ -163,18 +163,19 @@ one_ask_turns = refl
 
 pub one_owner : (register : Register) → (house_of register).owners ≡ the_owner register ∷ [] → (draws : ℕ → ℕ → ℕ → ℕ) (xs : List Exchange) (records : List Record) → LeadExactly (house_of register) draws 0 0 [] xs records
     → (o : ℕ) (owner : Owner) → slice_get (house_of register).owners o ≡ Some owner → LeadExactly (house_of register) draws o 0 [] xs (only records o)
+unfolding IsMetExactly
 one_owner register one draws xs records leads zero owner at = leads
 one_owner register one draws xs records leads (suc o) owner at = let none : None ≡ Some owner = ap (λ (ws : List Owner). slice_get ws (suc o)) (sym one) ∙ at in absurd (cc (none))
 
 three_leads : (draws : ℕ → ℕ → ℕ → ℕ) → LeadExactly (house_of three_rows) draws 0 0 [] (one_ask (outcome_of_size 3 draws)) (made (outcome_of_size 3 draws))
-unfolding meant_by request_of cost_of cost_of_charges partition_cost signature_in rows_in
+unfolding meant_by request_of cost_of cost_of_charges partition_cost signature_in rows_in IsMetExactly
 three_leads draws =
     let outcome = outcome_of_size 3 draws in
     (made outcome, (made outcome, inl (grant_answer (the_owner three_rows) (draws 0) [] a_query a_grant 3 size_asked refl three_value), refl, refl), refl)
 
 three_run : (draws : ℕ → ℕ → ℕ → ℕ) → let outcome : Outcome = outcome_of_size 3 draws in
     IsScriptRun (house_of three_rows) draws fresh one_ask_script (greeted (codes "ann") ∷ outcome_reply a_grant outcome ∷ ended ∷ []) (only (made outcome))
-unfolding lines_of meant_by request_of
+unfolding lines_of meant_by request_of IsMetExactly
 three_run draws =
     let outcome = outcome_of_size 3 draws in record {
       exchanges = one_ask outcome;
@@ -186,7 +187,7 @@ three_run draws =
 
 -- .. or memory ran out before the reservation ..
 without_memory : (draws : ℕ → ℕ → ℕ → ℕ) → IsScriptRun (house_of three_rows) draws fresh one_ask_script (greeted (codes "ann") ∷ refused no_memory ∷ ended ∷ []) (only [])
-unfolding lines_of meant_by request_of
+unfolding lines_of meant_by request_of IsMetExactly
 without_memory draws =
     let xs : List Exchange = quiet None (codes "hello ann") (greeted (codes "ann")) ∷ quiet (Some 0) ask_line (refused no_memory) ∷ quiet (Some 0) (codes "bye") ended ∷ [] in record {
       exchanges = xs;
@@ -198,14 +199,14 @@ without_memory draws =
 
 -- .. or after it, where the draws suffice: both records are added
 lost_leads : (draws : ℕ → ℕ → ℕ → ℕ) (noise : ℤ) → noise_at 1000000 (draws 0 0) ≡ Some noise → LeadExactly (house_of three_rows) draws 0 0 [] (one_ask Lost) (made Lost)
-unfolding meant_by request_of cost_of cost_of_charges partition_cost IsAnswered signature_in rows_in
+unfolding meant_by request_of cost_of cost_of_charges partition_cost IsAnswered signature_in rows_in IsMetExactly
 lost_leads draws noise is =
     let settled = subst (λ (k : Option ℤ). IsSettledAt (HasWorthIn (the_owner three_rows) a_query) k Lost) (sym is) (inr refl) in
     (made Lost, (made Lost, inl (granted an_ask a_grant, money_says (the_owner three_rows) 0 [] a_query 1 1 _ size_asked refl, inl (Lost, settled, refl, refl)), refl, refl), refl)
 
 lost_run : (draws : ℕ → ℕ → ℕ → ℕ) (noise : ℤ) → noise_at 1000000 (draws 0 0) ≡ Some noise
     → IsScriptRun (house_of three_rows) draws fresh one_ask_script (greeted (codes "ann") ∷ refused (by_number (NoAnswer 0)) ∷ ended ∷ []) (only (made Lost))
-unfolding lines_of meant_by request_of
+unfolding lines_of meant_by request_of IsMetExactly
 lost_run draws noise is = record {
   exchanges = one_ask Lost;
   turns = refl;
@@ -241,7 +242,7 @@ failed_earlier had = had
 
 -- behind a bye nobody speaks
 behind_bye : (draws : ℕ → ℕ → ℕ → ℕ) → IsScriptRun (house_of three_rows) draws fresh (codes "hello ann\nbye\nask clinic 1 x\n") (greeted (codes "ann") ∷ ended ∷ refused (by_line NoHello) ∷ []) (only [])
-unfolding lines_of meant_by request_of
+unfolding lines_of meant_by request_of IsMetExactly
 behind_bye draws =
     let xs : List Exchange = quiet None (codes "hello ann") (greeted (codes "ann")) ∷ quiet (Some 0) (codes "bye") ended ∷ quiet None (codes "ask clinic 1 x") (refused (by_line NoHello)) ∷ [] in record {
       exchanges = xs;
@@ -260,7 +261,7 @@ first_lines =
 
 refusals : (draws : ℕ → ℕ → ℕ → ℕ)
     → IsScriptRun (house_of three_rows) draws fresh (codes "\nask nobody 0 x\nask clinic 0 size people\nask clinic 1 size people\nhello eve\nhello ann\n") (map (λ (x : Exchange). x.reply) first_lines) (only [])
-unfolding lines_of meant_by request_of
+unfolding lines_of meant_by request_of IsMetExactly
 refusals draws = record {
   exchanges = first_lines;
   turns = refl;
@@ -275,7 +276,7 @@ two_asks outcome reply = quiet None (codes "hello ann") (greeted (codes "ann")) 
 
 second_over : (draws : ℕ → ℕ → ℕ → ℕ) → let outcome : Outcome = outcome_of_size 0 draws in
     LeadExactly (house_of (house 1000000 100 [])) draws 0 0 [] (two_asks outcome (refused (by_money (NoBudget 1000000 2000000 1000000 2)))) (made outcome)
-unfolding meant_by request_of cost_of cost_of_charges partition_cost IsAnswered signature_in rows_in
+unfolding meant_by request_of cost_of cost_of_charges partition_cost IsAnswered signature_in rows_in IsMetExactly
 second_over draws =
     let register = house 1000000 100 [] in
     let outcome = outcome_of_size 0 draws in (
@@ -286,7 +287,7 @@ second_over draws =
 
 second_full : (draws : ℕ → ℕ → ℕ → ℕ) → let outcome : Outcome = outcome_of_size 0 draws in
     LeadExactly (house_of (house 10000000 3 [])) draws 0 0 [] (two_asks outcome (refused (by_money (JournalFull 2 0 3)))) (made outcome)
-unfolding meant_by request_of cost_of cost_of_charges partition_cost IsAnswered signature_in rows_in
+unfolding meant_by request_of cost_of cost_of_charges partition_cost IsAnswered signature_in rows_in IsMetExactly
 second_full draws =
     let register = house 10000000 3 [] in
     let outcome = outcome_of_size 0 draws in (
@@ -322,11 +323,12 @@ three_transcript draws noise =
 
 -- The promise of the three turns, part by part. They are answered on records that begin with what was seen ..
 three_answers : (draws : ℕ → ℕ → ℕ → ℕ) → AnswersOn (house_of three_rows) draws 0 0 [] (one_ask (outcome_of_size 3 draws)) (made (outcome_of_size 3 draws))
+unfolding IsMet
 three_answers draws = answers_on (house_of three_rows) draws 0 0 [] (one_ask (outcome_of_size 3 draws)) (made (outcome_of_size 3 draws)) (three_leads draws)
 
 -- .. and not where an answer added nothing, nor where more was seen than there is in the end
 untold : (draws : ℕ → ℕ → ℕ → ℕ) (last : List Record) → AnswersOn (house_of three_rows) draws 0 0 [] (quiet (Some 0) ask_line (answered 0 (pos 2) 1000000) ∷ []) last → ⊥
-unfolding meant_by request_of IsAsked
+unfolding meant_by request_of IsAsked IsMet
 untold draws last (after, (g, begins, inl (program_refused refusal, is, (said, none, rest))), ends) = cc (said)
 untold draws last (after, (g, begins, inl (money_refused refusal, is, (said, none, rest))), ends) = cc (said)
 untold draws last (after, (g, begins, inl (granted asking grant, is, inl two)), ends) = cc (two.told_is)
@@ -386,7 +388,7 @@ not_placed h = let p = h 0 0 refl in wrong p.0 p.1 p.2
     wrong : (x : Exchange) → Some (quiet None (codes "hello ann") (greeted (codes "ann"))) ≡ Some x → SpeaksOf 0 x ⊎ LeavesOpen 0 x → ⊥
     wrong x at (inl (outcome, said)) =
         let same : quiet None (codes "hello ann") (greeted (codes "ann")) ≡ x = cc (at) in
-        let none : None ≡ Some (0, outcome) = ap (λ (y : Exchange). settlement_in y.reply) same ∙ said in
+        let none : None ≡ Some (0, outcome) = ap (λ (y : Exchange). told_settlement y.reply) same ∙ said in
         cc (none)
     wrong x at (inr (refusal, place, reserved, said, told, is)) =
         let same : quiet None (codes "hello ann") (greeted (codes "ann")) ≡ x = cc (at) in

@@ -5,7 +5,7 @@ use Rattle.std.specs.List.{flat_map, enumerate_from}
 use Rattle.journal_records.specs.declared.records.Outcome.{Outcome}
 use Rattle.journal_records.specs.declared.records.Outcome.TheVariants.{Answered, Exhausted, Lost}
 use Rattle.journal_records.specs.declared.records.Record.{Record}
-use Rattle.journal_records.specs.declared.records.Record.TheVariants.{Settle}
+use Rattle.journal_records.specs.Records.{settling}
 use Rattle.budget_core.specs.Cost.{cost_of}
 use Rattle.partition_charge.specs.Cost.{cost_of_charges, partition_cost}
 use Rattle.budget_ledger.specs.declared.failure.Failure.{Failure}
@@ -17,16 +17,19 @@ use Rattle.wire_lines.specs.declared.refusal.DiskRefusal.TheVariants.{Closed, Fa
 use Rattle.wire_lines.specs.declared.refusal.NumberRefusal.TheVariants.{Unknown as NoSuchNumber, NotYours}
 use Rattle.wire_lines.specs.declared.reply.Standing.TheVariants.{Answered as WasAnswered, Open as IsOpen, Lost as WasLost, Exhausted as WasExhausted}
 use Rattle.part_views.specs.Views.{signature_in, rows_in}
-use Rattle.answer_path.specs.Owner.{Owner}
+use Rattle.owner_house.specs.Owner.{Owner}
+use Rattle.answer_path.specs.Met.{IsMetExactly}
 use Rattle.answer_path.specs.Noise.{noise_at}
+use Rattle.answer_path.specs.Shut.{Shut, unshut, StaysShut, ShutsBy}
 use Rattle.answer_path.specs.Verdict.{granted}
 use Rattle.answer_path.specs.Answered.{granted_record, IsAnswered}
 use Rattle.answer_path.proofs.Answering.{money_says}
-use Rattle.session_core.specs.House.{house_of}
-use Rattle.session_core.specs.Meant.{asks, recalls, balances, says, wants, meant_by}
+use Rattle.owner_house.specs.House.{house_of}
+use Rattle.answer_path.specs.Demand.{asks, recalls, balances}
+use Rattle.session_core.specs.Meant.{says, wants, meant_by}
 use Rattle.session_core.specs.Exchanges.{Exchange}
-use Rattle.session_core.specs.Transcript.{LeadExactly}
-use Rattle.session_core.specs.Served.{ClosesBy, ClosesOn, LeavesOpen}
+use Rattle.session_core.specs.Transcript.{LeadExactly, ClosesBy, ClosesOn}
+use Rattle.session_core.specs.Served.{LeavesOpen, ShutsFor, ShutsOn}
 use Rattle.session_core.proofs.Examples.{three_rows, the_owner, a_query, an_ask, a_grant, ask_line, made, size_asked, three_value, outcome_with, settled_with, turn, quiet}
 
 abbrev clinic : Owner
@@ -62,14 +65,14 @@ answered_lines =
     ∷ quiet (Some 0) (codes "recall clinic 1") (refused (by_number (NoSuchNumber 1 2))) ∷ quiet None (codes "left clinic") (remaining 1000000 10000000 2) ∷ []
 
 answered_leads : (draws : ℕ → ℕ → ℕ → ℕ) → LeadExactly (house_of three_rows) draws 0 0 (made (Answered (pos 2))) answered_lines (made (Answered (pos 2)))
-unfolding meant_by request_of cost_of cost_of_charges partition_cost
+unfolding meant_by request_of cost_of cost_of_charges partition_cost IsMetExactly
 answered_leads draws =
     let records = made (Answered (pos 2)) in
     (records, (refl, refl, refl), (records, (refl, refl, refl), (records, (refl, refl, refl), (records, (refl, refl, refl), refl))))
 
 -- in a later run too, where the records were found
 found_leads : (draws : ℕ → ℕ → ℕ → ℕ) → LeadExactly (house_of three_rows) draws 0 1 (made (Answered (pos 2))) answered_lines (made (Answered (pos 2)))
-unfolding meant_by request_of cost_of cost_of_charges partition_cost
+unfolding meant_by request_of cost_of cost_of_charges partition_cost IsMetExactly
 found_leads draws =
     let records = made (Answered (pos 2)) in
     (records, (refl, refl, refl), (records, (refl, refl, refl), (records, (refl, refl, refl), (records, (refl, refl, refl), refl))))
@@ -80,11 +83,11 @@ answered_text = refl
 
 -- another value isn't recalled, nor is bob told ann's
 not_another_value : (draws : ℕ → ℕ → ℕ → ℕ) (last : List Record) → LeadExactly (house_of three_rows) draws 0 0 (made (Answered (pos 2))) (quiet (Some 0) (codes "recall clinic 0") (recalled 0 (WasAnswered (pos 3)) 2) ∷ []) last → ⊥
-unfolding meant_by request_of
+unfolding meant_by request_of IsMetExactly
 not_another_value draws last (after, (said, told, is), ends) = cc (said)
 
 not_to_bob : (draws : ℕ → ℕ → ℕ → ℕ) (last : List Record) → LeadExactly (house_of three_rows) draws 0 0 (made (Answered (pos 2))) (quiet (Some 1) (codes "recall clinic 0") (recalled 0 (WasAnswered (pos 2)) 2) ∷ []) last → ⊥
-unfolding meant_by request_of
+unfolding meant_by request_of IsMetExactly
 not_to_bob draws last (after, (said, told, is), ends) = cc (said)
 
 -- ---- a settlement that wasn't written: the reservation is left open, and is charged
@@ -102,7 +105,7 @@ closed_lines =
     ∷ quiet None (codes "left clinic") (remaining 1000000 10000000 1) ∷ []
 
 closed_leads : (draws : ℕ → ℕ → ℕ → ℕ) → LeadExactly (house_of three_rows) draws 0 0 [] closed_lines opened
-unfolding meant_by request_of cost_of cost_of_charges partition_cost IsAnswered signature_in
+unfolding meant_by request_of cost_of cost_of_charges partition_cost IsAnswered signature_in IsMetExactly
 closed_leads draws = (
   opened,
   (opened, inl (granted an_ask a_grant, money_says clinic 0 [] a_query 1 1 _ size_asked refl, inr (Fault, refl, inr refl)), refl, refl),
@@ -119,7 +122,7 @@ closed_text = refl
 
 -- the disk had failed three times when the append of the settlement failed, which closed the book
 abbrev failure : Outcome → Failure
-failure outcome = record { failed_at = 3; pending = Settle 0 outcome }
+failure outcome = record { failed_at = 3; pending = settling 0 outcome }
 
 closed_by : (draws : ℕ → ℕ → ℕ → ℕ) → let outcome : Outcome = outcome_with 3 (noise_at 1000000 (draws 0 0)) in ClosesOn (house_of three_rows) draws 0 None closed_lines (Some (failure outcome))
 unfolding meant_by request_of signature_in rows_in
@@ -151,24 +154,63 @@ not_answered_closed draws outcome after (was, still) = cc (was)
 not_closed_by_recall : (draws : ℕ → ℕ → ℕ) (outcome : Outcome) → ClosesBy draws clinic (recalls 0 0) None (quiet (Some 0) (codes "recall clinic 0") (recalled 0 IsOpen 1)) (Some (failure outcome)) → ⊥
 not_closed_by_recall draws outcome is = cc (is)
 
+-- The same where other lines may come between: the 52 is this worker's own failure, which the 42 behind it has seen.
+abbrev shut_own : Outcome → Shut
+shut_own outcome = record { failure = Some (failure outcome); own = failure outcome ∷ [] }
+
+stays_shut : (outcome : Outcome) → StaysShut [] (Some (failure outcome)) (Some (failure outcome))
+stays_shut outcome = record { still = λ other is. is; adds_nothing = λ other is. refl }
+
+shut_by : (draws : ℕ → ℕ → ℕ → ℕ) → let outcome : Outcome = outcome_with 3 (noise_at 1000000 (draws 0 0)) in ShutsOn (house_of three_rows) draws 0 unshut closed_lines (shut_own outcome)
+unfolding meant_by request_of signature_in rows_in ShutsBy
+shut_by draws =
+    let outcome : Outcome = outcome_with 3 (noise_at 1000000 (draws 0 0)) in
+    let shut : Shut = shut_own outcome in (
+      shut,
+      (failure outcome, refl, refl, (outcome, settled_with _ 3 (noise_at 1000000 (draws 0 0)) three_value, refl), refl),
+      (shut, (failure outcome, refl, refl, stays_shut outcome, refl), (shut, (stays_shut outcome, refl), (shut, (stays_shut outcome, refl), refl))),
+    )
+
+-- another's failure may be told, though this worker hadn't seen it; but it is nobody's here, nor at another count
+shut_by_another : (draws : ℕ → ℕ → ℕ) (outcome : Outcome) → ShutsFor draws clinic (asks a_query) unshut (quiet (Some 0) ask_line (refused (by_disk (Closed 3)))) (record { failure = Some (failure outcome); own = [] })
+unfolding ShutsBy
+shut_by_another draws outcome = (failure outcome, refl, refl, record { still = λ other is. absurd (cc (is)); adds_nothing = λ other is. refl }, refl)
+
+not_its_own : (draws : ℕ → ℕ → ℕ) (outcome : Outcome) → ShutsFor draws clinic (asks a_query) unshut (quiet (Some 0) ask_line (refused (by_disk (Closed 3)))) (shut_own outcome) → ⊥
+unfolding ShutsBy
+not_its_own draws outcome (other, shut, count, stays, own) = cc (own)
+
+not_shut_at_another_count : (draws : ℕ → ℕ → ℕ) (outcome : Outcome) → ShutsFor draws clinic (asks a_query) unshut (quiet (Some 0) ask_line (refused (by_disk (Closed 4)))) (record { failure = Some (failure outcome); own = [] }) → ⊥
+unfolding ShutsBy
+not_shut_at_another_count draws outcome (other, shut, counted, stays, own) =
+    let same : failure outcome ≡ other = cc (shut) in
+    let count : 4 ≡ 3 = subst (λ (f : Failure). 4 ≡ f.failed_at) (sym same) counted in
+    cc (count)
+
+-- nothing is added to a book that was seen shut
+not_added_when_shut : (draws : ℕ → ℕ → ℕ) (outcome : Outcome) (after : Shut)
+    → ShutsFor draws clinic (asks a_query) (shut_own outcome) (record { turn = turn (Some 0) ask_line; reply = answered 0 (pos 2) 1000000; told = enumerate_from 0 (made (Answered (pos 2))) }) after → ⊥
+unfolding ShutsBy
+not_added_when_shut draws outcome after (stays, own) = cc (stays.adds_nothing (failure outcome) refl)
+
 -- the turn of the 52 left number 0 open, and no other
 left_open : LeavesOpen 0 unsettled
 left_open = (Fault, 0, _, refl, refl, refl)
 
 -- in a later run what was left open is lost
 lost_later : (draws : ℕ → ℕ → ℕ → ℕ) → LeadExactly (house_of three_rows) draws 0 1 opened (quiet (Some 0) (codes "recall clinic 0") (recalled 0 WasLost 1) ∷ []) opened
-unfolding meant_by request_of
+unfolding meant_by request_of IsMetExactly
 lost_later draws = (opened, (refl, refl, refl), refl)
 
 not_open_later : (draws : ℕ → ℕ → ℕ → ℕ) (last : List Record) → LeadExactly (house_of three_rows) draws 0 1 opened (quiet (Some 0) (codes "recall clinic 0") (recalled 0 IsOpen 1) ∷ []) last → ⊥
-unfolding meant_by request_of
+unfolding meant_by request_of IsMetExactly
 not_open_later draws last (after, (said, told, is), ends) = cc (said)
 
 -- exhausted and lost numbers are told as what they are
 exhausted_told : (draws : ℕ → ℕ → ℕ → ℕ) → LeadExactly (house_of three_rows) draws 0 0 (made Exhausted) (quiet (Some 0) (codes "recall clinic 0") (recalled 0 WasExhausted 2) ∷ []) (made Exhausted)
-unfolding meant_by request_of
+unfolding meant_by request_of IsMetExactly
 exhausted_told draws = (made Exhausted, (refl, refl, refl), refl)
 
 lost_told : (draws : ℕ → ℕ → ℕ → ℕ) → LeadExactly (house_of three_rows) draws 0 0 (made Lost) (quiet (Some 0) (codes "recall clinic 0") (recalled 0 WasLost 2) ∷ []) (made Lost)
-unfolding meant_by request_of
+unfolding meant_by request_of IsMetExactly
 lost_told draws = (made Lost, (refl, refl, refl), refl)

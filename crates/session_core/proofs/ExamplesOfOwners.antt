@@ -4,7 +4,6 @@ use Rattle.std.specs.Prelude.{ℤ, Option}
 use Rattle.std.specs.Fmt.{digits}
 use Rattle.std.proofs.lemmas.List.Elements.{All-head, All-from_recursion}
 use Rattle.std.specs.List.{flat_map, enumerate_from}
-use Rattle.partition_charge.specs.declared.view.View.TheVariants.{Whole}
 use Rattle.journal_records.specs.declared.records.Outcome.{Outcome}
 use Rattle.journal_records.specs.declared.records.Record.{Record}
 use Rattle.budget_core.specs.declared.entry.Grant.{Grant}
@@ -27,8 +26,8 @@ use Rattle.owner_catalog.specs.Entries.{TableEntry, OwnerEntry}
 use Rattle.part_views.specs.Holding.{Holding}
 use Rattle.part_views.specs.Partitions.{ArePartitions}
 use Rattle.part_views.specs.Views.{signature_in, rows_in}
-use Rattle.answer_path.specs.Owner.{Owner}
-use Rattle.answer_path.specs.Query.{Query}
+use Rattle.owner_house.specs.Owner.{Owner}
+use Rattle.answer_path.specs.Met.{IsMetExactly}
 use Rattle.answer_path.specs.Judgement.{judgement_of, HasValue}
 use Rattle.answer_path.specs.Program.{IsCharged}
 use Rattle.answer_path.specs.Noise.{noise_at}
@@ -36,13 +35,12 @@ use Rattle.answer_path.specs.Verdict.{money_refused}
 use Rattle.answer_path.specs.Answered.{Told, outcome_reply, grant_records, IsAnswered}
 use Rattle.answer_path.proofs.Answering.{money_says}
 use Rattle.answer_path.proofs.SizePeople.{size_people, size_term, size_reads}
-use Rattle.session_core.specs.House.{Register, IsHeldBy, IsRegister, house_of, entry_of, owner_named}
+use Rattle.owner_house.specs.House.{Register, IsHeldBy, IsRegister, house_of, entry_of, owner_named, owner_at}
 use Rattle.session_core.specs.Meant.{meant_by}
 use Rattle.session_core.specs.Exchanges.{Exchange, told_of}
 use Rattle.session_core.specs.Transcript.{Journals, LeadExactly, IsScriptRun, IsScriptWritten, IsTranscript}
-use Rattle.session_core.specs.Code.{owner_at}
-use Rattle.session_core.proofs.Once.{runs_once}
-use Rattle.session_core.proofs.Examples.{people, people_entry, ages_held, owner_entry, register_of, fresh, size_asked, an_ask, a_grant, made, outcome_with, grant_answer, turn, quiet}
+use Rattle.session_core.proofs.OneTranscript.{runs_once}
+use Rattle.session_core.proofs.Examples.{people, people_entry, ages_held, owner_entry, register_of, fresh, size_asked, a_query, an_ask, a_grant, made, outcome_with, grant_answer, turn, quiet}
 
 -- the school's second table, of one column of texts
 abbrev names : TableType
@@ -165,9 +163,6 @@ ask_clinic = codes "ask clinic 1 size people"
 abbrev ask_school : List ℕ
 ask_school = codes "ask school 1 size people"
 
-abbrev query_of_owner : ℕ → Query
-query_of_owner o = record { owner = o; analyst = 0; view = Whole; e = 1000000; program = size_people }
-
 -- the second grant of the school: the next number, at the same cost
 abbrev next_grant : Grant
 next_grant = record { number = 1; taken = 1000000; seen = 3 }
@@ -224,32 +219,32 @@ school_value = (size_term, size_reads, (2, (NumF (pos 7) ∷ NumF (pos 8) ∷ []
 
 -- the clinic's budget suffices once ..
 clinic_leads : (draws : ℕ → ℕ → ℕ → ℕ) (b c : Option ℤ) → let a : Option ℤ = noise draws 0 0 in LeadExactly (house_of two_owners) draws 0 0 [] (exchanges a b c) (made (of_clinic a))
-unfolding meant_by request_of cost_of cost_of_charges partition_cost IsAnswered signature_in rows_in
+unfolding meant_by request_of cost_of cost_of_charges partition_cost IsAnswered signature_in rows_in IsMetExactly
 clinic_leads draws b c =
     let made_first = made (of_clinic (noise draws 0 0)) in (
       made_first,
-      (made_first, inl (grant_answer clinic (draws 0) [] (query_of_owner 0) a_grant 3 size_asked refl clinic_value), refl, refl),
+      (made_first, inl (grant_answer clinic (draws 0) [] a_query a_grant 3 size_asked refl clinic_value), refl, refl),
       (
         made_first,
-        ([], inl (money_refused (NoBudget 1000000 2000000 1000000 2), money_says clinic 0 made_first (query_of_owner 0) 1 1 _ size_asked refl, (refl, refl)), refl, refl),
+        ([], inl (money_refused (NoBudget 1000000 2000000 1000000 2), money_says clinic 0 made_first a_query 1 1 _ size_asked refl, (refl, refl)), refl, refl),
         refl,
       ),
     )
 
 -- .. and the school's, from its own number 0 on and by its own draws, twice
 school_leads : (draws : ℕ → ℕ → ℕ → ℕ) (a : Option ℤ) → let b : Option ℤ = noise draws 1 0 in let c : Option ℤ = noise draws 1 1 in LeadExactly (house_of two_owners) draws 1 0 [] (exchanges a b c) (school_records b c)
-unfolding meant_by request_of cost_of cost_of_charges partition_cost signature_in rows_in
+unfolding meant_by request_of cost_of cost_of_charges partition_cost signature_in rows_in IsMetExactly
 school_leads draws a =
     let first = made (of_school (noise draws 1 0)) in
     let second = grant_records an_ask next_grant (of_school (noise draws 1 1)) in (
       first,
-      (first, inl (grant_answer school (draws 1) [] (query_of_owner 1) a_grant 2 school_asked refl school_value), refl, refl),
-      (first ++ second, (second, inl (grant_answer school (draws 1) first (query_of_owner 1) next_grant 2 school_asked refl school_value), refl, refl), refl),
+      (first, inl (grant_answer school (draws 1) [] a_query a_grant 2 school_asked refl school_value), refl, refl),
+      (first ++ second, (second, inl (grant_answer school (draws 1) first a_query next_grant 2 school_asked refl school_value), refl, refl), refl),
     )
 
 two_run : (draws : ℕ → ℕ → ℕ → ℕ) → let a : Option ℤ = noise draws 0 0 in let b : Option ℤ = noise draws 1 0 in let c : Option ℤ = noise draws 1 1 in
     IsScriptRun (house_of two_owners) draws fresh script (replies a b c) (records a b c)
-unfolding lines_of meant_by request_of
+unfolding lines_of meant_by request_of IsMetExactly
 two_run draws =
     let a = noise draws 0 0 in
     let b = noise draws 1 0 in

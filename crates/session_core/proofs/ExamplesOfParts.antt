@@ -25,7 +25,8 @@ use Rattle.owner_catalog.specs.Entries.{TableEntry, PartitionEntry, OwnerEntry, 
 use Rattle.part_views.specs.Holding.{Holding}
 use Rattle.part_views.specs.Views.{signature_in, rows_in}
 use Rattle.sha2.specs.Sha256.{sha256}
-use Rattle.answer_path.specs.Owner.{Owner}
+use Rattle.owner_house.specs.Owner.{Owner}
+use Rattle.answer_path.specs.Met.{IsMetExactly}
 use Rattle.answer_path.specs.Query.{Query}
 use Rattle.answer_path.specs.Judgement.{judgement_of, HasValue}
 use Rattle.answer_path.specs.Program.{IsCharged}
@@ -34,13 +35,13 @@ use Rattle.answer_path.specs.Verdict.{money_refused}
 use Rattle.answer_path.specs.Answered.{Told, HasWorthIn, outcome_reply, grant_records, IsAnswered}
 use Rattle.answer_path.proofs.Answering.{money_says}
 use Rattle.answer_path.proofs.SizePeople.{size_people, size_term, size_reads}
-use Rattle.session_core.specs.House.{Register, IsHeldBy, house_of}
-use Rattle.session_core.specs.Meant.{asks, says, wants, meant_by}
+use Rattle.owner_house.specs.House.{Register, IsHeldBy, house_of, owner_at}
+use Rattle.answer_path.specs.Demand.{asks}
+use Rattle.session_core.specs.Meant.{says, wants, meant_by}
 use Rattle.session_core.specs.Exchanges.{Exchange}
 use Rattle.session_core.specs.Transcript.{LeadExactly, IsScriptRun}
 use Rattle.session_core.specs.Served.{IsAskFor}
-use Rattle.session_core.specs.Code.{owner_at}
-use Rattle.session_core.proofs.Examples.{people, people_entry, ages_held, owner_entry, register_of, fresh, only, outcome_with, grant_answer, turn, quiet}
+use Rattle.session_core.proofs.Examples.{people_entry, ages_held, owner_entry, register_of, fresh, only, outcome_with, grant_answer, turn, quiet}
 
 -- the clinic's `people`: a town and an age
 abbrev townsfolk : TableType
@@ -66,14 +67,14 @@ abbrev clinic_held : Holding
 clinic_held = record { tables = townsfolk ∷ []; rows = rows ∷ []; partitions = area ∷ coast ∷ [] }
 
 -- the school has no partitions
-abbrev two_owners : Register
+abbrev pub two_owners : Register
 two_owners = register_of (clinic_entry ∷ owner_entry (codes "school") 10 100 (people_entry ∷ []) ∷ []) (clinic_held ∷ ages_held (pos 7 ∷ []) ∷ [])
 
 abbrev clinic : Owner
 clinic = owner_at (house_of two_owners) 0
 
 abbrev part : (p j e : ℕ) → Query
-part p j e = record { owner = 0; analyst = 0; view = Part p j; e = e; program = size_people }
+part p j e = record { analyst = 0; view = Part p j; e = e; program = size_people }
 
 -- what an owner holds are the partitions that the catalog says, and no others
 not_other_partitions : IsHeldBy clinic_entry (record { tables = townsfolk ∷ []; rows = rows ∷ []; partitions = coast ∷ area ∷ [] }) → ⊥
@@ -96,7 +97,7 @@ unfolding meant_by request_of
 second_partition = refl
 
 -- the same line without a part asks the whole
-the_whole : meant_by (house_of two_owners) (Some 0) (codes "ask clinic 1 size people") ≡ wants 0 clinic (asks (record { owner = 0; analyst = 0; view = Whole; e = 1000000; program = size_people }))
+the_whole : meant_by (house_of two_owners) (Some 0) (codes "ask clinic 1 size people") ≡ wants 0 clinic (asks (record { analyst = 0; view = Whole; e = 1000000; program = size_people }))
 unfolding meant_by request_of
 the_whole = refl
 
@@ -189,10 +190,10 @@ abbrev third_grant : Grant
 third_grant = record { number = 2; taken = 4; seen = 5 }
 
 abbrev asking : (p j e : ℕ) → Ask
-asking p j e = record { analyst = 0; view = Part p j; e = e; p = 1; q = 1; program = sha256 size_people }
+asking p j e = record { analyst = 0; view = Part p j; e = e; p = 1; q = 1; digest = sha256 size_people }
 
 abbrev whole_query : Query
-whole_query = record { owner = 0; analyst = 0; view = Whole; e = 1; program = size_people }
+whole_query = record { analyst = 0; view = Whole; e = 1; program = size_people }
 
 -- what each is answered, where the noise of its number is this: two rows are of A, and one of B
 abbrev added_first : Option ℤ → List Record
@@ -239,7 +240,7 @@ value_of_b = (size_term, size_reads, (2, (PairF (TextF (codes "B")) (NumF (pos 3
 
 clinic_leads : (draws : ℕ → ℕ → ℕ → ℕ) → let a : Option ℤ = noise_at 6 (draws 0 0) in let b : Option ℤ = noise_at 6 (draws 0 1) in let c : Option ℤ = noise_at 4 (draws 0 2) in
     LeadExactly (house_of two_owners) draws 0 0 [] (exchanges a b c) (records a b c)
-unfolding meant_by request_of cost_of cost_of_charges partition_cost IsAnswered signature_in rows_in
+unfolding meant_by request_of cost_of cost_of_charges partition_cost IsAnswered signature_in rows_in IsMetExactly
 clinic_leads draws =
     let first = added_first (noise_at 6 (draws 0 0)) in
     let second = added_second (noise_at 6 (draws 0 1)) in
@@ -263,7 +264,7 @@ clinic_leads draws =
 
 part_run : (draws : ℕ → ℕ → ℕ → ℕ) → let a : Option ℤ = noise_at 6 (draws 0 0) in let b : Option ℤ = noise_at 6 (draws 0 1) in let c : Option ℤ = noise_at 4 (draws 0 2) in
     IsScriptRun (house_of two_owners) draws fresh script (replies a b c) (only (records a b c))
-unfolding lines_of meant_by request_of
+unfolding lines_of meant_by request_of IsMetExactly
 part_run draws = record {
   exchanges = exchanges (noise_at 6 (draws 0 0)) (noise_at 6 (draws 0 1)) (noise_at 4 (draws 0 2));
   turns = refl;

@@ -5,8 +5,8 @@ use Rattle.wire_lines.specs.Reply.{Replied, greeted, ended, refused}
 use Rattle.wire_lines.specs.Refusal.{by_line}
 use Rattle.wire_lines.specs.Request.{Asked, hello, ask, askpart, recall, left, bye, request_of}
 use Rattle.wire_lines.specs.declared.refusal.LineRefusal.{LineRefusal}
-use Rattle.answer_path.specs.Owner.{Owner}
-use Rattle.session_core.specs.House.{House, analyst_named, owner_named}
+use Rattle.owner_house.specs.Owner.{Owner}
+use Rattle.owner_house.specs.House.{House, analyst_named, owner_named}
 use Rattle.session_core.specs.Meant.{Meant, Subject, says, wants, whole_named, part_named, meant_by, meant_by_request, meant_by_hello, meant_by_ask, meant_by_recall, meant_by_left}
 
 module _ (P : Replied → Type 0) (of_greeting : (name : List ℕ) → P (greeted name)) (of_end : P ended) (of_line : (refusal : LineRefusal) → P (refused (by_line refusal))) where

@@ -7,14 +7,16 @@ use Rattle.wire_lines.proofs.Requests.{grammar_from}
 use Rattle.wire_lines.specs.Request.{Asked, hello, ask, askpart, recall, left, bye, request_of}
 use Rattle.wire_lines.specs.declared.refusal.LineRefusal.{LineRefusal}
 use Rattle.part_views.specs.Partitions.{HasPart}
-use Rattle.answer_path.specs.Owner.{Owner}
+use Rattle.owner_house.specs.Owner.{Owner}
 use Rattle.answer_path.specs.Query.{Query}
+use Rattle.answer_path.specs.Demand.{Demand, asks}
 use Rattle.answer_path.specs.Code.{IsQueryOf}
-use Rattle.session_core.specs.House.{House, IsOwnerIn, analyst_named, owner_named}
-use Rattle.session_core.specs.Meant.{Demand, asks, recalls, balances, Meant, Subject, says, wants, whole_named, part_named, meant_by, meant_by_request, meant_by_hello, meant_by_ask, meant_by_recall, meant_by_left}
+use Rattle.owner_house.specs.House.{House, IsOwnerIn, analyst_named, owner_named}
+use Rattle.session_core.specs.Meant.{Meant, Subject, says, wants, whole_named, part_named, meant_by, meant_by_request, meant_by_hello, meant_by_ask, meant_by_recall, meant_by_left}
 use Rattle.session_core.specs.Served.{IsAskFor}
 use Rattle.session_core.specs.Code.{IsAnalyst}
-use Rattle.session_core.proofs.Subjects.{IsSubjectOf, owner_stands, whole_stands, part_stands, part_has_view}
+use Rattle.session_core.proofs.Subjects.{IsSubjectOf, whole_stands, part_stands}
+use Rattle.owner_house.proofs.Found.{owner_stands, part_has_view}
 
 -- A query that a line makes is of one of the house's owners, in one of its views, by an analyst of the house, at an epsilon in
 -- its range, for the line's program.
@@ -25,11 +27,11 @@ pub record IsAskOf (house : House) (line : List ℕ) (n : ℕ) (owner : Owner) (
   pub epsilon : IsEpsilon query.e
   pub written : IsAskFor line query.program
 
+-- whatever is demanded, it is of one of the house's owners, and a query is such a one
 abbrev pub AsksOnly : House → List ℕ → Meant → Type 0
 AsksOnly house line (says reply next) = ⊤
-AsksOnly house line (wants n owner (asks query)) = IsAskOf house line n owner query
-AsksOnly house line (wants n owner (recalls analyst number)) = slice_get house.owners n ≡ Some owner
-AsksOnly house line (wants n owner balances) = slice_get house.owners n ≡ Some owner
+AsksOnly house line (wants n owner demand) =
+    (slice_get house.owners n ≡ Some owner) × ((query : Query) → demand ≡ asks query → IsAskOf house line n owner query)
 
 -- an epsilon that a line writes is in its range
 asked_in_range : (line name program : List ℕ) (e : ℕ) → request_of line ≡ Ok (ask name (Some e) program) → IsEpsilon e
@@ -52,16 +54,18 @@ asked_only house line None (Ok subject) (Some e) program known there written = t
 asked_only house line (Some analyst) (Ok subject) (Some e) program known there written =
     let of = there subject refl in
     let writes = written e refl in
-    record { stands = of.stands; part = of.part; analyst = known; epsilon = writes.0; written = writes.1 }
+    let made : Query = record { analyst = analyst; view = subject.view; e = e; program = program } in
+    let of_made : IsAskOf house line subject.number subject.owner made = record { stands = of.stands; part = of.part; analyst = known; epsilon = writes.0; written = writes.1 } in
+    (of.stands, λ query is. let same : made ≡ query = cc (is) in subst (λ (q : Query). IsAskOf house line subject.number subject.owner q) same of_made)
 
 recalled_only : (house : House) (line : List ℕ) (who : Option ℕ) (name : List ℕ) (found : Option (ℕ × Owner)) (number : ℕ) → owner_named house name ≡ found → AsksOnly house line (meant_by_recall who found number)
 recalled_only house line who name None number named = tt
 recalled_only house line None name (Some found) number named = tt
-recalled_only house line (Some analyst) name (Some found) number named = owner_stands house name found named
+recalled_only house line (Some analyst) name (Some found) number named = (owner_stands house name found named, λ query is. absurd (cc (is)))
 
 left_only : (house : House) (line : List ℕ) (who : Option ℕ) (name : List ℕ) (found : Option (ℕ × Owner)) → owner_named house name ≡ found → AsksOnly house line (meant_by_left who found)
 left_only house line who name None named = tt
-left_only house line who name (Some found) named = owner_stands house name found named
+left_only house line who name (Some found) named = (owner_stands house name found named, λ query is. absurd (cc (is)))
 
 hello_only : (house : House) (line : List ℕ) (who : Option ℕ) (name : List ℕ) (found : Option ℕ) → AsksOnly house line (meant_by_hello house who name found)
 hello_only house line who name None = tt
@@ -84,12 +88,6 @@ request_only house line who (Ok bye) known reads = tt
 pub asks_only : (house : House) (line : List ℕ) (who : Option ℕ) → IsAnalyst house who → AsksOnly house line (meant_by house who line)
 unfolding meant_by
 asks_only house line who known = request_only house line who (request_of line) known refl
-
--- whatever is demanded, it is of one of the house's owners
-pub only_stands : (house : House) (line : List ℕ) (n : ℕ) (owner : Owner) (demand : Demand) → AsksOnly house line (wants n owner demand) → slice_get house.owners n ≡ Some owner
-only_stands house line n owner (asks query) only = only.stands
-only_stands house line n owner (recalls analyst number) only = only
-only_stands house line n owner balances only = only
 
 -- the owner that a line asks is one of the house's
 stands_by : (house : House) (who : Option ℕ) (subject : Result Subject LineRefusal) (epsilon : Option ℕ) (program : List ℕ) (n : ℕ) (owner : Owner) (demand : Demand) → ((s : Subject) → subject ≡ Ok s → IsSubjectOf house s)

@@ -1,41 +1,30 @@
 -- What the code's values mean.
 use Rattle.std.specs.Prelude.{◌≡◌, ℕ, ◌<◌, ◌≤◌, nat_lt, List, [], ◌∷◌, length, ◌++◌, Option, Some, None, Result, ⊤, Bool, true, false}
-use Rattle.std.specs.Prelude.{if◌then◌else◌, get_or, map, option_map, slice_get, sum_by}
+use Rattle.std.specs.Prelude.{if◌then◌else◌, get_or, map, slice_get, sum_by}
 use Rattle.std.specs.List.{flat_map}
 use Rattle.std.specs.Result.{result_map_both}
+use mathlib.Core.List.{IsPrefix}
 use Rattle.journal_records.specs.declared.records.Header.{Header}
-use Rattle.budget_core.specs.Entries.{Entry, HasView}
-use Rattle.budget_ledger.specs.Account.{Storage, Went}
-use Rattle.wire_lines.specs.Reply.{Replied, greeted, answered, recalled, remaining, ended, refused, replied, reply_text}
+use Rattle.journal_records.specs.declared.records.Record.{Record}
+use Rattle.budget_core.specs.Entries.{HasView}
+use Rattle.budget_ledger.specs.Account.{Account, Storage}
+use Rattle.budget_ledger.specs.declared.failure.Failure.{Failure}
+use Rattle.wire_lines.specs.Reply.{Replied, ended, replied, reply_text}
 use Rattle.wire_lines.specs.declared.refusal.LineRefusal.{LineRefusal}
 use Rattle.part_views.specs.Partitions.{HasPart}
-use Rattle.answer_path.specs.Owner.{Owner}
-use Rattle.answer_path.specs.Answered.{Told}
-use Rattle.answer_path.specs.Pass.{Pass, first_of_run}
-use Rattle.answer_path.specs.Code.{query_of, IsQueryOf}
-use Rattle.session_core.specs.House.{House}
-use Rattle.session_core.specs.Meant.{Meant, Subject, says, wants, asks, recalls, balances, meant_by, next_who}
+use Rattle.owner_house.specs.Owner.{Owner}
+use Rattle.owner_desk.specs.Passes.{Pass, Told, first_of_run, records_told, closing}
+use Rattle.answer_path.specs.Shut.{shut_of}
+use Rattle.answer_path.specs.Code.{demand_of, IsDemandOf, HasPartFor}
+use Rattle.owner_house.specs.House.{House, owner_at, no_entry}
+use Rattle.session_core.specs.Meant.{Meant, Subject, says, wants, meant_by, next_who}
 use Rattle.session_core.specs.Turns.{Turn, session_turns, blocks_of, is_bye, turns_of}
-use Rattle.session_core.specs.Exchanges.{Exchange, ArePlain, AskOthers, told_of}
-use Rattle.session_core.specs.Served.{AnswersOn, ClosesOn}
-use Rattle.session_core.specs.Transcript.{Journals, LeadExactly}
+use Rattle.session_core.specs.Exchanges.{Exchange, ArePlain, told_of}
+use Rattle.session_core.specs.Served.{AnswersOn, ShutsOn}
+use Rattle.session_core.specs.Transcript.{Journals}
 use Rattle.session_core.specs.declared.line.Subject.{Subject as SubjectAt}
 use Rattle.session_core.specs.declared.line.LineMeaning.{LineMeaning}
-use Rattle.session_core.specs.declared.line.LineMeaning.TheVariants.{Says, Asks, Recalls, Balances}
-
-abbrev pub no_entry : Entry
-no_entry = record { budget = 0; capacity = 0; analysts = 0; keys = [] }
-
-abbrev pub no_owner : Owner
-no_owner = record { name = []; entry = no_entry; tables = []; rows = []; partitions = [] }
-
--- the owner of this number
-abbrev pub owner_at : House → ℕ → Owner
-owner_at house o = get_or house.owners o no_owner
-
--- a number that was found, with its owner
-abbrev pub numbered : House → Option ℕ → Option (ℕ × Owner)
-numbered house found = option_map (λ o. (o, owner_at house o)) found
+use Rattle.session_core.specs.declared.line.LineMeaning.TheVariants.{Says, Wants}
 
 -- what a query is to look at, in a house
 abbrev pub subject_of : House → SubjectAt → Subject
@@ -54,23 +43,19 @@ found_in house found = result_map_both (subject_of house) (λ refusal. refusal) 
 -- what a line comes to, in a house
 abbrev pub meaning_of : House → LineMeaning → Meant
 meaning_of house (Says reply who) = says (replied reply) who
-meaning_of house (Asks query) = wants query.owner (owner_at house query.owner) (asks (query_of query))
-meaning_of house (Recalls owner analyst number) = wants owner (owner_at house owner) (recalls analyst number)
-meaning_of house (Balances owner) = wants owner (owner_at house owner) balances
+meaning_of house (Wants owner demand) = wants owner (owner_at house owner) (demand_of demand)
 
 -- who speaks is an analyst of the house
 abbrev pub IsAnalyst : House → Option ℕ → Type 0
 IsAnalyst house None = ⊤
 IsAnalyst house (Some analyst) = analyst < length house.analysts
 
--- A demand is of one of the house's owners; a query is of that owner's entry, and its view one of that owner's.
+-- A demand is of one of the house's owners: a query is of that owner's entry, and its view one of that owner's.
 abbrev pub IsMeaningIn : House → LineMeaning → Type 0
 IsMeaningIn house (Says reply who) = IsAnalyst house who
-IsMeaningIn house (Asks query) =
-    (query.owner < length house.owners) × IsQueryOf (owner_at house query.owner).entry (query_of query)
-    × HasPart (owner_at house query.owner).partitions query.view
-IsMeaningIn house (Recalls owner analyst number) = owner < length house.owners
-IsMeaningIn house (Balances owner) = owner < length house.owners
+IsMeaningIn house (Wants owner demand) =
+    (owner < length house.owners) × IsDemandOf (owner_at house owner).entry (demand_of demand)
+    × HasPartFor (owner_at house owner).partitions (demand_of demand)
 
 -- no reply is longer
 abbrev pub reply_limit : ℕ
@@ -83,9 +68,7 @@ short_reply_limit = 8
 -- as short a reply as any line may have, and no demand
 abbrev pub IsShort : LineMeaning → Type 0
 IsShort (Says reply who) = length (reply_text (replied reply)) ≤ short_reply_limit
-IsShort (Asks query) = ⊥
-IsShort (Recalls owner analyst number) = ⊥
-IsShort (Balances owner) = ⊥
+IsShort (Wants owner demand) = ⊥
 
 -- the turns that are left in a script, where this analyst speaks at the first
 abbrev pub turns_behind : House → Option ℕ → List (List (List ℕ)) → List Turn
@@ -100,12 +83,8 @@ abbrev pub who_behind : House → Option ℕ → List ℕ → Option ℕ
 who_behind house who line = if is_bye line then None else next_who who (meant_by house who line)
 
 abbrev pub is_ended : Replied → Bool
-is_ended (greeted name) = false
-is_ended (answered n value taken) = false
-is_ended (recalled n standing seen) = false
-is_ended (remaining spent budget seen) = false
 is_ended ended = true
-is_ended (refused refusal) = false
+is_ended reply = false
 
 -- the exchange of one line, where this analyst speaks
 abbrev pub one_line : (who : Option ℕ) → (line : List ℕ) → Replied → List Told → List Exchange
@@ -117,48 +96,42 @@ no_header = record { owner = 0; budget = 0; capacity = 0; digest = [] }
 abbrev no_storage : Storage
 no_storage = record { header = no_header; trace = None; faults = 0; closed = None }
 
+abbrev no_account : Account
+no_account = record { ledger = record { entry = no_entry; found = []; records = [] }; storage = no_storage }
+
+-- the pass on a book that was just opened: it has seen what was found, and added nothing
+abbrev pub fresh_pass : Account → Pass
+fresh_pass opened = record { opened = opened; seen = opened.ledger.found; failure = None; own = []; faults = [] }
+
 abbrev pub no_pass : Pass
-no_pass = record { entry = no_entry; found = []; seen = []; own = []; storage = no_storage }
+no_pass = fresh_pass no_account
 
 -- the pass of the owner of this number, among one pass for each owner
 abbrev pub pass_at : List Pass → ℕ → Pass
 pass_at passes o = get_or passes o no_pass
 
--- each owner's records that the passes have seen, and those that were found
-abbrev pub seen_by : List Pass → Journals
-seen_by passes o = (pass_at passes o).seen
-
+-- each owner's records that were found
 abbrev pub found_by : List Pass → Journals
-found_by passes o = (pass_at passes o).found
+found_by passes o = (pass_at passes o).opened.ledger.found
 
 -- There is a pass for each of the house's owners, on its entry.
 pub record ArePasses (house : House) (passes : List Pass) : Type 0 where
   pub each_has : length passes ≡ length house.owners
-  pub entries : (o : ℕ) (owner : Owner) → slice_get house.owners o ≡ Some owner → (pass_at passes o).entry ≡ owner.entry
+  pub entries : (o : ℕ) (owner : Owner) → slice_get house.owners o ≡ Some owner → (pass_at passes o).opened.ledger.entry ≡ owner.entry
 
 -- One owner's pass goes on by some exchanges: each of its turns has the stated reply on some records that begin with what
--- the pass had seen, and what they added is the pass's own. A stop at any moment leaves some first ones of the records, or one more
--- where a record wasn't wholly added; and the book is closed as the replies say.
+-- the pass had seen, and what they added is the pass's own; and the book is shut as the replies say.
 pub record GoesOn (house : House) (draws : ℕ → ℕ → ℕ → ℕ) (o : ℕ) (xs : List Exchange) (before after : Pass) : Type 0 where
-  pub entry : after.entry ≡ before.entry
-  pub found : after.found ≡ before.found
+  pub opened : after.opened ≡ before.opened
   pub own : after.own ≡ before.own ++ told_of house o xs
   pub answers : AnswersOn house draws o (first_of_run before) before.seen xs after.seen
-  pub went : Went before.seen after.seen before.storage after.storage
-  pub closes : ClosesOn house draws o before.storage.closed xs after.storage.closed
-  -- lines that ask others leave the owner's disk alone
-  pub still : AskOthers house o xs → after.storage ≡ before.storage
+  pub shuts : ShutsOn house draws o (shut_of before) xs (shut_of after)
 
 -- Some lines were served, in any order with those of others: who asks no owner has the plain reply, and each pass went on.
 pub record AreServed (house : House) (draws : ℕ → ℕ → ℕ → ℕ) (xs : List Exchange) (before after : List Pass) : Type 0 where
   pub each_has : length after ≡ length before
   pub plain : ArePlain house xs
   pub owners : (o : ℕ) (owner : Owner) → slice_get house.owners o ≡ Some owner → GoesOn house draws o xs (pass_at before o) (pass_at after o)
-
--- No other line added records meanwhile: each turn was answered on just the records that the pass had seen.
-abbrev pub AreAlone : House → (ℕ → ℕ → ℕ → ℕ) → List Exchange → (before after : List Pass) → Type 0
-AreAlone house draws xs before after = (o : ℕ) (owner : Owner) → slice_get house.owners o ≡ Some owner
-    → LeadExactly house draws o (first_of_run (pass_at before o)) (pass_at before o).seen xs (pass_at after o).seen
 
 -- room for the longest reply to a line of so many bytes: below six it asks nothing, and is refused or `bye`
 abbrev pub room_for_line : ℕ → ℕ
@@ -168,9 +141,10 @@ room_for_line n = if nat_lt n 6 then short_reply_limit else reply_limit
 abbrev pub room_for_lines : List (List ℕ) → ℕ
 room_for_lines lines = sum_by (λ line. room_for_line (length line)) lines
 
--- the passes have seen just what was found
+-- The passes are those on books that were just opened.
 abbrev pub AreFresh : House → List Pass → Type 0
-AreFresh house passes = (o : ℕ) (owner : Owner) → slice_get house.owners o ≡ Some owner → (pass_at passes o).seen ≡ (pass_at passes o).found
+AreFresh house passes = (o : ℕ) (owner : Owner) → slice_get house.owners o ≡ Some owner
+    → pass_at passes o ≡ fresh_pass (pass_at passes o).opened
 
 -- The text is the replies to the script's turns, which were served.
 pub record HasServed (house : House) (draws : ℕ → ℕ → ℕ → ℕ) (script text : List ℕ) (before after : List Pass) : Type 0 where
@@ -178,3 +152,16 @@ pub record HasServed (house : House) (draws : ℕ → ℕ → ℕ → ℕ) (scri
   pub turns : map (λ x. x.turn) exchanges ≡ turns_of house script
   pub written : text ≡ flat_map reply_text (map (λ x. x.reply) exchanges)
   pub served : AreServed house draws exchanges before after
+
+-- A pass's book was closed, with these records, and was shut in the end or wasn't: its records are those found and the pass's own,
+-- and they go on from those seen; what shut it is the pass's own append that failed.
+pub record HasClosed (pass : Pass) (records : List Record) (closed : Option Failure) : Type 0 where
+  pub all : records ≡ pass.opened.ledger.found ++ records_told pass.own
+  pub later : IsPrefix pass.seen records
+  pub faults : closing closed ≡ pass.faults
+  pub failure : (failure : Failure) → pass.failure ≡ Some failure → closed ≡ Some failure
+
+-- Each owner's book was closed so.
+abbrev pub AreClosed : House → List Pass → (records : Journals) → (closed : ℕ → Option Failure) → Type 0
+AreClosed house passes records closed = (o : ℕ) (owner : Owner) → slice_get house.owners o ≡ Some owner
+    → HasClosed (pass_at passes o) (records o) (closed o)

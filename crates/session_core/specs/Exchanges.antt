@@ -2,10 +2,11 @@
 use Rattle.std.specs.Prelude.{◌≡◌, ℕ, ◌==◌, Bool, false, List, [], ◌∷◌, ⊤, MatchBool, if◌then◌else◌}
 use Rattle.std.specs.List.{AllByRecursion, flat_map}
 use Rattle.wire_lines.specs.Reply.{Replied}
-use Rattle.answer_path.specs.Owner.{Owner}
-use Rattle.answer_path.specs.Answered.{Told}
-use Rattle.session_core.specs.House.{House}
-use Rattle.session_core.specs.Meant.{Meant, Demand, says, wants}
+use Rattle.owner_house.specs.Owner.{Owner}
+use Rattle.owner_desk.specs.Passes.{Told}
+use Rattle.answer_path.specs.Demand.{Demand}
+use Rattle.owner_house.specs.House.{House}
+use Rattle.session_core.specs.Meant.{Meant, says, wants}
 use Rattle.session_core.specs.Turns.{Turn, meant_at}
 
 -- A turn, its reply, and the records that it added to those of the owner that it asks, with their places.

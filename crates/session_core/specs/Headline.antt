@@ -1,16 +1,15 @@
--- What is promised of a script's replies and records.
-use Rattle.std.specs.Prelude.{◌≡◌, ℕ, List, ◌++◌, map, slice_get, Some}
-use mathlib.Core.List.{IsPrefix}
+-- What is promised of a script's replies and records, in whatever order its lines came.
+use Rattle.std.specs.Prelude.{◌≡◌, ℕ, ◌<◌, List, ◌++◌, map, slice_get, Some}
 use Rattle.journal_records.specs.declared.records.Record.{Record}
 use Rattle.wire_lines.specs.Lines.{lines_of}
-use Rattle.wire_lines.specs.Reply.{Replied}
-use Rattle.answer_path.specs.Owner.{Owner}
+use Rattle.owner_house.specs.Owner.{Owner}
 use Rattle.owner_history.specs.Sound.{IsBacked, IsFound, IsOwed, MayBeFound}
-use Rattle.session_core.specs.House.{House}
+use Rattle.owner_house.specs.House.{House}
 use Rattle.session_core.specs.Turns.{turns_of}
 use Rattle.session_core.specs.Exchanges.{Exchange, ArePlain}
-use Rattle.session_core.specs.Served.{Sources, AreAskedBy, AnswersOn, AreHeldTo, ArePlaced}
+use Rattle.session_core.specs.Served.{Sources, AreAskedBy, AreHeldTo, ArePlaced}
 use Rattle.session_core.specs.Transcript.{Journals, first_new}
+use Rattle.session_core.specs.Gathered.{AreAnsweredOn, AreOfScript}
 
 -- the programs that explain each owner's found records, by its number
 abbrev pub Programs : Type 0
@@ -24,24 +23,21 @@ pub record IsAccountedFor (house : House) (draws : ℕ → ℕ → ℕ → ℕ) 
   pub backed : IsBacked owner (draws o) found (earlier ++ sources.programs) records
   pub asked : AreAskedBy house o owner (turns_of house script) sources
 
--- What replies say of an owner's records: each is the stated one on some of them, what it added stands in them, they bear out
--- what it says (a recalled answer is the value that was settled), and the reply to each new reservation's turn says its number,
--- or that the owner's disk failed.
-pub record IsReplied (house : House) (draws : ℕ → ℕ → ℕ → ℕ) (o : ℕ) (owner : Owner) (found : List Record)
+-- What replies say of an owner's records: each worker's are the stated ones on records that grow, what they added stands in the
+-- records, these bear out what they say (a recalled answer is the value that was settled), and the reply to each new reservation's
+-- turn says its number, or that the owner's disk failed.
+pub record IsReplied (house : House) (draws : ℕ → ℕ → ℕ → ℕ) (count : ℕ) (crew : ℕ → ℕ) (o : ℕ) (found : List Record)
     (earlier : List (List ℕ)) (sources : Sources) (xs : List Exchange) (records : List Record) : Type 0 where
-  -- what is known of the owner's records at the end
-  pub last : List Record
-  pub answers : AnswersOn house draws o (first_new found) found xs last
-  pub begins : IsPrefix last records
+  pub answers : AreAnsweredOn house draws count crew o found xs records
   pub held : AreHeldTo house o (earlier ++ sources.programs) records xs
   pub placed : ArePlaced (first_new found) sources.places xs
 
 -- both, of the same programs
-pub record IsHonoured (house : House) (draws : ℕ → ℕ → ℕ → ℕ) (script : List ℕ) (o : ℕ) (owner : Owner) (found : List Record)
-    (earlier : List (List ℕ)) (xs : List Exchange) (records : List Record) : Type 0 where
+pub record IsHonoured (house : House) (draws : ℕ → ℕ → ℕ → ℕ) (script : List ℕ) (count : ℕ) (crew : ℕ → ℕ) (o : ℕ) (owner : Owner)
+    (found : List Record) (earlier : List (List ℕ)) (xs : List Exchange) (records : List Record) : Type 0 where
   pub sources : Sources
   pub accounted : IsAccountedFor house draws script o owner found earlier sources records
-  pub replied : IsReplied house draws o owner found earlier sources xs records
+  pub replied : IsReplied house draws count crew o found earlier sources xs records
 
 -- Owed at every status, to every owner, whatever was found: its records are legal after those found, and within the budget.
 abbrev pub AreOwed : House → (found records : Journals) → Type 0
@@ -53,17 +49,17 @@ abbrev pub AreAccountedFor :
 AreAccountedFor house draws found earlier script records = (o : ℕ) (owner : Owner) → slice_get house.owners o ≡ Some owner
     → (sources : Sources) × IsAccountedFor house draws script o owner (found o) (earlier o) sources (records o)
 
--- These replies to a script and these records keep the promises to each owner, whose records were found, with these programs.
-pub record Headline (house : House) (draws : ℕ → ℕ → ℕ → ℕ) (found : Journals) (earlier : Programs) (script : List ℕ)
-    (replies : List Replied) (records : Journals) : Type 0 where
-  pub exchanges : List Exchange
-  -- the turns are the script's lines, in order, and these are their replies
-  pub turns : map (λ x. x.turn) exchanges ≡ turns_of house script
+-- These exchanges, by so many workers of whom each has its places, and these records keep the promises to each owner, whose records
+-- were found, with these programs. (What is written is the exchanges' replies.)
+pub record Headline (house : House) (draws : ℕ → ℕ → ℕ → ℕ) (found : Journals) (earlier : Programs) (script : List ℕ) (count : ℕ)
+    (crew : ℕ → ℕ) (exchanges : List Exchange) (records : Journals) : Type 0 where
+  pub crews : (at : ℕ) → crew at < count
+  -- the turns are the script's lines, in order
+  pub turns : AreOfScript house script exchanges
   pub lines : map (λ turn. turn.line) (turns_of house script) ≡ lines_of script
-  pub replied : map (λ x. x.reply) exchanges ≡ replies
   pub plain : ArePlain house exchanges
   pub owners : (o : ℕ) (owner : Owner) → slice_get house.owners o ≡ Some owner
-      → IsHonoured house draws script o owner (found o) (earlier o) exchanges (records o)
+      → IsHonoured house draws script count crew o owner (found o) (earlier o) exchanges (records o)
 
 -- what each owner's run may begin with, where these programs explain it
 abbrev pub AreFound : House → (ℕ → ℕ → ℕ → ℕ) → (earlier : Programs) → (found : Journals) → Type 0

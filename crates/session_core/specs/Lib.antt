@@ -1,9 +1,10 @@
-pub mod House
 pub mod Meant
 pub mod Turns
 pub mod Exchanges
 pub mod Transcript
 pub mod Served
+pub mod Gathered
 pub mod Headline
 pub mod Said
+pub mod Order
 pub mod Code

@@ -7,16 +7,9 @@ use Rattle.wire_lines.specs.Request.{Asked, hello, ask, askpart, recall, left, b
 use Rattle.wire_lines.specs.Refusal.{by_line}
 use Rattle.wire_lines.specs.declared.refusal.LineRefusal.{LineRefusal}
 use Rattle.wire_lines.specs.declared.refusal.LineRefusal.TheVariants.{Unknown, NoEpsilon, NoHello}
-use Rattle.answer_path.specs.Owner.{Owner}
-use Rattle.answer_path.specs.Query.{Query}
-use Rattle.session_core.specs.House.{House, analyst_named, owner_named, partition_named, partition_at, key_named}
-
--- what is demanded of an owner: an answer to a query, what became of a number that the analyst reserved, or what is spent of
--- the budget
-pub data Demand : Type 0 where
-  asks : Query → Demand
-  recalls : (analyst number : ℕ) → Demand
-  balances : Demand
+use Rattle.owner_house.specs.Owner.{Owner}
+use Rattle.answer_path.specs.Demand.{Demand, asks, recalls, balances}
+use Rattle.owner_house.specs.House.{House, analyst_named, owner_named, partition_named, partition_at, key_named}
 
 -- What a line comes to by itself, by the house's names and by who speaks: a reply and who speaks then, or a demand of an
 -- owner. Refusals are looked for in the order of their codes.
@@ -56,7 +49,7 @@ meant_by_ask who (Ok subject) None program = says (refused (by_line NoEpsilon)) 
 meant_by_ask None (Ok subject) (Some e) program = says (refused (by_line NoHello)) None
 meant_by_ask (Some analyst) (Ok subject) (Some e) program =
     wants subject.number subject.owner
-    (asks (record { owner = subject.number; analyst = analyst; view = subject.view; e = e; program = program }))
+    (asks (record { analyst = analyst; view = subject.view; e = e; program = program }))
 
 -- An analyst recalls its own numbers, so a hello comes first.
 abbrev pub meant_by_recall : Option ℕ → Option (ℕ × Owner) → ℕ → Meant

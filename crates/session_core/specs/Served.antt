@@ -1,49 +1,44 @@
 -- What is promised of lines and replies in whatever order the owner's records came: each reply is the stated one on some of
 -- them, which begin with all that this worker saw and added before.
-use Rattle.std.specs.Prelude.{◌≡◌, ◌≢◌, ◌⊎◌, ℕ, ◌+◌, ◌<◌, List, [], ◌∷◌, length, slice_get, Option, Some, Ok, ⊤}
+use Rattle.std.specs.Prelude.{◌≡◌, ◌≢◌, ◌⊎◌, ℕ, ◌+◌, ◌<◌, List, [], ◌∷◌, length, slice_get, Some, Ok, ⊤}
 use Rattle.std.specs.List.{AllByRecursion}
 use Rattle.journal_records.specs.declared.records.Outcome.{Outcome}
 use Rattle.journal_records.specs.declared.records.Reservation.{Reservation}
 use Rattle.journal_records.specs.declared.records.Record.{Record}
 use Rattle.journal_records.specs.declared.records.Record.TheVariants.{Reserve}
-use Rattle.budget_ledger.specs.declared.failure.Failure.{Failure}
 use Rattle.wire_lines.specs.Reply.{Replied, refused}
 use Rattle.wire_lines.specs.Refusal.{by_disk}
 use Rattle.wire_lines.specs.declared.refusal.DiskRefusal.{DiskRefusal}
 use Rattle.wire_lines.specs.Request.{ask, askpart, request_of}
-use Rattle.answer_path.specs.Owner.{Owner}
+use Rattle.owner_house.specs.Owner.{Owner}
 use Rattle.answer_path.specs.Query.{Query}
-use Rattle.answer_path.specs.Answered.{Told, IsAsked}
-use Rattle.answer_path.specs.Standing.{IsRecalled, IsBalance}
-use Rattle.answer_path.specs.Closing.{Closes}
-use Rattle.owner_history.specs.Granted.{settlement_in, IsBorneOut, IsRecallBorneOut}
-use Rattle.session_core.specs.House.{House}
-use Rattle.session_core.specs.Meant.{Meant, Demand, asks, recalls, balances, wants}
+use Rattle.owner_desk.specs.Passes.{Told}
+use Rattle.answer_path.specs.Demand.{Demand, asks, recalls, balances}
+use Rattle.answer_path.specs.Met.{IsMet}
+use Rattle.answer_path.specs.Shut.{Shut, ShutsBy}
+use Rattle.owner_history.specs.Granted.{told_settlement, IsBorneOut, IsRecallBorneOut}
+use Rattle.owner_house.specs.House.{House}
+use Rattle.session_core.specs.Meant.{Meant, wants}
 use Rattle.session_core.specs.Turns.{Turn, meant_at}
 use Rattle.session_core.specs.Exchanges.{Exchange, Lead}
 
--- A demand is met on some of the owner's records, which begin with what was seen. A recall and a balance add nothing.
+-- A demand is met on some of the owner's records, which begin with what was seen.
 abbrev pub MeetsOnSome : (ℕ → ℕ → ℕ) → (start : ℕ) → Owner → Demand → (seen : List Record) → Exchange → (after : List Record) → Type 0
-MeetsOnSome draws start owner (asks query) seen x after = IsAsked owner draws start query seen x.reply x.told after
-MeetsOnSome draws start owner (recalls analyst number) seen x after = IsRecalled start analyst number seen x.reply after × (x.told ≡ [])
-MeetsOnSome draws start owner balances seen x after = IsBalance owner.entry seen x.reply after × (x.told ≡ [])
+MeetsOnSome draws start owner demand seen x after = IsMet owner draws start demand seen x.reply x.told after
 
 -- One owner's part in some exchanges of one worker, in any order with those of others.
 abbrev pub AnswersOn :
     House → (ℕ → ℕ → ℕ → ℕ) → (o start : ℕ) → (seen : List Record) → List Exchange → (last : List Record) → Type 0
 AnswersOn house draws o start seen xs last = Lead house o (MeetsOnSome (draws o) start) seen xs last
 
--- What a demand does to the owner's book, which is closed since an append to its journal failed, or isn't: a recall and a balance
--- leave it as it is.
-abbrev pub ClosesBy : (ℕ → ℕ → ℕ) → Owner → Demand → (before : Option Failure) → Exchange → (after : Option Failure) → Type 0
-ClosesBy draws owner (asks query) before x after = Closes owner draws query x.reply x.told before after
-ClosesBy draws owner (recalls analyst number) before x after = after ≡ before
-ClosesBy draws owner balances before x after = after ≡ before
+-- what a demand does to the owner's book, which is shut once a record wasn't appended
+abbrev pub ShutsFor : (ℕ → ℕ → ℕ) → Owner → Demand → (before : Shut) → Exchange → (after : Shut) → Type 0
+ShutsFor draws owner demand before x after = ShutsBy owner draws demand x.reply x.told before after
 
--- One owner's book through some exchanges: a 52 closes it, and from then on each query that would be granted is told 42.
-abbrev pub ClosesOn :
-    House → (ℕ → ℕ → ℕ → ℕ) → (o : ℕ) → (before : Option Failure) → List Exchange → (after : Option Failure) → Type 0
-ClosesOn house draws o before xs after = Lead house o (ClosesBy (draws o)) before xs after
+-- One owner's part in some exchanges of one worker, by what it has seen of why the owner's book is shut, and its own appends that
+-- failed: each is told 52.
+abbrev pub ShutsOn : House → (ℕ → ℕ → ℕ → ℕ) → (o : ℕ) → (before : Shut) → List Exchange → (after : Shut) → Type 0
+ShutsOn house draws o before xs after = Lead house o (ShutsFor (draws o)) before xs after
 
 -- the records stand at their places
 abbrev pub StandIn : List Record → List Told → Type 0
@@ -93,7 +88,7 @@ pub record AreAskedBy (house : House) (o : ℕ) (owner : Owner) (turns : List Tu
 
 -- the reply speaks of the reservation of this number, and of how it was settled
 abbrev pub SpeaksOf : ℕ → Exchange → Type 0
-SpeaksOf n x = (outcome : Outcome) × (settlement_in x.reply ≡ Some (n, outcome))
+SpeaksOf n x = (outcome : Outcome) × (told_settlement x.reply ≡ Some (n, outcome))
 
 -- The turn added the reservation of this number alone: its settlement wasn't added for the owner's disk, and the reply names
 -- no number.

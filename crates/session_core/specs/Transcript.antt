@@ -1,32 +1,37 @@
--- The transcript of a script: each line on the records so far.
-use Rattle.std.specs.Prelude.{◌≡◌, ℕ, List, [], ◌++◌, length, map, slice_get, Some, ◌⊎◌}
-use Rattle.std.specs.List.{enumerate_from, flat_map}
+-- The transcript of a script, as one worker answers it: each line on the records so far.
+use Rattle.std.specs.Prelude.{◌≡◌, ℕ, List, length, map, slice_get, Option, Some}
+use Rattle.std.specs.List.{flat_map}
 use Rattle.journal_records.specs.declared.records.Record.{Record}
 use Rattle.budget_core.specs.Counts.{reservations_of}
-use Rattle.budget_core.specs.Answers.{recalled_from, left_by}
+use Rattle.budget_ledger.specs.declared.failure.Failure.{Failure}
 use Rattle.wire_lines.specs.Reply.{Replied, reply_text}
-use Rattle.answer_path.specs.Owner.{Owner}
-use Rattle.answer_path.specs.Answered.{IsAnswered, IsUnanswered}
-use Rattle.answer_path.specs.Standing.{recall_reply, left_reply}
-use Rattle.session_core.specs.House.{House}
-use Rattle.session_core.specs.Meant.{Demand, asks, recalls, balances}
+use Rattle.owner_house.specs.Owner.{Owner}
+use Rattle.answer_path.specs.Demand.{Demand, asks, recalls, balances}
+use Rattle.answer_path.specs.Closing.{Closes}
+use Rattle.answer_path.specs.Met.{IsMetExactly}
+use Rattle.owner_house.specs.House.{House}
 use Rattle.session_core.specs.Turns.{turns_of}
 use Rattle.session_core.specs.Exchanges.{Exchange, ArePlain, Lead}
 
 -- A demand is met on just the records that were known: what it adds stands right behind them.
-abbrev pub MeetsExactly :
-    (ℕ → ℕ → ℕ) → (start : ℕ) → Owner → Demand → (seen : List Record) → Exchange → (after : List Record) → Type 0
-MeetsExactly draws start owner (asks query) seen x after =
-    (added : List Record) × (IsAnswered owner draws start seen query x.reply added ⊎ IsUnanswered x.reply added)
-    × (x.told ≡ enumerate_from (length seen) added) × (after ≡ seen ++ added)
-MeetsExactly draws start owner (recalls analyst number) seen x after =
-    (x.reply ≡ recall_reply number (recalled_from start seen number analyst)) × (x.told ≡ []) × (after ≡ seen)
-MeetsExactly draws start owner balances seen x after = (x.reply ≡ left_reply (left_by owner.entry seen)) × (x.told ≡ []) × (after ≡ seen)
+abbrev pub MeetsExactly : (ℕ → ℕ → ℕ) → (start : ℕ) → Owner → Demand → (seen : List Record) → Exchange → (after : List Record) → Type 0
+MeetsExactly draws start owner demand seen x after = IsMetExactly owner draws start demand seen x.reply x.told after
 
 -- One owner's part in some exchanges, each turn on the records so far.
 abbrev pub LeadExactly :
     House → (ℕ → ℕ → ℕ → ℕ) → (o start : ℕ) → (seen : List Record) → List Exchange → (last : List Record) → Type 0
 LeadExactly house draws o start seen xs last = Lead house o (MeetsExactly (draws o) start) seen xs last
+
+-- What a demand does to the owner's book, where no other line shuts it: a recall and a balance leave it as it is.
+abbrev pub ClosesBy : (ℕ → ℕ → ℕ) → Owner → Demand → (before : Option Failure) → Exchange → (after : Option Failure) → Type 0
+ClosesBy draws owner (asks query) before x after = Closes owner draws query x.reply x.told before after
+ClosesBy draws owner (recalls analyst number) before x after = after ≡ before
+ClosesBy draws owner balances before x after = after ≡ before
+
+-- One owner's book through some exchanges: a 52 shuts it, and from then on each query that would be granted is told 42.
+abbrev pub ClosesOn :
+    House → (ℕ → ℕ → ℕ → ℕ) → (o : ℕ) → (before : Option Failure) → List Exchange → (after : Option Failure) → Type 0
+ClosesOn house draws o before xs after = Lead house o (ClosesBy (draws o)) before xs after
 
 -- each owner's records, by its number
 abbrev pub Journals : Type 0

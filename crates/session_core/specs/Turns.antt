@@ -1,20 +1,15 @@
 -- The turns of a script: its lines in blocks, each a session of its own.
-use Rattle.std.specs.Prelude.{ℕ, List, [], ◌∷◌, Result, Ok, Err, Option, None, Bool, true, false, if◌then◌else◌}
+use Rattle.std.specs.Prelude.{ℕ, List, [], ◌∷◌, Result, Ok, Option, None, Bool, true, false, if◌then◌else◌}
 use Rattle.std.specs.List.{flat_map, onto_first}
 use Rattle.wire_lines.specs.Lines.{lines_of}
-use Rattle.wire_lines.specs.Request.{Asked, hello, ask, askpart, recall, left, bye, request_of}
+use Rattle.wire_lines.specs.Request.{Asked, bye, request_of}
 use Rattle.wire_lines.specs.declared.refusal.LineRefusal.{LineRefusal}
-use Rattle.session_core.specs.House.{House}
+use Rattle.owner_house.specs.House.{House}
 use Rattle.session_core.specs.Meant.{Meant, meant_by, next_who}
 
 abbrev pub is_bye_request : Result Asked LineRefusal → Bool
 is_bye_request (Ok bye) = true
-is_bye_request (Ok (hello name)) = false
-is_bye_request (Ok (ask name epsilon program)) = false
-is_bye_request (Ok (askpart name partition key epsilon program)) = false
-is_bye_request (Ok (recall name number)) = false
-is_bye_request (Ok (left name)) = false
-is_bye_request (Err refusal) = false
+is_bye_request request = false
 
 abbrev pub is_bye : List ℕ → Bool
 is_bye line = is_bye_request (request_of line)

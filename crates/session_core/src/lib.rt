@@ -1,7 +1,6 @@
 //! One script: its lines in blocks, each a session of an analyst, answered one after another.
 #![tactic(auto)]
 
-pub mod house;
 pub mod laws;
 pub mod line;
 pub mod passes;

@@ -2,12 +2,12 @@
 
 ghost use Rattle.std.specs.Prelude.{◌≡◌, IfSome, IfOk, Some, ◌<◌, length};
 ghost use Rattle.budget_core.specs.Entries.{IsEpsilon};
-ghost use Rattle.session_core.specs.House.{house_of, analyst_named, owner_named};
+ghost use Rattle.owner_house.specs.House.{house_of, analyst_named, owner_named};
 ghost use Rattle.session_core.specs.Meant.{meant_by, meant_by_ask, meant_by_hello, meant_by_left, meant_by_recall, part_named, whole_named};
 ghost use Rattle.session_core.specs.Code.{found_in, meaning_of, IsAnalyst, IsMeaningIn, IsShort, IsSubjectIn};
 
-use crate::house::House;
-use answer_path::Query;
+use answer_path::{Demand, Query};
+use owner_house::house::House;
 use partition_charge::view::View;
 use wire_lines::{LineRefusal, Name, Refusal, Reply, Request, read_request};
 
@@ -15,22 +15,9 @@ use wire_lines::{LineRefusal, Name, Refusal, Reply, Request, read_request};
 #[derive(Clone, Copy)]
 pub enum LineMeaning<'a> {
     /// A reply, and who speaks then.
-    Says {
-        reply: Reply<'a>,
-        who: Option<u16>,
-    },
-    /// A query.
-    Asks(Query<'a>),
-    /// What became of a number that this analyst reserved with this owner.
-    Recalls {
-        owner: u32,
-        analyst: u16,
-        number: u32,
-    },
-    /// What is spent of this owner's budget.
-    Balances {
-        owner: u32,
-    },
+    Says { reply: Reply<'a>, who: Option<u16> },
+    /// A demand of this owner.
+    Wants { owner: u32, demand: Demand<'a> },
 }
 
 /// What a query is to look at: an owner, and the whole of its data or a part.
@@ -161,13 +148,15 @@ fn read_ask<'a>(
         (Err(refusal), _, _) => refuse(refusal, who),
         (Ok(_), None, _) => refuse(LineRefusal::NoEpsilon, who),
         (Ok(_), Some(_), None) => refuse(LineRefusal::NoHello, who),
-        (Ok(subject), Some(epsilon), Some(analyst)) => LineMeaning::Asks(Query {
+        (Ok(subject), Some(epsilon), Some(analyst)) => LineMeaning::Wants {
             owner: subject.owner,
-            analyst,
-            view: subject.view,
-            epsilon,
-            program,
-        }),
+            demand: Demand::Asks(Query {
+                analyst,
+                view: subject.view,
+                epsilon,
+                program,
+            }),
+        },
     }
 }
 
@@ -181,10 +170,9 @@ fn read_recall<'a>(house: &House, who: Option<u16>, owner: &[u8], number: u32) -
     match (house.owner(owner), who) {
         (None, _) => refuse(LineRefusal::Unknown { word: 1 }, who),
         (Some(_), None) => refuse(LineRefusal::NoHello, who),
-        (Some(owner), Some(analyst)) => LineMeaning::Recalls {
+        (Some(owner), Some(analyst)) => LineMeaning::Wants {
             owner,
-            analyst,
-            number,
+            demand: Demand::Recalls { analyst, number },
         },
     }
 }
@@ -198,6 +186,9 @@ fn read_left<'a>(house: &House, who: Option<u16>, owner: &[u8]) -> LineMeaning<'
 {
     match house.owner(owner) {
         None => refuse(LineRefusal::Unknown { word: 1 }, who),
-        Some(owner) => LineMeaning::Balances { owner },
+        Some(owner) => LineMeaning::Wants {
+            owner,
+            demand: Demand::Balances,
+        },
     }
 }

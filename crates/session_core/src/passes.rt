@@ -14,9 +14,9 @@ pub struct Passes<D: Disk> {
 
 impl<D: Disk> Model for Passes<D> {
     ghost use Rattle.std.specs.Prelude.{List};
-    ghost use Rattle.answer_path.specs.Pass.{Pass as Seen};
+    ghost use Rattle.owner_desk.specs.Passes.{Pass as Known};
 
-    ghost Value = { List Seen };
+    ghost Value = { List Known };
 
     ghost view = { λ p. p.each.items };
 }

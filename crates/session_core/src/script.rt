@@ -4,19 +4,18 @@ ghost use Rattle.std.specs.Prelude.{◌≡◌, ◌+◌, ◌-◌, ◌++◌, ◌<�
 ghost use Rattle.std.specs.Prelude.{IfOk, IfErr, None, if◌then◌else◌, vec_capacity, List};
 ghost use Rattle.wire_lines.specs.Lines.{lines_of};
 ghost use Rattle.wire_lines.specs.Reply.{replied, reply_text};
-ghost use Rattle.answer_path.specs.Answered.{Told};
-ghost use Rattle.session_core.specs.House.{house_of};
-ghost use Rattle.session_core.specs.Transcript.{IsScriptWritten};
+ghost use Rattle.owner_desk.specs.Passes.{Told};
+ghost use Rattle.owner_house.specs.House.{house_of};
 ghost use Rattle.session_core.specs.Turns.{is_bye};
 ghost use Rattle.session_core.specs.Code.{IsAnalyst, who_behind, is_ended, one_line, room_for_line, room_for_lines, short_reply_limit};
-ghost use Rattle.session_core.specs.Code.{ArePasses, AreServed, AreAlone, AreFresh, HasServed, seen_by, found_by};
+ghost use Rattle.session_core.specs.Code.{ArePasses, AreServed, HasServed};
 
-use crate::house::House;
 use crate::line::{LineMeaning, read_line};
 use crate::passes::Passes;
-use answer_path::{Desk, ask, left, recall};
+use answer_path::{Desk, meet};
 use fz_outside::words::Streams;
 use outside_disks::disk::Disk;
+use owner_house::house::House;
 use std::alloc::{AllocError, Global};
 use wire_lines::{REPLY_LIMIT, Reply, next_line, write_reply};
 
@@ -110,39 +109,22 @@ pub fn answer_line<'a, D: Disk, S: Streams>(
     requires known { IsAnalyst (house_of house.now) who }
     ensures served { (told : List Told) ×
         AreServed (house_of house.now) (S.given streams.now) (one_line who line.now (replied result.reply) told) passes.old passes.new }
-    // No other line added records meanwhile.
-    ensures alone { (told : List Told) →
-        AreServed (house_of house.now) (S.given streams.now) (one_line who line.now (replied result.reply) told) passes.old passes.new →
-        AreAlone (house_of house.now) (S.given streams.now) (one_line who line.now (replied result.reply) told) passes.old passes.new }
     ensures who { result.who ≡ who_behind (house_of house.now) who line.now }
     ensures ends { result.ends ≡ is_bye line.now }
     ensures known { IsAnalyst (house_of house.now) result.who }
     ensures short { length line.now < 6 → length (reply_text (replied result.reply)) ≤ short_reply_limit }
 {
     match read_line(house, who, line) {
-        LineMeaning::Asks(query) => Answer {
-            reply: ask(
+        LineMeaning::Wants { owner, demand } => Answer {
+            reply: meet(
                 alloc,
                 desk,
-                &mut passes.each[query.owner as usize],
-                house.dataset(query.owner),
+                &mut passes.each[owner as usize],
+                house.dataset(owner),
                 streams,
-                &query,
+                owner,
+                &demand,
             ),
-            who,
-            ends: false,
-        },
-        LineMeaning::Recalls {
-            owner,
-            analyst,
-            number,
-        } => Answer {
-            reply: recall(desk, &mut passes.each[owner as usize], number, analyst),
-            who,
-            ends: false,
-        },
-        LineMeaning::Balances { owner } => Answer {
-            reply: left(desk, &mut passes.each[owner as usize]),
             who,
             ends: false,
         },
@@ -154,8 +136,7 @@ pub fn answer_line<'a, D: Disk, S: Streams>(
     }
 }
 
-/// The replies to a script, by passes that have seen what was found. All memory is taken first, so an error leaves the passes
-/// as they were.
+/// The replies to a script. All memory is taken first, so an error leaves the passes as they were.
 pub fn answer_script<D: Disk, S: Streams>(
     alloc: Global,
     house: &House,
@@ -165,15 +146,8 @@ pub fn answer_script<D: Disk, S: Streams>(
     script: &[u8],
 ) -> Result<Vec<u8>, AllocError>
     requires passes { ArePasses (house_of house.now) passes.old }
-    // The stated replies, in any order with other lines; what they added is the passes' own. No other line added records
-    // meanwhile, so each was answered on just the records so far.
-    ensures served { IfOk result (λ out.
-        (h : HasServed (house_of house.now) (S.given streams.now) script.now out.items passes.old passes.new)
-        × AreAlone (house_of house.now) (S.given streams.now) h.exchanges passes.old passes.new) }
-    // The transcript, and the records after it.
-    ensures written { AreFresh (house_of house.now) passes.old →
-        IfOk result (λ out.
-        IsScriptWritten (house_of house.now) (S.given streams.now) (found_by passes.old) script.now out.items (seen_by passes.new)) }
+    // The stated replies, in any order with other lines; what they added is the passes' own.
+    ensures served { IfOk result (λ out. HasServed (house_of house.now) (S.given streams.now) script.now out.items passes.old passes.new) }
     ensures refused { IfErr result (λ _. passes.new ≡ passes.old) }
 {
     let mut out = Vec::with_capacity(alloc, room_for(script))?;

@@ -5,13 +5,13 @@ use Rattle.std.proofs.lemmas.List.{map-append}
 use Rattle.std.proofs.lemmas.List.Concat.{flat_map-append}
 use Rattle.wire_lines.specs.Lines.{lines_of}
 use Rattle.wire_lines.specs.Reply.{Replied, reply_text}
-use Rattle.answer_path.specs.Pass.{Pass}
-use Rattle.session_core.specs.House.{House}
+use Rattle.owner_desk.specs.Passes.{Pass}
+use Rattle.owner_house.specs.House.{House}
 use Rattle.session_core.specs.Turns.{Turn, turns_of}
 use Rattle.session_core.specs.Exchanges.{Exchange}
-use Rattle.session_core.specs.Code.{turns_left, who_behind, AreServed, AreAlone}
+use Rattle.session_core.specs.Code.{turns_left, who_behind, AreServed}
 use Rattle.session_core.proofs.Turning.{turns_first, turns_next}
-use Rattle.session_core.proofs.Serving.{served_append, alone_append, none_served}
+use Rattle.session_core.proofs.Serving.{served_append, none_served}
 use Rattle.session_serve.specs.Session.{AreWhole, HasAnswered, reply_texts}
 use Rattle.session_serve.specs.Code.{speaker}
 use Rattle.session_serve.proofs.Whole.{lines_whole}
@@ -42,12 +42,12 @@ module _ (house : House) where
 module _ (house : House) (draws : ℕ → ℕ → ℕ → ℕ) where
   pub answered_none : (passes : List Pass) → HasAnswered house draws [] [] passes passes
   unfolding lines_of
-  answered_none passes = record { exchanges = []; turns = refl; replied = refl; served = none_served house draws passes; alone = λ o owner at. refl }
+  answered_none passes = record { exchanges = []; turns = refl; replied = refl; served = none_served house draws passes }
 
   pub answered_next : (bytes more line : List ℕ) (replies : List Replied) (start now after : List Pass) (x : Exchange) → HasAnswered house draws bytes replies start now → AreWhole bytes → lines_of more ≡ line ∷ []
-      → x.turn ≡ record { who = speaker house None (lines_of bytes); line = line } → AreServed house draws (x ∷ []) now after → AreAlone house draws (x ∷ []) now after
+      → x.turn ≡ record { who = speaker house None (lines_of bytes); line = line } → AreServed house draws (x ∷ []) now after
       → HasAnswered house draws (bytes ++ more) (replies ++ x.reply ∷ []) start after
-  answered_next bytes more line replies start now after x h whole one turn served alone = record {
+  answered_next bytes more line replies start now after x h whole one turn served = record {
     exchanges = h.exchanges ++ x ∷ [];
     turns = map-append (λ (y : Exchange). y.turn) h.exchanges (x ∷ [])
         ∙ ap (λ (ts : List Turn). ts ++ x.turn ∷ []) h.turns
@@ -55,5 +55,4 @@ module _ (house : House) (draws : ℕ → ℕ → ℕ → ℕ) where
         ∙ sym (turns_push house bytes more line whole one);
     replied = map-append (λ (y : Exchange). y.reply) h.exchanges (x ∷ []) ∙ ap (λ (rs : List Replied). rs ++ x.reply ∷ []) h.replied;
     served = served_append house draws h.exchanges (x ∷ []) start now after h.served served;
-    alone = alone_append house draws h.exchanges (x ∷ []) start now after h.served h.alone alone;
   }

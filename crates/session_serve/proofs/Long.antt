@@ -7,15 +7,15 @@ use Rattle.wire_lines.specs.Request.{line_limit, request_of, request_from}
 use Rattle.wire_lines.specs.Reply.{refused}
 use Rattle.wire_lines.specs.Refusal.{by_line}
 use Rattle.wire_lines.specs.declared.refusal.LineRefusal.TheVariants.{TooLong}
-use Rattle.answer_path.specs.Answered.{Told}
-use Rattle.answer_path.specs.Pass.{Pass}
-use Rattle.session_core.specs.House.{House}
+use Rattle.owner_desk.specs.Passes.{Told}
+use Rattle.owner_desk.specs.Passes.{Pass}
+use Rattle.owner_house.specs.House.{House}
 use Rattle.session_core.specs.Meant.{says, meant_by, next_who}
 use Rattle.session_core.specs.Turns.{is_bye, is_bye_request}
 use Rattle.session_core.specs.Exchanges.{Exchange}
-use Rattle.session_core.specs.Code.{AreServed, AreAlone, one_line, who_behind}
+use Rattle.session_core.specs.Code.{AreServed, one_line, who_behind}
 use Rattle.session_core.proofs.Short.{meant_of}
-use Rattle.session_core.proofs.Serving.{served_plain, alone_plain}
+use Rattle.session_core.proofs.Serving.{served_plain}
 
 module _ (line : List ℕ) (long : line_limit < length line) where
   reads : request_of line ≡ Err TooLong
@@ -33,7 +33,7 @@ module _ (line : List ℕ) (long : line_limit < length line) where
     long_who = sym (ap (λ b. cond b None (next_who who (meant_by house who line))) (sym long_no_bye) ∙ ap (λ m. next_who who m) means)
 
     pub long_served : (draws : ℕ → ℕ → ℕ → ℕ) (passes : List Pass)
-        → (told : List Told) × AreServed house draws (one_line who line (refused (by_line TooLong)) told) passes passes × AreAlone house draws (one_line who line (refused (by_line TooLong)) told) passes passes
+        → (told : List Told) × AreServed house draws (one_line who line (refused (by_line TooLong)) told) passes passes
     long_served draws passes =
         let x : Exchange = record { turn = record { who = who; line = line }; reply = refused (by_line TooLong); told = [] } in
-        ([], served_plain house draws x (refused (by_line TooLong)) who passes means refl refl, alone_plain house draws x (refused (by_line TooLong)) who passes means)
+        ([], served_plain house draws x (refused (by_line TooLong)) who passes means refl refl)

@@ -9,8 +9,8 @@ use Rattle.outside_links.specs.Links.{Connection, HasGiven, HasTaken}
 use Rattle.outside_links.proofs.Said.{given_none, taken_none, taken_further}
 use Rattle.wire_lines.specs.Lines.{lf, without_cr, lines_of}
 use Rattle.wire_lines.specs.Reply.{Replied, reply_text}
-use Rattle.answer_path.specs.Pass.{Pass}
-use Rattle.session_core.specs.House.{House}
+use Rattle.owner_desk.specs.Passes.{Pass}
+use Rattle.owner_house.specs.House.{House}
 use Rattle.session_core.specs.Turns.{is_bye}
 use Rattle.session_core.specs.Exchanges.{Exchange}
 use Rattle.session_core.proofs.Exchanges.{all_append}
@@ -71,7 +71,7 @@ module _ (house : House) (draws : ℕ → ℕ → ℕ → ℕ) where
         (r : IsLineAnswered house draws result text session.who next now after passes later) where
       pub answered_more : HasAnswered house draws (g.answered ++ more) (g.replies ++ r.x.reply ∷ []) start later
       answered_more = answered_next house draws g.answered more text g.replies start passes later r.x g.told g.whole one
-          (r.turn ∙ ap (λ (w : Option ℕ). record { who = w; line = text }) g.speaks) r.served r.alone
+          (r.turn ∙ ap (λ (w : Option ℕ). record { who = w; line = text }) g.speaks) r.served
 
       pub lines_more : lines_of (g.answered ++ more) ≡ lines_of g.answered ++ text ∷ []
       lines_more = lines_whole g.answered more g.whole ∙ ap (λ (ls : List (List ℕ)). lines_of g.answered ++ ls) one

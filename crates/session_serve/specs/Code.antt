@@ -5,11 +5,11 @@ use Rattle.fz_outside.specs.declared.Failed.{Failed}
 use Rattle.outside_links.specs.Links.{Connection, HasTaken}
 use Rattle.wire_lines.specs.Lines.{lines_of}
 use Rattle.wire_lines.specs.Reply.{Replied, reply_text}
-use Rattle.answer_path.specs.Pass.{Pass}
-use Rattle.session_core.specs.House.{House}
+use Rattle.owner_desk.specs.Passes.{Pass}
+use Rattle.owner_house.specs.House.{House}
 use Rattle.session_core.specs.Turns.{is_bye}
 use Rattle.session_core.specs.Exchanges.{Exchange}
-use Rattle.session_core.specs.Code.{AreServed, AreAlone, who_behind}
+use Rattle.session_core.specs.Code.{AreServed, who_behind}
 use Rattle.session_serve.specs.Session.{AreWhole, HasNoEnd, AreNoBye, EndsInLine, EndsWithBye, HasAnswered, IsCutShort, reply_texts}
 use Rattle.session_serve.specs.declared.line.Line.{Line}
 use Rattle.session_serve.specs.declared.serve.Session.{Session}
@@ -39,7 +39,6 @@ pub record IsLineAnswered (house : House) (draws : ℕ → ℕ → ℕ → ℕ) 
   pub x : Exchange
   pub turn : x.turn ≡ record { who = who; line = line }
   pub served : AreServed house draws (x ∷ []) before after
-  pub alone : AreAlone house draws (x ∷ []) before after
   pub next : behind ≡ who_behind house who line
   pub told : IsTold result line x.reply old new
 

@@ -6,11 +6,11 @@ use Rattle.fz_outside.specs.Faults.{HasRisen}
 use Rattle.outside_links.specs.Links.{Connection, HasGiven, HasTaken}
 use Rattle.wire_lines.specs.Lines.{lf, lines_of}
 use Rattle.wire_lines.specs.Reply.{Replied, reply_text}
-use Rattle.answer_path.specs.Pass.{Pass}
-use Rattle.session_core.specs.House.{House}
+use Rattle.owner_desk.specs.Passes.{Pass}
+use Rattle.owner_house.specs.House.{House}
 use Rattle.session_core.specs.Turns.{is_bye, turns_of}
 use Rattle.session_core.specs.Exchanges.{Exchange}
-use Rattle.session_core.specs.Code.{AreServed, AreAlone}
+use Rattle.session_core.specs.Code.{AreServed}
 use Rattle.session_serve.specs.declared.serve.SessionEnd.{SessionEnd}
 use Rattle.session_serve.specs.declared.serve.SessionEnd.TheVariants.{Bye, EndOfInput, ReadFault, WriteFault, TooLong, NoMemory}
 
@@ -52,8 +52,6 @@ pub record HasAnswered (house : House) (draws : ℕ → ℕ → ℕ → ℕ) (by
   pub turns : map (λ x. x.turn) exchanges ≡ turns_of house bytes
   pub replied : map (λ x. x.reply) exchanges ≡ replies
   pub served : AreServed house draws exchanges before after
-  -- no other line added records meanwhile
-  pub alone : AreAlone house draws exchanges before after
 
 -- the lines of some replies
 abbrev pub reply_texts : List Replied → List ℕ

@@ -3,12 +3,12 @@
 ghost use Rattle.std.specs.Prelude.{◌≡◌, ◌≤◌, ◌∷◌, [], List, ℕ, length};
 ghost use Rattle.outside_links.specs.Links.{Connection, HasGiven, shown};
 ghost use Rattle.wire_lines.specs.Lines.{lines_of};
-ghost use Rattle.answer_path.specs.Pass.{Pass as Seen};
-ghost use Rattle.answer_path.specs.Answered.{Told};
+ghost use Rattle.owner_desk.specs.Passes.{Pass as Seen};
+ghost use Rattle.owner_desk.specs.Passes.{Told};
 ghost use Rattle.wire_lines.specs.Reply.{replied};
-ghost use Rattle.session_core.specs.House.{house_of};
+ghost use Rattle.owner_house.specs.House.{house_of};
 ghost use Rattle.session_core.specs.Turns.{is_bye};
-ghost use Rattle.session_core.specs.Code.{IsAnalyst, ArePasses, AreServed, AreAlone, one_line, who_behind};
+ghost use Rattle.session_core.specs.Code.{IsAnalyst, ArePasses, AreServed, one_line, who_behind};
 ghost use Rattle.std.specs.Io.KnownBytes.{IsAtEnd};
 ghost use Rattle.session_serve.specs.Session.{IsSession, session_limit};
 ghost use Rattle.session_serve.specs.Code.{Keeps, IsLineAnswered, GoesOnWith, Leads};
@@ -20,7 +20,7 @@ use fz_outside::Failed;
 use fz_outside::words::Streams;
 use outside_disks::disk::Disk;
 use outside_links::link::{Link, send};
-use session_core::house::House;
+use owner_house::house::House;
 use session_core::passes::Passes;
 use session_core::script::{Answer, answer_line};
 use std::alloc::Global;
@@ -75,8 +75,7 @@ fn answer<'a, D: Disk, S: Streams>(
     requires passes { ArePasses (house_of server.now.house.now) passes.old }
     requires known { IsAnalyst (house_of server.now.house.now) who }
     ensures served { (raw text : List ℕ) → Keeps line.now raw → lines_of raw ≡ text ∷ [] → (told : List Told) ×
-        AreServed (house_of server.now.house.now) (S.given server.now.streams.now) (one_line who text (replied result.reply) told) passes.old passes.new
-        × AreAlone (house_of server.now.house.now) (S.given server.now.streams.now) (one_line who text (replied result.reply) told) passes.old passes.new }
+        AreServed (house_of server.now.house.now) (S.given server.now.streams.now) (one_line who text (replied result.reply) told) passes.old passes.new }
     ensures who { (raw text : List ℕ) → Keeps line.now raw → lines_of raw ≡ text ∷ [] → result.who ≡ who_behind (house_of server.now.house.now) who text }
     ensures ends { (raw text : List ℕ) → Keeps line.now raw → lines_of raw ≡ text ∷ [] → result.ends ≡ is_bye text }
     ensures known { IsAnalyst (house_of server.now.house.now) result.who }

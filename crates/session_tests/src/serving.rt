@@ -1,6 +1,6 @@
 //! A house whose connections are served one after another.
 
-ghost use Rattle.session_core.specs.House.{house_of};
+ghost use Rattle.owner_house.specs.House.{house_of};
 ghost use Rattle.session_core.specs.Code.{ArePasses};
 
 use answer_path::Desk;
@@ -23,7 +23,7 @@ use word_streams::KeyStreams;
 pub struct Serving<'a> {
     opened: Opened,
     passes: Passes<MemDisk<'a>>,
-    ghost passes_of_the_house: { ArePasses (house_of opened.house) passes },
+    ghost passes_of_the_house: { ArePasses (house_of opened.loading.register) passes },
 }
 
 /// The bytes of the journal of census with this table, which an `init` has made.
@@ -79,7 +79,7 @@ pub fn connection<'a>(
 // The disk of the last pass.
 fn disk_of(passes: Passes<MemDisk<'_>>) -> Option<MemDisk<'_>> {
     let pass = passes.into_vec().pop()?;
-    Some(pass.into_book().into_disk())
+    Some(pass.close().into_disk())
 }
 
 impl<'a> Serving<'a> {
@@ -93,7 +93,7 @@ impl<'a> Serving<'a> {
         serve(
             alloc,
             link,
-            &self.opened.house,
+            self.opened.house(),
             &Desk::new(),
             &mut self.passes,
             streams,

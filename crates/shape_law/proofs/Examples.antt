@@ -492,6 +492,18 @@ FirstIsWide form = walk 5 1 (wide_names 33) (at (span 0 30) (form wide_union (na
 order_of_with : SecondIsLate (λ p q. WithE p q) × FirstIsWide (λ p q. WithE p q)
 order_of_with = (refl, refl)
 
+order_of_pair : SecondIsLate (λ p q. PairE p q) × FirstIsWide (λ p q. PairE p q)
+order_of_pair = (refl, refl)
+
+order_of_sum : SecondIsLate (λ p q. PlusE p q) × FirstIsWide (λ p q. PlusE p q)
+order_of_sum = (refl, refl)
+
+order_of_difference : SecondIsLate (λ p q. MinusE p q) × FirstIsWide (λ p q. MinusE p q)
+order_of_difference = (refl, refl)
+
+order_of_union : SecondIsLate (λ p q. UnionE p q) × FirstIsWide (λ p q. UnionE p q)
+order_of_union = (refl, refl)
+
 order_of_at_most : SecondIsLate (λ p q. LeE p q) × FirstIsWide (λ p q. LeE p q)
 order_of_at_most = (refl, refl)
 

@@ -53,7 +53,15 @@ pub fn run_process(rt: &HostRuntime) -> ExitCode
     let mut sink = RealSink::new(io::writer(rt));
     let status = match words_of(rt, alloc) {
         Ok(words) => match RealBay::new(alloc, rt, "journals", OWNERS) {
-            Ok(mut bay) => run_server(alloc, &words, &mut files, &mut bay, &mut source, &mut sink),
+            Ok(mut bay) => run_server(
+                rt,
+                alloc,
+                &words,
+                &mut files,
+                &mut bay,
+                &mut source,
+                &mut sink,
+            ),
             Err(_) => without_memory(&mut sink),
         },
         Err(_) => without_memory(&mut sink),

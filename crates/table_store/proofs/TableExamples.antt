@@ -1,5 +1,5 @@
 -- Files and their tables, worked out by hand.
-use Rattle.std.proofs.Common.{◌≡◌, ℕ, List, [], ◌∷◌, ◌++◌, arith, Ok, Err, Some, ℤ, None, pos, negsuc, codes, refl}
+use Rattle.std.proofs.Common.{◌≡◌, ℕ, zero, suc, List, [], ◌∷◌, ◌++◌, arith, Ok, Err, Some, ℤ, None, pos, negsuc, codes, refl}
 use Rattle.std.proofs.lemmas.Int.{ints}
 use Rattle.csv.specs.Machine.{next_record}
 use Rattle.csv.specs.Reading.{records_from, strip_bom}
@@ -28,6 +28,14 @@ bytes_64 = codes "0123456789abcdef0123456789abcdef0123456789abcdef0123456789abcd
 
 abbrev bytes_65 : List ℕ
 bytes_65 = bytes_64 ++ codes "."
+
+abbrev towns : List NamedColumn
+towns = record { name = codes "town"; kind = Text } ∷ []
+
+-- so many characters of two bytes
+abbrev two_bytes : ℕ → List ℕ
+two_bytes zero = []
+two_bytes (suc n) = 195 ∷ 169 ∷ two_bytes n
 
 -- one column: the number of each row
 one_column :
@@ -131,6 +139,14 @@ long_texts :
     × (cell_value Num (codes "a") ≡ None)
 unfolding cell_number
 long_texts = (refl, refl, refl, refl, refl, refl)
+
+-- bytes count and not characters: of 0xC3 0xA9, which is one character, 32 are within the limit and 33 aren't
+long_characters :
+    (cell_value Text (two_bytes 32) ≡ Some (TextF (two_bytes 32)))
+    × (cell_value Text (two_bytes 33) ≡ None)
+    × (table_in_file towns (codes "town\n" ++ two_bytes 33 ++ codes "\n") ≡ Err (BadCell 0 0))
+unfolding table_in_file next_record records_from strip_bom rows_from cells_from cell_number
+long_characters = (refl, refl, refl)
 
 -- numbers: a minus, leading zeros, both limits
 numbers :

@@ -4,4 +4,5 @@ pub mod Epsilon
 pub mod Request
 pub mod Name
 pub mod Refusal
+pub mod Codes
 pub mod Reply

@@ -7,6 +7,7 @@ use Rattle.fz_frac.specs.Distance.{Distance, Fin, Inf}
 use Rattle.fz_frac.specs.Sens.{distance_of}
 use Rattle.wire_lines.specs.Lines.{lf, space}
 use Rattle.wire_lines.specs.Name.{is_name}
+use Rattle.wire_lines.specs.Codes.{code_of, code_text}
 use Rattle.wire_lines.specs.Refusal.{ProgramRefusal, no_token, no_term, too_nested, ill_typed, too_sensitive, out_of_range, unbounded, no_number, too_deep, too_long, too_wide, Refusal, by_line, by_program, by_money, by_disk, by_number, no_memory, refusal_at}
 use Rattle.wire_lines.specs.declared.reply.Reply.{Reply}
 use Rattle.wire_lines.specs.declared.reply.Reply.TheVariants.{Hello, Answer, Recalled, Left, Bye, Refused}
@@ -62,48 +63,53 @@ type_fault_text Mismatch = codes "mismatch"
 type_fault_text NotGround = codes "notground"
 type_fault_text NotFlat = codes "notflat"
 
--- the words of a refusal, the kind first
-abbrev pub line_words : LineRefusal → List ℕ × List Datum
-line_words (Malformed word) = (codes "no 10", number word ∷ [])
-line_words TooLong = (codes "no 11", [])
-line_words (Unknown word) = (codes "no 12", number word ∷ [])
-line_words NoEpsilon = (codes "no 13", [])
-line_words NoHello = (codes "no 14", [])
+-- what a refusal says behind its code
+abbrev pub line_data : LineRefusal → List Datum
+line_data (Malformed word) = number word ∷ []
+line_data (Unknown word) = number word ∷ []
+line_data refusal = []
 
-abbrev pub program_words : ProgramRefusal → List ℕ × List Datum
-program_words (no_token place) = (codes "no 20", number place ∷ [])
-program_words (no_term token) = (codes "no 21", number token ∷ [])
-program_words (too_nested depth) = (codes "no 22", number depth ∷ [])
-program_words (ill_typed fault from to) = (codes "no 30", text (type_fault_text fault) ∷ number from ∷ number to ∷ [])
-program_words (too_sensitive from to r) = (codes "no 31", number from ∷ number to ∷ ratio r ∷ [])
-program_words (out_of_range from to) = (codes "no 32", number from ∷ number to ∷ [])
-program_words (unbounded table) = (codes "no 33", text table ∷ [])
-program_words no_number = (codes "no 34", [])
-program_words (too_deep from to) = (codes "no 35", number from ∷ number to ∷ [])
-program_words (too_long from to) = (codes "no 36", number from ∷ number to ∷ [])
-program_words (too_wide from to width) = (codes "no 37", number from ∷ number to ∷ number width ∷ [])
+abbrev pub program_data : ProgramRefusal → List Datum
+program_data (no_token place) = number place ∷ []
+program_data (no_term token) = number token ∷ []
+program_data (too_nested depth) = number depth ∷ []
+program_data (ill_typed fault from to) = text (type_fault_text fault) ∷ number from ∷ number to ∷ []
+program_data (too_sensitive from to r) = number from ∷ number to ∷ ratio r ∷ []
+program_data (out_of_range from to) = number from ∷ number to ∷ []
+program_data (unbounded table) = text table ∷ []
+program_data no_number = []
+program_data (too_deep from to) = number from ∷ number to ∷ []
+program_data (too_long from to) = number from ∷ number to ∷ []
+program_data (too_wide from to width) = number from ∷ number to ∷ number width ∷ []
 
-abbrev pub money_words : MoneyRefusal → List ℕ × List Datum
-money_words (OverBudget spent after budget seen) = (codes "no 40", number spent ∷ number after ∷ number budget ∷ number seen ∷ [])
-money_words (JournalFull used unsettled capacity) = (codes "no 41", number used ∷ number unsettled ∷ number capacity ∷ [])
+abbrev pub money_data : MoneyRefusal → List Datum
+money_data (OverBudget spent after budget seen) = number spent ∷ number after ∷ number budget ∷ number seen ∷ []
+money_data (JournalFull used unsettled capacity) = number used ∷ number unsettled ∷ number capacity ∷ []
 
-abbrev pub disk_words : DiskRefusal → List ℕ × List Datum
-disk_words (Closed failed_at) = (codes "no 42", number failed_at ∷ [])
-disk_words DiskFault = (codes "no 52", [])
+abbrev pub disk_data : DiskRefusal → List Datum
+disk_data (Closed failed_at) = number failed_at ∷ []
+disk_data DiskFault = []
 
-abbrev pub number_words : NumberRefusal → List ℕ × List Datum
-number_words (NoNoise n) = (codes "no 50", number n ∷ [])
-number_words (NoAnswer n) = (codes "no 51", number n ∷ [])
-number_words (NoSuchNumber n seen) = (codes "no 60", number n ∷ number seen ∷ [])
-number_words (NotYours n seen) = (codes "no 61", number n ∷ number seen ∷ [])
+abbrev pub number_data : NumberRefusal → List Datum
+number_data (NoNoise n) = number n ∷ []
+number_data (NoAnswer n) = number n ∷ []
+number_data (NoSuchNumber n seen) = number n ∷ number seen ∷ []
+number_data (NotYours n seen) = number n ∷ number seen ∷ []
+
+abbrev pub refusal_data : Refusal → List Datum
+refusal_data (by_line refusal) = line_data refusal
+refusal_data (by_program refusal) = program_data refusal
+refusal_data (by_money refusal) = money_data refusal
+refusal_data (by_disk refusal) = disk_data refusal
+refusal_data (by_number refusal) = number_data refusal
+refusal_data no_memory = []
+
+-- the words of a code and its data
+abbrev pub no_words : (code : ℕ) → List Datum → List ℕ × List Datum
+no_words code data_words = (codes "no " ++ code_text code, data_words)
 
 abbrev pub refusal_words : Refusal → List ℕ × List Datum
-refusal_words (by_line refusal) = line_words refusal
-refusal_words (by_program refusal) = program_words refusal
-refusal_words (by_money refusal) = money_words refusal
-refusal_words (by_disk refusal) = disk_words refusal
-refusal_words (by_number refusal) = number_words refusal
-refusal_words no_memory = (codes "no 90", [])
+refusal_words refusal = no_words (code_of refusal) (refusal_data refusal)
 
 -- what became of a reservation: its answer, or why it has none
 abbrev pub standing_words : Standing → List Datum

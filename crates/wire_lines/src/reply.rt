@@ -3,7 +3,8 @@
 ghost use Rattle.std.specs.Prelude.{◌≡◌, ◌+◌, ◌≤◌, ◌<◌, ◌^◌, ◌++◌, [], ◌∷◌, codes, length, take, map, decimal, IsTrue};
 ghost use Rattle.fz_frac.specs.Sens.{distance_of};
 ghost use Rattle.wire_lines.specs.Refusal.{program_refusal_at, refusal_at};
-ghost use Rattle.wire_lines.specs.Reply.{IsReply, HasSize, number, text, ratio, recalled, reply_words, reply_text, replied, line_text, line_words, program_words, money_words, disk_words, number_words, refusal_words, datum_text, sensitivity_text, type_fault_text, datum_of};
+ghost use Rattle.wire_lines.specs.Reply.{IsReply, HasSize, number, text, ratio, recalled, reply_words, reply_text, replied, line_text, no_words, line_data, program_data, money_data, disk_data, number_data, refusal_words, datum_text, sensitivity_text, type_fault_text, datum_of};
+ghost use Rattle.wire_lines.specs.Codes.{line_code, program_code, money_code, disk_code, number_code};
 ghost use Rattle.wire_lines.specs.Lines.{space};
 ghost use Rattle.wire_lines.specs.Name.{is_name};
 ghost use Rattle.std.specs.List.{AllByRecursion};
@@ -171,8 +172,8 @@ fn put_line(out: &mut [u8; REPLY_LIMIT], kind: &[u8], fields: &[Field<'_>]) -> u
 /// Writes what a line is refused for.
 fn write_line_refusal(refusal: LineRefusal, out: &mut [u8; REPLY_LIMIT]) -> usize
     ensures fits { result ≤ REPLY_LIMIT }
-    ensures sized { AllByRecursion HasSize (line_words refusal).1 }
-    ensures text { take result out.new ≡ line_text (line_words refusal) }
+    ensures sized { AllByRecursion HasSize (line_data refusal) }
+    ensures text { take result out.new ≡ line_text (no_words (line_code refusal) (line_data refusal)) }
 {
     match refusal {
         LineRefusal::Malformed { word } => put_line(out, b"no 10", &[Number(word)]),
@@ -186,8 +187,8 @@ fn write_line_refusal(refusal: LineRefusal, out: &mut [u8; REPLY_LIMIT]) -> usiz
 /// Writes what a program is refused for.
 fn write_program_refusal(refusal: ProgramRefusal<'_>, out: &mut [u8; REPLY_LIMIT]) -> usize
     ensures fits { result ≤ REPLY_LIMIT }
-    ensures sized { AllByRecursion HasSize (program_words (program_refusal_at refusal.entry)).1 }
-    ensures text { take result out.new ≡ line_text (program_words (program_refusal_at refusal.entry)) }
+    ensures sized { AllByRecursion HasSize (program_data (program_refusal_at refusal.entry)) }
+    ensures text { take result out.new ≡ line_text (no_words (program_code (program_refusal_at refusal.entry)) (program_data (program_refusal_at refusal.entry))) }
 {
     match refusal {
         ProgramRefusal::NoToken { place } => put_line(out, b"no 20", &[Number(place)]),
@@ -219,8 +220,8 @@ fn write_program_refusal(refusal: ProgramRefusal<'_>, out: &mut [u8; REPLY_LIMIT
 /// Writes what the budget refuses.
 fn write_money_refusal(refusal: MoneyRefusal, out: &mut [u8; REPLY_LIMIT]) -> usize
     ensures fits { result ≤ REPLY_LIMIT }
-    ensures sized { AllByRecursion HasSize (money_words refusal).1 }
-    ensures text { take result out.new ≡ line_text (money_words refusal) }
+    ensures sized { AllByRecursion HasSize (money_data refusal) }
+    ensures text { take result out.new ≡ line_text (no_words (money_code refusal) (money_data refusal)) }
 {
     match refusal {
         MoneyRefusal::OverBudget {
@@ -252,8 +253,8 @@ fn write_money_refusal(refusal: MoneyRefusal, out: &mut [u8; REPLY_LIMIT]) -> us
 /// Writes what is refused for a disk.
 fn write_disk_refusal(refusal: DiskRefusal, out: &mut [u8; REPLY_LIMIT]) -> usize
     ensures fits { result ≤ REPLY_LIMIT }
-    ensures sized { AllByRecursion HasSize (disk_words refusal).1 }
-    ensures text { take result out.new ≡ line_text (disk_words refusal) }
+    ensures sized { AllByRecursion HasSize (disk_data refusal) }
+    ensures text { take result out.new ≡ line_text (no_words (disk_code refusal) (disk_data refusal)) }
 {
     match refusal {
         DiskRefusal::Closed { failed_at } => put_line(out, b"no 42", &[Amount(failed_at)]),
@@ -264,8 +265,8 @@ fn write_disk_refusal(refusal: DiskRefusal, out: &mut [u8; REPLY_LIMIT]) -> usiz
 /// Writes what is refused of a number.
 fn write_number_refusal(refusal: NumberRefusal, out: &mut [u8; REPLY_LIMIT]) -> usize
     ensures fits { result ≤ REPLY_LIMIT }
-    ensures sized { AllByRecursion HasSize (number_words refusal).1 }
-    ensures text { take result out.new ≡ line_text (number_words refusal) }
+    ensures sized { AllByRecursion HasSize (number_data refusal) }
+    ensures text { take result out.new ≡ line_text (no_words (number_code refusal) (number_data refusal)) }
 {
     match refusal {
         NumberRefusal::Exhausted { number } => put_line(out, b"no 50", &[Number(number)]),

@@ -2,8 +2,8 @@
 use Rattle.std.proofs.Common.{◌≡◌, ℕ, List, [], ◌∷◌, Option, Some, refl, ◌∙◌, ap, codes}
 use Rattle.command_words.specs.Command.{Command, command_of, run}
 use Rattle.command_words.proofs.Plain.{plain_is_tabled}
-use Rattle.query_server.specs.Due.{ending_of, command_steps}
-use Rattle.query_server.specs.Ending.{Ending, ended, to_answer}
+use Rattle.query_server.specs.Due.{work_of, command_steps}
+use Rattle.query_server.specs.Work.{Work, ended, to_answer}
 use Rattle.catalog_loading.specs.Files.{Contents, always}
 use Rattle.catalog_loading.specs.Steps.{StepOutcome}
 use Rattle.worked_row.specs.Row.{catalog_text, table_text}
@@ -18,9 +18,9 @@ is_run = plain_is_tabled words (refl, (refl, (refl, tt)))
 
 -- A script is to be answered over the three rows, whatever else the files hold.
 pub row_ending : (given : List (List ℕ)) (held : Contents) → given ≡ words → held (codes "cat.json") ≡ Some catalog_text → held (codes "key") ≡ Some zeros
-    → held (codes "people.csv") ≡ Some table_text → ending_of given (always held) ≡ to_answer loading zeros
-unfolding ending_of
+    → held (codes "people.csv") ≡ Some table_text → work_of given (always held) ≡ to_answer 1 loading zeros
+unfolding work_of
 row_ending given held are_words has_catalog has_key has_table =
     ap (λ given. ended (command_steps (command_of given) (always held)).given) are_words
     ∙ ap (λ (command : Option Command). ended (command_steps command (always held)).given) is_run
-    ∙ ap (λ (o : StepOutcome Ending). ended o.given) (run_given held has_catalog has_key has_table).1
+    ∙ ap (λ (o : StepOutcome Work). ended o.given) (run_given held has_catalog has_key has_table).1

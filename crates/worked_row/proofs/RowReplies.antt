@@ -1,5 +1,5 @@
 -- The replies to `hello ann`, `ask census 1 size people`, `bye`, where the table has the rows 20, 30 and 40.
-use Rattle.std.proofs.Common.{◌≡◌, ℕ, List, [], ◌∷◌, map, Option, Some, None, refl, sym, ◌∙◌, ap, subst, codes, arith}
+use Rattle.std.proofs.Common.{◌≡◌, ℕ, List, [], ◌∷◌, length, map, Option, Some, None, refl, sym, ◌∙◌, ap, subst, codes, arith}
 use Rattle.std.specs.Prelude.{ℤ, pos, ◌+ℤ◌}
 use Rattle.std.specs.Fmt.{digits}
 use Rattle.std.specs.List.{flat_map}
@@ -25,17 +25,22 @@ use Rattle.wire_lines.specs.declared.refusal.NumberRefusal.TheVariants.{Lost as 
 use Rattle.wire_lines.specs.Reply.{Replied, greeted, answered, ended, refused, reply_text}
 use Rattle.answer_path.specs.Reading.{Reading, read}
 use Rattle.answer_path.specs.Judgement.{Judgement, accepted, judgement_of}
-use Rattle.answer_path.specs.Owner.{Owner, signature_of_view}
+use Rattle.owner_house.specs.Owner.{Owner, signature_of_view}
 use Rattle.answer_path.specs.Query.{Query}
 use Rattle.answer_path.specs.Noise.{noise_at}
 use Rattle.answer_path.specs.Verdict.{Verdict, granted, IsVerdict, IsVerdictBy}
 use Rattle.answer_path.specs.Answered.{HasWorthIn, IsAnswered, IsAnsweredBy, IsSettledAt, outcome_reply}
 use Rattle.answer_path.proofs.Readings.{one_reading}
 use Rattle.answer_path.proofs.SizePeople.{size_people, size_term, size_reads}
-use Rattle.session_core.specs.House.{House, house_of, owner_of}
-use Rattle.session_core.specs.Meant.{Meant, Demand, says, wants, asks, meant_by}
-use Rattle.session_core.specs.Served.{ClosesBy, ClosesOn}
-use Rattle.answer_path.specs.Closing.{Closes}
+use Rattle.owner_house.specs.House.{House, house_of, owner_of}
+use Rattle.owner_desk.specs.Passes.{closing}
+use Rattle.answer_path.specs.Demand.{Demand, asks}
+use Rattle.answer_path.specs.Met.{IsMetExactly}
+use Rattle.answer_path.specs.Shut.{FailsBy, Shut, ShutsBy, disk_word, unshut}
+use Rattle.session_core.specs.Meant.{Meant, says, wants, meant_by}
+use Rattle.session_core.specs.Served.{ShutsFor, ShutsOn}
+use Rattle.session_core.specs.Gathered.{StillShut}
+use Rattle.session_laws.proofs.Exact.{exact, one_part}
 use Rattle.session_core.specs.Turns.{Turn, turns_of, meant_at}
 use Rattle.session_core.specs.Exchanges.{Exchange, IsPlain, ArePlain, TurnLeads, Lead}
 use Rattle.session_core.specs.Transcript.{Journals, MeetsExactly, LeadExactly, first_new}
@@ -54,10 +59,10 @@ abbrev owner : Owner
 owner = owner_of catalog (census, loaded_owner.holding)
 
 abbrev query : Query
-query = record { owner = 0; analyst = 0; view = Whole; e = 1000000; program = size_people }
+query = record { analyst = 0; view = Whole; e = 1000000; program = size_people }
 
 abbrev asking : Ask
-asking = record { analyst = 0; view = Whole; e = 1000000; p = 1; q = 1; program = sha256 size_people }
+asking = record { analyst = 0; view = Whole; e = 1000000; p = 1; q = 1; digest = sha256 size_people }
 
 abbrev grant : Grant
 grant = record { number = 0; taken = 1000000; seen = 1 }
@@ -137,16 +142,24 @@ asked_by draws reply added noise (verdict, is, said) =
 -- the second line's reply
 second_told : (draws : ℕ → ℕ → ℕ → ℕ) (y : Exchange) (after : List Record) → noise_at 1000000 (draws 0 0) ≡ Some (pos 2)
     → MeetsExactly (draws 0) 0 owner (asks query) [] y after → IsTold y.reply
+unfolding IsMetExactly
 second_told draws y after noise (added, inl is, told, after_is) = asked_by (draws 0) y.reply added noise is
 second_told draws y after noise (added, inr (is, none), told, after_is) = inl (inr (inl is))
 
--- a book that was opened in this run isn't closed before its first line
-said_open : (draws : ℕ → ℕ → ℕ → ℕ) (y : Exchange) (after : Option Failure) → ClosesBy (draws 0) owner (asks query) None y after → IsTold y.reply → IsSaid y.reply
-said_open draws y after closes (inl said) = said
-said_open draws y after closes (inr (n, is)) = absurd (here (subst (λ (r : Replied). Closes owner (draws 0) query r y.told None after) is closes))
+-- A book that was opened in this run, and on which one worker's line has nothing of its own that failed, isn't shut.
+said_open : (draws : ℕ → ℕ → ℕ → ℕ) (y : Exchange) (ends after : Shut) (closed : Option Failure) → ShutsFor (draws 0) owner (asks query) unshut y after → ends ≡ after → StillShut ends.failure closed
+    → length ends.own ≡ length (closing closed) → IsTold y.reply → IsSaid y.reply
+unfolding ShutsBy
+said_open draws y ends after closed shuts same still counted (inl said) = said
+said_open draws y ends after closed shuts same still counted (inr (n, is)) =
+    absurd (here (subst (λ (w : Option (Option ℕ)). FailsBy owner (draws 0) query w y.told unshut after) (ap (λ (r : Replied). disk_word r) is) shuts))
   where
-    here : Closes owner (draws 0) query (refused (by_disk (Closed n))) y.told None after → ⊥
-    here (failure, was, said, none, rest) = absurd (cc was)
+    here : FailsBy owner (draws 0) query (Some (Some n)) y.told unshut after → ⊥
+    here (failure, shut, at, stays, own) =
+        let last : closed ≡ Some failure = still failure (ap (λ (s : Shut). s.failure) same ∙ shut) in
+        let one : length (closing closed) ≡ 1 = ap (λ (c : Option Failure). length (closing c)) last in
+        let none : length ends.own ≡ 0 = ap (λ (s : Shut). length s.own) same ∙ ap length own in
+        omega (arith, counted, one, none)
 
 abbrev replies_with : Replied → List Replied
 replies_with reply = greeted (codes "ann") ∷ reply ∷ ended ∷ []
@@ -163,33 +176,35 @@ three a b c is_a said is_c = record { reply = b; said = said; are = ap (λ x. x 
 plain_by : (x : Exchange) (turn : Turn) (said : Replied) (next : Option ℕ) → x.turn ≡ turn → meant_at house turn ≡ says said next → IsPlain (meant_at house x.turn) x → x.reply ≡ said
 plain_by x turn said next at is plain = (subst (λ (m : Meant). IsPlain m x) (ap (meant_at house) at ∙ is) plain).0
 
--- what the first two lines mean being known
+-- what the three lines mean being known
 second_meets : {S : Type 0} (Meets : Owner → Demand → S → Exchange → S → Type 0) (before last : S) (x y z : Exchange)
-    → meant_at house x.turn ≡ says (greeted (codes "ann")) (Some 0) → meant_at house y.turn ≡ wants 0 owner (asks query)
-    → Lead house 0 Meets before (x ∷ y ∷ z ∷ []) last → (after : S) × Meets owner (asks query) before y after
-second_meets {S = S} Meets before last x y z is_first is_second lead =
+    → meant_at house x.turn ≡ says (greeted (codes "ann")) (Some 0) → meant_at house y.turn ≡ wants 0 owner (asks query) → meant_at house z.turn ≡ says ended (Some 0)
+    → Lead house 0 Meets before (x ∷ y ∷ z ∷ []) last → (after : S) × Meets owner (asks query) before y after × (last ≡ after)
+second_meets {S = S} Meets before last x y z is_first is_second is_third lead =
     let behind : Lead house 0 Meets before (y ∷ z ∷ []) last =
     subst (λ (m : Meant). TurnLeads house 0 Meets m before x (λ after. Lead house 0 Meets after (y ∷ z ∷ []) last)) is_first lead in
     let asked : (after : S) × Meets owner (asks query) before y after × Lead house 0 Meets after (z ∷ []) last =
     subst (λ (m : Meant). TurnLeads house 0 Meets m before y (λ after. Lead house 0 Meets after (z ∷ []) last)) is_second behind in
-    (asked.0, asked.1)
+    (asked.0, asked.1, subst (λ (m : Meant). TurnLeads house 0 Meets m asked.0 z (λ after. Lead house 0 Meets after [] last)) is_third asked.2)
 
-replies_from : (draws : ℕ → ℕ → ℕ → ℕ) → noise_at 1000000 (draws 0 0) ≡ Some (pos 2) → (xs : List Exchange) (last : List Record) (closed : Option Failure)
-    → map (λ x. x.turn) xs ≡ first_turn ∷ second_turn ∷ third_turn ∷ [] → ArePlain house xs → LeadExactly house draws 0 0 [] xs last → ClosesOn house draws 0 None xs closed → IsRow (map (λ x. x.reply) xs)
-replies_from draws noise [] last closed turns plain lead closes = cc
-replies_from draws noise (x ∷ []) last closed turns plain lead closes = cc
-replies_from draws noise (x ∷ y ∷ []) last closed turns plain lead closes = cc
-replies_from draws noise (x ∷ y ∷ z ∷ w ∷ xs) last closed turns plain lead closes = cc
-replies_from draws noise (x ∷ y ∷ z ∷ []) last closed turns (px, (py, (pz, nothing))) lead closes =
+replies_from : (draws : ℕ → ℕ → ℕ → ℕ) → noise_at 1000000 (draws 0 0) ≡ Some (pos 2) → (xs : List Exchange) (last : List Record) (ends : Shut) (closed : Option Failure)
+    → map (λ x. x.turn) xs ≡ first_turn ∷ second_turn ∷ third_turn ∷ [] → ArePlain house xs → LeadExactly house draws 0 0 [] xs last → ShutsOn house draws 0 unshut xs ends
+    → StillShut ends.failure closed → length ends.own ≡ length (closing closed) → IsRow (map (λ x. x.reply) xs)
+replies_from draws noise [] last ends closed turns plain lead shuts still counted = cc
+replies_from draws noise (x ∷ []) last ends closed turns plain lead shuts still counted = cc
+replies_from draws noise (x ∷ y ∷ []) last ends closed turns plain lead shuts still counted = cc
+replies_from draws noise (x ∷ y ∷ z ∷ w ∷ xs) last ends closed turns plain lead shuts still counted = cc
+replies_from draws noise (x ∷ y ∷ z ∷ []) last ends closed turns (px, (py, (pz, nothing))) lead shuts still counted =
     let first : x.turn ≡ first_turn = cc in
     let second : y.turn ≡ second_turn = cc in
     let third : z.turn ≡ third_turn = cc in
     let greets = ap (meant_at house) first ∙ first_meant in
     let asks_it = ap (meant_at house) second ∙ second_meant in
-    let told = second_meets (MeetsExactly (draws 0) 0) [] last x y z greets asks_it lead in
-    let open_then = second_meets (ClosesBy (draws 0)) None closed x y z greets asks_it closes in
+    let ends_it = ap (meant_at house) third ∙ third_meant in
+    let told = second_meets (MeetsExactly (draws 0) 0) [] last x y z greets asks_it ends_it lead in
+    let shut = second_meets (ShutsFor (draws 0)) unshut ends x y z greets asks_it ends_it shuts in
     three x.reply y.reply z.reply (plain_by x first_turn (greeted (codes "ann")) (Some 0) first first_meant px)
-    (said_open draws y open_then.0 open_then.1 (second_told draws y told.0 noise told.1))
+    (said_open draws y ends shut.0 closed shut.1 shut.2 still counted (second_told draws y told.0 noise told.1))
     (plain_by z third_turn ended (Some 0) third third_meant pz)
 
 answered_text : flat_map reply_text (replies_with (answered 0 (pos 5) 1000000)) ≡ row
@@ -219,12 +234,15 @@ text_is replies text row same =
     subst (λ (t : List ℕ). IsRowText t) (sym (same ∙ ap (λ (rs : List Replied). flat_map reply_text rs) row.are)) (text_with row.reply row.said)
 
 -- Every script that is answered over a journal without records gives the row, but for want of memory or a disk at its second line.
-pub answered_is : (old new : Shelf) (found : Journals) (text : List ℕ) → found 0 ≡ [] → IsScriptAnswered loading zeros old new found script text → IsRowText text
+pub answered_is : (old new : Shelf) (found : Journals) (text : List ℕ) → found 0 ≡ [] → IsScriptAnswered loading zeros 1 old new found script text → IsRowText text
 answered_is old new found text none a =
     let draws = draws_of zeros in
-    let lead : LeadExactly house draws 0 0 [] a.run.exchanges (a.records 0) =
-    subst (λ (rs : List Record). LeadExactly house draws 0 (first_new rs) rs a.run.exchanges (a.records 0)) none (a.run.owners 0 owner refl) in
-    let closes : ClosesOn house draws 0 None a.run.exchanges (a.closed 0) = a.closes 0 (omega arith) in
-    text_is a.replies text
-    (subst (λ (rs : List Replied). IsRow rs) a.run.replied (replies_from draws noise_is_two a.run.exchanges (a.records 0) (a.closed 0) (a.run.turns ∙ turns) a.run.plain lead closes))
+    let ours = a.gathered.owners 0 owner refl in
+    let shut = a.shut 0 owner refl in
+    let lead : LeadExactly house draws 0 0 [] a.exchanges (a.records 0) =
+    subst (λ (rs : List Record). LeadExactly house draws 0 (first_new rs) rs a.exchanges (a.records 0)) none (exact house draws a.crew 0 (found 0) a.exchanges (a.records 0) ours) in
+    let w = shut.workers 0 (omega arith) in
+    let shuts = subst (λ (ys : List Exchange). ShutsOn house draws 0 unshut ys (shut.ends 0)) (one_part a.crew shut.crews 0 a.exchanges) w.0 in
+    text_is (map (λ (x : Exchange). x.reply) a.exchanges) text
+    (replies_from draws noise_is_two a.exchanges (a.records 0) (shut.ends 0) (a.closed 0) (a.gathered.turns ∙ turns) a.gathered.plain lead shuts w.1 (omega (arith, shut.counted)))
     a.written

@@ -9,7 +9,7 @@ use Rattle.budget_core.specs.Entries.{Entry}
 use Rattle.budget_core.specs.Legal.{IsHistory}
 use Rattle.query_server.proofs.Unopened.{not_refused as never_refused}
 use Rattle.session_core.specs.Transcript.{Journals}
-use Rattle.query_server.specs.Ending.{Ending, to_answer}
+use Rattle.query_server.specs.Work.{Work, to_answer}
 use Rattle.query_server.specs.Run.{IsScriptDue}
 use Rattle.catalog_loading.specs.Loaded.{entry_at, owner_name_at, header_of}
 use Rattle.query_server.specs.Opened.{AreOpened, IsRefusalDue, IsUnopened}
@@ -45,7 +45,7 @@ script_length : length script ≡ 39
 script_length = refl
 
 -- so what is due is the row
-due_is : (old new : Shelf) (status : Status) (text : List ℕ) → IsJournalMade old → IsScriptDue loading zeros old new script status text → (status ≡ Done) × IsRowText text
+due_is : (old new : Shelf) (status : Status) (text : List ℕ) → IsJournalMade old → IsScriptDue loading zeros 1 old new script status text → (status ≡ Done) × IsRowText text
 due_is old new status text made (inl refusal) = absurd (not_refused old new status text made refusal)
 due_is old new status text made (inr (found, opened, inl (done, few, answered))) = (done, answered_is old new found text (none_there old found made opened) answered)
 due_is old new status text made (inr (found, opened, inr (over, many, is, disks))) = absurd (omega (arith, many, script_length))
@@ -79,32 +79,32 @@ prefix_short text whole (rest, is) short =
     let e : length whole ≡ length (text ++ rest) = ap length is in
     omega (arith, length-append text rest)
 
-stop_short : (old new : Shelf) (status : Status) (text : List ℕ) → IsStopLine (to_answer loading zeros) old new status text → length text < 64
+stop_short : (old new : Shelf) (status : Status) (text : List ℕ) → IsStopLine (to_answer 1 loading zeros) old new status text → length text < 64
 stop_short old new status text (inl (memory, is)) = let e : length text ≡ length memory_text = ap length is in omega (arith, memory_length)
 stop_short old new status text (inr (disk, (o, few, is, opened, others))) =
     let first : o ≡ 0 = omega (arith, few) in
     let e : length text ≡ length (disk_text (owner_name_at loading 0)) = ap length (is ∙ ap (λ (o : ℕ). disk_text (owner_name_at loading o)) first) in omega (arith, disk_length)
 
-to_write_short : (old new : Shelf) (status : Status) (text : List ℕ) → IsJournalMade old → IsToWrite (to_answer loading zeros) old new script status text → length text < 64
+to_write_short : (old new : Shelf) (status : Status) (text : List ℕ) → IsJournalMade old → IsToWrite (to_answer 1 loading zeros) old new script status text → length text < 64
 to_write_short old new status text made (inl due) = row_short text (due_is old new status text made due).1
 to_write_short old new status text made (inr (stop, more)) = stop_short old new status text stop
 
 -- At any status fewer bytes are written than there is room for.
-pub short : (old new : Shelf) (status : Status) (text : List ℕ) → IsJournalMade old → IsWrittenAt (to_answer loading zeros) old new script status text → length text < 64
+pub short : (old new : Shelf) (status : Status) (text : List ℕ) → IsJournalMade old → IsWrittenAt (to_answer 1 loading zeros) old new script status text → length text < 64
 short old new status text made (inl whole) = to_write_short old new status text made whole
 short old new status text made (inr (fault, (other, due, is, prefix))) = prefix_short text due prefix (to_write_short old new other due made is)
 
 -- So a sink that fails only where it is full hasn't failed.
-pub none_failed : (ending : Ending) (old new : Shelf) (status : Status) (text written : List ℕ) (faults : ℕ) → IsJournalMade old → ending ≡ to_answer loading zeros → IsWrittenAt ending old new script status text
+pub none_failed : (ending : Work) (old new : Shelf) (status : Status) (text written : List ℕ) (faults : ℕ) → IsJournalMade old → ending ≡ to_answer 1 loading zeros → IsWrittenAt ending old new script status text
     → Some written ≡ Some ([] ++ text) → (0 < faults → length written ≡ 64) → faults ≡ 0
 none_failed ending old new status text written faults made due is whole full =
-    let few : length text < 64 = short old new status text made (subst (λ (e : Ending). IsWrittenAt e old new script status text) due is) in
+    let few : length text < 64 = short old new status text made (subst (λ (e : Work). IsWrittenAt e old new script status text) due is) in
     let same : written ≡ text = cc in
     let e : length written ≡ length text = ap length same in
     grind arith
 
 -- where files, source and sink don't fail
-finished_row : (old new : Shelf) (status : Status) (text : List ℕ) → IsJournalMade old → IsWrittenAt (to_answer loading zeros) old new script status text → (status ≡ Fault → ⊥)
+finished_row : (old new : Shelf) (status : Status) (text : List ℕ) → IsJournalMade old → IsWrittenAt (to_answer 1 loading zeros) old new script status text → (status ≡ Fault → ⊥)
     → (status ≡ NoMemory) ⊎ (status ≡ DiskFault) ⊎ ((status ≡ Done) × IsRowText text)
 finished_row old new status text made (inl (inl due)) sound = inr (inr (due_is old new status text made due))
 finished_row old new status text made (inl (inr (inl (memory, is), more))) sound = inl memory
@@ -122,10 +122,10 @@ written_row text written whole (inr (inr (inl is))) = inr (inr (inl (whole ∙ a
 written_row text written whole (inr (inr (inr is))) = inr (inr (inr (whole ∙ ap Some is)))
 
 -- Where those don't fail, the row is written, or memory is wanting, or the disk fails at the opening.
-pub finished : (ending : Ending) (old new : Shelf) (status : Status) (text written : List ℕ) → IsJournalMade old → ending ≡ to_answer loading zeros → IsWrittenAt ending old new script status text
+pub finished : (ending : Work) (old new : Shelf) (status : Status) (text written : List ℕ) → IsJournalMade old → ending ≡ to_answer 1 loading zeros → IsWrittenAt ending old new script status text
     → Some written ≡ Some ([] ++ text) → (status ≡ Fault → ⊥)
     → (status ≡ NoMemory) ⊎ (status ≡ DiskFault) ⊎ ((status ≡ Done) × IsRowWritten written)
-finished ending old new status text written made due is whole sound = here (finished_row old new status text made (subst (λ (e : Ending). IsWrittenAt e old new script status text) due is) sound)
+finished ending old new status text written made due is whole sound = here (finished_row old new status text made (subst (λ (e : Work). IsWrittenAt e old new script status text) due is) sound)
   where
     here : (status ≡ NoMemory) ⊎ (status ≡ DiskFault) ⊎ ((status ≡ Done) × IsRowText text) → (status ≡ NoMemory) ⊎ (status ≡ DiskFault) ⊎ ((status ≡ Done) × IsRowWritten written)
     here (inl none) = inl none
@@ -133,7 +133,7 @@ finished ending old new status text written made due is whole sound = here (fini
     here (inr (inr (complete, same))) = inr (inr (complete, written_row text written whole same))
 
 -- counts that are 0 haven't risen
-pub none_risen : {P : Type 0} → (before now : ℕ) → before ≡ 0 → now ≡ 0 → HasRisen 0 0 ⊎ (P × HasRisen 0 0) ⊎ HasRisen before now → ⊥
-none_risen before now zero none (inl risen) = let h : 0 < 0 = risen (omega arith) in omega arith
+pub none_risen : {Q P : Type 0} → (before now : ℕ) → before ≡ 0 → now ≡ 0 → (Q × HasRisen 0 0) ⊎ (P × HasRisen 0 0) ⊎ HasRisen before now → ⊥
+none_risen before now zero none (inl risen) = let h : 0 < 0 = risen.1 (omega arith) in omega arith
 none_risen before now zero none (inr (inl risen)) = let h : 0 < 0 = risen.1 (omega arith) in omega arith
 none_risen before now zero none (inr (inr risen)) = let h : before < now = risen (omega arith) in omega arith

@@ -6,7 +6,7 @@ use Rattle.owner_catalog.specs.Catalog.{catalog_in_file}
 use Rattle.catalog_loading.specs.Files.{Contents, always, readable}
 use Rattle.catalog_loading.specs.Steps.{FileStep, StepOutcome, from, done, file_read, behind, continued, one_by_one, ◌>>=◌}
 use Rattle.catalog_loading.specs.Loaded.{catalog_read, key_read, loaded, loading_with, or_refused, owner_read, owner_with, table_read, table_with}
-use Rattle.query_server.specs.Ending.{Ending, to_answer}
+use Rattle.query_server.specs.Work.{Work, to_answer}
 use Rattle.query_server.specs.Run.{run_steps}
 use Rattle.worked_row.specs.Row.{catalog_text, table_text}
 use Rattle.worked_row.specs.Held.{catalog, census, loaded_owner, loaded_table, loading, people, rows, zeros}
@@ -42,8 +42,8 @@ one step held x y is =
     goes_on (step x) (λ y. one_by_one step [] >>= (λ ys. done (y ∷ ys))) held y (y ∷ []) is
     (goes_on (one_by_one step []) (λ ys. done (y ∷ ys)) held [] (y ∷ []) (none step held) (gives held (Ok (y ∷ [])) (y ∷ []) refl))
 
-abbrev ending : Ending
-ending = to_answer loading zeros
+abbrev ending : Work
+ending = to_answer 1 loading zeros
 
 catalog_given : (held : Contents) → held (codes "cat.json") ≡ Some catalog_text → Gives (catalog_read (codes "cat.json")) held catalog
 catalog_given held has =
@@ -78,12 +78,12 @@ key_given held has =
     (gives held (Ok zeros) zeros refl)
 
 pub run_given : (held : Contents) → held (codes "cat.json") ≡ Some catalog_text → held (codes "key") ≡ Some zeros → held (codes "people.csv") ≡ Some table_text
-    → Gives (run_steps (codes "cat.json") (codes "key")) held (to_answer loading zeros)
+    → Gives (run_steps (codes "cat.json") (codes "key") 1) held (to_answer 1 loading zeros)
 run_given held has_catalog has_key has_table =
-    goes_on (catalog_read (codes "cat.json")) (λ house. key_read (codes "key") >>= (λ bytes. loaded house >>= (λ loading. done (to_answer loading bytes)))) held catalog ending
+    goes_on (catalog_read (codes "cat.json")) (λ house. key_read (codes "key") >>= (λ bytes. loaded house >>= (λ loading. done (to_answer 1 loading bytes)))) held catalog ending
     (catalog_given held has_catalog)
-    (goes_on (key_read (codes "key")) (λ bytes. loaded catalog >>= (λ loading. done (to_answer loading bytes))) held zeros ending
+    (goes_on (key_read (codes "key")) (λ bytes. loaded catalog >>= (λ loading. done (to_answer 1 loading bytes))) held zeros ending
     (key_given held has_key)
-    (goes_on (loaded catalog) (λ loading. done (to_answer loading zeros)) held loading ending
+    (goes_on (loaded catalog) (λ loading. done (to_answer 1 loading zeros)) held loading ending
     (loaded_given held has_table)
     (gives held (Ok ending) ending refl)))

@@ -1,6 +1,7 @@
 use Rattle.std.proofs.Common.{◌≡◌, ◌∙◌, ap, map, string_bytes, [], List, ℕ, Option, sym}
 use Rattle.fz_outside.specs.Files.{bytes_of}
 use Rattle.query_server.specs.declared.end.Status.TheVariants.{Fault}
+use Rattle.query_server.proofs.Lines.{line_told}
 use Rattle.worked_row.specs.Row.{script}
 use Rattle.worked_row.proofs.RowEnding.{row_ending}
 use Rattle.worked_row.proofs.RowStatus.{none_failed, finished, none_risen}
@@ -12,8 +13,9 @@ prove-unreachable-requires g c =
     let held : List ℕ → Option (List ℕ) = bytes_of c.files_of_row-listed.result in
     let named = ap (map string_bytes) c.deref.ensures.value ∙ c.in_ok-words.ensures in
     let due = row_ending (map string_bytes c.deref.result.now) held named c.files_of_row-listed.ensures.catalog c.files_of_row-listed.ensures.key c.files_of_row-listed.ensures.table in
-    let exact = c.run_server-status.ensures.exact held script [] c.new-files.ensures.held c.new-source.ensures c.in_ok-sink.ensures.contents in
-    c.if-prove.true (none_failed _ _ _ _ exact.0 c.run_server-status.new.sink.bytes.items c.faults-faults.result c.requires.made due exact.2 exact.1 c.faults-faults.ensures.full)
+    let line = c.run_server-status.ensures.line in
+    let exact = line_told (map string_bytes c.deref.result.now) held script [] _ _ _ _ _ _ _ _ _ line.0 line.1 line.2 c.new-files.ensures.held c.new-source.ensures c.in_ok-sink.ensures.contents in
+    c.if-prove.true (none_failed _ _ _ _ line.0 c.run_server-status.new.sink.bytes.items c.faults-faults.result c.requires.made due exact.1 exact.0 c.faults-faults.ensures.full)
 
 -- Then nothing has, and the transcript is the row.
 pub returns : goal.returns
@@ -21,7 +23,8 @@ returns g c =
     let held : List ℕ → Option (List ℕ) = bytes_of c.files_of_row-listed.result in
     let named = ap (map string_bytes) c.deref.ensures.value ∙ c.in_ok-words.ensures in
     let due = row_ending (map string_bytes c.deref.result.now) held named c.files_of_row-listed.ensures.catalog c.files_of_row-listed.ensures.key c.files_of_row-listed.ensures.table in
-    let exact = c.run_server-status.ensures.exact held script [] c.new-files.ensures.held c.new-source.ensures c.in_ok-sink.ensures.contents in
+    let line = c.run_server-status.ensures.line in
+    let exact = line_told (map string_bytes c.deref.result.now) held script [] _ _ _ _ _ _ _ _ _ line.0 line.1 line.2 c.new-files.ensures.held c.new-source.ensures c.in_ok-sink.ensures.contents in
     let zero : c.run_server-status.new.sink.faults ≡ 0 = sym c.faults-faults.ensures.count ∙ c.if-prove.false in
-    let sound = λ (is : c.run_server-status.result ≡ Fault). none_risen _ _ c.in_ok-sink.ensures.faults zero (c.run_server-status.ensures.fault is) in
-    finished _ _ _ _ exact.0 c.run_server-status.new.sink.bytes.items c.requires.made due exact.2 exact.1 sound
+    let sound = λ (is : c.run_server-status.result ≡ Fault). none_risen _ _ c.in_ok-sink.ensures.faults zero (c.run_server-status.ensures.fault is).0 in
+    finished _ _ _ _ line.0 c.run_server-status.new.sink.bytes.items c.requires.made due exact.1 exact.0 sound

@@ -5,19 +5,19 @@ use Rattle.budget_core.specs.declared.entry.Ask.{Ask}
 use Rattle.budget_core.specs.declared.entry.Grant.{Grant}
 use Rattle.budget_core.specs.Ledger.{IsAskOf}
 use Rattle.budget_ledger.specs.declared.book.BookFault.{BookFault}
-use Rattle.budget_ledger.proofs.Wents.{went_then}
 use Rattle.fz_frac.specs.Distance.{Distance}
 use Rattle.fz_frac.specs.Sens.{distance_of}
 use Rattle.wire_lines.specs.Refusal.{Refusal, refusal_at}
 use Rattle.wire_lines.specs.Reply.{Replied, refused, replied}
 use Rattle.answer_path.specs.Judgement.{accepted}
 use Rattle.part_views.specs.Views.{signature_in}
-use Rattle.answer_path.specs.Owner.{Owner}
+use Rattle.owner_house.specs.Owner.{Owner}
 use Rattle.answer_path.specs.Program.{IsCharged}
 use Rattle.answer_path.specs.Verdict.{ask_for}
 use Rattle.answer_path.specs.Answered.{HasSmallAnswer, IsSettledBy}
-use Rattle.answer_path.specs.Pass.{Pass}
-use Rattle.answer_path.specs.Turn.{HasReserved, IsTurn}
+use Rattle.owner_desk.specs.Passes.{Pass}
+use Rattle.owner_desk.specs.Answers.{HasReserved}
+use Rattle.answer_path.specs.Turn.{IsTurn}
 use Rattle.answer_path.specs.Code.{query_of}
 use Rattle.answer_path.proofs.Charged.{accepted_finite, terms_of}
 use Rattle.answer_path.proofs.Answering.{owner_with, settled_by_term}
@@ -30,20 +30,20 @@ fraction_of-requires g c =
 
 pub reserve-requires : goal.reserve-requires
 reserve-requires g c =
-    subst (λ (asking : Ask). IsAskOf c.args.pass.now.entry asking) (sym c.asking_of-asking.ensures.asking) (record {
+    subst (λ (asking : Ask). IsAskOf c.args.pass.now.opened.ledger.entry asking) (sym c.asking_of-asking.ensures.asking) (record {
       analyst = c.requires.query.analyst;
       view = c.requires.query.view;
       terms = terms_of c.args.query.now.epsilon c.fraction_of.result.p c.fraction_of.result.q c.requires.query.epsilon c.fraction_of.result.above_zero c.fraction_of.result.lowest;
-      digest = subst (λ (asking : Ask). IsByteList 32 asking.program) c.asking_of-asking.ensures.asking c.asking_of-asking.ensures.digest;
+      digest = subst (λ (asking : Ask). IsByteList 32 asking.digest) c.asking_of-asking.ensures.asking c.asking_of-asking.ensures.digest;
     })
 
 pub returns-in-Err-clause-turn : goal.returns-in-Err-clause-turn
 returns-in-Err-clause-turn g c =
     let pass : Pass = c.args.pass.now in
-    let after : Pass = c.reserve.new.self in
+    let after : Pass = c.reserve.new.pass in
     let dataset = c.args.dataset.now in
     let query = query_of c.args.query.now in
-    let draws = g.S.Streams.given c.args.streams.now query.owner in
+    let draws = g.S.Streams.given c.args.streams.now c.args.owner in
     let p = c.fraction_of.result.p in
     let q = c.fraction_of.result.q in
     let accepts : IsCharged (signature_in dataset.tables dataset.partitions query.view) query.program p q =
@@ -52,17 +52,17 @@ returns-in-Err-clause-turn g c =
     subst (λ (asking : Ask). HasReserved pass asking (Err c.in-Err.fault) after) c.asking_of-asking.ensures.asking
     (subst (λ (r : Result Grant BookFault). HasReserved pass c.asking_of-asking.result r after) c.in-Err.is c.reserve.ensures.reserved) in
     of_owner (λ (owner : Owner). IsTurn owner draws query pass (refused (refusal_at c.book_refusal_of.result)) after) pass dataset
-    (λ name. subst (λ (r : Refusal). IsTurn (owner_with name pass.entry dataset) draws query pass (refused r) after) (sym c.book_refusal_of.ensures)
+    (λ name. subst (λ (r : Refusal). IsTurn (owner_with name pass.opened.ledger.entry dataset) draws query pass (refused r) after) (sym c.book_refusal_of.ensures)
     (unreserved_turn name dataset draws query pass after p q c.in-Err.fault accepts why))
 
 pub returns-in-Ok-clause-turn : goal.returns-in-Ok-clause-turn
 returns-in-Ok-clause-turn g c =
     let pass : Pass = c.args.pass.now in
-    let mid : Pass = c.reserve.new.self in
+    let mid : Pass = c.reserve.new.pass in
     let after : Pass = c.settle.new.pass in
     let dataset = c.args.dataset.now in
     let query = query_of c.args.query.now in
-    let draws = g.S.Streams.given c.args.streams.now query.owner in
+    let draws = g.S.Streams.given c.args.streams.now c.args.owner in
     let term = c.args.judged.now.checked.term.now in
     let p = c.fraction_of.result.p in
     let q = c.fraction_of.result.q in
@@ -75,13 +75,10 @@ returns-in-Ok-clause-turn g c =
     (subst (λ (r : Result Grant BookFault). HasReserved pass c.asking_of-asking.result r mid) c.in-Ok.is c.reserve.ensures.reserved) in
     of_owner (λ (owner : Owner). IsTurn owner draws query pass (replied c.settle.result) after) pass dataset
     (λ name.
-    let settles : IsSettledBy (owner_with name pass.entry dataset) draws query grant.number outcome =
-    settled_by_term (owner_with name pass.entry dataset) draws query grant.number term outcome c.requires.reads c.outcome_at-outcome.ensures.settled in
-    subst (λ (reply : Replied). IsTurn (owner_with name pass.entry dataset) draws query pass reply after) (sym settled.2)
+    let settles : IsSettledBy (owner_with name pass.opened.ledger.entry dataset) draws query grant.number outcome =
+    settled_by_term (owner_with name pass.opened.ledger.entry dataset) draws query grant.number term outcome c.requires.reads c.outcome_at-outcome.ensures.settled in
+    subst (λ (reply : Replied). IsTurn (owner_with name pass.opened.ledger.entry dataset) draws query pass reply after) (sym settled.2)
     (settled_turn name dataset draws query pass mid after p q grant outcome settled.0 accepts made settles settled.1))
-
-pub returns-in-Ok-clause-went : goal.returns-in-Ok-clause-went
-returns-in-Ok-clause-went g c = went_then _ _ _ _ _ _ c.reserve.ensures.went c.settle.ensures.went
 
 pub returns-in-Ok-clause-fits : goal.returns-in-Ok-clause-fits
 returns-in-Ok-clause-fits g c =

@@ -1,10 +1,16 @@
-use Rattle.std.proofs.Common.{◌∙◌, ap}
+use Rattle.std.proofs.Common.{◌≡◌, sym, subst}
+use Rattle.budget_core.specs.Answers.{recalled}
 use Rattle.wire_lines.specs.Reply.{replied}
-use Rattle.answer_path.specs.Standing.{recall_reply}
-use Rattle.answer_path.proofs.Standings.{is_recalled}
+use Rattle.answer_path.specs.Answered.{HasSmallAnswer}
+use Rattle.answer_path.proofs.Standings.{is_recalled, recall_small, stays_so}
 use Rattle.answer_path.proofs.standing.recall.Goals as goal
 
 pub returns-clause-told : goal.returns-clause-told
 returns-clause-told g c =
-    is_recalled c.args.pass.now c.args.number c.args.analyst (replied c.recall_reply_of.result)
-    (c.recall_reply_of.ensures ∙ ap (recall_reply c.args.number) c.recall.ensures)
+    is_recalled c.args.pass.now c.recall.new.pass c.recall.result c.args.number c.args.analyst (replied c.recall_reply_of.result) c.recall.ensures.told c.recall_reply_of.ensures
+
+pub returns-clause-stays : goal.returns-clause-stays
+returns-clause-stays g c = stays_so c.args.pass.now c.recall.new.pass (λ ledger. c.recall.result ≡ recalled ledger c.args.number c.args.analyst) c.recall.ensures.told
+
+pub returns-clause-fits : goal.returns-clause-fits
+returns-clause-fits g c = subst HasSmallAnswer (sym c.recall_reply_of.ensures) (recall_small c.args.number c.recall.result)

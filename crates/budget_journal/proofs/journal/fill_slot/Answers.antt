@@ -4,7 +4,8 @@ use Rattle.outside_disks.specs.Disks.{WhereTold, MayHaveWritten}
 use Rattle.journal_records.specs.Encoding.{encoded, IsValid}
 use Rattle.journal_records.specs.declared.records.Record.{Record}
 use Rattle.journal_records.proofs.Shapes.{length-encoded}
-use Rattle.budget_journal.specs.Journals.{slot_place, Appended, AppendFailed}
+use Rattle.budget_journal.specs.Journals.{Appended, AppendFailed}
+use Rattle.budget_journal.proofs.Slots.{slot_at}
 use Rattle.budget_journal.proofs.Filled.{told-refused-first, told-refused, told-appended}
 use Rattle.budget_journal.proofs.journal.fill_slot.Goals as goal
 
@@ -34,7 +35,7 @@ returns-in_err-put_stable-clause-refused g c =
     let out = c.encode.new.out in
     let told : WhereTold (AppendFailed c.from.result next) (g.D.Disk.trace c.args.disk.now) (g.D.Disk.trace c.put_stable.new.disk)
     = told-refused-first c.from.result next c.requires (take 63 (drop 1 out)) (body next c.requires out c.encode.ensures) _ (g.D.Disk.trace c.args.disk.now) _
-    (subst (λ (n : ℕ). MayHaveWritten (slot_place c.from.result + 1) n (g.D.Disk.trace c.args.disk.now) (g.D.Disk.trace c.put_stable.new.disk))
+    (subst (λ (n : ℕ). MayHaveWritten (slot_at c.from.result + 1) n (g.D.Disk.trace c.args.disk.now) (g.D.Disk.trace c.put_stable.new.disk))
     (long next c.requires out c.encode.ensures) c.in_err-put_stable.ensures.err) in
     on_err c.from_residual.result (subst (λ (n : ℕ). WhereTold (AppendFailed n next) (g.D.Disk.trace c.args.disk.now)
     (g.D.Disk.trace c.put_stable.new.disk)) c.from.ensures told)

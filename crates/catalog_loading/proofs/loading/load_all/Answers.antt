@@ -3,7 +3,7 @@ use Rattle.std.specs.Prelude.{Vec}
 use Rattle.std.specs.declared.alloc.Global.{Global}
 use Rattle.std.proofs.lemmas.List.{map-append}
 use Rattle.part_views.specs.Holding.{Holding}
-use Rattle.session_core.specs.House.{register_with}
+use Rattle.owner_house.specs.House.{register_with}
 use Rattle.catalog_loading.specs.Steps.{one_by_one}
 use Rattle.catalog_loading.specs.Loaded.{LoadedOwner, IsLoading, loaded, owner_read}
 use Rattle.catalog_loading.specs.declared.stops.Stop.TheVariants.{NoMemory}

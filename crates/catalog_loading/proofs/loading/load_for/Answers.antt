@@ -1,7 +1,7 @@
 use Rattle.std.proofs.Common.{◌≡◌, ◌<◌, length, slice_get, Some, refl, sym, subst, arith}
 use Rattle.std.proofs.lemmas.Option.{slice_get_read}
 use Rattle.owner_catalog.specs.Entries.{owner_entry_at}
-use Rattle.answer_path.specs.Judgement.{AreNames}
+use Rattle.owner_house.specs.Names.{AreNames}
 use Rattle.catalog_loading.specs.Loaded.{owner_loaded}
 use Rattle.catalog_loading.proofs.Holdings.{its_tables, one_holds}
 use Rattle.catalog_loading.proofs.Loaded.{names_of}

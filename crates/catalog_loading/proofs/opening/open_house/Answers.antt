@@ -1,6 +1,6 @@
-use Rattle.std.proofs.Common.{◌∙◌, refl, sym, subst}
-use Rattle.session_core.specs.House.{Register}
-use Rattle.catalog_loading.specs.Loaded.{IsLoading, house_read}
+use Rattle.std.proofs.Common.{◌∙◌, refl, sym, subst, rules}
+use Rattle.owner_house.specs.House.{Register}
+use Rattle.catalog_loading.specs.Loaded.{IsLoading, house_read, keyed}
 use Rattle.catalog_loading.specs.Given.{loading_by}
 use Rattle.catalog_loading.proofs.Reached.{IsDone, all_done, begun, one_more, passed, stopped}
 use Rattle.catalog_loading.proofs.opening.open_house.Goals as goal
@@ -26,9 +26,11 @@ returns-clause-step g c =
     let hashes = c.in_ok-loaded.loaded.hashes.items in
     let catalog = one_more _ _ _ _ _ _ _ _ _ (begun _ _ steps) refl c.in_ok-catalog.ensures.step in
     let key = one_more _ _ _ _ _ _ _ _ _ catalog c.in_ok-catalog.ensures.same c.in_ok-key.ensures.step in
-    subst (λ (register : Register). IsDone (g.F.Files.held c.args.files.now) (g.F.Files.names c.args.files.now) (g.F.Files.names c.load_all.new.files) steps (loading_by register hashes, c.in_ok-key.key)) (sym c.new-house.ensures)
+    subst (λ (register : Register). IsDone (g.F.Files.held c.args.files.now) (g.F.Files.names c.args.files.now) (g.F.Files.names c.load_all.new.files) steps (keyed (loading_by register hashes) c.in_ok-key.key)) (sym c.new-house.ensures)
     (all_done _ _ _ steps _ (one_more _ _ _ _ _ _ _ _ _ key (c.in_ok-key.ensures.same ∙ c.in_ok-catalog.ensures.same) c.in_ok-loaded.ensures.step))
 
-pub returns-clause-loading : goal.returns-clause-loading
-returns-clause-loading g c =
-    subst (λ (register : Register). IsLoading (loading_by register c.in_ok-loaded.loaded.hashes.items)) (sym c.new-house.ensures) c.in_ok-loaded.ensures.register
+pub invariant_of-result : goal.invariant_of-result
+invariant_of-result g c = record {
+  lawful = subst (λ (register : Register). IsLoading (loading_by register c.in_ok-loaded.loaded.hashes.items)) (sym c.new-house.ensures) c.in_ok-loaded.ensures.register;
+  whole_key = search rules;
+}

@@ -4,7 +4,7 @@ use Rattle.journal_records.proofs.decoding.record_of.Goals as goal
 
 pub returns-in-1-clause-only : goal.returns-in-1-clause-only
 returns-in-1-clause-only c (Reserve r) valid is = c.reservation_of.ensures.only r valid is
-returns-in-1-clause-only c (Settle number outcome) valid is =
+returns-in-1-clause-only c (Settle settlement) valid is =
     let kind : slice_index c.args.bytes.now 1 ≡ 1 = c.in-1.is in
     let two : slice_index c.args.bytes.now 1 ≡ 2 = ap (λ (b : List ℕ). slice_index b 1) is in
     absurd (omega arith)

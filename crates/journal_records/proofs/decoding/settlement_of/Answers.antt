@@ -2,9 +2,10 @@ use Rattle.std.proofs.Common.{◌≡◌, ℕ, ◌<◌, ◌^◌, ℤ, pos, negsuc
 use Rattle.std.specs.Int.{w32, w64, from_be_bytes, cast_unsigned}
 use Rattle.std.proofs.lemmas.Int.{ints}
 use Rattle.std.proofs.lemmas.Nat.{from_be_bytes-to_be_bytes_4, from_be_bytes-to_be_bytes_8}
-use Rattle.journal_records.specs.declared.records.Record.TheVariants.{Settle}
 use Rattle.std.proofs.lemmas.Option.{same_Some}
 use Rattle.journal_records.specs.declared.records.Outcome.{Outcome}
+use Rattle.journal_records.specs.declared.records.Settlement.{Settlement}
+use Rattle.journal_records.specs.declared.records.Record.TheVariants.{Settle}
 use Rattle.journal_records.specs.declared.records.Outcome.TheVariants.{Answered, Exhausted, Lost}
 use Rattle.journal_records.specs.Encoding.{encoded, answer_number, IsOutcome, IsSettlement}
 use Rattle.journal_records.proofs.decoding.settlement_of.Goals as goal
@@ -18,21 +19,21 @@ answer-fits (Answered z) valid = fits z valid
 answer-fits Exhausted valid = omega arith
 answer-fits Lost valid = omega arith
 
-answer : (bytes : List ℕ) (n number : ℕ) (outcome : Outcome) → IsSettlement number outcome → n ≡ from_be_bytes w64 (take 8 (drop 8 bytes))
-    → bytes ≡ encoded (Settle number outcome) → n ≡ answer_number outcome
-answer bytes n number outcome valid read is = read ∙ ap (λ (b : List ℕ). from_be_bytes w64 (take 8 (drop 8 b))) is
-    ∙ from_be_bytes-to_be_bytes_8 (answer_number outcome) (answer-fits outcome valid.settled)
+answer : (bytes : List ℕ) (n : ℕ) (s : Settlement) → IsSettlement s → n ≡ from_be_bytes w64 (take 8 (drop 8 bytes))
+    → bytes ≡ encoded (Settle s) → n ≡ answer_number s.outcome
+answer bytes n s valid read is = read ∙ ap (λ (b : List ℕ). from_be_bytes w64 (take 8 (drop 8 b))) is
+    ∙ from_be_bytes-to_be_bytes_8 (answer_number s.outcome) (answer-fits s.outcome valid.settled)
 
 pub returns-clause-only : goal.returns-clause-only
-returns-clause-only c number outcome valid is =
-    let n = c.u32_at-number.ensures ∙ ap (λ (b : List ℕ). from_be_bytes w32 (take 4 (drop 4 b))) is ∙ from_be_bytes-to_be_bytes_4 number valid.numbered in
-    let o = c.in_ok-outcome.ensures.only outcome valid.settled (ap (λ (b : List ℕ). slice_index b 2) is)
-    (answer c.args.bytes.now _ number outcome valid c.u64_at.ensures is) in
-    let w : c.in_ok-outcome.outcome ≡ outcome = same_Some _ _ o in
-    λ i. Some (Settle (n i) (w i))
+returns-clause-only c s valid is =
+    let n = c.u32_at-number.ensures ∙ ap (λ (b : List ℕ). from_be_bytes w32 (take 4 (drop 4 b))) is ∙ from_be_bytes-to_be_bytes_4 s.number valid.numbered in
+    let o = c.in_ok-outcome.ensures.only s.outcome valid.settled (ap (λ (b : List ℕ). slice_index b 2) is)
+    (answer c.args.bytes.now _ s valid c.u64_at.ensures is) in
+    let w : c.in_ok-outcome.outcome ≡ s.outcome = same_Some _ _ o in
+    λ i. Some (Settle (record { number = n i; outcome = w i }))
 
 pub returns-in_err-outcome-clause-only : goal.returns-in_err-outcome-clause-only
-returns-in_err-outcome-clause-only c number outcome valid is =
-    let o = c.in_err-outcome.ensures.only outcome valid.settled (ap (λ (b : List ℕ). slice_index b 2) is)
-    (answer c.args.bytes.now _ number outcome valid c.u64_at.ensures is) in
+returns-in_err-outcome-clause-only c s valid is =
+    let o = c.in_err-outcome.ensures.only s.outcome valid.settled (ap (λ (b : List ℕ). slice_index b 2) is)
+    (answer c.args.bytes.now _ s valid c.u64_at.ensures is) in
     absurd cc

@@ -1,6 +1,6 @@
-use Rattle.std.proofs.Common.{◌≡◌, ◌∙◌, length, refl, ap, arith}
-use Rattle.budget_ledger.specs.Account.{Account}
-use Rattle.query_server.proofs.Back.{back_all, back_begun, back_more, changed_to, left_few, one_fewer, stored_by}
+use Rattle.std.proofs.Common.{◌≡◌, ◌∙◌, length, refl, arith}
+use Rattle.query_server.specs.Books.{GaveBook}
+use Rattle.query_server.proofs.Back.{back_all, back_begun, back_more, changed_to, left_few, one_fewer}
 use Rattle.query_server.proofs.books.put_back.Goals as goal
 
 pub loop-pass-init : goal.loop-pass-init
@@ -26,14 +26,17 @@ loop-pass-smaller g c = let fewer = one_fewer _ _ _ c.in-Some.ensures.items in o
 
 pub loop-pass-preserved : goal.loop-pass-preserved
 loop-pass-preserved g c =
-    let pass = c.in-Some.pass in
-    let book = c.into_book.result in
     let here : c.len-owner.result ≡ length c.pop.new.self.items = omega (arith, c.len-owner.ensures, c.pop.new.self.ok) in
+    let gave : GaveBook c.in-Some.pass c.close.result = record {
+      ledger = c.close.ensures.ledger;
+      closed = record { all = c.close.ensures.records; later = c.close.ensures.later; faults = c.close.ensures.closed; failure = c.close.ensures.failure };
+      went = c.close.ensures.went;
+      untouched = c.close.ensures.untouched;
+      sound = c.close.ensures.book;
+    } in
     record {
-      back = back_more _ _ c.pop.new.self.items pass _ _ _ c.in-Some.ensures.items c.loop-pass.invariant.back
-          (changed_to _ _ _ _ _ _ _ _ here (c.into_disk.ensures.trace ∙ ap (λ (b : Account). b.storage.trace) c.into_book.ensures)
-          (c.into_disk.ensures.faults ∙ ap (λ (b : Account). b.storage.faults) c.into_book.ensures) c.put_back.ensures.home)
-          (stored_by book pass _ c.into_disk.ensures.trace c.into_book.ensures c.into_disk.ensures.kept c.into_disk.ensures.book);
+      back = back_more _ _ c.pop.new.self.items c.in-Some.pass c.close.result _ _ _ c.in-Some.ensures.items c.loop-pass.invariant.back
+          (changed_to _ _ _ _ _ _ _ _ here c.into_disk.ensures.trace c.into_disk.ensures.faults c.put_back.ensures.home) gave;
       owners = c.put_back.ensures.owners ∙ c.loop-pass.invariant.owners;
       faults = c.put_back.ensures.passed ∙ c.loop-pass.invariant.faults;
     }

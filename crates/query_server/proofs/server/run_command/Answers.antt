@@ -23,13 +23,13 @@ pub returns-in-Ok-run_script-clause-end : goal.returns-in-Ok-run_script-clause-e
 returns-in-Ok-run_script-clause-end g c =
     let r = c.in-Ok-Run in
     command_end (map string_bytes c.args.words.now) (Some (run r.catalog.now r.key.now r.field-0-2)) (g.F.Files.held c.args.files.now) (g.S.Source.left c.args.source.now)
-    (g.F.Files.names c.args.files.now) (g.F.Files.names c.run_script.new.files) (g.B.Bay.shelf c.args.bay.now) (g.B.Bay.shelf c.run_script.new.bay) (Run c.in-Ok-run_script.end) (r.ensures.read ∙ ap (λ command. Some (command_meant command)) r.field-0-is) c.in-Ok-run_script.ensures.end
+    (g.F.Files.names c.args.files.now) (g.F.Files.names c.run_script.new.files) (g.B.Bay.shelf c.args.bay.now) (g.B.Bay.shelf c.run_script.new.bay) (Run c.in-Ok-run_script.end) (r.ensures.read ∙ ap (λ command. Some (command_meant command)) r.field-0-is) (c.in-Ok-run_script.ensures.end r.field-0-2)
 
 pub returns-in-Err-run_script-clause-end : goal.returns-in-Err-run_script-clause-end
 returns-in-Err-run_script-clause-end g c =
     let r = c.in-Ok-Run in
     command_end (map string_bytes c.args.words.now) (Some (run r.catalog.now r.key.now r.field-0-2)) (g.F.Files.held c.args.files.now) (g.S.Source.left c.args.source.now)
-    (g.F.Files.names c.args.files.now) (g.F.Files.names c.run_script.new.files) (g.B.Bay.shelf c.args.bay.now) (g.B.Bay.shelf c.run_script.new.bay) (Stopped c.in-Err-run_script.stop) (r.ensures.read ∙ ap (λ command. Some (command_meant command)) r.field-0-is) c.in-Err-run_script.ensures.end
+    (g.F.Files.names c.args.files.now) (g.F.Files.names c.run_script.new.files) (g.B.Bay.shelf c.args.bay.now) (g.B.Bay.shelf c.run_script.new.bay) (Stopped c.in-Err-run_script.stop) (r.ensures.read ∙ ap (λ command. Some (command_meant command)) r.field-0-is) (c.in-Err-run_script.ensures.end r.field-0-2)
 
 pub returns-in-Ok-check_file-clause-end : goal.returns-in-Ok-check_file-clause-end
 returns-in-Ok-check_file-clause-end g c =

@@ -2,10 +2,10 @@ use Rattle.std.proofs.Common.{◌∙◌, ap, refl, arith, length, length-append}
 use Rattle.std.specs.Prelude.{vec_capacity}
 use Rattle.wire_lines.specs.Lines.{lines_of}
 use Rattle.wire_lines.specs.Reply.{replied, reply_text}
-use Rattle.session_core.specs.House.{house_of}
+use Rattle.owner_house.specs.House.{house_of}
 use Rattle.session_core.specs.Exchanges.{Exchange}
 use Rattle.session_core.specs.Code.{room_for_lines}
-use Rattle.session_core.proofs.Serving.{room_next, room_taken, passes_kept, up_to_first, up_to_next, up_to_both, up_to_written}
+use Rattle.session_core.proofs.Serving.{room_next, room_taken, passes_kept, up_to_first, up_to_next, up_to_all}
 use Rattle.session_core.proofs.script.answer_script.Goals as goal
 
 pub loop-line-init : goal.loop-line-init
@@ -40,15 +40,10 @@ loop-line-preserved g c =
       );
       told = up_to_next house draws c.args.script.now c.args.passes.now c.loop-line.who answer.result.who c.in-Some.line.now (lines_of c.loop-line.rest.now) (lines_of c.in-Some.after.now)
           c.loop-line.out.items c.push_reply.new.out.items c.loop-line.passes answer.new.passes x refl
-          c.loop-line.invariant.told c.in-Some.ensures.lines served.1 (answer.ensures.alone served.0 served.1) c.push_reply.ensures.items answer.ensures.who;
+          c.loop-line.invariant.told c.in-Some.ensures.lines served.1 c.push_reply.ensures.items answer.ensures.who;
     }
 
 pub returns-clause-served : goal.returns-clause-served
 returns-clause-served g c =
-    up_to_both (house_of c.args.house.now) (g.S.Streams.given c.args.streams.now) c.args.script.now c.args.passes.now c.loop-line.who (lines_of c.loop-line.rest.now) c.loop-line.out.items c.loop-line.passes
+    up_to_all (house_of c.args.house.now) (g.S.Streams.given c.args.streams.now) c.args.script.now c.args.passes.now c.loop-line.who (lines_of c.loop-line.rest.now) c.loop-line.out.items c.loop-line.passes
     c.loop-line.invariant.told c.in_default.ensures.lines
-
-pub returns-clause-written : goal.returns-clause-written
-returns-clause-written g c = λ fresh.
-    up_to_written (house_of c.args.house.now) (g.S.Streams.given c.args.streams.now) c.args.script.now c.args.passes.now c.loop-line.who (lines_of c.loop-line.rest.now) c.loop-line.out.items c.loop-line.passes
-    c.loop-line.invariant.told c.in_default.ensures.lines fresh

@@ -1,7 +1,7 @@
 use Rattle.std.proofs.Common.{◌+◌, ◌≤◌, length}
 use Rattle.std.specs.Prelude.{vec_capacity}
 use Rattle.wire_lines.specs.Lines.{lines_of}
-use Rattle.session_core.specs.House.{house_of}
+use Rattle.owner_house.specs.House.{house_of}
 use Rattle.session_core.specs.Code.{IsAnalyst, ArePasses, room_for_lines}
 use Rattle.session_core.proofs.Serving.{IsUpTo}
 use Rattle.session_core.proofs.script.answer_script.Given as goal

@@ -5,12 +5,12 @@ use Rattle.budget_core.proofs.entry.Entry.has_ask.Goals as goal
 
 pub returns : goal.returns
 returns c =
-    let program : IsByteList 32 c.args.ask.now.program = c.are_bytes.ensures in (
+    let digest : IsByteList 32 c.args.ask.now.digest = c.are_bytes.ensures in (
       λ holds. record {
         analyst = omega (arith, c.if-ask-self.false, ap (λ (e : Entry). e.analysts) c.self.view_is);
         view = c.has_view.ensures.0 c.if-not-has_view.false;
         terms = c.are_terms.ensures.0 holds;
-        digest = program;
+        digest = digest;
       },
       λ of. c.are_terms.ensures.1 of.terms,
     )

@@ -1,4 +1,6 @@
-use Rattle.std.proofs.Common.{◌∙◌, true≢false, sym, ap, subst}
+use Rattle.std.proofs.Common.{[], ◌∷◌, ◌++◌, ◌∙◌, true≢false, sym, ap, subst}
+use Rattle.journal_records.specs.declared.records.Reservation.{Reservation}
+use Rattle.journal_records.specs.declared.records.Record.TheVariants.{Reserve}
 use Rattle.budget_core.specs.Entries.{Entry}
 use Rattle.budget_core.specs.Ledger.{Ledger, IsAskOf}
 use Rattle.budget_core.specs.Machine.{world_of}
@@ -18,5 +20,7 @@ pub returns-in-Ok-clause-stepped : goal.returns-in-Ok-clause-stepped
 returns-in-Ok-clause-stepped c =
     let of = subst (λ (e : Entry). IsAskOf e c.args.ask.now) c.entry.ensures (c.has_ask.ensures.0 c.if-not-has_ask.false) in
     ap (λ (l : Ledger). world_of (record c.args.self.now { ledger = l })) c.reserve.ensures.after
+    ∙ ap (λ (r : Reservation). world_of (record c.args.self.now { ledger = record c.args.self.now.ledger { records = c.args.self.now.ledger.records ++ Reserve r ∷ [] } }))
+    c.reservation-reservation.ensures.reservation
     ∙ reserved-step c.args.self.now.ledger.entry (world_of c.args.self.now) c.args.ask.now c.in-Ok.grant c.if-not-self.false
     (ask-test c.args.self.now.ledger.entry c.args.ask.now of) (sym c.verdict.ensures.verdict ∙ c.in-Ok.is)

@@ -1,16 +1,15 @@
 use Rattle.std.proofs.Common.{◌≡◌, ◌∙◌, sym, subst, ap, arith}
 use Rattle.budget_core.specs.declared.entry.Grant.{Grant}
-use Rattle.budget_core.specs.Ledger.{Ledger, next_number, reservation_numbered}
-use Rattle.budget_core.specs.Legal.{IsReservationAfter}
+use Rattle.budget_core.specs.Ledger.{Ledger, next_number, reservation_numbered, MayReserve}
 use Rattle.budget_core.specs.Sound.{IsSound}
 use Rattle.budget_core.proofs.Charging.{view-valid}
 use Rattle.budget_core.proofs.LegalLemmas.{granted, may-grant}
 use Rattle.budget_core.proofs.ledger.Ledger.reservation.Goals as goal
 
-pub returns-clause-follows : goal.returns-clause-follows
-returns-clause-follows c =
+pub returns-clause-may : goal.returns-clause-may
+returns-clause-may c =
     let number : c.reservations.result ≡ next_number c.args.self.now.records = c.reservations.ensures ∙ ap (λ (l : Ledger). next_number l.records) c.self.view_is in
-    subst (λ n. IsReservationAfter c.args.self.now.entry c.args.self.now.records (reservation_numbered n c.args.ask.now c.args.grant.now.taken)) (sym number)
+    subst (λ n. MayReserve c.args.self.now (reservation_numbered n c.args.ask.now c.args.grant.now.taken)) (sym number)
     (may-grant c.args.self.now c.args.ask.now c.args.grant.now c.requires.asked c.requires.granted)
 
 pub returns-clause-valid : goal.returns-clause-valid

@@ -12,7 +12,7 @@ use Rattle.budget_core.proofs.totals.Totals.count_settlement.Goals as goal
 pub settle_row-requires : goal.settle_row-requires
 settle_row-requires c =
     let may = c.requires in
-    omega (arith, kept-row may.0 may.1 c.args.self.now c.args.number may.2 may.3, ap length c.deref_mut.ensures.value)
+    omega (arith, kept-row may.0 may.1 c.args.self.now c.args.settlement.now.number may.2 may.3, ap length c.deref_mut.ensures.value)
 
 byte-one : (b : Bool) → bool_byte b ≡ one_if b
 byte-one true = refl
@@ -20,9 +20,9 @@ byte-one false = refl
 
 pub returns : goal.returns
 returns c entry records told may short =
-    let rows = rows-Settle records c.deref_mut.result.now c.settle_row.new.rows c.args.number c.args.outcome may
+    let rows = rows-Settle records c.deref_mut.result.now c.settle_row.new.rows c.args.settlement.now.number c.args.settlement.now.outcome may
     (subst (λ (xs : List Row). HasRows xs records) (sym c.deref_mut.ensures.value) told.rows)
     c.settle_row.auto.rows c.settle_row.ensures.settled c.settle_row.ensures.others in
-    kept-Settle entry records c.args.self.now c.args.number c.args.outcome _ c.from.result c.from-2.result told may short
-    (subst (λ (xs : List Row). HasRows xs (records ++ Settle c.args.number c.args.outcome ∷ [])) (sym (with_items_is c.args.self.now.rows c.settle_row.new.rows (omega (arith, c.settle_row.auto.rows, c.deref_mut.ensures.len)))) rows)
-    refl (c.from.ensures ∙ ap bool_byte (c.is_answer.ensures c.args.number) ∙ byte-one _) (c.from-2.ensures ∙ ap bool_byte (c.is_exhaustion.ensures c.args.number) ∙ byte-one _)
+    kept-Settle entry records c.args.self.now c.args.settlement.now.number c.args.settlement.now.outcome _ c.from.result c.from-2.result told may short
+    (subst (λ (xs : List Row). HasRows xs (records ++ Settle c.args.settlement.now ∷ [])) (sym (with_items_is c.args.self.now.rows c.settle_row.new.rows (omega (arith, c.settle_row.auto.rows, c.deref_mut.ensures.len)))) rows)
+    refl (c.from.ensures ∙ ap bool_byte c.is_answer.ensures ∙ byte-one _) (c.from-2.ensures ∙ ap bool_byte c.is_exhaustion.ensures ∙ byte-one _)

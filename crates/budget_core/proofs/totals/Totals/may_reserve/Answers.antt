@@ -17,8 +17,8 @@ overflow_sub-result c =
       arith,
       c.after-after.ensures (charges_in total.0) total.1.costs,
       c.spent-spent.ensures (charges_in total.0) total.1.costs,
-      cost_of-charges total.0,
-      kept-grows total.0 c.args.reservation.now.view c.charge_for-charge.result,
+      cost_of-charges c.args.entry.now total.0,
+      kept-grows c.args.entry.now total.0 c.args.reservation.now.view c.charge_for-charge.result,
     )
 
 pub returns-then-after-budget : goal.returns-then-after-budget
@@ -27,8 +27,8 @@ returns-then-after-budget c records told =
     let cost = c.after-after.ensures (charges_in records) told.costs in
     may-reserve c.args.entry.now records c.args.reservation.now c.charge_for-charge.result c.after-after.result c.spent-spent.result
     (omega (arith, c.if-reservation-len.false, many, told.rows.count)) (omega (arith, c.if-reservation-analysts.false, c.analysts.ensures)) (c.has_view.ensures.0 c.if-not-has_view.false)
-    c.charge_for-charge.ensures.charge cost (omega (arith, cost, kept-grows records c.args.reservation.now.view c.charge_for-charge.result))
-    (omega (arith, c.spent-spent.ensures (charges_in records) told.costs, cost_of-charges records)) (omega (arith, c.if-after-budget.true, c.budget.ensures))
+    c.charge_for-charge.ensures.charge cost (omega (arith, cost, kept-grows c.args.entry.now records c.args.reservation.now.view c.charge_for-charge.result))
+    (omega (arith, c.spent-spent.ensures (charges_in records) told.costs, cost_of-charges c.args.entry.now records)) (omega (arith, c.if-after-budget.true, c.budget.ensures))
 
 pub returns-else-after-budget : goal.returns-else-after-budget
 returns-else-after-budget c records told = (

@@ -13,7 +13,7 @@ returns c =
     record {
       valid = c.capacity.ensures.valid;
       history = history-nil c.args.entry.now;
-      within = omega (arith, cost_of-nil);
+      within = omega (arith, cost_of-nil c.args.entry.now);
       costs = c.new.ensures;
       rows = subst (λ (rows : List Row). HasRows rows []) (sym c.in_ok-rows.ensures.items) no-rows;
       answered = refl;

@@ -1,6 +1,5 @@
-use Rattle.std.proofs.Common.{◌≡◌, ◌++◌, ◌∷◌, [], ap, sym, ◌∙◌, arith}
-use Rattle.journal_records.specs.declared.records.Record.{Record}
-use Rattle.budget_core.specs.Ledger.{Ledger}
+use Rattle.std.proofs.Common.{sym, ◌∙◌, arith}
+use Rattle.journal_records.specs.declared.records.Record.TheVariants.{Reserve}
 use Rattle.budget_core.proofs.LegalLemmas.{granted}
 use Rattle.budget_ledger.proofs.Wents.{went_self}
 use Rattle.budget_ledger.proofs.Writes.{written_holds, written_went, stopped_holds, stopped_went}
@@ -9,24 +8,19 @@ use Rattle.budget_ledger.proofs.book.Book.reserve.Goals as goal
 pub returns-in-Err-clause-went : goal.returns-in-Err-clause-went
 returns-in-Err-clause-went g c = went_self c.args.self.now.ledger.records c.args.self.now.storage
 
--- the ledger has the record that was written
-abbrev with_next : (ledger : Ledger) (next other : Record) (after : Ledger) → next ≡ other → after ≡ record ledger { records = ledger.records ++ other ∷ [] }
-    → after ≡ record ledger { records = ledger.records ++ next ∷ [] }
-with_next ledger next other after same is = is ∙ ap (λ (r : Record). record ledger { records = ledger.records ++ r ∷ [] }) (sym same)
-
 pub invariant_of-self : goal.invariant_of-self
 invariant_of-self g c =
     let fits = (granted c.self.inside.ledger c.args.ask.now c.in-Ok.grant (sym c.verdict.ensures.verdict ∙ c.in-Ok.is)).fits in
-    written_holds g.D.Disk.trace g.D.Disk.faults c.self.inside.ledger c.self.inside.header c.reservation-next.result c.self.inside.journal c.write_down.new.journal
+    written_holds g.D.Disk.trace g.D.Disk.faults c.self.inside.ledger c.self.inside.header (Reserve c.reservation-reservation.result) c.self.inside.journal c.write_down.new.journal
     c.self.inside.failure c.write_down.new.failure c.self.invariant (λ none. omega (arith, fits)) c.write_down.ensures.room c.in-Ok-write_down.ensures.written
-    c.reserve.new.self (with_next c.self.inside.ledger _ _ _ c.reservation-next.ensures.reservation c.reserve.ensures.after) c.reserve.ensures.sound
+    c.reserve.new.self c.reserve.ensures.after c.reserve.ensures.sound
 
 pub returns-in-Ok-write_down-clause-went : goal.returns-in-Ok-write_down-clause-went
 returns-in-Ok-write_down-clause-went g c =
     let fits = (granted c.self.inside.ledger c.args.ask.now c.in-Ok.grant (sym c.verdict.ensures.verdict ∙ c.in-Ok.is)).fits in
-    let went = written_went g.D.Disk.trace g.D.Disk.faults c.self.inside.ledger c.self.inside.header c.reservation-next.result c.self.inside.journal c.write_down.new.journal
+    let went = written_went g.D.Disk.trace g.D.Disk.faults c.self.inside.ledger c.self.inside.header (Reserve c.reservation-reservation.result) c.self.inside.journal c.write_down.new.journal
     c.self.inside.failure c.write_down.new.failure c.self.invariant (λ none. omega (arith, fits)) c.write_down.ensures.room c.in-Ok-write_down.ensures.written
-    c.reserve.new.self (with_next c.self.inside.ledger _ _ _ c.reservation-next.ensures.reservation c.reserve.ensures.after) in
+    c.reserve.new.self c.reserve.ensures.after in
     rw (← c.self.view_is) went
 
 pub returns-in-Ok-write_down-clause-kept : goal.returns-in-Ok-write_down-clause-kept
@@ -35,14 +29,14 @@ returns-in-Ok-write_down-clause-kept g c = (invariant_of-self g c).book
 pub invariant_of-self-in-Err-write_down : goal.invariant_of-self-in-Err-write_down
 invariant_of-self-in-Err-write_down g c =
     let fits = (granted c.self.inside.ledger c.args.ask.now c.in-Ok.grant (sym c.verdict.ensures.verdict ∙ c.in-Ok.is)).fits in
-    stopped_holds g.D.Disk.trace g.D.Disk.faults c.self.inside.ledger c.self.inside.header c.reservation-next.result c.self.inside.journal c.write_down.new.journal
+    stopped_holds g.D.Disk.trace g.D.Disk.faults c.self.inside.ledger c.self.inside.header (Reserve c.reservation-reservation.result) c.self.inside.journal c.write_down.new.journal
     c.self.inside.failure c.write_down.new.failure c.self.invariant (λ none. omega (arith, fits)) c.write_down.ensures.room
-    c.in-Err-write_down.fault c.in-Err-write_down.ensures.stopped c.reservation-next.ensures.follows
+    c.in-Err-write_down.fault c.in-Err-write_down.ensures.stopped c.reservation-reservation.ensures.may.follows
 
 pub returns-in-Err-write_down-clause-went : goal.returns-in-Err-write_down-clause-went
 returns-in-Err-write_down-clause-went g c =
     let fits = (granted c.self.inside.ledger c.args.ask.now c.in-Ok.grant (sym c.verdict.ensures.verdict ∙ c.in-Ok.is)).fits in
-    let went = stopped_went g.D.Disk.trace g.D.Disk.faults c.self.inside.ledger c.self.inside.header c.reservation-next.result c.self.inside.journal c.write_down.new.journal
+    let went = stopped_went g.D.Disk.trace g.D.Disk.faults c.self.inside.ledger c.self.inside.header (Reserve c.reservation-reservation.result) c.self.inside.journal c.write_down.new.journal
     c.self.inside.failure c.write_down.new.failure c.self.invariant (λ none. omega (arith, fits)) c.write_down.ensures.room
     c.in-Err-write_down.fault c.in-Err-write_down.ensures.stopped in
     rw (← c.self.view_is) went

@@ -1,0 +1,50 @@
+#!/usr/bin/env bash
+# The Python tests that go behind a passed `rt ci`: tools and pages beside the real program, in under two minutes.
+# usage: bench/behind_the_gate.sh    (PROGRAM=FILE tries another build)
+# It tries the proved program where `rt run` has built it, else tools/build's quick build, which takes its minutes first where something has
+# changed. Where there is no Python 3.9 or later it says so and ends well: nothing of what is proved hangs on it. Two scripts run at a time.
+# It ends with status 1 where one fails, and shows what that one said.
+set -uo pipefail
+cd "$(dirname "${BASH_SOURCE[0]}")/.." || exit 2
+LIMIT=120
+# A script that isn't there is passed over, so that a line may be put in before its script is.
+SCRIPTS=(prepare.py find_fault.py explain.py why.py pages.py first_programs.py language.py)
+
+if ! python3 -c 'import sys; sys.exit(sys.version_info < (3, 9))' 2>/dev/null; then
+    echo "the tests of tools and pages are skipped: there is no Python 3.9 or later"
+    exit 0
+fi
+proved=crates/hitchseason/out/hitchseason
+if [ -z "${PROGRAM:-}" ]; then
+    if [ -x $proved ] && [ -z "$(find crates.txt crates/*/src -newer $proved -print -quit)" ]; then
+        PROGRAM=$proved
+    else
+        tools/build || exit 2
+        PROGRAM=out/hitchseason
+    fi
+fi
+PROGRAM=$(realpath "$PROGRAM")
+export PROGRAM
+room=$(mktemp -d)
+trap 'rm -rf "$room"' EXIT
+
+# One script: its last line and its time, or all that it said.
+try() {
+    local begun=$SECONDS status=0
+    timeout $LIMIT "bench/$1" >"$room/$1" 2>&1 </dev/null || status=$?
+    if [ $status = 0 ]; then
+        echo "bench/$1: $(tail -n 1 "$room/$1") ($((SECONDS - begun)) s)"
+    else
+        { echo "bench/$1: FAILED, status $status"; cat "$room/$1"; } >"$room/$1.failed"
+        cat "$room/$1.failed"
+    fi
+}
+
+for script in "${SCRIPTS[@]}"; do
+    [ -x "bench/$script" ] || continue
+    while [ "$(jobs -rp | wc -l)" -ge 2 ]; do wait -n; done
+    try "$script" &
+done
+wait
+if compgen -G "$room/*.failed" >/dev/null; then exit 1; fi
+echo "tools and pages: all as they should be, in $SECONDS s"

@@ -1,0 +1,113 @@
+#!/usr/bin/env bash
+# Behind a passed gate: ends of the program over real files, streams and journals that no stored run of a crate can have.
+# usage: bench/behind_the_gate_disks.sh    (PROGRAM=FILE tries another build than the proved one)
+# Each row is a run's status and output beside what is wanted, and it ends with status 1 where one differs. As root it also tries files
+# that may not be read, as the user nobody; where there is a C compiler, each call on a journal failing or killed at, and allocations
+# refused. What can't be tried is named.
+. "$(dirname "$0")/common.sh"
+need_program
+need_tool python3 python3
+make_room
+chmod 755 .
+cp "$program" ./program && program=$room/program
+cp "$top"/examples/first-run/{people.csv,script} .
+passed=0
+
+# command NAME STATUS OUTPUT WORD..: the example's script under these words, over the journals as they are.
+command() {
+    "$program" "${@:4}" <script >output 2>errors
+    status=$?
+    judge "$1" "$2" "$3"
+}
+# sums: what stands in journals.
+sums() { find journals -type f -exec sha256sum {} + | sort; }
+
+# ---- a journal that is there: the owner's name, and the length. That of the owner before it is made.
+
+python3 - <<'END'
+import json
+with open("cat.json") as file:
+    catalog = json.load(file)
+catalog["owners"].append({**catalog["owners"][0], "name": "wards", "capacity": 10})
+with open("two.json", "w") as file:
+    json.dump(catalog, file)
+END
+mkdir journals && printf x >journals/1.bud
+command "init: a journal that is there" 4 'journal wards exists 1/' init two.json key
+[ "$(stat -c %s journals/0.bud journals/1.bud | tr '\n' ' ')" = "6528 1 " ] || { echo "WRONG: the files' lengths"; passed=1; }
+
+# ---- standard input and output are closed: no journal is opened in their place
+
+# ends NAME ASKS: the last run ended with 5, and the journal has so many answers in all.
+ends() {
+    : >output
+    judge "$1" 5 ''
+    "$program" audit cat.json key >output 2>errors
+    status=$?
+    judge "    and by audit" 0 "census reservations $2 answered $2 exhausted 0 lost 0 spent $(($2 * 1000000)) budget 10000000/"
+}
+renew cat.json key
+for fresh in 0 1; do
+    [ $fresh = 0 ] || "$program" run cat.json key <script >replies
+    "$program" run cat.json key <&- >output 2>errors
+    status=$?
+    [ -s output ] && { echo "WRONG: something was written"; passed=1; }
+    ends "run: standard input is closed" $fresh
+done
+"$program" run cat.json key <script >&- 2>errors
+status=$?
+ends "run: standard output is closed" 2
+"$program" run cat.json key <&- >&- 2>errors
+status=$?
+ends "run: both are closed" 2
+
+# ---- tables past the limits: of rows, and of bytes
+
+{ echo age && yes 1 | head -n 1048577; } >people.csv
+printf 'size people' >query
+command "a table of a row more than 2^20" 3 'refused people.csv/' check cat.json census query
+{ echo age && yes "$(printf '%063d' 1)" | head -n 1048576; } >people.csv
+command "a table of four bytes more than 2^26" 3 'refused people.csv/' check cat.json census query
+{ echo age && yes "$(printf '%063d' 1)" | head -n 1048575; } >people.csv
+command "    and one of 60 bytes less" 0 'ok 1/' check cat.json census query
+cp "$top"/examples/first-run/people.csv .
+
+# ---- files that may not be read
+
+# as_nobody NAME STATUS OUTPUT WORD..: the same as a user who isn't root.
+as_nobody() {
+    "${nobody[@]}" "$program" "${@:4}" <script >output 2>errors
+    status=$?
+    judge "$1" "$2" "$3"
+}
+nobody=()
+[ "$(id -u)" != 0 ] || nobody=(setpriv --reuid 65534 --regid 65534 --clear-groups)
+if "${nobody[@]}" true 2>/dev/null; then
+    renew cat.json key
+    [ "$(id -u)" != 0 ] || chown -R 65534:65534 journals
+    before=$(sums)
+    chmod 000 journals/0.bud
+    as_nobody "a journal that may not be read" 6 'disk census/' run cat.json key
+    chmod 600 journals/0.bud
+    [ "$before" = "$(sums)" ] || { echo "WRONG: the journal isn't as it was"; passed=1; }
+    for name in cat.json key people.csv; do
+        mode=$(stat -c %a "$name")
+        chmod 000 "$name"
+        as_nobody "$name may not be read" 5 '' run cat.json key
+        chmod "$mode" "$name"
+    done
+else
+    echo "not tried, for want of rights: files that may not be read"
+fi
+
+# ---- what needs a C compiler
+
+if command -v cc >/dev/null; then
+    PROGRAM=$program "$top/bench/failing_disk.py" || passed=1
+    PROGRAM=$program "$top/bench/refused_memory.sh" >memory.said || passed=1
+    grep -c "want of memory" memory.said | sed 's/$/ refused allocations end with 7/'
+    grep WRONG memory.said && passed=1
+else
+    echo "not tried, for want of cc: calls on a journal that fail, refused allocations"
+fi
+exit $passed

@@ -1,0 +1,54 @@
+//! One demand of an owner, whatever it is.
+
+ghost use Rattle.std.specs.Prelude.{◌≡◌, ◌++◌, List};
+ghost use Rattle.wire_lines.specs.Reply.{replied};
+ghost use Rattle.owner_house.specs.Names.{AreNames};
+ghost use Rattle.owner_house.specs.Owner.{Owner, IsOwnerOf};
+ghost use Rattle.owner_desk.specs.Passes.{Told, first_of_run};
+ghost use Rattle.answer_path.specs.Answered.{HasSmallAnswer};
+ghost use Rattle.answer_path.specs.Code.{HasPartFor, IsDemandOf, demand_of};
+ghost use Rattle.answer_path.specs.Met.{IsMet};
+ghost use Rattle.answer_path.specs.Shut.{LeavesDue, ShutsBy, shut_of};
+
+use crate::answer::ask;
+use crate::demand::Demand;
+use crate::standing::{left, recall};
+use fz_outside::words::Streams;
+use outside_disks::disk::Disk;
+use owner_desk::{Desk, Pass};
+use part_views::Dataset;
+use std::alloc::Global;
+use wire_lines::Reply;
+
+/// Meets a demand of the owner of this number.
+pub fn meet<'d, D: Disk, S: Streams>(
+    alloc: Global,
+    desk: &Desk,
+    pass: &mut Pass<D>,
+    dataset: &'d Dataset,
+    streams: &S,
+    owner: u32,
+    demand: &Demand<'_>,
+) -> Reply<'d>
+    requires demand { IsDemandOf pass.old.opened.ledger.entry (demand_of demand.now) }
+    requires part { HasPartFor dataset.now.partitions (demand_of demand.now) }
+    requires names { AreNames dataset.now.tables }
+    // The stated reply on some records that begin with those seen, what the line added, and what it did to the owner's book.
+    ensures met { (whose : Owner) → IsOwnerOf pass.old.opened.ledger.entry dataset.now whose → (told : List Told)
+        × IsMet whose (S.given streams.now owner) (first_of_run pass.old) (demand_of demand.now) pass.old.seen (replied result) told pass.new.seen
+        × (pass.new.own ≡ pass.old.own ++ told)
+        × ShutsBy whose (S.given streams.now owner) (demand_of demand.now) (replied result) told (shut_of pass.old) (shut_of pass.new) }
+    // Where the append of a reservation failed, what the disk may have is what was granted on the records seen then.
+    ensures due { (whose : Owner) → IsOwnerOf pass.old.opened.ledger.entry dataset.now whose
+        → (told : List Told) → pass.new.own ≡ pass.old.own ++ told
+        → LeavesDue whose (first_of_run pass.old) (demand_of demand.now) (replied result) told pass.new.seen pass.new.failure }
+    ensures kept { pass.new.opened ≡ pass.old.opened }
+    // An answer is within 2^50 + 2^33 in absolute value.
+    ensures fits { HasSmallAnswer (replied result) }
+{
+    match demand {
+        Demand::Asks(query) => ask(alloc, desk, pass, dataset, streams, owner, query),
+        Demand::Recalls { analyst, number } => recall(desk, pass, *number, *analyst),
+        Demand::Balances => left(desk, pass),
+    }
+}

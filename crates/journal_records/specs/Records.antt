@@ -1,0 +1,33 @@
+-- What a record is of. Definitions read records by these alone, so that one more kind of record is one more case here.
+use Rattle.std.specs.Prelude.{ℕ, Bool, false, Option, Some, None, option_map, unwrap_or}
+use Rattle.journal_records.specs.declared.records.Outcome.{Outcome}
+use Rattle.journal_records.specs.declared.records.Reservation.{Reservation}
+use Rattle.journal_records.specs.declared.records.Settlement.{Settlement}
+use Rattle.journal_records.specs.declared.records.Record.{Record}
+use Rattle.journal_records.specs.declared.records.Record.TheVariants.{Reserve, Settle}
+
+-- the reservation that a record makes, if it makes one
+abbrev pub reservation_in : Record → Option Reservation
+reservation_in (Reserve reservation) = Some reservation
+reservation_in (Settle settlement) = None
+
+-- the settlement that a record makes, if it makes one
+abbrev pub settlement_in : Record → Option Settlement
+settlement_in (Reserve reservation) = None
+settlement_in (Settle settlement) = Some settlement
+
+-- how a record settles its number, if it settles one
+abbrev pub outcome_in : Record → Option Outcome
+outcome_in next = option_map (λ (settlement : Settlement). settlement.outcome) (settlement_in next)
+
+-- the record that settles this number so
+abbrev pub settling : (number : ℕ) → Outcome → Record
+settling number outcome = Settle (record { number = number; outcome = outcome })
+
+-- there is a value, and it passes the test
+abbrev pub is_some_and : {A : Type 0} → (A → Bool) → Option A → Bool
+is_some_and test found = unwrap_or (option_map test found) false
+
+-- what is read off the value, or 0 where there is none
+abbrev pub number_or_zero : {A : Type 0} → (A → ℕ) → Option A → ℕ
+number_or_zero read found = unwrap_or (option_map read found) 0

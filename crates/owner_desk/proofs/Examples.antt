@@ -1,0 +1,201 @@
+-- What a pass shows and what its calls make of it, at worked books, on both sides of each choice.
+use Rattle.std.proofs.Common.{◌≡◌, ℕ, List, [], ◌∷◌, ◌++◌, length, length-append, refl, sym, ap, ◌∙◌, arith, inl, inr, Option, Some, None, Ok, Err}
+use Rattle.journal_records.specs.declared.records.Outcome.{Outcome}
+use Rattle.journal_records.specs.declared.records.Outcome.TheVariants.{Exhausted, Lost}
+use Rattle.journal_records.specs.declared.records.Record.{Record}
+use Rattle.journal_records.specs.declared.records.Record.TheVariants.{Reserve}
+use Rattle.journal_records.specs.Records.{outcome_in, settling}
+use Rattle.partition_charge.specs.declared.view.View.TheVariants.{Whole}
+use Rattle.partition_charge.specs.Cost.{cost_of_charges, partition_cost}
+use Rattle.budget_core.specs.declared.entry.Ask.{Ask}
+use Rattle.budget_core.specs.declared.entry.Grant.{Grant}
+use Rattle.budget_core.specs.declared.entry.ReserveFault.TheVariants.{OverBudget}
+use Rattle.budget_core.specs.Answers.{left_by}
+use Rattle.budget_core.specs.Cost.{cost_of}
+use Rattle.budget_core.specs.Ledger.{Ledger, reservation_for}
+use Rattle.budget_ledger.specs.Account.{Account}
+use Rattle.budget_ledger.specs.declared.failure.Failure.{Failure}
+use Rattle.budget_ledger.specs.declared.book.AppendFault.TheVariants.{Closed, DiskFault}
+use Rattle.budget_ledger.specs.declared.book.BookFault.TheVariants.{Refused, Unwritten}
+use Rattle.owner_desk.specs.Passes.{Pass, Told, IsFresh, closing, first_of_run, pass_on, records_told, told_behind}
+use Rattle.owner_desk.specs.Answers.{Has, HasGranted, HasLooked, HasReserved, HasSettled}
+
+-- an ask of the whole at sensitivity 1, and its reservation under a number
+abbrev one : Ask
+one = record { analyst = 0; view = Whole; e = 6; p = 1; q = 1; digest = [] }
+
+abbrev reserved : ℕ → Record
+reserved number = Reserve (record { number = number; view = Whole; e = 6; p = 1; q = 1; taken = 6; analyst = 0; digest = [] })
+
+-- a book with a budget of 20 that was found with a reservation and its settlement
+abbrev found : List Record
+found = reserved 0 ∷ settling 0 Lost ∷ []
+
+abbrev book : List Record → Option Failure → Account
+book records closed = record {
+  ledger = record { entry = record { budget = 20; capacity = 10; analysts = 1; keys = [] }; found = found; records = records };
+  storage = record { header = record { owner = 2; budget = 20; capacity = 10; digest = [] }; trace = None; faults = 3; closed = closed };
+}
+
+abbrev failed : Record → Failure
+failed next = record { failed_at = 3; pending = next }
+
+-- a pass on it, which has seen these records and added these
+abbrev pass : List Record → Option Failure → List Told → List Failure → Pass
+pass seen failure own faults = record { opened = book found None; seen = seen; failure = failure; own = own; faults = faults }
+
+-- ---- what a pass shows
+
+fresh : IsFresh (book found None)
+fresh = record { found = refl; unclosed = refl }
+
+not_fresh_with_more : IsFresh (book (found ++ reserved 1 ∷ []) None) → ⊥
+not_fresh_with_more h = let more : found ++ reserved 1 ∷ [] ≡ found = h.found in let three : 3 ≡ 2 = ap length more in omega (arith, three)
+
+not_fresh_when_closed : IsFresh (book found (Some (failed (reserved 1)))) → ⊥
+not_fresh_when_closed h = let no : Some (failed (reserved 1)) ≡ None = h.unclosed in cc
+
+-- the records behind those found, at their places
+told_is : told_behind found (found ++ reserved 1 ∷ settling 1 Lost ∷ []) ≡ (2, reserved 1) ∷ (3, settling 1 Lost) ∷ []
+told_is = refl
+
+told_none : told_behind found found ≡ []
+told_none = refl
+
+told_records : records_told ((1, reserved 1) ∷ (4, settling 1 Lost) ∷ []) ≡ reserved 1 ∷ settling 1 Lost ∷ []
+told_records = refl
+
+closing_none : closing None ≡ []
+closing_none = refl
+
+closing_one : closing (Some (failed (reserved 1))) ≡ failed (reserved 1) ∷ []
+closing_one = refl
+
+-- the one reservation found was of an earlier run
+run_begins : first_of_run (pass found None [] []) ≡ 1
+run_begins = refl
+
+first_pass : pass_on (book found None) (book found None) ≡ pass found None [] []
+first_pass = refl
+
+later_pass : pass_on (book found None) (book (found ++ reserved 1 ∷ []) (Some (failed (settling 1 Lost))))
+    ≡ pass (found ++ reserved 1 ∷ []) (Some (failed (settling 1 Lost))) ((2, reserved 1) ∷ []) (failed (settling 1 Lost) ∷ [])
+later_pass = refl
+
+-- ---- a reservation, of a pass that has seen what was found, where another pass has added one meanwhile
+
+abbrev others : List Record
+others = found ++ reserved 1 ∷ []
+
+abbrev grant : (number seen : ℕ) → Grant
+grant number seen = record { number = number; taken = 6; seen = seen }
+
+-- It is granted on the records g that are there, and stands right behind them.
+reserves : HasReserved (pass found None [] []) one (Ok (grant 2 4)) (pass (others ++ reserved 2 ∷ []) None ((3, reserved 2) ∷ []) [])
+unfolding cost_of cost_of_charges partition_cost
+reserves = (others, (reserved 1 ∷ [], refl), (refl, record { open_before = refl; open_after = refl; seen = refl; own = refl; faults = refl }))
+
+-- nor may it stand elsewhere, be forgotten, or be granted on the records found where more are there
+not_elsewhere : HasReserved (pass found None [] []) one (Ok (grant 2 4)) (pass (others ++ reserved 2 ∷ []) None ((2, reserved 2) ∷ []) []) → ⊥
+not_elsewhere (g, begins, (verdict, adds)) =
+    let place : 2 ≡ length g = ap first adds.own in
+    let long : 4 ≡ length (g ++ reservation_for g one 6 ∷ []) = ap length adds.seen in
+    omega (arith, place, long, length-append g (reservation_for g one 6 ∷ []))
+  where
+    first : List Told → ℕ
+    first [] = 0
+    first (z ∷ zs) = z.0
+
+not_forgotten : HasReserved (pass found None [] []) one (Ok (grant 1 3)) (pass (found ++ reserved 1 ∷ []) None [] []) → ⊥
+not_forgotten (g, begins, (verdict, adds)) = let no : [] ≡ reservation_for g one 6 ∷ [] = ap records_told adds.own in cc
+
+-- What was seen stays: a verdict on fewer records isn't given.
+not_on_fewer : HasReserved (pass others None [] []) one (Ok (grant 1 3)) (pass (found ++ reserved 1 ∷ []) None ((2, reserved 1) ∷ []) []) → ⊥
+not_on_fewer (g, begins, (verdict, adds)) =
+    let long : 3 ≡ length (g ++ reservation_for g one 6 ∷ []) = ap length adds.seen in
+    omega (arith, long, length-append g (reservation_for g one 6 ∷ []), ap length begins.1, length-append others begins.0)
+
+-- over budget: nothing is added, and the pass knows what the verdict was given on
+abbrev full : List Record
+full = others ++ reserved 2 ∷ []
+
+refuses : HasReserved (pass found None [] []) one (Err (Refused (OverBudget 18 24 20 4))) (pass full None [] [])
+unfolding cost_of cost_of_charges partition_cost
+refuses = (full, (reserved 1 ∷ reserved 2 ∷ [], refl), (refl, record { seen = refl; own = refl; faults = refl; closed = λ failure was. was }))
+
+-- The append fails: the pass has one fault more, which shut the book, and no record more.
+breaks : HasReserved (pass found None [] []) one (Err (Unwritten DiskFault)) (pass found (Some (failed (reserved 1))) [] (failed (reserved 1) ∷ []))
+unfolding cost_of cost_of_charges partition_cost
+breaks = (
+  found,
+  ([], refl),
+  (grant 1 3, refl, record { failure = failed (reserved 1); open_before = refl; closed = refl; pending = refl; seen = refl; own = refl; faults = refl }),
+)
+
+not_anothers_fault : HasReserved (pass found None [] []) one (Err (Unwritten DiskFault)) (pass found (Some (failed (reserved 1))) [] []) → ⊥
+not_anothers_fault (g, begins, (given, verdict, fails)) = let no : [] ≡ fails.failure ∷ [] = fails.faults in cc
+
+not_after_a_failure : HasReserved (pass found (Some (failed (reserved 1))) [] []) one (Err (Unwritten DiskFault)) (pass found (Some (failed (reserved 1))) [] (failed (reserved 1) ∷ [])) → ⊥
+not_after_a_failure (g, begins, (given, verdict, fails)) = let no : Some (failed (reserved 1)) ≡ None = fails.open_before in cc
+
+-- Another pass's append has failed: this pass learns of it, with its count, and it isn't a fault of its own.
+learns : HasReserved (pass found None [] []) one (Err (Unwritten (Closed 3))) (pass found (Some (failed (reserved 1))) [] [])
+unfolding cost_of cost_of_charges partition_cost
+learns = (
+  found,
+  ([], refl),
+  (grant 1 3, refl, (failed (reserved 1), refl, refl, record { seen = refl; own = refl; faults = refl; closed = λ failure was. absurd (cc was) })),
+)
+
+not_another_count : HasReserved (pass found None [] []) one (Err (Unwritten (Closed 4))) (pass found (Some (failed (reserved 1))) [] []) → ⊥
+not_another_count (g, begins, (given, verdict, (failure, closed, count, stays))) =
+    let same : failed (reserved 1) ≡ failure = cc closed in
+    let four : 4 ≡ 3 = count ∙ ap (λ (f : Failure). f.failed_at) (sym same) in omega (arith, four)
+
+not_taken_for_ones_own : HasReserved (pass found None [] []) one (Err (Unwritten (Closed 3))) (pass found (Some (failed (reserved 1))) [] (failed (reserved 1) ∷ [])) → ⊥
+not_taken_for_ones_own (g, begins, (given, verdict, (failure, closed, count, stays))) = let no : failed (reserved 1) ∷ [] ≡ [] = stays.faults in cc
+
+-- ---- what was reserved may be settled, once, by the pass that reserved it
+
+granted : HasGranted (pass (found ++ reserved 1 ∷ []) None ((2, reserved 1) ∷ []) []) 1
+granted = record {
+  place = 2;
+  reserved = record { number = 1; view = Whole; e = 6; p = 1; q = 1; taken = 6; analyst = 0; digest = [] };
+  numbered = refl;
+  granted = inl refl;
+  unsettled = only;
+}
+  where
+    only : (later : ℕ) (outcome : Outcome) → Has {A = Told} (later, settling 1 outcome) ((2, reserved 1) ∷ []) → ⊥
+    only later outcome (inl is) = let no : settling 1 outcome ≡ reserved 1 = ap (λ (z : Told). z.1) is in cc
+    only later outcome (inr none) = none
+
+not_granted_to_another : HasGranted (pass (found ++ reserved 1 ∷ []) None [] []) 1 → ⊥
+not_granted_to_another h = h.granted
+
+not_granted_twice : HasGranted (pass (found ++ reserved 1 ∷ settling 1 Lost ∷ []) None ((2, reserved 1) ∷ (3, settling 1 Lost) ∷ []) []) 1 → ⊥
+not_granted_twice h = h.unsettled 3 Lost (inr (inl refl))
+
+-- A settlement goes to the records that are there by then.
+settles : HasSettled (pass (found ++ reserved 1 ∷ []) None ((2, reserved 1) ∷ []) []) 1 Exhausted (Ok 5)
+    (pass (found ++ reserved 1 ∷ reserved 2 ∷ settling 1 Exhausted ∷ []) None ((2, reserved 1) ∷ (4, settling 1 Exhausted) ∷ []) [])
+settles = (
+  found ++ reserved 1 ∷ reserved 2 ∷ [],
+  (reserved 2 ∷ [], refl),
+  (record { open_before = refl; open_after = refl; seen = refl; own = refl; faults = refl }, refl),
+)
+
+not_as_another_outcome : HasSettled (pass (found ++ reserved 1 ∷ []) None ((2, reserved 1) ∷ []) []) 1 Exhausted (Ok 4)
+    (pass (found ++ reserved 1 ∷ settling 1 Lost ∷ []) None ((2, reserved 1) ∷ (3, settling 1 Lost) ∷ []) []) → ⊥
+not_as_another_outcome (g, begins, (adds, counted)) =
+    let own : reserved 1 ∷ settling 1 Lost ∷ [] ≡ reserved 1 ∷ settling 1 Exhausted ∷ [] = ap records_told adds.own in
+    let same : settling 1 Lost ≡ settling 1 Exhausted = cc own in
+    let outcome : Some Lost ≡ Some Exhausted = ap outcome_in same in cc outcome
+
+-- What is left is told by all records that are there, and is none of a state before those seen.
+looks : HasLooked (pass found None [] []) (λ ledger. left_by ledger.entry ledger.records ≡ record { spent = 12; budget = 20; seen = 3 }) (pass others None [] [])
+unfolding cost_of cost_of_charges partition_cost
+looks = (others, (reserved 1 ∷ [], refl), refl, record { seen = refl; own = refl; faults = refl; closed = λ failure was. was })
+
+not_a_look_back : (IsTold : Ledger → Type 0) → HasLooked (pass others None [] []) IsTold (pass found None [] []) → ⊥
+not_a_look_back IsTold (g, begins, told, stays) = omega (arith, ap length stays.seen, ap length begins.1, length-append others begins.0)

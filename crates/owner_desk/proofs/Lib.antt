@@ -1,0 +1,4 @@
+mod Examples
+pub mod Own
+pub mod Settles
+pub mod Steps

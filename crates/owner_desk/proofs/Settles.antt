@@ -1,0 +1,143 @@
+-- a reservation that a pass made, and hasn't settled, isn't settled
+use Rattle.std.proofs.Common.{◌≡◌, ◌⊎◌, ℕ, zero, suc, ◌<◌, ◌≤◌, Bool, true, false, cond, ◌==◌, List, [], ◌∷◌, length, take, drop, refl, sym, ap, ◌∙◌, subst, inl, inr, ⊎_elim, arith, Option, Some, None, IsSome, slice_get}
+use Rattle.std.proofs.lemmas.Bool.{cases_lt, ltb-true, lt-ltb, eqb-true, eq-eqb}
+use Rattle.std.proofs.lemmas.List.{take-take, take_all, take-append-drop}
+use Rattle.std.proofs.lemmas.Option.{slice_get_within}
+use Rattle.journal_records.specs.declared.records.Outcome.{Outcome}
+use Rattle.journal_records.specs.declared.records.Reservation.{Reservation}
+use Rattle.journal_records.specs.declared.records.Settlement.{Settlement}
+use Rattle.journal_records.specs.declared.records.Record.{Record}
+use Rattle.journal_records.specs.declared.records.Record.TheVariants.{Reserve, Settle}
+use Rattle.journal_records.specs.Records.{settling}
+use Rattle.budget_core.specs.Counts.{reservations_of, reservation_of, outcome_of}
+use Rattle.budget_core.specs.Entries.{Entry}
+use Rattle.budget_core.specs.Ledger.{IsUnsettled}
+use Rattle.budget_core.specs.Legal.{IsHistory}
+use Rattle.budget_core.proofs.LegalLemmas.{reservations_within}
+use Rattle.budget_core.proofs.Numbers.{reserved_below}
+use Rattle.budget_core.proofs.Histories.{history-front}
+use Rattle.budget_core.proofs.SoundLemmas.{sound-history}
+use Rattle.budget_ledger.specs.Account.{Account}
+use Rattle.owner_desk.specs.Passes.{Told, IsSole, pass_on}
+use Rattle.owner_desk.specs.Answers.{Has, HasGranted}
+use Rattle.owner_desk.proofs.Own.{told_at, at_told, found_is}
+
+-- a reservation counts in all that stand behind it
+counts_behind : (records : List Record) (j k : ℕ) (one : Reservation) → slice_get records j ≡ Some (Reserve one) → j < k
+    → length (reservations_of (take j records)) < length (reservations_of (take k records))
+counts_behind [] j k one at lt = absurd cc
+counts_behind (x ∷ records) j zero one at lt = absurd (omega (arith, lt))
+counts_behind (Reserve first ∷ records) zero (suc k) one at lt = omega arith
+counts_behind (Settle settlement ∷ records) zero (suc k) one at lt = absurd cc
+counts_behind (Reserve first ∷ records) (suc j) (suc k) one at lt = omega (arith, counts_behind records j k one at (omega (arith, lt)))
+counts_behind (Settle settlement ∷ records) (suc j) (suc k) one at lt = counts_behind records j k one at (omega (arith, lt))
+
+-- as many reservations stand in front of an earlier place, or fewer
+counts_le : (records : List Record) (j k : ℕ) → j ≤ k → length (reservations_of (take j records)) ≤ length (reservations_of (take k records))
+counts_le [] zero k le = omega arith
+counts_le [] (suc j) zero le = absurd (omega (arith, le))
+counts_le [] (suc j) (suc k) le = omega arith
+counts_le (x ∷ records) zero k le = omega arith
+counts_le (x ∷ records) (suc j) zero le = absurd (omega (arith, le))
+counts_le (Reserve first ∷ records) (suc j) (suc k) le = omega (arith, counts_le records j k (omega (arith, le)))
+counts_le (Settle settlement ∷ records) (suc j) (suc k) le = counts_le records j k (omega (arith, le))
+
+-- where a number is settled, its settlement stands
+settled_at : (records : List Record) (n : ℕ) (outcome : Outcome) → outcome_of records n ≡ Some outcome → (q : ℕ) × (slice_get records q ≡ Some (settling n outcome))
+settled_at [] n outcome is = absurd cc
+settled_at (Reserve reserved ∷ records) n outcome is = let r = settled_at records n outcome is in (suc r.0, r.1)
+settled_at (Settle settlement ∷ records) n outcome is =
+    here (n == settlement.number) refl is (λ there. let r = settled_at records n outcome there in (suc r.0, r.1))
+  where
+    here : (b : Bool) → (n == settlement.number) ≡ b → cond b (Some settlement.outcome) (outcome_of records n) ≡ Some outcome
+        → (outcome_of records n ≡ Some outcome → (q : ℕ) × (slice_get (Settle settlement ∷ records) q ≡ Some (settling n outcome)))
+        → (q : ℕ) × (slice_get (Settle settlement ∷ records) q ≡ Some (settling n outcome))
+    here true test is later =
+        let same : n ≡ settlement.number = eqb-true n settlement.number test in
+        let made : settlement.outcome ≡ outcome = cc in
+        (zero, λ i. Some (settling (sym same i) (made i)))
+    here false test is later = later is
+
+-- a number whose settlement stands isn't unsettled
+pub not_unsettled : (records : List Record) (q n : ℕ) (outcome : Outcome) → slice_get records q ≡ Some (settling n outcome) → outcome_of records n ≡ None → ⊥
+not_unsettled [] q n outcome at none = cc
+not_unsettled (Reserve reserved ∷ records) zero n outcome at none = cc
+not_unsettled (Reserve reserved ∷ records) (suc q) n outcome at none = not_unsettled records q n outcome at none
+not_unsettled (Settle settlement ∷ records) zero n outcome at none =
+    let made : settlement ≡ record { number = n; outcome = outcome } = cc in
+    here (n == settlement.number) (eq-eqb n settlement.number (sym (ap (λ (s : Settlement). s.number) made))) none
+  where
+    here : (b : Bool) → b ≡ true → cond b (Some settlement.outcome) (outcome_of records n) ≡ None → ⊥
+    here true is none = cc
+    here false is none = cc
+not_unsettled (Settle settlement ∷ records) (suc q) n outcome at none = here (n == settlement.number) none (λ later. not_unsettled records q n outcome at later)
+  where
+    here : (b : Bool) → cond b (Some settlement.outcome) (outcome_of records n) ≡ None → (outcome_of records n ≡ None → ⊥) → ⊥
+    here true none rec = cc
+    here false none rec = rec none
+
+none_or : {X : Type 0} (o : Option X) → (o ≡ None) ⊎ ((x : X) × (o ≡ Some x))
+none_or None = inl refl
+none_or (Some x) = inr (x, refl)
+
+module _ (entry : Entry) (records : List Record) (h : IsHistory entry records) (place : ℕ) (reserved : Reservation) (at : slice_get records place ≡ Some (Reserve reserved)) where
+  numbered : reserved.number ≡ length (reservations_of (take place records))
+  numbered = (h.follows place (Reserve reserved) at).numbered
+
+  is_reserved : IsSome (reservation_of records reserved.number)
+  is_reserved =
+      let within : place < length records = slice_get_within records place (Reserve reserved) at in
+      let all : take (length records) records ≡ records = take_all (length records) records (omega arith) in
+      let more = counts_behind records place (length records) reserved at within in
+      let below : reserved.number < length (reservations_of records) = omega (arith, numbered, more, ap (λ (xs : List Record). length (reservations_of xs)) all) in
+      reserved_below entry records h reserved.number ∙ lt-ltb reserved.number (length (reservations_of records)) below
+
+  -- a settlement stands behind its reservation
+  settled_behind : (q n : ℕ) (outcome : Outcome) → n ≡ reserved.number → slice_get records q ≡ Some (settling n outcome) → place < q
+  settled_behind q n outcome same there =
+      let may : IsSome (reservation_of (take q records) n) = (h.follows q (settling n outcome) there).reserved in
+      let below : n < length (reservations_of (take q records)) = ltb-true n (length (reservations_of (take q records))) (sym (reserved_below entry (take q records) (front q) n) ∙ may) in
+      elim (cases_lt place q) [
+        | inl before ↦ before
+        | inr behind ↦ absurd (omega (arith, below, same, numbered, counts_le records q place behind))
+      ]
+    where
+      front : (q : ℕ) → IsHistory entry (take q records)
+      front q = history-front entry (take q records) (drop q records) (subst (IsHistory entry) (sym (take-append-drop q records)) h)
+
+  -- it is of this run where it stands behind the records found
+  ours : (found : List Record) → take (length found) records ≡ found → length found ≤ place → length (reservations_of found) ≤ reserved.number
+  ours found begins behind =
+      let front : take (length found) (take place records) ≡ found = take-take (length found) place records behind ∙ begins in
+      omega (arith, reservations_within found (take place records) front, numbered)
+
+module _ (opened now : Account) (sole : IsSole opened now) (number : ℕ) (mine : HasGranted (pass_on opened now) number) where
+  abbrev records : List Record
+  records = now.ledger.records
+
+  abbrev reserved : Reservation
+  reserved = mine.reserved
+
+  stands : (length opened.ledger.found ≤ mine.place) × (slice_get records mine.place ≡ Some (Reserve reserved))
+  stands = told_at opened.ledger.found records mine.place (Reserve reserved) mine.granted
+
+  history : IsHistory now.ledger.entry records
+  history = sound-history now.ledger sole.book.sound
+
+  behind : length now.ledger.found ≤ mine.place
+  behind = omega (arith, stands.0, ap length (found_is opened now sole))
+
+  unsettled : outcome_of records reserved.number ≡ None
+  unsettled = ⊎_elim (λ none. none) (λ (t : (outcome : Outcome) × (outcome_of records reserved.number ≡ Some outcome)).
+      let at = settled_at records reserved.number t.0 t.1 in
+      let later : mine.place < at.0 = settled_behind now.ledger.entry records history mine.place reserved stands.1 at.0 reserved.number t.0 refl at.1 in
+      let here = at_told opened.ledger.found records at.0 (settling reserved.number t.0) (omega (arith, stands.0, later)) at.1 in
+      absurd (mine.unsettled at.0 t.0 (subst (λ (n : ℕ). Has {A = Told} (at.0, settling n t.0) (pass_on opened now).own) mine.numbered here)))
+      (none_or (outcome_of records reserved.number))
+
+  pub may_settle : IsUnsettled now.ledger number
+  may_settle = subst (IsUnsettled now.ledger) mine.numbered (record {
+    ours = ours now.ledger.entry records history mine.place reserved stands.1 now.ledger.found sole.book.sound.legal.begins behind;
+    reserved = is_reserved now.ledger.entry records history mine.place reserved stands.1;
+    unsettled = unsettled;
+  })

@@ -1,0 +1,89 @@
+-- What a call answers, made on some records that begin with those that its pass had seen, and what the pass knows afterwards.
+use Rattle.std.specs.Prelude.{◌≡◌, ◌⊎◌, ℕ, List, [], ◌∷◌, ◌++◌, length, Result, Ok, Err, Some, None}
+use mathlib.Core.List.{IsPrefix}
+use Rattle.journal_records.specs.declared.records.Outcome.{Outcome}
+use Rattle.journal_records.specs.declared.records.Reservation.{Reservation}
+use Rattle.journal_records.specs.declared.records.Record.{Record}
+use Rattle.journal_records.specs.declared.records.Record.TheVariants.{Reserve}
+use Rattle.journal_records.specs.Records.{settling}
+use Rattle.budget_core.specs.declared.entry.Ask.{Ask}
+use Rattle.budget_core.specs.declared.entry.Grant.{Grant}
+use Rattle.budget_core.specs.declared.entry.ReserveFault.{ReserveFault}
+use Rattle.budget_core.specs.Ledger.{Ledger, start_of, money_verdict, reservation_for}
+use Rattle.budget_ledger.specs.declared.failure.Failure.{Failure}
+use Rattle.budget_ledger.specs.declared.book.AppendFault.{AppendFault}
+use Rattle.budget_ledger.specs.declared.book.AppendFault.TheVariants.{Closed, DiskFault}
+use Rattle.budget_ledger.specs.declared.book.BookFault.{BookFault}
+use Rattle.budget_ledger.specs.declared.book.BookFault.TheVariants.{Refused, Unwritten}
+use Rattle.owner_desk.specs.Passes.{Pass, ledger_on}
+
+-- it stands somewhere in the list
+abbrev pub Has : {A : Type 0} → A → List A → Type 0
+Has a [] = ⊥
+Has a (x ∷ xs) = (a ≡ x) ⊎ Has a xs
+
+-- the verdict of the budget on an ask, on these records
+abbrev pub verdict_on : Pass → List Record → Ask → Result Grant ReserveFault
+verdict_on pass g asking = money_verdict pass.opened.ledger.entry (start_of pass.opened.ledger) g asking
+
+-- A record was added behind these, to a book that wasn't closed and isn't.
+pub record Adds (before : Pass) (g : List Record) (next : Record) (after : Pass) : Type 0 where
+  pub open_before : before.failure ≡ None
+  pub open_after : after.failure ≡ None
+  pub seen : after.seen ≡ g ++ next ∷ []
+  pub own : after.own ≡ before.own ++ (length g, next) ∷ []
+  pub faults : after.faults ≡ before.faults
+
+-- Nothing was done to the book, which has these records.
+pub record Stays (before : Pass) (g : List Record) (after : Pass) : Type 0 where
+  pub seen : after.seen ≡ g
+  pub own : after.own ≡ before.own
+  pub faults : after.faults ≡ before.faults
+  pub closed : (failure : Failure) → before.failure ≡ Some failure → after.failure ≡ Some failure
+
+-- The append of a record failed in this call, which closes the book. The failure is the pass's own.
+pub record Fails (before : Pass) (g : List Record) (next : Record) (after : Pass) : Type 0 where
+  pub failure : Failure
+  pub open_before : before.failure ≡ None
+  pub closed : after.failure ≡ Some failure
+  pub pending : failure.pending ≡ next
+  pub seen : after.seen ≡ g
+  pub own : after.own ≡ before.own
+  pub faults : after.faults ≡ before.faults ++ failure ∷ []
+
+-- why a record wasn't added
+abbrev pub IsUnadded : Pass → List Record → Record → AppendFault → Pass → Type 0
+IsUnadded before g next (Closed failed_at) after =
+    (failure : Failure) × (after.failure ≡ Some failure) × (failed_at ≡ failure.failed_at) × Stays before g after
+IsUnadded before g next DiskFault after = Fails before g next after
+
+abbrev pub IsReservedOn : Pass → List Record → Ask → Result Grant BookFault → Pass → Type 0
+IsReservedOn before g asking (Ok grant) after =
+    (verdict_on before g asking ≡ Ok grant) × Adds before g (reservation_for g asking grant.taken) after
+IsReservedOn before g asking (Err (Refused fault)) after = (verdict_on before g asking ≡ Err fault) × Stays before g after
+IsReservedOn before g asking (Err (Unwritten fault)) after =
+    (grant : Grant) × (verdict_on before g asking ≡ Ok grant) × IsUnadded before g (reservation_for g asking grant.taken) fault after
+
+abbrev pub IsSettledOn : Pass → List Record → (number : ℕ) → Outcome → Result ℕ AppendFault → Pass → Type 0
+IsSettledOn before g number outcome (Ok seen) after = Adds before g (settling number outcome) after × (seen ≡ length after.seen)
+IsSettledOn before g number outcome (Err fault) after = IsUnadded before g (settling number outcome) fault after
+
+-- what came of an ask of the budget
+abbrev pub HasReserved : Pass → Ask → Result Grant BookFault → Pass → Type 0
+HasReserved before asking result after = (g : List Record) × IsPrefix before.seen g × IsReservedOn before g asking result after
+
+-- what came of a settlement
+abbrev pub HasSettled : Pass → (number : ℕ) → Outcome → Result ℕ AppendFault → Pass → Type 0
+HasSettled before number outcome result after = (g : List Record) × IsPrefix before.seen g × IsSettledOn before g number outcome result after
+
+-- what was told by the book's ledger, to which nothing was done
+abbrev pub HasLooked : Pass → (IsTold : Ledger → Type 0) → Pass → Type 0
+HasLooked before IsTold after = (g : List Record) × IsPrefix before.seen g × IsTold (ledger_on before.opened g) × Stays before g after
+
+-- The pass reserved this number, and hasn't settled it.
+pub record HasGranted (pass : Pass) (number : ℕ) : Type 0 where
+  pub place : ℕ
+  pub reserved : Reservation
+  pub numbered : reserved.number ≡ number
+  pub granted : Has (place, Reserve reserved) pass.own
+  pub unsettled : (later : ℕ) (outcome : Outcome) → Has (later, settling number outcome) pass.own → ⊥

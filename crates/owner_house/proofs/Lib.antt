@@ -1,0 +1,4 @@
+pub mod Found
+pub mod Signed
+pub mod Names
+pub mod Owners

@@ -1,0 +1,3 @@
+pub mod Owner
+pub mod Names
+pub mod House

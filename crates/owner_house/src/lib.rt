@@ -1,0 +1,4 @@
+//! A house: a catalog's analysts and owners, and what each owner holds.
+#![tactic(auto)]
+
+pub mod house;

@@ -1,0 +1,72 @@
+use Rattle.std.proofs.Common.{◌≡◌, ◌∙◌, ◌<◌, [], refl, ap, rules, arith}
+use Rattle.std.specs.Prelude.{Err}
+use Rattle.owner_catalog.specs.Entries.{OwnerEntry}
+use Rattle.catalog_loading.specs.Loaded.{header_of, owners_in, entry_at}
+use Rattle.query_server.specs.Shelves.{bytes_on}
+use Rattle.query_server.specs.Opened.{IsOpened}
+use Rattle.query_server.specs.Books.{IsOpenStop}
+use Rattle.query_server.proofs.Disks.{same_still}
+use Rattle.query_server.proofs.Counted.{count_stopped, none_counted, one_counted, one_left, one_still, opened_as, rose_since, stop_passed}
+use Rattle.query_server.proofs.Ran.{passed_disk}
+use Rattle.query_server.proofs.audit.count_all.Goals as goal
+
+pub loop-owner-init : goal.loop-owner-init
+loop-owner-init g c = record {
+  counted = none_counted (entry_at c.args.opened.now.loading) (λ o. IsOpened (entry_at c.args.opened.now.loading o)
+      (header_of c.args.opened.now.loading c.args.opened.now.key o) (bytes_on (g.B.Bay.shelf c.args.bay.now) o)) c.args.opened.now.loading.register.catalog.owners c.new-lines.result.items c.new-lines.ensures.items;
+  disks = record { owned = λ o before less at. absurd (omega (arith, less)); others = λ o past. refl };
+  still = λ o. same_still o (g.B.Bay.shelf c.args.bay.now) (g.B.Bay.shelf c.args.bay.now) refl;
+  owners = refl;
+  faults = omega arith;
+}
+
+pub count_owner-requires-clause-header : goal.count_owner-requires-clause-header
+count_owner-requires-clause-header g c =
+    let within : c.loop-owner.owner < owners_in c.args.opened.now.loading = omega (arith, c.loop-owner-test.true, c.len-owner-end.ensures, c.in_ok-headers.ensures.count) in
+    search (rules, c.in_ok-headers.ensures.headers c.loop-owner.owner c.index.result.now within)
+
+pub count_owner-requires-clause-known : goal.count_owner-requires-clause-known
+count_owner-requires-clause-known g c =
+    let few : c.loop-owner.owner < 16 = omega (arith, c.loop-owner-test.true, c.len-owner-end.ensures, c.in_ok-headers.ensures.few) in
+    omega (arith, (c.requires.home c.loop-owner.owner few).0, c.loop-owner.invariant.owners)
+
+pub returns-in_err-count_owner-clause-stop : goal.returns-in_err-count_owner-clause-stop
+returns-in_err-count_owner-clause-stop g c =
+    let loading = c.args.opened.now.loading in
+    let counted = c.loop-owner.invariant.counted in
+    let stop = c.in_err-count_owner.field-0.0 in
+    stop_passed (IsOpenStop loading c.args.opened.now.key (g.B.Bay.shelf c.args.bay.now) (g.B.Bay.shelf c.count_owner.new.bay)) stop
+    c.from_residual-in_err-count_owner.result c.from_residual-in_err-count_owner.ensures.1
+    (count_stopped loading c.args.opened.now.key c.loop-owner.owner (g.B.Bay.shelf c.args.bay.now) (g.B.Bay.shelf c.loop-owner.bay) (g.B.Bay.shelf c.count_owner.new.bay) stop
+    (omega (arith, c.loop-owner-test.true, c.len-owner-end.ensures, c.in_ok-headers.ensures.count)) (c.loop-owner.invariant.disks.others c.loop-owner.owner (omega arith))
+    (λ p less. (counted.0 p, counted.1 p less)) c.loop-owner.invariant.still c.in_err-count_owner.ensures.left c.in_err-count_owner.ensures.stop)
+
+pub returns-in_err-count_owner-clause-disk : goal.returns-in_err-count_owner-clause-disk
+returns-in_err-count_owner-clause-disk g c line is =
+    let few : c.loop-owner.owner < 16 = omega (arith, c.loop-owner-test.true, c.len-owner-end.ensures, c.in_ok-headers.ensures.few) in
+    let same = passed_disk c.in_err-count_owner.field-0.0 c.from_residual-in_err-count_owner.result line c.from_residual-in_err-count_owner.ensures.1 is in
+    rose_since c.loop-owner.owner (g.B.Bay.shelf c.args.bay.now) (g.B.Bay.shelf c.loop-owner.bay) (g.B.Bay.shelf c.count_owner.new.bay)
+    (g.B.Bay.faults c.args.bay.now) (g.B.Bay.faults c.loop-owner.bay) (g.B.Bay.faults c.count_owner.new.bay) c.loop-owner.invariant.faults c.in_err-count_owner.ensures.bay.1
+    (λ p less. (c.requires.home p (omega (arith, less, few))).1) c.loop-owner.invariant.disks c.in_err-count_owner.ensures.left (c.in_err-count_owner.ensures.cause line (ap Err same))
+
+abbrev no_owner : OwnerEntry
+no_owner = record { name = []; budget = 0; capacity = 0; tables = []; partitions = []; text = [] }
+
+pub loop-owner-preserved : goal.loop-owner-preserved
+loop-owner-preserved g c =
+    let loading = c.args.opened.now.loading in
+    let o = c.loop-owner.owner in
+    let within : o < owners_in loading = omega (arith, c.loop-owner-test.true, c.len-owner-end.ensures, c.in_ok-headers.ensures.count) in
+    let found = c.in_ok-count_owner.ensures.counted in
+    let header : c.index.result.now ≡ header_of loading c.args.opened.now.key o = search (rules, c.in_ok-headers.ensures.headers o c.index.result.now within) in
+    record {
+      counted = one_counted (entry_at loading) (λ p. IsOpened (entry_at loading p) (header_of loading c.args.opened.now.key p) (bytes_on (g.B.Bay.shelf c.args.bay.now) p))
+          c.args.opened.now.loading.register.catalog.owners o no_owner found.0 c.loop-owner.lines.items c.count_owner.new.lines.items within c.loop-owner.invariant.counted
+          (opened_as (entry_at loading o) c.index.result.now (header_of loading c.args.opened.now.key o) (g.B.Bay.shelf c.loop-owner.bay) (g.B.Bay.shelf c.args.bay.now) o found.0
+          header (c.loop-owner.invariant.disks.others o (omega arith)) found.1) found.2;
+      disks = one_left o (g.B.Bay.shelf c.args.bay.now) (g.B.Bay.shelf c.loop-owner.bay) (g.B.Bay.shelf c.count_owner.new.bay) c.loop-owner.invariant.disks c.in_ok-count_owner.ensures.left;
+      still = one_still o (g.B.Bay.shelf c.args.bay.now) (g.B.Bay.shelf c.loop-owner.bay) (g.B.Bay.shelf c.count_owner.new.bay) c.loop-owner.invariant.still
+          (c.loop-owner.invariant.disks.others o (omega arith)) c.in_ok-count_owner.ensures.still c.in_ok-count_owner.ensures.left;
+      owners = c.in_ok-count_owner.ensures.bay.0 ∙ c.loop-owner.invariant.owners;
+      faults = omega (arith, c.loop-owner.invariant.faults, c.in_ok-count_owner.ensures.bay.1);
+    }

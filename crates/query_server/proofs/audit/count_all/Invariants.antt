@@ -1,0 +1,19 @@
+use Rattle.std.proofs.Common.{◌≡◌, ◌≤◌, ℕ}
+use Rattle.catalog_loading.specs.Loaded.{header_of, entry_at}
+use Rattle.query_server.specs.Shelves.{EachDisk, IsOnlySynced, StandsStill, bytes_on}
+use Rattle.query_server.specs.Opened.{IsOpened}
+use Rattle.query_server.proofs.Counted.{AreCounted}
+use Rattle.query_server.proofs.audit.count_all.Given as goal
+
+-- the owners so far were opened and counted
+abbrev pub invariant-loop-owner : goal.invariant-loop-owner
+invariant-loop-owner g l =
+    record {
+      counted : AreCounted (entry_at l.opened.loading) (λ o. IsOpened (entry_at l.opened.loading o)
+          (header_of l.opened.loading l.opened.key o) (bytes_on (g.B.Bay.shelf l.fn.bay) o))
+          l.opened.loading.register.catalog.owners l.owner l.lines.items;
+      disks : EachDisk l.owner (λ _. IsOnlySynced) (g.B.Bay.shelf l.fn.bay) (g.B.Bay.shelf l.bay);
+      still : (o : ℕ) → StandsStill o (g.B.Bay.shelf l.fn.bay) (g.B.Bay.shelf l.bay);
+      owners : g.B.Bay.owners l.bay ≡ g.B.Bay.owners l.fn.bay;
+      faults : g.B.Bay.faults l.fn.bay ≤ g.B.Bay.faults l.bay;
+    }

@@ -1,0 +1,125 @@
+//! The records in the owners' journals are counted.
+
+ghost use Rattle.std.specs.Prelude.{◌≡◌, ◌++◌, ◌<◌, ℕ, List, Option, length, IfErr, IfOk, IsErrOf, IsSome, OnOk};
+ghost use Rattle.fz_outside.specs.Faults.{HasRisen};
+ghost use Rattle.journal_records.specs.declared.records.Record.{Record};
+ghost use Rattle.owner_catalog.specs.Entries.{owner_entry_at};
+ghost use Rattle.catalog_loading.specs.Loaded.{entry_at, header_of, owners_in};
+ghost use Rattle.session_core.specs.Transcript.{Journals};
+ghost use Rattle.query_server.specs.Shelves.{AreAtHome, EachDisk, IsOnlySynced, StandsStill, bytes_on};
+ghost use Rattle.query_server.specs.Outside.{HasDiskCause, KeepsBay, KeepsFiles};
+ghost use Rattle.query_server.specs.Opened.{AreOpened, IsOpened};
+ghost use Rattle.query_server.specs.Audit.{audit_steps, counted_line, counted_text};
+ghost use Rattle.query_server.specs.Due.{ForContents};
+ghost use Rattle.query_server.specs.Ends.{IsStepEnd, end_by};
+ghost use Rattle.query_server.specs.Books.{IsBookStop, IsOpenStop, LeftDisk};
+
+use crate::books::open_book;
+use crate::end::End;
+use crate::numbers::put_field;
+use budget_ledger::book::Book;
+use catalog_loading::{Opened, Stop, headers_of, open_house};
+use fz_outside::files::Files;
+use journal_records::records::Header;
+use outside_bays::bay::Bay;
+use outside_disks::disk::Disk;
+use owner_catalog::Catalog;
+use std::alloc::{AllocError, Global};
+
+/// Puts the line of an owner's records behind some lines.
+fn put_counted<D: Disk>(
+    lines: &mut Vec<u8>,
+    catalog: &Catalog,
+    owner: u32,
+    book: &Book<D>,
+) -> Result<(), AllocError>
+    requires { owner < length catalog.now.owners }
+    ensures { IfOk result (λ _. lines.new.items ≡ lines.old.items ++ counted_line book.now.ledger.entry (owner_entry_at catalog.now owner) book.now.ledger.records) }
+{
+    let counts = book.counts();
+    lines.extend_from_slice(catalog.owner_name(owner).as_bytes())?;
+    put_field(lines, b" reservations ", u64::from(counts.reservations))?;
+    put_field(lines, b" answered ", u64::from(counts.answered))?;
+    put_field(lines, b" exhausted ", u64::from(counts.exhausted))?;
+    put_field(lines, b" lost ", u64::from(counts.lost))?;
+    put_field(lines, b" spent ", book.spent())?;
+    put_field(lines, b" budget ", catalog.budget(owner))?;
+    lines.extend_from_slice(b"\n")
+}
+
+/// Puts the line of an owner behind some lines: its book is opened on its disk, which is put back.
+fn count_owner<B: Bay>(
+    alloc: Global,
+    bay: &mut B,
+    opened: &Opened,
+    header: &Header,
+    owner: u32,
+    lines: &mut Vec<u8>,
+) -> Result<(), Stop>
+    requires owner { owner < owners_in opened.now.loading }
+    requires header { header.now ≡ header_of opened.now.loading opened.now.key owner }
+    requires known { owner < B.owners bay.old }
+    requires home { IsSome (B.shelf bay.old owner) }
+    ensures counted { OnOk result ((found : List Record)
+        × IsOpened (entry_at opened.now.loading owner) header.now (bytes_on (B.shelf bay.old) owner) found
+        × (lines.new.items ≡ lines.old.items ++ counted_line (entry_at opened.now.loading owner) (owner_entry_at opened.now.loading.register.catalog owner) found)) }
+    ensures left { LeftDisk owner (B.shelf bay.old) (B.shelf bay.new) }
+    ensures still { OnOk result (StandsStill owner (B.shelf bay.old) (B.shelf bay.new)) }
+    ensures stop { IfErr result (IsBookStop opened.now.loading opened.now.key (B.shelf bay.old) owner) }
+    ensures bay { KeepsBay B.shelf B.owners B.faults bay.old bay.new }
+    ensures cause { HasDiskCause B.shelf B.owners B.faults bay.old bay.new result }
+{
+    let book = open_book(alloc, bay, opened, header, owner)?;
+    let counted = put_counted(lines, opened.catalog(), owner, &book);
+    bay.put_back(owner, book.into_disk());
+    counted?;
+    Ok(())
+}
+
+/// The lines of all owners, whose books are opened one after another, up to the first that isn't opened.
+fn count_all<B: Bay>(alloc: Global, bay: &mut B, opened: &Opened) -> Result<Vec<u8>, Stop>
+    requires home { AreAtHome (B.owners bay.old) (B.shelf bay.old) }
+    ensures counted { IfOk result (λ lines. (found : Journals)
+        × AreOpened opened.now.loading opened.now.key (B.shelf bay.old) found
+        × (lines.items ≡ counted_text opened.now.loading found)) }
+    ensures disks { EachDisk (owners_in opened.now.loading) (λ _. IsOnlySynced) (B.shelf bay.old) (B.shelf bay.new) }
+    ensures stop { IfErr result (IsOpenStop opened.now.loading opened.now.key (B.shelf bay.old) (B.shelf bay.new)) }
+    ensures bay { KeepsBay B.shelf B.owners B.faults bay.old bay.new }
+    ensures disk { HasDiskCause B.shelf B.owners B.faults bay.old bay.new result }
+{
+    let headers = headers_of(alloc, opened)?;
+    let mut lines = Vec::new(alloc);
+    for owner in 0..headers.len() as u32 {
+        count_owner(
+            alloc,
+            bay,
+            opened,
+            &headers[owner as usize],
+            owner,
+            &mut lines,
+        )?;
+    }
+    Ok(lines)
+}
+
+/// Opens the house of a catalog and a key, and counts the records in the journals of its owners.
+pub(crate) fn count_records<F: Files, B: Bay>(
+    alloc: Global,
+    files: &mut F,
+    bay: &mut B,
+    catalog: &str,
+    key: &str,
+) -> Result<Vec<u8>, Stop>
+    requires home { AreAtHome (B.owners bay.old) (B.shelf bay.old) }
+    ensures end { (left : Option (List ℕ)) → ForContents (F.held files.old) left
+        (IsStepEnd (F.names files.old) (F.names files.new) (B.shelf bay.old) (B.shelf bay.new) (audit_steps catalog.now key.now) (end_by End.Listed result)) }
+    // Where a call of files failed, no disk was touched.
+    ensures unmoved { F.faults files.old < F.faults files.new → bay.new ≡ bay.old }
+    ensures files { KeepsFiles F.held F.names F.faults files.old files.new }
+    ensures bay { KeepsBay B.shelf B.owners B.faults bay.old bay.new }
+    ensures cause { IsErrOf result Stop.Fault → HasRisen (F.faults files.old) (F.faults files.new) }
+    ensures disk { HasDiskCause B.shelf B.owners B.faults bay.old bay.new result }
+{
+    let opened = open_house(alloc, files, catalog, key)?;
+    count_all(alloc, bay, &opened)
+}

@@ -1,0 +1,141 @@
+//! The owners' journals are made.
+
+ghost use Rattle.std.specs.Prelude.{◌≡◌, ◌≢◌, ◌⊎◌, ◌++◌, ◌<◌, ℕ, length, List, Option, IsSome, IfErr, IfOk, IsErrOf, OnOk};
+ghost use Rattle.std.specs.List.{flat_map};
+ghost use Rattle.fz_outside.specs.Faults.{HasRisen};
+ghost use Rattle.outside_disks.specs.Disks.{Shown};
+ghost use Rattle.journal_records.specs.Encoding.{IsHeader};
+ghost use Rattle.budget_journal.specs.declared.making.InitFault.TheVariants.{DiskFault};
+ghost use Rattle.owner_catalog.specs.Entries.{owner_entry_at};
+ghost use Rattle.catalog_loading.specs.Loaded.{header_of, owners_in};
+ghost use Rattle.query_server.specs.Shelves.{AreAtHome, EachDisk};
+ghost use Rattle.query_server.specs.Outside.{HasDiskCause, KeepsBay, KeepsFiles};
+ghost use Rattle.query_server.specs.Work.{to_make};
+ghost use Rattle.query_server.specs.Init.{IsMade, made_line, init_steps};
+ghost use Rattle.query_server.specs.Due.{ForContents};
+ghost use Rattle.query_server.specs.Ends.{IsEndOf, IsStepEnd, end_by};
+ghost use Rattle.query_server.specs.Making.{IsMakeStop, IsUnmade, IsUnmadeStop, Turned};
+
+use crate::books::{disk_stop, journal_stop};
+use crate::end::End;
+use crate::numbers::put_field;
+use crate::refusals::JournalRefusal;
+use budget_journal::journal::Journal;
+use budget_journal::making::InitFault;
+use catalog_loading::{Opened, Stop, headers_of, open_house};
+use fz_outside::files::Files;
+use journal_records::records::Header;
+use outside_bays::bay::Bay;
+use owner_catalog::Catalog;
+use std::alloc::{AllocError, Global};
+
+/// Puts the line of an owner whose journal is made behind some lines.
+fn put_made(lines: &mut Vec<u8>, catalog: &Catalog, owner: u32) -> Result<(), AllocError>
+    requires { owner < length catalog.now.owners }
+    ensures { IfOk result (λ _. lines.new.items ≡ lines.old.items ++ made_line (owner_entry_at catalog.now owner)) }
+{
+    lines.extend_from_slice(b"owner ")?;
+    lines.extend_from_slice(catalog.owner_name(owner).as_bytes())?;
+    put_field(lines, b" budget ", catalog.budget(owner))?;
+    put_field(lines, b" capacity ", u64::from(catalog.capacity(owner)))?;
+    lines.extend_from_slice(b"\n")
+}
+
+/// The lines of all owners.
+fn made_lines(alloc: Global, catalog: &Catalog) -> Result<Vec<u8>, AllocError>
+    ensures { IfOk result (λ lines. lines.items ≡ flat_map made_line catalog.now.owners) }
+{
+    let mut lines = Vec::new(alloc);
+    for owner in 0..catalog.owners() as u32 {
+        put_made(&mut lines, catalog, owner)?;
+    }
+    Ok(lines)
+}
+
+/// Makes the journal of an owner: its disk is taken, and put back.
+#[tactic(auto, using(crate::proofs::Made::untaken))]
+fn make_journal<B: Bay>(bay: &mut B, owner: u32, header: &Header) -> Result<(), InitFault>
+    requires owner { owner < B.owners bay.old }
+    requires home { IsSome (B.shelf bay.old owner) }
+    requires header { IsHeader header.now }
+    ensures made { OnOk result (Turned (IsMade header.now) (B.shelf bay.old owner) (B.shelf bay.new owner)) }
+    ensures unmade { IfErr result (λ fault. Turned (IsUnmade fault) (B.shelf bay.old owner) (B.shelf bay.new owner)) }
+    ensures others { (o : ℕ) → o ≢ owner → B.shelf bay.new o ≡ B.shelf bay.old o }
+    ensures bay { KeepsBay B.shelf B.owners B.faults bay.old bay.new }
+    ensures passed { OnOk result (B.faults bay.new ≡ B.faults bay.old) }
+    ensures cause { IfErr result (λ fault. fault ≡ DiskFault → HasRisen (B.faults bay.old) (B.faults bay.new)
+        ⊎ Turned (λ before after. HasRisen before.faults after.faults) (B.shelf bay.old owner) (B.shelf bay.new owner)) }
+{
+    let mut disk = bay.take(owner)?;
+    let made = Journal::init(&mut disk, header);
+    bay.put_back(owner, disk);
+    made
+}
+
+/// What stops a command where no journal was made on an owner's disk.
+fn unmade_stop(alloc: Global, owner: &str, fault: InitFault) -> Stop
+    ensures { IsUnmadeStop owner.now fault result }
+{
+    match fault {
+        InitFault::DiskFault => disk_stop(alloc, owner),
+        InitFault::AlreadyThere { length } => {
+            journal_stop(alloc, owner, JournalRefusal::Exists { length })
+        }
+    }
+}
+
+/// Makes the journals of all owners in order, up to the first that isn't made.
+fn make_all<B: Bay>(alloc: Global, bay: &mut B, opened: &Opened) -> Result<(), Stop>
+    requires home { AreAtHome (B.owners bay.old) (B.shelf bay.old) }
+    ensures made { OnOk result (EachDisk (owners_in opened.now.loading)
+        (λ o. IsMade (header_of opened.now.loading opened.now.key o))
+        (B.shelf bay.old) (B.shelf bay.new)) }
+    ensures stop { IfErr result (IsMakeStop opened.now.loading opened.now.key
+        (B.shelf bay.old) (B.shelf bay.new)) }
+    ensures bay { KeepsBay B.shelf B.owners B.faults bay.old bay.new }
+    ensures disk { HasDiskCause B.shelf B.owners B.faults bay.old bay.new result }
+{
+    let headers = headers_of(alloc, opened)?;
+    for owner in 0..headers.len() as u32 {
+        if let Err(fault) = make_journal(bay, owner, &headers[owner as usize]) {
+            return Err(unmade_stop(alloc, opened.catalog().owner_name(owner), fault));
+        }
+    }
+    Ok(())
+}
+
+/// Makes the journals of all owners. The lines come first: where memory is wanting for them, no disk is taken.
+fn list_made<B: Bay>(alloc: Global, bay: &mut B, opened: &Opened) -> Result<Vec<u8>, Stop>
+    requires home { AreAtHome (B.owners bay.old) (B.shelf bay.old) }
+    ensures end { (script : List ℕ) → IsEndOf (to_make opened.now.loading opened.now.key)
+        (B.shelf bay.old) (B.shelf bay.new) script (end_by End.Listed result) }
+    ensures bay { KeepsBay B.shelf B.owners B.faults bay.old bay.new }
+    ensures disk { HasDiskCause B.shelf B.owners B.faults bay.old bay.new result }
+    ensures sound { IsErrOf result Stop.Fault → ⊥ }
+{
+    let lines = made_lines(alloc, opened.catalog())?;
+    make_all(alloc, bay, opened)?;
+    Ok(lines)
+}
+
+/// Opens the house of a catalog and a key, and makes the journals of its owners.
+pub(crate) fn make_journals<F: Files, B: Bay>(
+    alloc: Global,
+    files: &mut F,
+    bay: &mut B,
+    catalog: &str,
+    key: &str,
+) -> Result<Vec<u8>, Stop>
+    requires home { AreAtHome (B.owners bay.old) (B.shelf bay.old) }
+    ensures end { (left : Option (List ℕ)) → ForContents (F.held files.old) left
+        (IsStepEnd (F.names files.old) (F.names files.new) (B.shelf bay.old) (B.shelf bay.new) (init_steps catalog.now key.now) (end_by End.Listed result)) }
+    // Where a call of files failed, no disk was touched.
+    ensures unmoved { F.faults files.old < F.faults files.new → bay.new ≡ bay.old }
+    ensures files { KeepsFiles F.held F.names F.faults files.old files.new }
+    ensures bay { KeepsBay B.shelf B.owners B.faults bay.old bay.new }
+    ensures cause { IsErrOf result Stop.Fault → HasRisen (F.faults files.old) (F.faults files.new) }
+    ensures disk { HasDiskCause B.shelf B.owners B.faults bay.old bay.new result }
+{
+    let opened = open_house(alloc, files, catalog, key)?;
+    list_made(alloc, bay, &opened)
+}

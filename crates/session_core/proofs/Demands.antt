@@ -1,0 +1,378 @@
+-- Laws of one demand, whatever it demands. What a new demand has to bring stands here.
+use Rattle.std.proofs.Common.{◌≡◌, ℕ, ◌+◌, ◌≤◌, Bool, true, false, List, [], ◌∷◌, ◌++◌, length, Option, Some, None, refl, sym, ◌∙◌, ap, subst, arith, append-nil, append_assoc, length-append}
+use Rattle.std.specs.Prelude.{ℤ, ◌+ℤ◌, Result, Ok, Err, MatchBool}
+use Rattle.std.specs.List.{enumerate_from}
+use mathlib.Core.Logic.{◌⊎◌, inl, inr}
+use mathlib.Core.List.{IsPrefix}
+use Rattle.journal_records.specs.declared.records.Outcome.{Outcome}
+use Rattle.journal_records.specs.declared.records.Outcome.TheVariants.{Answered, Exhausted, Lost}
+use Rattle.journal_records.specs.declared.records.Record.{Record}
+use Rattle.journal_records.specs.Records.{settling}
+use Rattle.budget_core.specs.declared.entry.Ask.{Ask}
+use Rattle.budget_core.specs.declared.entry.Grant.{Grant}
+use Rattle.budget_core.specs.declared.entry.ReserveFault.{ReserveFault}
+use Rattle.budget_core.specs.declared.answers.Recall.{Recall}
+use Rattle.budget_core.specs.declared.answers.Recall.TheVariants.{Unknown, NotYours, Answer, Open, Lost as IsLost, Exhausted as IsExhausted}
+use Rattle.budget_core.specs.Entries.{Entry}
+use Rattle.budget_core.specs.Ledger.{money_verdict}
+use Rattle.budget_core.specs.Answers.{recalled_from, left_by}
+use Rattle.fz_frac.specs.Distance.{Fin, Inf}
+use Rattle.fz_ast.specs.Signature.{Signature}
+use Rattle.budget_ledger.specs.declared.failure.Failure.{Failure}
+use Rattle.wire_lines.specs.Reply.{Replied, refused}
+use Rattle.wire_lines.specs.Refusal.{by_program, by_money, no_memory}
+use Rattle.owner_house.specs.Owner.{Owner, signature_of_view, rows_of_view, HasData}
+use Rattle.owner_desk.specs.Passes.{Told, closing, records_told}
+use Rattle.answer_path.specs.Query.{Query}
+use Rattle.answer_path.specs.Demand.{Demand, asks, recalls, balances}
+use Rattle.answer_path.specs.Reading.{Reading, IsReading}
+use Rattle.answer_path.specs.Judgement.{Judgement, refused_for, accepted, judgement_of}
+use Rattle.answer_path.specs.Program.{IsCharged}
+use Rattle.answer_path.specs.Noise.{noise_at}
+use Rattle.answer_path.specs.Verdict.{Verdict, program_refused, money_refused, granted, money_refusal, ask_for, verdict_by_money, IsVerdictBy, IsVerdict}
+use Rattle.answer_path.specs.Answered.{outcome_reply, granted_record, grant_records, HasWorthIn, IsSettledAt, IsSettledBy, IsUnrecorded, IsAnsweredBy, IsAnswered, IsAskedBy, IsAsked}
+use Rattle.answer_path.specs.Standing.{IsRecalled, IsBalance, recall_reply, left_reply}
+use Rattle.answer_path.specs.Met.{IsMet, IsMetExactly}
+use Rattle.answer_path.specs.Laws.{OnePassCloses}
+use Rattle.answer_path.specs.Shut.{Shut, StaysShut, disk_word, IsPendingOf, FailsBy, ShutsBy}
+use Rattle.answer_path.proofs.Alone.{alone_is_met, exactly_is_met}
+use Rattle.answer_path.proofs.Readings.{one_reading}
+use Rattle.answer_path.proofs.Programs.{one_value}
+use Rattle.answer_path.proofs.Charged.{charged_have_values, accepted_finite}
+use Rattle.answer_path.proofs.Existing.{every_reading}
+use Rattle.owner_history.specs.Granted.{IsRecallBorneOut}
+use Rattle.owner_history.proofs.Prefixes.{prefix_self, prefix_by, prefix_trans, prefix_length}
+use Rattle.owner_history.proofs.Recalls.{recall_borne}
+use Rattle.owner_history.proofs.Steps.{settled_for_on}
+use Rattle.owner_history.proofs.Grants.{accepted_as}
+use Rattle.session_core.specs.Exchanges.{Exchange}
+use Rattle.session_core.specs.Served.{MeetsOnSome, ShutsFor, IsBorneOutTo}
+use Rattle.session_core.specs.Transcript.{ClosesBy}
+use Rattle.session_core.specs.Said.{NothingFailed}
+
+same_prefix : (s g : List Record) → IsPrefix s g → (after : List Record) → after ≡ g → IsPrefix s after
+same_prefix s g pre after is = subst (IsPrefix s) (sym is) pre
+
+nothing : {X : Type 0} (xs : List X) → xs ≡ [] → length xs ≡ 0
+nothing xs is = ap length is
+
+-- a prefix that is as long is the whole
+pub prefix_whole : {X : Type 0} (xs ys : List X) → IsPrefix xs ys → length ys ≤ length xs → xs ≡ ys
+prefix_whole xs ys f le = none f.0 f.1 (omega (arith, ap length f.1, length-append xs f.0, le))
+  where
+    none : (more : List _) → xs ++ more ≡ ys → length more ≤ 0 → xs ≡ ys
+    none [] is le = sym (append-nil xs) ∙ is
+    none (z ∷ more) is le = absurd (omega (arith, le))
+
+-- What is met on just the records that were known is met on some that begin with them ..
+pub exactly_met : (owner : Owner) (draws : ℕ → ℕ → ℕ) (start : ℕ) (demand : Demand) (seen : List Record) (reply : Replied) (told : List Told) (after : List Record)
+    → IsMetExactly owner draws start demand seen reply told after → IsMet owner draws start demand seen reply told after
+exactly_met owner draws start demand seen reply told after met = (exactly_is_met owner draws start demand seen reply told after met).0
+
+-- .. and what it adds stands right behind them.
+pub exactly_adds : (owner : Owner) (draws : ℕ → ℕ → ℕ) (start : ℕ) (demand : Demand) (seen : List Record) (reply : Replied) (told : List Told) (after : List Record)
+    → IsMetExactly owner draws start demand seen reply told after → (added : List Record) × (told ≡ enumerate_from (length seen) added) × (after ≡ seen ++ added)
+unfolding IsMetExactly
+exactly_adds owner draws start (asks query) seen reply told after (added, by, told_is, is) = (added, told_is, is)
+exactly_adds owner draws start (recalls analyst number) seen reply told after (said, none, is) = ([], none, is ∙ sym (append-nil seen))
+exactly_adds owner draws start balances seen reply told after (said, none, is) = ([], none, is ∙ sym (append-nil seen))
+
+-- a demand that adds nothing: the records known after it, and all that go on from them, bear out its reply
+pub record AddsNone (demand : Demand) (seen : List Record) (reply : Replied) (told : List Told) (after : List Record) : Type 0 where
+  pub begins : IsPrefix seen after
+  pub none : told ≡ []
+  pub borne : (programs : List (List ℕ)) (later : List Record) → IsPrefix after later → IsBorneOutTo programs later demand reply
+
+recalled_on : (start analyst number : ℕ) (reply : Replied) (g after later : List Record) → IsPrefix after later → reply ≡ recall_reply number (recalled_from start g number analyst) → after ≡ g → IsRecallBorneOut later analyst reply
+recalled_on start analyst number reply g after later on said is =
+    let here : IsPrefix g later = subst (λ (w : List Record). IsPrefix w later) is on in
+    let borne : IsRecallBorneOut g analyst reply = subst (λ (r : Replied). IsRecallBorneOut g analyst r) (sym said) (recall_borne start g number analyst) in
+    λ n outcome speaks. settled_for_on g later analyst n outcome here (borne n outcome speaks)
+
+-- Whatever is demanded, it adds nothing or is a query.
+pub met_kind : (owner : Owner) (draws : ℕ → ℕ → ℕ) (start : ℕ) (demand : Demand) (seen : List Record) (reply : Replied) (told : List Told) (after : List Record) → IsMet owner draws start demand seen reply told after
+    → AddsNone demand seen reply told after ⊎ ((query : Query) × (demand ≡ asks query) × IsAsked owner draws start query seen reply told after)
+unfolding IsMet IsRecalled IsBalance
+met_kind owner draws start (asks query) seen reply told after met = inr (query, refl, met)
+met_kind owner draws start (recalls analyst number) seen reply told after ((g, pre, said, is), none) =
+    inl (record { begins = same_prefix seen g pre after is; none = none; borne = λ programs later on. recalled_on start analyst number reply g after later on said is })
+met_kind owner draws start balances seen reply told after ((g, pre, said, is), none) = inl (record { begins = same_prefix seen g pre after is; none = none; borne = λ programs later on. tt })
+
+module _ (owner : Owner) (draws : ℕ → ℕ → ℕ) (start : ℕ) (query : Query) (g : List Record) (reply : Replied) (told : List Told) (after : List Record) where
+  asked_grows : (v : Verdict) → IsAskedBy owner draws query v g reply told after → IsPrefix g after
+  asked_grows (program_refused refusal) by = same_prefix g g (prefix_self g) after by.2
+  asked_grows (money_refused refusal) by = same_prefix g g (prefix_self g) after by.2
+  asked_grows (granted asking grant) (inl two) =
+      let more : List Record = granted_record asking grant ∷ [] in
+      let end : List Record = settling grant.number two.outcome ∷ [] in
+      same_prefix g (two.u ++ end) (prefix_trans g (g ++ more) (two.u ++ end) (prefix_by g more) (prefix_trans (g ++ more) two.u (two.u ++ end) two.reserved (prefix_by two.u end))) after two.after_is
+  asked_grows (granted asking grant) (inr (refusal, said, inl none)) = same_prefix g g (prefix_self g) after none.1
+  asked_grows (granted asking grant) (inr (refusal, said, inr one)) = prefix_trans g (g ++ granted_record asking grant ∷ []) after (prefix_by g (granted_record asking grant ∷ [])) one.1
+
+  -- what is known grows by at least what is told
+  asked_least : (v : Verdict) → IsAskedBy owner draws query v g reply told after → length g + length told ≤ length after
+  asked_least (program_refused refusal) by = omega (arith, nothing told by.1, ap length by.2)
+  asked_least (money_refused refusal) by = omega (arith, nothing told by.1, ap length by.2)
+  asked_least (granted asking grant) (inl two) =
+      omega (arith, ap length two.told_is, ap length two.after_is, length-append two.u (settling grant.number two.outcome ∷ []), prefix_length (g ++ granted_record asking grant ∷ []) two.u two.reserved, length-append g (granted_record asking grant ∷ []))
+  asked_least (granted asking grant) (inr (refusal, said, inl none)) = omega (arith, nothing told none.0, ap length none.1)
+  asked_least (granted asking grant) (inr (refusal, said, inr one)) =
+      omega (arith, ap length one.0, prefix_length (g ++ granted_record asking grant ∷ []) after one.1, length-append g (granted_record asking grant ∷ []))
+
+  no_more : told ≡ [] → g ≡ g ++ records_told told
+  no_more none = sym (ap (λ ts. g ++ records_told ts) none ∙ append-nil g)
+
+  -- where it grows by no more, nothing comes in between
+  asked_whole : (v : Verdict) → IsAskedBy owner draws query v g reply told after → length after ≤ length g + length told → after ≡ g ++ records_told told
+  asked_whole (program_refused refusal) by le = by.2 ∙ no_more by.1
+  asked_whole (money_refused refusal) by le = by.2 ∙ no_more by.1
+  asked_whole (granted asking grant) (inl two) le =
+      let one : List Record = granted_record asking grant ∷ [] in
+      let end : List Record = settling grant.number two.outcome ∷ [] in
+      let whole : g ++ one ≡ two.u = prefix_whole (g ++ one) two.u two.reserved (omega (arith, le, ap length two.told_is, ap length two.after_is, length-append two.u end, length-append g one)) in
+      two.after_is ∙ ap (λ (w : List Record). w ++ end) (sym whole) ∙ append_assoc g one end ∙ sym (ap (λ ts. g ++ records_told ts) two.told_is)
+  asked_whole (granted asking grant) (inr (refusal, said, inl none)) le = none.1 ∙ no_more none.0
+  asked_whole (granted asking grant) (inr (refusal, said, inr one)) le =
+      let more : List Record = granted_record asking grant ∷ [] in
+      let whole : g ++ more ≡ after = prefix_whole (g ++ more) after one.1 (omega (arith, le, ap length one.0, length-append g more)) in
+      sym whole ∙ sym (ap (λ ts. g ++ records_told ts) one.0)
+
+module _ (owner : Owner) (draws : ℕ → ℕ → ℕ) (start : ℕ) (seen : List Record) (reply : Replied) (told : List Told) (after : List Record) where
+  query_grows : (query : Query) → IsAsked owner draws start query seen reply told after → IsPrefix seen after
+  unfolding IsAsked
+  query_grows query (g, pre, inl by) = prefix_trans seen g after pre (asked_grows owner draws start query g reply told after by.0 by.2)
+  query_grows query (g, pre, inr lack) = same_prefix seen g pre after lack.2
+
+  query_least : (query : Query) → IsAsked owner draws start query seen reply told after → length seen + length told ≤ length after
+  unfolding IsAsked
+  query_least query (g, pre, inl by) = omega (arith, prefix_length seen g pre, asked_least owner draws start query g reply told after by.0 by.2)
+  query_least query (g, pre, inr lack) = omega (arith, prefix_length seen g pre, nothing told lack.1, ap length lack.2)
+
+  -- What is known goes on with each demand, by all that it was told at least.
+  pub met_grows : (demand : Demand) → IsMet owner draws start demand seen reply told after → IsPrefix seen after
+  met_grows demand met = elim (met_kind owner draws start demand seen reply told after met) [ inl none ↦ none.begins | inr asked ↦ query_grows asked.0 asked.2 ]
+
+  pub met_least : (demand : Demand) → IsMet owner draws start demand seen reply told after → length seen + length told ≤ length after
+  met_least demand met = elim (met_kind owner draws start demand seen reply told after met) [
+    | inl none ↦ omega (arith, prefix_length seen after none.begins, nothing told none.none)
+    | inr asked ↦ query_least asked.0 asked.2
+  ]
+
+  query_whole : (query : Query) → IsAsked owner draws start query seen reply told after → length after ≤ length seen + length told → after ≡ seen ++ records_told told
+  unfolding IsAsked
+  query_whole query (g, pre, inl by) le =
+      let least = asked_least owner draws start query g reply told after by.0 by.2 in
+      let same : seen ≡ g = prefix_whole seen g pre (omega (arith, le, least)) in
+      asked_whole owner draws start query g reply told after by.0 by.2 (omega (arith, le, ap length same)) ∙ ap (λ w. w ++ records_told told) (sym same)
+  query_whole query (g, pre, inr lack) le =
+      let same : seen ≡ g = prefix_whole seen g pre (omega (arith, le, nothing told lack.1, ap length lack.2)) in
+      lack.2 ∙ sym same ∙ sym (ap (λ ts. seen ++ records_told ts) lack.1 ∙ append-nil seen)
+
+  -- Where it goes on by no more, it was met on just what was known.
+  pub met_exact : (demand : Demand) → IsMet owner draws start demand seen reply told after → length after ≤ length seen + length told → IsMetExactly owner draws start demand seen reply told after
+  met_exact demand met le = alone_is_met owner draws start demand seen reply told after met (whole (met_kind owner draws start demand seen reply told after met))
+    where
+      whole : AddsNone demand seen reply told after ⊎ ((query : Query) × (demand ≡ asks query) × IsAsked owner draws start query seen reply told after) → after ≡ seen ++ records_told told
+      whole (inl none) =
+          sym (prefix_whole seen after none.begins (omega (arith, le, nothing told none.none)))
+          ∙ sym (ap (λ ts. seen ++ records_told ts) none.none ∙ append-nil seen)
+      whole (inr (query, is, asked)) = query_whole query asked le
+
+-- the line of a demand is told 52
+abbrev pub is_fault : Option (Option ℕ) → Bool
+is_fault None = false
+is_fault (Some None) = true
+is_fault (Some (Some failed_at)) = false
+
+abbrev pub tells_fault : Demand → Replied → Bool
+tells_fault (asks query) reply = is_fault (disk_word reply)
+tells_fault (recalls analyst number) reply = false
+tells_fault balances reply = false
+
+-- it is a query's
+pub fault_told : (demand : Demand) (reply : Replied) → tells_fault demand reply ≡ true → (query : Query) × (demand ≡ asks query) × (disk_word reply ≡ Some None)
+fault_told (asks query) reply is = (query, refl, here (disk_word reply) is)
+  where
+    here : (word : Option (Option ℕ)) → is_fault word ≡ true → word ≡ Some None
+    here None is = absurd (cc (is))
+    here (Some None) is = refl
+    here (Some (Some failed_at)) is = absurd (cc (is))
+fault_told (recalls analyst number) reply is = absurd (cc (is))
+fault_told balances reply is = absurd (cc (is))
+
+-- an append of the line's own failed, which shut the book
+pub record FailsNow (owner : Owner) (draws : ℕ → ℕ → ℕ) (demand : Demand) (told : List Told) (before after : Shut) : Type 0 where
+  pub query : Query
+  pub is : demand ≡ asks query
+  pub failure : Failure
+  pub was : before.failure ≡ None
+  pub shut : after.failure ≡ Some failure
+  pub pending : IsPendingOf owner draws query told failure.pending
+  pub own : after.own ≡ before.own ++ failure ∷ []
+
+-- What a demand does to the owner's book: its own append failed where it is told 52, and else it leaves what was seen.
+pub demand_shuts : (owner : Owner) (draws : ℕ → ℕ → ℕ) (demand : Demand) (reply : Replied) (told : List Told) (before after : Shut) → ShutsBy owner draws demand reply told before after
+    → MatchBool (tells_fault demand reply) (FailsNow owner draws demand told before after) (StaysShut told before.failure after.failure × (after.own ≡ before.own))
+unfolding ShutsBy
+demand_shuts owner draws (asks query) reply told before after by = here (disk_word reply) by
+  where
+    here : (word : Option (Option ℕ)) → FailsBy owner draws query word told before after
+        → MatchBool (is_fault word) (FailsNow owner draws (asks query) told before after) (StaysShut told before.failure after.failure × (after.own ≡ before.own))
+    here None by = by
+    here (Some None) (failure, was, shut, pending, own) = record { query = query; is = refl; failure = failure; was = was; shut = shut; pending = pending; own = own }
+    here (Some (Some failed_at)) (failure, shut, at, stays, own) = (stays, own)
+demand_shuts owner draws (recalls analyst number) reply told before after by = by
+demand_shuts owner draws balances reply told before after by = by
+
+closing_once : (c d : Option Failure) → closing c ≡ closing d → c ≡ d
+closing_once None None is = refl
+closing_once None (Some g) is = absurd (cc (is))
+closing_once (Some f) None is = absurd (cc (is))
+closing_once (Some f) (Some g) is = let same : f ≡ g = cc (is) in ap (λ (h : Failure). Some h) same
+
+-- Where a book is shut by this pass's own appends alone, before a demand and after it, it is shut as the reply says.
+pub demand_closes : OnePassCloses → (owner : Owner) (draws : ℕ → ℕ → ℕ) (start : ℕ) (demand : Demand) (seen after : List Record) (x : Exchange) (before now : Shut) → MeetsOnSome draws start owner demand seen x after
+    → ShutsFor draws owner demand before x now → before.own ≡ closing before.failure → now.own ≡ closing now.failure → ClosesBy draws owner demand before.failure x now.failure
+unfolding IsMet ShutsBy
+demand_closes one owner draws start (asks query) seen after x before now met shuts own own_now = one owner draws start query seen x.reply x.told after before now met shuts own own_now
+demand_closes one owner draws start (recalls analyst number) seen after x before now met (stays, same) own own_now = closing_once now.failure before.failure (sym own_now ∙ same ∙ own)
+demand_closes one owner draws start balances seen after x before now met (stays, same) own own_now = closing_once now.failure before.failure (sym own_now ∙ same ∙ own)
+
+-- there is one verdict
+judged_once : (entry : Entry) (start : ℕ) (records : List Record) (query : Query) (j : Judgement) (v w : Verdict) → IsVerdictBy entry start records query j v → IsVerdictBy entry start records query j w → v ≡ w
+judged_once entry start records query (refused_for refusal) v w f g = f ∙ sym g
+judged_once entry start records query (accepted e (Fin p q)) v w f g = f ∙ sym g
+judged_once entry start records query (accepted e Inf) v w f g = absurd f
+
+verdict_once : (entry : Entry) (tables : Signature) (start : ℕ) (records : List Record) (query : Query) (v w : Verdict) → IsVerdict entry tables start records query v → IsVerdict entry tables start records query w → v ≡ w
+unfolding IsVerdict
+verdict_once entry tables start records query v w f g =
+    let reads : f.0 ≡ g.0 = one_reading query.program f.0 g.0 f.1 g.1 in
+    judged_once entry start records query (judgement_of tables f.0) v w f.2
+    (subst (λ (r : Reading). IsVerdictBy entry start records query (judgement_of tables r) w) (sym reads) g.2)
+
+-- a reservation is settled in one way, where its answer isn't lost
+settled_once : (HasWorth : ℤ → Type 0) (noise : Option ℤ) (o u : Outcome) → ((y z : ℤ) → HasWorth y → HasWorth z → y ≡ z) → (o ≡ Lost → ⊥) → (u ≡ Lost → ⊥)
+    → IsSettledAt HasWorth noise o → IsSettledAt HasWorth noise u → o ≡ u
+settled_once HasWorth None o u one kept held f g = f ∙ sym g
+settled_once HasWorth (Some noise) o u one kept held (inr lost) g = absurd (kept lost)
+settled_once HasWorth (Some noise) o u one kept held (inl f) (inr lost) = absurd (held lost)
+settled_once HasWorth (Some noise) o u one kept held (inl f) (inl g) = f.2 ∙ ap (λ (z : ℤ). Answered (z +ℤ noise)) (one f.0 g.0 f.1 g.1) ∙ sym g.2
+
+outcome_once : (owner : Owner) (draws : ℕ → ℕ → ℕ) (query : Query) (n : ℕ) (o u : Outcome) → (o ≡ Lost → ⊥) → (u ≡ Lost → ⊥) → IsSettledBy owner draws query n o → IsSettledBy owner draws query n u → o ≡ u
+outcome_once owner draws query n o u kept held f g =
+    settled_once _ (noise_at query.e (draws n)) o u (λ y z has had. one_value (signature_of_view owner query.view) (rows_of_view owner query.view) query.program y z has had) kept held f g
+
+-- a reply where nothing failed is of no lost answer
+not_lost : (grant : Grant) (reply : Replied) (outcome : Outcome) → NothingFailed reply → reply ≡ outcome_reply grant outcome → outcome ≡ Lost → ⊥
+not_lost grant reply outcome had is lost = subst (λ (r : Replied). NothingFailed r) (is ∙ ap (λ (o : Outcome). outcome_reply grant o) lost) had
+
+-- nor of records that weren't written
+not_unwritten : (asking : Ask) (grant : Grant) (reply : Replied) (added : List Record) → NothingFailed reply → IsUnrecorded asking grant reply added → ⊥
+not_unwritten asking grant reply added had by = subst (λ (r : Replied). NothingFailed r) by.1 had
+
+answered_once : (owner : Owner) (draws : ℕ → ℕ → ℕ) (query : Query) (v : Verdict) (reply other : Replied) (added more : List Record) → NothingFailed reply → NothingFailed other
+    → IsAnsweredBy owner draws query v reply added → IsAnsweredBy owner draws query v other more → (reply ≡ other) × (added ≡ more)
+answered_once owner draws query (program_refused refusal) reply other added more had has f g = (f.0 ∙ sym g.0, f.1 ∙ sym g.1)
+answered_once owner draws query (money_refused refusal) reply other added more had has f g = (f.0 ∙ sym g.0, f.1 ∙ sym g.1)
+answered_once owner draws query (granted asking grant) reply other added more had has (inr f) g = absurd (not_unwritten asking grant reply added had f)
+answered_once owner draws query (granted asking grant) reply other added more had has (inl f) (inr g) = absurd (not_unwritten asking grant other more has g)
+answered_once owner draws query (granted asking grant) reply other added more had has (inl f) (inl g) =
+    let same : f.0 ≡ g.0 = outcome_once owner draws query grant.number f.0 g.0 (not_lost grant reply f.0 had f.2) (not_lost grant other g.0 has g.2) f.1 g.1 in
+    (f.2 ∙ ap (λ (o : Outcome). outcome_reply grant o) same ∙ sym g.2, f.3 ∙ ap (λ (o : Outcome). grant_records asking grant o) same ∙ sym g.3)
+
+ran_out : (reply : Replied) → NothingFailed reply → reply ≡ refused no_memory → ⊥
+ran_out reply had is = subst (λ (r : Replied). NothingFailed r) is had
+
+-- On just the records that were known a demand is met in one way, where nothing failed.
+pub met_once : (owner : Owner) (draws : ℕ → ℕ → ℕ) (start : ℕ) (demand : Demand) (seen : List Record) (reply other : Replied) (told more_told : List Told) (a b : List Record) → NothingFailed reply → NothingFailed other
+    → IsMetExactly owner draws start demand seen reply told a → IsMetExactly owner draws start demand seen other more_told b → (reply ≡ other) × (a ≡ b)
+unfolding IsMetExactly IsAnswered
+met_once owner draws start (asks query) seen reply other told more_told a b had has (added, inr f, told_is, is) g = absurd (ran_out reply had f.0)
+met_once owner draws start (asks query) seen reply other told more_told a b had has (added, inl f, told_is, is) (more, inr g, said, ends) = absurd (ran_out other has g.0)
+met_once owner draws start (asks query) seen reply other told more_told a b had has (added, inl f, told_is, is) (more, inl g, said, ends) =
+    let same : f.0 ≡ g.0 = verdict_once owner.entry (signature_of_view owner query.view) start seen query f.0 g.0 f.1 g.1 in
+    let both = answered_once owner draws query f.0 reply other added more had has f.2 (subst (λ (v : Verdict). IsAnsweredBy owner draws query v other more) (sym same) g.2) in
+    (both.0, is ∙ ap (λ rs. seen ++ rs) both.1 ∙ sym ends)
+met_once owner draws start (recalls analyst number) seen reply other told more_told a b had has f g = (f.0 ∙ sym g.0, f.2 ∙ sym g.2)
+met_once owner draws start balances seen reply other told more_told a b had has f g = (f.0 ∙ sym g.0, f.2 ∙ sym g.2)
+
+-- a query's answer, in which nothing fails
+record IsAnswer (owner : Owner) (draws : ℕ → ℕ → ℕ) (start : ℕ) (records : List Record) (query : Query) : Type 0 where
+  reply : Replied
+  added : List Record
+  answered : IsAnswered owner draws start records query reply added
+  had : NothingFailed reply
+
+-- how a reservation is settled where nothing fails: by the program's value and the noise, or as exhausted
+record IsSettlement (HasWorth : ℤ → Type 0) (noise : Option ℤ) (grant : Grant) : Type 0 where
+  outcome : Outcome
+  settled : IsSettledAt HasWorth noise outcome
+  had : NothingFailed (outcome_reply grant outcome)
+
+settlement : (HasWorth : ℤ → Type 0) (noise : Option ℤ) (grant : Grant) (value : ℤ) → HasWorth value → IsSettlement HasWorth noise grant
+settlement HasWorth None grant value has = record { outcome = Exhausted; settled = refl; had = tt }
+settlement HasWorth (Some noise) grant value has = record { outcome = Answered (value +ℤ noise); settled = inl (value, has, refl); had = tt }
+
+module _ (owner : Owner) (draws : ℕ → ℕ → ℕ) (start : ℕ) (records : List Record) (query : Query) (has : HasData owner) where
+  by_money_verdict : (p q : ℕ) (money : Result Grant ReserveFault) → money_verdict owner.entry start records (ask_for query p q) ≡ money → IsCharged (signature_of_view owner query.view) query.program p q
+      → ((v : _) → v ≡ verdict_by_money (ask_for query p q) money → IsVerdict owner.entry (signature_of_view owner query.view) start records query v) → IsAnswer owner draws start records query
+  unfolding IsAnswered
+  by_money_verdict p q (Err fault) is charged verdict =
+      record { reply = refused (by_money (money_refusal fault)); added = []; answered = (money_refused (money_refusal fault), verdict _ refl, (refl, refl)); had = tt }
+  by_money_verdict p q (Ok grant) is charged verdict =
+      let v = charged_have_values owner.tables owner.partitions owner.rows query.view query.program p q has.tables has.partitions has.rows charged in
+      let made = settlement (HasWorthIn owner query) (noise_at query.e (draws grant.number)) grant v.0 v.1 in
+      record {
+        reply = outcome_reply grant made.outcome;
+        added = grant_records (ask_for query p q) grant made.outcome;
+        answered = (granted (ask_for query p q) grant, verdict _ refl, inl (made.outcome, made.settled, refl, refl));
+        had = made.had;
+      }
+
+  by_judgement : (reading : Reading) → IsReading query.program reading → (j : Judgement) → judgement_of (signature_of_view owner query.view) reading ≡ j → IsAnswer owner draws start records query
+  unfolding IsAnswered IsVerdict
+  by_judgement reading reads (refused_for refusal) is = record {
+    reply = refused (by_program refusal);
+    added = [];
+    answered = (program_refused refusal, (reading, reads, subst (λ (j : Judgement). IsVerdictBy owner.entry start records query j (program_refused refusal)) (sym is) refl), (refl, refl));
+    had = tt;
+  }
+  by_judgement reading reads (accepted e Inf) is =
+      let a = accepted_as (signature_of_view owner query.view) reading e Inf is in
+      let bounded = accepted_finite (signature_of_view owner query.view) query.program e Inf (subst (λ (r : Reading). IsReading query.program r) a.0 reads) (ap (judgement_of (signature_of_view owner query.view)) (sym a.0) ∙ is) in
+      absurd (cc (bounded))
+  by_judgement reading reads (accepted e (Fin p q)) is =
+      let a = accepted_as (signature_of_view owner query.view) reading e (Fin p q) is in
+      let charged : IsCharged (signature_of_view owner query.view) query.program p q = (e, subst (λ (r : Reading). IsReading query.program r) a.0 reads, a.1) in
+      by_money_verdict p q (money_verdict owner.entry start records (ask_for query p q)) refl charged
+      (λ v same. (reading, reads, subst (λ (j : Judgement). IsVerdictBy owner.entry start records query j v) (sym is) same))
+
+-- a reply and what it adds, where nothing fails
+pub record CanBeMet (owner : Owner) (draws : ℕ → ℕ → ℕ) (start : ℕ) (demand : Demand) (seen : List Record) : Type 0 where
+  pub reply : Replied
+  pub told : List Told
+  pub added : List Record
+  pub meets : IsMetExactly owner draws start demand seen reply told (seen ++ added)
+  pub had : NothingFailed reply
+
+recall_had : (number : ℕ) (r : Recall) → NothingFailed (recall_reply number r)
+recall_had number (Unknown seen) = tt
+recall_had number (NotYours seen) = tt
+recall_had number (Answer value seen) = tt
+recall_had number (Open seen) = tt
+recall_had number (IsLost seen) = tt
+recall_had number (IsExhausted seen) = tt
+
+-- Whatever is demanded of an owner with its data, it can be met so.
+pub met_exists : (owner : Owner) (draws : ℕ → ℕ → ℕ) (start : ℕ) (demand : Demand) (seen : List Record) → HasData owner → CanBeMet owner draws start demand seen
+unfolding IsMetExactly
+met_exists owner draws start (asks query) seen has =
+    let r = every_reading query.program in
+    let a = by_judgement owner draws start seen query has r.0 r.1 (judgement_of (signature_of_view owner query.view) r.0) refl in
+    record { reply = a.reply; told = enumerate_from (length seen) a.added; added = a.added; meets = (a.added, inl a.answered, refl, refl); had = a.had }
+met_exists owner draws start (recalls analyst number) seen has =
+    let r : Recall = recalled_from start seen number analyst in
+    record { reply = recall_reply number r; told = []; added = []; meets = (refl, refl, append-nil seen); had = recall_had number r }
+met_exists owner draws start balances seen has =
+    record { reply = left_reply (left_by owner.entry seen); told = []; added = []; meets = (refl, refl, append-nil seen); had = tt }

@@ -1,5 +1,0 @@
-use Rattle.session_core.proofs.Exists.{replies_exist}
-use Rattle.session_core.proofs.laws.scripts_have_transcripts.Goals as goal
-
-pub returns : goal.returns
-returns c = replies_exist

@@ -1,0 +1,105 @@
+-- two lines of two workers, where the second one's records stand between the first one's
+use Rattle.std.proofs.Common.{◌≡◌, ℕ, zero, suc, ◌+◌, ◌<◌, ◌==◌, Bool, true, false, List, [], ◌∷◌, refl, sym, ◌∙◌, ap, subst, arith, eq-eqb}
+use Rattle.std.specs.Prelude.{MatchBool, sum_by}
+use Rattle.std.proofs.lemmas.List.Sums.{sum_by-cons}
+use mathlib.Core.Logic.{inl}
+use Rattle.journal_records.specs.declared.records.Outcome.{Outcome}
+use Rattle.journal_records.specs.declared.records.Record.{Record}
+use Rattle.journal_records.specs.Records.{settling}
+use Rattle.budget_core.specs.declared.entry.Ask.{Ask}
+use Rattle.budget_core.specs.declared.entry.Grant.{Grant}
+use Rattle.owner_house.specs.Owner.{Owner}
+use Rattle.answer_path.specs.Query.{Query}
+use Rattle.answer_path.specs.Verdict.{granted}
+use Rattle.owner_house.specs.House.{House}
+use Rattle.answer_path.specs.Demand.{Demand, asks}
+use Rattle.session_core.specs.Meant.{Meant, wants}
+use Rattle.session_core.specs.Turns.{meant_at}
+use Rattle.session_core.specs.Exchanges.{Exchange, TurnLeads, is_of, told_of}
+use Rattle.session_laws.specs.Between.{two_workers, IsHeld, four_records}
+use Rattle.owner_desk.specs.Passes.{Told}
+use Rattle.answer_path.specs.Answered.{granted_record, IsAsked}
+use Rattle.answer_path.specs.Met.{IsMet}
+use Rattle.session_core.specs.Served.{MeetsOnSome}
+use Rattle.session_core.specs.Gathered.{part_of, IsAnsweredOn, AreGathered}
+
+-- a turn that asks the owner, and is met
+hit : (house : House) (o : ℕ) (M : Owner → Demand → List Record → Exchange → List Record → Type 0) (m : Meant) (seen after : List Record) (x : Exchange) (owner : Owner) (demand : Demand) (Rest : List Record → Type 0)
+    → m ≡ wants o owner demand → M owner demand seen x after → Rest after → TurnLeads house o M m seen x Rest
+hit house o M m seen after x owner demand Rest is meets rest = subst (λ (k : Meant). TurnLeads house o M k seen x Rest) (sym is) (here (o == o) (eq-eqb o o refl))
+  where
+    here : (b : Bool) → b ≡ true → MatchBool b ((u : List Record) × M owner demand seen x u × Rest u) (Rest seen)
+    here true sure = (after, meets, rest)
+    here false never = absurd (cc (never))
+
+four : (w : Told → ℕ) (a b c d : Told) → sum_by w (a ∷ b ∷ c ∷ d ∷ []) ≡ w a + w b + w c + w d
+four w a b c d = omega (arith, sum_by-cons w a (b ∷ c ∷ d ∷ []), sum_by-cons w b (c ∷ d ∷ []), sum_by-cons w c (d ∷ []), sum_by-cons w d [])
+
+module _ (house : House) (draws : ℕ → ℕ → ℕ → ℕ) (o : ℕ) (owner : Owner) (x y : Exchange) (q r : Query) (a b : Ask) (c d : Grant) (s t : Outcome)
+    (f : IsHeld house draws o owner [] x q a c s 0 3) (g : IsHeld house draws o owner (granted_record a c ∷ []) y r b d t 1 2) where
+  abbrev records : List Record
+  records = four_records a b c d s t
+
+  first_met : MeetsOnSome (draws o) 0 owner (asks q) [] x records
+  unfolding IsMet IsAsked
+  first_met = (
+    [],
+    ([], refl),
+    inl (
+      granted a c,
+      f.verdict,
+      inl (record {
+        outcome = s;
+        u = granted_record a c ∷ granted_record b d ∷ settling d.number t ∷ [];
+        settled = f.settles;
+        reserved = (granted_record b d ∷ settling d.number t ∷ [], refl);
+        reply_is = f.said;
+        told_is = f.told;
+        after_is = refl;
+      }),
+    ),
+  )
+
+  second_met : MeetsOnSome (draws o) 0 owner (asks r) [] y (granted_record a c ∷ granted_record b d ∷ settling d.number t ∷ [])
+  unfolding IsMet IsAsked
+  second_met = (
+    granted_record a c ∷ [],
+    (granted_record a c ∷ [], refl),
+    inl (
+      granted b d,
+      g.verdict,
+      inl (record {
+        outcome = t;
+        u = granted_record a c ∷ granted_record b d ∷ [];
+        settled = g.settles;
+        reserved = ([], refl);
+        reply_is = g.said;
+        told_is = g.told;
+        after_is = refl;
+      }),
+    ),
+  )
+
+  workers : (i : ℕ) → i < 2 → IsAnsweredOn house draws o [] (part_of two_workers i 0 (x ∷ y ∷ [])) records
+  workers zero lt = (records, ([], refl), hit house o (MeetsOnSome (draws o) 0) (meant_at house x.turn) [] records x owner (asks q) (λ after. records ≡ after) f.meant first_met refl)
+  workers (suc zero) lt =
+      let last : List Record = granted_record a c ∷ granted_record b d ∷ settling d.number t ∷ [] in
+      (last, (settling c.number s ∷ [], refl), hit house o (MeetsOnSome (draws o) 0) (meant_at house y.turn) [] last y owner (asks r) (λ after. last ≡ after) g.meant second_met refl)
+  workers (suc (suc i)) lt = absurd (omega (arith, lt))
+
+  told : told_of house o (x ∷ y ∷ []) ≡ (0, granted_record a c) ∷ (3, settling c.number s) ∷ (1, granted_record b d) ∷ (2, settling d.number t) ∷ []
+  told = rw (ap (is_of o) f.meant ∙ eq-eqb o o refl, ap (is_of o) g.meant ∙ eq-eqb o o refl, f.told, g.told) refl
+
+  pub between : AreGathered house draws 2 two_workers o [] (x ∷ y ∷ []) records
+  between = record {
+    begins = (records, refl);
+    crews = crews;
+    workers = workers;
+    once = λ w. ap (sum_by w) told ∙ four w (0, granted_record a c) (3, settling c.number s) (1, granted_record b d) (2, settling d.number t)
+        ∙ (let same : w (0, granted_record a c) + w (3, settling c.number s) + w (1, granted_record b d) + w (2, settling d.number t) ≡ w (0, granted_record a c) + w (1, granted_record b d) + w (2, settling d.number t) + w (3, settling c.number s) = omega arith in same)
+        ∙ sym (four w (0, granted_record a c) (1, granted_record b d) (2, settling d.number t) (3, settling c.number s));
+  }
+    where
+      crews : (at : ℕ) → two_workers at < 2
+      crews zero = omega arith
+      crews (suc at) = omega arith

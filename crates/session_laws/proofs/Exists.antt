@@ -1,0 +1,97 @@
+-- every script has replies, where every program has a reading
+use Rattle.std.proofs.Common.{◌≡◌, ℕ, ◌==◌, Bool, true, false, cond, List, [], ◌∷◌, ◌++◌, map, slice_get, Option, Some, refl, sym, ap, subst, eqb-true}
+use Rattle.std.specs.Prelude.{MatchBool}
+use Rattle.std.specs.List.{AllByRecursion}
+use Rattle.journal_records.specs.declared.records.Record.{Record}
+use Rattle.wire_lines.specs.Reply.{Replied}
+use Rattle.owner_house.specs.Owner.{Owner}
+use Rattle.owner_house.specs.House.{House, AreOwners}
+use Rattle.answer_path.specs.Demand.{Demand}
+use Rattle.session_core.specs.Meant.{Meant, says, wants}
+use Rattle.session_core.specs.Turns.{Turn, meant_at, turns_of}
+use Rattle.session_core.specs.Exchanges.{Exchange, IsPlain, ArePlain, TurnLeads}
+use Rattle.session_core.specs.Transcript.{Journals, first_new, MeetsExactly, LeadExactly, IsScriptRun}
+use Rattle.session_core.specs.Said.{NothingFailed}
+use Rattle.session_core.proofs.Demands.{CanBeMet, met_exists}
+use Rattle.session_core.proofs.Turns.{AreKnown, turns_known}
+use Rattle.session_core.proofs.Wants.{AsksOnly, asks_only}
+use Rattle.session_core.proofs.Plain.{Says, line_says}
+
+module _ (house : House) (draws : ℕ → ℕ → ℕ → ℕ) (found : Journals) (owners : AreOwners house) where
+  -- replies to some turns, from these records on
+  record HaveReplies (turns : List Turn) (now : Journals) : Type 0 where
+    exchanges : List Exchange
+    last : Journals
+    are : map (λ (x : Exchange). x.turn) exchanges ≡ turns
+    plain : ArePlain house exchanges
+    leads : (o : ℕ) (owner : Owner) → slice_get house.owners o ≡ Some owner → LeadExactly house draws o (first_new (found o)) (now o) exchanges (last o)
+    had : AllByRecursion NothingFailed (map (λ (x : Exchange). x.reply) exchanges)
+
+  -- with records more of one owner
+  abbrev more_of : Journals → ℕ → List Record → Journals
+  more_of now n added o = cond (n == o) (now o ++ added) (now o)
+
+  first_says : (turn : Turn) (turns : List Turn) (now : Journals) (reply : Replied) (next : Option ℕ) → meant_at house turn ≡ says reply next → NothingFailed reply → HaveReplies turns now → HaveReplies (turn ∷ turns) now
+  first_says turn turns now reply next is had rest =
+      let x : Exchange = record { turn = turn; reply = reply; told = [] } in record {
+        exchanges = x ∷ rest.exchanges;
+        last = rest.last;
+        are = ap (λ ts. turn ∷ ts) rest.are;
+        plain = (subst (λ (m : Meant). IsPlain m x) (sym is) (refl, refl), rest.plain);
+        leads = λ o owner at.
+            subst (λ (m : Meant). TurnLeads house o (MeetsExactly (draws o) (first_new (found o))) m (now o) x (λ after. LeadExactly house draws o (first_new (found o)) after rest.exchanges (rest.last o))) (sym is)
+            (rest.leads o owner at);
+        had = (had, rest.had);
+      }
+
+  abbrev CanBe : ℕ → Owner → Demand → List Record → Type 0
+  CanBe n owner demand seen = CanBeMet owner (draws n) (first_new (found n)) demand seen
+
+  first_wants : (turn : Turn) (turns : List Turn) (now : Journals) (n : ℕ) (owner : Owner) (demand : Demand) → meant_at house turn ≡ wants n owner demand → (a : CanBe n owner demand (now n))
+      → HaveReplies turns (more_of now n a.added) → HaveReplies (turn ∷ turns) now
+  first_wants turn turns now n owner demand is a rest =
+      let x : Exchange = record { turn = turn; reply = a.reply; told = a.told } in record {
+        exchanges = x ∷ rest.exchanges;
+        last = rest.last;
+        are = ap (λ ts. turn ∷ ts) rest.are;
+        plain = (subst (λ (m : Meant). IsPlain m x) (sym is) tt, rest.plain);
+        leads = λ o other at.
+            subst (λ (m : Meant). TurnLeads house o (MeetsExactly (draws o) (first_new (found o))) m (now o) x (λ after. LeadExactly house draws o (first_new (found o)) after rest.exchanges (rest.last o))) (sym is)
+            (here o (n == o) refl (rest.leads o other at));
+        had = (a.had, rest.had);
+      }
+    where
+      here : (o : ℕ) (b : Bool) → (n == o) ≡ b → LeadExactly house draws o (first_new (found o)) (cond b (now o ++ a.added) (now o)) rest.exchanges (rest.last o)
+          → MatchBool b
+          ((after : List Record) × MeetsExactly (draws o) (first_new (found o)) owner demand (now o) (record { turn = turn; reply = a.reply; told = a.told }) after
+          × LeadExactly house draws o (first_new (found o)) after rest.exchanges (rest.last o))
+          (LeadExactly house draws o (first_new (found o)) (now o) rest.exchanges (rest.last o))
+      here o false miss leads = leads
+      here o true hit leads =
+          let same : n ≡ o = eqb-true n o hit in (
+            now o ++ a.added,
+            subst (λ (k : ℕ). MeetsExactly (draws k) (first_new (found k)) owner demand (now k) (record { turn = turn; reply = a.reply; told = a.told }) (now k ++ a.added)) same a.meets,
+            leads,
+          )
+
+  exists_from : (turns : List Turn) (now : Journals) → AreKnown house turns → HaveReplies turns now
+  exists_from [] now known = record { exchanges = []; last = now; are = refl; plain = tt; leads = λ o owner at. refl; had = tt }
+  exists_from (turn ∷ turns) now known =
+      here (λ later. exists_from turns later known.1) (meant_at house turn) refl (asks_only house turn.line turn.who known.0) (line_says NothingFailed (λ name. tt) tt (λ refusal. tt) house turn.who turn.line)
+    where
+      here : ((later : Journals) → HaveReplies turns later) → (m : Meant) → meant_at house turn ≡ m → AsksOnly house turn.line m → Says NothingFailed (λ name. tt) tt (λ refusal. tt) m → HaveReplies (turn ∷ turns) now
+      here rest (says reply next) is only had = first_says turn turns now reply next is had (rest now)
+      here rest (wants n owner demand) is only had =
+          let a = met_exists owner (draws n) (first_new (found n)) demand (now n) (owners n owner only.0).data_of in
+          first_wants turn turns now n owner demand is a (rest (more_of now n a.added))
+
+-- Each script has replies in which nothing failed.
+pub replies_exist : (house : House) (draws : ℕ → ℕ → ℕ → ℕ) (found : Journals) (script : List ℕ) → AreOwners house
+    → (replies : List Replied) × (last : Journals) × IsScriptRun house draws found script replies last × AllByRecursion NothingFailed replies
+replies_exist house draws found script owners =
+    let h = exists_from house draws found owners (turns_of house script) found (turns_known house script) in (
+      map (λ (x : Exchange). x.reply) h.exchanges,
+      h.last,
+      record { exchanges = h.exchanges; turns = h.are; replied = refl; plain = h.plain; owners = h.leads },
+      h.had,
+    )

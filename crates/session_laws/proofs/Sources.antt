@@ -1,0 +1,319 @@
+-- the lines behind an owner's new reservations, and how each new record came about
+use Rattle.std.proofs.Common.{◌≡◌, ℕ, ◌+◌, ◌-◌, ◌<◌, ◌≤◌, true, List, [], ◌∷◌, ◌++◌, length, take, map, slice_get, Option, Some, None, refl, sym, ◌∙◌, ap, subst, arith, eq-eqb, length-append}
+use Rattle.std.proofs.lemmas.Bool.{cases_lt}
+use Rattle.std.proofs.lemmas.Option.{slice_get_within}
+use Rattle.std.proofs.lemmas.List.{length-map}
+use Rattle.std.proofs.Math.Seq.{take-length}
+use mathlib.Core.Logic.{◌⊎◌, inl, inr}
+use mathlib.Core.List.{IsPrefix}
+use Rattle.journal_records.specs.declared.records.Outcome.{Outcome}
+use Rattle.journal_records.specs.declared.records.Reservation.{Reservation}
+use Rattle.journal_records.specs.declared.records.Settlement.{Settlement}
+use Rattle.journal_records.specs.declared.records.Record.{Record}
+use Rattle.journal_records.specs.declared.records.Record.TheVariants.{Reserve, Settle}
+use Rattle.journal_records.specs.Records.{settling}
+use Rattle.budget_core.specs.declared.entry.Ask.{Ask}
+use Rattle.budget_core.specs.declared.entry.Grant.{Grant}
+use Rattle.budget_core.specs.Counts.{reservations_of, outcome_of}
+use Rattle.budget_core.specs.Legal.{IsHistory}
+use Rattle.budget_core.specs.Ledger.{reservation_numbered}
+use Rattle.budget_core.proofs.Histories.{slice_get-append-lt}
+use Rattle.budget_core.proofs.Numbers.{outcome_past}
+use Rattle.owner_house.specs.Owner.{Owner}
+use Rattle.answer_path.specs.Query.{Query}
+use Rattle.owner_history.proofs.Grants.{verdict_grants}
+use Rattle.owner_history.proofs.Prefixes.{prefix_by, prefix_trans, slice_get_prefix}
+use Rattle.owner_house.specs.House.{House, IsOwnerIn}
+use Rattle.answer_path.specs.Demand.{Demand, asks}
+use Rattle.session_core.specs.Meant.{Meant, wants}
+use Rattle.session_core.specs.Turns.{Turn, meant_at}
+use Rattle.session_core.specs.Exchanges.{Exchange, is_of}
+use Rattle.session_core.specs.Transcript.{first_new}
+use Rattle.session_core.proofs.Turns.{AreKnown}
+use Rattle.session_core.proofs.Wants.{IsAskOf, AsksOnly, asks_only, query_within}
+use Rattle.session_laws.specs.CameBy.{WasReserved, WasSettled, CameBy}
+use Rattle.session_laws.proofs.Places.{below, below_more, same_place, reservation_place, listed_below, settled_at, unsettled_nowhere, prefix_seam, prefix_take, reservations_on}
+use Rattle.session_laws.proofs.Listed.{IsListed, listed, stands_at, slice_behind, mapped_at, place_of_all}
+use Rattle.session_laws.proofs.Added.{IsLeftOpen, IsSettledLater, IsReservedBy, number_is, number_below, reserved_told}
+use Rattle.session_laws.proofs.Standing.{Reserves}
+use Rattle.session_laws.proofs.Once.{told_once, reserves_at}
+use Rattle.owner_desk.specs.Passes.{Told}
+use Rattle.owner_desk.specs.Answers.{Has}
+use Rattle.answer_path.specs.Answered.{granted_record}
+use Rattle.session_core.specs.Served.{Sources}
+use Rattle.session_core.specs.Gathered.{AreGathered}
+use Rattle.session_laws.specs.ToldOnce.{IsToldAt, AreToldOnce}
+
+module _ (draws : ℕ → ℕ → ℕ) (owner : Owner) (found records : List Record) where
+  -- the reservation that a line was told is its grant's, and stands where the verdict's records end
+  pub reserve_told : (query : Query) (x : Exchange) (by : IsReservedBy draws owner found records query x) (k : ℕ) (r : Reservation) → Has {A = Told} (k, Reserve r) x.told
+      → (k ≡ length by.g) × (Reserve r ≡ granted_record by.asking by.grant)
+  reserve_told query x by k r has = ended by.ends
+    where
+      first : Told
+      first = (length by.g, granted_record by.asking by.grant)
+
+      one : (k, Reserve r) ≡ first → (k ≡ length by.g) × (Reserve r ≡ granted_record by.asking by.grant)
+      one is = (ap (λ (z : Told). z.0) is, ap (λ (z : Told). z.1) is)
+
+      single : Has {A = Told} (k, Reserve r) (first ∷ []) → (k ≡ length by.g) × (Reserve r ≡ granted_record by.asking by.grant)
+      single (inl is) = one is
+      single (inr none) = absurd none
+
+      double : (u n : ℕ) (outcome : Outcome) → Has {A = Told} (k, Reserve r) (first ∷ (u, settling n outcome) ∷ []) → (k ≡ length by.g) × (Reserve r ≡ granted_record by.asking by.grant)
+      double u n outcome (inl is) = one is
+      double u n outcome (inr (inl is)) = let both : Reserve r ≡ settling n outcome = ap (λ (z : Told). z.1) is in absurd (cc (both))
+      double u n outcome (inr (inr none)) = absurd none
+
+      ended : IsLeftOpen draws owner found records by.asking by.grant by.g x ⊎ IsSettledLater draws owner found records query by.asking by.grant by.g x → (k ≡ length by.g) × (Reserve r ≡ granted_record by.asking by.grant)
+      ended (inl alone) = single (subst (λ (zs : List Told). Has {A = Told} (k, Reserve r) zs) alone.told has)
+      ended (inr done) = double (length done.u) by.grant.number done.outcome (subst (λ (zs : List Told). Has {A = Told} (k, Reserve r) zs) done.told has)
+
+  -- a settlement that is told stands where its records end
+  settle_place : (query : Query) (asking : Ask) (grant : Grant) (g : List Record) (x : Exchange) (done : IsSettledLater draws owner found records query asking grant g x) (k n : ℕ) (outcome : Outcome) → Has {A = Told} (k, settling n outcome) x.told
+      → (k ≡ length done.u) × (settling n outcome ≡ settling grant.number done.outcome)
+  settle_place query asking grant g x done k n outcome has = double (subst (λ (zs : List Told). Has {A = Told} (k, settling n outcome) zs) done.told has)
+    where
+      double : Has {A = Told} (k, settling n outcome) ((length g, granted_record asking grant) ∷ (length done.u, settling grant.number done.outcome) ∷ []) → (k ≡ length done.u) × (settling n outcome ≡ settling grant.number done.outcome)
+      double (inl is) = let both : settling n outcome ≡ granted_record asking grant = ap (λ (z : Told). z.1) is in absurd (cc (both))
+      double (inr (inl is)) = (ap (λ (z : Told). z.0) is, ap (λ (z : Told). z.1) is)
+      double (inr (inr none)) = absurd none
+
+  pub record Settles (query : Query) (x : Exchange) (by : IsReservedBy draws owner found records query x) (k n : ℕ) (outcome : Outcome) : Type 0 where
+    pub done : IsSettledLater draws owner found records query by.asking by.grant by.g x
+    pub place : k ≡ length done.u
+    pub is : settling n outcome ≡ settling by.grant.number done.outcome
+
+  pub settle_told : (query : Query) (x : Exchange) (by : IsReservedBy draws owner found records query x) (k n : ℕ) (outcome : Outcome) → Has {A = Told} (k, settling n outcome) x.told → Settles query x by k n outcome
+  settle_told query x by k n outcome has = ended by.ends
+    where
+      single : Has {A = Told} (k, settling n outcome) ((length by.g, granted_record by.asking by.grant) ∷ []) → ⊥
+      single (inl is) = let both : settling n outcome ≡ granted_record by.asking by.grant = ap (λ (z : Told). z.1) is in cc (both)
+      single (inr none) = none
+
+      ended : IsLeftOpen draws owner found records by.asking by.grant by.g x ⊎ IsSettledLater draws owner found records query by.asking by.grant by.g x → Settles query x by k n outcome
+      ended (inl alone) = absurd (single (subst (λ (zs : List Told). Has {A = Told} (k, settling n outcome) zs) alone.told has))
+      ended (inr done) = let s = settle_place query by.asking by.grant by.g x done k n outcome has in record { done = done; place = s.0; is = s.1 }
+
+-- the settlement that the record is, or this one
+abbrev settled_in : Settlement → Record → Settlement
+settled_in other (Reserve r) = other
+settled_in other (Settle s) = s
+
+abbrev number_of : Record → ℕ
+number_of (Reserve r) = r.number
+number_of (Settle s) = s.number
+
+module _ (house : House) (draws : ℕ → ℕ → ℕ → ℕ) (spoken : List Turn) (count : ℕ) (crew : ℕ → ℕ) (o : ℕ) (owner : Owner) (found : List Record) (xs : List Exchange) (records : List Record)
+    (here : slice_get house.owners o ≡ Some owner) (inside : IsOwnerIn house owner) (begun : IsHistory owner.entry found) (turns : map (λ (x : Exchange). x.turn) xs ≡ spoken) (known : AreKnown house spoken)
+    (all : AreGathered house draws count crew o found xs records) where
+  abbrev start : ℕ
+  start = first_new found
+
+  abbrev By : Query → Exchange → Type 0
+  By query x = IsReservedBy (draws o) owner found records query x
+
+  once : AreToldOnce house o xs found records
+  once = told_once house draws count crew o owner found xs records here all
+
+  abbrev made_at : (j : ℕ) (z : Told) (t : IsToldAt house o xs j z) → Reserves house draws o owner found records t.x
+  made_at = reserves_at house draws count crew o owner found xs records here all
+
+  -- a place of the script and a program, of the line whose grant has this number
+  pub record IsSource (n : ℕ) (z : ℕ × List ℕ) : Type 0 where
+    pub x : Exchange
+    pub stands : slice_get xs z.0 ≡ Some x
+    pub query : Query
+    pub meant : meant_at house x.turn ≡ wants o owner (asks query)
+    pub by : By query x
+    pub program : query.program ≡ z.1
+    pub number : by.grant.number ≡ n
+
+  -- how many reservations stand in all
+  abbrev total : ℕ
+  total = length (reservations_of records)
+
+  counts_grow : (g : List Record) → IsPrefix found g → start ≤ length (reservations_of g)
+  counts_grow g pre = let r = reservations_on found g pre in omega (arith, ap length r.1, length-append (reservations_of found) r.0)
+
+  pub number_new : (query : Query) (x : Exchange) (by : By query x) → start ≤ by.grant.number
+  number_new query x by = omega (arith, number_is (draws o) owner found records query x by, counts_grow by.g by.later)
+
+  reservation_at : (query : Query) (x : Exchange) (by : By query x) → slice_get records (length by.g) ≡ Some (granted_record by.asking by.grant)
+  reservation_at query x by = (prefix_seam by.g (granted_record by.asking by.grant) records by.stands).1
+
+  number_within : (query : Query) (x : Exchange) (by : By query x) → by.grant.number < total
+  number_within query x by =
+      let at = reservation_at query x by in
+      let more = below_more records (length by.g) (length records) (reservation_numbered by.grant.number by.asking by.grant.taken) (slice_get_within records (length by.g) (granted_record by.asking by.grant) at) at in
+      let whole : below records (length records) ≡ total = ap (λ (w : List Record). length (reservations_of w)) (take-length records) in
+      omega (arith, more, whole, number_below (draws o) owner found records query x by)
+
+  ours : (x : Exchange) (demand : Demand) → meant_at house x.turn ≡ wants o owner demand → is_of o (meant_at house x.turn) ≡ true
+  ours x demand meant = ap (is_of o) meant ∙ eq-eqb o o refl
+
+  told_of_by : (j : ℕ) (x : Exchange) (query : Query) → slice_get xs j ≡ Some x → meant_at house x.turn ≡ wants o owner (asks query) → (by : By query x) → IsToldAt house o xs j (length by.g, granted_record by.asking by.grant)
+  told_of_by j x query at meant by = record { x = x; stands = at; ours = ours x (asks query) meant; has = reserved_told (draws o) owner found records query x by }
+
+  -- two lines with one number are one
+  pub same_line : (j k : ℕ) (x y : Exchange) (query other : Query) → slice_get xs j ≡ Some x → slice_get xs k ≡ Some y → meant_at house x.turn ≡ wants o owner (asks query) → meant_at house y.turn ≡ wants o owner (asks other)
+      → (by : By query x) (and : By other y) → by.grant.number ≡ and.grant.number → j ≡ k
+  same_line j k x y query other at there meant means by and number =
+      let place : length by.g ≡ length and.g
+      = same_place records (length by.g) (length and.g) (reservation_numbered by.grant.number by.asking by.grant.taken) (reservation_numbered and.grant.number and.asking and.grant.taken) (reservation_at query x by) (reservation_at other y and)
+      (number_below (draws o) owner found records query x by ∙ number ∙ sym (number_below (draws o) owner found records other y and)) in
+      once.once (length by.g) (granted_record by.asking by.grant) (granted_record and.asking and.grant) j k (told_of_by j x query at meant by)
+      (subst (λ (p : ℕ). IsToldAt house o xs k (p, granted_record and.asking and.grant)) (sym place) (told_of_by k y other there means and))
+
+  -- each new number has its line
+  pub source_of : (n : ℕ) → start ≤ n → n < total → (z : ℕ × List ℕ) × IsSource n z
+  source_of n low lt =
+      let r = reservation_place records n lt in
+      let past : length found ≤ r.0 = later r.0 r.1 r.2 r.3 in
+      let e = once.each r.0 (Reserve r.1) past r.2 in
+      let made = made_at e.0 (r.0, Reserve r.1) e.1 in
+      let there = reserve_told (draws o) owner found records made.query e.1.x made.by r.0 r.1 e.1.has in
+      let number : made.by.grant.number ≡ n = sym (number_below (draws o) owner found records made.query e.1.x made.by) ∙ ap (λ (q : ℕ). below records q) (sym there.0) ∙ r.3 in
+      ((e.0, made.query.program), record { x = e.1.x; stands = e.1.stands; query = made.query; meant = made.meant; by = made.by; program = refl; number = number })
+    where
+      later : (q : ℕ) (s : Reservation) → slice_get records q ≡ Some (Reserve s) → below records q ≡ n → length found ≤ q
+      later q s at counted = elim (cases_lt q (length found)) [
+        | inl before ↦
+            let less = below_more records q (length found) s before at in
+            let same : below records (length found) ≡ start = ap (λ (w : List Record). length (reservations_of w)) (prefix_take found records all.begins) in
+            absurd (omega (arith, less, same, counted, low))
+        | inr past ↦ past
+      ]
+
+  pub behind_start : IsListed IsSource start (total - start)
+  behind_start = listed IsSource start (total - start) (λ i lt. source_of (start + i) (omega arith) (omega (arith, lt)))
+
+  abbrev pub sources : Sources
+  sources = record { programs = map (λ (z : ℕ × List ℕ). z.1) behind_start.items; places = map (λ (z : ℕ × List ℕ). z.0) behind_start.items }
+
+  pub sources_count : start + length sources.programs ≡ total
+  sources_count =
+      let grow = counts_grow records all.begins in
+      omega (arith, grow, behind_start.len, length-map behind_start.items (λ (z : ℕ × List ℕ). z.1))
+
+  same_query : (x : Exchange) (query other : Query) → meant_at house x.turn ≡ wants o owner (asks query) → meant_at house x.turn ≡ wants o owner (asks other) → query ≡ other
+  same_query x query other meant means = let both : wants o owner (asks query) ≡ wants o owner (asks other) = sym meant ∙ means in cc
+
+  module _ (earlier : List (List ℕ)) (each_has : length earlier ≡ start) where
+    abbrev programs : List (List ℕ)
+    programs = earlier ++ sources.programs
+
+    -- the program at a grant's number is its line's
+    pub program_at : (j : ℕ) (x : Exchange) (query : Query) → slice_get xs j ≡ Some x → meant_at house x.turn ≡ wants o owner (asks query) → (by : By query x) → slice_get programs by.grant.number ≡ Some query.program
+    program_at j x query at meant by =
+        let low = number_new query x by in
+        let high = number_within query x by in
+        let m : ℕ = by.grant.number - start in
+        let z = stands_at behind_start.items m (omega (arith, low, high, behind_start.len)) in
+        let s : IsSource (start + m) z.0 = behind_start.each m z.0 z.1 in
+        let place : z.0.0 ≡ j = same_line z.0.0 j s.x x s.query query s.stands at s.meant meant s.by by (omega (arith, s.number, low)) in
+        let both : Some s.x ≡ Some x = sym s.stands ∙ ap (λ k. slice_get xs k) place ∙ at in
+        let same : s.x ≡ x = cc in
+        let asked : s.query ≡ query = same_query x s.query query (subst (λ (y : Exchange). meant_at house y.turn ≡ wants o owner (asks s.query)) same s.meant) meant in
+        let there : slice_get sources.programs m ≡ Some query.program = mapped_at (λ (z : ℕ × List ℕ). z.1) behind_start.items m z.0 z.1 ∙ ap (λ (p : List ℕ). Some p) (sym s.program) ∙ ap (λ (q : Query). Some q.program) asked in
+        let number : by.grant.number ≡ length earlier + m = omega (arith, low, each_has) in
+        ap (λ k. slice_get programs k) number ∙ slice_behind earlier sources.programs m ∙ there
+
+    -- no settlement of a grant stands before its own
+    pub none_before : (j : ℕ) (x : Exchange) (query : Query) → slice_get xs j ≡ Some x → meant_at house x.turn ≡ wants o owner (asks query) → (by : By query x) → (done : IsSettledLater (draws o) owner found records query by.asking by.grant by.g x)
+        → outcome_of done.u by.grant.number ≡ None
+    none_before j x query at meant by done = settled (outcome_of done.u by.grant.number) refl
+      where
+        u_prefix : IsPrefix done.u records
+        u_prefix = prefix_trans done.u (done.u ++ settling by.grant.number done.outcome ∷ []) records (prefix_by done.u (settling by.grant.number done.outcome ∷ [])) done.stands
+
+        other_line : (k : ℕ) (outcome : Outcome) → k < length done.u → slice_get records k ≡ Some (settling by.grant.number outcome) → length found ≤ k → ⊥
+        other_line k outcome lt there past =
+            let e = once.each k (settling by.grant.number outcome) past there in
+            let made = made_at e.0 (k, settling by.grant.number outcome) e.1 in
+            let s = settle_told (draws o) owner found records made.query e.1.x made.by k by.grant.number outcome e.1.has in
+            let number : by.grant.number ≡ made.by.grant.number = ap number_of s.is in
+            let place : j ≡ e.0 = same_line j e.0 x e.1.x query made.query at e.1.stands meant made.meant by made.by number in
+            let both : Some e.1.x ≡ Some x = sym e.1.stands ∙ ap (λ k. slice_get xs k) (sym place) ∙ at in
+            let same : e.1.x ≡ x = cc in
+            let has : Has {A = Told} (k, settling by.grant.number outcome) x.told = subst (λ (y : Exchange). Has {A = Told} (k, settling by.grant.number outcome) y.told) same e.1.has in
+            let ends = settle_place (draws o) owner found records query by.asking by.grant by.g x done k by.grant.number outcome has in
+            absurd (omega (arith, lt, ends.0))
+
+        settled : (found_so : Option Outcome) → outcome_of done.u by.grant.number ≡ found_so → outcome_of done.u by.grant.number ≡ None
+        settled None is = is
+        settled (Some outcome) is =
+            let k = settled_at done.u by.grant.number outcome is in
+            let lt = slice_get_within done.u k.0 (settling by.grant.number outcome) k.1 in
+            let there : slice_get records k.0 ≡ Some (settling by.grant.number outcome) = slice_get_prefix done.u records k.0 (settling by.grant.number outcome) u_prefix k.1 in
+            elim (cases_lt k.0 (length found)) [
+              | inl early ↦
+                  let old : slice_get found k.0 ≡ Some (settling by.grant.number outcome) = sym (slice_get-append-lt found all.begins.0 k.0 early) ∙ ap (λ w. slice_get w k.0) all.begins.1 ∙ there in
+                  absurd (unsettled_nowhere found by.grant.number k.0 outcome (outcome_past owner.entry found begun by.grant.number (number_new query x by)) old)
+              | inr past ↦ absurd (other_line k.0 outcome lt there past)
+            ]
+
+    -- the query of a line is of the owner's entry, and written by the line
+    pub asked_of : (j : ℕ) (x : Exchange) (query : Query) → slice_get xs j ≡ Some x → meant_at house x.turn ≡ wants o owner (asks query) → IsAskOf house x.turn.line o owner query
+    asked_of j x query at meant =
+        let who = place_of_all _ spoken known j x.turn (ap (λ w. slice_get w j) (sym turns) ∙ mapped_at (λ (x : Exchange). x.turn) xs j x at) in
+        (subst (λ (m : Meant). AsksOnly house x.turn.line m) meant (asks_only house x.turn.line x.turn.who who)).1 query refl
+
+    came_reserved : (j : ℕ) (x : Exchange) (query : Query) → slice_get xs j ≡ Some x → meant_at house x.turn ≡ wants o owner (asks query) → (by : By query x) (r : Reservation) → Reserve r ≡ granted_record by.asking by.grant
+        → WasReserved owner start programs by.g r
+    came_reserved j x query at meant by r is = (
+      query,
+      query_within house owner inside x.turn.line o query (asked_of j x query at meant),
+      by.asking,
+      by.grant,
+      by.verdict,
+      is,
+      ap (λ k. slice_get programs k) (sym (number_is (draws o) owner found records query x by)) ∙ program_at j x query at meant by,
+    )
+
+    came_settled : (j : ℕ) (x : Exchange) (query : Query) → slice_get xs j ≡ Some x → meant_at house x.turn ≡ wants o owner (asks query) → (by : By query x) → (done : IsSettledLater (draws o) owner found records query by.asking by.grant by.g x)
+        → WasSettled owner (draws o) start programs done.u (record { number = by.grant.number; outcome = done.outcome })
+    came_settled j x query at meant by done =
+        let v = verdict_grants owner start by.g query by.asking by.grant by.verdict in
+        let r : Reservation = reservation_numbered by.grant.number by.asking by.grant.taken in
+        let seam = prefix_seam by.g (Reserve r) done.u done.behind in
+        let number : below done.u (length by.g) ≡ by.grant.number = ap (λ (w : List Record). length (reservations_of w)) seam.0 ∙ sym (number_is (draws o) owner found records query x by) in (
+          query,
+          r,
+          done.settles,
+          ap (λ k. slice_get (reservations_of done.u) k) (sym number) ∙ listed_below done.u (length by.g) r seam.1,
+          ap (λ (a : Ask). a.view) v.asks,
+          ap (λ (a : Ask). a.e) v.asks,
+          program_at j x query at meant by,
+          none_before j x query at meant by done,
+          number_new query x by,
+        )
+
+    -- Each new record came about by its line.
+    reserved_at : (k : ℕ) (r : Reservation) → length found ≤ k → slice_get records k ≡ Some (Reserve r) → WasReserved owner start programs (take k records) r
+    reserved_at k r past at =
+        let e = once.each k (Reserve r) past at in
+        let made = made_at e.0 (k, Reserve r) e.1 in
+        let there = reserve_told (draws o) owner found records made.query e.1.x made.by k r e.1.has in
+        let before : take k records ≡ made.by.g = ap (λ (n : ℕ). take n records) there.0 ∙ (prefix_seam made.by.g (granted_record made.by.asking made.by.grant) records made.by.stands).0 in
+        subst (λ (w : List Record). WasReserved owner start programs w r) (sym before) (came_reserved e.0 e.1.x made.query e.1.stands made.meant made.by r there.1)
+
+    settled_so : (k : ℕ) (s : Settlement) → length found ≤ k → slice_get records k ≡ Some (Settle s) → WasSettled owner (draws o) start programs (take k records) s
+    settled_so k s past at =
+        let e = once.each k (Settle s) past at in
+        let made = made_at e.0 (k, Settle s) e.1 in
+        let t = settle_told (draws o) owner found records made.query e.1.x made.by k s.number s.outcome e.1.has in
+        let before : take k records ≡ t.done.u = ap (λ (m : ℕ). take m records) t.place ∙ (prefix_seam t.done.u (settling made.by.grant.number t.done.outcome) records t.done.stands).0 in
+        let same : s ≡ record { number = made.by.grant.number; outcome = t.done.outcome } = ap (settled_in s) t.is in
+        subst (λ (z : Settlement). WasSettled owner (draws o) start programs (take k records) z) (sym same)
+        (subst (λ (w : List Record). WasSettled owner (draws o) start programs w (record { number = made.by.grant.number; outcome = t.done.outcome })) (sym before) (came_settled e.0 e.1.x made.query e.1.stands made.meant made.by t.done))
+
+    pub came_at : (k : ℕ) (next : Record) → length found ≤ k → slice_get records k ≡ Some next → CameBy owner (draws o) start programs (take k records) next
+    came_at k (Reserve r) past at = (
+      λ q is. let same : r ≡ q = cc (is) in subst (λ (z : Reservation). WasReserved owner start programs (take k records) z) same (reserved_at k r past at),
+      λ s is. absurd (cc (is)),
+    )
+    came_at k (Settle s) past at = (
+      λ q is. absurd (cc (is)),
+      λ t is. let same : s ≡ t = cc (is) in subst (λ (z : Settlement). WasSettled owner (draws o) start programs (take k records) z) same (settled_so k s past at),
+    )

@@ -1,0 +1,51 @@
+-- How the records of a run came about, in whatever order the holds of an owner's lock fell.
+use Rattle.std.specs.Prelude.{◌≡◌, ℕ, ◌≤◌, List, length, take, slice_get, Some, None}
+use Rattle.journal_records.specs.declared.records.Record.{Record}
+use Rattle.journal_records.specs.declared.records.Record.TheVariants.{Reserve}
+use Rattle.journal_records.specs.declared.records.Reservation.{Reservation}
+use Rattle.journal_records.specs.declared.records.Settlement.{Settlement}
+use Rattle.journal_records.specs.Records.{reservation_in, settlement_in}
+use Rattle.budget_core.specs.declared.entry.Ask.{Ask}
+use Rattle.budget_core.specs.declared.entry.Grant.{Grant}
+use Rattle.budget_core.specs.Counts.{reservations_of, outcome_of}
+use Rattle.budget_core.specs.Legal.{IsHistory, IsLegal}
+use Rattle.owner_house.specs.Owner.{Owner, signature_of_view}
+use Rattle.answer_path.specs.Query.{Query}
+use Rattle.answer_path.specs.Code.{IsQueryOf}
+use Rattle.answer_path.specs.Verdict.{granted, IsVerdict}
+use Rattle.owner_history.specs.Explains.{Explains}
+use Rattle.answer_path.specs.Answered.{IsSettledBy, granted_record}
+
+-- A reservation was granted to a query of its program, on just the records before it.
+abbrev pub WasReserved : Owner → (start : ℕ) → (programs : List (List ℕ)) → (before : List Record) → Reservation → Type 0
+WasReserved owner start programs before r =
+    (query : Query) × IsQueryOf owner.entry query × (asking : Ask) × (grant : Grant)
+    × IsVerdict owner.entry (signature_of_view owner query.view) start before query (granted asking grant)
+    × (Reserve r ≡ granted_record asking grant) × (slice_get programs (length (reservations_of before)) ≡ Some query.program)
+
+-- A settlement is of such a reservation, which stands somewhere before it and is unsettled there.
+abbrev pub WasSettled : Owner → (ℕ → ℕ → ℕ) → (start : ℕ) → (programs : List (List ℕ)) → (before : List Record) → Settlement → Type 0
+WasSettled owner draws start programs before s =
+    (query : Query) × (r : Reservation) × IsSettledBy owner draws query s.number s.outcome
+    × (slice_get (reservations_of before) s.number ≡ Some r) × (r.view ≡ query.view) × (r.e ≡ query.e)
+    × (slice_get programs s.number ≡ Some query.program) × (outcome_of before s.number ≡ None) × (start ≤ s.number)
+
+-- A record came about so, whichever it is.
+abbrev pub CameBy : Owner → (ℕ → ℕ → ℕ) → (start : ℕ) → (programs : List (List ℕ)) → (before : List Record) → Record → Type 0
+CameBy owner draws start programs before next =
+    ((r : Reservation) → reservation_in next ≡ Some r → WasReserved owner start programs before r)
+    × ((s : Settlement) → settlement_in next ≡ Some s → WasSettled owner draws start programs before s)
+
+-- Where each new record came about so, the programs explain all records, and these are legal after the found ones.
+abbrev pub CameAboutIsExplained : Type 0
+CameAboutIsExplained = (owner : Owner) (draws : ℕ → ℕ → ℕ) (found records : List Record) (programs : List (List ℕ))
+    → IsHistory owner.entry found → Explains owner draws (take (length (reservations_of found)) programs) found
+    → take (length found) records ≡ found
+    → ((k : ℕ) (next : Record) → length found ≤ k → slice_get records k ≡ Some next
+    → CameBy owner draws (length (reservations_of found)) programs (take k records) next)
+    → Explains owner draws (take (length (reservations_of records)) programs) records × IsLegal owner.entry found records
+
+-- Each record behind those found came about so.
+abbrev pub AllCameBy : Owner → (ℕ → ℕ → ℕ) → (found : List Record) → (programs : List (List ℕ)) → (records : List Record) → Type 0
+AllCameBy owner draws found programs records = (k : ℕ) (next : Record) → length found ≤ k → slice_get records k ≡ Some next
+    → CameBy owner draws (length (reservations_of found)) programs (take k records) next

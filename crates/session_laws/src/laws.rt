@@ -1,0 +1,181 @@
+//! The laws. Each function does nothing: its contract is the law.
+
+ghost use Rattle.std.specs.Prelude.{ℕ, List, [], ◌∷◌, ◌++◌, ◌<◌, length, ◌≡◌, map, slice_get, Option, Some, None};
+ghost use Rattle.std.specs.List.{AllByRecursion};
+ghost use Rattle.journal_records.specs.declared.records.Outcome.{Outcome};
+ghost use Rattle.journal_records.specs.declared.records.Record.{Record};
+ghost use Rattle.budget_core.specs.declared.entry.Ask.{Ask};
+ghost use Rattle.budget_core.specs.declared.entry.Grant.{Grant};
+ghost use Rattle.budget_core.specs.Legal.{IsHistory};
+ghost use Rattle.budget_ledger.specs.declared.failure.Failure.{Failure};
+ghost use Rattle.wire_lines.specs.Reply.{Replied};
+ghost use Rattle.owner_house.specs.Owner.{Owner};
+ghost use Rattle.owner_house.specs.House.{House, IsOwnerIn, AreOwners};
+ghost use Rattle.owner_desk.specs.Passes.{Pass};
+ghost use Rattle.answer_path.specs.Query.{Query};
+ghost use Rattle.answer_path.specs.Answered.{granted_record};
+ghost use Rattle.owner_history.specs.Sound.{IsFound, MayBeFound, IsOwed};
+ghost use Rattle.session_core.specs.Exchanges.{Exchange};
+ghost use Rattle.session_core.specs.Transcript.{Journals, first_new, ClosesOn, LeadExactly, IsScriptRun};
+ghost use Rattle.session_core.specs.Served.{Sources};
+ghost use Rattle.session_core.specs.Gathered.{AreGathered, AreOfScript, AreShut, IsAnsweredOn, IsGatheredScript, one_worker};
+ghost use Rattle.session_core.specs.Headline.{Programs, AreAccountedFor, AreFound, AreHistories, AreOwed, Headline, IsHonoured};
+ghost use Rattle.session_core.specs.Said.{NothingFailed};
+ghost use Rattle.session_core.specs.Code.{AreFresh, AreClosed, AreServed, HasServed, found_by};
+ghost use Rattle.session_laws.specs.CameBy.{CameAboutIsExplained, AllCameBy};
+ghost use Rattle.session_laws.specs.ToldOnce.{AreToldOnce};
+ghost use Rattle.session_laws.specs.Growing.{AreGrowing};
+ghost use Rattle.session_laws.specs.Crew.{AreDone, AreTogether};
+ghost use Rattle.session_laws.specs.Blocks.{AreDealt};
+ghost use Rattle.session_laws.specs.Between.{two_workers, IsHeld, four_records};
+ghost use Rattle.session_laws.specs.Causes.{AreCaused};
+
+/// A script's exchanges, by any number of workers in any order, keep the promises to each owner: legal records within the budget,
+/// explained by the programs of the script's lines behind those of the records that were found, each line's reply the stated
+/// one, and against any second dataset a displacement of at most cost times distance. It is so of every house, and of whatever
+/// legal and explained records were found.
+pub fn every_script_keeps_the_headline()
+    ensures { (house : House) (draws : ℕ → ℕ → ℕ → ℕ) (found : Journals) (earlier : Programs) (script : List ℕ) (count : ℕ) (crew : ℕ → ℕ) →
+        (xs : List Exchange) (records : Journals) →
+        AreOwners house → AreFound house draws earlier found → IsGatheredScript house draws count crew found script xs records →
+        Headline house draws found earlier script count crew xs records }
+{}
+
+/// Whatever records were found, by whatever programs, those after a script are legal and within the budget.
+pub fn every_script_is_owed()
+    ensures { (house : House) (draws : ℕ → ℕ → ℕ → ℕ) (found : Journals) (script : List ℕ) (count : ℕ) (crew : ℕ → ℕ) →
+        (xs : List Exchange) (records : Journals) →
+        AreOwners house → AreHistories house found → IsGatheredScript house draws count crew found script xs records →
+        AreOwed house found records }
+{}
+
+/// Where nothing was answered, the records that were found keep what is owed at every status: they are legal and within the
+/// budget, and where programs explain them, these are behind all of them.
+pub fn found_records_are_owed()
+    ensures owed { (house : House) (found : Journals) → AreHistories house found → AreOwed house found found }
+    ensures accounted { (house : House) (draws : ℕ → ℕ → ℕ → ℕ) (found : Journals) (earlier : Programs) (script : List ℕ) →
+        AreOwners house → AreFound house draws earlier found → AreAccountedFor house draws found earlier script found }
+{}
+
+/// Lines, and those of a script, that were served by passes on books just opened, which were closed then: all records behind those
+/// found are the lines' own, and what shut a book is a line's own append that failed.
+pub fn served_lines_are_gathered()
+    ensures lines { (house : House) (draws : ℕ → ℕ → ℕ → ℕ) (xs : List Exchange) (before after : List Pass) (records : Journals) →
+        (closed : ℕ → Option Failure) → AreFresh house before → AreServed house draws xs before after → AreClosed house after records closed →
+        (o : ℕ) (owner : Owner) → slice_get house.owners o ≡ Some owner →
+        AreGathered house draws 1 one_worker o (found_by before o) xs (records o) × AreShut house draws 1 one_worker o xs (closed o) }
+    ensures script { (house : House) (draws : ℕ → ℕ → ℕ → ℕ) (script text : List ℕ) (before after : List Pass) (records : Journals) →
+        (closed : ℕ → Option Failure) → AreFresh house before → (h : HasServed house draws script text before after) →
+        AreClosed house after records closed → IsGatheredScript house draws 1 one_worker (found_by before) script h.exchanges records }
+{}
+
+/// One worker's replies are the script's transcript.
+pub fn one_worker_writes_the_transcript()
+    ensures { (house : House) (draws : ℕ → ℕ → ℕ → ℕ) (found : Journals) (script : List ℕ) (crew : ℕ → ℕ) (xs : List Exchange) (records : Journals) →
+        IsGatheredScript house draws 1 crew found script xs records → IsScriptRun house draws found script (map (λ x. x.reply) xs) records }
+{}
+
+/// A transcript is what one worker may make of its script: so what every script keeps and owes, it does.
+pub fn transcripts_are_gathered()
+    ensures { (house : House) (draws : ℕ → ℕ → ℕ → ℕ) (found : Journals) (script : List ℕ) (replies : List Replied) (last : Journals) →
+        IsScriptRun house draws found script replies last →
+        (xs : List Exchange) × IsGatheredScript house draws 1 one_worker found script xs last × (map (λ x. x.reply) xs ≡ replies) }
+{}
+
+/// Two lists of replies to a script, in none of which anything failed, are the same, and so are each owner's records after
+/// them, of every house and whatever records were found.
+pub fn one_transcript()
+    ensures { (house : House) (draws : ℕ → ℕ → ℕ → ℕ) (found : Journals) (script : List ℕ) (replies others : List Replied) →
+        (last end : Journals) →
+        IsScriptRun house draws found script replies last → IsScriptRun house draws found script others end →
+        AllByRecursion NothingFailed replies → AllByRecursion NothingFailed others →
+        (replies ≡ others) × ((o : ℕ) (owner : Owner) → slice_get house.owners o ≡ Some owner → last o ≡ end o) }
+{}
+
+/// Each script has replies in which nothing failed, whatever records were found. By `one_transcript` there are no others,
+/// so it has just one such transcript.
+pub fn scripts_have_transcripts()
+    ensures { (house : House) (draws : ℕ → ℕ → ℕ → ℕ) (found : Journals) (script : List ℕ) → AreOwners house →
+        (replies : List Replied) × (last : Journals) × IsScriptRun house draws found script replies last × AllByRecursion NothingFailed replies }
+{}
+
+/// Who is told 42 or 52 is told of the failure that shut the owner's book, and one line is told 52 where it is shut.
+pub fn disk_refusals_have_causes()
+    ensures { (house : House) (draws : ℕ → ℕ → ℕ → ℕ) (count : ℕ) (crew : ℕ → ℕ) (o : ℕ) (xs : List Exchange) (closed : Option Failure) →
+        AreShut house draws count crew o xs closed → AreCaused house draws o xs closed }
+{}
+
+/// Records that came about line by line, in any order, are explained by the lines' programs.
+pub fn what_came_about_is_explained()
+    ensures { CameAboutIsExplained }
+{}
+
+/// Each record behind those found was told to one line, and nothing else was told to any.
+pub fn each_record_is_told_once()
+    ensures { (house : House) (draws : ℕ → ℕ → ℕ → ℕ) (count : ℕ) (crew : ℕ → ℕ) (o : ℕ) (owner : Owner) (found : List Record) →
+        (xs : List Exchange) (records : List Record) → slice_get house.owners o ≡ Some owner →
+        AreGathered house draws count crew o found xs records → AreToldOnce house o xs found records }
+{}
+
+/// Each record behind those found came about on just those before it, by the programs of lines, whatever programs are behind
+/// those found.
+pub fn each_record_came_about()
+    ensures { (house : House) (draws : ℕ → ℕ → ℕ → ℕ) (script : List ℕ) (count : ℕ) (crew : ℕ → ℕ) (o : ℕ) (owner : Owner) →
+        (found : List Record) (earlier : List (List ℕ)) (xs : List Exchange) (records : List Record) →
+        slice_get house.owners o ≡ Some owner → IsOwnerIn house owner → IsHistory owner.entry found → length earlier ≡ first_new found →
+        AreOfScript house script xs → AreGathered house draws count crew o found xs records →
+        (sources : Sources) × AllCameBy owner (draws o) found (earlier ++ sources.programs) records }
+{}
+
+/// What several workers made of an owner's records keeps the promises to the owner, and is owed, whatever programs are behind
+/// the records found.
+pub fn gathered_records_are_kept()
+    ensures kept { (house : House) (draws : ℕ → ℕ → ℕ → ℕ) (script : List ℕ) (count : ℕ) (crew : ℕ → ℕ) (o : ℕ) (owner : Owner) →
+        (found : List Record) (earlier : List (List ℕ)) (xs : List Exchange) (records : List Record) →
+        slice_get house.owners o ≡ Some owner → IsOwnerIn house owner → IsFound owner (draws o) earlier found →
+        AreOfScript house script xs → AreGathered house draws count crew o found xs records →
+        IsHonoured house draws script count crew o owner found earlier xs records }
+    ensures owed { (house : House) (draws : ℕ → ℕ → ℕ → ℕ) (script : List ℕ) (count : ℕ) (crew : ℕ → ℕ) (o : ℕ) (owner : Owner) →
+        (found : List Record) (xs : List Exchange) (records : List Record) →
+        slice_get house.owners o ≡ Some owner → IsOwnerIn house owner → MayBeFound owner found →
+        AreOfScript house script xs → AreGathered house draws count crew o found xs records → IsOwed owner found records }
+{}
+
+/// Each worker's replies on an owner are the stated ones on records that grow along its lines, and begin the owner's in the end.
+pub fn replies_are_on_growing_records()
+    ensures { (house : House) (draws : ℕ → ℕ → ℕ → ℕ) (o : ℕ) (found : List Record) (ys : List Exchange) (records : List Record) →
+        IsAnsweredOn house draws o found ys records → AreGrowing house draws o found ys records }
+{}
+
+/// With one worker nothing comes in between: each line is answered on just the records so far, and the last of these are the owner's.
+pub fn one_worker_is_exact()
+    ensures { (house : House) (draws : ℕ → ℕ → ℕ → ℕ) (crew : ℕ → ℕ) (o : ℕ) (found : List Record) (xs : List Exchange) (records : List Record) →
+        AreGathered house draws 1 crew o found xs records → LeadExactly house draws o (first_new found) found xs records }
+{}
+
+/// With one worker a book is shut line by line: a 52 shuts it, from then on each query that would be granted is told 42 with that
+/// failure's count, or 90, and nothing is added; before it no query is told 42.
+pub fn one_worker_shuts_books()
+    ensures { (house : House) (draws : ℕ → ℕ → ℕ → ℕ) (crew : ℕ → ℕ) (o : ℕ) (found : List Record) (xs : List Exchange) (records : List Record) →
+        (closed : Option Failure) → AreGathered house draws 1 crew o found xs records → AreShut house draws 1 crew o xs closed →
+        ClosesOn house draws o None xs closed }
+{}
+
+/// What each worker knows of its own lines can be put in the script's order: what the passes own is then what all lines were told.
+pub fn workers_come_together()
+    ensures { (house : House) (draws : ℕ → ℕ → ℕ → ℕ) (count : ℕ) (crew : ℕ → ℕ) (found : Journals) (script : List ℕ) →
+        (parts : ℕ → List Exchange) (replies : List Replied) (records : Journals) →
+        AreDone house draws count crew found script parts replies records → AreTogether house draws count crew found script replies records }
+{}
+
+/// A script's blocks may be dealt to any number of workers.
+pub fn blocks_are_dealt()
+    ensures { (house : House) (script : List ℕ) (count : ℕ) → 0 < count → AreDealt house script count }
+{}
+
+/// An example, so that the premise of these laws can be met: of two workers' lines the second one's records may stand between the first one's.
+pub fn records_may_come_between()
+    ensures { (house : House) (draws : ℕ → ℕ → ℕ → ℕ) (o : ℕ) (owner : Owner) (x y : Exchange) (q r : Query) (a b : Ask) (c d : Grant) (s t : Outcome) →
+        IsHeld house draws o owner [] x q a c s 0 3 → IsHeld house draws o owner (granted_record a c ∷ []) y r b d t 1 2 →
+        AreGathered house draws 2 two_workers o [] (x ∷ y ∷ []) (four_records a b c d s t) }
+{}

@@ -1,0 +1,110 @@
+"""What each status of the program means, and each line that it writes, in words: without a look at any file.
+
+    STATUSES              a sentence a status
+    COMMANDS              the words that each command takes
+    meaning(LINE)         what a line means that the program wrote, or nothing where it writes no such line
+"""
+import re
+
+COMMANDS = {
+    "init": "CATALOG KEY", "run": "CATALOG KEY [--workers 1] < SCRIPT", "audit": "CATALOG KEY", "check": "CATALOG OWNER FILE",
+    "gap": "CATALOG OWNER CATALOG2 FILE",
+}  # fmt: skip
+STATUSES = {
+    0: "all was done; replies of a run may still be refusals, which are the analyst's, but for `no 42` and `no 52`",
+    1: "`check` or `gap` refuses the program, by its line; `init`, `run` and `audit` never end so: the shell couldn't open a file, or `flock -n` found the "
+        "lock taken, and nothing was asked",
+    2: "the words are no command",
+    3: "a file that the words or a catalog names is absent, too long or not what it should be, or OWNER isn't in the catalog, or `gap`'s entries don't fit",
+    4: "an owner's journal isn't the one that belongs there; nothing was read of the script",
+    5: "a file, standard input or standard output failed; what was written is a part of what was due, or nothing",
+    6: "the disk, or the folder `journals`, failed while an owner's journal was made or opened; nothing was read of the script",
+    7: "memory ran out before anything was answered",
+    8: "the script has over 2^24 bytes, and nothing of it was answered",
+}
+ENDINGS = {
+    66: "`flock` couldn't open the lock file, and nothing was asked",
+    69: "`flock` couldn't start the program, which isn't on the path or may not be run; nothing was asked",
+    124: "`timeout` ended it: it has written nothing, or a part of what was due; `audit` shows by its reservations what was asked",
+    126: "it may not be run; nothing was asked",
+    127: "there is no such program on the path; nothing was asked",
+}  # fmt: skip
+
+NUMBER, NAME = "([0-9]+)", "([A-Za-z_][A-Za-z0-9_]{0,31})"
+# Words of a line as it is written, N standing for a number and W for a name, and what they mean.
+REFUSALS = {
+    "no 10 N": "the line is malformed at its word {0} (the first is 0): it is missing, empty (two blanks, or one at the end), one too many, no kind of "
+        "line, or no number of 1 to 10 digits below 2^32",
+    "no 11": "the line has over 16384 bytes",
+    "no 12 1": "the analyst (of `hello`) or the owner isn't in the catalog",
+    "no 12 2": "the owner has no partition of this name",
+    "no 12 3": "the partition has no key of this name",
+    "no 13": "EPS is no decimal from 0.000001 to 1000; write 0.5 and 0.001, not `.5` and `1e-3`",
+    "no 14": "nobody has said hello: `hello ANALYST` stands before what is asked, and again behind a `bye`",
+    "no 20 N": "at byte {0} of the program no token begins, or it has over 16000 bytes or 4096 tokens",
+    "no 21 N": "no term begins with the program's tokens up to token {0} (the first is 0), or they end there, too early",
+    "no 22 N": "the term is {0} deep, and 64 are allowed",
+    "no 30 unbound N N": "the name in bytes {0} to {1} is neither bound nor a table's",
+    "no 30 mismatch N N": "the part in bytes {0} to {1} has another type than is wanted there",
+    "no 30 notground N N": "of the part in bytes {0} to {1} a side, or a branch, would hold a function",
+    "no 30 notflat N N": "by the part in bytes {0} to {1} a bag would hold a function or a bag",
+    "no 31 N N R": "the function in bytes {0} to {1} uses its argument at {2}, and a `fun` may use it at 1 at most",
+    "no 32 N N": "a sensitivity of the part in bytes {0} to {1} is out of range",
+    "no 33 W": "nothing bounds how far the value moves when a row of {0} is added or taken away",
+    "no 34": "the program's value is no number",
+    "no 35 N N": "run without data, the part in bytes {0} to {1} would be visited at depth 129, and 128 are allowed",
+    "no 36 N N": "run without data, the part in bytes {0} to {1} would be visited by turn 20001, and 20000 are allowed",
+    "no 37 N N N": "the union in bytes {0} to {1} would be {2} tables wide, and 64 are allowed",
+    "no 40 N N N N": "the budget doesn't allow it: of {2} millionths {0} are spent, and with this ask it would be {1}",
+    "no 41 N N N": "there is no room for its two records: {0} of {2} are taken, and room is kept for {1} that are to come; no ask is answered any more, not "
+        "even one that costs nothing",
+    "no 42 N": "the owner's journal is closed for the rest of this run, since its disk failed (fault {0}) at an ask before; nothing is charged, and it may "
+        "be asked again in the next run",
+    "no 50 N": "the noise of reservation {0} took over 4096 draws, which hardly ever happens: it is charged, and has no answer for ever",
+    "no 51 N": "memory ran out while the program of reservation {0} was run: it is charged, and has no answer for ever",
+    "no 52": "the disk failed while its record was written: it may be charged, and has no answer; `audit`, and `recall` of its number in the next run, tell "
+        "which",
+    "no 60 N N": "no number {0} was ever reserved of this owner",
+    "no 61 N N": "another analyst made reservation {0}, and recalls it alone",
+    "no 90": "memory ran out before anything was reserved: nothing is charged, and it may be asked again",
+}  # fmt: skip
+LINES = {
+    "usage": STATUSES[2],
+    "memory": STATUSES[7],
+    "script too long": STATUSES[8],
+    "journal W uninitialised N": "the journal of {0} isn't there, or no `init` ended on it: it has {1} bytes",
+    "journal W damaged N": "the journal of {0} has bytes in its slot {1} (the first is 0) that the program never leaves there, or the wrong length; there "
+        "is no repair",
+    "journal W changed": "the entry of {0}, the analysts, the key or a table isn't what it was when the journal was made, or it is another owner's",
+    "journal W exists N": "`init` finds a file of {1} bytes in the place of the journal of {0}",
+    "disk W": "the disk of the journal of {0}, or the folder `journals`, failed",
+    "bye": "the session ended",
+    "hello W": "{0} speaks from here on",
+    "answer N V N": "reservation {0} has the noisy value {1}, and took {2} millionths",
+    "recall N answer V N": "reservation {0} was answered with {1}",
+    "recall N exhausted N": "reservation {0} is charged and has no answer, since its noise took over 4096 draws",
+    "recall N lost N": "reservation {0} is charged and has no answer: memory ran out, the disk failed, or the program was stopped",
+    "recall N open N": "reservation {0} is of this very run and has no answer yet; ask again in the next run",
+    "left N N N": "{0} of {1} millionths are spent",
+    "ok R": "the program is accepted, at a sensitivity of {0}",
+    **REFUSALS,
+}  # fmt: skip
+PARTS = {"N": NUMBER, "W": NAME, "V": "(-?[0-9]+)", "R": "([0-9]+(?:/[0-9]+)?|inf)"}
+FORMS = [(re.compile(" ".join(PARTS.get(word, re.escape(word)) for word in form.split())), said) for form, said in LINES.items()]
+
+
+def meaning(line):
+    if line.startswith("refused "):
+        return f"{line.removeprefix('refused ')!r} is the file, or the owner, that is refused: {STATUSES[3]}"
+    status = re.fullmatch(r"(?:status )?([0-9]{1,3})", line)
+    if status:
+        return of_status(int(status[1]))
+    return next((said.format(*found.groups()) for form, said in FORMS if (found := form.fullmatch(line))), None)
+
+
+def of_status(status):
+    if status in STATUSES:
+        return STATUSES[status]
+    if status > 128:
+        return f"signal {status - 128} ended it: it has written nothing, or a part of what was due; `audit` shows by its reservations what was asked"
+    return ENDINGS.get(status, "the program never ends so: the shell, `flock` or `timeout` did")

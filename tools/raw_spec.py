@@ -1,0 +1,361 @@
+"""Specs: what shall become of a raw file. A JSON object that a person edits.
+
+    read_spec(BYTES)     the spec as dictionaries and lists; BadSpec, with every fault in words, else
+    changed(SPEC, ..)    with a member put at a path, as `income.top=5000`
+    laid_out(VALUE)      a spec or a catalog as text, what is short in one line
+    keys_of(SPEC, ..)    the keys of a column that has some, in the catalog's order
+
+Every object may have a `note`, which nothing reads. Limits of names, keys and tables are those of catalogs.
+"""
+import codecs
+import datetime
+import json
+from decimal import Decimal
+from fractions import Fraction
+
+from catalog import is_file, is_key, is_name, is_table_name
+from raw import DELIMITERS
+from raw_cells import BROKEN, DATE_PARTS, KEPT, OUT, STOP, column_keys, date_number, forms_of
+from tables import NUMBER_LIMIT, TEXT_LIMIT
+
+KEY_LIMIT = 250
+COLUMN_LIMIT = 16
+LINE = 120
+UNITS = ("day", "month", "year", "age")
+NUMBER = (int, Decimal)
+CODE = (int, str)
+LEFT_OUT = "leave out"
+# The members of each object with the kinds of their values, those that must be there, and those of each kind of column.
+RAW = {"encoding": (str,), "delimiter": (str,), "skip": (int,), "ragged": (str,)}
+TABLE = {"name": (str,), "file": (str,)}
+CATALOG = {"file": (str,), "analysts": (list,), "owner": (str,), "budget": (int,), "capacity": (int,)}
+COLUMN = {"name": (str,), "kind": (str,), "keep": (bool,)}
+CELLS = {"from": (str,), "at": (int,), "map": (dict,), "missing": (list,), "if_missing": CODE, "if_bad": CODE}
+CLIPS = {"bottom": (*NUMBER, str), "top": (*NUMBER, str)}
+KINDS = {
+    "number": {**CELLS, **CLIPS, "decimal": (str,), "thousands": (str,), "strip": (str,), "parentheses": (bool,), "scale": NUMBER},
+    "date": {**CELLS, **CLIPS, "format": (str, list), "earliest": (int,), "unit": (str,), "since": (str,)},
+    "text": {**CELLS, "case": (str,)},
+    "key": {**CELLS, "case": (str,), "keys": (list,), "partition": (str,), "if_other": (str,)},
+    "bands": {"of": (str,), "bounds": (list,), "if_missing": (str,), "partition": (str,)},
+    "joint": {"of": (list,), "partition": (str,)},
+}
+# What is left out keeps whatever it had, so that a kind can be changed by one word.
+KINDS[LEFT_OUT] = {name: (*NUMBER, str, bool, list, dict) for kind in KINDS.values() for name in kind}
+MUST = {"number": [], "date": ["format"], "text": [], "key": [], "bands": ["of", "bounds"], "joint": ["of"]}
+NUMBERS, KEYED, DERIVED = ("number", "date"), ("key", "bands"), ("bands", "joint")
+WORDS = {str: "a text", int: "a whole number", Decimal: "a number", list: "a list", dict: "an object", bool: "true or false"}
+
+
+class BadSpec(Exception):
+    """Every fault of a spec, a line each."""
+
+
+class Faults:
+    def __init__(self):
+        self.lines = []
+
+    def unless(self, right, place, why):
+        if not right:
+            self.lines.append(f"{place}: {why}")
+        return right
+
+    def members(self, value, place, wanted, must):
+        """Whether an object has members of these kinds, and no other but a note."""
+        if not self.unless(isinstance(value, dict), place, "an object is wanted here"):
+            return False
+        before = len(self.lines)
+        for name in value:
+            if name == "note":
+                continue
+            if self.unless(name in wanted, place, f"`{name}` is no member{of_kinds(name)}; here may stand {', '.join(wanted)}"):
+                self.unless(type(value[name]) in wanted[name], f"{place}.{name}", f"{kind_words(wanted[name])} is wanted here")
+        for name in must:
+            self.unless(name in value, place, f"`{name}` is missing")
+        return len(self.lines) == before
+
+    def raise_any(self):
+        if self.lines:
+            raise BadSpec("\n".join(self.lines))
+
+
+def of_kinds(name):
+    """The kinds of columns that have a member."""
+    kinds = [kind for kind, members in KINDS.items() if name in members and kind != LEFT_OUT]
+    return f" of this kind ({', '.join(kinds)} may have it): take it away" if kinds else ""
+
+
+def kind_words(kinds):
+    return " or ".join(WORDS[kind] for kind in kinds if not (kind is int and Decimal in kinds))
+
+
+# Columns.
+
+
+def check_column(faults, column, place):
+    kind = column.get("kind") if isinstance(column, dict) else None
+    if not faults.unless(kind in KINDS, f"{place}.kind", f"it is one of {', '.join(KINDS)}"):
+        return
+    must = [] if kind == LEFT_OUT else ["name", *MUST[kind], *(["from"] if "from" in KINDS[kind] else [])]
+    if not faults.members(column, place, {**COLUMN, **KINDS[kind]}, must) or kind == LEFT_OUT:
+        return
+    faults.unless(is_name(column["name"]), f"{place}.name", f"`{column['name']}` is no name: a letter or `_`, then letters, digits and `_`, 32 at most")
+    faults.unless(column.get("at", 1) >= 1, f"{place}.at", "columns are counted from 1")
+    faults.unless(is_name(column.get("partition", "_")), f"{place}.partition", "it is no name")
+    faults.unless(column.get("case", "lower") in ("lower", "upper"), f"{place}.case", "it is `lower` or `upper`")
+    CHECKS.get(kind, lambda *_: None)(faults, column, place)
+    if "missing" in KINDS[kind]:
+        check_cells(faults, column, place)
+
+
+def check_cells(faults, column, place):
+    for name, texts in (("missing", column.get("missing", [])), ("map", column.get("map", {}).values())):
+        faults.unless(all(isinstance(text, str) for text in texts), f"{place}.{name}", "cells are texts, and stand in quotes")
+    for name in ("if_missing", "if_bad"):
+        code = column.get(name, STOP)
+        if code in (OUT, STOP):
+            continue
+        if column["kind"] in NUMBERS:
+            right = isinstance(code, int) and abs(code) <= NUMBER_LIMIT
+            faults.unless(right, f"{place}.{name}", f"`{OUT}`, `{STOP}`, or a whole number as the table shall have it")
+        else:
+            fits = is_key if column["kind"] == "key" else lambda text: len(text.encode()) <= TEXT_LIMIT
+            faults.unless(isinstance(code, str) and fits(code), f"{place}.{name}", f"`{OUT}`, `{STOP}`, or a text as the table shall have it")
+
+
+def check_number(faults, column, place):
+    scale, decimal, thousands = column.get("scale", 1), column.get("decimal", "."), column.get("thousands", "")
+    right = faults.unless(scale > 0, f"{place}.scale", "it is over 0")
+    faults.unless(decimal in (".", ","), f"{place}.decimal", "it is `.` or `,`")
+    faults.unless(len(thousands) <= 1 and thousands != decimal, f"{place}.thousands", "it is one sign, another than the decimal one, or none: \"\"")
+    stripped = set(column.get("strip", "")) & set("()")
+    faults.unless(not stripped, f"{place}.strip", "without its parentheses (7) would be 7, and it often means -7: `parentheses` true reads it so")
+    for end in ("bottom", "top"):
+        bound = column.get(end, 0)
+        if right and faults.unless(not isinstance(bound, str), f"{place}.{end}", "a number is wanted here, in the raw file's unit"):
+            whole = (Fraction(bound) * Fraction(scale)).denominator == 1
+            faults.unless(whole, f"{place}.{end}", f"{bound} times the scale {scale} is no whole number")
+    check_ends(faults, place, *(Fraction(column[end]) if isinstance(column.get(end), NUMBER) else None for end in ("bottom", "top")))
+
+
+def check_ends(faults, place, bottom, top):
+    faults.unless(None in (bottom, top) or bottom <= top, f"{place}.top", "it is under the bottom")
+
+
+def is_date(text):
+    try:
+        return bool(datetime.date.fromisoformat(text))
+    except ValueError:
+        return False
+
+
+def check_date(faults, column, place):
+    form, unit = column["format"], column.get("unit", "day")
+    faults.unless(unit in UNITS, f"{place}.unit", f"it is one of {', '.join(UNITS)}")
+    fits = len(form) >= 1 and all(isinstance(one, str) and "YY" in one for one in forms_of(column))
+    faults.unless(fits, f"{place}.format", f"it has {', '.join(DATE_PARTS)} in it, as DD.MM.YYYY; `*` is whatever comes; or it is a list of such")
+    faults.unless(1000 <= column.get("earliest", 1969) <= 9899, f"{place}.earliest", "the first of the hundred years that YY may mean, as 1925")
+    right = faults.unless(is_date(column.get("since", "1970-01-01")), f"{place}.since", "a date is wanted here, as 1970-01-31")
+    faults.unless(unit != "age" or "since" in column, place, "`since` is missing: the day on which ages are counted, as 2026-01-01")
+    ends = []
+    for end in ("bottom", "top"):
+        bound = column.get(end)
+        fits = bound is None or isinstance(bound, int) or (isinstance(bound, str) and is_date(bound))
+        if faults.unless(fits, f"{place}.{end}", "a date is wanted here, as 1970-01-31, or a whole number as the table shall have it") and right and unit in UNITS:
+            since = datetime.date.fromisoformat(column.get("since", "1970-01-01"))
+            ends.append(date_number(datetime.date.fromisoformat(bound), unit, since) if isinstance(bound, str) else bound)
+    if len(ends) == 2:
+        check_ends(faults, place, *ends)
+
+
+def check_key(faults, column, place):
+    listed = column.get("keys", [])
+    if not faults.unless(all(isinstance(key, str) for key in listed), f"{place}.keys", "keys are texts"):
+        return
+    keys = column_keys(column)
+    for raw, key in zip(listed, keys):
+        faults.unless(is_key(key), f"{place}.keys", f"`{raw}` is no key: 1 to 64 bytes, once blanks and commas are changed")
+        faults.unless(keys.count(key) == 1, f"{place}.keys", f"`{raw}` becomes `{key}`, and so does another key: take one of them away")
+    faults.unless(len(keys) <= KEY_LIMIT, f"{place}.keys", f"there are {len(keys)} keys, and a partition has at most {KEY_LIMIT}")
+    other = column.get("if_other", KEPT)
+    faults.unless(other in (KEPT, OUT, STOP) or other in keys, f"{place}.if_other", f"it is `{KEPT}`, `{OUT}`, `{STOP}` or one of the keys")
+
+
+def check_bands(faults, column, place):
+    bounds = column["bounds"]
+    right = len(bounds) >= 1 and all(type(bound) is int for bound in bounds) and sorted(set(bounds)) == bounds
+    faults.unless(right, f"{place}.bounds", "whole numbers are wanted here, as the table has them, each over the one before")
+    faults.unless(is_key(column.get("if_missing", "unknown")), f"{place}.if_missing", "a text is wanted here, without blanks")
+
+
+CHECKS = {"number": check_number, "date": check_date, "key": check_key, "bands": check_bands}
+
+
+# Columns that are made of others, and the keys of each.
+
+
+def kept(spec):
+    return [column for column in spec["columns"] if column["kind"] != LEFT_OUT and column.get("keep", True)]
+
+
+def by_names(spec):
+    return {column["name"]: column for column in spec["columns"] if "name" in column}
+
+
+def band(bounds, value):
+    """The band of a number, which is called by its lower end."""
+    under = [bound for bound in bounds if bound <= value]
+    return f"from_{under[-1]}" if under else f"under_{bounds[0]}"
+
+
+def keys_of(spec, column):
+    if column["kind"] == "key":
+        return column_keys(column)
+    if column["kind"] == "bands":
+        return [f"under_{column['bounds'][0]}", *(f"from_{bound}" for bound in column["bounds"]), column.get("if_missing", "unknown")]
+    if column["kind"] == "joint":
+        first, second = (keys_of(spec, by_names(spec)[name]) for name in column["of"])
+        return [joint_of(one, other) for one in first for other in second]
+    return []
+
+
+def joint_of(one, other):
+    return f"{one}.{other}"
+
+
+def check_derived(faults, spec, place, column):
+    """What a column is made of stands before it, and its keys are keys."""
+    names = by_names(spec)
+    of = [column["of"]] if column["kind"] == "bands" else column["of"]
+    wanted = NUMBERS if column["kind"] == "bands" else KEYED
+    if column["kind"] == "joint" and not faults.unless(len(of) == 2, f"{place}.of", "the names of two columns are wanted here"):
+        return
+    for name in of:
+        right = isinstance(name, str) and name in names and names[name]["kind"] in wanted
+        if not faults.unless(right, f"{place}.of", f"`{name}` is no column of the kind {' or '.join(wanted)}"):
+            return
+    keys = keys_of(spec, column)
+    faults.unless(len(keys) <= KEY_LIMIT, place, f"that makes {len(keys)} keys, and a partition has at most {KEY_LIMIT}")
+    faults.unless(column["kind"] != "joint" or keys, place, "its columns have no keys")
+    faults.unless(all(is_key(key) for key in keys), place, "some keys are over 64 bytes")
+    faults.unless(len(set(keys)) == len(keys), place, "two of its keys are the same")
+
+
+# Whole specs.
+
+
+def check_catalog(faults, catalog):
+    if not faults.members(catalog, "catalog", CATALOG, list(CATALOG)):
+        return
+    names = [*catalog["analysts"], catalog["owner"]]
+    for name in names:
+        right = isinstance(name, str) and is_name(name)
+        faults.unless(right, "catalog", f"`{name}` is no name: a letter or `_`, then letters, digits and `_`, 32 at most")
+    faults.unless(1 <= len(catalog["analysts"]) <= 64, "catalog.analysts", "1 to 64 names are wanted here")
+    faults.unless(len(set(map(str, catalog["analysts"]))) == len(catalog["analysts"]), "catalog.analysts", "a name stands twice")
+    faults.unless(1 <= catalog["budget"] <= 10**18, "catalog.budget", "1 to 10^18 millionths of epsilon")
+    faults.unless(2 <= catalog["capacity"] <= 262_144, "catalog.capacity", "2 to 262144 records, two for each answer")
+
+
+def is_encoding(word):
+    try:
+        return codecs.lookup(word)._is_text_encoding
+    except LookupError:
+        return False
+
+
+def check_raw(faults, raw):
+    if faults.members(raw, "raw", RAW, ["encoding", "delimiter"]):
+        faults.unless(is_encoding(raw["encoding"]), "raw.encoding", f"`{raw['encoding']}` is no encoding that Python knows; `utf-8` and `windows-1252` are usual")
+        faults.unless(raw["delimiter"] in DELIMITERS, "raw.delimiter", "it is `,`, `;`, `|` or a tab, which is written \\t")
+        faults.unless(raw.get("skip", 0) >= 0, "raw.skip", "records before the header are counted from 0")
+        faults.unless(raw.get("ragged", STOP) in (STOP, OUT, "fill"), "raw.ragged", f"it is `{STOP}`, `{OUT}` or `fill`")
+
+
+def check_columns(faults, spec):
+    for number, column in enumerate(spec["columns"]):
+        name = f" ({column['name']})" if isinstance(column, dict) and isinstance(column.get("name"), str) else ""
+        check_column(faults, column, f"columns[{number}]{name}")
+    faults.raise_any()
+    names = [column["name"] for column in spec["columns"] if "name" in column and column["kind"] != LEFT_OUT]
+    for name in sorted(set(names)):
+        faults.unless(names.count(name) == 1, "columns", f"two columns are called `{name}`")
+    faults.raise_any()
+    for number, column in enumerate(spec["columns"]):
+        if column["kind"] in DERIVED:
+            check_derived(faults, spec, f"columns[{number}] ({column['name']})", column)
+    faults.unless(1 <= len(kept(spec)) <= COLUMN_LIMIT, "columns", f"{len(kept(spec))} are kept, and a table has 1 to {COLUMN_LIMIT}: leave some out")
+
+
+def check_spec(spec):
+    faults = Faults()
+    wanted = {"raw": (dict,), "table": (dict,), "catalog": (dict,), "columns": (list,)}
+    if not faults.members(spec, "the spec", wanted, list(wanted)):
+        faults.raise_any()
+    check_raw(faults, spec["raw"])
+    if faults.members(spec["table"], "table", TABLE, list(TABLE)):
+        name, file = spec["table"]["name"], spec["table"]["file"]
+        faults.unless(is_table_name(name), "table.name", f"`{name}` is no table's name: a letter or `_`, then letters, digits and `_`, 32 at most, and no word of the language")
+        faults.unless(is_file(file), "table.file", "a file's name has 1 to 255 bytes and no control byte")
+    check_catalog(faults, spec["catalog"])
+    check_columns(faults, spec)
+    faults.raise_any()
+    return spec
+
+
+def read_spec(data):
+    try:
+        return check_spec(json.loads(data.decode("utf-8-sig"), parse_float=Decimal))
+    except ValueError as fault:
+        raise BadSpec(f"it is no JSON value: {fault}") from None
+
+
+def changed(spec, change):
+    """With a member put at a path: of `raw`, `table` or `catalog`, or of the column that is called so."""
+    path, equals, text = change.partition("=")
+    of, point, member = path.partition(".")
+    try:
+        value = json.loads(text, parse_float=Decimal)
+    except ValueError:
+        value = text
+    found = spec[of] if of in ("raw", "table", "catalog") else by_names(spec).get(of)
+    if not (equals and point and found is not None):
+        raise BadSpec(f"--set {change}: PART.MEMBER=VALUE is wanted, PART being raw, table, catalog or the name of a column: {', '.join(by_names(spec))}")
+    if member == "name" and of not in ("raw", "table", "catalog"):
+        for column in spec["columns"]:
+            if column.get("of") == of:
+                column["of"] = value
+    found[member] = value
+    if member == "kind" and value in KINDS and value != LEFT_OUT:
+        fit_to_kind(found)
+    return spec
+
+
+def fit_to_kind(column):
+    """Takes away what another kind of column had."""
+    wanted = {**COLUMN, **KINDS[column["kind"]], "note": ()}
+    for name in [name for name in column if name not in wanted]:
+        del column[name]
+    if column["kind"] in NUMBERS and column.get("if_missing") not in (OUT, STOP):
+        column.pop("if_missing", None)
+
+
+# Texts.
+
+
+def plain(value):
+    return int(value) if value == value.to_integral_value() else float(value)
+
+
+def laid_out(value, indent=""):
+    """JSON, in which an object or a list stands in one line where it has room there."""
+    line = BROKEN.sub(lambda found: f"\\u{ord(found[0]):04x}", json.dumps(value, ensure_ascii=False, default=plain))
+    if len(indent) + len(line) <= LINE or not isinstance(value, (dict, list)) or not value:
+        return line
+    inner = indent + "  "
+    if isinstance(value, dict):
+        items = [f"{json.dumps(name, ensure_ascii=False)}: {laid_out(item, inner)}" for name, item in value.items()]
+        ends = "{}"
+    else:
+        items, ends = [laid_out(item, inner) for item in value], "[]"
+    return f"{ends[0]}\n{inner}" + f",\n{inner}".join(items) + f"\n{indent}{ends[1]}"
