@@ -30,20 +30,14 @@ anew() {
     renew "${1:-cat.json}" key
     "$program" run "${1:-cat.json}" key <script >/dev/null
 }
-# command NAME STATUS OUTPUT WORD..: the example's script under these words, over the journals as they are.
-command() {
-    "$program" "${@:4}" <script >output 2>errors
-    status=$?
-    judge "$1" "$2" "$3"
-}
 # sums: what stands in journals.
 sums() { find journals -type f -exec sha256sum {} + 2>/dev/null | sort; ls -ld journals journals/* 2>/dev/null | cut -c1-10; }
 # refused NAME STATUS OUTPUT [CATALOG [KEY]]: `run` and `audit` refuse what is there, and leave it as it is.
 refused() {
     local before after
     before=$(sums)
-    command "$1" "$2" "$3" run "${4:-cat.json}" "${5:-key}"
-    command "    and by audit" "$2" "$3" audit "${4:-cat.json}" "${5:-key}"
+    over_journals "$1" "$2" "$3" run "${4:-cat.json}" "${5:-key}"
+    over_journals "    and by audit" "$2" "$3" audit "${4:-cat.json}" "${5:-key}"
     after=$(sums)
     [ "$before" = "$after" ] || { echo "the files aren't as they were"; passed=1; }
 }
@@ -56,11 +50,11 @@ two two.json
 rm -rf journals
 refused "no journal" 4 'journal census uninitialised 0/'
 [ ! -e journals ] || { echo "run or audit made the folder"; passed=1; }
-command "init" 0 'owner census budget 10000000 capacity 100/' init cat.json key
-command "init twice" 4 'journal census exists 6528/' init cat.json key
-command "the first run" 0 "$replies" run cat.json key
-command "audit" 0 'census reservations 1 answered 1 exhausted 0 lost 0 spent 1000000 budget 10000000/' audit cat.json key
-command "the second run" 0 "$again" run cat.json key
+over_journals "init" 0 'owner census budget 10000000 capacity 100/' init cat.json key
+over_journals "init twice" 4 'journal census exists 6528/' init cat.json key
+over_journals "the first run" 0 "$replies" run cat.json key
+over_journals "audit" 0 'census reservations 1 answered 1 exhausted 0 lost 0 spent 1000000 budget 10000000/' audit cat.json key
+over_journals "the second run" 0 "$again" run cat.json key
 
 anew && truncate -s 0 journals/0.bud && refused "an empty file" 4 'journal census uninitialised 0/'
 anew && truncate -s 127 journals/0.bud && refused "127 bytes" 4 'journal census uninitialised 127/'
@@ -77,7 +71,7 @@ anew && put 0 '\045' && refused "the header's gate torn" 4 'journal census unini
 anew && put 9 '\002' && refused "another version" 4 'journal census changed/'
 anew && put 127 '\001' && refused "a byte of the header's end" 4 'journal census changed/'
 anew && put 128 '\045' && refused "the first gate torn, behind it a slot" 4 'journal census damaged 1/'
-anew && put 192 '\045' && command "the last gate torn" 0 "$again" run cat.json key
+anew && put 192 '\045' && over_journals "the last gate torn" 0 "$again" run cat.json key
 anew && put 193 '\003' && refused "no such kind of record" 4 'journal census damaged 1/'
 anew && put 135 '\001' && refused "another number" 4 'journal census damaged 0/'
 anew && put 158 '\001' && refused "bytes where zeros belong" 4 'journal census damaged 0/'
@@ -93,8 +87,8 @@ anew && copy 0 3 && refused "a slot open behind a closed one" 4 'journal census 
 anew two.json && cp journals/1.bud journals/0.bud && refused "another owner's" 4 'journal census changed/' two.json
 anew two.json && rm journals/1.bud && refused "no journal of the second owner" 4 'journal second uninitialised 0/' two.json
 anew two.json && truncate -s 700 journals/1.bud && refused "the second owner's torn off" 4 'journal second damaged 8/' two.json
-renew two.json key && rm journals/0.bud && command "init: the second owner's is there" 4 'journal second exists 768/' init two.json key
-command "    and the first owner's was made" 4 'journal census exists 6528/' init two.json key
+renew two.json key && rm journals/0.bud && over_journals "init: the second owner's is there" 4 'journal second exists 768/' init two.json key
+over_journals "    and the first owner's was made" 4 'journal census exists 6528/' init two.json key
 sed 's/10000000/10000001/' cat.json >richer.json
 anew && refused "a catalog of another budget" 4 'journal census changed/' richer.json
 sed 's/"capacity": 100/"capacity": 99/' cat.json >less.json
@@ -102,7 +96,7 @@ anew && refused "a catalog of another capacity" 4 'journal census changed/' less
 sed 's/"bob"/"eve"/' cat.json >eve.json
 anew && refused "a catalog of another analyst" 4 'journal census changed/' eve.json
 printf '%s' "$(tr -d ' \n' <cat.json)" >tight.json
-anew && command "the same catalog without blanks" 0 "$again" run tight.json key
+anew && over_journals "the same catalog without blanks" 0 "$again" run tight.json key
 head -c 32 /dev/zero | tr '\0' '\1' >key1
 anew && refused "another key" 4 'journal census changed/' cat.json key1
 anew && cp people.csv kept.csv && printf '50\n' >>people.csv && refused "another table" 4 'journal census changed/'
@@ -112,11 +106,11 @@ printf 'age\n1.5\n' >bad.csv && catalog bad.json bad.csv
 refused "a table that isn't one" 3 'refused bad.csv/' bad.json
 
 rm -rf journals && mkdir -p journals/0.bud && refused "a folder in its place" 6 'disk census/'
-command "    and for init" 6 'disk census/' init cat.json key
+over_journals "    and for init" 6 'disk census/' init cat.json key
 rm -rf journals && : >journals && refused "a file in the folder's place" 6 'disk census/'
-command "    and for init" 6 'disk census/' init cat.json key
+over_journals "    and for init" 6 'disk census/' init cat.json key
 rm -rf journals && mkdir journals && ln -s 0.bud journals/0.bud && refused "a link to itself" 6 'disk census/'
-anew && mv journals/0.bud kept.bud && ln -s ../kept.bud journals/0.bud && command "a link to a journal" 0 "$again" run cat.json key
+anew && mv journals/0.bud kept.bud && ln -s ../kept.bud journals/0.bud && over_journals "a link to a journal" 0 "$again" run cat.json key
 anew && : >output
 "$program" audit cat.json key 2>errors >/dev/full
 status=$?
@@ -124,7 +118,7 @@ judge "audit: standard output is full" 5 ''
 "$program" run cat.json key <script 2>errors >/dev/full
 status=$?
 judge "run: standard output is full" 5 ''
-command "    what it asked is charged" 0 'census reservations 2 answered 2 exhausted 0 lost 0 spent 2000000 budget 10000000/' audit cat.json key
+over_journals "    what it asked is charged" 0 'census reservations 2 answered 2 exhausted 0 lost 0 spent 2000000 budget 10000000/' audit cat.json key
 
 # as_nobody NAME STATUS OUTPUT WORD..: the same as a user who may read what lies here and write nothing.
 as_nobody() {

@@ -13,12 +13,6 @@ cp "$program" ./program && program=$room/program
 cp "$top"/examples/first-run/{people.csv,script} .
 passed=0
 
-# command NAME STATUS OUTPUT WORD..: the example's script under these words, over the journals as they are.
-command() {
-    "$program" "${@:4}" <script >output 2>errors
-    status=$?
-    judge "$1" "$2" "$3"
-}
 # sums: what stands in journals.
 sums() { find journals -type f -exec sha256sum {} + | sort; }
 
@@ -33,7 +27,7 @@ with open("two.json", "w") as file:
     json.dump(catalog, file)
 END
 mkdir journals && printf x >journals/1.bud
-command "init: a journal that is there" 4 'journal wards exists 1/' init two.json key
+over_journals "init: a journal that is there" 4 'journal wards exists 1/' init two.json key
 [ "$(stat -c %s journals/0.bud journals/1.bud | tr '\n' ' ')" = "6528 1 " ] || { echo "WRONG: the files' lengths"; passed=1; }
 
 # ---- standard input and output are closed: no journal is opened in their place
@@ -65,11 +59,11 @@ ends "run: both are closed" 2
 
 { echo age && yes 1 | head -n 1048577; } >people.csv
 printf 'size people' >query
-command "a table of a row more than 2^20" 3 'refused people.csv/' check cat.json census query
+over_journals "a table of a row more than 2^20" 3 'refused people.csv/' check cat.json census query
 { echo age && yes "$(printf '%063d' 1)" | head -n 1048576; } >people.csv
-command "a table of four bytes more than 2^26" 3 'refused people.csv/' check cat.json census query
+over_journals "a table of four bytes more than 2^26" 3 'refused people.csv/' check cat.json census query
 { echo age && yes "$(printf '%063d' 1)" | head -n 1048575; } >people.csv
-command "    and one of 60 bytes less" 0 'ok 1/' check cat.json census query
+over_journals "    and one of 60 bytes less" 0 'ok 1/' check cat.json census query
 cp "$top"/examples/first-run/people.csv .
 
 # ---- files that may not be read
@@ -110,4 +104,5 @@ if command -v cc >/dev/null; then
 else
     echo "not tried, for want of cc: calls on a journal that fail, refused allocations"
 fi
+if [ $passed = 0 ]; then echo "journals on disks: all as they should be"; else echo "journals on disks: something is WRONG"; fi
 exit $passed

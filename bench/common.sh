@@ -101,10 +101,14 @@ judge() {
     [ "$status" = "$2" ] && [ "$found" = "$3" ] && [ ! -s errors ] || { verdict="WRONG, wanted $2 $3"; passed=1; }
     printf '%-40s %3s  %s  %s\n' "$1" "$status" "${found:0:60}" "$verdict"
 }
-# words NAME STATUS OUTPUT WORD..: the example's script under these words; a run goes over new journals.
-words() {
-    if [ $# = 6 ] && [ "$4" = run ]; then renew "$5" "$6"; fi
+# over_journals NAME STATUS OUTPUT WORD..: the example's script under these words, over the journals as they are.
+over_journals() {
     "$program" "${@:4}" <script >output 2>errors
     status=$?
     judge "$1" "$2" "$3"
+}
+# words NAME STATUS OUTPUT WORD..: the same, but a run goes over new journals.
+words() {
+    if [ $# = 6 ] && [ "$4" = run ]; then renew "$5" "$6"; fi
+    over_journals "$@"
 }
