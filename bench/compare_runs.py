@@ -240,4 +240,5 @@ def main():
     sys.exit(0 if counts.told() else 1)
 
 
-main()
+if __name__ == "__main__":
+    main()

@@ -10,8 +10,10 @@ use Rattle.budget_core.specs.Cost.{cost_of}
 use Rattle.partition_charge.specs.Cost.{cost_of_charges, partition_cost}
 use Rattle.fz_frac.specs.Distance.{Fin}
 use Rattle.wire_lines.specs.Reply.{Replied, answered, refused}
-use Rattle.wire_lines.specs.Refusal.{ProgramRefusal, by_program, by_money, by_disk, by_number, ill_typed, no_memory}
+use Rattle.wire_lines.specs.Refusal.{ProgramRefusal, Refusal, by_line, by_program, by_money, by_disk, by_number, ill_typed, no_memory}
 use Rattle.wire_lines.specs.declared.refusal.DiskRefusal.{DiskRefusal}
+use Rattle.wire_lines.specs.declared.refusal.DiskRefusal.TheVariants.{Closed}
+use Rattle.wire_lines.specs.declared.refusal.LineRefusal.TheVariants.{NoHello}
 use Rattle.wire_lines.specs.declared.refusal.MoneyRefusal.{MoneyRefusal}
 use Rattle.wire_lines.specs.declared.refusal.MoneyRefusal.TheVariants.{OverBudget as NoBudget, JournalFull}
 use Rattle.wire_lines.specs.declared.refusal.NumberRefusal.TheVariants.{Exhausted as NoNoise, Lost as NoAnswer}
@@ -24,7 +26,7 @@ use Rattle.part_views.specs.Views.{signature_in}
 use Rattle.answer_path.specs.Program.{IsCharged}
 use Rattle.answer_path.specs.Noise.{noise_at}
 use Rattle.answer_path.specs.Verdict.{Verdict, program_refused, money_refused, granted, IsVerdict, IsVerdictBy}
-use Rattle.answer_path.specs.Answered.{HasWorthIn, IsAnswered, IsAsked, IsSettledAt, IsSettledBy, IsUnanswered, Told, outcome_reply}
+use Rattle.answer_path.specs.Answered.{HasWorthIn, IsAnswered, IsAsked, IsSettledAt, IsSettledBy, IsUnanswered, IsUnasked, Told, outcome_reply}
 use Rattle.answer_path.proofs.Answering.{money_says, program_says}
 use Rattle.answer_path.proofs.Readings.{one_reading}
 use Rattle.answer_path.proofs.SizePeople.{size_people, size_term, size_reads}
@@ -145,33 +147,31 @@ not_of_money refusal grant (Answered value) is = absurd (cc is)
 not_of_money refusal grant Exhausted is = absurd (cc is)
 not_of_money refusal grant Lost is = absurd (cc is)
 
--- 90 with a record
-memory_adds_none : (draws : ℕ → ℕ → ℕ) (first : Told) (told : List Told) (after : List Record) → IsAsked (owner 9000000 100) draws 0 query [] (refused no_memory) (first ∷ told) after → ⊥
+-- a refusal with a record, where it isn't a grant's and not for the disk
+adds_none : (draws : ℕ → ℕ → ℕ) (refusal : Refusal) (first : Told) (told : List Told) (after : List Record)
+    → ((grant : Grant) (outcome : Outcome) → refused refusal ≡ outcome_reply grant outcome → ⊥)
+    → ((disk : DiskRefusal) → refused refusal ≡ refused (by_disk disk) → ⊥)
+    → IsAsked (owner 9000000 100) draws 0 query [] (refused refusal) (first ∷ told) after → ⊥
 unfolding IsAsked
-memory_adds_none draws first told after (g, begins, inl (program_refused refusal, is, (said, none, rest))) = absurd (cc (none))
-memory_adds_none draws first told after (g, begins, inl (money_refused refusal, is, (said, none, rest))) = absurd (cc (none))
-memory_adds_none draws first told after (g, begins, inl (granted asking grant, is, inl two)) = not_of_memory grant two.outcome two.reply_is
-memory_adds_none draws first told after (g, begins, inl (granted asking grant, is, inr (unkept, said, rest))) = absurd (cc (said))
-memory_adds_none draws first told after (g, begins, inr (said, none, rest)) = absurd (cc (none))
+adds_none draws refusal first told after grants disks (g, begins, inl (program_refused r, is, (said, none, rest))) = absurd (cc (none))
+adds_none draws refusal first told after grants disks (g, begins, inl (money_refused r, is, (said, none, rest))) = absurd (cc (none))
+adds_none draws refusal first told after grants disks (g, begins, inl (granted asking grant, is, inl two)) = grants grant two.outcome two.reply_is
+adds_none draws refusal first told after grants disks (g, begins, inl (granted asking grant, is, inr (unkept, said, rest))) = disks unkept said
+adds_none draws refusal first told after grants disks (g, begins, inr (said, none, rest)) = absurd (cc (none))
 
--- a refusal with a record
+memory_adds_none : (draws : ℕ → ℕ → ℕ) (first : Told) (told : List Told) (after : List Record)
+    → IsAsked (owner 9000000 100) draws 0 query [] (refused no_memory) (first ∷ told) after → ⊥
+memory_adds_none draws first told after = adds_none draws no_memory first told after not_of_memory (λ disk is. absurd (cc (is)))
+
 program_adds_none : (draws : ℕ → ℕ → ℕ) (refusal : ProgramRefusal) (first : Told) (told : List Told) (after : List Record)
     → IsAsked (owner 9000000 100) draws 0 query [] (refused (by_program refusal)) (first ∷ told) after → ⊥
-unfolding IsAsked
-program_adds_none draws refusal first told after (g, begins, inl (program_refused r, is, (said, none, rest))) = absurd (cc (none))
-program_adds_none draws refusal first told after (g, begins, inl (money_refused r, is, (said, none, rest))) = absurd (cc (none))
-program_adds_none draws refusal first told after (g, begins, inl (granted asking grant, is, inl two)) = not_of_a_program refusal grant two.outcome two.reply_is
-program_adds_none draws refusal first told after (g, begins, inl (granted asking grant, is, inr (unkept, said, rest))) = absurd (cc (said))
-program_adds_none draws refusal first told after (g, begins, inr (said, none, rest)) = absurd (cc (none))
+program_adds_none draws refusal first told after =
+    adds_none draws (by_program refusal) first told after (not_of_a_program refusal) (λ disk is. absurd (cc (is)))
 
 money_adds_none : (draws : ℕ → ℕ → ℕ) (refusal : MoneyRefusal) (first : Told) (told : List Told) (after : List Record)
     → IsAsked (owner 9000000 100) draws 0 query [] (refused (by_money refusal)) (first ∷ told) after → ⊥
-unfolding IsAsked
-money_adds_none draws refusal first told after (g, begins, inl (program_refused r, is, (said, none, rest))) = absurd (cc (none))
-money_adds_none draws refusal first told after (g, begins, inl (money_refused r, is, (said, none, rest))) = absurd (cc (none))
-money_adds_none draws refusal first told after (g, begins, inl (granted asking grant, is, inl two)) = not_of_money refusal grant two.outcome two.reply_is
-money_adds_none draws refusal first told after (g, begins, inl (granted asking grant, is, inr (unkept, said, rest))) = absurd (cc (said))
-money_adds_none draws refusal first told after (g, begins, inr (said, none, rest)) = absurd (cc (none))
+money_adds_none draws refusal first told after =
+    adds_none draws (by_money refusal) first told after (not_of_money refusal) (λ disk is. absurd (cc (is)))
 
 -- 51 where no number has noise: it would have to be 50
 lost_has_noise : (HasWorth : ℤ → Type 0) (grant : Grant) (outcome : Outcome) (number : ℕ) → IsSettledAt HasWorth None outcome → refused (by_number (NoAnswer number)) ≡ outcome_reply grant outcome → ⊥
@@ -232,3 +232,26 @@ not_charged_twice (e, reads, is) =
 not_charged_half : IsCharged (people ∷ []) size_people 1 2 → ⊥
 not_charged_half (e, reads, is) =
     let both : accepted size_term (Fin 1 1) ≡ accepted e (Fin 1 2) = sym (judged_at_one (read e) reads) ∙ is in absurd (cc (both))
+
+-- ---- refused before the budget is asked: 10 to 37 and 90, and no other reply
+
+unasked_for_itself : IsUnasked (refused (by_line NoHello))
+unasked_for_itself = tt
+
+unasked_for_its_program : IsUnasked (refused (by_program unknown))
+unasked_for_its_program = tt
+
+unasked_for_memory : IsUnasked (refused no_memory)
+unasked_for_memory = tt
+
+asked_over_the_budget : IsUnasked (refused (by_money (JournalFull 2 0 3))) → ⊥
+asked_over_the_budget h = h
+
+asked_when_closed : IsUnasked (refused (by_disk (Closed 3))) → ⊥
+asked_when_closed h = h
+
+asked_and_lost : IsUnasked (refused (by_number (NoAnswer 0))) → ⊥
+asked_and_lost h = h
+
+asked_and_answered : IsUnasked (answered 0 (pos 5) 1000000) → ⊥
+asked_and_answered h = h

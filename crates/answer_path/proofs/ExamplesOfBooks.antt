@@ -14,7 +14,6 @@ use Rattle.wire_lines.specs.Reply.{answered, recalled, remaining, refused}
 use Rattle.wire_lines.specs.Refusal.{by_disk, by_number, no_memory}
 use Rattle.wire_lines.specs.declared.refusal.DiskRefusal.TheVariants.{Closed, Fault}
 use Rattle.wire_lines.specs.declared.refusal.NumberRefusal.TheVariants.{Unknown as NoNumber, NotYours as AnotherAnalysts}
-use Rattle.wire_lines.specs.declared.reply.Standing.TheVariants.{Answered as StandsAnswered, Open as StandsOpen, Lost as StandsLost, Exhausted as StandsExhausted}
 use Rattle.part_views.specs.Views.{signature_in}
 use Rattle.answer_path.specs.Judgement.{Judgement}
 use Rattle.answer_path.specs.Query.{Query}
@@ -174,11 +173,11 @@ abbrev history : List Record
 history =
     reserved 0 ∷ settling 0 (Answered (pos 5)) ∷ reserved 1 ∷ settling 1 Exhausted ∷ reserved 2 ∷ settling 2 Lost ∷ reserved 3 ∷ reserved 4 ∷ []
 
-recalled_first : IsRecalled 4 5 0 before (recalled 0 StandsExhausted 2) before
+recalled_first : IsRecalled 4 5 0 before (recalled 0 (Some Exhausted) 2) before
 unfolding IsRecalled
 recalled_first = (before, ([], refl), refl, refl)
 
-recalled_later : IsRecalled 4 5 0 (reserved 0 ∷ []) (recalled 0 (StandsAnswered (pos 5)) 8) history
+recalled_later : IsRecalled 4 5 0 (reserved 0 ∷ []) (recalled 0 (Some (Answered (pos 5))) 8) history
 unfolding IsRecalled
 recalled_later = (history, (_, refl), refl, refl)
 
@@ -190,19 +189,19 @@ recalled_another : IsRecalled 4 6 0 history (refused (by_number (AnotherAnalysts
 unfolding IsRecalled
 recalled_another = (history, ([], refl), refl, refl)
 
-recalled_exhausted : IsRecalled 4 5 1 history (recalled 1 StandsExhausted 8) history
+recalled_exhausted : IsRecalled 4 5 1 history (recalled 1 (Some Exhausted) 8) history
 unfolding IsRecalled
 recalled_exhausted = (history, ([], refl), refl, refl)
 
-recalled_lost : IsRecalled 4 5 2 history (recalled 2 StandsLost 8) history
+recalled_lost : IsRecalled 4 5 2 history (recalled 2 (Some Lost) 8) history
 unfolding IsRecalled
 recalled_lost = (history, ([], refl), refl, refl)
 
-recalled_open : IsRecalled 4 5 4 history (recalled 4 StandsOpen 8) history
+recalled_open : IsRecalled 4 5 4 history (recalled 4 None 8) history
 unfolding IsRecalled
 recalled_open = (history, ([], refl), refl, refl)
 
-recalled_of_before : IsRecalled 4 5 3 history (recalled 3 StandsLost 8) history
+recalled_of_before : IsRecalled 4 5 3 history (recalled 3 (Some Lost) 8) history
 unfolding IsRecalled
 recalled_of_before = (history, ([], refl), refl, refl)
 

@@ -12,7 +12,6 @@ use Rattle.wire_lines.specs.Reply.{answered, recalled, remaining, refused}
 use Rattle.wire_lines.specs.Refusal.{by_disk, by_number, no_memory}
 use Rattle.wire_lines.specs.declared.refusal.DiskRefusal.TheVariants.{Closed, Fault}
 use Rattle.wire_lines.specs.declared.refusal.NumberRefusal.TheVariants.{Lost as NoAnswer}
-use Rattle.wire_lines.specs.declared.reply.Standing.TheVariants.{Exhausted as StandsExhausted}
 use Rattle.part_views.specs.Views.{signature_in}
 use Rattle.owner_house.specs.Owner.{Owner}
 use Rattle.owner_desk.specs.Passes.{Told}
@@ -137,11 +136,11 @@ not_a_fault_unsaid next (stays, own) = absurd (cc own)
 -- ---- demands
 
 -- A recall and a balance append nothing, and so have no fault; others may shut the book meanwhile.
-recall_learns : (next : Record) → ShutsBy one_owner draws (recalls 5 0) (recalled 0 StandsExhausted 2) [] unshut (shut_elsewhere next)
+recall_learns : (next : Record) → ShutsBy one_owner draws (recalls 5 0) (recalled 0 (Some Exhausted) 2) [] unshut (shut_elsewhere next)
 unfolding ShutsBy
 recall_learns next = (record { still = λ failure was. absurd (cc was); adds_nothing = λ failure was. refl }, refl)
 
-recall_has_no_fault : (next : Record) → ShutsBy one_owner draws (recalls 5 0) (recalled 0 StandsExhausted 2) [] unshut (shut_here next) → ⊥
+recall_has_no_fault : (next : Record) → ShutsBy one_owner draws (recalls 5 0) (recalled 0 (Some Exhausted) 2) [] unshut (shut_here next) → ⊥
 unfolding ShutsBy
 recall_has_no_fault next (stays, own) = absurd (cc own)
 
@@ -154,11 +153,11 @@ unfolding ShutsBy
 query_shuts = fault_of_a_reservation
 
 -- what each demand is met by, on records that begin with those seen
-recall_met : IsMet one_owner draws 4 (recalls 5 0) (reserved 0 ∷ []) (recalled 0 StandsExhausted 2) [] before
+recall_met : IsMet one_owner draws 4 (recalls 5 0) (reserved 0 ∷ []) (recalled 0 (Some Exhausted) 2) [] before
 unfolding IsMet IsRecalled
 recall_met = ((before, (settling 0 Exhausted ∷ [], refl), refl, refl), refl)
 
-recall_adds_nothing : (first : Told) → IsMet one_owner draws 4 (recalls 5 0) before (recalled 0 StandsExhausted 2) (first ∷ []) before → ⊥
+recall_adds_nothing : (first : Told) → IsMet one_owner draws 4 (recalls 5 0) before (recalled 0 (Some Exhausted) 2) (first ∷ []) before → ⊥
 unfolding IsMet
 recall_adds_nothing first (is, none) = absurd (cc none)
 
@@ -175,11 +174,11 @@ unfolding IsMet IsAsked
 query_met = (before, ([], refl), inr (refl, refl, refl))
 
 -- and exactly, on those seen: not on later ones
-recall_met_exactly : IsMetExactly one_owner draws 4 (recalls 5 0) before (recalled 0 StandsExhausted 2) [] before
+recall_met_exactly : IsMetExactly one_owner draws 4 (recalls 5 0) before (recalled 0 (Some Exhausted) 2) [] before
 unfolding IsMetExactly
 recall_met_exactly = (refl, refl, refl)
 
-not_exactly_on_later_ones : IsMetExactly one_owner draws 4 (recalls 5 0) (reserved 0 ∷ []) (recalled 0 StandsExhausted 2) [] before → ⊥
+not_exactly_on_later_ones : IsMetExactly one_owner draws 4 (recalls 5 0) (reserved 0 ∷ []) (recalled 0 (Some Exhausted) 2) [] before → ⊥
 unfolding IsMetExactly
 not_exactly_on_later_ones (is, none, rest) = let two : 2 ≡ 1 = ap length rest in omega (arith, two)
 

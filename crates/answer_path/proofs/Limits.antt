@@ -40,13 +40,11 @@ chained n =
     (let_in (codes "g") (function (codes "y") (clipped 40 (applied (codes "f") (name (codes "y")))))
     (clipped n (applied (codes "g") number)))
 
-just_deep : judgement_of worked_tables (read (chained 43)) ≡ accepted (chained 43) (Fin 0 1)
+-- at the limit, and one past it
+as_deep_as_may_be : (judgement_of worked_tables (read (chained 43)) ≡ accepted (chained 43) (Fin 0 1))
+    × (judgement_of worked_tables (read (chained 44)) ≡ refused_for (too_deep 6 7))
 unfolding judgement_of depth_limit gcd gcd_in is_out
-just_deep = refl
-
-too_deep_is : judgement_of worked_tables (read (chained 44)) ≡ refused_for (too_deep 6 7)
-unfolding judgement_of depth_limit gcd gcd_in is_out
-too_deep_is = refl
+as_deep_as_may_be = (refl, refl)
 
 -- the typing rules come first: an unbound name, a table without a bound, and a value that is no number
 unbound_first : judgement_of worked_tables (read (at (span 0 9) (PlusE (chained 44) (name (codes "z"))))) ≡ refused_for (ill_typed Unbound 1 2)

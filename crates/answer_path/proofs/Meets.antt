@@ -5,7 +5,7 @@ use Rattle.budget_ledger.specs.declared.failure.Failure.{Failure}
 use Rattle.wire_lines.specs.Reply.{Replied}
 use Rattle.owner_house.specs.Owner.{Owner}
 use Rattle.owner_desk.specs.Passes.{Pass, Told, first_of_run}
-use Rattle.owner_desk.specs.Answers.{Stays}
+use Rattle.owner_desk.specs.Answers.{PassStays}
 use Rattle.answer_path.specs.Query.{Query}
 use Rattle.answer_path.specs.Demand.{Demand, asks, recalls, balances}
 use Rattle.answer_path.specs.Answered.{IsAsked}
@@ -31,13 +31,13 @@ unfolding LeavesDue
 asked_due owner start query reply told after due = due
 
 pub recalled_line : (owner : Owner) (draws : ℕ → ℕ → ℕ) (analyst number : ℕ) (before after : Pass) (reply : Replied)
-    → IsRecalled (first_of_run before) analyst number before.seen reply after.seen → Stays before after.seen after → IsLine owner draws (recalls analyst number) before reply after
+    → IsRecalled (first_of_run before) analyst number before.seen reply after.seen → PassStays before after.seen after → IsLine owner draws (recalls analyst number) before reply after
 unfolding IsMet ShutsBy
 recalled_line owner draws analyst number before after reply is stays =
     ([], (is, refl), stays.own ∙ sym (append-nil before.own), (record { still = stays.closed; adds_nothing = λ failure was. refl }, stays.faults))
 
 pub balance_line : (owner : Owner) (draws : ℕ → ℕ → ℕ) (before after : Pass) (reply : Replied)
-    → IsBalance owner.entry before.seen reply after.seen → Stays before after.seen after → IsLine owner draws balances before reply after
+    → IsBalance owner.entry before.seen reply after.seen → PassStays before after.seen after → IsLine owner draws balances before reply after
 unfolding IsMet ShutsBy
 balance_line owner draws before after reply is stays =
     ([], (is, refl), stays.own ∙ sym (append-nil before.own), (record { still = stays.closed; adds_nothing = λ failure was. refl }, stays.faults))

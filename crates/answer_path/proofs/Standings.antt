@@ -7,12 +7,12 @@ use Rattle.budget_core.specs.declared.answers.Recall.{Recall}
 use Rattle.budget_core.specs.declared.answers.Recall.TheVariants.{Unknown, NotYours, Answer, Open, Lost, Exhausted}
 use Rattle.wire_lines.specs.Reply.{Replied}
 use Rattle.owner_desk.specs.Passes.{Pass, first_of_run}
-use Rattle.owner_desk.specs.Answers.{HasLooked, Stays}
-use Rattle.answer_path.specs.Answered.{HasSmallAnswer}
+use Rattle.owner_desk.specs.Answers.{HasLooked, PassStays}
+use Rattle.answer_path.specs.Answered.{HasSmallAnswer, IsUnasked}
 use Rattle.answer_path.specs.Standing.{IsBalance, IsRecalled, left_reply, recall_reply}
 
 -- where nothing was done to a book, the pass has the records on which it was told
-pub stays_so : (before after : Pass) (IsTold : Ledger → Type 0) → HasLooked before IsTold after → Stays before after.seen after
+pub stays_so : (before after : Pass) (IsTold : Ledger → Type 0) → HasLooked before IsTold after → PassStays before after.seen after
 stays_so before after IsTold (g, begins, told, stays) = record { seen = refl; own = stays.own; faults = stays.faults; closed = stays.closed }
 
 pub is_recalled : (before after : Pass) (recall : Recall) (number analyst : ℕ) (reply : Replied) → HasLooked before (λ ledger. recall ≡ recalled ledger number analyst) after → reply ≡ recall_reply number recall
@@ -24,6 +24,15 @@ pub is_balance : (before after : Pass) (reply : Replied) (left : Left) → HasLo
     → IsBalance before.opened.ledger.entry before.seen reply after.seen
 unfolding IsBalance
 is_balance before after reply left (g, begins, told, stays) is = (g, begins, is ∙ ap left_reply told, stays.seen)
+
+-- what is told of a number was asked of the book
+pub recall_asked : (number : ℕ) (recall : Recall) → IsUnasked (recall_reply number recall) → ⊥
+recall_asked number (Unknown seen) h = h
+recall_asked number (NotYours seen) h = h
+recall_asked number (Answer value seen) h = h
+recall_asked number (Open seen) h = h
+recall_asked number (Lost seen) h = h
+recall_asked number (Exhausted seen) h = h
 
 -- what is told of a number is no answer that was drawn now
 pub recall_small : (number : ℕ) (recall : Recall) → HasSmallAnswer (recall_reply number recall)

@@ -22,11 +22,11 @@ use Rattle.part_views.specs.Holding.{Holding}
 use Rattle.part_views.specs.Views.{signature_in}
 use Rattle.owner_house.specs.Owner.{Owner, IsOwnerOf, signature_of_view}
 use Rattle.owner_desk.specs.Passes.{Pass, Told, first_of_run}
-use Rattle.owner_desk.specs.Answers.{Adds, HasReserved, HasSettled, IsSettledOn, verdict_on}
+use Rattle.owner_desk.specs.Answers.{AddsRecord, HasReserved, HasSettled, IsSettledOn, verdict_on}
 use Rattle.answer_path.specs.Query.{Query}
 use Rattle.answer_path.specs.Program.{IsCharged}
 use Rattle.answer_path.specs.Verdict.{program_refused, money_refused, granted, ask_for, money_refusal, IsVerdict}
-use Rattle.answer_path.specs.Answered.{HasSmallAnswer, IsAsked, IsSettledBy, granted_record, outcome_reply}
+use Rattle.answer_path.specs.Answered.{HasSmallAnswer, IsAsked, IsSettledBy, IsUnasked, granted_record, outcome_reply}
 use Rattle.answer_path.specs.Shut.{FailsBy, IsGrantPending, StaysShut, disk_word, shut_of}
 use Rattle.answer_path.specs.Turn.{IsTurn, book_refusal, settled_reply}
 use Rattle.answer_path.specs.Code.{IsProgramRefusal}
@@ -145,7 +145,7 @@ nothing_due owner start query grant Lost told after failure = tt
 -- a reservation is made on some records g, and settled or not on some later ones u
 module _ (name : List ℕ) (holding : Holding) (draws : ℕ → ℕ → ℕ) (query : Query) (before mid after : Pass) (p q : ℕ) (grant : Grant) (outcome : Outcome) (g u : List Record)
     (c : IsCharged (signature_in holding.tables holding.partitions query.view) query.program p q) (begins : IsPrefix before.seen g)
-    (verdict : verdict_on before g (ask_for query p q) ≡ Ok grant) (adds : Adds before g (reservation_for g (ask_for query p q) grant.taken) mid)
+    (verdict : verdict_on before g (ask_for query p q) ≡ Ok grant) (adds : AddsRecord before g (reservation_for g (ask_for query p q) grant.taken) mid)
     (settles : IsSettledBy (owner_with name before.opened.ledger.entry holding) draws query grant.number outcome) (between : IsPrefix mid.seen u) where
   abbrev owner : Owner
   owner = owner_with name before.opened.ledger.entry holding
@@ -228,6 +228,17 @@ settled_turn name holding draws query before mid after p q grant outcome written
 pub settled_small : (grant : Grant) (outcome : Outcome) (written : Result ℕ AppendFault) → ((grant : Grant) → HasSmallAnswer (outcome_reply grant outcome)) → HasSmallAnswer (settled_reply grant outcome written)
 settled_small grant outcome (Ok seen) small = small grant
 settled_small grant outcome (Err fault) small = tt
+
+-- what the budget was asked for isn't told as if it hadn't been
+pub fault_asked : (fault : BookFault) → IsUnasked (refused (book_refusal fault)) → ⊥
+fault_asked (Refused fault) h = h
+fault_asked (Unwritten fault) h = h
+
+pub settled_asked : (grant : Grant) (outcome : Outcome) (written : Result ℕ AppendFault) → IsUnasked (settled_reply grant outcome written) → ⊥
+settled_asked grant (Answered value) (Ok seen) h = h
+settled_asked grant Exhausted (Ok seen) h = h
+settled_asked grant Lost (Ok seen) h = h
+settled_asked grant outcome (Err fault) h = h
 
 -- what is so of each owner of an entry and a holding by its name
 pub of_owner : (P : Owner → Type 0) (pass : Pass) (holding : Holding) → ((name : List ℕ) → P (owner_with name pass.opened.ledger.entry holding)) → (owner : Owner) → IsOwnerOf pass.opened.ledger.entry holding owner → P owner

@@ -11,7 +11,7 @@ use Rattle.budget_core.specs.declared.entry.Ask.{Ask}
 use Rattle.budget_core.specs.declared.entry.Grant.{Grant}
 use Rattle.budget_core.specs.Ledger.{reservation_numbered}
 use Rattle.wire_lines.specs.Reply.{Replied, answered, refused}
-use Rattle.wire_lines.specs.Refusal.{Refusal, by_program, by_money, by_number, by_disk, no_memory}
+use Rattle.wire_lines.specs.Refusal.{Refusal, by_line, by_program, by_money, by_number, by_disk, no_memory}
 use Rattle.wire_lines.specs.declared.refusal.DiskRefusal.{DiskRefusal}
 use Rattle.wire_lines.specs.declared.refusal.NumberRefusal.TheVariants.{Exhausted as NoNoise, Lost as NoAnswer}
 use Rattle.owner_house.specs.Owner.{Owner, signature_of_view, rows_of_view}
@@ -48,6 +48,13 @@ answer_limit = 2 ^ 50 + 2 ^ 33
 abbrev pub HasSmallAnswer : Replied → Type 0
 HasSmallAnswer (answered number value taken) = unsigned_abs value ≤ answer_limit
 HasSmallAnswer reply = ⊤
+
+-- The line is refused before its owner's book is asked: for itself, for its program, or for want of memory.
+abbrev pub IsUnasked : Replied → Type 0
+IsUnasked (refused (by_line refusal)) = ⊤
+IsUnasked (refused (by_program refusal)) = ⊤
+IsUnasked (refused no_memory) = ⊤
+IsUnasked reply = ⊥
 
 -- the reservation that was granted
 abbrev pub granted_record : Ask → Grant → Record

@@ -1,7 +1,8 @@
 -- What is said of a number and of the budget, by an owner's records.
-use Rattle.std.specs.Prelude.{◌≡◌, ℕ, List}
+use Rattle.std.specs.Prelude.{◌≡◌, ℕ, List, Some, None}
 use mathlib.Core.List.{IsPrefix}
 use Rattle.journal_records.specs.declared.records.Record.{Record}
+use Rattle.journal_records.specs.declared.records.Outcome.TheVariants.{Answered, Exhausted as RanOut, Lost as WasLost}
 use Rattle.budget_core.specs.declared.answers.Recall.{Recall}
 use Rattle.budget_core.specs.declared.answers.Recall.TheVariants.{Unknown, NotYours, Answer, Open, Lost, Exhausted}
 use Rattle.budget_core.specs.declared.answers.Left.{Left}
@@ -9,17 +10,16 @@ use Rattle.budget_core.specs.Entries.{Entry}
 use Rattle.budget_core.specs.Answers.{recalled_from, left_by}
 use Rattle.wire_lines.specs.Reply.{Replied, recalled, remaining, refused}
 use Rattle.wire_lines.specs.Refusal.{by_number}
-use Rattle.wire_lines.specs.declared.reply.Standing.TheVariants.{Answered as StandsAnswered, Open as StandsOpen, Lost as StandsLost, Exhausted as StandsExhausted}
 use Rattle.wire_lines.specs.declared.refusal.NumberRefusal.TheVariants.{Unknown as NoNumber, NotYours as AnotherAnalysts}
 
 -- what is told of a number
 abbrev pub recall_reply : (number : ℕ) → Recall → Replied
 recall_reply number (Unknown seen) = refused (by_number (NoNumber number seen))
 recall_reply number (NotYours seen) = refused (by_number (AnotherAnalysts number seen))
-recall_reply number (Answer value seen) = recalled number (StandsAnswered value) seen
-recall_reply number (Open seen) = recalled number StandsOpen seen
-recall_reply number (Lost seen) = recalled number StandsLost seen
-recall_reply number (Exhausted seen) = recalled number StandsExhausted seen
+recall_reply number (Answer value seen) = recalled number (Some (Answered value)) seen
+recall_reply number (Open seen) = recalled number None seen
+recall_reply number (Lost seen) = recalled number (Some WasLost) seen
+recall_reply number (Exhausted seen) = recalled number (Some RanOut) seen
 
 -- what is told of the budget
 abbrev pub left_reply : Left → Replied

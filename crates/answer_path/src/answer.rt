@@ -16,7 +16,7 @@ ghost use Rattle.owner_desk.specs.Answers.{HasGranted, HasSettled};
 ghost use Rattle.owner_desk.specs.Passes.{Told, first_of_run};
 ghost use Rattle.answer_path.specs.Noise.{scale_numerator, scale_denominator, noise_at};
 ghost use Rattle.answer_path.specs.Verdict.{ask_for, money_refusal};
-ghost use Rattle.answer_path.specs.Answered.{HasSmallAnswer, IsAsked, IsSettledAt, answer_limit, outcome_reply};
+ghost use Rattle.answer_path.specs.Answered.{HasSmallAnswer, IsAsked, IsSettledAt, IsUnasked, answer_limit, outcome_reply};
 ghost use Rattle.answer_path.specs.Shut.{FailsBy, IsGrantPending, disk_word, shut_of};
 ghost use Rattle.owner_house.specs.Names.{AreNames};
 ghost use Rattle.answer_path.specs.Reading.{read, IsReading};
@@ -236,6 +236,7 @@ fn answer_judged<'a, D: Disk, S: Streams>(
     requires judged { IsJudgedIn dataset.now query.now.view judged.now }
     ensures turn { (whose : Owner) → IsOwnerOf pass.old.opened.ledger.entry dataset.now whose
         → IsTurn whose (S.given streams.now owner) (query_of query.now) pass.old (replied result) pass.new }
+    ensures asked { IsUnasked (replied result) → ⊥ }
     ensures kept { pass.new.opened ≡ pass.old.opened }
     ensures fits { HasSmallAnswer (replied result) }
 {
@@ -276,6 +277,8 @@ pub fn ask<'d, D: Disk, S: Streams>(
     ensures due { (whose : Owner) → IsOwnerOf pass.old.opened.ledger.entry dataset.now whose
         → (told : List Told) → pass.new.own ≡ pass.old.own ++ told
         → IsGrantPending whose (first_of_run pass.old) (query_of query.now) (replied result) told pass.new.seen pass.new.failure }
+    // A line that is refused before the budget is asked leaves the pass as it was.
+    ensures same { IsUnasked (replied result) → pass.new ≡ pass.old }
     ensures kept { pass.new.opened ≡ pass.old.opened }
     // An answer is within 2^50 + 2^33 in absolute value.
     ensures fits { HasSmallAnswer (replied result) }

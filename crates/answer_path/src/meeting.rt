@@ -5,7 +5,7 @@ ghost use Rattle.wire_lines.specs.Reply.{replied};
 ghost use Rattle.owner_house.specs.Names.{AreNames};
 ghost use Rattle.owner_house.specs.Owner.{Owner, IsOwnerOf};
 ghost use Rattle.owner_desk.specs.Passes.{Told, first_of_run};
-ghost use Rattle.answer_path.specs.Answered.{HasSmallAnswer};
+ghost use Rattle.answer_path.specs.Answered.{HasSmallAnswer, IsUnasked};
 ghost use Rattle.answer_path.specs.Code.{HasPartFor, IsDemandOf, demand_of};
 ghost use Rattle.answer_path.specs.Met.{IsMet};
 ghost use Rattle.answer_path.specs.Shut.{LeavesDue, ShutsBy, shut_of};
@@ -42,6 +42,8 @@ pub fn meet<'d, D: Disk, S: Streams>(
     ensures due { (whose : Owner) → IsOwnerOf pass.old.opened.ledger.entry dataset.now whose
         → (told : List Told) → pass.new.own ≡ pass.old.own ++ told
         → LeavesDue whose (first_of_run pass.old) (demand_of demand.now) (replied result) told pass.new.seen pass.new.failure }
+    // A line that is refused before the budget is asked leaves the pass as it was.
+    ensures same { IsUnasked (replied result) → pass.new ≡ pass.old }
     ensures kept { pass.new.opened ≡ pass.old.opened }
     // An answer is within 2^50 + 2^33 in absolute value.
     ensures fits { HasSmallAnswer (replied result) }

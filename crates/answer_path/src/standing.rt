@@ -3,21 +3,22 @@
 ghost use Rattle.std.specs.Prelude.{◌≡◌};
 ghost use Rattle.wire_lines.specs.Reply.{replied};
 ghost use Rattle.owner_desk.specs.Passes.{first_of_run};
-ghost use Rattle.owner_desk.specs.Answers.{Stays};
-ghost use Rattle.answer_path.specs.Answered.{HasSmallAnswer};
+ghost use Rattle.owner_desk.specs.Answers.{PassStays};
+ghost use Rattle.answer_path.specs.Answered.{HasSmallAnswer, IsUnasked};
 ghost use Rattle.answer_path.specs.Standing.{IsBalance, IsRecalled, left_reply, recall_reply};
 
 use budget_core::answers::{Left, Recall};
+use journal_records::records::Outcome;
 use outside_disks::disk::Disk;
 use owner_desk::{Desk, Pass};
-use wire_lines::{NumberRefusal, Refusal, Reply, Standing};
+use wire_lines::{NumberRefusal, Refusal, Reply};
 
-fn standing<'a>(number: u32, standing: Standing, seen: u32) -> Reply<'a>
-    ensures { result ≡ Reply.Recalled number standing seen }
+fn recalled<'a>(number: u32, outcome: Option<Outcome>, seen: u32) -> Reply<'a>
+    ensures { result ≡ Reply.Recalled number outcome seen }
 {
     Reply::Recalled {
         number,
-        standing,
+        outcome,
         seen,
     }
 }
@@ -35,10 +36,10 @@ fn recall_reply_of<'a>(number: u32, recall: Recall) -> Reply<'a>
             number,
             seen,
         })),
-        Recall::Answer { value, seen } => standing(number, Standing::Answered(value), seen),
-        Recall::Open { seen } => standing(number, Standing::Open, seen),
-        Recall::Lost { seen } => standing(number, Standing::Lost, seen),
-        Recall::Exhausted { seen } => standing(number, Standing::Exhausted, seen),
+        Recall::Answer { value, seen } => recalled(number, Some(Outcome::Answered(value)), seen),
+        Recall::Open { seen } => recalled(number, None, seen),
+        Recall::Lost { seen } => recalled(number, Some(Outcome::Lost), seen),
+        Recall::Exhausted { seen } => recalled(number, Some(Outcome::Exhausted), seen),
     }
 }
 
@@ -61,8 +62,9 @@ pub(crate) fn recall<D: Disk>(
     analyst: u16,
 ) -> Reply<'static>
     ensures told { IsRecalled (first_of_run pass.old) analyst number pass.old.seen (replied result) pass.new.seen }
-    ensures stays { Stays pass.old pass.new.seen pass.new }
+    ensures stays { PassStays pass.old pass.new.seen pass.new }
     ensures kept { pass.new.opened ≡ pass.old.opened }
+    ensures asked { IsUnasked (replied result) → ⊥ }
     ensures fits { HasSmallAnswer (replied result) }
 {
     recall_reply_of(number, desk.recall(pass, number, analyst))
@@ -71,8 +73,9 @@ pub(crate) fn recall<D: Disk>(
 /// Says what is spent of an owner's budget.
 pub(crate) fn left<D: Disk>(desk: &Desk, pass: &mut Pass<D>) -> Reply<'static>
     ensures told { IsBalance pass.old.opened.ledger.entry pass.old.seen (replied result) pass.new.seen }
-    ensures stays { Stays pass.old pass.new.seen pass.new }
+    ensures stays { PassStays pass.old pass.new.seen pass.new }
     ensures kept { pass.new.opened ≡ pass.old.opened }
+    ensures asked { IsUnasked (replied result) → ⊥ }
     ensures fits { HasSmallAnswer (replied result) }
 {
     left_reply_of(desk.left(pass))

@@ -60,7 +60,7 @@ may-reserve entry records r charge after spent numbered asked viewed is cost gro
     with-one records r charge after is cost =
         cost_of-append-Reserve entry records r ∙ ap (λ (n : ℕ). cost_of_charges (charges_in records ++ record { view = r.view; amount = n } ∷ [])) (sym is) ∙ sym cost
 
--- Past the budget none may.
+-- History the budget none may.
 pub may-not-reserve : (entry : Entry) (records : List Record) (r : Reservation) (charge after : ℕ) → charge ≡ charge_of r.e r.p r.q
     → after ≡ cost_of_charges (charges_in records ++ record { view = r.view; amount = charge } ∷ []) → entry.budget < after → IsReservationAfter entry records r → ⊥
 may-not-reserve entry records r charge after is cost over may =

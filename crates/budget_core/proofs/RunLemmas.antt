@@ -10,7 +10,7 @@ use Rattle.journal_records.specs.Records.{settling}
 use Rattle.budget_core.specs.declared.ledger.Ledger.TheInside.{Inside}
 use Rattle.budget_core.specs.Counts.{reservations_of, open_from}
 use Rattle.budget_core.specs.Ledger.{Ledger, start_of, next_number, MayReserve, IsUnsettled}
-use Rattle.budget_core.specs.Past.{Past}
+use Rattle.budget_core.specs.History.{History}
 use Rattle.budget_core.specs.Run.{ledger_in, HoldsRun}
 use Rattle.budget_core.specs.Sound.{IsSound}
 use Rattle.budget_core.proofs.LegalLemmas.{open-reserved, unsettled-Reserve, reservations_within}
@@ -36,27 +36,27 @@ run-append l next unsettled k sound count =
     }
 
 -- what a history is with one record more
-abbrev pub Grew : Past → Past → Record → Type 0
+abbrev pub Grew : History → History → Record → Type 0
 Grew old new next = new ≡ record old { records = old.records ++ next ∷ [] }
 
-pub run-Reserve : (l : Inside) (history : Past) (reservation : Reservation) → HoldsRun l → MayReserve (ledger_in l) reservation → Grew l.history history (Reserve reservation)
+pub run-Reserve : (l : Inside) (history : History) (reservation : Reservation) → HoldsRun l → MayReserve (ledger_in l) reservation → Grew l.history history (Reserve reservation)
     → HoldsRun (record l { history = history; unsettled = l.unsettled + 1 })
 run-Reserve l history reservation k may grew =
     let sound = sound-reserved (ledger_in l) reservation k.sound may in
     let count = open-reserved (ledger_in l) reservation (sound-history (ledger_in l) k.sound) k.sound.legal may.follows.numbered in
     let kept = run-append l (Reserve reservation) (l.unsettled + 1) k sound (omega (arith, run-open l k, count)) in
-    subst (λ (h : Past). HoldsRun (record l { history = h; unsettled = l.unsettled + 1 })) (sym grew) kept
+    subst (λ (h : History). HoldsRun (record l { history = h; unsettled = l.unsettled + 1 })) (sym grew) kept
 
-pub run-Settle : (l : Inside) (history : Past) (number : ℕ) (outcome : Outcome) → HoldsRun l → IsUnsettled (ledger_in l) number → Grew l.history history (settling number outcome)
+pub run-Settle : (l : Inside) (history : History) (number : ℕ) (outcome : Outcome) → HoldsRun l → IsUnsettled (ledger_in l) number → Grew l.history history (settling number outcome)
     → HoldsRun (record l { history = history; unsettled = l.unsettled - 1 })
 run-Settle l history number outcome k u grew =
     let sound = sound-Settle (ledger_in l) number outcome k.sound u in
     let count = open-settled (ledger_in l) number outcome k.sound u in
     let kept = run-append l (settling number outcome) (l.unsettled - 1) k sound (omega (arith, run-open l k, count)) in
-    subst (λ (h : Past). HoldsRun (record l { history = h; unsettled = l.unsettled - 1 })) (sym grew) kept
+    subst (λ (h : History). HoldsRun (record l { history = h; unsettled = l.unsettled - 1 })) (sym grew) kept
 
 -- a ledger all of whose records were found
-pub run-found : (history : Past) (found start : ℕ) → IsSound (record { entry = history.entry; found = history.records; records = history.records })
+pub run-found : (history : History) (found start : ℕ) → IsSound (record { entry = history.entry; found = history.records; records = history.records })
     → found ≡ length history.records → start ≡ length (reservations_of history.records)
     → HoldsRun (record { history = history; found = found; start = start; unsettled = 0 })
 run-found history found start s is count =
@@ -69,15 +69,15 @@ run-found history found start s is count =
     }
 
 -- what contracts see with one record more
-run-view : (l : Inside) (history : Past) (next : Record) (unsettled : ℕ) → HoldsRun l → Grew l.history history next
+run-view : (l : Inside) (history : History) (next : Record) (unsettled : ℕ) → HoldsRun l → Grew l.history history next
     → record (ledger_in l) { records = l.history.records ++ next ∷ [] } ≡ ledger_in (record l { history = history; unsettled = unsettled })
 run-view l history next unsettled k grew =
     let same : take l.found l.history.records ≡ take l.found (l.history.records ++ next ∷ []) = sym (take-append-le l.found l.history.records (next ∷ []) k.found) in
-    subst (λ (h : Past). record (ledger_in l) { records = l.history.records ++ next ∷ [] } ≡ ledger_in (record l { history = h; unsettled = unsettled })) (sym grew)
+    subst (λ (h : History). record (ledger_in l) { records = l.history.records ++ next ∷ [] } ≡ ledger_in (record l { history = h; unsettled = unsettled })) (sym grew)
     (λ i. record { entry = l.history.entry; found = same i; records = l.history.records ++ next ∷ [] })
 
 -- A reservation that was made is unsettled.
-pub run-unsettled : (l : Inside) (history : Past) (reservation : Reservation) (unsettled : ℕ) → HoldsRun l → MayReserve (ledger_in l) reservation
+pub run-unsettled : (l : Inside) (history : History) (reservation : Reservation) (unsettled : ℕ) → HoldsRun l → MayReserve (ledger_in l) reservation
     → Grew l.history history (Reserve reservation) → IsUnsettled (ledger_in (record l { history = history; unsettled = unsettled })) reservation.number
 run-unsettled l history reservation unsettled k may grew =
     let ledger : Ledger = ledger_in l in

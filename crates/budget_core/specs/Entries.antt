@@ -13,14 +13,23 @@ pub record Entry : Type 0 where
   pub analysts : ℕ
   pub keys : List ℕ
 
+abbrev pub budget_limit : ℕ
+budget_limit = 10 ^ 18
+
+abbrev pub capacity_limit : ℕ
+capacity_limit = 262144
+
+abbrev pub analyst_limit : ℕ
+analyst_limit = 64
+
 -- what an entry may be
 pub record IsEntry (entry : Entry) : Type 0 where
   pub some_budget : 1 ≤ entry.budget
-  pub budget : entry.budget ≤ 10 ^ 18
+  pub budget : entry.budget ≤ budget_limit
   pub some_room : 2 ≤ entry.capacity
-  pub capacity : entry.capacity ≤ 262144
+  pub capacity : entry.capacity ≤ capacity_limit
   pub some_analyst : 1 ≤ entry.analysts
-  pub analysts : entry.analysts ≤ 64
+  pub analysts : entry.analysts ≤ analyst_limit
   pub partitions : length entry.keys ≤ partition_limit
   pub keys : All (λ keys. (1 ≤ keys) × (keys ≤ part_limit)) entry.keys
 

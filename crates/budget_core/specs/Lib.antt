@@ -5,7 +5,7 @@ pub mod Legal
 pub mod Ledger
 pub mod Answers
 pub mod Sound
-pub mod Past
+pub mod History
 pub mod Kept
 pub mod Run
 pub mod Events

@@ -27,9 +27,9 @@ pub(crate) struct History {
 }
 
 impl Model for History {
-    ghost use Rattle.budget_core.specs.Past.{Past};
+    ghost use Rattle.budget_core.specs.History.{History};
 
-    ghost Value = { Past };
+    ghost Value = { History };
 
     ghost use Rattle.budget_core.specs.Kept.{HoldsTotals};
 

@@ -1,5 +1,6 @@
 mod Examples
 pub mod Grants
+pub mod Machine
 pub mod Opens
 pub mod Standing
 pub mod Wents

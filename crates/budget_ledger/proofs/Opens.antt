@@ -10,7 +10,7 @@ use Rattle.budget_journal.specs.declared.opening.OpenFault.TheVariants.{NotIniti
 use Rattle.budget_journal.specs.Journals.{Stands, IsAtRest, Found, IsOpenFault, MayHaveSynced}
 use Rattle.budget_core.specs.Entries.{Entry}
 use Rattle.budget_core.specs.Legal.{IsFirstAstray}
-use Rattle.budget_ledger.specs.Account.{Storage, IsMoment, IsPassed, Went}
+use Rattle.budget_ledger.specs.Account.{Storage, IsMoment, HasPassed, Went}
 use Rattle.budget_ledger.specs.Opened.{IsBookFault}
 use Rattle.budget_ledger.proofs.Wents.{prefix_self}
 
@@ -51,7 +51,7 @@ journal_fault entry header bytes NoMemory is = is
 -- ---- since a book was at rest
 
 told_moments : (old new : List Record) (before after : Storage) → Went old new before after → (s u : Option Trace) → IfSome s (IsAtRest before.header old)
-    → WhereTold (IsPassed before.header old new after.closed) s u → WhereTold (Passes (IsMoment before.header old new after.closed)) s u
+    → WhereTold (HasPassed before.header old new after.closed) s u → WhereTold (Passes (IsMoment before.header old new after.closed)) s u
 told_moments old new before after went None None rest passed = tt
 told_moments old new before after went None (Some u) rest passed = passed
 told_moments old new before after went (Some t) None rest passed = passed

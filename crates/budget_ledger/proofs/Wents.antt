@@ -9,7 +9,7 @@ use Rattle.outside_disks.proofs.Told.{told-none, told-both}
 use Rattle.journal_records.specs.declared.records.Record.{Record}
 use Rattle.journal_records.specs.declared.records.Header.{Header}
 use Rattle.budget_journal.specs.Journals.{Stands}
-use Rattle.budget_ledger.specs.Account.{Failure, Storage, IsMoment, IsPassed, Went}
+use Rattle.budget_ledger.specs.Account.{Failure, Storage, IsMoment, HasPassed, Went}
 
 pub prefix_self : (records : List Record) → IsPrefix records records
 prefix_self records = ([], append-nil records)
@@ -26,7 +26,7 @@ not_both (Some y) x none some = cc
 
 -- ---- nothing was done
 
-passed_none : (header : Header) (old new : List Record) (closed : Option Failure) (t : Trace) → IsPassed header old new closed t t
+passed_none : (header : Header) (old new : List Record) (closed : Option Failure) (t : Trace) → HasPassed header old new closed t t
 passed_none header old new closed t = passes-none (λ bytes. IsImageOf t bytes ⊎ IsMoment header old new closed bytes) t (λ bytes image. inl image)
 
 -- A state is a later one of itself.
@@ -34,7 +34,7 @@ pub went_self : (records : List Record) (s : Storage) → Went records records s
 went_self records s = record {
   header = refl;
   begins = prefix_self records;
-  moments = told-none (IsPassed s.header records records s.closed) (passed_none s.header records records s.closed) s.trace;
+  moments = told-none (HasPassed s.header records records s.closed) (passed_none s.header records records s.closed) s.trace;
   counts = omega arith;
   shut = λ failure closed. (refl, refl);
   «open» = λ still. refl;
@@ -55,7 +55,7 @@ module _ (header : Header) (a b c : List Record) (mid last : Option Failure) (ab
   later bytes (inl (g, bg, gc, stands)) = inl (g, prefix_then a b g ab bg, gc, stands)
   later bytes (inr failed) = inr failed
 
-  passed_then : (t u v : Trace) → IsPassed header a b mid t u → IsPassed header b c last u v → IsPassed header a c last t v
+  passed_then : (t u v : Trace) → HasPassed header a b mid t u → HasPassed header b c last u v → HasPassed header a c last t v
   passed_then t u v p q =
       passes-both (λ bytes. IsImageOf t bytes ⊎ IsMoment header a c last bytes) t u v first
       (passes-weaker (λ bytes. IsImageOf u bytes ⊎ IsMoment header b c last bytes) (λ bytes. IsImageOf t bytes ⊎ IsMoment header a c last bytes) u v
@@ -68,9 +68,9 @@ module _ (header : Header) (a b c : List Record) (mid last : Option Failure) (ab
       since_t : (bytes : List ℕ) → IsImageOf u bytes → WasImageOf (moment t) u bytes
       since_t bytes image = now-was (moment t) u.start u.steps bytes image
 
-  told_then : (s t u : Option Trace) → WhereTold (IsPassed header a b mid) s t → WhereTold (IsPassed header b c last) t u
-      → WhereTold (IsPassed header a c last) s u
-  told_then s t u p q = told-both (IsPassed header a b mid) (IsPassed header b c last) (IsPassed header a c last) passed_then s t u p q
+  told_then : (s t u : Option Trace) → WhereTold (HasPassed header a b mid) s t → WhereTold (HasPassed header b c last) t u
+      → WhereTold (HasPassed header a c last) s u
+  told_then s t u p q = told-both (HasPassed header a b mid) (HasPassed header b c last) (HasPassed header a c last) passed_then s t u p q
 
 -- A later state of a later state is one.
 pub went_then : (a b c : List Record) (s t u : Storage) → Went a b s t → Went b c t u → Went a c s u
@@ -78,7 +78,7 @@ went_then a b c s t u p q = record {
   header = q.header ∙ p.header;
   begins = prefix_then a b c p.begins q.begins;
   moments = told_then s.header a b c t.closed u.closed p.begins q.begins (λ failure closed. let stays = q.shut failure closed in (ap (λ (x : Storage). x.closed) stays.0, stays.1))
-      s.trace t.trace u.trace p.moments (subst (λ (h : Header). WhereTold (IsPassed h b c u.closed) t.trace u.trace) p.header q.moments);
+      s.trace t.trace u.trace p.moments (subst (λ (h : Header). WhereTold (HasPassed h b c u.closed) t.trace u.trace) p.header q.moments);
   counts = omega (arith, p.counts, q.counts);
   shut = λ failure closed. let first = p.shut failure closed in
       let second = q.shut failure (ap (λ (x : Storage). x.closed) first.0 ∙ closed) in

@@ -14,7 +14,7 @@ use Rattle.budget_core.specs.Ledger.{Ledger, start_of, IsUnsettled}
 use Rattle.budget_core.specs.Sound.{IsSound}
 use Rattle.budget_core.proofs.Histories.{legal-history}
 use Rattle.budget_core.proofs.Numbers.{open_from-Settle}
-use Rattle.budget_ledger.specs.Account.{Failure, IsKeptNow, IsMoment, IsPassed, Went}
+use Rattle.budget_ledger.specs.Account.{Failure, IsKeptNow, IsMoment, HasPassed, Went}
 use Rattle.budget_ledger.specs.Booked.{HasGained, IsUnwritten}
 use Rattle.budget_ledger.specs.Kept.{account_in, HoldsBook, HasWritten, HasFailed, IsUnappended}
 use Rattle.budget_ledger.specs.declared.book.AppendFault.{AppendFault}
@@ -43,7 +43,7 @@ module _ (header : Header) (records : List Record) (next : Record) where
   -- an append that answered Ok
   told_added : (slots : ℕ) (before after : Option Trace) → length records ≡ slots → slots < header.capacity → IfSome before (IsAtRest header records)
       → WhereTold (Appended slots next) before after
-      → IfSome after (IsAtRest header (records ++ next ∷ [])) × WhereTold (IsPassed header records (records ++ next ∷ []) None) before after
+      → IfSome after (IsAtRest header (records ++ next ∷ [])) × WhereTold (HasPassed header records (records ++ next ∷ []) None) before after
   told_added slots None None at room rest appended = (tt, tt)
   told_added slots None (Some u) at room rest appended = absurd appended
   told_added slots (Some t) None at room rest appended = absurd appended
@@ -58,7 +58,7 @@ module _ (header : Header) (records : List Record) (next : Record) where
   told_failed : (failed_at slots : ℕ) (before after : Option Trace) → length records ≡ slots → slots < header.capacity → IfSome before (IsAtRest header records)
       → WhereTold (AppendFailed slots next) before after
       → IfSome after (IsKeptNow header records (Some (record { failed_at = failed_at; pending = next })))
-      × WhereTold (IsPassed header records records (Some (record { failed_at = failed_at; pending = next }))) before after
+      × WhereTold (HasPassed header records records (Some (record { failed_at = failed_at; pending = next }))) before after
   told_failed failed_at slots None None at room rest refused = (tt, tt)
   told_failed failed_at slots None (Some u) at room rest refused = absurd refused
   told_failed failed_at slots (Some t) None at room rest refused = absurd refused
@@ -84,7 +84,7 @@ module _ {D : Type 0} (trace : D → Option Trace) (faults : D → ℕ) (ledger 
 
   module _ (written : HasWritten trace faults next old new was is) where
     told : IfSome (trace (disk_of new)) (IsAtRest header (ledger.records ++ next ∷ []))
-        × WhereTold (IsPassed header ledger.records (ledger.records ++ next ∷ []) None) (trace (disk_of old)) (trace (disk_of new))
+        × WhereTold (HasPassed header ledger.records (ledger.records ++ next ∷ []) None) (trace (disk_of old)) (trace (disk_of new))
     told = told_added header ledger.records next (used old) (trace (disk_of old)) (trace (disk_of new)) (sym (holds.counted written.open_before))
         (slots_left written.open_before) (rest_before written.open_before) written.appended
 
@@ -115,8 +115,8 @@ module _ {D : Type 0} (trace : D → Option Trace) (faults : D → ℕ) (ledger 
     written_went after same = record {
       header = refl;
       begins = subst (λ (l : Ledger). IsPrefix ledger.records l.records) (sym same) (prefix_by ledger.records (next ∷ []));
-      moments = subst (λ (o : Option Failure). WhereTold (IsPassed header ledger.records after.records o) (trace (disk_of old)) (trace (disk_of new))) (sym written.open_after)
-          (subst (λ (l : Ledger). WhereTold (IsPassed header ledger.records l.records None) (trace (disk_of old)) (trace (disk_of new))) (sym same) told.1);
+      moments = subst (λ (o : Option Failure). WhereTold (HasPassed header ledger.records after.records o) (trace (disk_of old)) (trace (disk_of new))) (sym written.open_after)
+          (subst (λ (l : Ledger). WhereTold (HasPassed header ledger.records l.records None) (trace (disk_of old)) (trace (disk_of new))) (sym same) told.1);
       counts = omega (arith, written.passed);
       shut = λ failure closed. absurd (not_both was failure written.open_before closed);
       «open» = λ still. written.passed;
@@ -129,7 +129,7 @@ module _ {D : Type 0} (trace : D → Option Trace) (faults : D → ℕ) (ledger 
 
   module _ (failed : HasFailed trace faults next old new was is) where
     told_not : IfSome (trace (disk_of new)) (IsKeptNow header ledger.records (Some (record { failed_at = faults (disk_of new); pending = next })))
-        × WhereTold (IsPassed header ledger.records ledger.records (Some (record { failed_at = faults (disk_of new); pending = next })))
+        × WhereTold (HasPassed header ledger.records ledger.records (Some (record { failed_at = faults (disk_of new); pending = next })))
         (trace (disk_of old)) (trace (disk_of new))
     told_not = told_failed header ledger.records next (faults (disk_of new)) (used old) (trace (disk_of old)) (trace (disk_of new))
         (sym (holds.counted failed.open_before)) (slots_left failed.open_before) (rest_before failed.open_before) failed.refused
@@ -159,7 +159,7 @@ module _ {D : Type 0} (trace : D → Option Trace) (faults : D → ℕ) (ledger 
     failed_went = record {
       header = refl;
       begins = prefix_self ledger.records;
-      moments = subst (λ (o : Option Failure). WhereTold (IsPassed header ledger.records ledger.records o) (trace (disk_of old)) (trace (disk_of new)))
+      moments = subst (λ (o : Option Failure). WhereTold (HasPassed header ledger.records ledger.records o) (trace (disk_of old)) (trace (disk_of new)))
           (sym failed.closed) told_not.1;
       counts = failed.later;
       shut = λ failure closed. absurd (not_both was failure failed.open_before closed);

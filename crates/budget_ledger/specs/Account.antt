@@ -48,15 +48,15 @@ IsMoment header old new closed bytes =
     ⊎ ((failure : Failure) × (closed ≡ Some failure) × Stands header (new ++ failure.pending ∷ []) bytes)
 
 -- Each file that a stop since t may have left is one that a stop at t left, or such a moment.
-abbrev pub IsPassed : Header → (old new : List Record) → Option Failure → Trace → Trace → Type 0
-IsPassed header old new closed t u = Passes (λ bytes. IsImageOf t bytes ⊎ IsMoment header old new closed bytes) t u
+abbrev pub HasPassed : Header → (old new : List Record) → Option Failure → Trace → Trace → Type 0
+HasPassed header old new closed t u = Passes (λ bytes. IsImageOf t bytes ⊎ IsMoment header old new closed bytes) t u
 
 -- From one state of a book to a later one, or the same: no record is lost, every stop leaves such a moment, a book that is
 -- closed stays as it is, and one that isn't closed hasn't failed.
 pub record Went (old new : List Record) (before after : Storage) : Type 0 where
   pub header : after.header ≡ before.header
   pub begins : IsPrefix old new
-  pub moments : WhereTold (IsPassed before.header old new after.closed) before.trace after.trace
+  pub moments : WhereTold (HasPassed before.header old new after.closed) before.trace after.trace
   pub counts : before.faults ≤ after.faults
   pub shut : (failure : Failure) → before.closed ≡ Some failure → (after ≡ before) × (new ≡ old)
   pub «open» : after.closed ≡ None → after.faults ≡ before.faults

@@ -3,3 +3,4 @@ pub mod Booked
 pub mod Opened
 pub mod Kept
 pub mod Laws
+pub mod Machine

@@ -1,6 +1,7 @@
 //! How a book's states follow one another. Each function does nothing: its contract is the law.
 
 ghost use Rattle.budget_ledger.specs.Laws.{FollowsItself, FollowOn, LeavesMoments, OpensWhatStands, GrantsNeverShare};
+ghost use Rattle.budget_ledger.specs.Machine.{OpensAsTheMachine, RefusesAsTheMachine, ReservesAsTheMachine, SettlesAsTheMachine};
 
 /// Each state follows itself.
 pub fn a_state_follows_itself()
@@ -25,4 +26,12 @@ pub fn what_stands_is_opened()
 /// Over however many runs and stops no grant has the number of an earlier one.
 pub fn grants_never_share_a_number()
     ensures { GrantsNeverShare }
+{}
+
+/// A book is the pure machine of budgets: its reservations, refusals, settlements and openings are the machine's.
+pub fn books_are_the_machine()
+    ensures reserves { ReservesAsTheMachine }
+    ensures refuses { RefusesAsTheMachine }
+    ensures settles { SettlesAsTheMachine }
+    ensures opens { OpensAsTheMachine }
 {}

@@ -4,6 +4,7 @@ ghost use Rattle.std.specs.Prelude.{◌≡◌, ◌<◌, ◌≤◌, ℕ, get_or, 
 ghost use Rattle.std.specs.List.{All};
 ghost use Rattle.journal_records.specs.Encoding.{IsHeader};
 ghost use Rattle.journal_records.specs.declared.records.Header.{Header as HeaderModel};
+ghost use Rattle.owner_catalog.specs.Limits.{owner_limit};
 ghost use Rattle.catalog_loading.specs.Loaded.{IsKeyedHouse, header_of, owners_in};
 
 use crate::opening::Opened;
@@ -33,7 +34,7 @@ fn header_for(opened: &Opened, owner: u32) -> Result<Header, Stop>
 /// The header of each owner's journal, in order.
 pub fn headers_of(alloc: Global, opened: &Opened) -> Result<Vec<Header>, Stop>
     ensures count { IfOk result (λ headers. length headers.items ≡ owners_in opened.now.loading) }
-    ensures few { IfOk result (λ headers. length headers.items ≤ 16) }
+    ensures few { IfOk result (λ headers. length headers.items ≤ owner_limit) }
     ensures headers { IfOk result (λ headers. (o : ℕ) (d : HeaderModel) → o < owners_in opened.now.loading →
         get_or headers.items o d ≡ header_of opened.now.loading opened.now.key o) }
     ensures valid { IfOk result (λ headers. All IsHeader headers.items) }

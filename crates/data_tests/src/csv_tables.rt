@@ -11,7 +11,7 @@ use table_store::{NamedColumn, Schema, TableFault, groups, load};
 // A row of people: a name, an age and a town.
 type Person<'a> = (&'a [u8], i64, &'a [u8]);
 
-fn column(alloc: Global, name: &str, kind: Kind) -> Result<NamedColumn, AllocError>
+pub(crate) fn column(alloc: Global, name: &str, kind: Kind) -> Result<NamedColumn, AllocError>
     ensures { IfOk result (λ column. column.name ≡ name.now) }
 {
     Ok(NamedColumn::new(String::from_str(alloc, name)?, kind))

@@ -3,11 +3,12 @@
 ghost use Rattle.std.specs.Prelude.{◌<◌};
 
 use fz_frac::{Frac, Sens};
+use journal_records::records::Outcome;
 use wire_lines::LineRefusal::Malformed;
 use wire_lines::Request::{Ask, AskPart};
 use wire_lines::{
     DiskRefusal, LINE_LIMIT, LineRefusal, MoneyRefusal, Name, NumberRefusal, ProgramRefusal,
-    REPLY_LIMIT, Refusal, Reply, Request, Standing, TypeFault, epsilons_are_read_by_the_grammar,
+    REPLY_LIMIT, Refusal, Reply, Request, TypeFault, epsilons_are_read_by_the_grammar,
     lines_are_read_by_the_grammar, next_line, read_request, replies_differ_in_their_texts,
     write_reply,
 };
@@ -121,10 +122,10 @@ const REPLIES: [(Reply<'static>, &[u8]); 10] = [
     (Reply::Hello { analyst: Name { bytes: b"ann" } }, b"hello ann\n"),
     (Reply::Answer { number: 0, value: -5, taken: 1_000_000 }, b"answer 0 -5 1000000\n"),
     (Reply::Answer { number: u32::MAX, value: i64::MIN, taken: 1 }, b"answer 4294967295 -9223372036854775808 1\n"),
-    (Reply::Recalled { number: 0, standing: Standing::Answered(5), seen: 2 }, b"recall 0 answer 5 2\n"),
-    (Reply::Recalled { number: 0, standing: Standing::Open, seen: 2 }, b"recall 0 open 2\n"),
-    (Reply::Recalled { number: 0, standing: Standing::Lost, seen: 2 }, b"recall 0 lost 2\n"),
-    (Reply::Recalled { number: 0, standing: Standing::Exhausted, seen: 2 }, b"recall 0 exhausted 2\n"),
+    (Reply::Recalled { number: 0, outcome: Some(Outcome::Answered(5)), seen: 2 }, b"recall 0 answer 5 2\n"),
+    (Reply::Recalled { number: 0, outcome: None, seen: 2 }, b"recall 0 open 2\n"),
+    (Reply::Recalled { number: 0, outcome: Some(Outcome::Lost), seen: 2 }, b"recall 0 lost 2\n"),
+    (Reply::Recalled { number: 0, outcome: Some(Outcome::Exhausted), seen: 2 }, b"recall 0 exhausted 2\n"),
     (Reply::Left { spent: 1_000_000, budget: 10_000_000, seen: 1 }, b"left 1000000 10000000 1\n"),
     (Reply::Bye, b"bye\n"),
     (Reply::Refused(Refusal::Program(ProgramRefusal::Unbounded { table: TABLE })), b"no 33 a_name_of_thirty_two_bytes_00001\n"),

@@ -4,7 +4,6 @@ pub mod Forms
 pub mod TwoParts
 pub mod AtOnce
 pub mod Applying
-pub mod Held
 pub mod Examples
 pub mod Elements
 mod Datasets

@@ -12,6 +12,7 @@ ghost use Rattle.fuzz_eval.specs.Loops.{function_inside};
 ghost use Rattle.fuzz_eval.specs.Steps.{Can2, CanApply, CanFilter, CanMap, Gives2, HasFormWithin, HasValueWithin};
 
 use crate::bags::{no_elements, no_elements_twice};
+use crate::by_columns::{filter_columns, map_columns};
 use crate::nodes::{Body, bind_element, body_of, element_scope, look};
 use crate::operands::{at_once, taken_apart};
 use crate::words::{equal, inject, is_text, plain, ranged, scale, unary};
@@ -108,6 +109,9 @@ fn map(alloc: Global, c: &Value, b: &Value, left: u32) -> Result<Value, NoMemory
     if size == 0 {
         return no_elements(alloc);
     }
+    if let Some(images) = map_columns(alloc, c, b, left)? {
+        return Ok(images);
+    }
     let function = c.function();
     let body = body_of(&function.nodes, function.lambda);
     let mut inner = element_scope(alloc, &function.nodes, &function.scope, body)?;
@@ -131,6 +135,9 @@ fn filter(alloc: Global, c: &Value, b: &Value, left: u32) -> Result<Value, NoMem
     let size = b.size();
     if size == 0 {
         return no_elements(alloc);
+    }
+    if let Some(chosen) = filter_columns(alloc, c, b, left)? {
+        return Ok(chosen);
     }
     let function = c.function();
     let body = body_of(&function.nodes, function.lambda);

@@ -12,12 +12,16 @@ schedule_of link = link.schedule
 abbrev pub piece_of : MemLink → ℕ
 piece_of link = link.piece
 
+-- how many bytes it takes at most
+abbrev pub room_of : MemLink → ℕ
+room_of link = link.room
+
 -- all that it takes was written
 abbrev pub IsFull : MemLink → Type 0
-IsFull link = link.room ≤ length link.written.items
+IsFull link = room_of link ≤ length link.written.items
 
 -- From one state to the other a call was begun: it was counted, and the limits and the list are as they were.
-pub record IsBegun (old new : MemLink) : Type 0 where
+pub record HasBegun (old new : MemLink) : Type 0 where
   pub counted : new.schedule.calls ≡ min (old.schedule.calls + 1) last_count
   pub failing : new.schedule.failing ≡ old.schedule.failing
   pub piece : new.piece ≡ old.piece

@@ -29,7 +29,7 @@ pub struct MemLink<'a> {
 }
 
 impl<'a> MemLink<'a> {
-    ghost use Rattle.outside_links.specs.Memory.{schedule_of, piece_of};
+    ghost use Rattle.outside_links.specs.Memory.{schedule_of, piece_of, room_of};
 
     /// A connection of these bytes, which takes at most `room` bytes.
     pub fn new(
@@ -46,6 +46,7 @@ impl<'a> MemLink<'a> {
         ensures calls { IfOk result (λ link. (schedule_of link).calls ≡ 0) }
         ensures failing { IfOk result (λ link. (schedule_of link).failing.now ≡ failing.now) }
         ensures piece { IfOk result (λ link. piece_of link ≡ piece) }
+        ensures room { IfOk result (λ link. room_of link ≡ room) }
     {
         Ok(MemLink {
             left: input,
@@ -101,7 +102,7 @@ fn begin(schedule: &mut Schedule<'_>) -> Result<(), Failed>
 }
 
 impl Link for MemLink<'_> {
-    ghost use Rattle.outside_links.specs.Memory.{schedule_of, piece_of, IsFull, IsBegun};
+    ghost use Rattle.outside_links.specs.Memory.{schedule_of, piece_of, IsFull, HasBegun};
 
     ghost left = { λ link. Some link.left.now };
 
@@ -111,7 +112,7 @@ impl Link for MemLink<'_> {
 
     fn read(&mut self, buf: &mut [u8]) -> Result<usize, Failed>
         ensures began { schedule_of self.new ≡ began (schedule_of self.old) }
-        ensures begun { IsBegun self.old self.new }
+        ensures begun { HasBegun self.old self.new }
         ensures listed { is_err result ≡ is_listed (schedule_of self.old) }
         ensures short { IfOk result (λ n. n ≤ piece_of self.old) }
 
@@ -133,7 +134,7 @@ impl Link for MemLink<'_> {
     }
 
     fn write(&mut self, piece: &[u8]) -> Result<usize, Failed>
-        ensures begun { IsBegun self.old self.new }
+        ensures begun { HasBegun self.old self.new }
         ensures listed { IsTrue (is_listed (schedule_of self.old)) → IsErr result }
         ensures full { IsFull self.old → 0 < length piece.now → IsErr result }
         ensures short { IfOk result (λ n. n ≤ piece_of self.old) }

@@ -1,7 +1,7 @@
 -- The catalog that the bytes of a file hold, or the first fault in them.
 pub use Rattle.owner_catalog.specs.Entries.{TableEntry, PartitionEntry, OwnerEntry, Catalog, table_name, table_columns, partition_name, owner_name, owner_signature}
 pub use Rattle.owner_catalog.specs.Lawful.{IsCatalog}
-use Rattle.std.specs.Prelude.{ℕ, ◌^◌, List, [], map, get_or, codes, bytes_eq, Bool, false, true, ◌&&◌, position, Option, Some, None, Result, Ok, if◌then◌else◌}
+use Rattle.std.specs.Prelude.{ℕ, List, [], map, get_or, codes, bytes_eq, Bool, false, true, ◌&&◌, position, Option, Some, None, Result, Ok, if◌then◌else◌}
 use Rattle.std.specs.Str.{is_utf8}
 use Rattle.serde_json.specs.Data.{Data}
 use Rattle.serde_json.specs.Find.{as_str}
@@ -9,7 +9,9 @@ use Rattle.serde_json.specs.Read.{read}
 use Rattle.serde_json.specs.Written.{compact_text}
 use Rattle.fz_ast.specs.declared.row.Column.{Column}
 use Rattle.fz_ast.specs.declared.row.Column.TheVariants.{Num, Text}
-use Rattle.table_store.specs.Schema.{NamedColumn, column_name}
+use Rattle.partition_charge.specs.Views.{part_limit, partition_limit}
+use Rattle.budget_core.specs.Entries.{analyst_limit, budget_limit, capacity_limit}
+use Rattle.table_store.specs.Schema.{NamedColumn, column_name, most_columns}
 use Rattle.owner_catalog.specs.declared.fault.CatalogFault.{CatalogFault}
 use Rattle.owner_catalog.specs.declared.fault.FaultKind.TheVariants.{Syntax, Kind, Form as BadForm, NoSuch}
 use Rattle.owner_catalog.specs.declared.fault.Member.TheVariants as at
@@ -18,6 +20,7 @@ use Rattle.owner_catalog.specs.declared.reading.Labels.{Labels}
 use Rattle.owner_catalog.specs.declared.reading.Labels.TheVariants.{Analysts, Keys}
 use Rattle.owner_catalog.specs.declared.text.Form.{Form}
 use Rattle.owner_catalog.specs.declared.text.Form.TheVariants.{Name, Key}
+use Rattle.owner_catalog.specs.Limits.{owner_limit, table_limit}
 use Rattle.owner_catalog.specs.Forms.{has_form, is_catalog_name, is_table_name, is_file_name}
 use Rattle.owner_catalog.specs.Members.{catalog_members, owner_members, table_members, column_members, partition_members}
 use Rattle.owner_catalog.specs.Fault.{◌>>=◌, bad, or_bad, place, the, object_in, formed_text_in, bounded_number_in, list_in}
@@ -56,7 +59,7 @@ table_in o t d = do
   object ← object_in table_members at.Table (λ m. place m o t 0) d
   name ← formed_text_in is_table_name (place at.TableName o t 0) (the at.TableName d)
   file ← formed_text_in is_file_name (place at.File o t 0) (the at.File d)
-  columns ← list_in 1 16 (place at.Columns o t 0) column_name (λ c. place at.Column o t c) (column_in o t) (the at.Columns d)
+  columns ← list_in 1 most_columns (place at.Columns o t 0) column_name (λ c. place at.Column o t c) (column_in o t) (the at.Columns d)
   Ok (record { name = name; file = file; columns = columns })
 
 -- the number of the one that passes, or that there is no such one
@@ -77,24 +80,24 @@ partition_in o tables p d = do
   table ← one_in (λ text t. bytes_eq text t.name) tables (place at.PartitionTable o p 0) (the at.PartitionTable d)
   column ← one_in (λ text c. bytes_eq text c.name && is_text_column c.kind) (get_or (map table_columns tables) table [])
       (place at.PartitionColumn o p 0) (the at.PartitionColumn d)
-  keys ← list_in 1 250 (place at.Keys o p 0) (λ key. key) (label_place (Keys o p)) (label_in (Keys o p)) (the at.Keys d)
+  keys ← list_in 1 part_limit (place at.Keys o p 0) (λ key. key) (label_place (Keys o p)) (label_in (Keys o p)) (the at.Keys d)
   Ok (record { name = name; table = table; column = column; keys = keys })
 
 unfoldable pub owner_in : (owner : ℕ) → Data → Result OwnerEntry CatalogFault
 owner_in o d = do
   object ← object_in owner_members at.Owner (λ m. place m o 0 0) d
   name ← formed_text_in is_catalog_name (place at.OwnerName o 0 0) (the at.OwnerName d)
-  budget ← bounded_number_in 1 (10 ^ 18) (place at.Budget o 0 0) (the at.Budget d)
-  capacity ← bounded_number_in 2 262144 (place at.Capacity o 0 0) (the at.Capacity d)
-  tables ← list_in 1 8 (place at.Tables o 0 0) table_name (λ t. place at.Table o t 0) (table_in o) (the at.Tables d)
-  partitions ← list_in 0 8 (place at.Partitions o 0 0) partition_name (λ p. place at.Partition o p 0) (partition_in o tables) (the at.Partitions d)
+  budget ← bounded_number_in 1 budget_limit (place at.Budget o 0 0) (the at.Budget d)
+  capacity ← bounded_number_in 2 capacity_limit (place at.Capacity o 0 0) (the at.Capacity d)
+  tables ← list_in 1 table_limit (place at.Tables o 0 0) table_name (λ t. place at.Table o t 0) (table_in o) (the at.Tables d)
+  partitions ← list_in 0 partition_limit (place at.Partitions o 0 0) partition_name (λ p. place at.Partition o p 0) (partition_in o tables) (the at.Partitions d)
   Ok (record { name = name; budget = budget; capacity = capacity; tables = tables; partitions = partitions; text = compact_text d })
 
 unfoldable pub catalog_in : Data → Result Catalog CatalogFault
 catalog_in d = do
   object ← object_in catalog_members at.Catalog (λ m. place m 0 0 0) d
-  analysts ← list_in 1 64 (place at.Analysts 0 0 0) (λ name. name) (label_place Analysts) (label_in Analysts) (the at.Analysts d)
-  owners ← list_in 1 16 (place at.Owners 0 0 0) owner_name (λ o. place at.Owner o 0 0) owner_in (the at.Owners d)
+  analysts ← list_in 1 analyst_limit (place at.Analysts 0 0 0) (λ name. name) (label_place Analysts) (label_in Analysts) (the at.Analysts d)
+  owners ← list_in 1 owner_limit (place at.Owners 0 0 0) owner_name (λ o. place at.Owner o 0 0) owner_in (the at.Owners d)
   Ok (record { analysts = analysts; owners = owners; text = compact_text (the at.Analysts d) })
 
 -- the JSON value of some bytes

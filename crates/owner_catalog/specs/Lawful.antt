@@ -1,8 +1,11 @@
 -- What every catalog keeps that was read.
-use Rattle.std.specs.Prelude.{◌≡◌, ℕ, ◌^◌, ◌<◌, ◌≤◌, List, [], map, length, get_or, true, Some, bytes_eq, slice_get}
+use Rattle.std.specs.Prelude.{◌≡◌, ℕ, ◌<◌, ◌≤◌, List, [], map, length, get_or, true, Some, bytes_eq, slice_get}
 use Rattle.std.specs.List.{All, IsDistinct}
 use Rattle.fz_ast.specs.declared.row.Column.TheVariants.{Text}
+use Rattle.partition_charge.specs.Views.{part_limit, partition_limit}
+use Rattle.budget_core.specs.Entries.{analyst_limit, budget_limit, capacity_limit}
 use Rattle.table_store.specs.Schema.{NamedColumn, IsSchema}
+use Rattle.owner_catalog.specs.Limits.{owner_limit, table_limit}
 use Rattle.owner_catalog.specs.Forms.{is_catalog_name, is_table_name, is_file_name, is_key}
 use Rattle.owner_catalog.specs.Entries.{TableEntry, PartitionEntry, OwnerEntry, Catalog, table_name, table_columns, partition_name, owner_name}
 
@@ -29,30 +32,30 @@ pub record IsPartition (tables : List TableEntry) (partition : PartitionEntry) :
   pub there : slice_get (get_or (map table_columns tables) partition.table []) partition.column ≡ Some column
   pub text : column.kind ≡ Text
   pub some : 1 ≤ length partition.keys
-  pub few : length partition.keys ≤ 250
+  pub few : length partition.keys ≤ part_limit
   pub keys : All IsKey partition.keys
   pub distinct : IsDistinct bytes_eq partition.keys
 
 pub record IsOwner (owner : OwnerEntry) : Type 0 where
   pub name : is_catalog_name owner.name ≡ true
   pub least_budget : 1 ≤ owner.budget
-  pub most_budget : owner.budget ≤ 10 ^ 18
+  pub most_budget : owner.budget ≤ budget_limit
   pub least_capacity : 2 ≤ owner.capacity
-  pub most_capacity : owner.capacity ≤ 262144
+  pub most_capacity : owner.capacity ≤ capacity_limit
   pub some_tables : 1 ≤ length owner.tables
-  pub few_tables : length owner.tables ≤ 8
+  pub few_tables : length owner.tables ≤ table_limit
   pub tables : All IsTableEntry owner.tables
   pub distinct_tables : IsDistinct bytes_eq (map table_name owner.tables)
-  pub few_partitions : length owner.partitions ≤ 8
+  pub few_partitions : length owner.partitions ≤ partition_limit
   pub partitions : All (IsPartition owner.tables) owner.partitions
   pub distinct_partitions : IsDistinct bytes_eq (map partition_name owner.partitions)
 
 pub record IsCatalog (catalog : Catalog) : Type 0 where
   pub some_analysts : 1 ≤ length catalog.analysts
-  pub few_analysts : length catalog.analysts ≤ 64
+  pub few_analysts : length catalog.analysts ≤ analyst_limit
   pub analysts : All IsCatalogName catalog.analysts
   pub distinct_analysts : IsDistinct bytes_eq catalog.analysts
   pub some_owners : 1 ≤ length catalog.owners
-  pub few_owners : length catalog.owners ≤ 16
+  pub few_owners : length catalog.owners ≤ owner_limit
   pub owners : All IsOwner catalog.owners
   pub distinct_owners : IsDistinct bytes_eq (map owner_name catalog.owners)

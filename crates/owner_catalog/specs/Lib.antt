@@ -1,4 +1,5 @@
 -- The definitions of this crate.
+pub mod Limits
 pub mod Forms
 pub mod Members
 pub mod Plain

@@ -3,6 +3,8 @@ ghost use Rattle.std.specs.Prelude.{◌≡◌, ◌<◌, ◌≤◌, [], length, m
 ghost use Rattle.std.specs.List.{All, IsDistinct};
 ghost use Rattle.fz_ast.specs.Types.{WellFormed, formed, is_flat};
 ghost use Rattle.table_store.specs.Schema.{row_of_schema};
+ghost use Rattle.partition_charge.specs.Views.{part_limit, partition_limit};
+ghost use Rattle.owner_catalog.specs.Limits.{table_limit};
 ghost use Rattle.owner_catalog.specs.Entries.{owner_entry_at, table_entry_at, partition_entry_at, owner_signature, table_name, table_type_of};
 ghost use Rattle.owner_catalog.specs.Lawful.{IsCatalog, IsTableEntry};
 
@@ -180,7 +182,7 @@ impl Catalog {
     pub fn tables(&self, o: u32) -> usize
         requires { o < length self.now.owners }
         ensures tables { result ≡ length (owner_entry_at self.now o).tables }
-        ensures few { result ≤ 8 }
+        ensures few { result ≤ table_limit }
     {
         self.owners[o as usize].tables.len()
     }
@@ -189,7 +191,7 @@ impl Catalog {
     pub fn partitions(&self, o: u32) -> usize
         requires { o < length self.now.owners }
         ensures partitions { result ≡ length (owner_entry_at self.now o).partitions }
-        ensures few { result ≤ 8 }
+        ensures few { result ≤ partition_limit }
     {
         self.owners[o as usize].partitions.len()
     }
@@ -200,7 +202,7 @@ impl Catalog {
         requires partition { p < length (owner_entry_at self.now o).partitions }
         ensures keys { result ≡ length (partition_entry_at self.now o p).keys }
         ensures some { 1 ≤ result }
-        ensures few { result ≤ 250 }
+        ensures few { result ≤ part_limit }
     {
         self.owners[o as usize].partitions[p as usize].keys.len()
     }

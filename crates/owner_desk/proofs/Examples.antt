@@ -17,7 +17,7 @@ use Rattle.budget_ledger.specs.Account.{Account}
 use Rattle.budget_ledger.specs.declared.failure.Failure.{Failure}
 use Rattle.budget_ledger.specs.declared.book.AppendFault.TheVariants.{Closed, DiskFault}
 use Rattle.budget_ledger.specs.declared.book.BookFault.TheVariants.{Refused, Unwritten}
-use Rattle.owner_desk.specs.Passes.{Pass, Told, IsFresh, closing, first_of_run, pass_on, records_told, told_behind}
+use Rattle.owner_desk.specs.Passes.{Pass, Told, IsJustOpened, closing, first_of_run, pass_on, records_told, told_behind}
 use Rattle.owner_desk.specs.Answers.{Has, HasGranted, HasLooked, HasReserved, HasSettled}
 
 -- an ask of the whole at sensitivity 1, and its reservation under a number
@@ -46,13 +46,13 @@ pass seen failure own faults = record { opened = book found None; seen = seen; f
 
 -- ---- what a pass shows
 
-fresh : IsFresh (book found None)
+fresh : IsJustOpened (book found None)
 fresh = record { found = refl; unclosed = refl }
 
-not_fresh_with_more : IsFresh (book (found ++ reserved 1 ∷ []) None) → ⊥
+not_fresh_with_more : IsJustOpened (book (found ++ reserved 1 ∷ []) None) → ⊥
 not_fresh_with_more h = let more : found ++ reserved 1 ∷ [] ≡ found = h.found in let three : 3 ≡ 2 = ap length more in omega (arith, three)
 
-not_fresh_when_closed : IsFresh (book found (Some (failed (reserved 1)))) → ⊥
+not_fresh_when_closed : IsJustOpened (book found (Some (failed (reserved 1)))) → ⊥
 not_fresh_when_closed h = let no : Some (failed (reserved 1)) ≡ None = h.unclosed in cc
 
 -- the records behind those found, at their places

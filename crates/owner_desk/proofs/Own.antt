@@ -6,7 +6,7 @@ use Rattle.std.proofs.Math.Seq.{drop-append_seam}
 use Rattle.journal_records.specs.declared.records.Record.{Record}
 use Rattle.budget_core.specs.Ledger.{Ledger}
 use Rattle.budget_ledger.specs.Account.{Account}
-use Rattle.owner_desk.specs.Passes.{Told, IsSole, told_behind, records_told, HasGone, IsFresh, closing}
+use Rattle.owner_desk.specs.Passes.{Told, IsSole, told_behind, records_told, HasGone, IsJustOpened, closing}
 use Rattle.budget_ledger.specs.declared.failure.Failure.{Failure}
 use Rattle.owner_desk.specs.Answers.{Has}
 

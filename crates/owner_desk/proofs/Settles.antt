@@ -23,7 +23,7 @@ use Rattle.owner_desk.specs.Answers.{Has, HasGranted}
 use Rattle.owner_desk.proofs.Own.{told_at, at_told, found_is}
 
 -- a reservation counts in all that stand behind it
-counts_behind : (records : List Record) (j k : ℕ) (one : Reservation) → slice_get records j ≡ Some (Reserve one) → j < k
+pub counts_behind : (records : List Record) (j k : ℕ) (one : Reservation) → slice_get records j ≡ Some (Reserve one) → j < k
     → length (reservations_of (take j records)) < length (reservations_of (take k records))
 counts_behind [] j k one at lt = absurd cc
 counts_behind (x ∷ records) j zero one at lt = absurd (omega (arith, lt))

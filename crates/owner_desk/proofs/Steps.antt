@@ -16,8 +16,8 @@ use Rattle.budget_ledger.specs.declared.book.BookFault.{BookFault}
 use Rattle.budget_ledger.specs.declared.book.BookFault.TheVariants.{Refused, Unwritten}
 use Rattle.budget_ledger.specs.Booked.{HasGained, HasClosed, IsUnwritten, IsReserved, IsSettlementOf}
 use Rattle.budget_ledger.proofs.Wents.{prefix_self, went_self, went_then}
-use Rattle.owner_desk.specs.Passes.{Pass, Told, IsFresh, IsSole, closing, pass_on, told_behind, HasGone, IsUntouched, ledger_on}
-use Rattle.owner_desk.specs.Answers.{Has, Adds, Stays, Fails, IsUnadded, IsReservedOn, IsSettledOn, HasReserved, HasSettled, HasGranted, verdict_on}
+use Rattle.owner_desk.specs.Passes.{Pass, Told, IsJustOpened, IsSole, closing, pass_on, told_behind, HasGone, IsUntouched, ledger_on}
+use Rattle.owner_desk.specs.Answers.{Has, AddsRecord, PassStays, Fails, IsUnadded, IsReservedOn, IsSettledOn, HasReserved, HasSettled, HasGranted, verdict_on}
 use Rattle.owner_desk.proofs.Own.{told_at, told_behind-append, found-le}
 use Rattle.owner_desk.proofs.Settles.{not_unsettled}
 
@@ -80,7 +80,7 @@ sole_on opened old new sole same untouched went book = record {
   book = book;
 }
 
-pub sole_first : (book : Account) → IsBook book → IsFresh book → IsSole book book
+pub sole_first : (book : Account) → IsBook book → IsJustOpened book → IsSole book book
 sole_first book is fresh = record { fresh = fresh; gone = record { ledger = refl; went = went_self book.ledger.records book.storage }; untouched = λ none unclosed. refl; book = is }
 
 pub sole_reserved : (opened old new : Account) (ask : Ask) (result : Result Grant BookFault) → IsSole opened old → IsReserved old ask result new
@@ -100,7 +100,7 @@ module _ (opened old new : Account) (sole : IsSole opened old) where
   abbrev after : Pass
   after = pass_on opened new
 
-  adds : (next : Record) → HasGained old next new → Adds before old.ledger.records next after
+  adds : (next : Record) → HasGained old next new → AddsRecord before old.ledger.records next after
   adds next h =
       let records : new.ledger.records ≡ old.ledger.records ++ next ∷ [] = ap (λ (l : Ledger). l.records) h.ledger in
       record {
@@ -111,8 +111,8 @@ module _ (opened old new : Account) (sole : IsSole opened old) where
         faults = ap closing h.open_after ∙ sym (ap closing h.open_before);
       }
 
-  stays : new ≡ old → Stays before old.ledger.records after
-  stays is = subst (λ (a : Account). Stays before old.ledger.records (pass_on opened a)) (sym is)
+  stays : new ≡ old → PassStays before old.ledger.records after
+  stays is = subst (λ (a : Account). PassStays before old.ledger.records (pass_on opened a)) (sym is)
       (record { seen = refl; own = refl; faults = refl; closed = λ failure was. was })
 
   fails : (next : Record) → HasClosed old next new → Fails before old.ledger.records next after

@@ -27,7 +27,7 @@ abbrev pub verdict_on : Pass → List Record → Ask → Result Grant ReserveFau
 verdict_on pass g asking = money_verdict pass.opened.ledger.entry (start_of pass.opened.ledger) g asking
 
 -- A record was added behind these, to a book that wasn't closed and isn't.
-pub record Adds (before : Pass) (g : List Record) (next : Record) (after : Pass) : Type 0 where
+pub record AddsRecord (before : Pass) (g : List Record) (next : Record) (after : Pass) : Type 0 where
   pub open_before : before.failure ≡ None
   pub open_after : after.failure ≡ None
   pub seen : after.seen ≡ g ++ next ∷ []
@@ -35,7 +35,7 @@ pub record Adds (before : Pass) (g : List Record) (next : Record) (after : Pass)
   pub faults : after.faults ≡ before.faults
 
 -- Nothing was done to the book, which has these records.
-pub record Stays (before : Pass) (g : List Record) (after : Pass) : Type 0 where
+pub record PassStays (before : Pass) (g : List Record) (after : Pass) : Type 0 where
   pub seen : after.seen ≡ g
   pub own : after.own ≡ before.own
   pub faults : after.faults ≡ before.faults
@@ -54,18 +54,18 @@ pub record Fails (before : Pass) (g : List Record) (next : Record) (after : Pass
 -- why a record wasn't added
 abbrev pub IsUnadded : Pass → List Record → Record → AppendFault → Pass → Type 0
 IsUnadded before g next (Closed failed_at) after =
-    (failure : Failure) × (after.failure ≡ Some failure) × (failed_at ≡ failure.failed_at) × Stays before g after
+    (failure : Failure) × (after.failure ≡ Some failure) × (failed_at ≡ failure.failed_at) × PassStays before g after
 IsUnadded before g next DiskFault after = Fails before g next after
 
 abbrev pub IsReservedOn : Pass → List Record → Ask → Result Grant BookFault → Pass → Type 0
 IsReservedOn before g asking (Ok grant) after =
-    (verdict_on before g asking ≡ Ok grant) × Adds before g (reservation_for g asking grant.taken) after
-IsReservedOn before g asking (Err (Refused fault)) after = (verdict_on before g asking ≡ Err fault) × Stays before g after
+    (verdict_on before g asking ≡ Ok grant) × AddsRecord before g (reservation_for g asking grant.taken) after
+IsReservedOn before g asking (Err (Refused fault)) after = (verdict_on before g asking ≡ Err fault) × PassStays before g after
 IsReservedOn before g asking (Err (Unwritten fault)) after =
     (grant : Grant) × (verdict_on before g asking ≡ Ok grant) × IsUnadded before g (reservation_for g asking grant.taken) fault after
 
 abbrev pub IsSettledOn : Pass → List Record → (number : ℕ) → Outcome → Result ℕ AppendFault → Pass → Type 0
-IsSettledOn before g number outcome (Ok seen) after = Adds before g (settling number outcome) after × (seen ≡ length after.seen)
+IsSettledOn before g number outcome (Ok seen) after = AddsRecord before g (settling number outcome) after × (seen ≡ length after.seen)
 IsSettledOn before g number outcome (Err fault) after = IsUnadded before g (settling number outcome) fault after
 
 -- what came of an ask of the budget
@@ -78,7 +78,7 @@ HasSettled before number outcome result after = (g : List Record) × IsPrefix be
 
 -- what was told by the book's ledger, to which nothing was done
 abbrev pub HasLooked : Pass → (IsTold : Ledger → Type 0) → Pass → Type 0
-HasLooked before IsTold after = (g : List Record) × IsPrefix before.seen g × IsTold (ledger_on before.opened g) × Stays before g after
+HasLooked before IsTold after = (g : List Record) × IsPrefix before.seen g × IsTold (ledger_on before.opened g) × PassStays before g after
 
 -- The pass reserved this number, and hasn't settled it.
 pub record HasGranted (pass : Pass) (number : ℕ) : Type 0 where

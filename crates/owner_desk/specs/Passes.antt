@@ -41,7 +41,7 @@ closing None = []
 closing (Some failure) = failure ∷ []
 
 -- The book was just opened: nothing was added to it, and no append has failed.
-pub record IsFresh (opened : Account) : Type 0 where
+pub record IsJustOpened (opened : Account) : Type 0 where
   pub found : opened.ledger.records ≡ opened.ledger.found
   pub unclosed : opened.storage.closed ≡ None
 
@@ -56,7 +56,7 @@ IsUntouched opened now = now.ledger.records ≡ opened.ledger.found → now.stor
 
 -- A book was just opened so, and is so now.
 pub record IsSole (opened now : Account) : Type 0 where
-  pub fresh : IsFresh opened
+  pub fresh : IsJustOpened opened
   pub gone : HasGone opened now
   pub untouched : IsUntouched opened now
   pub book : IsBook now

@@ -4,7 +4,7 @@ ghost use Rattle.std.specs.Prelude.{◌≡◌, ◌++◌, [], None, Some};
 ghost use mathlib.Core.List.{IsPrefix};
 ghost use Rattle.budget_ledger.specs.Account.{IsBook, Went};
 ghost use Rattle.budget_ledger.specs.declared.failure.Failure.{Failure};
-ghost use Rattle.owner_desk.specs.Passes.{IsFresh, closing, ledger_on, records_told};
+ghost use Rattle.owner_desk.specs.Passes.{IsJustOpened, closing, ledger_on, records_told};
 
 use budget_ledger::book::Book;
 use outside_disks::disk::Disk;
@@ -33,7 +33,7 @@ impl<D: Disk> Pass<D> {
     /// A pass on a book that was just opened.
     pub fn new(book: Book<D>) -> Pass<D>
         requires book { IsBook book }
-        requires fresh { IsFresh book }
+        requires fresh { IsJustOpened book }
         ensures { result ≡ record { opened = book; seen = book.ledger.found; failure = None; own = []; faults = [] } }
     {
         let opened = Snapshot::of(&book);

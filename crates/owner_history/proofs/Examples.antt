@@ -16,7 +16,6 @@ use Rattle.shape_law.specs.Walk.{depth_limit}
 use Rattle.metric_values.specs.Tables.{Dataset}
 use Rattle.part_views.specs.Views.{signature_in, rows_in}
 use Rattle.wire_lines.specs.Reply.{greeted, answered, recalled, remaining, ended, refused}
-use Rattle.wire_lines.specs.declared.reply.Standing.TheVariants.{Answered as WasAnswered, Exhausted as WasExhausted, Open as IsOpen, Lost as WasLost}
 use Rattle.wire_lines.specs.declared.refusal.DiskRefusal.TheVariants.{Fault}
 use Rattle.wire_lines.specs.Refusal.{by_line, by_program, by_money, by_disk, by_number, no_memory, no_number}
 use Rattle.wire_lines.specs.declared.refusal.LineRefusal.TheVariants.{NoHello}
@@ -153,22 +152,22 @@ of_disk : told_settlement (refused (by_disk Fault)) ≡ None
 of_disk = refl
 
 -- a recalled answer is told by another reply than the first one, and is the value that was settled
-of_recalled : recall_in (recalled 7 (WasAnswered (pos 2)) 2) ≡ Some (7, Answered (pos 2))
+of_recalled : recall_in (recalled 7 (Some (Answered (pos 2))) 2) ≡ Some (7, Answered (pos 2))
 of_recalled = refl
 
-of_recalled_exhausted : recall_in (recalled 7 WasExhausted 2) ≡ Some (7, Exhausted)
+of_recalled_exhausted : recall_in (recalled 7 (Some Exhausted) 2) ≡ Some (7, Exhausted)
 of_recalled_exhausted = refl
 
-of_recalled_open : recall_in (recalled 7 IsOpen 2) ≡ None
+of_recalled_open : recall_in (recalled 7 None 2) ≡ None
 of_recalled_open = refl
 
-of_recalled_lost : recall_in (recalled 7 WasLost 2) ≡ None
+of_recalled_lost : recall_in (recalled 7 (Some Lost) 2) ≡ None
 of_recalled_lost = refl
 
 of_balance : recall_in (remaining 1000000 10000000 2) ≡ None
 of_balance = refl
 
-recalled_two : IsRecallBorneOut (settled_as (Answered (pos 2))) 0 (recalled 0 (WasAnswered (pos 2)) 2)
+recalled_two : IsRecallBorneOut (settled_as (Answered (pos 2))) 0 (recalled 0 (Some (Answered (pos 2))) 2)
 recalled_two n outcome said =
     let pair : (0, Answered (pos 2)) ≡ (n, outcome) = cc (said) in
     let number : 0 ≡ n = ap (λ (z : ℕ × Outcome). z.0) pair in
@@ -177,10 +176,10 @@ recalled_two n outcome said =
     (subst (λ (u : Outcome). IsSettledFor (settled_as (Answered (pos 2))) 0 0 u) settled (record { reserved = reserved; numbered = refl; asked_by = refl; settled = refl }))
 
 -- the records don't bear out another value, nor that it is another analyst's
-not_recalled_three : IsRecallBorneOut (settled_as (Answered (pos 2))) 0 (recalled 0 (WasAnswered (pos 3)) 2) → ⊥
+not_recalled_three : IsRecallBorneOut (settled_as (Answered (pos 2))) 0 (recalled 0 (Some (Answered (pos 3))) 2) → ⊥
 not_recalled_three h = let s = h 0 (Answered (pos 3)) refl in cc (s.settled)
 
-not_recalled_by_another : IsRecallBorneOut (settled_as (Answered (pos 2))) 1 (recalled 0 (WasAnswered (pos 2)) 2) → ⊥
+not_recalled_by_another : IsRecallBorneOut (settled_as (Answered (pos 2))) 1 (recalled 0 (Some (Answered (pos 2))) 2) → ⊥
 not_recalled_by_another h =
     let s = h 0 (Answered (pos 2)) refl in
     let both : Some reserved ≡ Some s.reserved = s.numbered in

@@ -8,7 +8,6 @@ use Rattle.budget_core.specs.Counts.{reservation_of, outcome_of}
 use Rattle.wire_lines.specs.Reply.{Replied, greeted, answered, recalled, remaining, ended, refused}
 use Rattle.wire_lines.specs.Refusal.{by_line, by_program, by_money, by_disk, by_number, no_memory}
 use Rattle.wire_lines.specs.declared.refusal.NumberRefusal.TheVariants.{Exhausted as NoNoise, Lost as NoAnswer, Unknown, NotYours}
-use Rattle.wire_lines.specs.declared.reply.Standing.TheVariants.{Answered as WasAnswered, Exhausted as WasExhausted, Open as IsOpen, Lost as WasLost}
 use Rattle.answer_path.specs.Query.{Query}
 
 -- The query was granted the number n, and the records settle n so. Number n's reservation has the query's analyst, view and
@@ -54,10 +53,10 @@ pub record IsSettledFor (records : List Record) (analyst n : ℕ) (outcome : Out
 -- The number that a reply to a recall speaks of, and how it was settled. One that is open isn't settled, and one that is lost
 -- may have been open in an earlier run.
 abbrev pub recall_in : Replied → Option (ℕ × Outcome)
-recall_in (recalled n (WasAnswered value) seen) = Some (n, Answered value)
-recall_in (recalled n WasExhausted seen) = Some (n, Exhausted)
-recall_in (recalled n IsOpen seen) = None
-recall_in (recalled n WasLost seen) = None
+recall_in (recalled n (Some (Answered value)) seen) = Some (n, Answered value)
+recall_in (recalled n (Some Exhausted) seen) = Some (n, Exhausted)
+recall_in (recalled n (Some Lost) seen) = None
+recall_in (recalled n None seen) = None
 recall_in (answered n value taken) = None
 recall_in (remaining spent budget seen) = None
 recall_in (refused refusal) = None

@@ -1,5 +1,5 @@
 -- what a query's refusal for its owner's disk says of that disk
-use Rattle.std.proofs.Common.{◌≡◌, ℕ, ◌<◌, Option, Some, None, ap, ◌∙◌, arith}
+use Rattle.std.proofs.Common.{◌≡◌, Some, ap, arith}
 use Rattle.word_streams.specs.Draws.{draws_of}
 use Rattle.fz_outside.specs.Faults.{HasRisen}
 use Rattle.outside_disks.specs.Disks.{Shown}

@@ -11,20 +11,19 @@ use Rattle.owner_catalog.specs.Entries.{OwnerEntry, owner_entry_at}
 use Rattle.part_views.specs.Holding.{Holding}
 use Rattle.owner_house.specs.House.{IsHeldBy, Register}
 use Rattle.owner_house.proofs.Signed.{signature_signed}
-use Rattle.command_words.specs.Command.{Command, init, run, audit, check, gap, command_of}
+use Rattle.command_words.specs.Command.{Command, gap, command_of}
 use Rattle.catalog_loading.specs.Files.{ReadsToCome}
 use Rattle.catalog_loading.specs.Steps.{FileStep, ◌>>=◌, continued, done, file_read, from}
 use Rattle.catalog_loading.specs.Loaded.{catalog_read, entry_named, holding_in, loaded, owner_loaded}
 use Rattle.catalog_loading.specs.Fit.{fitting, if_fitting, same_table}
-use Rattle.query_server.specs.Work.{Work, ended, refused, to_answer, to_make, to_count, to_compare}
+use Rattle.query_server.specs.Work.{Work, ended, refused, to_compare}
 use Rattle.query_server.specs.Gap.{gap_steps}
-use Rattle.query_server.specs.Due.{work_of, command_steps}
 use Rattle.query_server.specs.Laws.{GapsAreOfDatasets}
 use Rattle.catalog_loading.proofs.Pairs.{inverted}
 use Rattle.catalog_loading.proofs.Owners.{find_place}
 use Rattle.catalog_loading.proofs.Fits.{same_signature}
 use Rattle.catalog_loading.proofs.Loaded.{catalog_lawful, loaded_register}
-use Rattle.query_server.proofs.Endings.{check_cases, house_cases}
+use Rattle.query_server.proofs.Endings.{ComesTo, compares, work_by, work_comes}
 
 -- What holds of a refused name, and of what the next steps come to with what a step gave, holds of both.
 then_known : {A : Type 0} (P : Work → Type 0) → ((name : List ℕ) → P (refused name)) → (step : FileStep A) (next : A → FileStep Work) (reads : ReadsToCome)
@@ -118,14 +117,12 @@ gap_known catalog owner second_catalog file reads =
     (known house owner _ entry holding (catalog_lawful catalog _ house opened) named loads)
     (known second_house owner _ other second_holding (catalog_lawful second_catalog _ second_house second_opened) (fits_named entry second_house owner other fits) second_loads))))))))
 
+-- two datasets are compared by a `gap` alone
+gap_asked : (command : Option Command) (tables : Signature) (X Y : Dataset) (program : List ℕ) → ComesTo command (to_compare tables X Y program)
+    → (catalog : List ℕ) × (owner : List ℕ) × (second_catalog : List ℕ) × (file : List ℕ) × (command ≡ Some (gap catalog owner second_catalog file))
+gap_asked command tables X Y program (compares {catalog = catalog} {owner = owner} {second_catalog = second} {file = file}) = (catalog, owner, second, file, refl)
+
 pub gaps_of_datasets : GapsAreOfDatasets
-unfolding work_of
-gaps_of_datasets words reads = here (command_of words)
-  where
-    here : (command : Option Command) → IsOfDatasets (ended (command_steps command reads).given)
-    here None = λ tables X Y program is. cc
-    here (Some (run catalog key workers)) = house_cases IsOfDatasets (λ name tables X Y program is. cc) (to_answer workers) (λ loading key tables X Y program is. cc) catalog key reads
-    here (Some (init catalog key)) = house_cases IsOfDatasets (λ name tables X Y program is. cc) to_make (λ loading key tables X Y program is. cc) catalog key reads
-    here (Some (audit catalog key)) = house_cases IsOfDatasets (λ name tables X Y program is. cc) to_count (λ loading key tables X Y program is. cc) catalog key reads
-    here (Some (check catalog owner file)) = check_cases IsOfDatasets (λ name tables X Y program is. cc) (λ ts bytes tables X Y program is. cc) catalog owner file reads
-    here (Some (gap catalog owner second_catalog file)) = gap_known catalog owner second_catalog file reads
+gaps_of_datasets words reads tables X Y program is =
+    let asked = gap_asked (command_of words) tables X Y program (subst (ComesTo (command_of words)) is (work_comes words reads)) in
+    gap_known asked.0 asked.1 asked.2 asked.3 reads tables X Y program (sym (work_by words reads _ asked.4) ∙ is)

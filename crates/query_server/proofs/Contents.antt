@@ -1,8 +1,7 @@
 -- contents of files and of the source: those that are told, or some
 use Rattle.std.proofs.Common.{◌≡◌, ℕ, List, [], Option, Some, None, refl, subst}
 use Rattle.catalog_loading.specs.Files.{Contents, ReadsToCome, AreTold, always}
-use Rattle.query_server.specs.Due.{IsLeft}
-use Rattle.query_server.specs.Due.{ForContents}
+use Rattle.query_server.specs.Due.{ForContents, IsLeft}
 use Rattle.catalog_loading.proofs.Reached.{any_reads}
 
 -- some bytes of a source

@@ -1,7 +1,6 @@
 -- The lines of owners and their records, one after another.
-use Rattle.std.proofs.Common.{◌≡◌, ◌<◌, ◌≤◌, ◌+◌, ◌∙◌, ◌++◌, ℕ, Bool, List, [], ◌∷◌, length, get_or, take, cond, Option, None, Some, Result, Ok, Err, refl, sym, ap, ap₂, subst, append_assoc, append-nil, arith}
-use Rattle.std.specs.Prelude.{◌⊎◌, if◌then◌else◌, nat_eq, IfErr, IfOk, IsErrAnd, IsSome, Vec}
-use Rattle.std.specs.declared.alloc.Global.{Global}
+use Rattle.std.proofs.Common.{◌≡◌, ◌<◌, ◌≤◌, ◌+◌, ◌∙◌, ◌++◌, ℕ, Bool, List, [], ◌∷◌, length, get_or, take, cond, Option, Some, Result, Ok, Err, refl, sym, ap, ap₂, subst, append_assoc, append-nil, arith}
+use Rattle.std.specs.Prelude.{◌⊎◌, if◌then◌else◌, nat_eq, IfErr, IfOk, IsErrAnd, IsSome}
 use Rattle.std.specs.Result.{is_ok}
 use Rattle.std.specs.List.{enumerate_from, flat_map}
 use mathlib.Core.Logic.{inl, inr}
@@ -15,17 +14,14 @@ use Rattle.journal_records.specs.declared.records.Header.{Header}
 use Rattle.journal_records.specs.declared.records.Record.{Record}
 use Rattle.budget_core.specs.Entries.{Entry}
 use Rattle.owner_catalog.specs.Entries.{OwnerEntry}
-use Rattle.catalog_loading.specs.Loaded.{Loading, header_of, owners_in, entry_at}
 use Rattle.session_core.specs.Transcript.{Journals}
-use Rattle.query_server.specs.Shelves.{Shelf, EachDisk, IsOnlySynced, SomeRose, StandsStill, bytes_on}
-use Rattle.query_server.specs.Opened.{AreOpened, AreOpenedBefore, IsOpened, IsUnopened}
-use Rattle.query_server.specs.Work.{to_count}
-use Rattle.query_server.specs.Audit.{counted_line, counted_text}
-use Rattle.query_server.specs.Ends.{IsEndOf, end_by}
-use Rattle.query_server.specs.declared.end.End.TheVariants.{Listed}
-use Rattle.query_server.specs.Books.{IsBookStop, IsOpenStop, LeftDisk}
+use Rattle.query_server.specs.Shelves.{Shelf, EachDisk, IsOnlySynced, NoOtherRose, SomeRose, StandsStill, bytes_on}
+use Rattle.query_server.specs.Opened.{IsOpened}
+use Rattle.query_server.specs.Audit.{counted_line}
+use Rattle.query_server.specs.Books.{LeftDisk}
 use Rattle.catalog_loading.specs.declared.stops.Stop.{Stop}
-use Rattle.catalog_loading.specs.declared.stops.Stop.TheVariants.{Usage, Refused, Journal, Disk, Fault, NoMemory}
+use Rattle.query_server.proofs.Disks.{before_last, risen_from}
+use Rattle.query_server.proofs.Home.{some_of}
 
 -- what is so of a stop is so where it is passed on
 pub stop_passed : {T : Type 0} (P : Stop → Type 0) (stop : Stop) (result : Result T Stop) → IsErrAnd result (λ e. e ≡ stop) → P stop → IfErr result P
@@ -108,10 +104,7 @@ one_counted entries Known owners o d records lines more within (found, known, te
 
     here : (p : ℕ) → p < o + 1 → (p ≡ o) ⊎ (p ≡ o → ⊥) → Known p (with_next found o records p)
     here p less (inl same) = subst (λ (q : ℕ). Known q (with_next found o records q)) (sym same) (subst (Known o) (sym (next_here found o records)) last)
-    here p less (inr isnt) = subst (Known p) (sym (next_elsewhere found o records p isnt)) (known p (before p o less isnt))
-      where
-        before : (p o : ℕ) → p < o + 1 → (p ≡ o → ⊥) → p < o
-        before p o less isnt = grind (arith, less, isnt)
+    here p less (inr isnt) = subst (Known p) (sym (next_elsewhere found o records p isnt)) (known p (before_last p o less isnt))
 
 -- one disk more was synced at most
 pub one_left : (o : ℕ) (old mid new : Shelf) → EachDisk o (λ _. IsOnlySynced) old mid → LeftDisk o mid new → EachDisk (o + 1) (λ _. IsOnlySynced) old new
@@ -125,62 +118,23 @@ one_left o old mid new before left = record {
         let after = left.here shown (before.others o (omega arith) ∙ ap old (sym same) ∙ at) in
         (after.0, ap new same ∙ after.1, after.2)
     here p shown less at (inr isnt) =
-        let after = before.owned p shown (closer p o less isnt) at in
+        let after = before.owned p shown (before_last p o less isnt) at in
         (after.0, left.elsewhere p isnt ∙ after.1, after.2)
-      where
-        closer : (p o : ℕ) → p < o + 1 → (p ≡ o → ⊥) → p < o
-        closer p o less isnt = grind (arith, less, isnt)
-
--- and those behind it are as they were
-pub all_left : (o n : ℕ) (old new : Shelf) → o ≤ n → ((shown : Shown) → IsOnlySynced shown shown) → EachDisk o (λ _. IsOnlySynced) old new → EachDisk n (λ _. IsOnlySynced) old new
-all_left o n old new few still before = record {
-  owned = λ p shown less at. here p shown at (cases_lt p o);
-  others = λ p past. before.others p (omega (arith, past, few));
-}
-  where
-    here : (p : ℕ) (shown : Shown) → old p ≡ Some shown → (p < o) ⊎ (o ≤ p) → (after : Shown) × (new p ≡ Some after) × IsOnlySynced shown after
-    here p shown at (inl less) = before.owned p shown less at
-    here p shown at (inr past) = (shown, before.others p past ∙ at, still shown)
 
 -- one disk more whose count stands still
+pub still_elsewhere : (o : ℕ) (old mid new : Shelf) → ((p : ℕ) → StandsStill p old mid) → LeftDisk o mid new → NoOtherRose o old new
+still_elsewhere o old mid new before left p isnt earlier later was shows = before p earlier later was (sym (left.elsewhere p isnt) ∙ shows)
+
 pub one_still : (o : ℕ) (old mid new : Shelf) → ((p : ℕ) → StandsStill p old mid) → mid o ≡ old o → StandsStill o mid new → LeftDisk o mid new → (p : ℕ) → StandsStill p old new
 one_still o old mid new before same last left p = here (cases_eq p o)
   where
     here : (p ≡ o) ⊎ (p ≡ o → ⊥) → StandsStill p old new
     here (inl is) = subst (λ (q : ℕ). StandsStill q old new) (sym is) (λ earlier later was shows. last earlier later (same ∙ was) shows)
-    here (inr isnt) = λ earlier later was shows. before p earlier later was (sym (left.elsewhere p isnt) ∙ shows)
-
--- why not all owners were counted
-pub count_stopped : (loading : Loading) (key : List ℕ) (o : ℕ) (old mid new : Shelf) (stop : Stop) → o < owners_in loading → mid o ≡ old o
-    → AreOpenedBefore loading key old o → ((p : ℕ) → StandsStill p old mid) → LeftDisk o mid new → IsBookStop loading key mid o stop → IsOpenStop loading key old new stop
-count_stopped loading key o old mid new (Journal line) within same before still left (refusal, unopened, text) = (
-  o,
-  refusal,
-  record {
-    known = within;
-    before = before;
-    refused = subst (λ (shown : Option Shown). IsUnopened (entry_at loading o) (header_of loading key o) (bytes_on (λ _. shown) o) refusal) same unopened;
-  },
-  text,
-)
-count_stopped loading key o old mid new (Disk line) within same before still left text =
-    (o, within, text, before, λ p isnt earlier later was shows. still p earlier later was (sym (left.elsewhere p isnt) ∙ shows))
-count_stopped loading key o old mid new Usage within same before still left is = absurd is
-count_stopped loading key o old mid new (Refused name) within same before still left is = absurd is
-count_stopped loading key o old mid new Fault within same before still left is = absurd is
-count_stopped loading key o old mid new NoMemory within same before still left is = tt
-
--- counts that rose at last have risen since before
-risen : (a b c : ℕ) → a ≤ b → b ≤ c → HasRisen b c → HasRisen a c
-risen a b c first second rose = λ low. grind (arith, first, second, rose, low)
-
-some_of : (shown : Option Shown) → IsSome shown → (x : Shown) × (shown ≡ Some x)
-some_of (Some x) is = (x, refl)
-some_of None is = cc is
+    here (inr isnt) = still_elsewhere o old mid new before left p isnt
 
 pub rose_since : (o : ℕ) (old mid new : Shelf) (a b c : ℕ) → a ≤ b → b ≤ c → ((p : ℕ) → p < o → IsSome (old p)) → EachDisk o (λ _. IsOnlySynced) old mid → LeftDisk o mid new
     → HasRisen b c ⊎ SomeRose mid new → HasRisen a c ⊎ SomeRose old new
-rose_since o old mid new a b c first second home before left (inl rose) = inl (risen a b c first second rose)
+rose_since o old mid new a b c first second home before left (inl rose) = inl (risen_from a b c c first second (omega arith) rose)
 rose_since o old mid new a b c first second home before left (inr (p, was, is, at, now, rose)) = inr (here (cases_lt p o))
   where
     here : (p < o) ⊎ (o ≤ p) → SomeRose old new
@@ -191,24 +145,10 @@ rose_since o old mid new a b c first second home before left (inr (p, was, is, a
         let still : is ≡ was = let e : Some is ≡ Some was = sym now ∙ left.elsewhere p (λ q. omega (arith, less, q)) ∙ at in cc e in
         let low : begun.0.faults ≤ was.faults = subst (λ (s : Shown). begun.0.faults ≤ s.faults) same step.2.counts in
         let high : was.faults ≤ is.faults = subst (λ (s : Shown). was.faults ≤ s.faults) (sym still) (omega arith) in
-        (p, begun.0, is, begun.1, now, risen begun.0.faults was.faults is.faults low high rose)
+        (p, begun.0, is, begun.1, now, risen_from begun.0.faults was.faults is.faults is.faults low high (omega arith) rose)
     here (inr past) = (p, was, is, sym (before.others p past) ∙ at, now, rose)
 
 pub opened_as : (entry : Entry) (one header : Header) (mid old : Shelf) (o : ℕ) (found : List Record) → one ≡ header → mid o ≡ old o
     → IsOpened entry one (bytes_on mid o) found → IsOpened entry header (bytes_on old o) found
 opened_as entry one header mid old o found same at opened =
     subst (λ (h : Header). IsOpened entry h (bytes_on old o) found) same (subst (λ (shown : Option Shown). IsOpened entry one (bytes_on (λ _. shown) o) found) at opened)
-
--- what counting comes to ends an `audit`
-pub count_end : (loading : Loading) (key : List ℕ) (old new : Shelf) (result : Result (Vec ℕ Global) Stop) (script : List ℕ)
-    → IfOk result (λ lines. (found : Journals) × AreOpened loading key old found × (lines.items ≡ counted_text loading found))
-    → EachDisk (owners_in loading) (λ _. IsOnlySynced) old new → IfErr result (IsOpenStop loading key old new)
-    → IsEndOf (to_count loading key) old new script (end_by Listed result)
-count_end loading key old new (Ok lines) script (found, opened, text) disks stop = inl (inr (found, opened, refl, text, disks))
-count_end loading key old new (Err (Journal line)) script counted disks (o, refusal, at, text) =
-    inl (inl (record { o = o; refusal = refusal; at = at; is_status = refl; is_text = text; disks = disks }))
-count_end loading key old new (Err (Disk line)) script counted disks named = inr (inr (inr (line, refl, named)), disks)
-count_end loading key old new (Err NoMemory) script counted disks stop = inr (inr (inl refl), disks)
-count_end loading key old new (Err Usage) script counted disks stop = absurd stop
-count_end loading key old new (Err (Refused name)) script counted disks stop = absurd stop
-count_end loading key old new (Err Fault) script counted disks stop = absurd stop

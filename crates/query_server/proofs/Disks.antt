@@ -1,8 +1,9 @@
 -- what may become of the owners' disks
-use Rattle.std.proofs.Common.{◌≡◌, ℕ, ◌≤◌, Some, refl, sym, ◌∙◌, ap, subst, arith}
+use Rattle.std.proofs.Common.{◌≡◌, ℕ, ◌+◌, ◌<◌, ◌≤◌, Some, refl, sym, ◌∙◌, ap, subst, arith}
 use mathlib.Core.Logic.{inl}
+use Rattle.fz_outside.specs.Faults.{HasRisen}
 use Rattle.outside_disks.specs.Disks.{Shown}
-use Rattle.query_server.specs.Work.{Work, usage, refused, to_answer, to_make, to_count, to_check, to_compare}
+use Rattle.query_server.specs.Work.{Work, to_answer, to_make, to_count}
 use Rattle.query_server.specs.Shelves.{Shelf, EachDisk, IsOnlySynced, StandsStill}
 use Rattle.query_server.specs.Due.{MayStop}
 
@@ -14,13 +15,10 @@ pub became_same : (n : ℕ) (shelf : Shelf) → EachDisk n (λ _. IsOnlySynced) 
 became_same n shelf = record { owned = λ o before less at. (before, at, synced_same before); others = λ o past. refl }
 
 pub may_stop_same : (ending : Work) (shelf : Shelf) → MayStop ending shelf shelf
-may_stop_same usage shelf = λ n. refl
-may_stop_same (refused name) shelf = λ n. refl
 may_stop_same (to_answer workers loading key) shelf = became_same _ shelf
 may_stop_same (to_make loading key) shelf = inl (λ n. refl)
 may_stop_same (to_count loading key) shelf = became_same _ shelf
-may_stop_same (to_check tables program) shelf = λ n. refl
-may_stop_same (to_compare tables X Y program) shelf = λ n. refl
+may_stop_same work shelf = λ n. refl
 
 -- the count of a disk that is as it was, or of which it is known what it shows
 pub same_still : (o : ℕ) (old new : Shelf) → new o ≡ old o → StandsStill o old new
@@ -32,3 +30,11 @@ pub shown_still : (o : ℕ) (old new : Shelf) (last : Shown) → new o ≡ Some 
 shown_still o old new last shows counts before after was is =
     let one : last ≡ after = let e : Some last ≡ Some after = sym shows ∙ is in cc e in
     subst (λ (s : Shown). s.faults ≡ before.faults) one (counts before was)
+
+-- counts that rose at last, or in between, have risen since before
+pub risen_from : (old mid late new : ℕ) → old ≤ mid → mid ≤ late → late ≤ new → HasRisen mid late → HasRisen old new
+risen_from old mid late new first second third rose = λ low. grind (arith, first, second, third, rose, low)
+
+-- what is before the next place, and not the last one, is before that
+pub before_last : (o n : ℕ) → o < n + 1 → (o ≡ n → ⊥) → o < n
+before_last o n less isnt = grind (arith, less, isnt)

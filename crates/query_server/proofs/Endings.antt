@@ -9,7 +9,7 @@ use Rattle.catalog_loading.specs.Files.{Contents, ReadsToCome, always}
 use Rattle.catalog_loading.specs.Steps.{FileStep, ◌>>=◌, continued, done, file_read, from}
 use Rattle.catalog_loading.specs.Loaded.{Loading, IsLoading, catalog_read, key_read, loaded, entry_named, owner_loaded, with_house}
 use Rattle.catalog_loading.specs.Fit.{fitting}
-use Rattle.query_server.specs.Work.{Work, ended, refused, to_answer, to_make, to_count, to_check, to_compare}
+use Rattle.query_server.specs.Work.{Work, ended, usage, refused, to_answer, to_make, to_count, to_check, to_compare}
 use Rattle.query_server.specs.Run.{run_steps}
 use Rattle.query_server.specs.Check.{check_steps}
 use Rattle.query_server.specs.Gap.{gap_steps}
@@ -40,42 +40,67 @@ then_cases {A} P by_name step next each reads = here (step reads).given
     here (Ok a) = each a (step reads).rest
     here (Err name) = by_name name
 
--- of a `run`, an `init` and an `audit`, what is to be done with each house
-pub house_cases : (P : Work → Type 0) → ((name : List ℕ) → P (refused name)) → (work : Loading → List ℕ → Work) → ((loading : Loading) (key : List ℕ) → P (work loading key))
-    → (catalog key : List ℕ) (reads : ReadsToCome) → P (ended (with_house work catalog key reads).given)
-house_cases P by_name work by_work catalog key =
-    then_cases P by_name (catalog_read catalog) (λ house. key_read key >>= (λ bytes. loaded house >>= (λ loading. done (work loading bytes))))
-    (λ house. then_cases P by_name (key_read key) (λ bytes. loaded house >>= (λ loading. done (work loading bytes)))
-    (λ bytes. then_cases P by_name (loaded house) (λ loading. done (work loading bytes)) (λ loading reads. by_work loading bytes)))
+-- The work that a command may come to: a refused name, or its own.
+pub data ComesTo : Option Command → Work → Type 0 where
+  no_command : ComesTo None usage
+  refuses : {command : Command} → (name : List ℕ) → ComesTo (Some command) (refused name)
+  answers : {catalog name : List ℕ} {workers : ℕ} {loading : Loading} {key : List ℕ} → ComesTo (Some (run catalog name workers)) (to_answer workers loading key)
+  makes : {catalog name : List ℕ} {loading : Loading} {key : List ℕ} → ComesTo (Some (init catalog name)) (to_make loading key)
+  counts : {catalog name : List ℕ} {loading : Loading} {key : List ℕ} → ComesTo (Some (audit catalog name)) (to_count loading key)
+  checks : {catalog owner file : List ℕ} {tables : Signature} {program : List ℕ} → ComesTo (Some (check catalog owner file)) (to_check tables program)
+  compares : {catalog owner second_catalog file : List ℕ} {tables : Signature} {X Y : Dataset} {program : List ℕ}
+      → ComesTo (Some (gap catalog owner second_catalog file)) (to_compare tables X Y program)
 
--- of a `check`, each program to be checked
-pub check_cases : (P : Work → Type 0) → ((name : List ℕ) → P (refused name)) → ((tables : Signature) (program : List ℕ) → P (to_check tables program))
-    → (catalog owner file : List ℕ) (reads : ReadsToCome) → P (ended (check_steps catalog owner file reads).given)
-check_cases P by_name by_work catalog owner file =
-    then_cases P by_name (catalog_read catalog) (λ house. from (entry_named house owner) >>= (λ entry. owner_loaded house owner >>= (λ holding. file_read file >>= (λ program. done (to_check holding.tables program)))))
-    (λ house. then_cases P by_name (from (entry_named house owner)) (λ entry. owner_loaded house owner >>= (λ holding. file_read file >>= (λ program. done (to_check holding.tables program))))
-    (λ entry. then_cases P by_name (owner_loaded house owner) (λ holding. file_read file >>= (λ program. done (to_check holding.tables program)))
-    (λ holding. then_cases P by_name (file_read file) (λ program. done (to_check holding.tables program)) (λ program reads. by_work holding.tables program))))
+house_comes : (command : Command) (work : Loading → List ℕ → Work) → ((loading : Loading) (key : List ℕ) → ComesTo (Some command) (work loading key))
+    → (catalog key : List ℕ) (reads : ReadsToCome) → ComesTo (Some command) (ended (with_house work catalog key reads).given)
+house_comes command work by_work catalog key =
+    then_cases (ComesTo (Some command)) refuses (catalog_read catalog) _
+    (λ house. then_cases (ComesTo (Some command)) refuses (key_read key) _
+    (λ bytes. then_cases (ComesTo (Some command)) refuses (loaded house) (λ loading. done (work loading bytes)) (λ loading reads. by_work loading bytes)))
 
--- and of a `gap`, each program to be compared
-pub gap_cases : (P : Work → Type 0) → ((name : List ℕ) → P (refused name)) → ((tables : Signature) (X Y : Dataset) (program : List ℕ) → P (to_compare tables X Y program))
-    → (catalog owner second_catalog file : List ℕ) (reads : ReadsToCome) → P (ended (gap_steps catalog owner second_catalog file reads).given)
-gap_cases P by_name by_work catalog owner second_catalog file =
-    then_cases P by_name (catalog_read catalog) _
-    (λ house. then_cases P by_name (from (entry_named house owner)) _
-    (λ entry. then_cases P by_name (catalog_read second_catalog) _
-    (λ second_house. then_cases P by_name (from (fitting entry second_house owner)) _
-    (λ second_entry. then_cases P by_name (owner_loaded house owner) _
-    (λ holding. then_cases P by_name (owner_loaded second_house owner) _
-    (λ second_holding. then_cases P by_name (file_read file) (λ program. done (to_compare holding.tables holding.rows second_holding.rows program))
-    (λ program reads. by_work holding.tables holding.rows second_holding.rows program)))))))
+check_comes : (catalog owner file : List ℕ) (reads : ReadsToCome) → ComesTo (Some (check catalog owner file)) (ended (check_steps catalog owner file reads).given)
+check_comes catalog owner file =
+    let comes = ComesTo (Some (check catalog owner file)) in
+    then_cases comes refuses (catalog_read catalog) _
+    (λ house. then_cases comes refuses (from (entry_named house owner)) _
+    (λ entry. then_cases comes refuses (owner_loaded house owner) _
+    (λ holding. then_cases comes refuses (file_read file) (λ program. done (to_check holding.tables program)) (λ program reads. checks))))
+
+gap_comes : (catalog owner second_catalog file : List ℕ) (reads : ReadsToCome)
+    → ComesTo (Some (gap catalog owner second_catalog file)) (ended (gap_steps catalog owner second_catalog file reads).given)
+gap_comes catalog owner second_catalog file =
+    let comes = ComesTo (Some (gap catalog owner second_catalog file)) in
+    then_cases comes refuses (catalog_read catalog) _
+    (λ house. then_cases comes refuses (from (entry_named house owner)) _
+    (λ entry. then_cases comes refuses (catalog_read second_catalog) _
+    (λ second_house. then_cases comes refuses (from (fitting entry second_house owner)) _
+    (λ second_entry. then_cases comes refuses (owner_loaded house owner) _
+    (λ holding. then_cases comes refuses (owner_loaded second_house owner) _
+    (λ second_holding. then_cases comes refuses (file_read file) (λ program. done (to_compare holding.tables holding.rows second_holding.rows program))
+    (λ program reads. compares)))))))
+
+pub comes_to : (command : Option Command) (reads : ReadsToCome) → ComesTo command (ended (command_steps command reads).given)
+comes_to None reads = no_command
+comes_to (Some (run catalog key workers)) reads = house_comes _ (to_answer workers) (λ loading bytes. answers) catalog key reads
+comes_to (Some (init catalog key)) reads = house_comes _ to_make (λ loading bytes. makes) catalog key reads
+comes_to (Some (audit catalog key)) reads = house_comes _ to_count (λ loading bytes. counts) catalog key reads
+comes_to (Some (check catalog owner file)) reads = check_comes catalog owner file reads
+comes_to (Some (gap catalog owner second_catalog file)) reads = gap_comes catalog owner second_catalog file reads
+
+pub work_comes : (words : List (List ℕ)) (reads : ReadsToCome) → ComesTo (command_of words) (work_of words reads)
+unfolding work_of
+work_comes words reads = comes_to (command_of words) reads
+
+-- the ending of the words that are this command, or none
+pub work_by : (words : List (List ℕ)) (reads : ReadsToCome) (command : Option Command) → command_of words ≡ command → work_of words reads ≡ ended (command_steps command reads).given
+unfolding work_of
+work_by words reads command is = ap (λ c. ended (command_steps c reads).given) is
 
 -- A script is answered over a house of the files.
-house_of_run : (words : List (List ℕ)) (held : Contents) (catalog name : List ℕ) (asked workers : ℕ) (loading : Loading) (key : List ℕ) → command_of words ≡ Some (run catalog name asked)
-    → (run_steps catalog name asked (always held)).given ≡ Ok (to_answer workers loading key) → IsHouseOf words held workers loading key
-house_of_run words held catalog name asked workers loading key commanded is =
-    let found = house_gives (to_answer asked) catalog name (always held) (to_answer workers loading key) is in
-    let crew : asked ≡ workers = cc in
+house_of_run : (words : List (List ℕ)) (held : Contents) (catalog name : List ℕ) (workers : ℕ) (loading : Loading) (key : List ℕ) → command_of words ≡ Some (run catalog name workers)
+    → (run_steps catalog name workers (always held)).given ≡ Ok (to_answer workers loading key) → IsHouseOf words held workers loading key
+house_of_run words held catalog name workers loading key commanded is =
+    let found = house_gives (to_answer workers) catalog name (always held) (to_answer workers loading key) is in
     let same : found.2 ≡ loading = cc in
     let bytes : found.1 ≡ key = cc in
     let first = keeps_catalog held catalog in
@@ -87,7 +112,7 @@ house_of_run words held catalog name asked workers loading key commanded is =
     record {
       catalog = catalog;
       key_name = name;
-      commanded = commanded ∙ ap (λ (w : ℕ). Some (run catalog name w)) crew;
+      commanded = commanded;
       has_catalog = found.3 ∙ ap Ok its;
       has_tables = subst (λ (c : Catalog). (loaded c (always held)).given ≡ Ok loading) its (loads ∙ ap Ok same);
       has_key = key_found ∙ ap Ok bytes;
@@ -99,31 +124,13 @@ given_answer : (given : Result Work (List ℕ)) (workers : ℕ) (loading : Loadi
 given_answer (Ok ending) workers loading key is = ap Ok is
 given_answer (Err name) workers loading key is = cc
 
--- no other command comes to a script
-other_house : (workers : ℕ) (loading : Loading) (key : List ℕ) (work : Loading → List ℕ → Work) → ((l : Loading) (k : List ℕ) → work l k ≡ to_answer workers loading key → ⊥) → (catalog name : List ℕ) (reads : ReadsToCome)
-    → ended (with_house work catalog name reads).given ≡ to_answer workers loading key → ⊥
-other_house workers loading key work other = house_cases (λ ending. ending ≡ to_answer workers loading key → ⊥) (λ name is. cc) work other
-
-check_answers : (workers : ℕ) (loading : Loading) (key catalog owner file : List ℕ) (reads : ReadsToCome) → ended (check_steps catalog owner file reads).given ≡ to_answer workers loading key → ⊥
-check_answers workers loading key = check_cases (λ ending. ending ≡ to_answer workers loading key → ⊥) (λ name is. cc) (λ tables program is. cc)
-
-gap_answers : (workers : ℕ) (loading : Loading) (key catalog owner second_catalog file : List ℕ) (reads : ReadsToCome) → ended (gap_steps catalog owner second_catalog file reads).given ≡ to_answer workers loading key → ⊥
-gap_answers workers loading key = gap_cases (λ ending. ending ≡ to_answer workers loading key → ⊥) (λ name is. cc) (λ tables X Y program is. cc)
+-- a script is answered by a `run` alone
+run_asked : (command : Option Command) (workers : ℕ) (loading : Loading) (key : List ℕ) → ComesTo command (to_answer workers loading key)
+    → (catalog : List ℕ) × (name : List ℕ) × (command ≡ Some (run catalog name workers))
+run_asked command workers loading key (answers {catalog = catalog} {name = name}) = (catalog, name, refl)
 
 pub house_by : (words : List (List ℕ)) (held : Contents) (workers : ℕ) (loading : Loading) (key : List ℕ) → work_of words (always held) ≡ to_answer workers loading key → IsHouseOf words held workers loading key
-unfolding work_of
-house_by words held workers loading key is = here (command_of words) refl is
-  where
-    here : (command : Option Command) → command_of words ≡ command → ended (command_steps command (always held)).given ≡ to_answer workers loading key → IsHouseOf words held workers loading key
-    here None was is = cc
-    here (Some (run catalog name asked)) was is =
-        house_of_run words held catalog name asked workers loading key was (given_answer (run_steps catalog name asked (always held)).given workers loading key is)
-    here (Some (init catalog name)) was is = absurd (other_house workers loading key to_make (λ l k wrong. cc) catalog name (always held) is)
-    here (Some (audit catalog name)) was is = absurd (other_house workers loading key to_count (λ l k wrong. cc) catalog name (always held) is)
-    here (Some (gap catalog owner second_catalog file)) was is = absurd (gap_answers workers loading key catalog owner second_catalog file (always held) is)
-    here (Some (check catalog owner file)) was is = absurd (check_answers workers loading key catalog owner file (always held) is)
-
--- the ending of the words that are this command, or none
-pub work_by : (words : List (List ℕ)) (reads : ReadsToCome) (command : Option Command) → command_of words ≡ command → work_of words reads ≡ ended (command_steps command reads).given
-unfolding work_of
-work_by words reads command is = ap (λ c. ended (command_steps c reads).given) is
+house_by words held workers loading key is =
+    let asked = run_asked (command_of words) workers loading key (subst (ComesTo (command_of words)) is (work_comes words (always held))) in
+    house_of_run words held asked.0 asked.1 workers loading key asked.2
+    (given_answer (run_steps asked.0 asked.1 workers (always held)).given workers loading key (sym (work_by words (always held) _ asked.2) ∙ is))

@@ -12,7 +12,7 @@ use Rattle.wire_lines.specs.Refusal.{no_token}
 use Rattle.wire_lines.specs.Reply.{reply_text}
 use Rattle.answer_path.specs.Reading.{IsReading, unlexed}
 use Rattle.answer_path.specs.Judgement.{judgement_of, refused_for}
-use Rattle.query_server.specs.Status.{code_of, refused_text, usage_text}
+use Rattle.query_server.specs.Status.{status_code, refused_text, usage_text}
 use Rattle.command_words.specs.Command.{Command, audit, check, gap, init, run}
 use Rattle.query_server.specs.Work.{usage, refused, to_check}
 use Rattle.query_server.specs.Outside.{BayStays, FilesStay}
@@ -24,14 +24,14 @@ use Rattle.query_server.specs.Run.{script_limit, IsAnswerDue, IsScriptDue}
 use Rattle.session_core.specs.Transcript.{Journals}
 use Rattle.query_server.specs.Check.{accepted_text}
 use Rattle.query_server.specs.Gap.{IsGapBy, IsGapDue, gap_text}
-use Rattle.query_server.specs.Due.{AreRead, IfFinished, IsFaultyWordsEnd, IsBeginning, IsForProgram, IsWrittenAt, kind_of}
+use Rattle.query_server.specs.Due.{AreRead, IfFinished, IsFaultyWordsEnd, IsBeginning, IsForProgram, IsWrittenAt, command_kind}
 use Rattle.query_server.specs.Taken.{IsTaken}
 use Rattle.query_server.specs.declared.end.Status.TheVariants.{Done, ProgramRefused, Usage, Refused, JournalRefused, Fault, DiskFault, NoMemory, ScriptTooLong}
 
 -- ---- statuses and lines
 
 -- the number of each status
-numbers : code_of Done ∷ code_of ProgramRefused ∷ code_of Usage ∷ code_of Refused ∷ code_of JournalRefused ∷ code_of Fault ∷ code_of DiskFault ∷ code_of NoMemory ∷ code_of ScriptTooLong ∷ []
+numbers : status_code Done ∷ status_code ProgramRefused ∷ status_code Usage ∷ status_code Refused ∷ status_code JournalRefused ∷ status_code Fault ∷ status_code DiskFault ∷ status_code NoMemory ∷ status_code ScriptTooLong ∷ []
     ≡ 0 ∷ 1 ∷ 2 ∷ 3 ∷ 4 ∷ 5 ∷ 6 ∷ 7 ∷ 8 ∷ []
 numbers = refl
 
@@ -57,15 +57,6 @@ lines_below_zero : gap_text 2 (Fin 3 2) (pos 5) (negsuc 6) ≡ codes "distance 2
 unfolding digits
 lines_below_zero = refl
 
-abbrev a : List ℕ
-a = codes "a"
-
-abbrev b : List ℕ
-b = codes "b"
-
-abbrev c : List ℕ
-c = codes "c"
-
 -- ---- limits
 
 -- files of 2^26 bytes and of one more
@@ -77,9 +68,9 @@ longer_file bytes is = ap (λ b. cond b (Some bytes) None) (lt-leb (length bytes
 
 -- keys of 31, 32 and 33 bytes
 abbrev key_given : (n : ℕ) → Result (List ℕ) (List ℕ)
-key_given n = (key_read a (always (λ name. Some (replicate n 0)))).given
+key_given n = (key_read (codes "key") (always (λ name. Some (replicate n 0)))).given
 
-short_key : key_given 31 ≡ Err a
+short_key : key_given 31 ≡ Err (codes "key")
 unfolding ◌>>=◌
 short_key = refl
 
@@ -87,7 +78,7 @@ right_key : key_given 32 ≡ Ok (replicate 32 0)
 unfolding ◌>>=◌
 right_key = refl
 
-long_key : key_given 33 ≡ Err a
+long_key : key_given 33 ≡ Err (codes "key")
 unfolding ◌>>=◌
 long_key = refl
 
@@ -127,7 +118,7 @@ module _ (shelf : Shelf) where
   memory_cut : IsWrittenAt usage shelf shelf [] Fault (codes "mem")
   memory_cut = inr (refl, (NoMemory, codes "memory\n", inr (inl (refl, refl), λ o. refl), (codes "ory\n", refl)))
 
-  name_written : IsWrittenAt (refused a) shelf shelf [] Refused (codes "refused a\n")
+  name_written : IsWrittenAt (refused (codes "a")) shelf shelf [] Refused (codes "refused a\n")
   name_written = inl (inl (refl, refl, λ o. refl))
 
 -- and whatever they are
@@ -144,7 +135,7 @@ module _ (old new : Shelf) where
   no_disk_failed text (inl (inr (inr (is, line), may))) = line
   no_disk_failed text (inr (wrong, is)) = cc
 
-  name_unwritten : IsWrittenAt (refused a) old new [] Refused [] → ⊥
+  name_unwritten : IsWrittenAt (refused (codes "a")) old new [] Refused [] → ⊥
   name_unwritten (inl (inl (is, wrong, same))) = cc
   name_unwritten (inl (inr (inl (wrong, is), may))) = cc
   name_unwritten (inl (inr (inr (wrong, line), may))) = cc
@@ -153,7 +144,7 @@ module _ (old new : Shelf) where
 -- what a command takes: a `run` the source and the disks, an `init` and an `audit` the disks, a `check` and a `gap` a program
 abbrev Takes : Option Command → (source disks program : Bool) → Type 0
 Takes command source disks program =
-    ((kind_of command).source ≡ source) × ((kind_of command).disks ≡ disks) × ((kind_of command).program ≡ program)
+    ((command_kind command).source ≡ source) × ((command_kind command).disks ≡ disks) × ((command_kind command).program ≡ program)
 
 run_takes : Takes (Some (run (codes "c") (codes "k") 2)) true true false
 run_takes = (refl, refl, refl)
@@ -224,25 +215,26 @@ no_token_undone : (X Y : Dataset) (program text : List ℕ) → IsGapBy (refused
 no_token_undone X Y program text (wrong, is) = cc
 
 -- of two files that are due both are read, or one where something failed, and never the second first
-both_read : AreRead Refused (a ∷ b ∷ []) (c ∷ []) (c ∷ a ∷ b ∷ [])
-both_read = record { names = a ∷ b ∷ []; is = refl; some = ([], refl); all = inr (inr (inr refl)) }
+module _ (a b c : List ℕ) where
+  both_read : AreRead Refused (a ∷ b ∷ []) (c ∷ []) (c ∷ a ∷ b ∷ [])
+  both_read = record { names = a ∷ b ∷ []; is = refl; some = ([], refl); all = inr (inr (inr refl)) }
 
-one_read : AreRead Fault (a ∷ b ∷ []) (c ∷ []) (c ∷ a ∷ [])
-one_read = record { names = a ∷ []; is = refl; some = (b ∷ [], refl); all = inl refl }
+  one_read : AreRead Fault (a ∷ b ∷ []) (c ∷ []) (c ∷ a ∷ [])
+  one_read = record { names = a ∷ []; is = refl; some = (b ∷ [], refl); all = inl refl }
 
-unread_at : (names : List (List ℕ)) → [] ≡ [] ++ names → IfFinished Refused (names ≡ a ∷ []) → ⊥
-unread_at [] is (inl wrong) = cc
-unread_at [] is (inr (inl wrong)) = cc
-unread_at [] is (inr (inr (inl wrong))) = cc
-unread_at [] is (inr (inr (inr wrong))) = cc
-unread_at (name ∷ names) is all = cc
+  unread_at : (names : List (List ℕ)) → [] ≡ [] ++ names → IfFinished Refused (names ≡ a ∷ []) → ⊥
+  unread_at [] is (inl wrong) = cc
+  unread_at [] is (inr (inl wrong)) = cc
+  unread_at [] is (inr (inr (inl wrong))) = cc
+  unread_at [] is (inr (inr (inr wrong))) = cc
+  unread_at (name ∷ names) is all = cc
+
+  one_unread : AreRead Refused (a ∷ []) [] [] → ⊥
+  one_unread r = unread_at r.names r.is r.all
 
 wrong_at : (names rest : List (List ℕ)) → (1 ∷ []) ∷ [] ≡ [] ++ names → (2 ∷ []) ∷ [] ≡ names ++ rest → ⊥
 wrong_at [] rest is some = cc
 wrong_at (name ∷ names) rest is some = cc
-
-one_unread : AreRead Refused (a ∷ []) [] [] → ⊥
-one_unread r = unread_at r.names r.is r.all
 
 other_read : AreRead Fault ((2 ∷ []) ∷ []) [] ((1 ∷ []) ∷ []) → ⊥
 other_read r = wrong_at r.names r.some.0 r.is r.some.1

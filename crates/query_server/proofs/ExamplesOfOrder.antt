@@ -72,27 +72,22 @@ cat = codes "cat.json"
 abbrev second : List ℕ
 second = codes "cat2.json"
 
+-- the file of a table
+abbrev csv : (table : List ℕ) → List ℕ
+csv table = table ++ codes ".csv"
+
 abbrev key : List ℕ
 key = codes "key"
 
 abbrev program : List ℕ
 program = codes "program"
 
-abbrev a_csv : List ℕ
-a_csv = codes "a.csv"
-
-abbrev b_csv : List ℕ
-b_csv = codes "b.csv"
-
-abbrev c_csv : List ℕ
-c_csv = codes "c.csv"
-
-abbrev nobody : List ℕ
-nobody = codes "nobody"
-
 -- an owner of one table in a file, and a catalog of two owners
 abbrev table_in : (file : List ℕ) → TableEntry
 table_in file = record { name = a; file = file; columns = record { name = a; kind = Num } ∷ [] }
+
+abbrev nobody : List ℕ
+nobody = codes "nobody"
 
 abbrev with_table : (name file : List ℕ) → OwnerEntry
 with_table name file = record { name = name; budget = 1; capacity = 2; tables = table_in file ∷ []; partitions = []; text = [] }
@@ -101,10 +96,10 @@ abbrev house_with : List OwnerEntry → Catalog
 house_with owners = record { analysts = a ∷ []; owners = owners; text = [] }
 
 abbrev both : Catalog
-both = house_with (with_table a a_csv ∷ with_table b b_csv ∷ [])
+both = house_with (with_table a (csv a) ∷ with_table b (csv b) ∷ [])
 
 abbrev one : Catalog
-one = house_with (with_table a c_csv ∷ [])
+one = house_with (with_table a (csv (codes "c")) ∷ [])
 
 abbrev rows : List Flat
 rows = NumF (pos 1) ∷ []
@@ -123,7 +118,7 @@ abbrev owner_held : (name file : List ℕ) → LoadedOwner
 owner_held name file = record { holding = holding name file; hashes = hash ∷ [] }
 
 abbrev loading : Loading
-loading = record { register = record { catalog = both; holdings = holding a a_csv ∷ holding b b_csv ∷ [] }; hashes = (hash ∷ []) ∷ (hash ∷ []) ∷ [] }
+loading = record { register = record { catalog = both; holdings = holding a (csv a) ∷ holding b (csv b) ∷ [] }; hashes = (hash ∷ []) ∷ (hash ∷ []) ∷ [] }
 
 abbrev HasCatalog : Contents → Type 0
 HasCatalog held = Comes (catalog_read cat) held (Ok both) (cat ∷ [])
@@ -151,30 +146,30 @@ unfolding one_by_one
 unheld_by held name csv has = stops _ _ held _ _ (stops _ _ held _ _ has)
 
 -- the tables of all owners, in order
-all_loaded : (held : Contents) → HasRows held a_csv → HasRows held b_csv
-    → Comes (loaded both) held (Ok loading) (a_csv ∷ b_csv ∷ [])
+all_loaded : (held : Contents) → HasRows held (csv a) → HasRows held (csv b)
+    → Comes (loaded both) held (Ok loading) ((csv a) ∷ (csv b) ∷ [])
 unfolding one_by_one
 all_loaded held first second =
-    goes_on _ _ held _ _ _ _ (goes_on _ _ held _ _ _ _ (held_by held a a_csv first)
-    (goes_on _ _ held _ _ _ _ (goes_on _ _ held _ _ _ _ (held_by held b b_csv second) (goes_on _ _ held _ _ _ _ refl refl)) refl)) refl
+    goes_on _ _ held _ _ _ _ (goes_on _ _ held _ _ _ _ (held_by held a (csv a) first)
+    (goes_on _ _ held _ _ _ _ (goes_on _ _ held _ _ _ _ (held_by held b (csv b) second) (goes_on _ _ held _ _ _ _ refl refl)) refl)) refl
 
-first_table_refused : (held : Contents) → HasNone held a_csv → Comes (loaded both) held (Err a_csv) (a_csv ∷ [])
+first_table_refused : (held : Contents) → HasNone held (csv a) → Comes (loaded both) held (Err (csv a)) ((csv a) ∷ [])
 unfolding one_by_one
-first_table_refused held first = stops _ _ held _ _ (stops _ _ held _ _ (unheld_by held a a_csv first))
+first_table_refused held first = stops _ _ held _ _ (stops _ _ held _ _ (unheld_by held a (csv a) first))
 
-second_table_refused : (held : Contents) → HasRows held a_csv → HasNone held b_csv
-    → Comes (loaded both) held (Err b_csv) (a_csv ∷ b_csv ∷ [])
+second_table_refused : (held : Contents) → HasRows held (csv a) → HasNone held (csv b)
+    → Comes (loaded both) held (Err (csv b)) ((csv a) ∷ (csv b) ∷ [])
 unfolding one_by_one
 second_table_refused held first second =
-    stops _ _ held _ _ (goes_on _ _ held _ _ _ _ (held_by held a a_csv first) (stops _ _ held _ _ (stops _ _ held _ _ (unheld_by held b b_csv second))))
+    stops _ _ held _ _ (goes_on _ _ held _ _ _ _ (held_by held a (csv a) first) (stops _ _ held _ _ (stops _ _ held _ _ (unheld_by held b (csv b) second))))
 
-all_of_second : (held : Contents) → HasRows held c_csv → Comes (loaded one) held (Ok (record { register = record { catalog = one; holdings = holding a c_csv ∷ [] }; hashes = (hash ∷ []) ∷ [] })) (c_csv ∷ [])
+all_of_second : (held : Contents) → HasRows held (csv (codes "c")) → Comes (loaded one) held (Ok (record { register = record { catalog = one; holdings = holding a (csv (codes "c")) ∷ [] }; hashes = (hash ∷ []) ∷ [] })) ((csv (codes "c")) ∷ [])
 unfolding one_by_one
-all_of_second held has = goes_on _ _ held _ _ _ _ (goes_on _ _ held _ _ _ _ (held_by held a c_csv has) (goes_on _ _ held _ _ _ _ refl refl)) refl
+all_of_second held has = goes_on _ _ held _ _ _ _ (goes_on _ _ held _ _ _ _ (held_by held a (csv (codes "c")) has) (goes_on _ _ held _ _ _ _ refl refl)) refl
 
-none_of_second : (held : Contents) → HasNone held c_csv → Comes (loaded one) held (Err c_csv) (c_csv ∷ [])
+none_of_second : (held : Contents) → HasNone held (csv (codes "c")) → Comes (loaded one) held (Err (csv (codes "c"))) ((csv (codes "c")) ∷ [])
 unfolding one_by_one
-none_of_second held none = stops _ _ held _ _ (stops _ _ held _ _ (unheld_by held a c_csv none))
+none_of_second held none = stops _ _ held _ _ (stops _ _ held _ _ (unheld_by held a (csv (codes "c")) none))
 
 -- a program's file
 program_read : (held : Contents) (found : Option (List ℕ)) → held program ≡ found
@@ -189,13 +184,13 @@ module _ {A : Type 0} (work : Loading → List ℕ → A) (held : Contents) wher
   house_key : HasCatalog held → Comes (key_read key) held (Err key) (key ∷ []) → Comes (with_house work cat key) held (Err key) (cat ∷ key ∷ [])
   house_key has none = goes_on _ _ held _ _ _ _ has (stops _ _ held _ _ none)
 
-  house_table : (bytes : List ℕ) → HasCatalog held → Comes (key_read key) held (Ok bytes) (key ∷ []) → HasRows held a_csv → HasNone held b_csv
-      → Comes (with_house work cat key) held (Err b_csv) (cat ∷ key ∷ a_csv ∷ b_csv ∷ [])
+  house_table : (bytes : List ℕ) → HasCatalog held → Comes (key_read key) held (Ok bytes) (key ∷ []) → HasRows held (csv a) → HasNone held (csv b)
+      → Comes (with_house work cat key) held (Err (csv b)) (cat ∷ key ∷ (csv a) ∷ (csv b) ∷ [])
   house_table bytes has has_key first none =
       goes_on _ _ held _ _ _ _ has (goes_on _ _ held _ _ _ _ has_key (stops _ _ held _ _ (second_table_refused held first none)))
 
-  house_whole : (bytes : List ℕ) → HasCatalog held → Comes (key_read key) held (Ok bytes) (key ∷ []) → HasRows held a_csv → HasRows held b_csv
-      → Comes (with_house work cat key) held (Ok (work loading bytes)) (cat ∷ key ∷ a_csv ∷ b_csv ∷ [])
+  house_whole : (bytes : List ℕ) → HasCatalog held → Comes (key_read key) held (Ok bytes) (key ∷ []) → HasRows held (csv a) → HasRows held (csv b)
+      → Comes (with_house work cat key) held (Ok (work loading bytes)) (cat ∷ key ∷ (csv a) ∷ (csv b) ∷ [])
   house_whole bytes has has_key first second =
       goes_on _ _ held _ _ _ _ has (goes_on _ _ held _ _ _ _ has_key (goes_on _ _ held _ _ _ _ (all_loaded held first second) refl))
 
@@ -212,19 +207,19 @@ of_audit = refl
 check_owner : (held : Contents) → HasCatalog held → Comes (check_steps cat nobody program) held (Err nobody) (cat ∷ [])
 check_owner held has = goes_on _ _ held _ _ _ _ has (stops _ _ held _ _ refl)
 
-check_table : (held : Contents) → HasCatalog held → HasRows held a_csv → HasNone held b_csv
-    → Comes (check_steps cat a program) held (Err b_csv) (cat ∷ a_csv ∷ b_csv ∷ [])
+check_table : (held : Contents) → HasCatalog held → HasRows held (csv a) → HasNone held (csv b)
+    → Comes (check_steps cat a program) held (Err (csv b)) (cat ∷ (csv a) ∷ (csv b) ∷ [])
 check_table held has first none =
     goes_on _ _ held _ _ _ _ has (goes_on _ _ held _ _ _ _ refl (stops _ _ held _ _ (stops _ _ held _ _ (second_table_refused held first none))))
 
-check_file : (held : Contents) → HasCatalog held → HasRows held a_csv → HasRows held b_csv → held program ≡ None
-    → Comes (check_steps cat a program) held (Err program) (cat ∷ a_csv ∷ b_csv ∷ program ∷ [])
+check_file : (held : Contents) → HasCatalog held → HasRows held (csv a) → HasRows held (csv b) → held program ≡ None
+    → Comes (check_steps cat a program) held (Err program) (cat ∷ (csv a) ∷ (csv b) ∷ program ∷ [])
 check_file held has first second none =
     goes_on _ _ held _ _ _ _ has (goes_on _ _ held _ _ _ _ refl (goes_on _ _ held _ _ _ _ (goes_on _ _ held _ _ _ _ (all_loaded held first second) refl)
     (stops _ _ held _ _ (program_read held None none))))
 
-check_whole : (held : Contents) → HasCatalog held → HasRows held a_csv → HasRows held b_csv → held program ≡ Some (codes "1")
-    → Comes (check_steps cat b program) held (Ok (to_check (owner_signature (with_table b b_csv)) (codes "1"))) (cat ∷ a_csv ∷ b_csv ∷ program ∷ [])
+check_whole : (held : Contents) → HasCatalog held → HasRows held (csv a) → HasRows held (csv b) → held program ≡ Some (codes "1")
+    → Comes (check_steps cat b program) held (Ok (to_check (owner_signature (with_table b (csv b))) (codes "1"))) (cat ∷ (csv a) ∷ (csv b) ∷ program ∷ [])
 check_whole held has first second file =
     goes_on _ _ held _ _ _ _ has (goes_on _ _ held _ _ _ _ refl (goes_on _ _ held _ _ _ _ (goes_on _ _ held _ _ _ _ (all_loaded held first second) refl)
     (goes_on _ _ held _ _ _ _ (program_read held (Some (codes "1")) file) refl)))
@@ -242,17 +237,17 @@ gap_second_owner : (held : Contents) → HasCatalog held → HasSecond held → 
 gap_second_owner held has has_second =
     goes_on _ _ held _ _ _ _ has (goes_on _ _ held _ _ _ _ refl (goes_on _ _ held _ _ _ _ has_second (stops _ _ held _ _ refl)))
 
-gap_second_table : (held : Contents) → HasCatalog held → HasSecond held → HasRows held a_csv → HasRows held b_csv → HasNone held c_csv
-    → Comes (gap_steps cat a second program) held (Err c_csv) (cat ∷ second ∷ a_csv ∷ b_csv ∷ c_csv ∷ [])
+gap_second_table : (held : Contents) → HasCatalog held → HasSecond held → HasRows held (csv a) → HasRows held (csv b) → HasNone held (csv (codes "c"))
+    → Comes (gap_steps cat a second program) held (Err (csv (codes "c"))) (cat ∷ second ∷ (csv a) ∷ (csv b) ∷ (csv (codes "c")) ∷ [])
 gap_second_table held has has_second first other none =
     goes_on _ _ held _ _ _ _ has (goes_on _ _ held _ _ _ _ refl (goes_on _ _ held _ _ _ _ has_second (goes_on _ _ held _ _ _ _ refl
     (goes_on _ _ held _ _ _ _ (goes_on _ _ held _ _ _ _ (all_loaded held first other) refl)
     (stops _ _ held _ _ (stops _ _ held _ _ (none_of_second held none)))))))
 
-gap_whole : (held : Contents) → HasCatalog held → HasSecond held → HasRows held a_csv → HasRows held b_csv → HasRows held c_csv
+gap_whole : (held : Contents) → HasCatalog held → HasSecond held → HasRows held (csv a) → HasRows held (csv b) → HasRows held (csv (codes "c"))
     → held program ≡ Some (codes "1")
-    → Comes (gap_steps cat a second program) held (Ok (to_compare (owner_signature (with_table a a_csv)) (rows ∷ []) (rows ∷ []) (codes "1")))
-    (cat ∷ second ∷ a_csv ∷ b_csv ∷ c_csv ∷ program ∷ [])
+    → Comes (gap_steps cat a second program) held (Ok (to_compare (owner_signature (with_table a (csv a))) (rows ∷ []) (rows ∷ []) (codes "1")))
+    (cat ∷ second ∷ (csv a) ∷ (csv b) ∷ (csv (codes "c")) ∷ program ∷ [])
 gap_whole held has has_second first other third file =
     goes_on _ _ held _ _ _ _ has (goes_on _ _ held _ _ _ _ refl (goes_on _ _ held _ _ _ _ has_second (goes_on _ _ held _ _ _ _ refl
     (goes_on _ _ held _ _ _ _ (goes_on _ _ held _ _ _ _ (all_loaded held first other) refl)
@@ -266,8 +261,8 @@ no_words held = refl
 is_check : command_of (codes "check" ∷ cat ∷ a ∷ program ∷ []) ≡ Some (check cat a program)
 is_check = plain_is_tabled (codes "check" ∷ cat ∷ a ∷ program ∷ []) (refl, (refl, (refl, (refl, tt))))
 
-check_words : (held : Contents) → HasCatalog held → HasRows held a_csv → HasRows held b_csv → held program ≡ None
-    → files_of (codes "check" ∷ cat ∷ a ∷ program ∷ []) (always held) ≡ cat ∷ a_csv ∷ b_csv ∷ program ∷ []
+check_words : (held : Contents) → HasCatalog held → HasRows held (csv a) → HasRows held (csv b) → held program ≡ None
+    → files_of (codes "check" ∷ cat ∷ a ∷ program ∷ []) (always held) ≡ cat ∷ (csv a) ∷ (csv b) ∷ program ∷ []
 unfolding files_of
 check_words held has first second none =
     ap (λ (command : Option Command). (command_steps command (always held)).names) is_check

@@ -1,5 +1,4 @@
 pub mod Prefixes
-pub mod Places
 pub mod Back
 pub mod Went
 pub mod Passes
@@ -21,7 +20,6 @@ pub mod Diskless
 pub mod Outcomes
 pub mod Lines
 pub mod Causes
-pub mod Taking
 pub mod Compared
 pub mod Examples
 pub mod ExamplesOfOrder

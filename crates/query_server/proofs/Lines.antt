@@ -1,16 +1,15 @@
 -- the laws that follow from the clauses of the top call
-use Rattle.std.proofs.Common.{◌≡◌, ℕ, List, [], ◌++◌, Option, None, Some, refl, sym, ◌∙◌, ap, subst, arith}
-use Rattle.std.specs.Prelude.{IsSome}
+use Rattle.std.proofs.Common.{◌≡◌, ℕ, List, ◌++◌, Option, None, Some, refl, sym, ◌∙◌, ap, subst, arith}
 use Rattle.std.specs.Io.KnownBytes.{append_known}
 use mathlib.Core.Logic.{◌⊎◌, inl, inr}
 use Rattle.fz_outside.specs.Faults.{HasRisen}
 use Rattle.command_words.specs.Command.{Command, command_of, run}
-use Rattle.catalog_loading.specs.Files.{Contents, ReadsToCome, always}
+use Rattle.catalog_loading.specs.Files.{Contents, always}
 use Rattle.catalog_loading.specs.Loaded.{Loading, owners_in}
 use Rattle.query_server.specs.Work.{Work, to_answer, usage}
 use Rattle.query_server.specs.Shelves.{EachDisk, IsOnlySynced, Shelf}
 use Rattle.query_server.specs.Outside.{Outside}
-use Rattle.query_server.specs.Due.{AreRead, ForContents, IsBeginning, IsDue, IsFaultyWordsEnd, IsOfRun, IsToWrite, IsWrittenAt, MayStop, SomeFailed, files_of, work_of}
+use Rattle.query_server.specs.Due.{ForContents, IsBeginning, IsFaultyWordsEnd, IsOfRun, IsWrittenAt, MayStop, SomeFailed, work_of}
 use Rattle.query_server.specs.Promise.{IsAnsweredScript, IsRunLeft}
 use Rattle.query_server.specs.Laws.{FaultyWordsAreTold, LinesAreExact, OneWorkerTranscribes, OutsideStays, ProgramsAreExact, RefusalsAreExact, RunsAreAnswered, StatusesAreOfCommands, VerdictsAreExact}
 use Rattle.query_server.specs.declared.end.Status.{Status}
@@ -19,8 +18,8 @@ use Rattle.word_streams.specs.Draws.{draws_of}
 use Rattle.owner_house.specs.House.{house_of}
 use Rattle.session_laws.proofs.Scripts.{transcript_of}
 use Rattle.query_server.proofs.Contents.{at_held, at_told}
-use Rattle.query_server.proofs.Endings.{house_by, work_by}
-use Rattle.query_server.proofs.Outcomes.{Comes, comparison_by, finished_due, finished_map, name_by, of_disks_by, of_program_by, of_run_by, program_by, usage_by, verdict_by}
+use Rattle.query_server.proofs.Endings.{house_by, work_by, work_comes}
+use Rattle.query_server.proofs.Outcomes.{Comes, comparison_by, disks_of, finished_due, finished_map, name_by, program_by, program_of, run_of, status_written, usage_of, verdict_by}
 
 pub lines_exact : LinesAreExact
 lines_exact words before after status text line held files =
@@ -65,12 +64,15 @@ verdicts_exact words before after status text line held tables program reading f
     verdict_by (work_of words (always held)) before.bay.shelf after.bay.shelf tables program some.0 reading status text is reads some.1.0
 
 pub statuses_of_commands : StatusesAreOfCommands
-statuses_of_commands words before after status text (written, (reads, script, told, is, (due, read))) = (
-  λ same. usage_by words reads before.bay.shelf after.bay.shelf script status text same due,
-  λ same. of_program_by words reads before.bay.shelf after.bay.shelf script status text same due,
-  λ same. of_run_by words reads before.bay.shelf after.bay.shelf script status text same due,
-  λ same. of_disks_by words reads before.bay.shelf after.bay.shelf script status text same due,
-)
+statuses_of_commands words before after status text (written, (reads, script, told, is, (due, read))) =
+    let work = work_of words reads in
+    let comes = work_comes words reads in
+    let has = status_written work before.bay.shelf after.bay.shelf script status in (
+      λ same. usage_of (command_of words) work comes (has code.Usage text due same (λ w. cc) (λ w. cc) (λ w. cc)),
+      λ same. program_of (command_of words) work comes (has code.ProgramRefused text due same (λ w. cc) (λ w. cc) (λ w. cc)),
+      λ same. run_of (command_of words) work comes (has code.ScriptTooLong text due same (λ w. cc) (λ w. cc) (λ w. cc)),
+      λ same. disks_of (command_of words) work comes (has code.JournalRefused text due same (λ w. cc) (λ w. cc) (λ w. cc)),
+    )
 
 -- at faulty words only the sink fails
 sink_failed : (command : Option Command) (before after : Outside) → command ≡ None → SomeFailed command before after → HasRisen before.sink.faults after.sink.faults

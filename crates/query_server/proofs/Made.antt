@@ -1,6 +1,6 @@
 -- Journals made up to one that isn't.
 use Rattle.std.proofs.Common.{◌≡◌, ◌<◌, ◌≤◌, ◌∙◌, ℕ, List, length, Option, Some, None, refl, subst, sym, arith}
-use Rattle.std.proofs.lemmas.Bool.{cases_lt}
+use Rattle.std.proofs.lemmas.Bool.{cases_order}
 use Rattle.std.specs.Prelude.{◌≢◌, Err, IfErr, IfSome, IsErrAnd, IsSome, Ok, Result, option_map, option_and_then}
 use mathlib.Core.Logic.{◌⊎◌, inl, inr}
 use Rattle.outside_disks.specs.Disks.{Shown, Trace, seen_of}
@@ -11,11 +11,10 @@ use Rattle.query_server.specs.Shelves.{Shelf, EachDisk, IsOnlySynced, NoOtherRos
 use Rattle.query_server.specs.Init.{AreMadeBefore, IsMade, MayHaveFailed}
 use Rattle.query_server.specs.Work.{to_make}
 use Rattle.query_server.specs.Ends.{IsEndOf}
-use Rattle.query_server.specs.declared.end.End.TheVariants.{Stopped}
 use Rattle.query_server.proofs.Disks.{same_still, synced_same}
 use Rattle.query_server.specs.Making.{IsMakeStop, IsUnmade, IsUnmadeStop, Turned}
 use Rattle.catalog_loading.specs.declared.stops.Stop.{Stop}
-use Rattle.catalog_loading.specs.declared.stops.Stop.TheVariants.{Usage, Refused, Journal, Disk, Fault, NoMemory}
+use Rattle.catalog_loading.specs.declared.stops.Stop.TheVariants.{Journal, Disk, NoMemory}
 
 abbrev Goings : Type 1
 Goings = Shown → Shown → Type 0
@@ -45,26 +44,24 @@ made_before loading key o Goes old mid new made turn others = record {
 
 -- no other owner's disk has failed
 pub no_other_made : (loading : Loading) (key : List ℕ) (o : ℕ) (Goes : Goings) (old new : Shelf) → AreMadeBefore loading key o Goes old new → NoOtherRose o old new
-no_other_made loading key o Goes old new made p isnt = here (cases_lt p o)
+no_other_made loading key o Goes old new made p isnt = here (cases_order p o)
   where
-    here : (p < o) ⊎ (o ≤ p) → StandsStill p old new
-    here (inl less) = λ before after was is.
+    here : (p ≡ o) ⊎ ((p < o) ⊎ (o < p)) → StandsStill p old new
+    here (inr (inl less)) = λ before after was is.
         let done = made.made p before less was in
         let one : done.0 ≡ after = let e : Some done.0 ≡ Some after = sym done.1 ∙ is in cc e in
         subst (λ (s : Shown). s.faults ≡ before.faults) one done.2.counts
-    here (inr past) = same_still p old new (made.behind p (beyond o p past isnt))
-      where
-        beyond : (o p : ℕ) → o ≤ p → (p ≡ o → ⊥) → o < p
-        beyond o p past isnt = grind (arith, past, isnt)
-
-told_long : (n : ℕ) (trace : Option Trace) → IfSome trace (λ t. length (seen_of t) ≡ n) → IfSome (option_map seen_of trace) (λ bytes. length bytes ≡ n)
-told_long n None long = tt
-told_long n (Some t) long = long
+    here (inl is) = absurd (isnt is)
+    here (inr (inr past)) = same_still p old new (made.behind p past)
 
 -- how long the disk is that isn't empty
 there : (n : ℕ) (old new : Option Shown) → Turned (IsUnmade (AlreadyThere n)) old new
     → (1 ≤ n) × IfSome (option_map seen_of (option_and_then (λ (shown : Shown). shown.trace) old)) (λ bytes. length bytes ≡ n)
-there n (Some b) (Some a) unmade = (unmade.0, told_long n b.trace unmade.1)
+there n (Some b) (Some a) unmade = (unmade.0, long b.trace unmade.1)
+  where
+    long : (trace : Option Trace) → IfSome trace (λ t. length (seen_of t) ≡ n) → IfSome (option_map seen_of trace) (λ bytes. length bytes ≡ n)
+    long None is = tt
+    long (Some t) is = is
 there n (Some b) None unmade = absurd unmade
 there n None new unmade = absurd unmade
 
@@ -95,14 +92,6 @@ making_stopped loading key o old mid new (AlreadyThere n) (Journal line) made tu
       is,
       made_before loading key o IsOnlySynced old mid new made (turned_more (IsUnmade (AlreadyThere n)) IsOnlySynced (mid o) (new o) (λ b a unmade. unmade.2) turn) others,
     )
-making_stopped loading key o old mid new (AlreadyThere n) Usage made turn others within is = absurd is
-making_stopped loading key o old mid new (AlreadyThere n) (Refused name) made turn others within is = absurd is
-making_stopped loading key o old mid new (AlreadyThere n) Fault made turn others within is = absurd is
-making_stopped loading key o old mid new DiskFault Usage made turn others within is = absurd is
-making_stopped loading key o old mid new DiskFault (Refused name) made turn others within is = absurd is
-making_stopped loading key o old mid new DiskFault Fault made turn others within is = absurd is
-making_stopped loading key o old mid new (AlreadyThere n) (Disk line) made turn others within is = absurd is
-making_stopped loading key o old mid new DiskFault (Journal line) made turn others within is = absurd is
 making_stopped loading key o old mid new DiskFault (Disk line) made turn others within is =
     (o, within, is, made_before loading key o MayHaveFailed old mid new made turn others)
 making_stopped loading key o old mid new fault NoMemory made turn others within is = inr (
@@ -111,6 +100,8 @@ making_stopped loading key o old mid new fault NoMemory made turn others within 
   made_before loading key o MayHaveFailed old mid new made
       (turned_more (IsUnmade fault) MayHaveFailed (mid o) (new o) (failed fault) turn) others,
 )
+making_stopped loading key o old mid new (AlreadyThere n) stop made turn others within is = absurd is
+making_stopped loading key o old mid new DiskFault stop made turn others within is = absurd is
 
 -- where memory ran out before any was made
 pub none_stopped : {T : Type 0} (loading : Loading) (key : List ℕ) (shelf : Shelf) (stop : Stop) (result : Result T Stop) → stop ≡ NoMemory → IsErrAnd result (λ e. e ≡ stop)
@@ -120,12 +111,10 @@ none_stopped loading key shelf stop (Err e) is same = subst (IsMakeStop loading 
 
 -- what stops the making ends an `init`
 pub make_stop_end : (loading : Loading) (key : List ℕ) (old new : Shelf) (stop : Stop) (script : List ℕ) → IsMakeStop loading key old new stop
-    → IsEndOf (to_make loading key) old new script (Stopped stop)
+    → IsEndOf (to_make loading key) old new script (Err stop)
 make_stop_end loading key old new (Journal line) script (o, n, within, some, long, text, made) =
     inl (inr (record { o = o; n = n; known = within; some = some; long = long; is_status = refl; is_text = text; disks = made }))
 make_stop_end loading key old new (Disk line) script (o, within, text, made) =
     inr (inr (inr (line, refl, (o, within, text, made))), inr (o, within, made))
 make_stop_end loading key old new NoMemory script made = inr (inr (inl refl), made)
-make_stop_end loading key old new Usage script is = absurd is
-make_stop_end loading key old new (Refused name) script is = absurd is
-make_stop_end loading key old new Fault script is = absurd is
+make_stop_end loading key old new stop script is = absurd is

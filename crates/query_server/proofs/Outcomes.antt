@@ -1,8 +1,8 @@
 -- what is written at the end of a command, and what follows from it
-use Rattle.std.proofs.Common.{◌≡◌, ℕ, ◌≤◌, Bool, true, false, List, [], ◌∷◌, ◌++◌, append-nil, length, Option, Some, None, refl, sym, ap, subst, ◌∙◌}
+use Rattle.std.proofs.Common.{arith, ◌≡◌, ℕ, ◌≤◌, Bool, true, false, List, [], ◌∷◌, ◌++◌, append-nil, length, Option, Some, None, refl, sym, ap, subst, ◌∙◌}
 use Rattle.fz_ast.specs.Signature.{Signature}
 use Rattle.std.specs.Io.KnownBytes.{append_known}
-use Rattle.std.specs.Prelude.{IsSome, MatchBool}
+use Rattle.std.specs.Prelude.{Err, IsSome, MatchBool}
 use mathlib.Core.Logic.{◌⊎◌, inl, inr}
 use Rattle.word_streams.specs.Draws.{draws_of}
 use Rattle.answer_path.specs.Reading.{Reading, IsReading}
@@ -10,29 +10,27 @@ use Rattle.answer_path.specs.Judgement.{Judgement, refused_for, accepted, judgem
 use Rattle.answer_path.proofs.Readings.{one_reading}
 use Rattle.metric_values.specs.Tables.{Dataset}
 use Rattle.session_core.specs.Transcript.{Journals}
-use Rattle.command_words.specs.Command.{Command, init, run, audit, check, gap, command_of}
-use Rattle.query_server.specs.Work.{Work, ended, usage, refused, to_answer, to_make, to_count, to_check, to_compare}
+use Rattle.command_words.specs.Command.{Command, command_of}
+use Rattle.query_server.specs.Work.{Work, usage, refused, to_answer, to_make, to_count, to_check, to_compare}
 use Rattle.catalog_loading.specs.Files.{Contents, ReadsToCome, always}
-use Rattle.catalog_loading.specs.Loaded.{Loading, owners_in}
-use Rattle.query_server.specs.Shelves.{Shelf, EachDisk, IsOnlySynced}
+use Rattle.catalog_loading.specs.Loaded.{Loading}
+use Rattle.query_server.specs.Shelves.{Shelf}
 use Rattle.query_server.specs.Opened.{AreOpened}
-use Rattle.query_server.specs.Run.{IsScriptAnswered, IsScriptDue, crew_size, script_limit}
+use Rattle.query_server.specs.Run.{IsScriptAnswered, crew_size, script_limit}
 use Rattle.query_server.specs.Check.{status_by}
 use Rattle.query_server.specs.Gap.{IsGapDue}
 use Rattle.query_server.specs.Status.{refused_text, memory_text}
-use Rattle.query_server.specs.Due.{AreRead, ForContents, IfFinished, IsDiskLine, IsDue, IsForProgram, IsOfDisks, IsOfProgram, IsOfRun, IsBeginning, IsStopLine, IsToWrite, IsWrittenAt, MayStop, work_of, files_of, command_steps, duty_of, kind_of}
+use Rattle.query_server.specs.Due.{AreRead, ForContents, IfFinished, IsDiskLine, IsDue, IsForProgram, IsOfDisks, IsOfProgram, IsOfRun, IsBeginning, IsStopLine, IsToWrite, IsWrittenAt, MayStop, work_of, files_of, command_steps, duty_of, command_kind}
 use Rattle.query_server.specs.Promise.{IsAnsweredScript, IsRunLeft}
-use Rattle.query_server.specs.Ends.{IsCut, IsEndOf, IsEndingWith, IsStepEnd, status_at, text_at}
+use Rattle.query_server.specs.Ends.{Ended, IsCut, IsEndOf, IsEndingWith, IsStepEnd, status_at, text_at}
 use Rattle.query_server.specs.Taken.{IsTaken, IsTakenAt}
 use Rattle.query_server.specs.declared.end.Status.{Status}
 use Rattle.query_server.specs.declared.end.Status.TheVariants as code
 use Rattle.catalog_loading.specs.declared.stops.Stop.TheVariants.{Usage, Fault, NoMemory}
-use Rattle.query_server.specs.declared.end.End.{End}
-use Rattle.query_server.specs.declared.end.End.TheVariants.{Stopped}
 use Rattle.query_server.proofs.Judged.{gap_status}
-use Rattle.query_server.proofs.Contents.{at_held, at_some, at_told, for_contents}
+use Rattle.query_server.proofs.Contents.{at_some, at_told, for_contents}
 use Rattle.query_server.proofs.Prefixes.{prefix_empty, prefix_of_prefix, prefix_whole}
-use Rattle.query_server.proofs.Endings.{work_by, house_by, house_cases, check_cases, gap_cases}
+use Rattle.query_server.proofs.Endings.{ComesTo, answers, checks, compares, counts, makes, no_command, refuses, house_by, work_comes}
 use Rattle.query_server.proofs.Disks.{may_stop_same}
 use Rattle.query_server.proofs.Owed.{histories}
 use Rattle.session_laws.proofs.Scripts.{headline_of, owed_of}
@@ -40,12 +38,12 @@ use Rattle.owner_house.specs.House.{house_of}
 use Rattle.owner_house.proofs.Owners.{register_owners}
 
 -- The end's text is written whole or in part: so it is written what is due.
-cut_line : (ending : Work) (b a : Shelf) (end : End) → IsCut ending b a end → (end ≡ Stopped Fault) ⊎ IsStopLine ending b a (status_at end) (text_at end)
+cut_line : (ending : Work) (b a : Shelf) (end : Ended) → IsCut ending b a end → (end ≡ Err Fault) ⊎ IsStopLine ending b a (status_at end) (text_at end)
 cut_line ending b a end (inl fault) = inl fault
 cut_line ending b a end (inr (inl memory)) = inr (inl (ap status_at memory, ap text_at memory))
 cut_line ending b a end (inr (inr (line, disk, is))) = inr (inr (ap status_at disk, subst (IsDiskLine ending b a) (sym (ap text_at disk)) is))
 
-pub written_by : (end : End) (status : Status) (text : List ℕ) → IsEndingWith end status text → (ending : Work) (b a : Shelf) (script : List ℕ) → IsEndOf ending b a script end → IsWrittenAt ending b a script status text
+pub written_by : (end : Ended) (status : Status) (text : List ℕ) → IsEndingWith end status text → (ending : Work) (b a : Shelf) (script : List ℕ) → IsEndOf ending b a script end → IsWrittenAt ending b a script status text
 written_by end status text with ending b a script is = here is
   where
     whole : IsToWrite ending b a script (status_at end) (text_at end) → ((status ≡ status_at end) × (text ≡ text_at end)) ⊎ (status ≡ code.Fault) → IsWrittenAt ending b a script status text
@@ -53,13 +51,13 @@ written_by end status text with ending b a script is = here is
         inl (subst (λ (s : Status). IsToWrite ending b a script s text) (sym same) (subst (λ (t : List ℕ). IsToWrite ending b a script (status_at end) t) (sym all) due))
     whole due (inr fault) = inr (fault, (status_at end, text_at end, due, with.prefix))
 
-    nothing : end ≡ Stopped Fault → MayStop ending b a → ((status ≡ status_at end) × (text ≡ text_at end)) ⊎ (status ≡ code.Fault) → IsWrittenAt ending b a script status text
+    nothing : end ≡ Err Fault → MayStop ending b a → ((status ≡ status_at end) × (text ≡ text_at end)) ⊎ (status ≡ code.Fault) → IsWrittenAt ending b a script status text
     nothing fault may (inl (same, all)) =
         inr (same ∙ ap status_at fault, (code.NoMemory, memory_text, inr (inl (refl, refl), may), prefix_empty text with.prefix.0 (sym (ap text_at fault) ∙ with.prefix.1) memory_text))
     nothing fault may (inr same) =
         inr (same, (code.NoMemory, memory_text, inr (inl (refl, refl), may), prefix_empty text with.prefix.0 (sym (ap text_at fault) ∙ with.prefix.1) memory_text))
 
-    cut : (end ≡ Stopped Fault) ⊎ IsStopLine ending b a (status_at end) (text_at end) → MayStop ending b a → IsWrittenAt ending b a script status text
+    cut : (end ≡ Err Fault) ⊎ IsStopLine ending b a (status_at end) (text_at end) → MayStop ending b a → IsWrittenAt ending b a script status text
     cut (inl fault) may = nothing fault may with.whole
     cut (inr line) may = whole (inr (line, may)) with.whole
 
@@ -112,30 +110,19 @@ due_status (to_count loading key) b a script status text (inr (found, opened, is
 due_status (to_check tables program) b a script status text due = no_verdict (judgement_of tables due.reading) status due.is_status
 due_status (to_compare tables X Y program) b a script status text due = gap_verdict tables X Y program status text due
 
--- what is written at a status that is neither of a failure nor of want of memory
-pub written_status : (ending : Work) (b a : Shelf) (script : List ℕ) (status : Status) (text : List ℕ) → (status ≡ code.Fault → ⊥) → (status ≡ code.NoMemory → ⊥) → (status ≡ code.DiskFault → ⊥)
-    → IsWrittenAt ending b a script status text → IsStatusOf ending status
-written_status ending b a script status text fault memory disk written =
-    due_status ending b a script status text (finished_at status (IsDue ending b a script status text) fault memory disk (finished_due ending b a script status text written))
-
--- the commands of a status
-either : (status a b : Status) → (a ≡ status → ⊥) → (b ≡ status → ⊥) → (status ≡ a) ⊎ (status ≡ b) → ⊥
-either status a b first second (inl is) = first (sym is)
-either status a b first second (inr is) = second (sym is)
-
-one_of_three : (status a b c : Status) → (a ≡ status → ⊥) → (b ≡ status → ⊥) → (c ≡ status → ⊥) → (status ≡ a) ⊎ ((status ≡ b) ⊎ (status ≡ c)) → ⊥
-one_of_three status a b c first second third (inl is) = first (sym is)
-one_of_three status a b c first second third (inr is) = either status b c second third is
+-- the status of what is written, where it is of no failure
+pub status_written : (work : Work) (b a : Shelf) (script : List ℕ) (status wanted : Status) (text : List ℕ) → IsWrittenAt work b a script status text → status ≡ wanted → (wanted ≡ code.Fault → ⊥)
+    → (wanted ≡ code.NoMemory → ⊥) → (wanted ≡ code.DiskFault → ⊥) → IsStatusOf work wanted
+status_written work b a script status wanted text written is fault memory disk =
+    subst (IsStatusOf work) is
+    (due_status work b a script status text (finished_at status (IsDue work b a script status text) (λ w. fault (sym is ∙ w)) (λ w. memory (sym is ∙ w)) (λ w. disk (sym is ∙ w))
+    (finished_due work b a script status text written)))
 
 -- the name that is refused
 refused_only : (ending : Work) → IsStatusOf ending code.Refused → (name : List ℕ) × (ending ≡ refused name)
 refused_only usage is = cc
 refused_only (refused name) is = (name, refl)
-refused_only (to_answer workers loading key) is = absurd (one_of_three code.Refused code.Done code.ScriptTooLong code.JournalRefused (λ w. cc) (λ w. cc) (λ w. cc) is)
-refused_only (to_make loading key) is = absurd (either code.Refused code.Done code.JournalRefused (λ w. cc) (λ w. cc) is)
-refused_only (to_count loading key) is = absurd (either code.Refused code.Done code.JournalRefused (λ w. cc) (λ w. cc) is)
-refused_only (to_check tables program) is = absurd (either code.Refused code.Done code.ProgramRefused (λ w. cc) (λ w. cc) is)
-refused_only (to_compare tables X Y program) is = absurd (either code.Refused code.Done code.ProgramRefused (λ w. cc) (λ w. cc) is)
+refused_only ending is = absurd (grind (arith, is))
 
 refused_text_of : (ending : Work) (name : List ℕ) (b a : Shelf) (script : List ℕ) (status : Status) (text : List ℕ) → ending ≡ refused name → IsDue ending b a script status text → text ≡ refused_text name
 refused_text_of ending name b a script status text is due = (subst (λ (e : Work). IsDue e b a script status text) is due).1
@@ -156,37 +143,24 @@ pub comparison_by : (ending : Work) (b a : Shelf) (tables : Signature) (X Y : Da
     → IsWrittenAt ending b a script status text → IsWrittenAt (to_compare tables X Y program) b a [] status text
 comparison_by ending b a tables X Y program script status text is written = subst (λ (e : Work). IsWrittenAt e b a script status text) is written
 
--- and by its one reading
-same_verdict : (tables : Signature) (program : List ℕ) (reading other : Reading) (status : Status) → IsReading program reading → IsReading program other
-    → status ≡ status_by (judgement_of tables other) → status ≡ status_by (judgement_of tables reading)
-same_verdict tables program reading other status reads read is =
-    is ∙ ap (λ (r : Reading). status_by (judgement_of tables r)) (one_reading program other reading read reads)
-
 some_same : {A : Type 0} (a b : A) → Some a ≡ Some b → a ≡ b
 some_same a b is = cc
 
--- what is to be judged is this program over these tables
-judged_as : (over tables : Signature) (other program : List ℕ) → IsForProgram tables program (to_check over other) → (over ≡ tables) × (other ≡ program)
-judged_as over tables other program is =
-    let same = some_same {A = Signature × List ℕ} (over, other) (tables, program) is in
-    (ap (λ (p : Signature × List ℕ). p.0) same, ap (λ (p : Signature × List ℕ). p.1) same)
+-- a verdict on these tables and this program is by the program's one reading
+judged_by : (over tables : Signature) (other program : List ℕ) (given reading : Reading) (status : Status) → IsForProgram tables program (to_check over other) → IsReading other given
+    → status ≡ status_by (judgement_of over given) → IsReading program reading → status ≡ status_by (judgement_of tables reading)
+judged_by over tables other program given reading status same reads is read =
+    let both = some_same {A = Signature × List ℕ} (over, other) (tables, program) same in
+    let bytes = ap (λ (p : Signature × List ℕ). p.1) both in
+    let one = one_reading program given reading (subst (λ (p : List ℕ). IsReading p given) bytes reads) read in
+    is ∙ ap (λ (p : Signature × List ℕ). status_by (judgement_of p.0 given)) both ∙ ap (λ (r : Reading). status_by (judgement_of tables r)) one
 
 verdict_due : (work : Work) (b a : Shelf) (tables : Signature) (program script : List ℕ) (reading : Reading) (status : Status) (text : List ℕ) → IsForProgram tables program work → IsReading program reading
     → IsDue work b a script status text → status ≡ status_by (judgement_of tables reading)
-verdict_due usage b a tables program script reading status text is reads due = absurd (cc is)
-verdict_due (refused name) b a tables program script reading status text is reads due = absurd (cc is)
-verdict_due (to_answer workers loading key) b a tables program script reading status text is reads due = absurd (cc is)
-verdict_due (to_make loading key) b a tables program script reading status text is reads due = absurd (cc is)
-verdict_due (to_count loading key) b a tables program script reading status text is reads due = absurd (cc is)
-verdict_due (to_check over other) b a tables program script reading status text is reads due =
-    let same = judged_as over tables other program is in
-    subst (λ (ts : Signature). status ≡ status_by (judgement_of ts reading)) same.0
-    (same_verdict over program reading due.reading status reads (subst (λ (p : List ℕ). IsReading p due.reading) same.1 due.reads) due.is_status)
+verdict_due (to_check over other) b a tables program script reading status text is reads due = judged_by over tables other program due.reading reading status is due.reads due.is_status reads
 verdict_due (to_compare over X Y other) b a tables program script reading status text is reads due =
-    let same = judged_as over tables other program is in
-    subst (λ (ts : Signature). status ≡ status_by (judgement_of ts reading)) same.0
-    (same_verdict over program reading due.reading status reads (subst (λ (p : List ℕ). IsReading p due.reading) same.1 due.reads)
-    (gap_status (judgement_of over due.reading) over X Y other status text due.due))
+    judged_by over tables other program due.reading reading status is due.reads (gap_status (judgement_of over due.reading) over X Y other status text due.due) reads
+verdict_due work b a tables program script reading status text is reads due = absurd (cc is)
 
 pub verdict_by : (ending : Work) (b a : Shelf) (tables : Signature) (program script : List ℕ) (reading : Reading) (status : Status) (text : List ℕ) → IsForProgram tables program ending → IsReading program reading
     → IsWrittenAt ending b a script status text → IfFinished status (status ≡ status_by (judgement_of tables reading))
@@ -194,82 +168,26 @@ verdict_by ending b a tables program script reading status text is reads written
     finished_map status (IsDue ending b a script status text) (status ≡ status_by (judgement_of tables reading)) (verdict_due ending b a tables program script reading status text is reads)
     (finished_due ending b a script status text written)
 
-usage_of : (command : Option Command) (reads : ReadsToCome) → IsStatusOf (ended (command_steps command reads).given) code.Usage → command ≡ None
-usage_of None reads is = refl
-usage_of (Some (run catalog key workers)) reads is = absurd (house_cases (λ ending. IsStatusOf ending code.Usage → ⊥) (λ name is. cc) (to_answer workers)
-    (λ loading key is. one_of_three code.Usage code.Done code.ScriptTooLong code.JournalRefused (λ w. cc) (λ w. cc) (λ w. cc) is) catalog key reads is)
-usage_of (Some (init catalog key)) reads is = absurd (house_cases (λ ending. IsStatusOf ending code.Usage → ⊥) (λ name is. cc) to_make
-    (λ loading key is. either code.Usage code.Done code.JournalRefused (λ w. cc) (λ w. cc) is) catalog key reads is)
-usage_of (Some (audit catalog key)) reads is = absurd (house_cases (λ ending. IsStatusOf ending code.Usage → ⊥) (λ name is. cc) to_count
-    (λ loading key is. either code.Usage code.Done code.JournalRefused (λ w. cc) (λ w. cc) is) catalog key reads is)
-usage_of (Some (check catalog owner file)) reads is =
-    absurd (check_cases (λ ending. IsStatusOf ending code.Usage → ⊥) (λ name is. cc) (λ tables program is. either code.Usage code.Done code.ProgramRefused (λ w. cc) (λ w. cc) is) catalog owner file reads is)
-usage_of (Some (gap catalog owner second_catalog file)) reads is =
-    absurd (gap_cases (λ ending. IsStatusOf ending code.Usage → ⊥) (λ name is. cc) (λ tables X Y program is. either code.Usage code.Done code.ProgramRefused (λ w. cc) (λ w. cc) is) catalog owner second_catalog file reads is)
+-- the commands of a status
+pub usage_of : (command : Option Command) (work : Work) → ComesTo command work → IsStatusOf work code.Usage → command ≡ None
+usage_of command work no_command is = refl
+usage_of command work other is = absurd (grind (arith, is))
 
-program_of : (command : Option Command) (reads : ReadsToCome) → IsStatusOf (ended (command_steps command reads).given) code.ProgramRefused → IsOfProgram command
-program_of None reads is = let wrong : code.ProgramRefused ≡ code.Usage = is in cc
-program_of (Some (run catalog key workers)) reads is = absurd (house_cases (λ ending. IsStatusOf ending code.ProgramRefused → ⊥) (λ name is. cc) (to_answer workers)
-    (λ loading key is. one_of_three code.ProgramRefused code.Done code.ScriptTooLong code.JournalRefused (λ w. cc) (λ w. cc) (λ w. cc) is) catalog key reads is)
-program_of (Some (init catalog key)) reads is = absurd (house_cases (λ ending. IsStatusOf ending code.ProgramRefused → ⊥) (λ name is. cc) to_make
-    (λ loading key is. either code.ProgramRefused code.Done code.JournalRefused (λ w. cc) (λ w. cc) is) catalog key reads is)
-program_of (Some (audit catalog key)) reads is = absurd (house_cases (λ ending. IsStatusOf ending code.ProgramRefused → ⊥) (λ name is. cc) to_count
-    (λ loading key is. either code.ProgramRefused code.Done code.JournalRefused (λ w. cc) (λ w. cc) is) catalog key reads is)
-program_of (Some (check catalog owner file)) reads is = refl
-program_of (Some (gap catalog owner second_catalog file)) reads is = refl
+pub program_of : (command : Option Command) (work : Work) → ComesTo command work → IsStatusOf work code.ProgramRefused → IsOfProgram command
+program_of command work checks is = refl
+program_of command work compares is = refl
+program_of command work other is = absurd (grind (arith, is))
 
-run_of : (command : Option Command) (reads : ReadsToCome) → IsStatusOf (ended (command_steps command reads).given) code.ScriptTooLong → IsOfRun command
-run_of None reads is = let wrong : code.ScriptTooLong ≡ code.Usage = is in cc
-run_of (Some (run catalog key workers)) reads is = refl
-run_of (Some (init catalog key)) reads is = absurd (house_cases (λ ending. IsStatusOf ending code.ScriptTooLong → ⊥) (λ name is. cc) to_make
-    (λ loading key is. either code.ScriptTooLong code.Done code.JournalRefused (λ w. cc) (λ w. cc) is) catalog key reads is)
-run_of (Some (audit catalog key)) reads is = absurd (house_cases (λ ending. IsStatusOf ending code.ScriptTooLong → ⊥) (λ name is. cc) to_count
-    (λ loading key is. either code.ScriptTooLong code.Done code.JournalRefused (λ w. cc) (λ w. cc) is) catalog key reads is)
-run_of (Some (check catalog owner file)) reads is =
-    absurd (check_cases (λ ending. IsStatusOf ending code.ScriptTooLong → ⊥) (λ name is. cc) (λ tables program is. either code.ScriptTooLong code.Done code.ProgramRefused (λ w. cc) (λ w. cc) is) catalog owner file reads is)
-run_of (Some (gap catalog owner second_catalog file)) reads is =
-    absurd (gap_cases (λ ending. IsStatusOf ending code.ScriptTooLong → ⊥) (λ name is. cc) (λ tables X Y program is. either code.ScriptTooLong code.Done code.ProgramRefused (λ w. cc) (λ w. cc) is) catalog owner second_catalog file reads is)
+pub run_of : (command : Option Command) (work : Work) → ComesTo command work → IsStatusOf work code.ScriptTooLong → IsOfRun command
+run_of command work answers is = refl
+run_of command work other is = absurd (grind (arith, is))
 
 -- a journal is refused to a command that takes the owners' disks
-disks_of : (command : Option Command) (reads : ReadsToCome) → IsStatusOf (ended (command_steps command reads).given) code.JournalRefused → IsOfDisks command
-disks_of None reads is = let wrong : code.JournalRefused ≡ code.Usage = is in cc
-disks_of (Some (run catalog key workers)) reads is = refl
-disks_of (Some (init catalog key)) reads is = refl
-disks_of (Some (audit catalog key)) reads is = refl
-disks_of (Some (check catalog owner file)) reads is =
-    absurd (check_cases (λ ending. IsStatusOf ending code.JournalRefused → ⊥) (λ name is. cc) (λ tables program is. either code.JournalRefused code.Done code.ProgramRefused (λ w. cc) (λ w. cc) is) catalog owner file reads is)
-disks_of (Some (gap catalog owner second_catalog file)) reads is =
-    absurd (gap_cases (λ ending. IsStatusOf ending code.JournalRefused → ⊥) (λ name is. cc) (λ tables X Y program is. either code.JournalRefused code.Done code.ProgramRefused (λ w. cc) (λ w. cc) is) catalog owner second_catalog file reads is)
-
--- the status of what is written, where it is of no failure
-status_written : (words : List (List ℕ)) (reads : ReadsToCome) (b a : Shelf) (script : List ℕ) (status wanted : Status) (text : List ℕ) → status ≡ wanted → (wanted ≡ code.Fault → ⊥) → (wanted ≡ code.NoMemory → ⊥)
-    → (wanted ≡ code.DiskFault → ⊥) → IsWrittenAt (work_of words reads) b a script status text → IsStatusOf (work_of words reads) wanted
-status_written words reads b a script status wanted text is fault memory disk written =
-    subst (IsStatusOf (work_of words reads)) is
-    (written_status (work_of words reads) b a script status text (λ w. fault (sym is ∙ w)) (λ w. memory (sym is ∙ w)) (λ w. disk (sym is ∙ w)) written)
-
-pub usage_by : (words : List (List ℕ)) (reads : ReadsToCome) (b a : Shelf) (script : List ℕ) (status : Status) (text : List ℕ) → status ≡ code.Usage → IsWrittenAt (work_of words reads) b a script status text → command_of words ≡ None
-unfolding work_of
-usage_by words reads b a script status text is written =
-    usage_of (command_of words) reads (status_written words reads b a script status code.Usage text is (λ w. cc) (λ w. cc) (λ w. cc) written)
-
-pub of_program_by : (words : List (List ℕ)) (reads : ReadsToCome) (b a : Shelf) (script : List ℕ) (status : Status) (text : List ℕ) → status ≡ code.ProgramRefused → IsWrittenAt (work_of words reads) b a script status text
-    → IsOfProgram (command_of words)
-unfolding work_of
-of_program_by words reads b a script status text is written =
-    program_of (command_of words) reads (status_written words reads b a script status code.ProgramRefused text is (λ w. cc) (λ w. cc) (λ w. cc) written)
-
-pub of_run_by : (words : List (List ℕ)) (reads : ReadsToCome) (b a : Shelf) (script : List ℕ) (status : Status) (text : List ℕ) → status ≡ code.ScriptTooLong → IsWrittenAt (work_of words reads) b a script status text
-    → IsOfRun (command_of words)
-unfolding work_of
-of_run_by words reads b a script status text is written =
-    run_of (command_of words) reads (status_written words reads b a script status code.ScriptTooLong text is (λ w. cc) (λ w. cc) (λ w. cc) written)
-
-pub of_disks_by : (words : List (List ℕ)) (reads : ReadsToCome) (b a : Shelf) (script : List ℕ) (status : Status) (text : List ℕ) → status ≡ code.JournalRefused → IsWrittenAt (work_of words reads) b a script status text
-    → IsOfDisks (command_of words)
-unfolding work_of
-of_disks_by words reads b a script status text is written =
-    disks_of (command_of words) reads (status_written words reads b a script status code.JournalRefused text is (λ w. cc) (λ w. cc) (λ w. cc) written)
+pub disks_of : (command : Option Command) (work : Work) → ComesTo command work → IsStatusOf work code.JournalRefused → IsOfDisks command
+disks_of command work answers is = refl
+disks_of command work makes is = refl
+disks_of command work counts is = refl
+disks_of command work other is = absurd (grind (arith, is))
 
 -- a script that is answered
 answered_by : (words : List (List ℕ)) (held : Contents) (b a : Shelf) (script text : List ℕ) (workers : ℕ) (loading : Loading) (key : List ℕ) → work_of words (always held) ≡ to_answer workers loading key
@@ -302,55 +220,32 @@ IsLeftBy words held b a script work status text =
 not_done : {A : Type 0} (status wanted : Status) → status ≡ wanted → (code.Done ≡ wanted → ⊥) → status ≡ code.Done → A
 not_done status wanted is isnt done = absurd (isnt (sym done ∙ is))
 
-left_whole : (words : List (List ℕ)) (held : Contents) (b a : Shelf) (script text : List ℕ) (status : Status) (workers : ℕ) (loading : Loading) (key : List ℕ) → work_of words (always held) ≡ to_answer workers loading key
-    → IsToWrite (to_answer workers loading key) b a script status text → IsLeftBy words held b a script (to_answer workers loading key) status text
-left_whole words held b a script text status workers loading key work (inl (inl refusal)) = inr (not_done status code.JournalRefused refusal.is_status (λ w. cc), refusal.disks)
-left_whole words held b a script text status workers loading key work (inl (inr (found, opened, inl (done, short, answered)))) =
-    inl (text, answered_by words held b a script text workers loading key work found opened short answered, prefix_whole text, λ is. refl)
-left_whole words held b a script text status workers loading key work (inl (inr (found, opened, inr (over, long, is, disks)))) = inr (not_done status code.ScriptTooLong over (λ w. cc), disks)
-left_whole words held b a script text status workers loading key work (inr (inl (memory, is), may)) = inr (not_done status code.NoMemory memory (λ w. cc), may)
-left_whole words held b a script text status workers loading key work (inr (inr (disk, is), may)) = inr (not_done status code.DiskFault disk (λ w. cc), may)
+left_whole : (words : List (List ℕ)) (held : Contents) (b a : Shelf) (script text : List ℕ) (status : Status) (command : Option Command) (work : Work) → ComesTo command work → IsOfRun command → work_of words (always held) ≡ work
+    → IsToWrite work b a script status text → IsLeftBy words held b a script work status text
+left_whole words held b a script text status command work (refuses name) takes is (inl (named, line, same)) = inr (not_done status code.Refused named (λ w. cc), same)
+left_whole words held b a script text status command work answers takes is (inl (inl refusal)) = inr (not_done status code.JournalRefused refusal.is_status (λ w. cc), refusal.disks)
+left_whole words held b a script text status command work answers takes is (inl (inr (found, opened, inl (done, short, answered)))) =
+    inl (text, answered_by words held b a script text _ _ _ is found opened short answered, prefix_whole text, λ is. refl)
+left_whole words held b a script text status command work answers takes is (inl (inr (found, opened, inr (over, long, line, disks)))) = inr (not_done status code.ScriptTooLong over (λ w. cc), disks)
+left_whole words held b a script text status command work other takes is (inr (inl (memory, line), may)) = inr (not_done status code.NoMemory memory (λ w. cc), may)
+left_whole words held b a script text status command work other takes is (inr (inr (disk, line), may)) = inr (not_done status code.DiskFault disk (λ w. cc), may)
+left_whole words held b a script text status command work other takes is due = cc takes
 
 -- a prefix was written, since something failed
-left_part : (words : List (List ℕ)) (held : Contents) (b a : Shelf) (script text due : List ℕ) (status whole : Status) (workers : ℕ) (loading : Loading) (key : List ℕ) → status ≡ code.Fault → IsBeginning text due
-    → IsLeftBy words held b a script (to_answer workers loading key) whole due → IsLeftBy words held b a script (to_answer workers loading key) status text
-left_part words held b a script text due status whole workers loading key fault prefix (inl (all, answered, begins, same)) =
+left_part : (words : List (List ℕ)) (held : Contents) (b a : Shelf) (script text due : List ℕ) (status whole : Status) → status ≡ code.Fault → IsBeginning text due
+    → IsRunLeft words held b a script whole due → IsRunLeft words held b a script status text
+left_part words held b a script text due status whole fault prefix (inl (all, answered, begins, same)) =
     inl (all, answered, prefix_of_prefix text due all prefix begins, not_done status code.Fault fault (λ w. cc))
-left_part words held b a script text due status whole workers loading key fault prefix (inr (isnt, may)) = inr (not_done status code.Fault fault (λ w. cc), may)
-
-left_answer : (words : List (List ℕ)) (held : Contents) (b a : Shelf) (script text : List ℕ) (status : Status) (workers : ℕ) (loading : Loading) (key : List ℕ) → work_of words (always held) ≡ to_answer workers loading key
-    → IsWrittenAt (to_answer workers loading key) b a script status text → IsLeftBy words held b a script (to_answer workers loading key) status text
-left_answer words held b a script text status workers loading key work (inl due) = left_whole words held b a script text status workers loading key work due
-left_answer words held b a script text status workers loading key work (inr (fault, (whole, due, is, prefix))) =
-    left_part words held b a script text due status whole workers loading key fault prefix (left_whole words held b a script due whole workers loading key work is)
-
--- and where a file is refused
-left_refused : (words : List (List ℕ)) (held : Contents) (b a : Shelf) (script text : List ℕ) (status : Status) (name : List ℕ) → IsWrittenAt (refused name) b a script status text
-    → IsLeftBy words held b a script (refused name) status text
-left_refused words held b a script text status name (inl (inl (is, line, same))) = inr (not_done status code.Refused is (λ w. cc), same)
-left_refused words held b a script text status name (inl (inr (inl (memory, is), may))) = inr (not_done status code.NoMemory memory (λ w. cc), may)
-left_refused words held b a script text status name (inl (inr (inr (disk, is), may))) = absurd is
-left_refused words held b a script text status name (inr (fault, (whole, due, inl (is, line, same), prefix))) = inr (not_done status code.Fault fault (λ w. cc), same)
-left_refused words held b a script text status name (inr (fault, (whole, due, inr (line, may), prefix))) = inr (not_done status code.Fault fault (λ w. cc), may)
-
-left_work : (words : List (List ℕ)) (held : Contents) (b a : Shelf) (script text : List ℕ) (status : Status) (command : Option Command) → IsOfRun command → command_of words ≡ command
-    → (work : Work) → work_of words (always held) ≡ work → IsWrittenAt work b a script status text → IsLeftBy words held b a script work status text
-left_work words held b a script text status None takes commanded work is = cc takes
-left_work words held b a script text status (Some (init catalog key)) takes commanded work is = cc takes
-left_work words held b a script text status (Some (audit catalog key)) takes commanded work is = cc takes
-left_work words held b a script text status (Some (check catalog owner file)) takes commanded work is = cc takes
-left_work words held b a script text status (Some (gap catalog owner second_catalog file)) takes commanded work is = cc takes
-left_work words held b a script text status (Some (run catalog key workers)) takes commanded work is =
-    subst (λ (w : Work). work_of words (always held) ≡ w → IsWrittenAt w b a script status text → IsLeftBy words held b a script w status text) (sym (work_by words (always held) (Some (run catalog key workers)) commanded) ∙ is)
-    (house_cases (λ w. work_of words (always held) ≡ w → IsWrittenAt w b a script status text → IsLeftBy words held b a script w status text) (λ name same written. left_refused words held b a script text status name written)
-    (to_answer workers) (λ loading bytes same written. left_answer words held b a script text status workers loading bytes same written) catalog key (always held)) is
+left_part words held b a script text due status whole fault prefix (inr (isnt, may)) = inr (not_done status code.Fault fault (λ w. cc), may)
 
 pub left_by_run : (words : List (List ℕ)) (held : Contents) (b a : Shelf) (script text : List ℕ) (status : Status) → IsOfRun (command_of words) → IsWrittenAt (work_of words (always held)) b a script status text
     → IsRunLeft words held b a script status text
-left_by_run words held b a script text status takes written = left_work words held b a script text status (command_of words) takes refl (work_of words (always held)) refl written
+left_by_run words held b a script text status takes (inl due) = left_whole words held b a script text status _ _ (work_comes words (always held)) takes refl due
+left_by_run words held b a script text status takes (inr (fault, (whole, due, is, prefix))) =
+    left_part words held b a script text due status whole fault prefix (left_whole words held b a script due whole _ _ (work_comes words (always held)) takes refl is)
 
 -- what was read, whether or not the end's text is written
-read_with : (end : End) (status : Status) (text : List ℕ) (files old new : List (List ℕ)) → IsEndingWith end status text → AreRead (status_at end) files old new → AreRead status files old new
+read_with : (end : Ended) (status : Status) (text : List ℕ) (files old new : List (List ℕ)) → IsEndingWith end status text → AreRead (status_at end) files old new → AreRead status files old new
 read_with end status text files old new with is = here with.whole
   where
     here : ((status ≡ status_at end) × (text ≡ text_at end)) ⊎ (status ≡ code.Fault) → AreRead status files old new
@@ -358,48 +253,42 @@ read_with end status text files old new with is = here with.whole
     here (inr fault) = record { names = is.names; is = is.is; some = is.some; all = inl fault }
 
 -- How words end over some contents, and what is written at that.
-abbrev pub Ends : (words : List (List ℕ)) → (old new : List (List ℕ)) → (b a : Shelf) → End → ReadsToCome → (script : List ℕ) → Type 0
+abbrev pub Ends : (words : List (List ℕ)) → (old new : List (List ℕ)) → (b a : Shelf) → Ended → ReadsToCome → (script : List ℕ) → Type 0
 Ends words old new b a end reads script = IsEndOf (work_of words reads) b a script end × AreRead (status_at end) (files_of words reads) old new
 
 abbrev pub Comes : (words : List (List ℕ)) → (old new : List (List ℕ)) → (b a : Shelf) → (status : Status) → (text : List ℕ) → ReadsToCome → (script : List ℕ) → Type 0
 Comes words old new b a status text reads script = IsWrittenAt (work_of words reads) b a script status text × AreRead status (files_of words reads) old new
 
-pub all_written : (words : List (List ℕ)) (held : Option Contents) (left : Option (List ℕ)) (old new : List (List ℕ)) (b a : Shelf) (end : End) (status : Status) (text : List ℕ) → IsEndingWith end status text
+pub all_written : (words : List (List ℕ)) (held : Option Contents) (left : Option (List ℕ)) (old new : List (List ℕ)) (b a : Shelf) (end : Ended) (status : Status) (text : List ℕ) → IsEndingWith end status text
     → ForContents held left (Ends words old new b a end) → ForContents held left (Comes words old new b a status text)
 all_written words held left old new b a end status text with = for_contents held left (Ends words old new b a end) (Comes words old new b a status text)
     (λ reads script (due, read). (written_by end status text with (work_of words reads) b a script due, read_with end status text (files_of words reads) old new with read))
 
--- the same where the files tell what they hold
-pub held_written : (words : List (List ℕ)) (told : Contents) (held : Option Contents) (left : Option (List ℕ)) (old new : List (List ℕ)) (b a : Shelf) (end : End) (status : Status) (text : List ℕ) → IsEndingWith end status text
-    → ForContents held left (Ends words old new b a end) → held ≡ Some told → (script : List ℕ) × Comes words old new b a status text (always told) script
-held_written words told held left old new b a end status text with ends files =
-    at_held told held left (Comes words old new b a status text) files (all_written words held left old new b a end status text with ends)
-
--- and the source its bytes
-pub told_written : (words : List (List ℕ)) (told : Contents) (script : List ℕ) (held : Option Contents) (left : Option (List ℕ)) (old new : List (List ℕ)) (b a : Shelf) (end : End) (status : Status) (text : List ℕ)
+-- the same where the files and the source tell what they hold
+pub told_written : (words : List (List ℕ)) (told : Contents) (script : List ℕ) (held : Option Contents) (left : Option (List ℕ)) (old new : List (List ℕ)) (b a : Shelf) (end : Ended) (status : Status) (text : List ℕ)
     → IsEndingWith end status text → ForContents held left (Ends words old new b a end) → held ≡ Some told → left ≡ Some script → Comes words old new b a status text (always told) script
 told_written words told script held left old new b a end status text with ends files source =
     at_told told script held left (Comes words old new b a status text) files source (all_written words held left old new b a end status text with ends)
 
 -- A command's steps end so: so do its words.
-pub command_end : (words : List (List ℕ)) (command : Option Command) (held : Option Contents) (left : Option (List ℕ)) (old new : List (List ℕ)) (b a : Shelf) (end : End) → command_of words ≡ command
+pub command_end : (words : List (List ℕ)) (command : Option Command) (held : Option Contents) (left : Option (List ℕ)) (old new : List (List ℕ)) (b a : Shelf) (end : Ended) → command_of words ≡ command
     → ForContents held left (IsStepEnd old new b a (command_steps command) end) → ForContents held left (Ends words old new b a end)
 unfolding work_of files_of
 command_end words command held left old new b a end is = subst (λ (c : Option Command). ForContents held left (IsStepEnd old new b a (command_steps c) end) → ForContents held left (Ends words old new b a end)) is (λ ends. ends)
 
 -- Faulty words, and want of memory before anything is read.
-pub faulty_end : (words : List (List ℕ)) (held : Option Contents) (left : Option (List ℕ)) (old : List (List ℕ)) (shelf : Shelf) → command_of words ≡ None → ForContents held left (Ends words old old shelf shelf (Stopped Usage))
-faulty_end words held left old shelf none = command_end words None held left old old shelf shelf (Stopped Usage) none
-    (at_some held left (IsStepEnd old old shelf shelf (command_steps None) (Stopped Usage))
+pub faulty_end : (words : List (List ℕ)) (held : Option Contents) (left : Option (List ℕ)) (old : List (List ℕ)) (shelf : Shelf) → command_of words ≡ None → ForContents held left (Ends words old old shelf shelf (Err Usage))
+faulty_end words held left old shelf none = command_end words None held left old old shelf shelf (Err Usage) none
+    (at_some held left (IsStepEnd old old shelf shelf (command_steps None) (Err Usage))
     (λ reads script. (inl (refl, refl, λ n. refl), record { names = []; is = sym (append-nil old); some = ([], refl); all = inr (inr (inr refl)) })))
 
-pub unread_end : (words : List (List ℕ)) (held : Option Contents) (left : Option (List ℕ)) (old : List (List ℕ)) (shelf : Shelf) → ForContents held left (Ends words old old shelf shelf (Stopped NoMemory))
+pub unread_end : (words : List (List ℕ)) (held : Option Contents) (left : Option (List ℕ)) (old : List (List ℕ)) (shelf : Shelf) → ForContents held left (Ends words old old shelf shelf (Err NoMemory))
 unread_end words held left old shelf =
-    at_some held left (Ends words old old shelf shelf (Stopped NoMemory))
+    at_some held left (Ends words old old shelf shelf (Err NoMemory))
     (λ reads script. (inr (inr (inl refl), may_stop_same (work_of words reads) shelf), record { names = []; is = sym (append-nil old); some = (files_of words reads, refl); all = inr (inl refl) }))
 
 -- Where nothing failed to be written, a failed read wrote nothing.
-nothing_written : (end : End) (text : List ℕ) (status : Status) (before after : Option (List ℕ)) → end ≡ Stopped Fault → IsEndingWith end status text → after ≡ append_known before text → after ≡ before
+nothing_written : (end : Ended) (text : List ℕ) (status : Status) (before after : Option (List ℕ)) → end ≡ Err Fault → IsEndingWith end status text → after ≡ append_known before text → after ≡ before
 nothing_written end text status before after is with written = here before written
   where
     empty : text ≡ []
@@ -413,22 +302,22 @@ nothing_written end text status before after is with written = here before writt
     here None same = same
     here (Some bytes) same = same ∙ ap (λ t. Some (bytes ++ t)) empty ∙ ap Some (append-nil bytes)
 
-pub silent_by : (end : End) (text : List ℕ) (status : Status) (before after : Option (List ℕ)) (Risen : Type 0) → IsEndingWith end status text → after ≡ append_known before text
-    → (end ≡ Stopped Fault) ⊎ Risen → Risen ⊎ (after ≡ before)
+pub silent_by : (end : Ended) (text : List ℕ) (status : Status) (before after : Option (List ℕ)) (Risen : Type 0) → IsEndingWith end status text → after ≡ append_known before text
+    → (end ≡ Err Fault) ⊎ Risen → Risen ⊎ (after ≡ before)
 silent_by end text status before after Risen with written (inl is) = inr (nothing_written end text status before after is with written)
 silent_by end text status before after Risen with written (inr risen) = inl risen
 
 -- what failed: at faulty words nothing but the sink
-pub failed_by : {Files OfRun Source Sink : Type 0} (command : Option Command) (end : End) → (end ≡ Stopped Fault) ⊎ Sink → (end ≡ Stopped Fault → Files ⊎ (OfRun × Source))
-    → (command ≡ None → (end ≡ Stopped Usage) ⊎ (end ≡ Stopped NoMemory)) → (IsSome command × Files) ⊎ (OfRun × Source) ⊎ Sink
+pub failed_by : {Files OfRun Source Sink : Type 0} (command : Option Command) (end : Ended) → (end ≡ Err Fault) ⊎ Sink → (end ≡ Err Fault → Files ⊎ (OfRun × Source))
+    → (command ≡ None → (end ≡ Err Usage) ⊎ (end ≡ Err NoMemory)) → (IsSome command × Files) ⊎ (OfRun × Source) ⊎ Sink
 failed_by command end (inr rose) cause idle = inr (inr rose)
 failed_by {Files} {OfRun} {Source} {Sink} command end (inl is) cause idle = here command idle (cause is)
   where
-    unfailed : {A : Type 0} → (end ≡ Stopped Usage) ⊎ (end ≡ Stopped NoMemory) → A
+    unfailed : {A : Type 0} → (end ≡ Err Usage) ⊎ (end ≡ Err NoMemory) → A
     unfailed (inl faulty) = absurd (cc (sym is ∙ faulty))
     unfailed (inr memory) = absurd (cc (sym is ∙ memory))
 
-    here : (command : Option Command) → (command ≡ None → (end ≡ Stopped Usage) ⊎ (end ≡ Stopped NoMemory)) → Files ⊎ (OfRun × Source) → (IsSome command × Files) ⊎ (OfRun × Source) ⊎ Sink
+    here : (command : Option Command) → (command ≡ None → (end ≡ Err Usage) ⊎ (end ≡ Err NoMemory)) → Files ⊎ (OfRun × Source) → (IsSome command × Files) ⊎ (OfRun × Source) ⊎ Sink
     here None idle failed = unfailed (idle refl)
     here (Some command) idle (inl rose) = inl (refl, rose)
     here (Some command) idle (inr rose) = inr (inl rose)
@@ -436,13 +325,13 @@ failed_by {Files} {OfRun} {Source} {Sink} command end (inl is) cause idle = here
 -- what was taken, whether or not the end's text is written
 taken_at_fault : (takes : Bool) (before after : Option (List ℕ)) (s : Status) → MatchBool takes (IsTaken before after s) (after ≡ before) → MatchBool takes (IsTaken before after code.Fault) (after ≡ before)
 taken_at_fault true before after s is =
-    record { taken = is.taken; is = is.is; few = is.few; refused = λ same. cc; unopened = λ is. absurd (either code.Fault code.JournalRefused code.DiskFault (λ w. cc) (λ w. cc) is); too_long = λ same. cc; done = λ same. cc }
+    record { taken = is.taken; is = is.is; few = is.few; refused = λ same. cc; unopened = λ is. absurd (grind (arith, is)); too_long = λ same. cc; done = λ same. cc }
 taken_at_fault false before after s is = is
 
-pub taken_with : (command : Option Command) (before after : Option (List ℕ)) (end : End) (status : Status) (text : List ℕ) → IsEndingWith end status text
+pub taken_with : (command : Option Command) (before after : Option (List ℕ)) (end : Ended) (status : Status) (text : List ℕ) → IsEndingWith end status text
     → IsTakenAt command before after (status_at end) → IsTakenAt command before after status
 taken_with command before after end status text with is = here with.whole
   where
     here : ((status ≡ status_at end) × (text ≡ text_at end)) ⊎ (status ≡ code.Fault) → IsTakenAt command before after status
     here (inl (same, whole)) = subst (λ (s : Status). IsTakenAt command before after s) (sym same) is
-    here (inr fault) = subst (λ (s : Status). IsTakenAt command before after s) (sym fault) (taken_at_fault (kind_of command).source before after (status_at end) is)
+    here (inr fault) = subst (λ (s : Status). IsTakenAt command before after s) (sym fault) (taken_at_fault (command_kind command).source before after (status_at end) is)

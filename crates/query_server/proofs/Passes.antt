@@ -3,6 +3,7 @@ use Rattle.std.proofs.Common.{◌≡◌, ℕ, ◌+◌, ◌<◌, ◌≤◌, List,
 use Rattle.std.specs.Prelude.{IfSome}
 use mathlib.Core.Logic.{◌⊎◌, inl, inr}
 use Rattle.std.proofs.lemmas.Bool.{cases_eq, cases_lt}
+use Rattle.std.proofs.Math.ListN.{get_or-append}
 use Rattle.std.proofs.Math.Seq.{get_or-append_seam}
 use Rattle.outside_disks.specs.Disks.{Shown, Trace, WhereTold}
 use Rattle.journal_records.specs.declared.records.Header.{Header}
@@ -12,19 +13,9 @@ use Rattle.budget_core.specs.Entries.{Entry}
 use Rattle.budget_ledger.specs.Account.{Account, Storage}
 use Rattle.owner_desk.specs.Passes.{Pass}
 use Rattle.session_core.specs.Code.{fresh_pass, no_pass, pass_at}
-use Rattle.fz_outside.specs.Faults.{HasRisen, last_count}
 use Rattle.query_server.specs.Shelves.{Shelf, EachDisk, IsOnlySynced, NoOtherRose, SomeRose, StandsStill}
 use Rattle.query_server.specs.Books.{ArePassesOn, ArePutBack, GaveBook, IsNewBook, IsNewPass, LeftDisk, TookDisk, shown_by}
-use Rattle.query_server.proofs.Disks.{same_still, shown_still}
-use Rattle.query_server.proofs.Places.{earlier}
-
-pub none_opened : (entries : ℕ → Entry) (headers : ℕ → Header) (shelf : Shelf) → ArePassesOn entries headers 0 shelf shelf []
-none_opened entries headers shelf = record {
-  count = refl;
-  each = λ o less. absurd (omega (arith, less));
-  taken = λ o less. absurd (omega (arith, less));
-  others = λ o past. refl;
-}
+use Rattle.query_server.proofs.Disks.{before_last, same_still, shown_still, synced_same}
 
 new_at : (entries : ℕ → Entry) (headers : ℕ → Header) (old : Shelf) (passes : List Pass) (pass : Pass) (n : ℕ) → length passes ≡ n → IsNewPass (entries n) (headers n) (old n) pass
     → ((o : ℕ) → o < n → IsNewPass (entries o) (headers o) (old o) (pass_at passes o))
@@ -33,11 +24,8 @@ new_at entries headers old passes pass n count new each o less (inl is) =
     let seam : pass_at (passes ++ pass ∷ []) o ≡ pass = ap (pass_at (passes ++ pass ∷ [])) (is ∙ sym count) ∙ get_or-append_seam passes pass [] no_pass in
     subst (λ (p : Pass). IsNewPass (entries o) (headers o) (old o) p) (sym seam) (subst (λ (k : ℕ). IsNewPass (entries k) (headers k) (old k) pass) (sym is) new)
 new_at entries headers old passes pass n count new each o less (inr isnt) =
-    let first : o < n = before o n less isnt in
-    subst (λ (p : Pass). IsNewPass (entries o) (headers o) (old o) p) (sym (earlier passes pass no_pass o (omega (arith, first, count)))) (each o first)
-  where
-    before : (o n : ℕ) → o < n + 1 → (o ≡ n → ⊥) → o < n
-    before o n less isnt = grind (arith, less, isnt)
+    let first : o < n = before_last o n less isnt in
+    subst (λ (p : Pass). IsNewPass (entries o) (headers o) (old o) p) (sym (get_or-append passes (pass ∷ []) no_pass o (omega (arith, first, count)))) (each o first)
 
 -- a pass on a book that was just opened
 pub opened_pass : (entry : Entry) (header wanted : Header) (mid old : Option Shown) (book : Account) (pass : Pass) → header ≡ wanted → mid ≡ old → pass ≡ fresh_pass book → IsNewBook entry header mid book
@@ -60,10 +48,7 @@ one_opened entries headers n old mid new passes pass on took is = record {
   where
     taken_at : (o : ℕ) → o < n + 1 → (o ≡ n) ⊎ (o ≡ n → ⊥) → new o ≡ None
     taken_at o less (inl same) = ap new same ∙ took.0
-    taken_at o less (inr isnt) = took.1 o isnt ∙ on.taken o (before o n less isnt)
-      where
-        before : (o n : ℕ) → o < n + 1 → (o ≡ n → ⊥) → o < n
-        before o n less isnt = grind (arith, less, isnt)
+    taken_at o less (inr isnt) = took.1 o isnt ∙ on.taken o (before_last o n less isnt)
 
 -- ---- disks that are put back with nothing written
 
@@ -88,9 +73,6 @@ new_synced : (entry : Entry) (header : Header) (before : Shown) (shown : Option 
     → IsOnlySynced before (shown_by book)
 new_synced entry header before shown pass book at new gave =
     subst (IsOnlySynced before) (given_back entry header shown pass book new gave) (book_synced entry header before shown pass.opened at new.book)
-
-synced_self : (shown : Shown) → IsOnlySynced shown shown
-synced_self shown = record { synced = inl refl; counts = omega arith }
 
 -- all
 pub all_back : (entries : ℕ → Entry) (headers : ℕ → Header) (n : ℕ) (old mid new : Shelf) (passes : List Pass) (books : ℕ → Account) → ArePassesOn entries headers n old mid passes → ArePutBack (length passes) passes books mid new
@@ -120,7 +102,7 @@ some_back entries headers n k old mid left new passes books within on stays back
         let one = stays.here before (on.others k (omega arith) ∙ ap old (sym same) ∙ at) in
         (one.0, ap new same ∙ back.others k (omega (arith, on.count)) ∙ one.1, one.2)
     here o before at (inr past) (inr isnt) =
-        (before, back.others o (omega (arith, past, on.count)) ∙ stays.elsewhere o isnt ∙ on.others o past ∙ at, synced_self before)
+        (before, back.others o (omega (arith, past, on.count)) ∙ stays.elsewhere o isnt ∙ on.others o past ∙ at, synced_same before)
 
 -- ---- a disk of which a call failed
 
@@ -142,13 +124,6 @@ no_other_opened entries headers k old mid left new passes books on stays back o 
         shown_still o old new (shown_by (books o)) (back.each o less)
         (λ before was. opened_still (entries o) (headers o) before (old o) (pass_at passes o) (books o) was (on.each o first) (back.gave o less))
     here (inr past) = same_still o old new (back.others o (omega (arith, past, on.count)) ∙ stays.elsewhere o isnt ∙ on.others o past)
-
-pub risen_from : (old mid new : ℕ) → old ≤ mid → mid ≤ new → HasRisen mid new → HasRisen old new
-risen_from old mid new first second risen = λ less. here less (cases_lt mid last_count)
-  where
-    here : old < last_count → (mid < last_count) ⊎ (last_count ≤ mid) → old < new
-    here less (inl before) = let up = risen before in omega (arith, first, up)
-    here less (inr past) = omega (arith, less, past, second)
 
 none_rose : (before : Shown) → None ≡ Some before → ⊥
 none_rose before is = cc

@@ -24,26 +24,21 @@ use Rattle.owner_house.proofs.Owners.{entry_said, in_catalog, owner_there, owner
 use Rattle.std.proofs.lemmas.Option.{slice_get_within}
 use Rattle.catalog_loading.specs.Given.{stop_at_fault}
 use Rattle.catalog_loading.specs.Loaded.{IsLoading, Loading, header_of, entry_at, owners_in}
-use Rattle.query_server.specs.Work.{to_answer}
+use Rattle.query_server.specs.Work.{Work, to_answer}
+use Rattle.query_server.specs.Due.{IsDiskLine, IsDue, MayStop}
 use Rattle.query_server.specs.Shelves.{Shelf, EachDisk, IsOnlySynced}
-use Rattle.query_server.specs.Opened.{AreOpened}
+use Rattle.query_server.specs.Opened.{AreOpened, IsDiskNamed, IsRefusalDue}
 use Rattle.query_server.specs.Run.{IsScriptAnswered, WentOn}
 use Rattle.query_server.specs.Books.{ArePassesOn, ArePutBack, GaveBook, IsNewPass, IsOpenStop, shown_by}
-use Rattle.query_server.specs.Ends.{IsAnsweredOn, IsEndOf, IsFailing, end_by}
+use Rattle.query_server.specs.Ends.{Ended, IsScriptEnd, IsEndOf}
 use Rattle.catalog_loading.specs.declared.stops.Stop.{Stop}
-use Rattle.catalog_loading.specs.declared.stops.Stop.TheVariants.{Usage, Refused, Journal, Disk, Fault, NoMemory}
-use Rattle.query_server.specs.declared.end.End.TheVariants.{Stopped, Run}
-use Rattle.query_server.specs.declared.run.RunEnd.{RunEnd}
-use Rattle.query_server.specs.declared.run.RunEnd.TheVariants.{Answered, TooLong}
+use Rattle.catalog_loading.specs.declared.stops.Stop.TheVariants.{Journal, Disk, NoMemory}
+use Rattle.query_server.specs.declared.end.End.TheVariants.{Done, ProgramRefused, ScriptTooLong}
+use Rattle.query_server.specs.declared.end.Status.TheVariants as code
 use Rattle.query_server.proofs.Passes.{all_back}
+use Rattle.query_server.proofs.Ends.{end_passed}
 use Rattle.query_server.proofs.Stops.{err_same, pass_opened}
 use Rattle.query_server.proofs.Went.{went_on}
-
-fault_no_disk : (line : Vec ℕ Global) → Fault ≡ Disk line → ⊥
-fault_no_disk line is = cc
-
-memory_no_disk : (line : Vec ℕ Global) → NoMemory ≡ Disk line → ⊥
-memory_no_disk line is = cc
 
 -- what was served, by the draws and the script as they are called elsewhere
 pub served_as : (house : House) (given draws : ℕ → ℕ → ℕ → ℕ) (script other text : List ℕ) (old new : List Pass) → given ≡ draws → script ≡ other
@@ -52,11 +47,22 @@ served_as house given draws script other text old new drawn same served =
     subst (λ (d : ℕ → ℕ → ℕ → ℕ). HasServed house d other text old new) drawn (subst (λ (s : List ℕ). HasServed house given s text old new) same served)
 
 -- what was answered over a house and a key, by the names that they have elsewhere
-pub answered_in : (register other : Register) (bytes key : List ℕ) (script : List ℕ) (old new : List Pass) (result : Result RunEnd Stop) → register ≡ other → bytes ≡ key
-    → IsAnsweredOn (house_of register) (draws_of bytes) script old new result → IsAnsweredOn (house_of other) (draws_of key) script old new result
+pub answered_in : (register other : Register) (bytes key : List ℕ) (script : List ℕ) (old new : List Pass) (result : Ended) → register ≡ other → bytes ≡ key
+    → IsScriptEnd (house_of register) (draws_of bytes) script old new result → IsScriptEnd (house_of other) (draws_of key) script old new result
 answered_in register other bytes key script old new result same is answered =
-    subst (λ (r : Register). IsAnsweredOn (house_of r) (draws_of key) script old new result) same
-    (subst (λ (k : List ℕ). IsAnsweredOn (house_of register) (draws_of k) script old new result) is answered)
+    subst (λ (r : Register). IsScriptEnd (house_of r) (draws_of key) script old new result) same
+    (subst (λ (k : List ℕ). IsScriptEnd (house_of register) (draws_of k) script old new result) is answered)
+
+-- what stopped the opening of the owners' books ends the work that it was for
+pub open_ends : (work : Work) (loading : Loading) (key : List ℕ) (old new : Shelf) (script : List ℕ) (stop : Stop)
+    → ((text : List ℕ) → IsRefusalDue loading key old new code.JournalRefused text → IsDue work old new script code.JournalRefused text)
+    → ((text : List ℕ) → IsDiskNamed loading key old new text → IsDiskLine work old new text) → MayStop work old new
+    → IsOpenStop loading key old new stop → EachDisk (owners_in loading) (λ _. IsOnlySynced) old new → IsEndOf work old new script (Err stop)
+open_ends work loading key old new script (Journal line) refused named may (o, refusal, at, is) disks =
+    inl (refused line.items (record { o = o; refusal = refusal; at = at; is_status = refl; is_text = is; disks = disks }))
+open_ends work loading key old new script (Disk line) refused named may is disks = inr (inr (inr (line, refl, named line.items is)), may)
+open_ends work loading key old new script NoMemory refused named may is disks = inr (inr (inl refl), may)
+open_ends work loading key old new script stop refused named may is disks = absurd is
 
 module _ (loading : Loading) (key : List ℕ) (lawful : IsLoading loading) where
   abbrev house : House
@@ -131,61 +137,49 @@ module _ (loading : Loading) (key : List ℕ) (lawful : IsLoading loading) where
         };
       }
 
-  -- How the script that was to be answered ends, once the disks are put back.
-  pub run_ends : (workers : ℕ) (old mid new : Shelf) (passes after : List Pass) (books : ℕ → Account) (script : List ℕ) (result : Result RunEnd Stop) → ArePassesOn (entry_at loading) (header_of loading key) (owners_in loading) old mid passes
-      → IsAnsweredOn (house_of loading.register) (draws_of key) script passes after result → ArePutBack (length after) after books mid new → IsEndOf (to_answer workers loading key) old new script (end_by Run result)
-  run_ends workers old mid new passes after books script (Ok (Answered replies)) on (short, h) back =
-      inl (inr (found_by passes, passes_opened old mid passes on, inl (refl, short, answered_over workers old mid new passes after books script replies.items on h back)))
-  run_ends workers old mid new passes after books script (Ok TooLong) on (long, same) back =
-      inl (inr (found_by passes, passes_opened old mid passes on, inr (refl, long, refl, still)))
-    where
-      still : EachDisk (owners_in loading) (λ _. IsOnlySynced) old new
-      still = all_back (entry_at loading) (header_of loading key) (owners_in loading) old mid new passes books on (subst (λ (ps : List Pass). ArePutBack (length ps) ps books mid new) same back)
-  run_ends workers old mid new passes after books script (Err stop) on (failing, same) back = cut failing
-    where
-      still : EachDisk (owners_in loading) (λ _. IsOnlySynced) old new
-      still = all_back (entry_at loading) (header_of loading key) (owners_in loading) old mid new passes books on (subst (λ (ps : List Pass). ArePutBack (length ps) ps books mid new) same back)
+  -- passes that served nothing give the disks back with nothing written
+  unserved_back : (old mid new : Shelf) (passes after : List Pass) (books : ℕ → Account) → ArePassesOn (entry_at loading) (header_of loading key) (owners_in loading) old mid passes → after ≡ passes
+      → ArePutBack (length after) after books mid new → EachDisk (owners_in loading) (λ _. IsOnlySynced) old new
+  unserved_back old mid new passes after books on same back =
+      all_back (entry_at loading) (header_of loading key) (owners_in loading) old mid new passes books on (subst (λ (ps : List Pass). ArePutBack (length ps) ps books mid new) same back)
 
-      cut : IsFailing stop → IsEndOf (to_answer workers loading key) old new script (Stopped stop)
-      cut (inl is) = inr (inl (ap Stopped is), still)
-      cut (inr is) = inr (inr (inl (ap Stopped is)), still)
+  -- How the script that was to be answered ends, once the disks are put back.
+  pub run_ends : (workers : ℕ) (old mid new : Shelf) (passes after : List Pass) (books : ℕ → Account) (script : List ℕ) (result : Ended) → ArePassesOn (entry_at loading) (header_of loading key) (owners_in loading) old mid passes
+      → IsScriptEnd (house_of loading.register) (draws_of key) script passes after result → ArePutBack (length after) after books mid new → IsEndOf (to_answer workers loading key) old new script result
+  run_ends workers old mid new passes after books script (Ok (Done replies)) on (short, h) back =
+      inl (inr (found_by passes, passes_opened old mid passes on, inl (refl, short, answered_over workers old mid new passes after books script replies.items on h back)))
+  run_ends workers old mid new passes after books script (Ok (ProgramRefused line)) on wrong back = absurd wrong
+  run_ends workers old mid new passes after books script (Ok ScriptTooLong) on (long, same) back =
+      inl (inr (found_by passes, passes_opened old mid passes on, inr (refl, long, refl, unserved_back old mid new passes after books on same back)))
+  run_ends workers old mid new passes after books script (Err stop) on (inl is, same) back = inr (inl (ap Err is), unserved_back old mid new passes after books on same back)
+  run_ends workers old mid new passes after books script (Err stop) on (inr is, same) back = inr (inr (inl (ap Err is)), unserved_back old mid new passes after books on same back)
 
   -- There are as many passes as owners.
   pub few_owners : owners_in loading ≤ 16
   few_owners = lawful.register.catalog.few_owners
 
-  pub answered_count : (draws : ℕ → ℕ → ℕ → ℕ) (passes after : List Pass) (script : List ℕ) (result : Result RunEnd Stop) → IsAnsweredOn (house_of loading.register) draws script passes after result → length after ≡ length passes
-  answered_count draws passes after script (Ok (Answered replies)) (short, h) = h.served.each_has
-  answered_count draws passes after script (Ok TooLong) (long, same) = ap length same
+  pub answered_count : (draws : ℕ → ℕ → ℕ → ℕ) (passes after : List Pass) (script : List ℕ) (result : Ended) → IsScriptEnd (house_of loading.register) draws script passes after result → length after ≡ length passes
+  answered_count draws passes after script (Ok (Done replies)) (short, h) = h.served.each_has
+  answered_count draws passes after script (Ok (ProgramRefused line)) wrong = absurd wrong
+  answered_count draws passes after script (Ok ScriptTooLong) (long, same) = ap length same
   answered_count draws passes after script (Err stop) (failing, same) = ap length same
 
   -- a script that was to be answered names no disk at its end
-  pub answered_no_disk : {A : Type 0} (draws : ℕ → ℕ → ℕ → ℕ) (passes after : List Pass) (script : List ℕ) (result : Result RunEnd Stop) (line : Vec ℕ Global) → IsAnsweredOn (house_of loading.register) draws script passes after result
+  pub answered_no_disk : {A : Type 0} (draws : ℕ → ℕ → ℕ → ℕ) (passes after : List Pass) (script : List ℕ) (result : Ended) (line : Vec ℕ Global) → IsScriptEnd (house_of loading.register) draws script passes after result
       → result ≡ Err (Disk line) → A
   answered_no_disk draws passes after script (Ok end) line due is = cc
-  answered_no_disk draws passes after script (Err stop) line (failing, same) is = absurd (no_disk failing (err_same stop (Disk line) (Err stop) refl is))
-    where
-      no_disk : IsFailing stop → stop ≡ Disk line → ⊥
-      no_disk (inl fault) is = fault_no_disk line (sym fault ∙ is)
-      no_disk (inr memory) is = memory_no_disk line (sym memory ∙ is)
+  answered_no_disk draws passes after script (Err (Disk other)) line (failing, same) is = absurd (grind (arith, failing))
+  answered_no_disk draws passes after script (Err stop) line (failing, same) is = cc
 
-  -- what stopped the opening ends the run
-  open_ends : (workers : ℕ) (old new : Shelf) (script : List ℕ) (stop : Stop) → IsOpenStop loading key old new stop → EachDisk (owners_in loading) (λ _. IsOnlySynced) old new → IsEndOf (to_answer workers loading key) old new script (Stopped stop)
-  open_ends workers old new script Usage is disks = absurd is
-  open_ends workers old new script (Refused name) is disks = absurd is
-  open_ends workers old new script (Journal line) (o, refusal, at, is) disks = inl (inl (record { o = o; refusal = refusal; at = at; is_status = refl; is_text = is; disks = disks }))
-  open_ends workers old new script (Disk line) named disks = inr (inr (inr (line, refl, named)), disks)
-  open_ends workers old new script Fault is disks = absurd is
-  open_ends workers old new script NoMemory is disks = inr (inr (inl refl), disks)
-
-  pub open_passed : (workers : ℕ) (old new : Shelf) (script : List ℕ) (stop : Stop) (result : Result RunEnd Stop) → IsOpenStop loading key old new stop → EachDisk (owners_in loading) (λ _. IsOnlySynced) old new → IsErrAnd result (λ e. e ≡ stop)
-      → IsEndOf (to_answer workers loading key) old new script (end_by Run result)
-  open_passed workers old new script stop (Ok end) is disks wrong = absurd wrong
-  open_passed workers old new script stop (Err other) is disks same = subst (λ (s : Stop). IsEndOf (to_answer workers loading key) old new script (Stopped s)) (sym same) (open_ends workers old new script stop is disks)
+  pub open_passed : (workers : ℕ) (old new : Shelf) (script : List ℕ) (stop : Stop) (result : Ended) → IsOpenStop loading key old new stop → EachDisk (owners_in loading) (λ _. IsOnlySynced) old new → IsErrAnd result (λ e. e ≡ stop)
+      → IsEndOf (to_answer workers loading key) old new script result
+  open_passed workers old new script stop result is disks passed =
+      subst (IsEndOf (to_answer workers loading key) old new script) (sym (end_passed stop result passed))
+      (open_ends (to_answer workers loading key) loading key old new script stop (λ text. inl) (λ text named. named) disks is disks)
 
 -- a fault of the source is passed on
-pub unread_passed : (house : House) (draws : ℕ → ℕ → ℕ → ℕ) (script : List ℕ) (passes : List Pass) (fault : FileFault) (result : Result RunEnd Stop) → IsErrAnd result (λ e. e ≡ stop_at_fault fault)
-    → IsAnsweredOn house draws script passes passes result
+pub unread_passed : (house : House) (draws : ℕ → ℕ → ℕ → ℕ) (script : List ℕ) (passes : List Pass) (fault : FileFault) (result : Ended) → IsErrAnd result (λ e. e ≡ stop_at_fault fault)
+    → IsScriptEnd house draws script passes passes result
 unread_passed _ draws script passes fault (Ok end) wrong = absurd wrong
 unread_passed _ draws script passes Failed (Err stop) is = (inl is, refl)
 unread_passed _ draws script passes NoneToRead (Err stop) is = (inr is, refl)

@@ -29,7 +29,7 @@ use Rattle.catalog_loading.proofs.Reached.{IsStopped, any_reads}
 use Rattle.query_server.specs.declared.refusals.JournalRefusal.TheVariants.{Uninitialised, Changed, Damaged}
 use Rattle.query_server.specs.declared.refusals.JournalRefusal.{JournalRefusal}
 use Rattle.catalog_loading.specs.declared.stops.Stop.{Stop}
-use Rattle.catalog_loading.specs.declared.stops.Stop.TheVariants.{Usage, Refused, Journal, Disk, Fault, NoMemory}
+use Rattle.catalog_loading.specs.declared.stops.Stop.TheVariants.{Journal, Disk}
 
 -- what a disk that shows this tells
 abbrev pub bytes_shown : Option Shown → Option (List ℕ)
@@ -51,50 +51,31 @@ pass_opened entry header shown pass new = record {
   history = new.book.history;
 }
 
-unopened_as : (entry : Entry) (header : Header) (refusal : JournalRefusal) (mid old : Option Shown) → mid ≡ old → IsUnopened entry header (bytes_shown mid) refusal → IsUnopened entry header (bytes_shown old) refusal
-unopened_as entry header refusal mid old is = subst (λ (s : Option Shown). IsUnopened entry header (bytes_shown s) refusal) is
-
-opened_before : (loading : Loading) (key : List ℕ) (k : ℕ) (old mid : Shelf) (passes : List Pass) → ArePassesOn (entry_at loading) (header_of loading key) k old mid passes → AreOpenedBefore loading key old k
+pub opened_before : (loading : Loading) (key : List ℕ) (k : ℕ) (old mid : Shelf) (passes : List Pass) → ArePassesOn (entry_at loading) (header_of loading key) k old mid passes → AreOpenedBefore loading key old k
 opened_before loading key k old mid passes on p less =
     ((pass_at passes p).opened.ledger.found, pass_opened (entry_at loading p) (header_of loading key p) (old p) (pass_at passes p) (on.each p less))
 
 -- A book that isn't opened, behind others that are, stops the opening.
-pub open_stopped : (loading : Loading) (key : List ℕ) (k : ℕ) (old mid new : Shelf) (passes : List Pass) (stop : Stop) → k < owners_in loading → ArePassesOn (entry_at loading) (header_of loading key) k old mid passes
+pub book_stopped : (loading : Loading) (key : List ℕ) (k : ℕ) (old mid new : Shelf) (stop : Stop) → k < owners_in loading → mid k ≡ old k → AreOpenedBefore loading key old k
     → NoOtherRose k old new → IsBookStop loading key mid k stop → IsOpenStop loading key old new stop
-open_stopped loading key k old mid new passes Usage within on others is = is
-open_stopped loading key k old mid new passes (Refused name) within on others is = is
-open_stopped loading key k old mid new passes (Journal line) within on others (refusal, unopened, is) = (
-  k,
-  refusal,
-  record {
-    known = within;
-    before = opened_before loading key k old mid passes on;
-    refused = unopened_as (entry_at loading k) (header_of loading key k) refusal (mid k) (old k) (on.others k (omega arith)) unopened;
-  },
-  is,
-)
-open_stopped loading key k old mid new passes (Disk line) within on others is = (k, within, is, opened_before loading key k old mid passes on, others)
-open_stopped loading key k old mid new passes Fault within on others is = is
-open_stopped loading key k old mid new passes NoMemory within on others is = is
+book_stopped loading key k old mid new (Journal line) within same before others (refusal, unopened, is) =
+    let refused = subst (λ (s : Option Shown). IsUnopened (entry_at loading k) (header_of loading key k) (bytes_shown s) refusal) same unopened in
+    (k, refusal, record { known = within; before = before; refused = refused }, is)
+book_stopped loading key k old mid new (Disk line) within same before others is = (k, within, is, before, others)
+book_stopped loading key k old mid new stop within same before others is = is
 
 -- ---- one book
 
 pub disk_stopped : (loading : Loading) (key : List ℕ) (shelf : Shelf) (o : ℕ) (name : List ℕ) (stop : Stop) → name ≡ owner_name_at loading o → IsDiskStop name stop → IsBookStop loading key shelf o stop
-disk_stopped loading key shelf o name Usage named is = is
-disk_stopped loading key shelf o name (Refused other) named is = is
 disk_stopped loading key shelf o name (Journal line) named is = absurd is
 disk_stopped loading key shelf o name (Disk line) named is = is ∙ ap disk_text named
-disk_stopped loading key shelf o name Fault named is = is
-disk_stopped loading key shelf o name NoMemory named is = is
+disk_stopped loading key shelf o name stop named is = is
 
 journal_stopped : (loading : Loading) (key : List ℕ) (shelf : Shelf) (o : ℕ) (name : List ℕ) (refusal : JournalRefusal) (stop : Stop) → name ≡ owner_name_at loading o
     → IsUnopened (entry_at loading o) (header_of loading key o) (bytes_on shelf o) refusal → IsJournalStop name refusal stop → IsBookStop loading key shelf o stop
-journal_stopped loading key shelf o name refusal Usage named unopened is = is
-journal_stopped loading key shelf o name refusal (Refused other) named unopened is = is
 journal_stopped loading key shelf o name refusal (Journal line) named unopened is = (refusal, unopened, is ∙ ap (λ n. journal_text n refusal) named)
 journal_stopped loading key shelf o name refusal (Disk line) named unopened is = absurd is
-journal_stopped loading key shelf o name refusal Fault named unopened is = is
-journal_stopped loading key shelf o name refusal NoMemory named unopened is = is
+journal_stopped loading key shelf o name refusal stop named unopened is = is
 
 if_some : {A : Type 0} (P Q : A → Type 0) (x : Option A) → ((a : A) → P a → Q a) → IfSome x P → IfSome x Q
 if_some P Q (Some a) f p = f a p
@@ -113,11 +94,8 @@ fault_stopped loading key shelf o name (open_fault.Damaged slot) stop named told
 -- what is said of a told disk
 pub told_shown : (P : List ℕ → Type 0) (shown : Option Shown) (trace : Option Trace) (faults : ℕ) → shown ≡ Some (record { trace = trace; faults = faults }) → ((t : Trace) → trace ≡ Some t → P (seen_of t))
     → IfSome (bytes_shown shown) P
-told_shown P shown trace faults is p = subst (λ (s : Option Shown). IfSome (bytes_shown s) P) (sym is) (here trace p)
-  where
-    here : (trace : Option Trace) → ((t : Trace) → trace ≡ Some t → P (seen_of t)) → IfSome (option_map seen_of trace) P
-    here None p = tt
-    here (Some t) p = p t refl
+told_shown P shown None faults is p = subst (λ (s : Option Shown). IfSome (bytes_shown s) P) (sym is) tt
+told_shown P shown (Some t) faults is p = subst (λ (s : Option Shown). IfSome (bytes_shown s) P) (sym is) (p t refl)
 
 pub new_book : (entry wanted : Entry) (header : Header) (before : Option Shown) (trace : Option Trace) (faults : ℕ) (book : Account) → entry ≡ wanted → before ≡ Some (record { trace = trace; faults = faults })
     → WhereTold (Found header book.ledger.found) trace book.storage.trace

@@ -11,7 +11,7 @@ use Rattle.journal_records.specs.declared.records.Record.{Record}
 use Rattle.budget_journal.specs.Journals.{Found, IsAtRest, Stands}
 use Rattle.budget_core.specs.Entries.{Entry}
 use Rattle.budget_core.specs.Legal.{MayFollow}
-use Rattle.budget_ledger.specs.Account.{IsKeptNow, IsMoment, IsPassed, Storage, Went}
+use Rattle.budget_ledger.specs.Account.{IsKeptNow, IsMoment, HasPassed, Storage, Went}
 use Rattle.budget_ledger.specs.declared.failure.Failure.{Failure}
 use Rattle.query_server.specs.Run.{WentOn}
 
@@ -25,7 +25,7 @@ opened_moment header found records closed t bytes rest begins (inl image) =
     inl (found, prefix_same found, begins, subst (Stands header found) (sym (rest.stable bytes image)) rest.stands)
 opened_moment header found records closed t bytes rest begins (inr moment) = moment
 
-passed_since : (header : Header) (found records : List Record) (closed : Option Failure) (t u : Trace) → IsAtRest header found t → IsPrefix found records → IsPassed header found records closed t u → Passes (IsMoment header found records closed) t u
+passed_since : (header : Header) (found records : List Record) (closed : Option Failure) (t u : Trace) → IsAtRest header found t → IsPrefix found records → HasPassed header found records closed t u → Passes (IsMoment header found records closed) t u
 passed_since header found records closed t u rest begins p = record {
   more = p.more;
   grew = p.grew;
@@ -33,7 +33,7 @@ passed_since header found records closed t u rest begins p = record {
 }
 
 moments_since : (header : Header) (found records : List Record) (closed : Option Failure) (before opened later : Option Trace) → IsPrefix found records → WhereTold (Found header found) before opened
-    → WhereTold (IsPassed header found records closed) opened later → WhereTold (Passes (IsMoment header found records closed)) (noted Synced before) later
+    → WhereTold (HasPassed header found records closed) opened later → WhereTold (Passes (IsMoment header found records closed)) (noted Synced before) later
 moments_since header found records closed None None None begins f p = tt
 moments_since header found records closed None None (Some v) begins f p = absurd p
 moments_since header found records closed None (Some u) later begins f p = absurd f
@@ -48,7 +48,7 @@ pub went_on : (entry : Entry) (header : Header) (found records : List Record) (o
 went_on entry header found records opened later before of_header unclosed faults f w kept follows = record {
   begins = w.begins;
   moments = moments_since header found records later.closed before.trace opened.trace later.trace w.begins f
-      (subst (λ (h : Header). WhereTold (IsPassed h found records later.closed) opened.trace later.trace) of_header w.moments);
+      (subst (λ (h : Header). WhereTold (HasPassed h found records later.closed) opened.trace later.trace) of_header w.moments);
   kept = subst (λ (h : Header). IfSome later.trace (IsKeptNow h records later.closed)) (w.header ∙ of_header) kept;
   counts = subst (λ (n : ℕ). n ≤ later.faults) faults w.counts;
   steady = λ shut. w.«open» shut ∙ faults;

@@ -7,8 +7,8 @@ use Rattle.budget_core.specs.Entries.{Entry}
 use Rattle.budget_core.specs.Legal.{IsHistory}
 use Rattle.budget_ledger.specs.Account.{Account, IsBook, Went}
 use Rattle.owner_desk.specs.Passes.{Pass, ledger_on}
-use Rattle.session_core.specs.Code.{HasClosed, fresh_pass, pass_at}
-use Rattle.catalog_loading.specs.Loaded.{Loading, header_of, entry_at, owner_name_at, owners_in}
+use Rattle.session_core.specs.Code.{IsClosedWith, fresh_pass, pass_at}
+use Rattle.catalog_loading.specs.Loaded.{Loading, header_of, entry_at, owner_name_at}
 use Rattle.query_server.specs.Shelves.{Shelf, IsOnlySynced, bytes_on}
 use Rattle.query_server.specs.Opened.{IsDiskNamed, IsRefusedAt, IsUnopened}
 use Rattle.query_server.specs.Status.{disk_text, journal_text}
@@ -91,7 +91,7 @@ shown_by book = record { trace = book.storage.trace; faults = book.storage.fault
 -- A pass was closed, and gave its book back: with the records found and the pass's own, and where that is none, as it was opened.
 pub record GaveBook (pass : Pass) (book : Account) : Type 0 where
   pub ledger : book.ledger ≡ ledger_on pass.opened book.ledger.records
-  pub closed : HasClosed pass book.ledger.records book.storage.closed
+  pub closed : IsClosedWith pass book.ledger.records book.storage.closed
   pub went : Went pass.opened.ledger.records book.ledger.records pass.opened.storage book.storage
   pub untouched : pass.own ≡ [] → pass.faults ≡ [] → book.storage ≡ pass.opened.storage
   pub sound : IsBook book

@@ -20,13 +20,13 @@ use Rattle.query_server.specs.declared.end.Status.{Status}
 use Rattle.query_server.specs.declared.end.Status.TheVariants.{Usage, Refused, Fault, DiskFault, NoMemory}
 
 -- The commands.
-abbrev pub kind_of : Option Command → Kind
-kind_of None = no_kind
-kind_of (Some (init catalog key)) = init_kind catalog key
-kind_of (Some (run catalog key workers)) = run_kind catalog key workers
-kind_of (Some (audit catalog key)) = audit_kind catalog key
-kind_of (Some (check catalog owner file)) = check_kind catalog owner file
-kind_of (Some (gap catalog owner second_catalog file)) = gap_kind catalog owner second_catalog file
+abbrev pub command_kind : Option Command → Kind
+command_kind None = no_kind
+command_kind (Some (init catalog key)) = init_kind catalog key
+command_kind (Some (run catalog key workers)) = run_kind catalog key workers
+command_kind (Some (audit catalog key)) = audit_kind catalog key
+command_kind (Some (check catalog owner file)) = check_kind catalog owner file
+command_kind (Some (gap catalog owner second_catalog file)) = gap_kind catalog owner second_catalog file
 
 -- The work that they come to.
 abbrev pub duty_of : Work → Duty
@@ -40,17 +40,17 @@ duty_of (to_compare tables X Y program) = gap_duty tables X Y program
 
 -- the steps of a command: the words decide first
 abbrev pub command_steps : Option Command → FileStep Work
-command_steps command = (kind_of command).steps
+command_steps command = (command_kind command).steps
 
 -- a command that takes the source's bytes, as a `run` does; one that takes the owners' disks; and one that reads a program
 abbrev pub IsOfRun : Option Command → Type 0
-IsOfRun command = IsTrue (kind_of command).source
+IsOfRun command = IsTrue (command_kind command).source
 
 abbrev pub IsOfDisks : Option Command → Type 0
-IsOfDisks command = IsTrue (kind_of command).disks
+IsOfDisks command = IsTrue (command_kind command).disks
 
 abbrev pub IsOfProgram : Option Command → Type 0
-IsOfProgram command = IsTrue (kind_of command).program
+IsOfProgram command = IsTrue (command_kind command).program
 
 -- What words come to over what files hold when they are read.
 unfoldable pub work_of : (words : List (List ℕ)) → ReadsToCome → Work

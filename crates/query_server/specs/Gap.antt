@@ -1,5 +1,5 @@
 -- `gap`: a program's values on two datasets are compared.
-use Rattle.std.specs.Prelude.{◌≡◌, ◌⊎◌, Bool, true, false, ℕ, ℤ, List, ◌++◌, Some, codes, decimal}
+use Rattle.std.specs.Prelude.{◌≡◌, ◌⊎◌, true, false, ℕ, ℤ, List, ◌++◌, Some, codes, decimal}
 use Rattle.std.specs.Fmt.{signed_decimal}
 use Rattle.fz_ast.specs.Signature.{Signature, IsSignature}
 use Rattle.fz_frac.specs.Distance.{Distance, Fin, mul, ◌⊑◌}

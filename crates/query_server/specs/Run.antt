@@ -1,5 +1,5 @@
 -- `run`: a script is answered.
-use Rattle.std.specs.Prelude.{◌≡◌, ◌⊎◌, Bool, true, false, ℕ, ◌^◌, ◌<◌, ◌≤◌, List, length, map, slice_get, Option, None, Some, IfSome}
+use Rattle.std.specs.Prelude.{◌≡◌, ◌⊎◌, true, false, ℕ, ◌^◌, ◌<◌, ◌≤◌, List, length, map, slice_get, Option, None, Some, IfSome}
 use mathlib.Core.List.{IsPrefix}
 use Rattle.std.specs.List.{flat_map}
 use Rattle.word_streams.specs.Draws.{draws_of}

@@ -3,6 +3,7 @@ use Rattle.std.specs.Prelude.{◌≡◌, ℕ, ◌<◌, ◌≤◌, List, Option, 
 use Rattle.fz_outside.specs.Faults.{HasRisen}
 use Rattle.outside_disks.specs.Disks.{Shown, Trace, seen_of}
 use Rattle.budget_journal.specs.Journals.{MayHaveSynced}
+use Rattle.owner_catalog.specs.Limits.{owner_limit}
 
 -- what each owner's disk shows while it is at home, by the owner's number
 abbrev pub Shelf : Type 0
@@ -21,7 +22,7 @@ TellBytes owners shelf = (o : ℕ) → o < owners → IsSome (bytes_on shelf o)
 
 -- The bay has a disk at home for each owner that a catalog may have.
 abbrev pub AreAtHome : (owners : ℕ) → Shelf → Type 0
-AreAtHome owners shelf = (o : ℕ) → o < 16 → (o < owners) × IsSome (shelf o)
+AreAtHome owners shelf = (o : ℕ) → o < owner_limit → (o < owners) × IsSome (shelf o)
 
 -- Each of the first owners' disks that was at home is so again, and went on like this; those of others are as they were.
 pub record EachDisk (owners : ℕ) (Goes : (o : ℕ) → Shown → Shown → Type 0) (old new : Shelf) : Type 0 where

@@ -5,16 +5,16 @@ use Rattle.query_server.specs.declared.end.Status.TheVariants.{Done, ProgramRefu
 use Rattle.query_server.specs.declared.refusals.JournalRefusal.{JournalRefusal}
 use Rattle.query_server.specs.declared.refusals.JournalRefusal.TheVariants.{Uninitialised, Changed, Damaged, Exists}
 
-abbrev pub code_of : Status → ℕ
-code_of Done = 0
-code_of ProgramRefused = 1
-code_of Usage = 2
-code_of Refused = 3
-code_of JournalRefused = 4
-code_of Fault = 5
-code_of DiskFault = 6
-code_of NoMemory = 7
-code_of ScriptTooLong = 8
+abbrev pub status_code : Status → ℕ
+status_code Done = 0
+status_code ProgramRefused = 1
+status_code Usage = 2
+status_code Refused = 3
+status_code JournalRefused = 4
+status_code Fault = 5
+status_code DiskFault = 6
+status_code NoMemory = 7
+status_code ScriptTooLong = 8
 
 abbrev pub usage_text : List ℕ
 usage_text = codes "usage\n"

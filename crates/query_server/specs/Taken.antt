@@ -3,7 +3,7 @@ use Rattle.std.specs.Prelude.{◌≡◌, ◌⊎◌, ℕ, ◌+◌, ◌≤◌, ◌
 use Rattle.std.specs.Io.KnownBytes.{prepend_known, IsAtEnd}
 use Rattle.command_words.specs.Command.{Command}
 use Rattle.query_server.specs.Run.{script_limit}
-use Rattle.query_server.specs.Due.{kind_of}
+use Rattle.query_server.specs.Due.{command_kind}
 use Rattle.query_server.specs.declared.end.Status.{Status}
 use Rattle.query_server.specs.declared.end.Status.TheVariants.{Done, Refused, JournalRefused, DiskFault, ScriptTooLong}
 
@@ -20,4 +20,4 @@ pub record IsTaken (before after : Option (List ℕ)) (status : Status) : Type 0
 
 -- Nothing is taken but by a command that takes the source.
 abbrev pub IsTakenAt : Option Command → (before after : Option (List ℕ)) → (status : Status) → Type 0
-IsTakenAt command before after status = MatchBool (kind_of command).source (IsTaken before after status) (after ≡ before)
+IsTakenAt command before after status = MatchBool (command_kind command).source (IsTaken before after status) (after ≡ before)

@@ -1,25 +1,23 @@
 //! The records in the owners' journals are counted.
 
-ghost use Rattle.std.specs.Prelude.{◌≡◌, ◌++◌, ◌<◌, ℕ, List, Option, length, IfErr, IfOk, IsErrOf, IsSome, OnOk};
-ghost use Rattle.fz_outside.specs.Faults.{HasRisen};
+ghost use Rattle.std.specs.Prelude.{◌≡◌, ◌++◌, ◌<◌, ℕ, List, length, IfErr, IfOk, IsErrOf, IsSome, OnOk};
 ghost use Rattle.journal_records.specs.declared.records.Record.{Record};
 ghost use Rattle.owner_catalog.specs.Entries.{owner_entry_at};
 ghost use Rattle.catalog_loading.specs.Loaded.{entry_at, header_of, owners_in};
 ghost use Rattle.session_core.specs.Transcript.{Journals};
 ghost use Rattle.query_server.specs.Shelves.{AreAtHome, EachDisk, IsOnlySynced, StandsStill, bytes_on};
-ghost use Rattle.query_server.specs.Outside.{HasDiskCause, KeepsBay, KeepsFiles};
+ghost use Rattle.query_server.specs.Outside.{HasDiskCause, KeepsBay};
 ghost use Rattle.query_server.specs.Opened.{AreOpened, IsOpened};
-ghost use Rattle.query_server.specs.Audit.{audit_steps, counted_line, counted_text};
-ghost use Rattle.query_server.specs.Due.{ForContents};
-ghost use Rattle.query_server.specs.Ends.{IsStepEnd, end_by};
+ghost use Rattle.query_server.specs.Audit.{counted_line, counted_text};
+ghost use Rattle.query_server.specs.Work.{to_count};
+ghost use Rattle.query_server.specs.Ends.{IsEndOf};
 ghost use Rattle.query_server.specs.Books.{IsBookStop, IsOpenStop, LeftDisk};
 
 use crate::books::open_book;
 use crate::end::End;
 use crate::numbers::put_field;
 use budget_ledger::book::Book;
-use catalog_loading::{Opened, Stop, headers_of, open_house};
-use fz_outside::files::Files;
+use catalog_loading::{Opened, Stop, headers_of};
 use journal_records::records::Header;
 use outside_bays::bay::Bay;
 use outside_disks::disk::Disk;
@@ -102,24 +100,17 @@ fn count_all<B: Bay>(alloc: Global, bay: &mut B, opened: &Opened) -> Result<Vec<
     Ok(lines)
 }
 
-/// Opens the house of a catalog and a key, and counts the records in the journals of its owners.
-pub(crate) fn count_records<F: Files, B: Bay>(
-    alloc: Global,
-    files: &mut F,
-    bay: &mut B,
-    catalog: &str,
-    key: &str,
-) -> Result<Vec<u8>, Stop>
+/// Counts the records in the journals of all owners.
+pub(crate) fn list_counted<B: Bay>(alloc: Global, bay: &mut B, opened: &Opened) -> Result<End, Stop>
     requires home { AreAtHome (B.owners bay.old) (B.shelf bay.old) }
-    ensures end { (left : Option (List ℕ)) → ForContents (F.held files.old) left
-        (IsStepEnd (F.names files.old) (F.names files.new) (B.shelf bay.old) (B.shelf bay.new) (audit_steps catalog.now key.now) (end_by End.Listed result)) }
-    // Where a call of files failed, no disk was touched.
-    ensures unmoved { F.faults files.old < F.faults files.new → bay.new ≡ bay.old }
-    ensures files { KeepsFiles F.held F.names F.faults files.old files.new }
+    ensures end { (script : List ℕ) → IsEndOf (to_count opened.now.loading opened.now.key)
+        (B.shelf bay.old) (B.shelf bay.new) script result }
     ensures bay { KeepsBay B.shelf B.owners B.faults bay.old bay.new }
-    ensures cause { IsErrOf result Stop.Fault → HasRisen (F.faults files.old) (F.faults files.new) }
     ensures disk { HasDiskCause B.shelf B.owners B.faults bay.old bay.new result }
+    ensures sound { IsErrOf result Stop.Fault → ⊥ }
 {
-    let opened = open_house(alloc, files, catalog, key)?;
-    count_all(alloc, bay, &opened)
+    match count_all(alloc, bay, opened) {
+        Ok(lines) => Ok(End::Done(lines)),
+        Err(stop) => Err(stop),
+    }
 }

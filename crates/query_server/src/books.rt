@@ -4,6 +4,7 @@ ghost use Rattle.std.specs.Prelude.{◌≡◌, ℕ, ◌<◌, ◌≤◌, length, 
 ghost use Rattle.budget_ledger.specs.Account.{Account};
 ghost use Rattle.owner_house.specs.House.{house_of};
 ghost use Rattle.session_core.specs.Code.{ArePasses};
+ghost use Rattle.owner_catalog.specs.Limits.{owner_limit};
 ghost use Rattle.catalog_loading.specs.Loaded.{entry_at, header_of, owners_in};
 ghost use Rattle.query_server.specs.Shelves.{AreAtHome, EachDisk, IsOnlySynced};
 ghost use Rattle.query_server.specs.Outside.{HasDiskCause, KeepsBay};
@@ -95,7 +96,7 @@ pub(crate) fn open_book<B: Bay>(
 /// Puts the disks of the first owners' passes back.
 #[tactic(none)]
 pub fn put_back<B: Bay>(bay: &mut B, passes: Vec<Pass<B::D>>)
-    requires few { length passes.items ≤ 16 }
+    requires few { length passes.items ≤ owner_limit }
     requires known { length passes.items ≤ B.owners bay.old }
     requires taken { (o : ℕ) → o < length passes.items → B.shelf bay.old o ≡ None }
     ensures back { (books : ℕ → Account) × ArePutBack (length passes.items) passes.items books (B.shelf bay.old) (B.shelf bay.new) }

@@ -4,17 +4,17 @@ ghost use Rattle.std.specs.Prelude.{◌≡◌, ℕ, List, Option, IfOk, IsErrOf}
 ghost use Rattle.fz_frac.specs.Sens.{distance_of};
 ghost use Rattle.fz_outside.specs.Faults.{HasRisen};
 ghost use Rattle.owner_house.specs.Names.{AreNames};
+ghost use Rattle.query_server.specs.Ends.{IsStepEnd, IsVerdictOn};
 ghost use Rattle.query_server.specs.Check.{accepted_text, check_steps};
 ghost use Rattle.query_server.specs.Work.{to_check};
 ghost use Rattle.query_server.specs.Shelves.{Shelf};
 ghost use Rattle.query_server.specs.Outside.{KeepsFiles};
 ghost use Rattle.catalog_loading.specs.Given.{IsStep};
 ghost use Rattle.query_server.specs.Due.{ForContents};
-ghost use Rattle.query_server.specs.Ends.{IsStepEnd, IsVerdictOn, end_by};
 
 use crate::end::End;
 use crate::numbers::put_sensitivity;
-use crate::programs::{ProgramEnd, refuse};
+use crate::programs::refuse;
 use crate::whole::tables_of;
 use answer_path::check_program;
 use catalog_loading::{Stop, find_owner, load_for, open_catalog, read_file};
@@ -42,12 +42,12 @@ fn accepted_line(alloc: Global, sens: Sens) -> Result<Vec<u8>, AllocError>
 }
 
 /// What a program comes to over the tables of a dataset.
-fn judge(alloc: Global, dataset: &Dataset, program: &[u8]) -> Result<ProgramEnd, AllocError>
+fn judge(alloc: Global, dataset: &Dataset, program: &[u8]) -> Result<End, AllocError>
     requires { AreNames dataset.now.tables }
     ensures { IfOk result (IsVerdictOn dataset.now.tables program.now) }
 {
     match check_program(alloc, tables_of(dataset), program) {
-        Ok(accepted) => Ok(ProgramEnd::Accepted(accepted_line(alloc, accepted.sens)?)),
+        Ok(accepted) => Ok(End::Done(accepted_line(alloc, accepted.sens)?)),
         Err(refusal) => refuse(alloc, &refusal),
     }
 }
@@ -80,9 +80,9 @@ pub(crate) fn check_file<F: Files>(
     catalog: &str,
     owner: &str,
     file: &str,
-) -> Result<ProgramEnd, Stop>
+) -> Result<End, Stop>
     ensures end { (left : Option (List ℕ)) (shelf : Shelf) → ForContents (F.held files.old) left
-        (IsStepEnd (F.names files.old) (F.names files.new) shelf shelf (check_steps catalog.now owner.now file.now) (end_by End.Check result)) }
+        (IsStepEnd (F.names files.old) (F.names files.new) shelf shelf (check_steps catalog.now owner.now file.now) result) }
     ensures files { KeepsFiles F.held F.names F.faults files.old files.new }
     ensures cause { IsErrOf result Stop.Fault → HasRisen (F.faults files.old) (F.faults files.new) }
 {

@@ -1,11 +1,9 @@
 //! How a command ends.
 
 ghost use Rattle.std.specs.Prelude.{◌≡◌};
-ghost use Rattle.query_server.specs.Status.{code_of};
-ghost use Rattle.query_server.specs.Ends.{stop_status};
+ghost use Rattle.query_server.specs.Status.{status_code};
+ghost use Rattle.query_server.specs.Ends.{status_at};
 
-use crate::programs::ProgramEnd;
-use crate::run::RunEnd;
 use catalog_loading::Stop;
 
 /// The status of a command.
@@ -35,7 +33,7 @@ pub enum Status {
 impl Status {
     /// The exit status of the process.
     pub fn code(self) -> u8
-        ensures { result ≡ code_of self }
+        ensures { result ≡ status_code self }
     {
         match self {
             Status::Done => 0,
@@ -51,43 +49,52 @@ impl Status {
     }
 }
 
-/// The status of what stops a command.
-fn status_of_stop(stop: &Stop) -> Status
-    ensures { result ≡ stop_status stop.now }
-{
-    match stop {
-        Stop::Usage => Status::Usage,
-        Stop::Refused(_) => Status::Refused,
-        Stop::Journal(_) => Status::JournalRefused,
-        Stop::Disk(_) => Status::DiskFault,
-        Stop::Fault => Status::Fault,
-        Stop::NoMemory => Status::NoMemory,
-    }
-}
-
-/// The end of a command: what stopped it, or the end of its work.
+/// The end of a command that nothing stopped.
 #[derive(Drop)]
 pub(crate) enum End {
-    Stopped(Stop),
-    Run(RunEnd),
-    /// The lines of an `init` or an `audit`.
-    Listed(Vec<u8>),
-    Check(ProgramEnd),
-    Gap(ProgramEnd),
+    /// All was done: the lines of that.
+    Done(Vec<u8>),
+    /// The program of a `check` or a `gap` is refused: the line of that.
+    ProgramRefused(Vec<u8>),
+    /// The script of a `run` has over 2^24 bytes.
+    ScriptTooLong,
 }
 
 impl End {
-    ghost use Rattle.query_server.specs.Ends.{status_at};
+    ghost use Rattle.query_server.specs.Ends.{end_status, end_text};
 
-    pub(crate) fn status(&self) -> Status
-        ensures { result ≡ status_at self.now }
+    fn status(&self) -> Status
+        ensures { result ≡ end_status self.now }
     {
         match self {
-            End::Stopped(stop) => status_of_stop(stop),
-            End::Run(end) => end.status(),
-            End::Listed(_) => Status::Done,
-            End::Check(end) => end.status(),
-            End::Gap(end) => end.status(),
+            End::Done(_) => Status::Done,
+            End::ProgramRefused(_) => Status::ProgramRefused,
+            End::ScriptTooLong => Status::ScriptTooLong,
         }
+    }
+
+    pub(crate) fn text(&self) -> &[u8]
+        ensures { result.now ≡ end_text self.now }
+    {
+        match self {
+            End::Done(lines) => lines,
+            End::ProgramRefused(line) => line,
+            End::ScriptTooLong => b"script too long\n",
+        }
+    }
+}
+
+/// The status of a command that ends so, or was stopped.
+pub(crate) fn status_of(ended: &Result<End, Stop>) -> Status
+    ensures { result ≡ status_at ended.now }
+{
+    match ended {
+        Ok(end) => end.status(),
+        Err(Stop::Usage) => Status::Usage,
+        Err(Stop::Refused(_)) => Status::Refused,
+        Err(Stop::Journal(_)) => Status::JournalRefused,
+        Err(Stop::Disk(_)) => Status::DiskFault,
+        Err(Stop::Fault) => Status::Fault,
+        Err(Stop::NoMemory) => Status::NoMemory,
     }
 }

@@ -1,6 +1,7 @@
 //! A program's values on two datasets are compared.
 
 ghost use Rattle.std.specs.Prelude.{◌≡◌, ◌<◌, ℕ, List, Option, length, IfOk, IsErrOf};
+ghost use Rattle.query_server.specs.Shelves.{Shelf};
 ghost use Rattle.fz_frac.specs.Sens.{distance_of};
 ghost use Rattle.metric_law.specs.Means.{Means};
 ghost use Rattle.metric_values.specs.Tables.{apart, rows_of as tables_rows};
@@ -10,17 +11,16 @@ ghost use Rattle.owner_house.specs.Names.{AreNames};
 ghost use Rattle.fz_outside.specs.Faults.{HasRisen};
 ghost use Rattle.query_server.specs.Work.{to_compare};
 ghost use Rattle.query_server.specs.Gap.{gap_steps, gap_text, loading_steps, second_steps};
-ghost use Rattle.query_server.specs.Shelves.{Shelf};
 ghost use Rattle.query_server.specs.Outside.{KeepsFiles};
 ghost use Rattle.query_server.specs.Due.{ForContents};
 ghost use Rattle.owner_catalog.specs.Catalog.{IsCatalog};
 ghost use Rattle.owner_catalog.specs.Entries.{owner_entry_at, owner_signature};
 ghost use Rattle.catalog_loading.specs.Given.{IsOwnerAt, IsStep};
-ghost use Rattle.query_server.specs.Ends.{IsEndOf, IsGapOn, IsStepEnd, end_by};
+ghost use Rattle.query_server.specs.Ends.{IsEndOf, IsGapOn, IsStepEnd};
 
 use crate::end::End;
 use crate::numbers::{put_number, put_sensitivity, put_signed};
-use crate::programs::{ProgramEnd, refuse};
+use crate::programs::refuse;
 use crate::whole::{rows_of, tables_of};
 use answer_path::{Judged, judge, read_program};
 use catalog_loading::{Stop, find_fitting, find_owner, load_for, open_catalog, read_file};
@@ -112,7 +112,7 @@ fn compare(
     first: &Dataset,
     second: &Dataset,
     program: &[u8],
-) -> Result<ProgramEnd, AllocError>
+) -> Result<End, AllocError>
     requires tables { second.now.tables ≡ first.now.tables }
     requires names { AreNames first.now.tables }
     ensures { IfOk result (IsGapOn first.now.tables first.now.rows second.now.rows program.now) }
@@ -126,7 +126,7 @@ fn compare(
         Err(refusal) => return refuse(alloc, &refusal),
     };
     let comparison = comparison_on(alloc, &judged, first, second)?;
-    Ok(ProgramEnd::Accepted(comparison_lines(alloc, &comparison)?))
+    Ok(End::Done(comparison_lines(alloc, &comparison)?))
 }
 
 /// Reads the tables of all owners of the first catalog and of the second, and then the program.
@@ -214,9 +214,9 @@ pub(crate) fn compare_files<F: Files>(
     owner: &str,
     second_catalog: &str,
     file: &str,
-) -> Result<ProgramEnd, Stop>
+) -> Result<End, Stop>
     ensures end { (left : Option (List ℕ)) (shelf : Shelf) → ForContents (F.held files.old) left
-        (IsStepEnd (F.names files.old) (F.names files.new) shelf shelf (gap_steps catalog.now owner.now second_catalog.now file.now) (end_by End.Gap result)) }
+        (IsStepEnd (F.names files.old) (F.names files.new) shelf shelf (gap_steps catalog.now owner.now second_catalog.now file.now) result) }
     ensures files { KeepsFiles F.held F.names F.faults files.old files.new }
     ensures cause { IsErrOf result Stop.Fault → HasRisen (F.faults files.old) (F.faults files.new) }
 {

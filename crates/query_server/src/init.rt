@@ -1,6 +1,6 @@
 //! The owners' journals are made.
 
-ghost use Rattle.std.specs.Prelude.{◌≡◌, ◌≢◌, ◌⊎◌, ◌++◌, ◌<◌, ℕ, length, List, Option, IsSome, IfErr, IfOk, IsErrOf, OnOk};
+ghost use Rattle.std.specs.Prelude.{◌≡◌, ◌≢◌, ◌⊎◌, ◌++◌, ◌<◌, ℕ, length, List, IsSome, IfErr, IfOk, IsErrOf, OnOk};
 ghost use Rattle.std.specs.List.{flat_map};
 ghost use Rattle.fz_outside.specs.Faults.{HasRisen};
 ghost use Rattle.outside_disks.specs.Disks.{Shown};
@@ -9,11 +9,10 @@ ghost use Rattle.budget_journal.specs.declared.making.InitFault.TheVariants.{Dis
 ghost use Rattle.owner_catalog.specs.Entries.{owner_entry_at};
 ghost use Rattle.catalog_loading.specs.Loaded.{header_of, owners_in};
 ghost use Rattle.query_server.specs.Shelves.{AreAtHome, EachDisk};
-ghost use Rattle.query_server.specs.Outside.{HasDiskCause, KeepsBay, KeepsFiles};
+ghost use Rattle.query_server.specs.Outside.{HasDiskCause, KeepsBay};
 ghost use Rattle.query_server.specs.Work.{to_make};
-ghost use Rattle.query_server.specs.Init.{IsMade, made_line, init_steps};
-ghost use Rattle.query_server.specs.Due.{ForContents};
-ghost use Rattle.query_server.specs.Ends.{IsEndOf, IsStepEnd, end_by};
+ghost use Rattle.query_server.specs.Init.{IsMade, made_line};
+ghost use Rattle.query_server.specs.Ends.{IsEndOf};
 ghost use Rattle.query_server.specs.Making.{IsMakeStop, IsUnmade, IsUnmadeStop, Turned};
 
 use crate::books::{disk_stop, journal_stop};
@@ -22,8 +21,7 @@ use crate::numbers::put_field;
 use crate::refusals::JournalRefusal;
 use budget_journal::journal::Journal;
 use budget_journal::making::InitFault;
-use catalog_loading::{Opened, Stop, headers_of, open_house};
-use fz_outside::files::Files;
+use catalog_loading::{Opened, Stop, headers_of};
 use journal_records::records::Header;
 use outside_bays::bay::Bay;
 use owner_catalog::Catalog;
@@ -105,37 +103,15 @@ fn make_all<B: Bay>(alloc: Global, bay: &mut B, opened: &Opened) -> Result<(), S
 }
 
 /// Makes the journals of all owners. The lines come first: where memory is wanting for them, no disk is taken.
-fn list_made<B: Bay>(alloc: Global, bay: &mut B, opened: &Opened) -> Result<Vec<u8>, Stop>
+pub(crate) fn list_made<B: Bay>(alloc: Global, bay: &mut B, opened: &Opened) -> Result<End, Stop>
     requires home { AreAtHome (B.owners bay.old) (B.shelf bay.old) }
     ensures end { (script : List ℕ) → IsEndOf (to_make opened.now.loading opened.now.key)
-        (B.shelf bay.old) (B.shelf bay.new) script (end_by End.Listed result) }
+        (B.shelf bay.old) (B.shelf bay.new) script result }
     ensures bay { KeepsBay B.shelf B.owners B.faults bay.old bay.new }
     ensures disk { HasDiskCause B.shelf B.owners B.faults bay.old bay.new result }
     ensures sound { IsErrOf result Stop.Fault → ⊥ }
 {
     let lines = made_lines(alloc, opened.catalog())?;
     make_all(alloc, bay, opened)?;
-    Ok(lines)
-}
-
-/// Opens the house of a catalog and a key, and makes the journals of its owners.
-pub(crate) fn make_journals<F: Files, B: Bay>(
-    alloc: Global,
-    files: &mut F,
-    bay: &mut B,
-    catalog: &str,
-    key: &str,
-) -> Result<Vec<u8>, Stop>
-    requires home { AreAtHome (B.owners bay.old) (B.shelf bay.old) }
-    ensures end { (left : Option (List ℕ)) → ForContents (F.held files.old) left
-        (IsStepEnd (F.names files.old) (F.names files.new) (B.shelf bay.old) (B.shelf bay.new) (init_steps catalog.now key.now) (end_by End.Listed result)) }
-    // Where a call of files failed, no disk was touched.
-    ensures unmoved { F.faults files.old < F.faults files.new → bay.new ≡ bay.old }
-    ensures files { KeepsFiles F.held F.names F.faults files.old files.new }
-    ensures bay { KeepsBay B.shelf B.owners B.faults bay.old bay.new }
-    ensures cause { IsErrOf result Stop.Fault → HasRisen (F.faults files.old) (F.faults files.new) }
-    ensures disk { HasDiskCause B.shelf B.owners B.faults bay.old bay.new result }
-{
-    let opened = open_house(alloc, files, catalog, key)?;
-    list_made(alloc, bay, &opened)
+    Ok(End::Done(lines))
 }

@@ -8,6 +8,7 @@ mod end;
 mod gap;
 mod init;
 mod laws;
+mod listing;
 mod numbers;
 mod programs;
 mod refusals;

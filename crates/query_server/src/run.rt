@@ -4,17 +4,17 @@ ghost use Rattle.std.specs.Prelude.{◌≡◌, ◌⊎◌, ℕ, List, ◌<◌, �
 ghost use Rattle.word_streams.specs.Draws.{draws_of};
 ghost use Rattle.fz_outside.specs.Faults.{HasCause, HasRisen};
 ghost use Rattle.owner_house.specs.House.{house_of};
+ghost use Rattle.query_server.specs.Outside.{HasDiskCause, KeepsBay, KeepsFiles};
 ghost use Rattle.session_core.specs.Code.{ArePasses};
 ghost use Rattle.query_server.specs.Work.{to_answer};
 ghost use Rattle.query_server.specs.Run.{run_steps};
 ghost use Rattle.query_server.specs.Shelves.{AreAtHome};
-ghost use Rattle.query_server.specs.Outside.{HasDiskCause, KeepsBay, KeepsFiles};
 ghost use Rattle.query_server.specs.Due.{ForContents, IsLeft};
-ghost use Rattle.query_server.specs.Ends.{IsAnsweredOn, IsEndOf, IsStepEnd, end_by, run_status, run_text, status_at};
+ghost use Rattle.query_server.specs.Ends.{IsScriptEnd, IsEndOf, IsStepEnd, status_at};
 ghost use Rattle.query_server.specs.Taken.{IsTaken};
 
 use crate::books::{open_passes, put_back};
-use crate::end::{End, Status};
+use crate::end::End;
 use answer_path::Desk;
 use catalog_loading::{Opened, Stop, open_house};
 use fz_outside::files::Files;
@@ -30,37 +30,6 @@ use word_streams::KeyStreams;
 /// The most bytes of a script.
 const SCRIPT_LIMIT: usize = 1 << 24;
 
-/// The end of a `run`.
-#[derive(Drop)]
-pub(crate) enum RunEnd {
-    /// The replies to the script.
-    Answered(Vec<u8>),
-    /// The script has over 2^24 bytes.
-    TooLong,
-}
-
-impl RunEnd {
-    ghost use Rattle.query_server.specs.Ends.{run_status, run_text};
-
-    pub(crate) fn status(&self) -> Status
-        ensures { result ≡ run_status self.now }
-    {
-        match self {
-            RunEnd::Answered(_) => Status::Done,
-            RunEnd::TooLong => Status::ScriptTooLong,
-        }
-    }
-
-    pub(crate) fn text(&self) -> &[u8]
-        ensures { result.now ≡ run_text self.now }
-    {
-        match self {
-            RunEnd::Answered(replies) => replies,
-            RunEnd::TooLong => b"script too long\n",
-        }
-    }
-}
-
 /// Reads a script to its end, or to one byte more than it may have, and answers it.
 fn answer_over<D: Disk, S: Source>(
     alloc: Global,
@@ -68,21 +37,21 @@ fn answer_over<D: Disk, S: Source>(
     key: [u8; 32],
     passes: &mut Passes<D>,
     source: &mut S,
-) -> Result<RunEnd, Stop>
+) -> Result<End, Stop>
     requires passes { ArePasses (house_of house.now) passes.old }
     ensures end { (script : List ℕ) × IsLeft (S.left source.old) script
-        × IsAnsweredOn (house_of house.now) (draws_of key) script passes.old passes.new result }
-    ensures taken { IsTaken (S.left source.old) (S.left source.new) (status_at (end_by End.Run result)) }
+        × IsScriptEnd (house_of house.now) (draws_of key) script passes.old passes.new result }
+    ensures taken { IsTaken (S.left source.old) (S.left source.new) (status_at result) }
     ensures cause { HasCause (S.faults source.old) (S.faults source.new) (IsErrOf result Stop.Fault) }
 {
     let desk = Desk::new();
     let script = read_up_to(alloc, source, SCRIPT_LIMIT + 1)?;
     if script.len() > SCRIPT_LIMIT {
-        return Ok(RunEnd::TooLong);
+        return Ok(End::ScriptTooLong);
     }
     let streams = KeyStreams::new(key);
     let replies = answer_script(alloc, house, &desk, passes, &streams, &script)?;
-    Ok(RunEnd::Answered(replies))
+    Ok(End::Done(replies))
 }
 
 /// Opens the owners' books, answers the script over them, and puts the disks back.
@@ -91,11 +60,11 @@ fn answer<B: Bay, S: Source>(
     opened: &Opened,
     bay: &mut B,
     source: &mut S,
-) -> Result<RunEnd, Stop>
+) -> Result<End, Stop>
     requires home { AreAtHome (B.owners bay.old) (B.shelf bay.old) }
     ensures end { (workers : ℕ) → (script : List ℕ) × IsLeft (S.left source.old) script
-        × IsEndOf (to_answer workers opened.now.loading opened.now.key) (B.shelf bay.old) (B.shelf bay.new) script (end_by End.Run result) }
-    ensures taken { IsTaken (S.left source.old) (S.left source.new) (status_at (end_by End.Run result)) }
+        × IsEndOf (to_answer workers opened.now.loading opened.now.key) (B.shelf bay.old) (B.shelf bay.new) script result }
+    ensures taken { IsTaken (S.left source.old) (S.left source.new) (status_at result) }
     ensures bay { KeepsBay B.shelf B.owners B.faults bay.old bay.new }
     ensures cause { HasCause (S.faults source.old) (S.faults source.new) (IsErrOf result Stop.Fault) }
     ensures disk { HasDiskCause B.shelf B.owners B.faults bay.old bay.new result }
@@ -115,12 +84,12 @@ pub(crate) fn run_script<F: Files, B: Bay, S: Source>(
     source: &mut S,
     catalog: &str,
     key: &str,
-) -> Result<RunEnd, Stop>
+) -> Result<End, Stop>
     requires home { AreAtHome (B.owners bay.old) (B.shelf bay.old) }
     ensures end { (workers : ℕ) → ForContents (F.held files.old) (S.left source.old)
         (IsStepEnd (F.names files.old) (F.names files.new) (B.shelf bay.old) (B.shelf bay.new)
-        (run_steps catalog.now key.now workers) (end_by End.Run result)) }
-    ensures taken { IsTaken (S.left source.old) (S.left source.new) (status_at (end_by End.Run result)) }
+        (run_steps catalog.now key.now workers) result) }
+    ensures taken { IsTaken (S.left source.old) (S.left source.new) (status_at result) }
     // Where a call of files failed, nothing was taken of the source, and no disk was touched.
     ensures unread { F.faults files.old < F.faults files.new → source.new ≡ source.old }
     ensures unmoved { F.faults files.old < F.faults files.new → bay.new ≡ bay.old }

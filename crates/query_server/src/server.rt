@@ -1,9 +1,9 @@
 //! The top call.
 
-ghost use Rattle.std.specs.Prelude.{◌≡◌, ◌⊎◌, ◌<◌, ◌≤◌, ◌++◌, ℕ, List, Some, None, IsSome, Vec, map, string_bytes};
-ghost use Rattle.std.specs.Io.KnownBytes.{append_known};
+ghost use Rattle.std.specs.Prelude.{◌≡◌, ◌⊎◌, ◌<◌, ◌≤◌, ◌++◌, ℕ, List, Err, Some, None, IsSome, Vec, map, string_bytes};
 ghost use Rattle.fz_outside.specs.Faults.{HasRisen};
 ghost use Rattle.command_words.specs.Command.{command_of};
+ghost use Rattle.std.specs.Io.KnownBytes.{append_known};
 ghost use Rattle.session_core.specs.Transcript.{Journals};
 ghost use Rattle.catalog_loading.specs.Files.{Contents, always};
 ghost use Rattle.catalog_loading.specs.Loaded.{Loading, owners_in};
@@ -17,11 +17,10 @@ ghost use Rattle.query_server.specs.Ends.{IsEndOf, status_at};
 ghost use Rattle.query_server.specs.Taken.{IsTakenAt};
 ghost use Rattle.std.specs.declared.alloc.Global.{Global as Heap};
 
-use crate::audit::count_records;
 use crate::check::check_file;
 use crate::end::{End, Status};
 use crate::gap::compare_files;
-use crate::init::make_journals;
+use crate::listing::{Listing, list_owners};
 use crate::run::run_script;
 use crate::writing::finish;
 use catalog_loading::Stop;
@@ -39,7 +38,7 @@ fn run_command<F: Files, B: Bay, S: Source>(
     files: &mut F,
     bay: &mut B,
     source: &mut S,
-) -> End
+) -> Result<End, Stop>
     requires home { AreAtHome (B.owners bay.old) (B.shelf bay.old) }
     ensures end { let given = map string_bytes words.now in ForContents (F.held files.old) (S.left source.old)
         (λ reads script. IsEndOf (work_of given reads) (B.shelf bay.old) (B.shelf bay.new) script result
@@ -52,43 +51,33 @@ fn run_command<F: Files, B: Bay, S: Source>(
     ensures files { KeepsFiles F.held F.names F.faults files.old files.new }
     ensures bay { KeepsBay B.shelf B.owners B.faults bay.old bay.new }
     ensures source { S.faults source.old ≤ S.faults source.new }
-    ensures disk { (line : Vec ℕ Heap) → result ≡ End.Stopped (Stop.Disk line) → IsOfDisks (command_of (map string_bytes words.now))
+    ensures disk { (line : Vec ℕ Heap) → result ≡ Err (Stop.Disk line) → IsOfDisks (command_of (map string_bytes words.now))
         × DisksFailed (bay_in B.shelf B.owners B.faults bay.old) (bay_in B.shelf B.owners B.faults bay.new) }
     ensures idle { command_of (map string_bytes words.now) ≡ None → (files.new ≡ files.old)
-        × ((result ≡ End.Stopped Stop.Usage) ⊎ (result ≡ End.Stopped Stop.NoMemory)) }
-    ensures cause { result ≡ End.Stopped Stop.Fault →
+        × ((result ≡ Err Stop.Usage) ⊎ (result ≡ Err Stop.NoMemory)) }
+    ensures cause { result ≡ Err Stop.Fault →
         HasRisen (F.faults files.old) (F.faults files.new)
         ⊎ (IsOfRun (command_of (map string_bytes words.now)) × HasRisen (S.faults source.old) (S.faults source.new)) }
 {
     match read_words(alloc, words) {
-        Err(WordsFault::Usage) => End::Stopped(Stop::Usage),
-        Err(WordsFault::NoMemory) => End::Stopped(Stop::NoMemory),
-        Ok(Command::Init { catalog, key }) => match make_journals(alloc, files, bay, catalog, key) {
-            Ok(lines) => End::Listed(lines),
-            Err(stop) => End::Stopped(stop),
-        },
-        Ok(Command::Audit { catalog, key }) => match count_records(
-            alloc, files, bay, catalog, key,
-        ) {
-            Ok(lines) => End::Listed(lines),
-            Err(stop) => End::Stopped(stop),
-        },
-        Ok(Command::Run { catalog, key, .. }) => match run_script(
-            alloc, files, bay, source, catalog, key,
-        ) {
-            Ok(end) => End::Run(end),
-            Err(stop) => End::Stopped(stop),
-        },
+        Err(WordsFault::Usage) => Err(Stop::Usage),
+        Err(WordsFault::NoMemory) => Err(Stop::NoMemory),
+        Ok(Command::Init { catalog, key }) => {
+            list_owners(alloc, files, bay, catalog, key, Listing::Made)
+        }
+        Ok(Command::Audit { catalog, key }) => {
+            list_owners(alloc, files, bay, catalog, key, Listing::Counted)
+        }
+        Ok(Command::Run { catalog, key, .. }) => {
+            run_script(alloc, files, bay, source, catalog, key)
+        }
         Ok(
             Command::Check {
                 catalog,
                 owner,
                 file,
             },
-        ) => match check_file(alloc, files, catalog, owner, file) {
-            Ok(end) => End::Check(end),
-            Err(stop) => End::Stopped(stop),
-        },
+        ) => check_file(alloc, files, catalog, owner, file),
         Ok(
             Command::Gap {
                 catalog,
@@ -96,10 +85,7 @@ fn run_command<F: Files, B: Bay, S: Source>(
                 second_catalog,
                 file,
             },
-        ) => match compare_files(alloc, files, catalog, owner, second_catalog, file) {
-            Ok(end) => End::Gap(end),
-            Err(stop) => End::Stopped(stop),
-        },
+        ) => compare_files(alloc, files, catalog, owner, second_catalog, file),
     }
 }
 

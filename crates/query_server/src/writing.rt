@@ -1,13 +1,13 @@
 //! What is written at the end of a command.
 
-ghost use Rattle.std.specs.Prelude.{◌≡◌, ◌⊎◌, ℕ, ◌≤◌, List, OnOk, OnErr, IsErr};
+ghost use Rattle.std.specs.Prelude.{◌≡◌, ◌⊎◌, ℕ, ◌≤◌, List, Err, OnOk, OnErr, IsErr};
 ghost use Rattle.std.specs.Io.KnownBytes.{append_known};
 ghost use Rattle.fz_outside.specs.Faults.{HasCause, HasRisen};
 ghost use Rattle.query_server.specs.Status.{refused_text};
 ghost use Rattle.query_server.specs.Due.{IsBeginning};
-ghost use Rattle.query_server.specs.Ends.{IsEndingWith, stop_text, text_at};
+ghost use Rattle.query_server.specs.Ends.{IsEndingWith, text_at};
 
-use crate::end::{End, Status};
+use crate::end::{End, Status, status_of};
 use catalog_loading::Stop;
 use fz_outside::Failed;
 use fz_outside::sink::{Sink, put};
@@ -33,47 +33,32 @@ fn write_refused<K: Sink>(sink: &mut K, name: &str) -> Result<(), Failed>
     put_piece(sink, b"\n")
 }
 
-/// Writes the line of what stopped a command.
-fn write_stop<K: Sink>(sink: &mut K, stop: &Stop) -> Result<(), Failed>
-    ensures ok { OnOk result (K.contents sink.new ≡ append_known (K.contents sink.old) (stop_text stop.now)) }
-    ensures err { OnErr result ((text : List ℕ) × IsBeginning text (stop_text stop.now)
+/// Writes what a command has to say at its end, or at what stopped it.
+fn write_end<K: Sink>(sink: &mut K, ended: &Result<End, Stop>) -> Result<(), Failed>
+    ensures ok { OnOk result (K.contents sink.new ≡ append_known (K.contents sink.old) (text_at ended.now)) }
+    ensures err { OnErr result ((text : List ℕ) × IsBeginning text (text_at ended.now)
         × (K.contents sink.new ≡ append_known (K.contents sink.old) text)) }
     ensures cause { HasCause (K.faults sink.old) (K.faults sink.new) (IsErr result) }
 {
-    match stop {
-        Stop::Usage => put_piece(sink, b"usage\n"),
-        Stop::Refused(name) => write_refused(sink, name),
-        Stop::Journal(line) => put_piece(sink, line),
-        Stop::Disk(line) => put_piece(sink, line),
-        Stop::Fault => Ok(()),
-        Stop::NoMemory => put_piece(sink, b"memory\n"),
+    match ended {
+        Ok(end) => put_piece(sink, end.text()),
+        Err(Stop::Usage) => put_piece(sink, b"usage\n"),
+        Err(Stop::Refused(name)) => write_refused(sink, name),
+        Err(Stop::Journal(line)) => put_piece(sink, line),
+        Err(Stop::Disk(line)) => put_piece(sink, line),
+        Err(Stop::Fault) => Ok(()),
+        Err(Stop::NoMemory) => put_piece(sink, b"memory\n"),
     }
 }
 
-/// Writes what an end has to say.
-fn write_end<K: Sink>(sink: &mut K, end: &End) -> Result<(), Failed>
-    ensures ok { OnOk result (K.contents sink.new ≡ append_known (K.contents sink.old) (text_at end.now)) }
-    ensures err { OnErr result ((text : List ℕ) × IsBeginning text (text_at end.now)
-        × (K.contents sink.new ≡ append_known (K.contents sink.old) text)) }
-    ensures cause { HasCause (K.faults sink.old) (K.faults sink.new) (IsErr result) }
-{
-    match end {
-        End::Stopped(stop) => write_stop(sink, stop),
-        End::Run(end) => put_piece(sink, end.text()),
-        End::Listed(lines) => put_piece(sink, lines),
-        End::Check(end) => put_piece(sink, end.text()),
-        End::Gap(end) => put_piece(sink, end.text()),
-    }
-}
-
-/// Writes what an end has to say, and gives the status.
-pub(crate) fn finish<K: Sink>(sink: &mut K, end: &End) -> Status
-    ensures written { (text : List ℕ) × (K.contents sink.new ≡ append_known (K.contents sink.old) text) × IsEndingWith end.now result text }
+/// Writes what a command has to say, and gives the status.
+pub(crate) fn finish<K: Sink>(sink: &mut K, ended: &Result<End, Stop>) -> Status
+    ensures written { (text : List ℕ) × (K.contents sink.new ≡ append_known (K.contents sink.old) text) × IsEndingWith ended.now result text }
     ensures sink { K.faults sink.old ≤ K.faults sink.new }
-    ensures fault { result ≡ Status.Fault → (end.now ≡ End.Stopped Stop.Fault) ⊎ HasRisen (K.faults sink.old) (K.faults sink.new) }
+    ensures fault { result ≡ Status.Fault → (ended.now ≡ Err Stop.Fault) ⊎ HasRisen (K.faults sink.old) (K.faults sink.new) }
 {
-    match write_end(sink, end) {
-        Ok(()) => end.status(),
+    match write_end(sink, ended) {
+        Ok(()) => status_of(ended),
         Err(Failed) => Status::Fault,
     }
 }

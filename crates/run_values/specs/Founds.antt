@@ -4,9 +4,11 @@ use Rattle.metric_law.specs.Means.{find}
 use Rattle.fz_ast.specs.Terms.{Name}
 use Rattle.metric_values.specs.Values.{Bind, Env, NumV, TextV, Value}
 use Rattle.run_values.specs.Parts.{IsPair, first_in, second_in}
+use Rattle.run_values.specs.Views.{IsClosureAt}
 use Rattle.run_values.specs.declared.scope.Found.{Found}
 use Rattle.run_values.specs.declared.scope.Found.TheVariants.{None as Nowhere, Whole, First, Second}
 use Rattle.run_values.specs.declared.plain.Plain.{Plain}
+use Rattle.run_values.specs.declared.value.Closure.{Closure}
 use Rattle.run_values.specs.declared.plain.Plain.TheVariants.{Num, Text, Other}
 
 abbrev pub value_found : Found → Option Value
@@ -40,3 +42,7 @@ plain_of Other = None
 -- δ is γ with two more names, for the halves of what this name stands for
 abbrev pub AreHalvesNamed : Env → Name → Name → Name → Env → Type 0
 AreHalvesNamed γ r x y δ = (v : Value) × (find γ r ≡ Some v) × (δ ≡ Bind y (second_in v) (Bind x (first_in v) γ))
+
+-- the name stands for this function
+abbrev pub IsFoundFunction : Env → Name → Closure → Type 0
+IsFoundFunction γ x c = (v : Value) × (find γ x ≡ Some v) × IsClosureAt c v

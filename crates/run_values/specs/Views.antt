@@ -9,6 +9,7 @@ use Rattle.metric_values.specs.Values.{Flat, TextF, Value, NumV, TextV, UnitV, P
 use Rattle.metric_values.specs.Cells.{cell_at, columns_in, from_column, row_at}
 use Rattle.run_values.specs.Flats.{flats_of, AllFlat}
 use Rattle.run_values.specs.Parts.{IsPair, first_in, second_in}
+use Rattle.run_values.specs.declared.value.Closure.{Closure}
 use Rattle.run_values.specs.declared.value.Form.{Form}
 use Rattle.run_values.specs.declared.value.Form.TheVariants.{Num, Text, Unit as One, Truth, Pair, Inl, Inr, Bang, Table, Row, Cell, List as Items, Fun}
 use Rattle.run_values.specs.declared.value.Link.{Link}
@@ -39,6 +40,12 @@ function_of t γ = FnV [] t γ
 pub data IsFunction : Term → Type 0 where
   is_fun : {s : Span} {x : Name} {u : Span} {t : Ty} {e : Term} → IsFunction (at s (FunE x u t e))
   is_fn : {s : Span} {x : Name} {u : Span} {t : Ty} {e : Term} → IsFunction (at s (FnE x u t e))
+
+-- the value is this function
+pub record IsClosureAt (c : Closure) (v : Value) : Type 0 where
+  pub is : v ≡ function_of (term_at c.nodes.value.terms c.lambda) c.scope
+  pub known : c.lambda < length c.nodes.value.terms
+  pub function : IsFunction (term_at c.nodes.value.terms c.lambda)
 
 abbrev pub form_view : Form → Value
 form_view (Num z) = NumV z

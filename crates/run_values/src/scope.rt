@@ -3,11 +3,11 @@ ghost use Rattle.std.specs.Prelude.{◌≡◌, bytes_eq, IfOk, IfSome, IsSome, O
 ghost use Rattle.fz_ast.specs.Names.{name_of};
 ghost use Rattle.metric_law.specs.Means.{find};
 ghost use Rattle.metric_values.specs.Values.{Bind, Empty};
-ghost use Rattle.run_values.specs.Founds.{IsFoundInPair, AreHalvesNamed, plain_found, plain_of, value_found};
+ghost use Rattle.run_values.specs.Founds.{IsFoundFunction, IsFoundInPair, AreHalvesNamed, plain_found, plain_of, value_found};
 ghost use Rattle.run_values.specs.Parts.{IsPair, first_in, rebound, second_in};
 
 use crate::plain::Plain;
-use crate::value::{Element, Frame, Halves, Link, Scope, Value};
+use crate::value::{Closure, Element, Frame, Halves, Link, Scope, Value};
 use fz_ast::{Name, NoMemory};
 use std::alloc::Global;
 use std::rc::Rc;
@@ -263,6 +263,16 @@ impl Scope {
             Found::First(pair) => pair.first_plain(),
             Found::Second(pair) => pair.second_plain(),
             Found::None => Plain::Other,
+        }
+    }
+
+    /// The function that the innermost of these names stands for, if that is one and no half of a pair.
+    pub fn find_function(&self, name: &Name) -> Option<&Closure>
+        ensures { IfSome result (λ c. IsFoundFunction self.now (name_of name.now) c.now) }
+    {
+        match self.found(name) {
+            Found::Whole(value) => value.as_function(),
+            _ => None,
         }
     }
 }

@@ -1,5 +1,5 @@
 //! Values are shared by counted references, and never lead back to themselves.
-ghost use Rattle.std.specs.Prelude.{◌≡◌, ◌<◌, ◌⊎◌, bytes_eq, length, IfOk, IsTrue};
+ghost use Rattle.std.specs.Prelude.{◌≡◌, ◌<◌, ◌⊎◌, bytes_eq, length, IfOk, IfSome, IsTrue};
 ghost use Rattle.std.proofs.Common.{get_or};
 ghost use Rattle.fz_ast.specs.Names.{text_of};
 ghost use Rattle.fz_ast.specs.TermNodes.{term_at};
@@ -10,7 +10,7 @@ ghost use Rattle.run_values.specs.Founds.{plain_in, plain_of};
 ghost use Rattle.run_values.specs.Parts.{IsBag, IsBangValue, IsClosure, IsNum, IsPair, IsSum, IsTextValue, banged_in, elements, first_in, number_in};
 ghost use Rattle.run_values.specs.Parts.{number_or_none, second_in, side_in, text_in};
 ghost use Rattle.metric_values.specs.Cells.{cell_at, columns_in, from_column, row_at};
-ghost use Rattle.run_values.specs.Views.{IsFunction, IsTextCell, text_bytes, function_of};
+ghost use Rattle.run_values.specs.Views.{IsClosureAt, IsFunction, IsTextCell, text_bytes, function_of};
 
 use crate::look::{Look, Part, look_at_row};
 use crate::plain::{Plain, last_plain, plain_at};
@@ -506,6 +506,18 @@ impl Value {
 }
 
 impl Value {
+    /// The table whose rows this bag is, if they are a table's.
+    pub fn as_table(&self) -> Option<&Rc<Table>>
+        ensures { IfSome result (λ t. self.now ≡ BagV t.now.value) }
+    {
+        match &self.form {
+            Form::Table(rc) => Some(rc),
+            _ => None,
+        }
+    }
+}
+
+impl Value {
     /// The node of a function, and what its names stand for.
     pub fn function(&self) -> &Closure
         requires { IsClosure self.now }
@@ -533,6 +545,16 @@ impl Value {
 }
 
 impl Value {
+    /// The node of a function, and what its names stand for, if this is one.
+    pub(crate) fn as_function(&self) -> Option<&Closure>
+        ensures { IfSome result (λ c. IsClosureAt c.now self.now) }
+    {
+        match &self.form {
+            Form::Fun(rc) => Some(rc),
+            _ => None,
+        }
+    }
+
     /// The outermost form of an element.
     pub fn look(&self) -> Look<'_>
         ensures { look_of result ≡ flat_of self.now }

@@ -50,12 +50,6 @@ use Rattle.session_core.specs.Served.{MeetsOnSome, ShutsFor, IsBorneOutTo}
 use Rattle.session_core.specs.Transcript.{ClosesBy}
 use Rattle.session_core.specs.Said.{NothingFailed}
 
-same_prefix : (s g : List Record) → IsPrefix s g → (after : List Record) → after ≡ g → IsPrefix s after
-same_prefix s g pre after is = subst (IsPrefix s) (sym is) pre
-
-nothing : {X : Type 0} (xs : List X) → xs ≡ [] → length xs ≡ 0
-nothing xs is = ap length is
-
 -- a prefix that is as long is the whole
 pub prefix_whole : {X : Type 0} (xs ys : List X) → IsPrefix xs ys → length ys ≤ length xs → xs ≡ ys
 prefix_whole xs ys f le = none f.0 f.1 (omega (arith, ap length f.1, length-append xs f.0, le))
@@ -77,106 +71,98 @@ exactly_adds owner draws start (asks query) seen reply told after (added, by, to
 exactly_adds owner draws start (recalls analyst number) seen reply told after (said, none, is) = ([], none, is ∙ sym (append-nil seen))
 exactly_adds owner draws start balances seen reply told after (said, none, is) = ([], none, is ∙ sym (append-nil seen))
 
--- a demand that adds nothing: the records known after it, and all that go on from them, bear out its reply
-pub record AddsNone (demand : Demand) (seen : List Record) (reply : Replied) (told : List Told) (after : List Record) : Type 0 where
-  pub begins : IsPrefix seen after
+-- a demand that adds nothing: all records that go on from those known after it bear out its reply
+pub record AddsNone (demand : Demand) (reply : Replied) (told : List Told) (after : List Record) : Type 0 where
   pub none : told ≡ []
   pub borne : (programs : List (List ℕ)) (later : List Record) → IsPrefix after later → IsBorneOutTo programs later demand reply
 
-recalled_on : (start analyst number : ℕ) (reply : Replied) (g after later : List Record) → IsPrefix after later → reply ≡ recall_reply number (recalled_from start g number analyst) → after ≡ g → IsRecallBorneOut later analyst reply
+recalled_on : (start analyst number : ℕ) (reply : Replied) (g after later : List Record) → IsPrefix after later
+    → reply ≡ recall_reply number (recalled_from start g number analyst) → after ≡ g → IsRecallBorneOut later analyst reply
 recalled_on start analyst number reply g after later on said is =
     let here : IsPrefix g later = subst (λ (w : List Record). IsPrefix w later) is on in
     let borne : IsRecallBorneOut g analyst reply = subst (λ (r : Replied). IsRecallBorneOut g analyst r) (sym said) (recall_borne start g number analyst) in
     λ n outcome speaks. settled_for_on g later analyst n outcome here (borne n outcome speaks)
 
 -- Whatever is demanded, it adds nothing or is a query.
-pub met_kind : (owner : Owner) (draws : ℕ → ℕ → ℕ) (start : ℕ) (demand : Demand) (seen : List Record) (reply : Replied) (told : List Told) (after : List Record) → IsMet owner draws start demand seen reply told after
-    → AddsNone demand seen reply told after ⊎ ((query : Query) × (demand ≡ asks query) × IsAsked owner draws start query seen reply told after)
+pub met_kind : (owner : Owner) (draws : ℕ → ℕ → ℕ) (start : ℕ) (demand : Demand) (seen : List Record) (reply : Replied) (told : List Told) (after : List Record)
+    → IsMet owner draws start demand seen reply told after
+    → AddsNone demand reply told after ⊎ ((query : Query) × (demand ≡ asks query) × IsAsked owner draws start query seen reply told after)
 unfolding IsMet IsRecalled IsBalance
 met_kind owner draws start (asks query) seen reply told after met = inr (query, refl, met)
 met_kind owner draws start (recalls analyst number) seen reply told after ((g, pre, said, is), none) =
-    inl (record { begins = same_prefix seen g pre after is; none = none; borne = λ programs later on. recalled_on start analyst number reply g after later on said is })
-met_kind owner draws start balances seen reply told after ((g, pre, said, is), none) = inl (record { begins = same_prefix seen g pre after is; none = none; borne = λ programs later on. tt })
+    inl (record { none = none; borne = λ programs later on. recalled_on start analyst number reply g after later on said is })
+met_kind owner draws start balances seen reply told after ((g, pre, said, is), none) = inl (record { none = none; borne = λ programs later on. tt })
 
-module _ (owner : Owner) (draws : ℕ → ℕ → ℕ) (start : ℕ) (query : Query) (g : List Record) (reply : Replied) (told : List Told) (after : List Record) where
-  asked_grows : (v : Verdict) → IsAskedBy owner draws query v g reply told after → IsPrefix g after
-  asked_grows (program_refused refusal) by = same_prefix g g (prefix_self g) after by.2
-  asked_grows (money_refused refusal) by = same_prefix g g (prefix_self g) after by.2
-  asked_grows (granted asking grant) (inl two) =
-      let more : List Record = granted_record asking grant ∷ [] in
-      let end : List Record = settling grant.number two.outcome ∷ [] in
-      same_prefix g (two.u ++ end) (prefix_trans g (g ++ more) (two.u ++ end) (prefix_by g more) (prefix_trans (g ++ more) two.u (two.u ++ end) two.reserved (prefix_by two.u end))) after two.after_is
-  asked_grows (granted asking grant) (inr (refusal, said, inl none)) = same_prefix g g (prefix_self g) after none.1
-  asked_grows (granted asking grant) (inr (refusal, said, inr one)) = prefix_trans g (g ++ granted_record asking grant ∷ []) after (prefix_by g (granted_record asking grant ∷ [])) one.1
+-- The records known go on, by all that was told at least; where they go on by no more, nothing comes in between.
+pub record Grows (seen : List Record) (told : List Told) (after : List Record) : Type 0 where
+  pub begins : IsPrefix seen after
+  pub least : length seen + length told ≤ length after
+  pub whole : length after ≤ length seen + length told → after ≡ seen ++ records_told told
 
-  -- what is known grows by at least what is told
-  asked_least : (v : Verdict) → IsAskedBy owner draws query v g reply told after → length g + length told ≤ length after
-  asked_least (program_refused refusal) by = omega (arith, nothing told by.1, ap length by.2)
-  asked_least (money_refused refusal) by = omega (arith, nothing told by.1, ap length by.2)
-  asked_least (granted asking grant) (inl two) =
-      omega (arith, ap length two.told_is, ap length two.after_is, length-append two.u (settling grant.number two.outcome ∷ []), prefix_length (g ++ granted_record asking grant ∷ []) two.u two.reserved, length-append g (granted_record asking grant ∷ []))
-  asked_least (granted asking grant) (inr (refusal, said, inl none)) = omega (arith, nothing told none.0, ap length none.1)
-  asked_least (granted asking grant) (inr (refusal, said, inr one)) =
-      omega (arith, ap length one.0, prefix_length (g ++ granted_record asking grant ∷ []) after one.1, length-append g (granted_record asking grant ∷ []))
+grows_none : (seen g : List Record) (told : List Told) (after : List Record) → IsPrefix seen g → told ≡ [] → after ≡ g → Grows seen told after
+grows_none seen g told after pre none is =
+    let begins : IsPrefix seen after = subst (IsPrefix seen) (sym is) pre in
+    record {
+      begins = begins;
+      least = omega (arith, prefix_length seen after begins, ap length none);
+      whole = λ le. sym (prefix_whole seen after begins (omega (arith, le, ap length none))) ∙ sym (ap (λ ts. seen ++ records_told ts) none ∙ append-nil seen);
+    }
 
-  no_more : told ≡ [] → g ≡ g ++ records_told told
-  no_more none = sym (ap (λ ts. g ++ records_told ts) none ∙ append-nil g)
+-- one record, right behind some that begin with those known
+grows_one : (seen g : List Record) (r : Record) (told : List Told) (after : List Record) → IsPrefix seen g → IsPrefix (g ++ r ∷ []) after
+    → told ≡ (length g, r) ∷ [] → Grows seen told after
+grows_one seen g r told after pre on is =
+    let first = prefix_length seen g pre in
+    let second = prefix_length (g ++ r ∷ []) after on in
+    let long = length-append g (r ∷ []) in
+    record {
+      begins = prefix_trans seen g after pre (prefix_trans g (g ++ r ∷ []) after (prefix_by g (r ∷ [])) on);
+      least = omega (arith, ap length is, first, second, long);
+      whole = λ le.
+          let same : seen ≡ g = prefix_whole seen g pre (omega (arith, le, ap length is, second, long)) in
+          let all : g ++ r ∷ [] ≡ after = prefix_whole (g ++ r ∷ []) after on (omega (arith, le, ap length is, first, long)) in
+          sym all ∙ ap (λ w. w ++ r ∷ []) (sym same) ∙ sym (ap (λ ts. seen ++ records_told ts) is);
+    }
 
-  -- where it grows by no more, nothing comes in between
-  asked_whole : (v : Verdict) → IsAskedBy owner draws query v g reply told after → length after ≤ length g + length told → after ≡ g ++ records_told told
-  asked_whole (program_refused refusal) by le = by.2 ∙ no_more by.1
-  asked_whole (money_refused refusal) by le = by.2 ∙ no_more by.1
-  asked_whole (granted asking grant) (inl two) le =
-      let one : List Record = granted_record asking grant ∷ [] in
-      let end : List Record = settling grant.number two.outcome ∷ [] in
-      let whole : g ++ one ≡ two.u = prefix_whole (g ++ one) two.u two.reserved (omega (arith, le, ap length two.told_is, ap length two.after_is, length-append two.u end, length-append g one)) in
-      two.after_is ∙ ap (λ (w : List Record). w ++ end) (sym whole) ∙ append_assoc g one end ∙ sym (ap (λ ts. g ++ records_told ts) two.told_is)
-  asked_whole (granted asking grant) (inr (refusal, said, inl none)) le = none.1 ∙ no_more none.0
-  asked_whole (granted asking grant) (inr (refusal, said, inr one)) le =
-      let more : List Record = granted_record asking grant ∷ [] in
-      let whole : g ++ more ≡ after = prefix_whole (g ++ more) after one.1 (omega (arith, le, ap length one.0, length-append g more)) in
-      sym whole ∙ sym (ap (λ ts. g ++ records_told ts) one.0)
+-- and another, later
+grows_two : (seen mid : List Record) (first : Told) (told : List Told) (after : List Record) → Grows seen (first ∷ []) mid → Grows mid told after → Grows seen (first ∷ told) after
+grows_two seen mid first told after f g = record {
+  begins = prefix_trans seen mid after f.begins g.begins;
+  least = omega (arith, f.least, g.least);
+  whole = λ le. g.whole (omega (arith, le, f.least)) ∙ ap (λ w. w ++ records_told told) (f.whole (omega (arith, le, g.least))) ∙ append_assoc seen (first.1 ∷ []) (records_told told);
+}
 
 module _ (owner : Owner) (draws : ℕ → ℕ → ℕ) (start : ℕ) (seen : List Record) (reply : Replied) (told : List Told) (after : List Record) where
-  query_grows : (query : Query) → IsAsked owner draws start query seen reply told after → IsPrefix seen after
-  unfolding IsAsked
-  query_grows query (g, pre, inl by) = prefix_trans seen g after pre (asked_grows owner draws start query g reply told after by.0 by.2)
-  query_grows query (g, pre, inr lack) = same_prefix seen g pre after lack.2
+  asked_grows : (query : Query) (g : List Record) (v : Verdict) → IsPrefix seen g → IsAskedBy owner draws query v g reply told after → Grows seen told after
+  asked_grows query g (program_refused refusal) pre by = grows_none seen g told after pre by.1 by.2
+  asked_grows query g (money_refused refusal) pre by = grows_none seen g told after pre by.1 by.2
+  asked_grows query g (granted asking grant) pre (inl two) =
+      let end : Record = settling grant.number two.outcome in
+      let reserves : Grows seen ((length g, granted_record asking grant) ∷ []) two.u = grows_one seen g (granted_record asking grant) _ two.u pre two.reserved refl in
+      let settles : Grows two.u ((length two.u, end) ∷ []) after
+      = grows_one two.u two.u end _ after (prefix_self two.u) (subst (IsPrefix (two.u ++ end ∷ [])) (sym two.after_is) (prefix_self (two.u ++ end ∷ []))) refl in
+      subst (λ (ts : List Told). Grows seen ts after) (sym two.told_is) (grows_two seen two.u _ _ after reserves settles)
+  asked_grows query g (granted asking grant) pre (inr (refusal, said, inl none)) = grows_none seen g told after pre none.0 none.1
+  asked_grows query g (granted asking grant) pre (inr (refusal, said, inr one)) = grows_one seen g (granted_record asking grant) told after pre one.1 one.0
 
-  query_least : (query : Query) → IsAsked owner draws start query seen reply told after → length seen + length told ≤ length after
-  unfolding IsAsked
-  query_least query (g, pre, inl by) = omega (arith, prefix_length seen g pre, asked_least owner draws start query g reply told after by.0 by.2)
-  query_least query (g, pre, inr lack) = omega (arith, prefix_length seen g pre, nothing told lack.1, ap length lack.2)
+  -- What is known goes on so with each demand.
+  grows : (demand : Demand) → IsMet owner draws start demand seen reply told after → Grows seen told after
+  unfolding IsMet IsRecalled IsBalance IsAsked
+  grows (asks query) (g, pre, inl (v, is, by)) = asked_grows query g v pre by
+  grows (asks query) (g, pre, inr lack) = grows_none seen g told after pre lack.1 lack.2
+  grows (recalls analyst number) ((g, pre, said, is), none) = grows_none seen g told after pre none is
+  grows balances ((g, pre, said, is), none) = grows_none seen g told after pre none is
 
-  -- What is known goes on with each demand, by all that it was told at least.
   pub met_grows : (demand : Demand) → IsMet owner draws start demand seen reply told after → IsPrefix seen after
-  met_grows demand met = elim (met_kind owner draws start demand seen reply told after met) [ inl none ↦ none.begins | inr asked ↦ query_grows asked.0 asked.2 ]
+  met_grows demand met = (grows demand met).begins
 
   pub met_least : (demand : Demand) → IsMet owner draws start demand seen reply told after → length seen + length told ≤ length after
-  met_least demand met = elim (met_kind owner draws start demand seen reply told after met) [
-    | inl none ↦ omega (arith, prefix_length seen after none.begins, nothing told none.none)
-    | inr asked ↦ query_least asked.0 asked.2
-  ]
-
-  query_whole : (query : Query) → IsAsked owner draws start query seen reply told after → length after ≤ length seen + length told → after ≡ seen ++ records_told told
-  unfolding IsAsked
-  query_whole query (g, pre, inl by) le =
-      let least = asked_least owner draws start query g reply told after by.0 by.2 in
-      let same : seen ≡ g = prefix_whole seen g pre (omega (arith, le, least)) in
-      asked_whole owner draws start query g reply told after by.0 by.2 (omega (arith, le, ap length same)) ∙ ap (λ w. w ++ records_told told) (sym same)
-  query_whole query (g, pre, inr lack) le =
-      let same : seen ≡ g = prefix_whole seen g pre (omega (arith, le, nothing told lack.1, ap length lack.2)) in
-      lack.2 ∙ sym same ∙ sym (ap (λ ts. seen ++ records_told ts) lack.1 ∙ append-nil seen)
+  met_least demand met = (grows demand met).least
 
   -- Where it goes on by no more, it was met on just what was known.
-  pub met_exact : (demand : Demand) → IsMet owner draws start demand seen reply told after → length after ≤ length seen + length told → IsMetExactly owner draws start demand seen reply told after
-  met_exact demand met le = alone_is_met owner draws start demand seen reply told after met (whole (met_kind owner draws start demand seen reply told after met))
-    where
-      whole : AddsNone demand seen reply told after ⊎ ((query : Query) × (demand ≡ asks query) × IsAsked owner draws start query seen reply told after) → after ≡ seen ++ records_told told
-      whole (inl none) =
-          sym (prefix_whole seen after none.begins (omega (arith, le, nothing told none.none)))
-          ∙ sym (ap (λ ts. seen ++ records_told ts) none.none ∙ append-nil seen)
-      whole (inr (query, is, asked)) = query_whole query asked le
+  pub met_exact : (demand : Demand) → IsMet owner draws start demand seen reply told after → length after ≤ length seen + length told
+      → IsMetExactly owner draws start demand seen reply told after
+  met_exact demand met le = alone_is_met owner draws start demand seen reply told after met ((grows demand met).whole le)
 
 -- the line of a demand is told 52
 abbrev pub is_fault : Option (Option ℕ) → Bool
@@ -225,10 +211,7 @@ demand_shuts owner draws (recalls analyst number) reply told before after by = b
 demand_shuts owner draws balances reply told before after by = by
 
 closing_once : (c d : Option Failure) → closing c ≡ closing d → c ≡ d
-closing_once None None is = refl
-closing_once None (Some g) is = absurd (cc (is))
-closing_once (Some f) None is = absurd (cc (is))
-closing_once (Some f) (Some g) is = let same : f ≡ g = cc (is) in ap (λ (h : Failure). Some h) same
+closing_once c d is = grind (arith, is)
 
 -- Where a book is shut by this pass's own appends alone, before a demand and after it, it is shut as the reply says.
 pub demand_closes : OnePassCloses → (owner : Owner) (draws : ℕ → ℕ → ℕ) (start : ℕ) (demand : Demand) (seen after : List Record) (x : Exchange) (before now : Shut) → MeetsOnSome draws start owner demand seen x after

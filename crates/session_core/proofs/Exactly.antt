@@ -3,7 +3,6 @@ use Rattle.std.proofs.Common.{◌≡◌, ℕ, ◌+◌, ◌==◌, Bool, true, fal
 use Rattle.std.specs.Prelude.{MatchBool, if◌then◌else◌}
 use Rattle.std.specs.List.{enumerate_from}
 use Rattle.journal_records.specs.declared.records.Outcome.{Outcome}
-use Rattle.journal_records.specs.declared.records.Outcome.TheVariants.{Answered, Exhausted, Lost}
 use Rattle.journal_records.specs.declared.records.Record.{Record}
 use Rattle.budget_core.specs.declared.entry.Grant.{Grant}
 use Rattle.owner_house.specs.House.{House}
@@ -64,6 +63,4 @@ module _ (house : House) (draws : ℕ → ℕ → ℕ → ℕ) (o start : ℕ) w
 
 -- a grant's reply speaks of its number
 pub outcome_said : (grant : Grant) (outcome : Outcome) → told_settlement (outcome_reply grant outcome) ≡ Some (grant.number, outcome)
-outcome_said grant (Answered value) = refl
-outcome_said grant Exhausted = refl
-outcome_said grant Lost = refl
+outcome_said grant outcome = grind arith

@@ -21,6 +21,7 @@ use Rattle.wire_lines.specs.Reply.{Replied, greeted, answered, ended, refused, r
 use Rattle.wire_lines.specs.Refusal.{by_line, by_money, by_disk, by_number, no_memory}
 use Rattle.wire_lines.specs.declared.refusal.DiskRefusal.TheVariants.{Closed, Fault}
 use Rattle.wire_lines.specs.declared.refusal.LineRefusal.TheVariants.{Malformed, Unknown, NoEpsilon, NoHello}
+use Rattle.wire_lines.specs.declared.refusal.MoneyRefusal.{MoneyRefusal}
 use Rattle.wire_lines.specs.declared.refusal.MoneyRefusal.TheVariants.{OverBudget as NoBudget, JournalFull}
 use Rattle.wire_lines.specs.declared.refusal.NumberRefusal.TheVariants.{Exhausted as NoNoise, Lost as NoAnswer}
 use Rattle.fz_ast.specs.declared.row.Column.TheVariants.{Num}
@@ -274,27 +275,31 @@ refusals draws = record {
 abbrev two_asks : Outcome → Replied → List Exchange
 two_asks outcome reply = quiet None (codes "hello ann") (greeted (codes "ann")) ∷ asked outcome ∷ quiet (Some 0) ask_line reply ∷ []
 
-second_over : (draws : ℕ → ℕ → ℕ → ℕ) → let outcome : Outcome = outcome_of_size 0 draws in
-    LeadExactly (house_of (house 1000000 100 [])) draws 0 0 [] (two_asks outcome (refused (by_money (NoBudget 1000000 2000000 1000000 2)))) (made outcome)
-unfolding meant_by request_of cost_of cost_of_charges partition_cost IsAnswered signature_in rows_in IsMetExactly
-second_over draws =
-    let register = house 1000000 100 [] in
+abbrev IsSecondRefused : (budget capacity : ℕ) → MoneyRefusal → (draws : ℕ → ℕ → ℕ → ℕ) → Type 0
+IsSecondRefused budget capacity refusal draws =
+    let outcome : Outcome = outcome_of_size 0 draws in
+    LeadExactly (house_of (house budget capacity [])) draws 0 0 [] (two_asks outcome (refused (by_money refusal))) (made outcome)
+
+second_refused : (budget capacity : ℕ) (refusal : MoneyRefusal) (draws : ℕ → ℕ → ℕ → ℕ) → let owner : Owner = the_owner (house budget capacity []) in
+    money_verdict owner.entry 0 [] an_ask ≡ Ok a_grant → IsVerdict owner.entry (people ∷ []) 0 (made (outcome_of_size 0 draws)) a_query (money_refused refusal)
+    → IsSecondRefused budget capacity refusal draws
+unfolding meant_by request_of IsAnswered signature_in rows_in IsMetExactly
+second_refused budget capacity refusal draws first second =
     let outcome = outcome_of_size 0 draws in (
       made outcome,
-      (made outcome, inl (grant_answer (the_owner register) (draws 0) [] a_query a_grant 0 size_asked refl no_value), refl, refl),
-      (made outcome, ([], inl (money_refused (NoBudget 1000000 2000000 1000000 2), money_says (the_owner register) 0 (made outcome) a_query 1 1 _ size_asked refl, (refl, refl)), refl, refl), refl),
+      (made outcome, inl (grant_answer (the_owner (house budget capacity [])) (draws 0) [] a_query a_grant 0 size_asked first no_value), refl, refl),
+      (made outcome, ([], inl (money_refused refusal, second, (refl, refl)), refl, refl), refl),
     )
 
-second_full : (draws : ℕ → ℕ → ℕ → ℕ) → let outcome : Outcome = outcome_of_size 0 draws in
-    LeadExactly (house_of (house 10000000 3 [])) draws 0 0 [] (two_asks outcome (refused (by_money (JournalFull 2 0 3)))) (made outcome)
-unfolding meant_by request_of cost_of cost_of_charges partition_cost IsAnswered signature_in rows_in IsMetExactly
+second_over : (draws : ℕ → ℕ → ℕ → ℕ) → IsSecondRefused 1000000 100 (NoBudget 1000000 2000000 1000000 2) draws
+unfolding cost_of cost_of_charges partition_cost signature_in
+second_over draws =
+    second_refused 1000000 100 _ draws refl (money_says (the_owner (house 1000000 100 [])) 0 (made (outcome_of_size 0 draws)) a_query 1 1 _ size_asked refl)
+
+second_full : (draws : ℕ → ℕ → ℕ → ℕ) → IsSecondRefused 10000000 3 (JournalFull 2 0 3) draws
+unfolding cost_of cost_of_charges partition_cost signature_in
 second_full draws =
-    let register = house 10000000 3 [] in
-    let outcome = outcome_of_size 0 draws in (
-      made outcome,
-      (made outcome, inl (grant_answer (the_owner register) (draws 0) [] a_query a_grant 0 size_asked refl no_value), refl, refl),
-      (made outcome, ([], inl (money_refused (JournalFull 2 0 3), money_says (the_owner register) 0 (made outcome) a_query 1 1 _ size_asked refl, (refl, refl)), refl, refl), refl),
-    )
+    second_refused 10000000 3 _ draws refl (money_says (the_owner (house 10000000 3 [])) 0 (made (outcome_of_size 0 draws)) a_query 1 1 _ size_asked refl)
 
 -- what is written, with the noise -1, with none, and on no rows
 abbrev text_of : (size : ℕ) → Option ℤ → List ℕ

@@ -15,7 +15,6 @@ use Rattle.wire_lines.specs.Refusal.{by_line, by_disk, by_number}
 use Rattle.wire_lines.specs.declared.refusal.LineRefusal.TheVariants.{Unknown, NoHello}
 use Rattle.wire_lines.specs.declared.refusal.DiskRefusal.TheVariants.{Closed, Fault}
 use Rattle.wire_lines.specs.declared.refusal.NumberRefusal.TheVariants.{Unknown as NoSuchNumber, NotYours}
-use Rattle.wire_lines.specs.declared.reply.Standing.TheVariants.{Answered as WasAnswered, Open as IsOpen, Lost as WasLost, Exhausted as WasExhausted}
 use Rattle.part_views.specs.Views.{signature_in, rows_in}
 use Rattle.owner_house.specs.Owner.{Owner}
 use Rattle.answer_path.specs.Met.{IsMetExactly}
@@ -61,7 +60,7 @@ unknown_left = refl
 -- ann recalls her number and bob doesn't, nor is there a number 1; a recall adds nothing, and nor does a balance
 abbrev answered_lines : List Exchange
 answered_lines =
-    quiet (Some 0) (codes "recall clinic 0") (recalled 0 (WasAnswered (pos 2)) 2) ∷ quiet (Some 1) (codes "recall clinic 0") (refused (by_number (NotYours 0 2)))
+    quiet (Some 0) (codes "recall clinic 0") (recalled 0 (Some (Answered (pos 2))) 2) ∷ quiet (Some 1) (codes "recall clinic 0") (refused (by_number (NotYours 0 2)))
     ∷ quiet (Some 0) (codes "recall clinic 1") (refused (by_number (NoSuchNumber 1 2))) ∷ quiet None (codes "left clinic") (remaining 1000000 10000000 2) ∷ []
 
 answered_leads : (draws : ℕ → ℕ → ℕ → ℕ) → LeadExactly (house_of three_rows) draws 0 0 (made (Answered (pos 2))) answered_lines (made (Answered (pos 2)))
@@ -82,11 +81,11 @@ unfolding reply_text digits
 answered_text = refl
 
 -- another value isn't recalled, nor is bob told ann's
-not_another_value : (draws : ℕ → ℕ → ℕ → ℕ) (last : List Record) → LeadExactly (house_of three_rows) draws 0 0 (made (Answered (pos 2))) (quiet (Some 0) (codes "recall clinic 0") (recalled 0 (WasAnswered (pos 3)) 2) ∷ []) last → ⊥
+not_another_value : (draws : ℕ → ℕ → ℕ → ℕ) (last : List Record) → LeadExactly (house_of three_rows) draws 0 0 (made (Answered (pos 2))) (quiet (Some 0) (codes "recall clinic 0") (recalled 0 (Some (Answered (pos 3))) 2) ∷ []) last → ⊥
 unfolding meant_by request_of IsMetExactly
 not_another_value draws last (after, (said, told, is), ends) = cc (said)
 
-not_to_bob : (draws : ℕ → ℕ → ℕ → ℕ) (last : List Record) → LeadExactly (house_of three_rows) draws 0 0 (made (Answered (pos 2))) (quiet (Some 1) (codes "recall clinic 0") (recalled 0 (WasAnswered (pos 2)) 2) ∷ []) last → ⊥
+not_to_bob : (draws : ℕ → ℕ → ℕ → ℕ) (last : List Record) → LeadExactly (house_of three_rows) draws 0 0 (made (Answered (pos 2))) (quiet (Some 1) (codes "recall clinic 0") (recalled 0 (Some (Answered (pos 2))) 2) ∷ []) last → ⊥
 unfolding meant_by request_of IsMetExactly
 not_to_bob draws last (after, (said, told, is), ends) = cc (said)
 
@@ -101,7 +100,7 @@ unsettled = record { turn = turn (Some 0) ask_line; reply = refused (by_disk Fau
 -- from then on a query that would be granted is refused; what was reserved may still be recalled, and counted
 abbrev closed_lines : List Exchange
 closed_lines =
-    unsettled ∷ quiet (Some 0) ask_line (refused (by_disk (Closed 3))) ∷ quiet (Some 0) (codes "recall clinic 0") (recalled 0 IsOpen 1)
+    unsettled ∷ quiet (Some 0) ask_line (refused (by_disk (Closed 3))) ∷ quiet (Some 0) (codes "recall clinic 0") (recalled 0 None 1)
     ∷ quiet None (codes "left clinic") (remaining 1000000 10000000 1) ∷ []
 
 closed_leads : (draws : ℕ → ℕ → ℕ → ℕ) → LeadExactly (house_of three_rows) draws 0 0 [] closed_lines opened
@@ -151,7 +150,7 @@ not_answered_closed : (draws : ℕ → ℕ → ℕ) (outcome : Outcome) (after :
 not_answered_closed draws outcome after (was, still) = cc (was)
 
 -- a recall and a balance close nothing
-not_closed_by_recall : (draws : ℕ → ℕ → ℕ) (outcome : Outcome) → ClosesBy draws clinic (recalls 0 0) None (quiet (Some 0) (codes "recall clinic 0") (recalled 0 IsOpen 1)) (Some (failure outcome)) → ⊥
+not_closed_by_recall : (draws : ℕ → ℕ → ℕ) (outcome : Outcome) → ClosesBy draws clinic (recalls 0 0) None (quiet (Some 0) (codes "recall clinic 0") (recalled 0 None 1)) (Some (failure outcome)) → ⊥
 not_closed_by_recall draws outcome is = cc (is)
 
 -- The same where other lines may come between: the 52 is this worker's own failure, which the 42 behind it has seen.
@@ -198,19 +197,19 @@ left_open : LeavesOpen 0 unsettled
 left_open = (Fault, 0, _, refl, refl, refl)
 
 -- in a later run what was left open is lost
-lost_later : (draws : ℕ → ℕ → ℕ → ℕ) → LeadExactly (house_of three_rows) draws 0 1 opened (quiet (Some 0) (codes "recall clinic 0") (recalled 0 WasLost 1) ∷ []) opened
+lost_later : (draws : ℕ → ℕ → ℕ → ℕ) → LeadExactly (house_of three_rows) draws 0 1 opened (quiet (Some 0) (codes "recall clinic 0") (recalled 0 (Some Lost) 1) ∷ []) opened
 unfolding meant_by request_of IsMetExactly
 lost_later draws = (opened, (refl, refl, refl), refl)
 
-not_open_later : (draws : ℕ → ℕ → ℕ → ℕ) (last : List Record) → LeadExactly (house_of three_rows) draws 0 1 opened (quiet (Some 0) (codes "recall clinic 0") (recalled 0 IsOpen 1) ∷ []) last → ⊥
+not_open_later : (draws : ℕ → ℕ → ℕ → ℕ) (last : List Record) → LeadExactly (house_of three_rows) draws 0 1 opened (quiet (Some 0) (codes "recall clinic 0") (recalled 0 None 1) ∷ []) last → ⊥
 unfolding meant_by request_of IsMetExactly
 not_open_later draws last (after, (said, told, is), ends) = cc (said)
 
 -- exhausted and lost numbers are told as what they are
-exhausted_told : (draws : ℕ → ℕ → ℕ → ℕ) → LeadExactly (house_of three_rows) draws 0 0 (made Exhausted) (quiet (Some 0) (codes "recall clinic 0") (recalled 0 WasExhausted 2) ∷ []) (made Exhausted)
+exhausted_told : (draws : ℕ → ℕ → ℕ → ℕ) → LeadExactly (house_of three_rows) draws 0 0 (made Exhausted) (quiet (Some 0) (codes "recall clinic 0") (recalled 0 (Some Exhausted) 2) ∷ []) (made Exhausted)
 unfolding meant_by request_of IsMetExactly
 exhausted_told draws = (made Exhausted, (refl, refl, refl), refl)
 
-lost_told : (draws : ℕ → ℕ → ℕ → ℕ) → LeadExactly (house_of three_rows) draws 0 0 (made Lost) (quiet (Some 0) (codes "recall clinic 0") (recalled 0 WasLost 2) ∷ []) (made Lost)
+lost_told : (draws : ℕ → ℕ → ℕ → ℕ) → LeadExactly (house_of three_rows) draws 0 0 (made Lost) (quiet (Some 0) (codes "recall clinic 0") (recalled 0 (Some Lost) 2) ∷ []) (made Lost)
 unfolding meant_by request_of IsMetExactly
 lost_told draws = (made Lost, (refl, refl, refl), refl)

@@ -153,10 +153,6 @@ second_named = refl
 third_of_none : owner_named (house_of two_owners) (codes "shop") ≡ None
 third_of_none = refl
 
--- ann asks the clinic, the school, and each once more
-abbrev script : List ℕ
-script = codes "hello ann\nask clinic 1 size people\nask school 1 size people\nask clinic 1 size people\nask school 1 size people\n"
-
 abbrev ask_clinic : List ℕ
 ask_clinic = codes "ask clinic 1 size people"
 
@@ -166,6 +162,10 @@ ask_school = codes "ask school 1 size people"
 -- the second grant of the school: the next number, at the same cost
 abbrev next_grant : Grant
 next_grant = record { number = 1; taken = 1000000; seen = 3 }
+
+-- ann asks the clinic, the school, and each once more
+abbrev script : List ℕ
+script = codes "hello ann\nask clinic 1 size people\nask school 1 size people\nask clinic 1 size people\nask school 1 size people\n"
 
 -- what each is answered, where the noise of its numbers is this
 abbrev of_clinic : Option ℤ → Outcome

@@ -18,6 +18,7 @@ use Rattle.wire_lines.specs.Lines.{lines_of}
 use Rattle.wire_lines.specs.Request.{request_of}
 use Rattle.wire_lines.specs.Reply.{Replied, greeted, refused, reply_text}
 use Rattle.wire_lines.specs.Refusal.{by_line, by_money}
+use Rattle.wire_lines.specs.declared.refusal.LineRefusal.{LineRefusal}
 use Rattle.wire_lines.specs.declared.refusal.LineRefusal.TheVariants.{Malformed, Unknown, NoEpsilon, NoHello}
 use Rattle.wire_lines.specs.declared.refusal.MoneyRefusal.TheVariants.{OverBudget as NoBudget}
 use Rattle.metric_values.specs.Values.{Flat, NumF, TextF, PairF}
@@ -101,61 +102,36 @@ the_whole : meant_by (house_of two_owners) (Some 0) (codes "ask clinic 1 size pe
 unfolding meant_by request_of
 the_whole = refl
 
--- The first unknown word is refused, whatever else is wrong behind it: the owner ..
-unknown_owner : meant_by (house_of two_owners) None (codes "askpart nobody nowhere Z 0 x") ≡ says (refused (by_line (Unknown 1))) None
-unfolding meant_by request_of
-unknown_owner = refl
+abbrev IsRefused : (who : Option ℕ) → (line : List ℕ) → LineRefusal → Type 0
+IsRefused who line refusal = meant_by (house_of two_owners) who line ≡ says (refused (by_line refusal)) who
 
--- .. the partition ..
-unknown_partition : meant_by (house_of two_owners) None (codes "askpart clinic nowhere Z 0 x") ≡ says (refused (by_line (Unknown 2))) None
+-- The first unknown word is refused, whatever else is wrong behind it: the owner, or the partition, also one of another owner, or one that is
+-- written otherwise.
+unknown_partitions :
+    IsRefused None (codes "askpart nobody nowhere Z 0 x") (Unknown 1)
+    × IsRefused None (codes "askpart clinic nowhere Z 0 x") (Unknown 2)
+    × IsRefused (Some 1) (codes "askpart school area A 1 size people") (Unknown 2)
+    × IsRefused (Some 1) (codes "askpart clinic Area A 1 size people") (Unknown 2)
 unfolding meant_by request_of
-unknown_partition = refl
+unknown_partitions = (refl, refl, refl, refl)
 
--- .. also one of another owner ..
-partition_of_another : meant_by (house_of two_owners) (Some 1) (codes "askpart school area A 1 size people") ≡ says (refused (by_line (Unknown 2))) (Some 1)
+-- .. and the key, also one of another partition, or a text of the column that is no key.
+unknown_keys :
+    IsRefused None (codes "askpart clinic area Z 0 x") (Unknown 3)
+    × IsRefused (Some 0) (codes "askpart clinic area C 1 size people") (Unknown 3)
+    × IsRefused (Some 0) (codes "askpart clinic coast A 1 size people") (Unknown 3)
+    × IsRefused (Some 0) (codes "askpart clinic area D 1 size people") (Unknown 3)
 unfolding meant_by request_of
-partition_of_another = refl
+unknown_keys = (refl, refl, refl, refl)
 
--- .. or one that is written otherwise ..
-partition_in_capitals : meant_by (house_of two_owners) (Some 1) (codes "askpart clinic Area A 1 size people") ≡ says (refused (by_line (Unknown 2))) (Some 1)
+-- Then comes the epsilon, and the hello last. A word that is missing comes before all names.
+other_refusals :
+    IsRefused None (codes "askpart clinic area A 0 x") NoEpsilon
+    × IsRefused None (codes "askpart clinic area A 1 x") NoHello
+    × IsRefused (Some 0) (codes "askpart nobody area A 1") (Malformed 5)
+    × IsRefused (Some 0) (codes "askpart clinic area A") (Malformed 4)
 unfolding meant_by request_of
-partition_in_capitals = refl
-
--- .. and the key ..
-unknown_key : meant_by (house_of two_owners) None (codes "askpart clinic area Z 0 x") ≡ says (refused (by_line (Unknown 3))) None
-unfolding meant_by request_of
-unknown_key = refl
-
--- .. also one of another partition, or a text of the column that is no key.
-key_of_another : meant_by (house_of two_owners) (Some 0) (codes "askpart clinic area C 1 size people") ≡ says (refused (by_line (Unknown 3))) (Some 0)
-unfolding meant_by request_of
-key_of_another = refl
-
-key_of_the_first : meant_by (house_of two_owners) (Some 0) (codes "askpart clinic coast A 1 size people") ≡ says (refused (by_line (Unknown 3))) (Some 0)
-unfolding meant_by request_of
-key_of_the_first = refl
-
-text_that_is_no_key : meant_by (house_of two_owners) (Some 0) (codes "askpart clinic area D 1 size people") ≡ says (refused (by_line (Unknown 3))) (Some 0)
-unfolding meant_by request_of
-text_that_is_no_key = refl
-
--- Then comes the epsilon, and the hello last.
-bad_epsilon : meant_by (house_of two_owners) None (codes "askpart clinic area A 0 x") ≡ says (refused (by_line NoEpsilon)) None
-unfolding meant_by request_of
-bad_epsilon = refl
-
-no_hello : meant_by (house_of two_owners) None (codes "askpart clinic area A 1 x") ≡ says (refused (by_line NoHello)) None
-unfolding meant_by request_of
-no_hello = refl
-
--- A word that is missing comes before all names.
-no_program : meant_by (house_of two_owners) (Some 0) (codes "askpart nobody area A 1") ≡ says (refused (by_line (Malformed 5))) (Some 0)
-unfolding meant_by request_of
-no_program = refl
-
-no_epsilon_word : meant_by (house_of two_owners) (Some 0) (codes "askpart clinic area A") ≡ says (refused (by_line (Malformed 4))) (Some 0)
-unfolding meant_by request_of
-no_epsilon_word = refl
+other_refusals = (refl, refl, refl, refl)
 
 -- such a line asks for its program, and for no other
 asks_it : IsAskFor (codes "askpart clinic area A 1 size people") size_people
@@ -170,9 +146,6 @@ ask_a = codes "askpart clinic area A 0.000006 size people"
 abbrev ask_b : List ℕ
 ask_b = codes "askpart clinic area B 0.000006 size people"
 
-abbrev ask_more : List ℕ
-ask_more = codes "askpart clinic area A 0.000004 size people"
-
 abbrev ask_all : List ℕ
 ask_all = codes "ask clinic 0.000001 size people"
 
@@ -182,6 +155,9 @@ script = codes "hello ann\naskpart clinic area A 0.000006 size people\naskpart c
 -- The second part costs nothing more than the first, since no row is in both; the first again costs what it is dearer by.
 abbrev first_grant : Grant
 first_grant = record { number = 0; taken = 6; seen = 1 }
+
+abbrev ask_more : List ℕ
+ask_more = codes "askpart clinic area A 0.000004 size people"
 
 abbrev second_grant : Grant
 second_grant = record { number = 1; taken = 0; seen = 3 }

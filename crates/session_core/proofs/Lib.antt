@@ -5,12 +5,10 @@ pub mod Wants
 pub mod Demands
 pub mod Exactly
 pub mod OneTranscript
-pub mod Plain
 pub mod Turning
 pub mod Short
 pub mod Serving
 pub mod Others
-pub mod Orders
 pub mod Examples
 pub mod ExamplesOfOwners
 mod ExamplesOfFaults

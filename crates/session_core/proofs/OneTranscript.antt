@@ -7,13 +7,12 @@ use Rattle.wire_lines.specs.Reply.{Replied}
 use Rattle.owner_house.specs.Owner.{Owner}
 use Rattle.owner_house.specs.House.{House}
 use Rattle.session_core.specs.Meant.{Meant, says, wants}
-use Rattle.session_core.specs.Turns.{Turn, meant_at}
+use Rattle.session_core.specs.Turns.{meant_at}
 use Rattle.session_core.specs.Exchanges.{Exchange, IsPlain, ArePlain, TurnLeads}
 use Rattle.session_core.specs.Transcript.{Journals, first_new, MeetsExactly, LeadExactly, IsScriptRun}
 use Rattle.session_core.specs.Said.{NothingFailed}
 use Rattle.session_core.proofs.Demands.{met_once}
 use Rattle.session_core.proofs.Wants.{AsksOnly, asks_only}
-use Rattle.session_core.proofs.Turns.{AreKnown, turns_known}
 
 -- what two runs of one owner's part come from
 record AreBoth (house : House) (draws : ℕ → ℕ → ℕ → ℕ) (o start : ℕ) (xs ys : List Exchange) (last end : List Record) : Type 0 where
@@ -45,10 +44,11 @@ module _ (house : House) (draws : ℕ → ℕ → ℕ → ℕ) (start : ℕ → 
           record { seen = f.0; first = f.2; second = subst (λ (s : List Record). LeadExactly house draws o (start o) s ys (end o)) (sym same.1) g.2 }
 
   -- a turn has one reply
-  turn_reply : (m : Meant) (line : List ℕ) (x y : Exchange) (xs ys : List Exchange) → AsksOnly house line m → NothingFailed x.reply → NothingFailed y.reply → IsPlain m x → IsPlain m y
+  turn_reply : (m : Meant) (x y : Exchange) (xs ys : List Exchange) → AsksOnly house x.turn.who x.turn.line m → NothingFailed x.reply → NothingFailed y.reply
+      → IsPlain m x → IsPlain m y
       → ((o : ℕ) (owner : Owner) → slice_get house.owners o ≡ Some owner → BothTurns m o x y xs ys) → x.reply ≡ y.reply
-  turn_reply (says reply next) line x y xs ys only had has f g both = f.0 ∙ sym g.0
-  turn_reply (wants n owner demand) line x y xs ys only had has f g both =
+  turn_reply (says reply next) x y xs ys only had has f g both = f.0 ∙ sym g.0
+  turn_reply (wants n owner demand) x y xs ys only had has f g both =
       let b = both n owner only.0 in here (n == n) (eq-eqb n n refl) b.seen b.first b.second
     where
       here : (hit : Bool) → hit ≡ true → (seen : List Record)
@@ -61,12 +61,13 @@ module _ (house : House) (draws : ℕ → ℕ → ℕ → ℕ) (start : ℕ → 
   abbrev AllHad : List Exchange → Type 0
   AllHad xs = AllByRecursion NothingFailed (map (λ (x : Exchange). x.reply) xs)
 
-  turns_once : (xs ys : List Exchange) → AreKnown house (map (λ (x : Exchange). x.turn) xs) → map (λ (x : Exchange). x.turn) xs ≡ map (λ (y : Exchange). y.turn) ys → ArePlain house xs → ArePlain house ys → AllHad xs → AllHad ys
+  turns_once : (xs ys : List Exchange) → map (λ (x : Exchange). x.turn) xs ≡ map (λ (y : Exchange). y.turn) ys → ArePlain house xs → ArePlain house ys
+      → AllHad xs → AllHad ys
       → Both xs ys → (map (λ (x : Exchange). x.reply) xs ≡ map (λ (y : Exchange). y.reply) ys) × ((o : ℕ) (owner : Owner) → slice_get house.owners o ≡ Some owner → last o ≡ end o)
-  turns_once [] [] known turns f g had has both = (refl, λ o owner at. let b = both o owner at in b.first ∙ sym b.second)
-  turns_once [] (y ∷ ys) known turns f g had has both = absurd (cc (turns))
-  turns_once (x ∷ xs) [] known turns f g had has both = absurd (cc (turns))
-  turns_once (x ∷ xs) (y ∷ ys) known turns f g had has both =
+  turns_once [] [] turns f g had has both = (refl, λ o owner at. let b = both o owner at in b.first ∙ sym b.second)
+  turns_once [] (y ∷ ys) turns f g had has both = absurd (cc (turns))
+  turns_once (x ∷ xs) [] turns f g had has both = absurd (cc (turns))
+  turns_once (x ∷ xs) (y ∷ ys) turns f g had has both =
       let same : x.turn ≡ y.turn = cc in
       let rest : map (λ (x : Exchange). x.turn) xs ≡ map (λ (y : Exchange). y.turn) ys = cc in
       let m : Meant = meant_at house x.turn in
@@ -77,8 +78,9 @@ module _ (house : House) (draws : ℕ → ℕ → ℕ → ℕ) (start : ℕ → 
         first = b.first;
         second = subst (λ (k : Meant). TurnLeads house o (MeetsExactly (draws o) (start o)) k b.seen y (λ after. LeadExactly house draws o (start o) after ys (end o))) is b.second;
       } in
-      let reply : x.reply ≡ y.reply = turn_reply m x.turn.line x y xs ys (asks_only house x.turn.line x.turn.who known.0) had.0 has.0 f.0 (subst (λ (k : Meant). IsPlain k y) is g.0) each in
-      let more = turns_once xs ys known.1 rest f.1 g.1 had.1 has.1 (λ o owner at. turn_both m o x y xs ys had.0 has.0 (each o owner at)) in
+      let reply : x.reply ≡ y.reply = turn_reply m x y xs ys (asks_only house x.turn.who x.turn.line) had.0 has.0 f.0
+      (subst (λ (k : Meant). IsPlain k y) is g.0) each in
+      let more = turns_once xs ys rest f.1 g.1 had.1 has.1 (λ o owner at. turn_both m o x y xs ys had.0 has.0 (each o owner at)) in
       (cc (reply, more.0), more.1)
 
 -- Replies to a script in which nothing failed are the same, and so are each owner's records after it.
@@ -86,8 +88,7 @@ pub runs_once : (house : House) (draws : ℕ → ℕ → ℕ → ℕ) (found : J
     → IsScriptRun house draws found script replies last → IsScriptRun house draws found script others end → AllByRecursion NothingFailed replies → AllByRecursion NothingFailed others
     → (replies ≡ others) × ((o : ℕ) (owner : Owner) → slice_get house.owners o ≡ Some owner → last o ≡ end o)
 runs_once house draws found script replies others last end f g had has =
-    let known : AreKnown house (map (λ (x : Exchange). x.turn) f.exchanges) = subst (λ (ts : List Turn). AreKnown house ts) (sym f.turns) (turns_known house script) in
-    let same = turns_once house draws (λ o. first_new (found o)) last end f.exchanges g.exchanges known (f.turns ∙ sym g.turns) f.plain g.plain
+    let same = turns_once house draws (λ o. first_new (found o)) last end f.exchanges g.exchanges (f.turns ∙ sym g.turns) f.plain g.plain
     (subst (λ (rs : List Replied). AllByRecursion NothingFailed rs) (sym f.replied) had) (subst (λ (rs : List Replied). AllByRecursion NothingFailed rs) (sym g.replied) has)
     (λ o owner at. record { seen = found o; first = f.owners o owner at; second = g.owners o owner at }) in
     (sym f.replied ∙ same.0 ∙ g.replied, same.1)

@@ -1,18 +1,14 @@
 -- the turns of a script: whose lines they are, and who may speak
-use Rattle.std.proofs.Common.{◌≡◌, ℕ, Bool, true, false, cond, List, [], ◌∷◌, ◌++◌, map, Option, Some, None, refl, ◌∙◌, ap, bytes_eq}
+use Rattle.std.proofs.Common.{◌≡◌, ℕ, Bool, true, false, cond, List, [], ◌∷◌, ◌++◌, map, Option, None, refl, ◌∙◌, ap}
 use Rattle.std.specs.List.{flat_map, onto_first, AllByRecursion}
-use Rattle.std.specs.Prelude.{Result, Ok, Err}
 use Rattle.std.proofs.lemmas.List.{map-append}
-use Rattle.std.proofs.lemmas.List.Quantifiers.{position-Some}
 use Rattle.wire_lines.specs.Lines.{lines_of}
-use Rattle.wire_lines.specs.Request.{Asked, hello, ask, askpart, recall, left, bye, request_of}
-use Rattle.wire_lines.specs.declared.refusal.LineRefusal.{LineRefusal}
-use Rattle.owner_house.specs.Owner.{Owner}
-use Rattle.owner_house.specs.House.{House, analyst_named, owner_named}
-use Rattle.session_core.specs.Meant.{Subject, whole_named, part_named, meant_by, meant_by_request, meant_by_hello, meant_by_ask, meant_by_recall, meant_by_left, next_who}
+use Rattle.owner_house.specs.House.{House}
+use Rattle.session_core.specs.Meant.{meant_by, next_who}
 use Rattle.session_core.specs.Turns.{Turn, session_turns, blocks_of, turns_of, is_bye}
 use Rattle.session_core.specs.Code.{IsAnalyst}
 use Rattle.session_core.proofs.Exchanges.{all_append}
+use Rattle.session_core.proofs.Wants.{line_cases}
 
 -- the lines of a session's turns
 session_lines : (house : House) (who : Option ℕ) (lines : List (List ℕ)) → map (λ (t : Turn). t.line) (session_turns house who lines) ≡ lines
@@ -46,40 +42,13 @@ blocks_lines house (block ∷ blocks) =
 pub turns_lines : (house : House) (script : List ℕ) → map (λ (t : Turn). t.line) (turns_of house script) ≡ lines_of script
 turns_lines house script = blocks_lines house (blocks_of (lines_of script)) ∙ block_lines (lines_of script)
 
-greeted_known : (house : House) (who : Option ℕ) (name : List ℕ) (found : Option ℕ) → analyst_named house name ≡ found → IsAnalyst house who
-    → IsAnalyst house (next_who who (meant_by_hello house who name found))
-greeted_known house who name None at known = known
-greeted_known house who name (Some analyst) at known = (position-Some (λ a. bytes_eq name a) house.analysts analyst [] at).0
-
-ask_known : (house : House) (who : Option ℕ) (subject : Result Subject LineRefusal) (epsilon : Option ℕ) (program : List ℕ) → IsAnalyst house who
-    → IsAnalyst house (next_who who (meant_by_ask who subject epsilon program))
-ask_known house who (Err refusal) epsilon program known = known
-ask_known house who (Ok subject) None program known = known
-ask_known house None (Ok subject) (Some e) program known = known
-ask_known house (Some analyst) (Ok subject) (Some e) program known = known
-
-recall_known : (house : House) (who : Option ℕ) (found : Option (ℕ × Owner)) (number : ℕ) → IsAnalyst house who → IsAnalyst house (next_who who (meant_by_recall who found number))
-recall_known house who None number known = known
-recall_known house None (Some found) number known = known
-recall_known house (Some analyst) (Some found) number known = known
-
-left_known : (house : House) (who : Option ℕ) (found : Option (ℕ × Owner)) → IsAnalyst house who → IsAnalyst house (next_who who (meant_by_left who found))
-left_known house who None known = known
-left_known house who (Some found) known = known
-
-request_known : (house : House) (who : Option ℕ) (request : Result Asked LineRefusal) → IsAnalyst house who
-    → IsAnalyst house (next_who who (meant_by_request house who request))
-request_known house who (Err refusal) known = known
-request_known house who (Ok (hello name)) known = greeted_known house who name (analyst_named house name) refl known
-request_known house who (Ok (ask name epsilon program)) known = ask_known house who (whole_named house name) epsilon program known
-request_known house who (Ok (askpart name partition key epsilon program)) known = ask_known house who (part_named house name partition key) epsilon program known
-request_known house who (Ok (recall name number)) known = recall_known house who (owner_named house name) number known
-request_known house who (Ok (left name)) known = left_known house who (owner_named house name) known
-request_known house who (Ok bye) known = known
-
-pub next_known : (house : House) (who : Option ℕ) (line : List ℕ) → IsAnalyst house who → IsAnalyst house (next_who who (meant_by house who line))
-unfolding meant_by
-next_known house who line known = request_known house who (request_of line) known
+next_known : (house : House) (who : Option ℕ) (line : List ℕ) → IsAnalyst house who → IsAnalyst house (next_who who (meant_by house who line))
+next_known house who line known = line_cases house line (λ m. IsAnalyst house (next_who who m)) who (record {
+  refuses = λ refusal other. known;
+  ends = λ end. known;
+  greets = λ name analyst within other. within;
+  demands = λ n owner demand of other. known;
+})
 
 abbrev pub AreKnown : House → List Turn → Type 0
 AreKnown house turns = AllByRecursion (λ (t : Turn). IsAnalyst house t.who) turns

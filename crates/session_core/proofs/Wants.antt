@@ -1,18 +1,23 @@
--- what a line that asks comes to
-use Rattle.std.proofs.Common.{◌≡◌, ℕ, ◌<◌, List, length, slice_get, Option, Some, None, refl, sym, ◌∙◌, ap, subst, arith}
+-- what a line comes to, case by case
+use Rattle.std.proofs.Common.{◌≡◌, ℕ, ◌<◌, true, false, List, [], length, slice_get, Option, Some, None, refl, sym, ◌∙◌, ap, subst, arith, bytes_eq}
+use Rattle.std.proofs.lemmas.List.Quantifiers.{position-Some}
 use Rattle.std.specs.Prelude.{Result, Ok, Err, ⊤}
 use mathlib.Core.Logic.{inl, inr}
 use Rattle.budget_core.specs.Entries.{IsEpsilon}
 use Rattle.wire_lines.proofs.Requests.{grammar_from}
 use Rattle.wire_lines.specs.Request.{Asked, hello, ask, askpart, recall, left, bye, request_of}
 use Rattle.wire_lines.specs.declared.refusal.LineRefusal.{LineRefusal}
+use Rattle.wire_lines.specs.declared.refusal.LineRefusal.TheVariants.{Unknown, NoEpsilon, NoHello}
+use Rattle.wire_lines.specs.Reply.{greeted, ended, refused}
+use Rattle.wire_lines.specs.Refusal.{by_line}
 use Rattle.part_views.specs.Partitions.{HasPart}
 use Rattle.owner_house.specs.Owner.{Owner}
 use Rattle.answer_path.specs.Query.{Query}
-use Rattle.answer_path.specs.Demand.{Demand, asks}
+use Rattle.answer_path.specs.Demand.{Demand, asks, recalls, balances}
 use Rattle.answer_path.specs.Code.{IsQueryOf}
 use Rattle.owner_house.specs.House.{House, IsOwnerIn, analyst_named, owner_named}
 use Rattle.session_core.specs.Meant.{Meant, Subject, says, wants, whole_named, part_named, meant_by, meant_by_request, meant_by_hello, meant_by_ask, meant_by_recall, meant_by_left}
+use Rattle.session_core.specs.Turns.{is_bye, is_bye_request}
 use Rattle.session_core.specs.Served.{IsAskFor}
 use Rattle.session_core.specs.Code.{IsAnalyst}
 use Rattle.session_core.proofs.Subjects.{IsSubjectOf, whole_stands, part_stands}
@@ -27,11 +32,11 @@ pub record IsAskOf (house : House) (line : List ℕ) (n : ℕ) (owner : Owner) (
   pub epsilon : IsEpsilon query.e
   pub written : IsAskFor line query.program
 
--- whatever is demanded, it is of one of the house's owners, and a query is such a one
-abbrev pub AsksOnly : House → List ℕ → Meant → Type 0
-AsksOnly house line (says reply next) = ⊤
-AsksOnly house line (wants n owner demand) =
-    (slice_get house.owners n ≡ Some owner) × ((query : Query) → demand ≡ asks query → IsAskOf house line n owner query)
+-- whatever is demanded, it is of one of the house's owners, and where who speaks is an analyst of the house a query is such a one
+abbrev pub AsksOnly : House → Option ℕ → List ℕ → Meant → Type 0
+AsksOnly house who line (says reply next) = ⊤
+AsksOnly house who line (wants n owner demand) =
+    (slice_get house.owners n ≡ Some owner) × (IsAnalyst house who → (query : Query) → demand ≡ asks query → IsAskOf house line n owner query)
 
 -- an epsilon that a line writes is in its range
 asked_in_range : (line name program : List ℕ) (e : ℕ) → request_of line ≡ Ok (ask name (Some e) program) → IsEpsilon e
@@ -44,96 +49,80 @@ part_in_range line name partition key program e reads =
     let written = (grammar_from line (askpart name partition key (Some e) program) reads).1.5 in
     record { least = omega (arith, written.5); most = omega (arith, written.6) }
 
--- a query, by what it looks at and what the line writes
-asked_only : (house : House) (line : List ℕ) (who : Option ℕ) (subject : Result Subject LineRefusal) (epsilon : Option ℕ) (program : List ℕ)
-    → IsAnalyst house who → ((s : Subject) → subject ≡ Ok s → IsSubjectOf house s) → ((e : ℕ) → epsilon ≡ Some e → IsEpsilon e × IsAskFor line program)
-    → AsksOnly house line (meant_by_ask who subject epsilon program)
-asked_only house line who (Err refusal) epsilon program known there written = tt
-asked_only house line who (Ok subject) None program known there written = tt
-asked_only house line None (Ok subject) (Some e) program known there written = tt
-asked_only house line (Some analyst) (Ok subject) (Some e) program known there written =
-    let of = there subject refl in
-    let writes = written e refl in
-    let made : Query = record { analyst = analyst; view = subject.view; e = e; program = program } in
-    let of_made : IsAskOf house line subject.number subject.owner made = record { stands = of.stands; part = of.part; analyst = known; epsilon = writes.0; written = writes.1 } in
-    (of.stands, λ query is. let same : made ≡ query = cc (is) in subst (λ (q : Query). IsAskOf house line subject.number subject.owner q) same of_made)
+-- What there is to be shown of what a line comes to: it is refused by itself, ends its session, greets an analyst of the house, or makes
+-- a demand of an owner.
+pub record LineCases (house : House) (who : Option ℕ) (line : List ℕ) (P : Meant → Type 0) : Type 0 where
+  pub refuses : (refusal : LineRefusal) → is_bye line ≡ false → P (says (refused (by_line refusal)) who)
+  pub ends : is_bye line ≡ true → P (says ended who)
+  pub greets : (name : List ℕ) (analyst : ℕ) → analyst < length house.analysts → is_bye line ≡ false → P (says (greeted name) (Some analyst))
+  pub demands : (n : ℕ) (owner : Owner) (demand : Demand) → AsksOnly house who line (wants n owner demand) → is_bye line ≡ false → P (wants n owner demand)
 
-recalled_only : (house : House) (line : List ℕ) (who : Option ℕ) (name : List ℕ) (found : Option (ℕ × Owner)) (number : ℕ) → owner_named house name ≡ found → AsksOnly house line (meant_by_recall who found number)
-recalled_only house line who name None number named = tt
-recalled_only house line None name (Some found) number named = tt
-recalled_only house line (Some analyst) name (Some found) number named = (owner_stands house name found named, λ query is. absurd (cc (is)))
+module _ (house : House) (line : List ℕ) (P : Meant → Type 0) where
+  abbrev Cases : Option ℕ → Type 0
+  Cases who = LineCases house who line P
 
-left_only : (house : House) (line : List ℕ) (who : Option ℕ) (name : List ℕ) (found : Option (ℕ × Owner)) → owner_named house name ≡ found → AsksOnly house line (meant_by_left who found)
-left_only house line who name None named = tt
-left_only house line who name (Some found) named = (owner_stands house name found named, λ query is. absurd (cc (is)))
+  -- by what a query looks at and what the line writes
+  ask_case : (who : Option ℕ) → Cases who → (subject : Result Subject LineRefusal) (epsilon : Option ℕ) (program : List ℕ)
+      → ((s : Subject) → subject ≡ Ok s → IsSubjectOf house s)
+      → ((e : ℕ) → epsilon ≡ Some e → IsEpsilon e × IsAskFor line program) → is_bye line ≡ false → P (meant_by_ask who subject epsilon program)
+  ask_case who c (Err refusal) epsilon program there written other = c.refuses refusal other
+  ask_case who c (Ok subject) None program there written other = c.refuses NoEpsilon other
+  ask_case None c (Ok subject) (Some e) program there written other = c.refuses NoHello other
+  ask_case (Some analyst) c (Ok subject) (Some e) program there written other =
+      let of = there subject refl in
+      let writes = written e refl in
+      let made : Query = record { analyst = analyst; view = subject.view; e = e; program = program } in
+      let of_made : IsAnalyst house (Some analyst) → IsAskOf house line subject.number subject.owner made
+      = λ known. record { stands = of.stands; part = of.part; analyst = known; epsilon = writes.0; written = writes.1 } in
+      c.demands subject.number subject.owner (asks made)
+      (of.stands, λ known query is. let same : made ≡ query = cc (is) in subst (IsAskOf house line subject.number subject.owner) same (of_made known)) other
 
-hello_only : (house : House) (line : List ℕ) (who : Option ℕ) (name : List ℕ) (found : Option ℕ) → AsksOnly house line (meant_by_hello house who name found)
-hello_only house line who name None = tt
-hello_only house line who name (Some analyst) = tt
+  recall_case : (who : Option ℕ) → Cases who → (name : List ℕ) (number : ℕ) (found : Option (ℕ × Owner)) → owner_named house name ≡ found → is_bye line ≡ false
+      → P (meant_by_recall who found number)
+  recall_case who c name number None named other = c.refuses (Unknown 1) other
+  recall_case None c name number (Some found) named other = c.refuses NoHello other
+  recall_case (Some analyst) c name number (Some found) named other =
+      c.demands found.0 found.1 (recalls analyst number) (owner_stands house name found named, λ known query is. absurd (cc (is))) other
 
-request_only : (house : House) (line : List ℕ) (who : Option ℕ) (request : Result Asked LineRefusal) → IsAnalyst house who → request_of line ≡ request → AsksOnly house line (meant_by_request house who request)
-request_only house line who (Err refusal) known reads = tt
-request_only house line who (Ok (hello name)) known reads = hello_only house line who name (analyst_named house name)
-request_only house line who (Ok (ask name epsilon program)) known reads =
-    asked_only house line who (whole_named house name) epsilon program known (whole_stands house name)
-    (λ e is. let writes : request_of line ≡ Ok (ask name (Some e) program) = reads ∙ ap (λ k. Ok (ask name k program)) is in (asked_in_range line name program e writes, inl (name, e, writes)))
-request_only house line who (Ok (askpart name partition key epsilon program)) known reads =
-    asked_only house line who (part_named house name partition key) epsilon program known (part_stands house name partition key)
-    (λ e is. let writes : request_of line ≡ Ok (askpart name partition key (Some e) program) = reads ∙ ap (λ k. Ok (askpart name partition key k program)) is in
-    (part_in_range line name partition key program e writes, inr (name, partition, key, e, writes)))
-request_only house line who (Ok (recall name number)) known reads = recalled_only house line who name (owner_named house name) number refl
-request_only house line who (Ok (left name)) known reads = left_only house line who name (owner_named house name) refl
-request_only house line who (Ok bye) known reads = tt
+  left_case : (who : Option ℕ) → Cases who → (name : List ℕ) (found : Option (ℕ × Owner)) → owner_named house name ≡ found → is_bye line ≡ false
+      → P (meant_by_left who found)
+  left_case who c name None named other = c.refuses (Unknown 1) other
+  left_case who c name (Some found) named other =
+      c.demands found.0 found.1 balances (owner_stands house name found named, λ known query is. absurd (cc (is))) other
 
-pub asks_only : (house : House) (line : List ℕ) (who : Option ℕ) → IsAnalyst house who → AsksOnly house line (meant_by house who line)
-unfolding meant_by
-asks_only house line who known = request_only house line who (request_of line) known refl
+  hello_case : (who : Option ℕ) → Cases who → (name : List ℕ) (found : Option ℕ) → analyst_named house name ≡ found → is_bye line ≡ false
+      → P (meant_by_hello house who name found)
+  hello_case who c name None named other = c.refuses (Unknown 1) other
+  hello_case who c name (Some analyst) named other = c.greets name analyst (position-Some (λ a. bytes_eq name a) house.analysts analyst [] named).0 other
+
+  request_case : (who : Option ℕ) → Cases who → (request : Result Asked LineRefusal) → request_of line ≡ request → P (meant_by_request house who request)
+  request_case who c (Err refusal) reads = c.refuses refusal (ap is_bye_request reads)
+  request_case who c (Ok (hello name)) reads = hello_case who c name (analyst_named house name) refl (ap is_bye_request reads)
+  request_case who c (Ok (ask name epsilon program)) reads =
+      ask_case who c (whole_named house name) epsilon program (whole_stands house name)
+      (λ e is. let writes : request_of line ≡ Ok (ask name (Some e) program) = reads ∙ ap (λ k. Ok (ask name k program)) is in
+      (asked_in_range line name program e writes, inl (name, e, writes))) (ap is_bye_request reads)
+  request_case who c (Ok (askpart name partition key epsilon program)) reads =
+      ask_case who c (part_named house name partition key) epsilon program (part_stands house name partition key)
+      (λ e is. let writes : request_of line ≡ Ok (askpart name partition key (Some e) program) = reads
+      ∙ ap (λ k. Ok (askpart name partition key k program)) is in
+      (part_in_range line name partition key program e writes, inr (name, partition, key, e, writes))) (ap is_bye_request reads)
+  request_case who c (Ok (recall name number)) reads = recall_case who c name number (owner_named house name) refl (ap is_bye_request reads)
+  request_case who c (Ok (left name)) reads = left_case who c name (owner_named house name) refl (ap is_bye_request reads)
+  request_case who c (Ok bye) reads = c.ends (ap is_bye_request reads)
+
+  pub line_cases : (who : Option ℕ) → LineCases house who line P → P (meant_by house who line)
+  unfolding meant_by
+  line_cases who c = request_case who c (request_of line) refl
+
+pub asks_only : (house : House) (who : Option ℕ) (line : List ℕ) → AsksOnly house who line (meant_by house who line)
+asks_only house who line = line_cases house line (AsksOnly house who line) who
+    (record { refuses = λ refusal other. tt; ends = λ end. tt; greets = λ name analyst within other. tt; demands = λ n owner demand of other. of })
 
 -- the owner that a line asks is one of the house's
-stands_by : (house : House) (who : Option ℕ) (subject : Result Subject LineRefusal) (epsilon : Option ℕ) (program : List ℕ) (n : ℕ) (owner : Owner) (demand : Demand) → ((s : Subject) → subject ≡ Ok s → IsSubjectOf house s)
-    → meant_by_ask who subject epsilon program ≡ wants n owner demand → slice_get house.owners n ≡ Some owner
-stands_by house who (Err refusal) epsilon program n owner demand there is = absurd (cc (is))
-stands_by house who (Ok subject) None program n owner demand there is = absurd (cc (is))
-stands_by house None (Ok subject) (Some e) program n owner demand there is = absurd (cc (is))
-stands_by house (Some analyst) (Ok subject) (Some e) program n owner demand there is =
-    let first : subject.number ≡ n = cc in
-    let same : subject.owner ≡ owner = cc in
-    ap (λ k. slice_get house.owners k) (sym first) ∙ (there subject refl).stands ∙ ap (λ (w : Owner). Some w) same
-
-recalled_stands : (house : House) (who : Option ℕ) (found : Option (ℕ × Owner)) (name : List ℕ) (number n : ℕ) (owner : Owner) (demand : Demand) → owner_named house name ≡ found
-    → meant_by_recall who found number ≡ wants n owner demand → slice_get house.owners n ≡ Some owner
-recalled_stands house who None name number n owner demand named is = absurd (cc (is))
-recalled_stands house None (Some found) name number n owner demand named is = absurd (cc (is))
-recalled_stands house (Some analyst) (Some found) name number n owner demand named is =
-    let first : found.0 ≡ n = cc in
-    let same : found.1 ≡ owner = cc in
-    ap (λ k. slice_get house.owners k) (sym first) ∙ owner_stands house name found named ∙ ap (λ (w : Owner). Some w) same
-
-left_stands : (house : House) (who : Option ℕ) (found : Option (ℕ × Owner)) (name : List ℕ) (n : ℕ) (owner : Owner) (demand : Demand) → owner_named house name ≡ found
-    → meant_by_left who found ≡ wants n owner demand → slice_get house.owners n ≡ Some owner
-left_stands house who None name n owner demand named is = absurd (cc (is))
-left_stands house who (Some found) name n owner demand named is =
-    let first : found.0 ≡ n = cc in
-    let same : found.1 ≡ owner = cc in
-    ap (λ k. slice_get house.owners k) (sym first) ∙ owner_stands house name found named ∙ ap (λ (w : Owner). Some w) same
-
-hello_asks_nobody : (house : House) (who : Option ℕ) (name : List ℕ) (found : Option ℕ) (n : ℕ) (owner : Owner) (demand : Demand) → meant_by_hello house who name found ≡ wants n owner demand → ⊥
-hello_asks_nobody house who name None n owner demand is = cc (is)
-hello_asks_nobody house who name (Some analyst) n owner demand is = cc (is)
-
-request_stands : (house : House) (who : Option ℕ) (request : Result Asked LineRefusal) (n : ℕ) (owner : Owner) (demand : Demand) → meant_by_request house who request ≡ wants n owner demand → slice_get house.owners n ≡ Some owner
-request_stands house who (Err refusal) n owner demand is = absurd (cc (is))
-request_stands house who (Ok (hello name)) n owner demand is = absurd (hello_asks_nobody house who name (analyst_named house name) n owner demand is)
-request_stands house who (Ok (ask name epsilon program)) n owner demand is = stands_by house who (whole_named house name) epsilon program n owner demand (whole_stands house name) is
-request_stands house who (Ok (askpart name partition key epsilon program)) n owner demand is =
-    stands_by house who (part_named house name partition key) epsilon program n owner demand (part_stands house name partition key) is
-request_stands house who (Ok (recall name number)) n owner demand is = recalled_stands house who (owner_named house name) name number n owner demand refl is
-request_stands house who (Ok (left name)) n owner demand is = left_stands house who (owner_named house name) name n owner demand refl is
-request_stands house who (Ok bye) n owner demand is = absurd (cc (is))
-
-pub wanted_stands : (house : House) (who : Option ℕ) (line : List ℕ) (n : ℕ) (owner : Owner) (demand : Demand) → meant_by house who line ≡ wants n owner demand → slice_get house.owners n ≡ Some owner
-unfolding meant_by
-wanted_stands house who line n owner demand is = request_stands house who (request_of line) n owner demand is
+pub wanted_stands : (house : House) (who : Option ℕ) (line : List ℕ) (n : ℕ) (owner : Owner) (demand : Demand) → meant_by house who line ≡ wants n owner demand
+    → slice_get house.owners n ≡ Some owner
+wanted_stands house who line n owner demand is = (subst (AsksOnly house who line) is (asks_only house who line)).0
 
 -- such a query is of the owner's entry
 pub query_within : (house : House) (owner : Owner) → IsOwnerIn house owner → (line : List ℕ) (n : ℕ) (query : Query) → IsAskOf house line n owner query → IsQueryOf owner.entry query

@@ -155,7 +155,7 @@ pub record HasServed (house : House) (draws : ℕ → ℕ → ℕ → ℕ) (scri
 
 -- A pass's book was closed, with these records, and was shut in the end or wasn't: its records are those found and the pass's own,
 -- and they go on from those seen; what shut it is the pass's own append that failed.
-pub record HasClosed (pass : Pass) (records : List Record) (closed : Option Failure) : Type 0 where
+pub record IsClosedWith (pass : Pass) (records : List Record) (closed : Option Failure) : Type 0 where
   pub all : records ≡ pass.opened.ledger.found ++ records_told pass.own
   pub later : IsPrefix pass.seen records
   pub faults : closing closed ≡ pass.faults
@@ -164,4 +164,4 @@ pub record HasClosed (pass : Pass) (records : List Record) (closed : Option Fail
 -- Each owner's book was closed so.
 abbrev pub AreClosed : House → List Pass → (records : Journals) → (closed : ℕ → Option Failure) → Type 0
 AreClosed house passes records closed = (o : ℕ) (owner : Owner) → slice_get house.owners o ≡ Some owner
-    → HasClosed (pass_at passes o) (records o) (closed o)
+    → IsClosedWith (pass_at passes o) (records o) (closed o)

@@ -6,5 +6,4 @@ pub mod Served
 pub mod Gathered
 pub mod Headline
 pub mod Said
-pub mod Order
 pub mod Code

@@ -6,7 +6,6 @@ ghost use Rattle.owner_house.specs.House.{Register, IsRegister, House, AreOwners
 ghost use Rattle.owner_desk.specs.Passes.{Pass};
 ghost use Rattle.session_core.specs.Exchanges.{Exchange, AskOthers};
 ghost use Rattle.session_core.specs.Code.{AreServed, pass_at};
-ghost use Rattle.session_core.specs.Order.{LeastCodeRefuses, GrantsAreUnopposed};
 
 /// Lines that ask other owners leave an owner's pass as it was: the records seen and added stay, so its budget and its numbers
 /// do, and what is known of its disk.
@@ -19,11 +18,4 @@ pub fn lines_leave_other_owners()
 /// A register's owners have rows of their tables, and count its analysts.
 pub fn registers_are_houses()
     ensures { (register : Register) → IsRegister register → AreOwners (house_of register) }
-{}
-
-/// A line that asks is refused by itself, for its program or by the budget with the least code of all that could refuse it, and
-/// it is granted only where none could.
-pub fn the_least_code_refuses()
-    ensures least { LeastCodeRefuses }
-    ensures granted { GrantsAreUnopposed }
 {}

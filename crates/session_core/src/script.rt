@@ -5,6 +5,7 @@ ghost use Rattle.std.specs.Prelude.{IfOk, IfErr, None, if◌then◌else◌, vec_
 ghost use Rattle.wire_lines.specs.Lines.{lines_of};
 ghost use Rattle.wire_lines.specs.Reply.{replied, reply_text};
 ghost use Rattle.owner_desk.specs.Passes.{Told};
+ghost use Rattle.answer_path.specs.Answered.{IsUnasked};
 ghost use Rattle.owner_house.specs.House.{house_of};
 ghost use Rattle.session_core.specs.Turns.{is_bye};
 ghost use Rattle.session_core.specs.Code.{IsAnalyst, who_behind, is_ended, one_line, room_for_line, room_for_lines, short_reply_limit};
@@ -109,6 +110,8 @@ pub fn answer_line<'a, D: Disk, S: Streams>(
     requires known { IsAnalyst (house_of house.now) who }
     ensures served { (told : List Told) ×
         AreServed (house_of house.now) (S.given streams.now) (one_line who line.now (replied result.reply) told) passes.old passes.new }
+    // A line that is refused before an owner's budget is asked leaves all passes as they were.
+    ensures same { IsUnasked (replied result.reply) → passes.new ≡ passes.old }
     ensures who { result.who ≡ who_behind (house_of house.now) who line.now }
     ensures ends { result.ends ≡ is_bye line.now }
     ensures known { IsAnalyst (house_of house.now) result.who }

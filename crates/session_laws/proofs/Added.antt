@@ -65,6 +65,12 @@ module _ (draws : ℕ → ℕ → ℕ) (owner : Owner) (found records : List Rec
   says_none : (query : Query) (x : Exchange) → told_settlement x.reply ≡ None → (programs : List (List ℕ)) → IsBorneOutTo programs records (asks query) x.reply
   says_none query x none programs = λ n outcome said. absurd (let both : None ≡ Some (n, outcome) = sym none ∙ said in cc (both))
 
+  reserved : (query : Query) (g : List Record) (x : Exchange) (asking : Ask) (grant : Grant)
+      → IsVerdict owner.entry (signature_of_view owner query.view) start g query (granted asking grant) → IsPrefix found g
+      → IsPrefix (g ++ granted_record asking grant ∷ []) records → IsLeftOpen asking grant g x ⊎ IsSettledLater query asking grant g x → IsKind (asks query) x
+  reserved query g x asking grant is pre stands ends =
+      inr (query, refl, record { asking = asking; grant = grant; g = g; verdict = is; later = pre; stands = stands; ends = ends })
+
   kind_asked : (query : Query) (g : List Record) (x : Exchange) (after : List Record) (v : Verdict) → IsPrefix found g → IsPrefix after records → IsVerdict owner.entry (signature_of_view owner query.view) start g query v
       → IsAskedBy owner draws query v g x.reply x.told after → IsKind (asks query) x
   kind_asked query g x after (program_refused refusal) pre ends is by = inl (by.1, says_none query x (ap told_settlement by.0))
@@ -73,34 +79,13 @@ module _ (draws : ℕ → ℕ → ℕ) (owner : Owner) (found records : List Rec
       let more : List Record = granted_record asking grant ∷ [] in
       let end : List Record = settling grant.number two.outcome ∷ [] in
       let all : IsPrefix (two.u ++ end) records = subst (λ (w : List Record). IsPrefix w records) two.after_is ends in
-      inr (
-        query,
-        refl,
-        record {
-          asking = asking;
-          grant = grant;
-          g = g;
-          verdict = is;
-          later = pre;
-          stands = prefix_trans (g ++ more) (two.u ++ end) records (prefix_trans (g ++ more) two.u (two.u ++ end) two.reserved (prefix_by two.u end)) all;
-          ends = inr (record { outcome = two.outcome; u = two.u; settles = two.settled; behind = two.reserved; stands = all; said = two.reply_is; told = two.told_is });
-        },
-      )
+      reserved query g x asking grant is pre
+      (prefix_trans (g ++ more) (two.u ++ end) records (prefix_trans (g ++ more) two.u (two.u ++ end) two.reserved (prefix_by two.u end)) all)
+      (inr (record { outcome = two.outcome; u = two.u; settles = two.settled; behind = two.reserved; stands = all; said = two.reply_is; told = two.told_is }))
   kind_asked query g x after (granted asking grant) pre ends is (inr (refusal, said, inl none)) = inl (none.0, says_none query x (ap told_settlement said))
   kind_asked query g x after (granted asking grant) pre ends is (inr (refusal, said, inr one)) =
-      inr (
-        query,
-        refl,
-        record {
-          asking = asking;
-          grant = grant;
-          g = g;
-          verdict = is;
-          later = pre;
-          stands = prefix_trans (g ++ granted_record asking grant ∷ []) after records one.1 ends;
-          ends = inl (record { refusal = refusal; said = said; told = one.0 });
-        },
-      )
+      reserved query g x asking grant is pre (prefix_trans (g ++ granted_record asking grant ∷ []) after records one.1 ends)
+      (inl (record { refusal = refusal; said = said; told = one.0 }))
 
   query_kind : (query : Query) (known : List Record) (x : Exchange) (after : List Record) → IsPrefix found known → IsPrefix after records → IsAsked owner draws start query known x.reply x.told after → IsKind (asks query) x
   unfolding IsAsked
@@ -122,37 +107,40 @@ module _ (draws : ℕ → ℕ → ℕ) (owner : Owner) (found records : List Rec
   pub number_below : (query : Query) (x : Exchange) (r : IsReservedBy query x) → below records (length r.g) ≡ r.grant.number
   number_below query x r = ap (λ (w : List Record). length (reservations_of w)) (prefix_seam r.g (granted_record r.asking r.grant) records r.stands).0 ∙ sym (number_is query x r)
 
-  -- what was told stands in the records
+  -- what was told is the reservation, or its settlement
+  pub told_by : (query : Query) (x : Exchange) (r : IsReservedBy query x) (z : Told) → Has z x.told → (z ≡ (length r.g, granted_record r.asking r.grant))
+      ⊎ ((done : IsSettledLater query r.asking r.grant r.g x) × (z ≡ (length done.u, settling r.grant.number done.outcome)))
+  told_by query x r z has = ended r.ends
+    where
+      ended : IsLeftOpen r.asking r.grant r.g x ⊎ IsSettledLater query r.asking r.grant r.g x → (z ≡ (length r.g, granted_record r.asking r.grant))
+          ⊎ ((done : IsSettledLater query r.asking r.grant r.g x) × (z ≡ (length done.u, settling r.grant.number done.outcome)))
+      ended (inl alone) = elim (subst (λ (zs : List Told). Has z zs) alone.told has) [ inl is ↦ inl is | inr none ↦ absurd none ]
+      ended (inr done) = elim (subst (λ (zs : List Told). Has z zs) done.told has) [
+        | inl is ↦ inl is
+        | inr (inl is) ↦ inr (done, is)
+        | inr (inr none) ↦ absurd none
+      ]
+
+  -- and stands in the records
   pub told_stands : (query : Query) (x : Exchange) → IsReservedBy query x → (z : Told) → Has z x.told → (length found ≤ z.0) × (slice_get records z.0 ≡ Some z.1)
-  told_stands query x r z has = ended r.ends
+  told_stands query x r z has = stands (told_by query x r z has)
     where
       low : length found ≤ length r.g
       low = prefix_length found r.g r.later
 
-      first : Told
-      first = (length r.g, granted_record r.asking r.grant)
+      far : (u : List Record) → IsPrefix (r.g ++ granted_record r.asking r.grant ∷ []) u → length found ≤ length u
+      far u behind =
+          omega (arith, low, prefix_length (r.g ++ granted_record r.asking r.grant ∷ []) u behind, length-append r.g (granted_record r.asking r.grant ∷ []))
 
-      one : z ≡ first → (length found ≤ z.0) × (slice_get records z.0 ≡ Some z.1)
-      one is = subst (λ (y : Told). (length found ≤ y.0) × (slice_get records y.0 ≡ Some y.1)) (sym is) (low, (prefix_seam r.g (granted_record r.asking r.grant) records r.stands).1)
-
-      ended : IsLeftOpen r.asking r.grant r.g x ⊎ IsSettledLater query r.asking r.grant r.g x → (length found ≤ z.0) × (slice_get records z.0 ≡ Some z.1)
-      ended (inl alone) = single (subst (λ (zs : List Told). Has z zs) alone.told has)
-        where
-          single : Has z (first ∷ []) → (length found ≤ z.0) × (slice_get records z.0 ≡ Some z.1)
-          single (inl is) = one is
-          single (inr none) = absurd none
-      ended (inr done) = either (subst (λ (zs : List Told). Has z zs) done.told has)
-        where
-          second : Told
-          second = (length done.u, settling r.grant.number done.outcome)
-
-          far : length found ≤ length done.u
-          far = omega (arith, low, prefix_length (r.g ++ granted_record r.asking r.grant ∷ []) done.u done.behind, length-append r.g (granted_record r.asking r.grant ∷ []))
-
-          either : Has z (first ∷ second ∷ []) → (length found ≤ z.0) × (slice_get records z.0 ≡ Some z.1)
-          either (inl is) = one is
-          either (inr (inl is)) = subst (λ (y : Told). (length found ≤ y.0) × (slice_get records y.0 ≡ Some y.1)) (sym is) (far, (prefix_seam done.u (settling r.grant.number done.outcome) records done.stands).1)
-          either (inr (inr none)) = absurd none
+      stands : (z ≡ (length r.g, granted_record r.asking r.grant))
+          ⊎ ((done : IsSettledLater query r.asking r.grant r.g x) × (z ≡ (length done.u, settling r.grant.number done.outcome)))
+          → (length found ≤ z.0) × (slice_get records z.0 ≡ Some z.1)
+      stands (inl is) =
+          subst (λ (y : Told). (length found ≤ y.0) × (slice_get records y.0 ≡ Some y.1)) (sym is)
+          (low, (prefix_seam r.g (granted_record r.asking r.grant) records r.stands).1)
+      stands (inr (done, is)) =
+          subst (λ (y : Told). (length found ≤ y.0) × (slice_get records y.0 ≡ Some y.1)) (sym is)
+          (far done.u done.behind, (prefix_seam done.u (settling r.grant.number done.outcome) records done.stands).1)
 
   -- the reservation that was told is the grant's
   pub reserved_told : (query : Query) (x : Exchange) (r : IsReservedBy query x) → Has (length r.g, granted_record r.asking r.grant) x.told

@@ -16,7 +16,7 @@ use Rattle.answer_path.specs.Demand.{Demand, asks}
 use Rattle.session_core.specs.Meant.{Meant, wants}
 use Rattle.session_core.specs.Turns.{meant_at}
 use Rattle.session_core.specs.Exchanges.{Exchange, TurnLeads, is_of, told_of}
-use Rattle.session_laws.specs.Between.{two_workers, IsHeld, four_records}
+use Rattle.session_laws.specs.Between.{two_workers, IsSettledLater, four_records}
 use Rattle.owner_desk.specs.Passes.{Told}
 use Rattle.answer_path.specs.Answered.{granted_record, IsAsked}
 use Rattle.answer_path.specs.Met.{IsMet}
@@ -36,7 +36,7 @@ four : (w : Told → ℕ) (a b c d : Told) → sum_by w (a ∷ b ∷ c ∷ d ∷
 four w a b c d = omega (arith, sum_by-cons w a (b ∷ c ∷ d ∷ []), sum_by-cons w b (c ∷ d ∷ []), sum_by-cons w c (d ∷ []), sum_by-cons w d [])
 
 module _ (house : House) (draws : ℕ → ℕ → ℕ → ℕ) (o : ℕ) (owner : Owner) (x y : Exchange) (q r : Query) (a b : Ask) (c d : Grant) (s t : Outcome)
-    (f : IsHeld house draws o owner [] x q a c s 0 3) (g : IsHeld house draws o owner (granted_record a c ∷ []) y r b d t 1 2) where
+    (f : IsSettledLater house draws o owner [] x q a c s 0 3) (g : IsSettledLater house draws o owner (granted_record a c ∷ []) y r b d t 1 2) where
   abbrev records : List Record
   records = four_records a b c d s t
 

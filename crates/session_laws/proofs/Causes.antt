@@ -23,7 +23,7 @@ use Rattle.answer_path.specs.Shut.{Shut, unshut, StaysShut, disk_word, FailsBy, 
 use Rattle.session_core.specs.Served.{ShutsFor, ShutsOn}
 use Rattle.session_core.proofs.Demands.{tells_fault, FailsNow, demand_shuts, fault_told}
 use Rattle.session_core.specs.Gathered.{part_of, StillShut, AreShut}
-use Rattle.session_laws.specs.Causes.{IsRefusedAt, AreCaused}
+use Rattle.session_laws.specs.Causes.{IsShutAt, AreCaused}
 
 -- a mark for each line that is told 52
 abbrev mark : Told
@@ -95,17 +95,17 @@ module _ (house : House) (draws : ℕ → ℕ → ℕ → ℕ) (o : ℕ) where
   faulted true le = refl
   faulted false le = absurd (omega (arith, le))
 
-  marked : (xs : List Exchange) (place : ℕ) (x : Exchange) → slice_get xs place ≡ Some x → (m : Meant) → meant_at house x.turn ≡ m → 1 ≤ sum_by one (by_meant o m x) → (owner : Owner) × (query : Query) × IsRefusedAt house o xs place owner query None
+  marked : (xs : List Exchange) (place : ℕ) (x : Exchange) → slice_get xs place ≡ Some x → (m : Meant) → meant_at house x.turn ≡ m → 1 ≤ sum_by one (by_meant o m x) → (owner : Owner) × (query : Query) × IsShutAt house o xs place owner query None
   marked xs place x at (says reply next) is le = absurd (omega (arith, le))
   marked xs place x at (wants n owner demand) is le = here (n == o) refl le
     where
-      here : (b : Bool) → (n == o) ≡ b → 1 ≤ sum_by one (if b then marked_by (tells_fault demand x.reply) else []) → (w : Owner) × (query : Query) × IsRefusedAt house o xs place w query None
+      here : (b : Bool) → (n == o) ≡ b → 1 ≤ sum_by one (if b then marked_by (tells_fault demand x.reply) else []) → (w : Owner) × (query : Query) × IsShutAt house o xs place w query None
       here true hit le =
           let f = fault_told demand x.reply (faulted (tells_fault demand x.reply) le) in
           (owner, f.0, record { x = x; stands = at; meant = is ∙ ap (λ (k : ℕ). wants k owner demand) (eqb-true n o hit) ∙ ap (λ (d : Demand). wants o owner d) f.1; word_is = f.2 })
       here false miss le = absurd (omega (arith, le))
 
-  has_mark : (xs : List Exchange) (place : ℕ) (owner : Owner) (query : Query) (r : IsRefusedAt house o xs place owner query None) → sum_by one (marks house o r.x) ≡ 1
+  has_mark : (xs : List Exchange) (place : ℕ) (owner : Owner) (query : Query) (r : IsShutAt house o xs place owner query None) → sum_by one (marks house o r.x) ≡ 1
   has_mark xs place owner query r = rw (r.meant, eq-eqb o o refl, r.word_is) refl
 
   module _ (count : ℕ) (crew : ℕ → ℕ) (xs : List Exchange) (closed : Option Failure) (all : AreShut house draws count crew o xs closed) where
@@ -129,7 +129,7 @@ module _ (house : House) (draws : ℕ → ℕ → ℕ → ℕ) (o : ℕ) where
         let s = shut_at unshut (part_of crew (crew place) 0 xs) (all.ends (crew place)) w.0 p.0 x owner (asks query) p.1 meant in
         (s.0, s.1, s.2, λ failure is. w.1 failure (s.3 failure is))
 
-    not_before : (j k : ℕ) (owner other : Owner) (query and : Query) → IsRefusedAt house o xs j owner query None → IsRefusedAt house o xs k other and None → j < k → ⊥
+    not_before : (j k : ℕ) (owner other : Owner) (query and : Query) → IsShutAt house o xs j owner query None → IsShutAt house o xs k other and None → j < k → ⊥
     not_before j k owner other query and r s lt =
         let two = two_in (marks house o) one xs j k r.x s.x lt r.stands s.stands in
         absurd (omega (arith, two, has_mark xs j owner query r, has_mark xs k other and s, total, at_most closed))

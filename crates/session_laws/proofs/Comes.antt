@@ -25,7 +25,7 @@ take_more [] n x at = absurd cc
 take_more {X = X} (y ∷ xs) zero x at = let same : y ≡ x = cc in ap (λ (z : X). z ∷ []) same
 take_more {X = X} (y ∷ xs) (suc n) x at = ap (λ (zs : List X). y ∷ zs) (take_more xs n x at)
 
-slice_take : {X : Type 0} (xs : List X) (m n : ℕ) (x : X) → n < m → slice_get xs n ≡ Some x → slice_get (take m xs) n ≡ Some x
+pub slice_take : {X : Type 0} (xs : List X) (m n : ℕ) (x : X) → n < m → slice_get xs n ≡ Some x → slice_get (take m xs) n ≡ Some x
 slice_take [] m n x lt at = absurd cc
 slice_take (y ∷ xs) zero n x lt at = absurd (omega (arith, lt))
 slice_take (y ∷ xs) (suc m) zero x lt at = at

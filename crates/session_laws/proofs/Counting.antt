@@ -71,12 +71,6 @@ numbered_out b p (r ∷ rs) lt =
     let none : at_place p (b, r) ≡ 0 = at_another p (b, r) (λ e. omega (arith, e, lt)) in
     omega (arith, none, sum_by-cons (at_place p) (b, r) (enumerate_from (b + 1) rs), numbered_out (b + 1) p rs (omega (arith, lt)))
 
-pub numbered_past : (b p : ℕ) (rs : List Record) → b + length rs ≤ p → sum_by (at_place p) (enumerate_from b rs) ≡ 0
-numbered_past b p [] le = refl
-numbered_past b p (r ∷ rs) le =
-    let none : at_place p (b, r) ≡ 0 = at_another p (b, r) (λ e. omega (arith, e, le)) in
-    omega (arith, none, sum_by-cons (at_place p) (b, r) (enumerate_from (b + 1) rs), numbered_past (b + 1) p rs (omega (arith, le)))
-
 pub numbered_in : (b p : ℕ) (rs : List Record) → b ≤ p → p < b + length rs → sum_by (at_place p) (enumerate_from b rs) ≡ 1
 numbered_in b p [] le lt = absurd (omega (arith, le, lt))
 numbered_in b p (r ∷ rs) le lt = dite (ℕ_discrete b p)

@@ -3,7 +3,8 @@ use Rattle.std.proofs.Common.{◌≡◌, ℕ, ◌==◌, Bool, true, false, cond,
 use Rattle.std.specs.Prelude.{MatchBool}
 use Rattle.std.specs.List.{AllByRecursion}
 use Rattle.journal_records.specs.declared.records.Record.{Record}
-use Rattle.wire_lines.specs.Reply.{Replied}
+use Rattle.wire_lines.specs.Reply.{Replied, greeted, ended, refused}
+use Rattle.wire_lines.specs.Refusal.{by_line}
 use Rattle.owner_house.specs.Owner.{Owner}
 use Rattle.owner_house.specs.House.{House, AreOwners}
 use Rattle.answer_path.specs.Demand.{Demand}
@@ -13,9 +14,7 @@ use Rattle.session_core.specs.Exchanges.{Exchange, IsPlain, ArePlain, TurnLeads}
 use Rattle.session_core.specs.Transcript.{Journals, first_new, MeetsExactly, LeadExactly, IsScriptRun}
 use Rattle.session_core.specs.Said.{NothingFailed}
 use Rattle.session_core.proofs.Demands.{CanBeMet, met_exists}
-use Rattle.session_core.proofs.Turns.{AreKnown, turns_known}
-use Rattle.session_core.proofs.Wants.{AsksOnly, asks_only}
-use Rattle.session_core.proofs.Plain.{Says, line_says}
+use Rattle.session_core.proofs.Wants.{line_cases}
 
 module _ (house : House) (draws : ℕ → ℕ → ℕ → ℕ) (found : Journals) (owners : AreOwners house) where
   -- replies to some turns, from these records on
@@ -74,22 +73,22 @@ module _ (house : House) (draws : ℕ → ℕ → ℕ → ℕ) (found : Journals
             leads,
           )
 
-  exists_from : (turns : List Turn) (now : Journals) → AreKnown house turns → HaveReplies turns now
-  exists_from [] now known = record { exchanges = []; last = now; are = refl; plain = tt; leads = λ o owner at. refl; had = tt }
-  exists_from (turn ∷ turns) now known =
-      here (λ later. exists_from turns later known.1) (meant_at house turn) refl (asks_only house turn.line turn.who known.0) (line_says NothingFailed (λ name. tt) tt (λ refusal. tt) house turn.who turn.line)
-    where
-      here : ((later : Journals) → HaveReplies turns later) → (m : Meant) → meant_at house turn ≡ m → AsksOnly house turn.line m → Says NothingFailed (λ name. tt) tt (λ refusal. tt) m → HaveReplies (turn ∷ turns) now
-      here rest (says reply next) is only had = first_says turn turns now reply next is had (rest now)
-      here rest (wants n owner demand) is only had =
-          let a = met_exists owner (draws n) (first_new (found n)) demand (now n) (owners n owner only.0).data_of in
-          first_wants turn turns now n owner demand is a (rest (more_of now n a.added))
+  exists_from : (turns : List Turn) (now : Journals) → HaveReplies turns now
+  exists_from [] now = record { exchanges = []; last = now; are = refl; plain = tt; leads = λ o owner at. refl; had = tt }
+  exists_from (turn ∷ turns) now = line_cases house turn.line (λ m. meant_at house turn ≡ m → HaveReplies (turn ∷ turns) now) turn.who (record {
+    refuses = λ refusal other is. first_says turn turns now (refused (by_line refusal)) turn.who is tt (exists_from turns now);
+    ends = λ end is. first_says turn turns now ended turn.who is tt (exists_from turns now);
+    greets = λ name analyst within other is. first_says turn turns now (greeted name) (Some analyst) is tt (exists_from turns now);
+    demands = λ n owner demand of other is.
+        let a = met_exists owner (draws n) (first_new (found n)) demand (now n) (owners n owner of.0).data_of in
+        first_wants turn turns now n owner demand is a (exists_from turns (more_of now n a.added));
+  }) refl
 
 -- Each script has replies in which nothing failed.
 pub replies_exist : (house : House) (draws : ℕ → ℕ → ℕ → ℕ) (found : Journals) (script : List ℕ) → AreOwners house
     → (replies : List Replied) × (last : Journals) × IsScriptRun house draws found script replies last × AllByRecursion NothingFailed replies
 replies_exist house draws found script owners =
-    let h = exists_from house draws found owners (turns_of house script) found (turns_known house script) in (
+    let h = exists_from house draws found owners (turns_of house script) found in (
       map (λ (x : Exchange). x.reply) h.exchanges,
       h.last,
       record { exchanges = h.exchanges; turns = h.are; replied = refl; plain = h.plain; owners = h.leads },

@@ -18,3 +18,4 @@ pub mod Causes
 pub mod Closings
 pub mod Exists
 pub mod Scripts
+mod Orders

@@ -1,5 +1,5 @@
 -- where reservations and settlements stand
-use Rattle.std.proofs.Common.{◌≡◌, ℕ, zero, suc, ◌<◌, ◌≤◌, ◌==◌, Bool, true, false, cond, List, [], ◌∷◌, ◌++◌, length, take, slice_get, Some, None, refl, sym, ◌∙◌, ap, arith, eqb-true, eq-eqb, append_assoc}
+use Rattle.std.proofs.Common.{◌≡◌, ℕ, zero, suc, ◌<◌, ◌==◌, Bool, true, false, cond, List, [], ◌∷◌, ◌++◌, length, take, slice_get, Some, None, refl, sym, ◌∙◌, ap, arith, eqb-true, eq-eqb, append_assoc}
 use Rattle.std.proofs.lemmas.Bool.{cases_lt}
 use Rattle.std.proofs.lemmas.List.Elements.{filter_map-append}
 use Rattle.std.proofs.Math.Seq.{take-append_seam}
@@ -13,6 +13,7 @@ use Rattle.journal_records.specs.declared.records.Record.TheVariants.{Reserve, S
 use Rattle.journal_records.specs.Records.{reservation_in, settling}
 use Rattle.budget_core.specs.Counts.{reservations_of, outcome_of}
 use Rattle.budget_core.proofs.Histories.{slice_get-append-seam}
+use Rattle.owner_desk.proofs.Settles.{counts_behind}
 
 -- a list that is put first, and what stands behind it
 pub prefix_seam : {X : Type 0} (g : List X) (x : X) (all : List X) → IsPrefix (g ++ x ∷ []) all → (take (length g) all ≡ g) × (slice_get all (length g) ≡ Some x)
@@ -29,29 +30,12 @@ prefix_take g all f = ap (take (length g)) (sym f.1) ∙ take-append_seam g f.0
 abbrev pub below : List Record → ℕ → ℕ
 below records q = length (reservations_of (take q records))
 
-pub below_grows : (records : List Record) (p q : ℕ) → p ≤ q → below records p ≤ below records q
-below_grows [] zero q le = omega arith
-below_grows [] (suc p) zero le = absurd (omega (arith, le))
-below_grows [] (suc p) (suc q) le = omega arith
-below_grows (x ∷ records) zero q le = omega arith
-below_grows (x ∷ records) (suc p) zero le = absurd (omega (arith, le))
-below_grows (Reserve r ∷ records) (suc p) (suc q) le = omega (arith, below_grows records p q (omega (arith, le)))
-below_grows (Settle o ∷ records) (suc p) (suc q) le = below_grows records p q (omega (arith, le))
-
-pub below_more : (records : List Record) (p q : ℕ) (r : Reservation) → p < q → slice_get records p ≡ Some (Reserve r) → below records p < below records q
-below_more [] p q r lt at = absurd (cc (at))
-below_more (x ∷ records) p zero r lt at = absurd (omega (arith, lt))
-below_more (Reserve s ∷ records) zero (suc q) r lt at = omega arith
-below_more (Settle o ∷ records) zero (suc q) r lt at = absurd (cc (at))
-below_more (Reserve s ∷ records) (suc p) (suc q) r lt at = omega (arith, below_more records p q r (omega (arith, lt)) at)
-below_more (Settle o ∷ records) (suc p) (suc q) r lt at = below_more records p q r (omega (arith, lt)) at
-
 -- two reservations with as many below them stand at one place
 pub same_place : (records : List Record) (p q : ℕ) (r s : Reservation) → slice_get records p ≡ Some (Reserve r) → slice_get records q ≡ Some (Reserve s) → below records p ≡ below records q → p ≡ q
 same_place records p q r s at there same = elim (cases_lt p q) [
-  | inl lt ↦ absurd (omega (arith, below_more records p q r lt at, same))
+  | inl lt ↦ absurd (omega (arith, counts_behind records p q r at lt, same))
   | inr le ↦ elim (cases_lt q p) [
-    | inl lt ↦ absurd (omega (arith, below_more records q p s lt there, same))
+    | inl lt ↦ absurd (omega (arith, counts_behind records q p s there lt, same))
     | inr ge ↦ omega (arith, le, ge)
   ]
 ]
@@ -106,10 +90,3 @@ unsettled_nowhere (Settle s ∷ records) n k o none at = here (unsettled_nowhere
 -- the first reservations of records, where these go on
 pub reservations_on : (g all : List Record) → IsPrefix g all → (more : List Reservation) × (reservations_of all ≡ reservations_of g ++ more)
 reservations_on g all f = (reservations_of f.0, ap reservations_of (sym f.1) ∙ filter_map-append reservation_in g f.0)
-
-pub slice_in_take : {X : Type 0} (xs : List X) (m n : ℕ) (x : X) → slice_get (take m xs) n ≡ Some x → (n < m) × (slice_get xs n ≡ Some x)
-slice_in_take [] zero n x at = absurd (cc (at))
-slice_in_take [] (suc m) n x at = absurd (cc (at))
-slice_in_take (y ∷ xs) zero n x at = absurd (cc (at))
-slice_in_take (y ∷ xs) (suc m) zero x at = (omega arith, at)
-slice_in_take (y ∷ xs) (suc m) (suc n) x at = let rest = slice_in_take xs m n x at in (omega (arith, rest.0), rest.1)

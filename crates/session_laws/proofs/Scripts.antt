@@ -21,7 +21,7 @@ use Rattle.session_core.specs.Transcript.{Journals, first_new, LeadExactly, IsSc
 use Rattle.session_core.specs.Served.{Sources, AreAskedBy, AnswersOn, ShutsOn}
 use Rattle.session_core.specs.Gathered.{part_of, one_worker, AreAnsweredOn, AreGathered, AreShut, IsGatheredScript}
 use Rattle.session_core.specs.Headline.{Programs, IsAccountedFor, AreOwed, AreAccountedFor, Headline, AreFound, AreHistories}
-use Rattle.session_core.specs.Code.{pass_at, found_by, fresh_pass, GoesOn, AreServed, AreFresh, HasServed, HasClosed, AreClosed}
+use Rattle.session_core.specs.Code.{pass_at, found_by, fresh_pass, GoesOn, AreServed, AreFresh, HasServed, IsClosedWith, AreClosed}
 use Rattle.session_core.proofs.Demands.{prefix_whole}
 use Rattle.session_core.proofs.Turns.{turns_lines}
 use Rattle.session_core.proofs.Exactly.{answers_on, adds_in_order}
@@ -84,7 +84,7 @@ transcript_gathered house draws found script replies last run = (
 
 -- One owner's pass, from its opening to the closing of the book: nothing came in between.
 module _ (house : House) (draws : ℕ → ℕ → ℕ → ℕ) (o : ℕ) (xs : List Exchange) (before after : Pass) (records : List Record) (closed : Option Failure)
-    (fresh : before ≡ fresh_pass before.opened) (goes : GoesOn house draws o xs before after) (shut : HasClosed after records closed) where
+    (fresh : before ≡ fresh_pass before.opened) (goes : GoesOn house draws o xs before after) (shut : IsClosedWith after records closed) where
   abbrev found : List Record
   found = before.opened.ledger.found
 

@@ -1,10 +1,11 @@
 -- the lines behind an owner's new reservations, and how each new record came about
-use Rattle.std.proofs.Common.{◌≡◌, ℕ, ◌+◌, ◌-◌, ◌<◌, ◌≤◌, true, List, [], ◌∷◌, ◌++◌, length, take, map, slice_get, Option, Some, None, refl, sym, ◌∙◌, ap, subst, arith, eq-eqb, length-append}
+use Rattle.std.proofs.Common.{◌≡◌, ℕ, ◌+◌, ◌-◌, ◌<◌, ◌≤◌, true, List, [], ◌∷◌, ◌++◌, length, take, map, get_or, slice_get, Option, Some, None, refl, sym, ◌∙◌}
+use Rattle.std.proofs.Common.{ap, subst, arith, eq-eqb, length-append}
 use Rattle.std.proofs.lemmas.Bool.{cases_lt}
 use Rattle.std.proofs.lemmas.Option.{slice_get_within}
 use Rattle.std.proofs.lemmas.List.{length-map}
 use Rattle.std.proofs.Math.Seq.{take-length}
-use mathlib.Core.Logic.{◌⊎◌, inl, inr}
+use mathlib.Core.Logic.{inl, inr}
 use mathlib.Core.List.{IsPrefix}
 use Rattle.journal_records.specs.declared.records.Outcome.{Outcome}
 use Rattle.journal_records.specs.declared.records.Reservation.{Reservation}
@@ -25,16 +26,17 @@ use Rattle.owner_history.proofs.Grants.{verdict_grants}
 use Rattle.owner_history.proofs.Prefixes.{prefix_by, prefix_trans, slice_get_prefix}
 use Rattle.owner_house.specs.House.{House, IsOwnerIn}
 use Rattle.answer_path.specs.Demand.{Demand, asks}
-use Rattle.session_core.specs.Meant.{Meant, wants}
+use Rattle.session_core.specs.Meant.{wants}
 use Rattle.session_core.specs.Turns.{Turn, meant_at}
 use Rattle.session_core.specs.Exchanges.{Exchange, is_of}
 use Rattle.session_core.specs.Transcript.{first_new}
 use Rattle.session_core.proofs.Turns.{AreKnown}
 use Rattle.session_core.proofs.Wants.{IsAskOf, AsksOnly, asks_only, query_within}
 use Rattle.session_laws.specs.CameBy.{WasReserved, WasSettled, CameBy}
-use Rattle.session_laws.proofs.Places.{below, below_more, same_place, reservation_place, listed_below, settled_at, unsettled_nowhere, prefix_seam, prefix_take, reservations_on}
+use Rattle.owner_desk.proofs.Settles.{counts_behind}
+use Rattle.session_laws.proofs.Places.{below, same_place, reservation_place, listed_below, settled_at, unsettled_nowhere, prefix_seam, prefix_take, reservations_on}
 use Rattle.session_laws.proofs.Listed.{IsListed, listed, stands_at, slice_behind, mapped_at, place_of_all}
-use Rattle.session_laws.proofs.Added.{IsLeftOpen, IsSettledLater, IsReservedBy, number_is, number_below, reserved_told}
+use Rattle.session_laws.proofs.Added.{IsSettledLater, IsReservedBy, number_is, number_below, reserved_told, told_by}
 use Rattle.session_laws.proofs.Standing.{Reserves}
 use Rattle.session_laws.proofs.Once.{told_once, reserves_at}
 use Rattle.owner_desk.specs.Passes.{Told}
@@ -48,52 +50,29 @@ module _ (draws : ℕ → ℕ → ℕ) (owner : Owner) (found records : List Rec
   -- the reservation that a line was told is its grant's, and stands where the verdict's records end
   pub reserve_told : (query : Query) (x : Exchange) (by : IsReservedBy draws owner found records query x) (k : ℕ) (r : Reservation) → Has {A = Told} (k, Reserve r) x.told
       → (k ≡ length by.g) × (Reserve r ≡ granted_record by.asking by.grant)
-  reserve_told query x by k r has = ended by.ends
-    where
-      first : Told
-      first = (length by.g, granted_record by.asking by.grant)
-
-      one : (k, Reserve r) ≡ first → (k ≡ length by.g) × (Reserve r ≡ granted_record by.asking by.grant)
-      one is = (ap (λ (z : Told). z.0) is, ap (λ (z : Told). z.1) is)
-
-      single : Has {A = Told} (k, Reserve r) (first ∷ []) → (k ≡ length by.g) × (Reserve r ≡ granted_record by.asking by.grant)
-      single (inl is) = one is
-      single (inr none) = absurd none
-
-      double : (u n : ℕ) (outcome : Outcome) → Has {A = Told} (k, Reserve r) (first ∷ (u, settling n outcome) ∷ []) → (k ≡ length by.g) × (Reserve r ≡ granted_record by.asking by.grant)
-      double u n outcome (inl is) = one is
-      double u n outcome (inr (inl is)) = let both : Reserve r ≡ settling n outcome = ap (λ (z : Told). z.1) is in absurd (cc (both))
-      double u n outcome (inr (inr none)) = absurd none
-
-      ended : IsLeftOpen draws owner found records by.asking by.grant by.g x ⊎ IsSettledLater draws owner found records query by.asking by.grant by.g x → (k ≡ length by.g) × (Reserve r ≡ granted_record by.asking by.grant)
-      ended (inl alone) = single (subst (λ (zs : List Told). Has {A = Told} (k, Reserve r) zs) alone.told has)
-      ended (inr done) = double (length done.u) by.grant.number done.outcome (subst (λ (zs : List Told). Has {A = Told} (k, Reserve r) zs) done.told has)
+  reserve_told query x by k r has = elim (told_by draws owner found records query x by (k, Reserve r) has) [
+    | inl is ↦ (ap (λ (z : Told). z.0) is, ap (λ (z : Told). z.1) is)
+    | inr settled ↦ absurd (let both : Reserve r ≡ settling by.grant.number settled.0.outcome = ap (λ (z : Told). z.1) settled.1 in cc (both))
+  ]
 
   -- a settlement that is told stands where its records end
-  settle_place : (query : Query) (asking : Ask) (grant : Grant) (g : List Record) (x : Exchange) (done : IsSettledLater draws owner found records query asking grant g x) (k n : ℕ) (outcome : Outcome) → Has {A = Told} (k, settling n outcome) x.told
-      → (k ≡ length done.u) × (settling n outcome ≡ settling grant.number done.outcome)
-  settle_place query asking grant g x done k n outcome has = double (subst (λ (zs : List Told). Has {A = Told} (k, settling n outcome) zs) done.told has)
-    where
-      double : Has {A = Told} (k, settling n outcome) ((length g, granted_record asking grant) ∷ (length done.u, settling grant.number done.outcome) ∷ []) → (k ≡ length done.u) × (settling n outcome ≡ settling grant.number done.outcome)
-      double (inl is) = let both : settling n outcome ≡ granted_record asking grant = ap (λ (z : Told). z.1) is in absurd (cc (both))
-      double (inr (inl is)) = (ap (λ (z : Told). z.0) is, ap (λ (z : Told). z.1) is)
-      double (inr (inr none)) = absurd none
-
   pub record Settles (query : Query) (x : Exchange) (by : IsReservedBy draws owner found records query x) (k n : ℕ) (outcome : Outcome) : Type 0 where
     pub done : IsSettledLater draws owner found records query by.asking by.grant by.g x
     pub place : k ≡ length done.u
     pub is : settling n outcome ≡ settling by.grant.number done.outcome
 
   pub settle_told : (query : Query) (x : Exchange) (by : IsReservedBy draws owner found records query x) (k n : ℕ) (outcome : Outcome) → Has {A = Told} (k, settling n outcome) x.told → Settles query x by k n outcome
-  settle_told query x by k n outcome has = ended by.ends
-    where
-      single : Has {A = Told} (k, settling n outcome) ((length by.g, granted_record by.asking by.grant) ∷ []) → ⊥
-      single (inl is) = let both : settling n outcome ≡ granted_record by.asking by.grant = ap (λ (z : Told). z.1) is in cc (both)
-      single (inr none) = none
+  settle_told query x by k n outcome has = elim (told_by draws owner found records query x by (k, settling n outcome) has) [
+    | inl is ↦ absurd (let both : settling n outcome ≡ granted_record by.asking by.grant = ap (λ (z : Told). z.1) is in cc (both))
+    | inr settled ↦ record { done = settled.0; place = ap (λ (z : Told). z.0) settled.1; is = ap (λ (z : Told). z.1) settled.1 }
+  ]
 
-      ended : IsLeftOpen draws owner found records by.asking by.grant by.g x ⊎ IsSettledLater draws owner found records query by.asking by.grant by.g x → Settles query x by k n outcome
-      ended (inl alone) = absurd (single (subst (λ (zs : List Told). Has {A = Told} (k, settling n outcome) zs) alone.told has))
-      ended (inr done) = let s = settle_place query by.asking by.grant by.g x done k n outcome has in record { done = done; place = s.0; is = s.1 }
+  -- it is told at one place
+  one_end : (query : Query) (asking : Ask) (grant : Grant) (g : List Record) (x : Exchange)
+      (one other : IsSettledLater draws owner found records query asking grant g x)
+      → length one.u ≡ length other.u
+  one_end query asking grant g x one other =
+      ap (λ (zs : List Told). get_or (map (λ (z : Told). z.0) zs) 1 0) (sym one.told ∙ other.told)
 
 -- the settlement that the record is, or this one
 abbrev settled_in : Settlement → Record → Settlement
@@ -145,7 +124,7 @@ module _ (house : House) (draws : ℕ → ℕ → ℕ → ℕ) (spoken : List Tu
   number_within : (query : Query) (x : Exchange) (by : By query x) → by.grant.number < total
   number_within query x by =
       let at = reservation_at query x by in
-      let more = below_more records (length by.g) (length records) (reservation_numbered by.grant.number by.asking by.grant.taken) (slice_get_within records (length by.g) (granted_record by.asking by.grant) at) at in
+      let more = counts_behind records (length by.g) (length records) (reservation_numbered by.grant.number by.asking by.grant.taken) at (slice_get_within records (length by.g) (granted_record by.asking by.grant) at) in
       let whole : below records (length records) ≡ total = ap (λ (w : List Record). length (reservations_of w)) (take-length records) in
       omega (arith, more, whole, number_below (draws o) owner found records query x by)
 
@@ -179,7 +158,7 @@ module _ (house : House) (draws : ℕ → ℕ → ℕ → ℕ) (spoken : List Tu
       later : (q : ℕ) (s : Reservation) → slice_get records q ≡ Some (Reserve s) → below records q ≡ n → length found ≤ q
       later q s at counted = elim (cases_lt q (length found)) [
         | inl before ↦
-            let less = below_more records q (length found) s before at in
+            let less = counts_behind records q (length found) s at before in
             let same : below records (length found) ≡ start = ap (λ (w : List Record). length (reservations_of w)) (prefix_take found records all.begins) in
             absurd (omega (arith, less, same, counted, low))
         | inr past ↦ past
@@ -237,8 +216,8 @@ module _ (house : House) (draws : ℕ → ℕ → ℕ → ℕ) (spoken : List Tu
             let both : Some e.1.x ≡ Some x = sym e.1.stands ∙ ap (λ k. slice_get xs k) (sym place) ∙ at in
             let same : e.1.x ≡ x = cc in
             let has : Has {A = Told} (k, settling by.grant.number outcome) x.told = subst (λ (y : Exchange). Has {A = Told} (k, settling by.grant.number outcome) y.told) same e.1.has in
-            let ends = settle_place (draws o) owner found records query by.asking by.grant by.g x done k by.grant.number outcome has in
-            absurd (omega (arith, lt, ends.0))
+            let ends = settle_told (draws o) owner found records query x by k by.grant.number outcome has in
+            absurd (omega (arith, lt, ends.place, one_end (draws o) owner found records query by.asking by.grant by.g x ends.done done))
 
         settled : (found_so : Option Outcome) → outcome_of done.u by.grant.number ≡ found_so → outcome_of done.u by.grant.number ≡ None
         settled None is = is
@@ -257,7 +236,7 @@ module _ (house : House) (draws : ℕ → ℕ → ℕ → ℕ) (spoken : List Tu
     pub asked_of : (j : ℕ) (x : Exchange) (query : Query) → slice_get xs j ≡ Some x → meant_at house x.turn ≡ wants o owner (asks query) → IsAskOf house x.turn.line o owner query
     asked_of j x query at meant =
         let who = place_of_all _ spoken known j x.turn (ap (λ w. slice_get w j) (sym turns) ∙ mapped_at (λ (x : Exchange). x.turn) xs j x at) in
-        (subst (λ (m : Meant). AsksOnly house x.turn.line m) meant (asks_only house x.turn.line x.turn.who who)).1 query refl
+        (subst (AsksOnly house x.turn.who x.turn.line) meant (asks_only house x.turn.who x.turn.line)).1 who query refl
 
     came_reserved : (j : ℕ) (x : Exchange) (query : Query) → slice_get xs j ≡ Some x → meant_at house x.turn ≡ wants o owner (asks query) → (by : By query x) (r : Reservation) → Reserve r ≡ granted_record by.asking by.grant
         → WasReserved owner start programs by.g r

@@ -21,7 +21,7 @@ two_workers zero = 0
 two_workers (suc at) = 1
 
 -- A line asks this owner, is granted on just these records, and settled at a later place.
-pub record IsHeld (house : House) (draws : ℕ → ℕ → ℕ → ℕ) (o : ℕ) (owner : Owner) (before : List Record) (x : Exchange) (query : Query)
+pub record IsSettledLater (house : House) (draws : ℕ → ℕ → ℕ → ℕ) (o : ℕ) (owner : Owner) (before : List Record) (x : Exchange) (query : Query)
     (asking : Ask) (grant : Grant) (outcome : Outcome) (place later : ℕ) : Type 0 where
   pub meant : meant_at house x.turn ≡ wants o owner (asks query)
   pub verdict : IsVerdict owner.entry (signature_of_view owner query.view) 0 before query (granted asking grant)

@@ -5,3 +5,4 @@ pub mod Crew
 pub mod Blocks
 pub mod Between
 pub mod Causes
+pub mod Order

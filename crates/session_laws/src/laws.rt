@@ -27,8 +27,9 @@ ghost use Rattle.session_laws.specs.ToldOnce.{AreToldOnce};
 ghost use Rattle.session_laws.specs.Growing.{AreGrowing};
 ghost use Rattle.session_laws.specs.Crew.{AreDone, AreTogether};
 ghost use Rattle.session_laws.specs.Blocks.{AreDealt};
-ghost use Rattle.session_laws.specs.Between.{two_workers, IsHeld, four_records};
+ghost use Rattle.session_laws.specs.Between.{two_workers, IsSettledLater, four_records};
 ghost use Rattle.session_laws.specs.Causes.{AreCaused};
+ghost use Rattle.session_laws.specs.Order.{LeastCodeRefuses, GrantsAreUnopposed};
 
 /// A script's exchanges, by any number of workers in any order, keep the promises to each owner: legal records within the budget,
 /// explained by the programs of the script's lines behind those of the records that were found, each line's reply the stated
@@ -176,6 +177,13 @@ pub fn blocks_are_dealt()
 /// An example, so that the premise of these laws can be met: of two workers' lines the second one's records may stand between the first one's.
 pub fn records_may_come_between()
     ensures { (house : House) (draws : ℕ → ℕ → ℕ → ℕ) (o : ℕ) (owner : Owner) (x y : Exchange) (q r : Query) (a b : Ask) (c d : Grant) (s t : Outcome) →
-        IsHeld house draws o owner [] x q a c s 0 3 → IsHeld house draws o owner (granted_record a c ∷ []) y r b d t 1 2 →
+        IsSettledLater house draws o owner [] x q a c s 0 3 → IsSettledLater house draws o owner (granted_record a c ∷ []) y r b d t 1 2 →
         AreGathered house draws 2 two_workers o [] (x ∷ y ∷ []) (four_records a b c d s t) }
+{}
+
+/// A line that asks is refused by itself, for its program or by the budget with the least code of all that could refuse it, and
+/// it is granted only where none could.
+pub fn the_least_code_refuses()
+    ensures least { LeastCodeRefuses }
+    ensures granted { GrantsAreUnopposed }
 {}

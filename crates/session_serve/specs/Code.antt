@@ -72,14 +72,14 @@ pub record HasParted (house : House) (draws : ℕ → ℕ → ℕ → ℕ) (star
 -- The session has ended where a reply could not be written.
 pub record HasBroken (house : House) (draws : ℕ → ℕ → ℕ → ℕ) (start : List Pass) (begin : Connection) (given : List ℕ) (now : Connection)
     (passes : List Pass) : Type 0 where
+  pub risen : HasRisen begin.faults now.faults
   pub replies : List Replied
   pub text : List ℕ
+  pub short : IsCutShort replies text
   pub whole : AreWhole given
   pub line : EndsInLine given
   pub told : HasAnswered house draws given replies start passes
   pub took : HasTaken begin.written text now.written
-  pub short : IsCutShort replies text
-  pub risen : HasRisen begin.faults now.faults
 
 -- What some bytes more lead to, the session having been given these before.
 abbrev pub Leads : House → (ℕ → ℕ → ℕ → ℕ) → (start : List Pass) → (begin : Connection) → (given more : List ℕ) → Result Bool Failed → Session

@@ -4,7 +4,7 @@
 
 ghost use Rattle.std.specs.Prelude.{◌≡◌};
 ghost use Rattle.std.specs.Process.{exit_status};
-ghost use Rattle.query_server.specs.Status.{code_of};
+ghost use Rattle.query_server.specs.Status.{status_code};
 ghost use Rattle.query_server.specs.declared.end.Status.{Status as Ended};
 
 use fz_outside::real::{RealFiles, RealSink, RealSource};
@@ -44,7 +44,7 @@ fn hold_number(rt: &HostRuntime) -> Option<fs::File> {
 
 /// Does the command of the process's words. The process is to end with the number of the command's status.
 pub fn run_process(rt: &HostRuntime) -> ExitCode
-    ensures { (status : Ended) × (exit_status result ≡ code_of status) }
+    ensures { (status : Ended) × (exit_status result ≡ status_code status) }
 {
     let _held = (hold_number(rt), hold_number(rt), hold_number(rt));
     let alloc = rt.alloc();

@@ -9,7 +9,8 @@ use Rattle.std.proofs.lemmas.List.Splits.{slice_split_at, slice_split_none, slic
 use Rattle.wire_lines.proofs.Cuts.{cut_cases}
 use Rattle.wire_lines.proofs.Numerals.{numeral_from, numeral_to, digits_apart}
 use Rattle.wire_lines.specs.Number.{IsNumeral, is_numeral}
-use Rattle.wire_lines.specs.Epsilon.{point, GREATEST, IsEpsilonText, in_millionths, epsilon_in_range, epsilon_between, epsilon_of}
+use Rattle.journal_records.specs.Encoding.{epsilon_limit}
+use Rattle.wire_lines.specs.Epsilon.{point, IsEpsilonText, in_millionths, epsilon_in_range, epsilon_between, epsilon_of}
 
 pub scale_small : (k : ℕ) → k ≤ 6 → 10 ^ k ≤ 1000000
 scale_small k small = pow-le-pow_right {n = 10} (omega arith) small
@@ -55,16 +56,16 @@ epsilon_cut text whole fraction apart cut =
           (and_right (is_numeral 4 whole) (is_numeral 6 fraction) (and_right (ltb 0 (length fraction) && leb (length fraction) 6) (list_all is_ascii_digit fraction) other)))
     ]
 
-range_from : (m n : ℕ) → epsilon_in_range m ≡ Some n → (n ≡ m) × (0 < n) × (n ≤ GREATEST)
+range_from : (m n : ℕ) → epsilon_in_range m ≡ Some n → (n ≡ m) × (0 < n) × (n ≤ epsilon_limit)
 range_from m n h =
-    let (inside, same) = cond_some (ltb 0 m && leb m GREATEST) m n h in
-    let (some, small) = and_parts (ltb 0 m) (leb m GREATEST) inside in
+    let (inside, same) = cond_some (ltb 0 m && leb m epsilon_limit) m n h in
+    let (some, small) = and_parts (ltb 0 m) (leb m epsilon_limit) inside in
     let low = ltb-true 0 m some in
-    let high = leb-true m GREATEST small in
+    let high = leb-true m epsilon_limit small in
     ((sym same), omega arith, omega arith)
 
-range_to : (m n : ℕ) → n ≡ m → 0 < n → n ≤ GREATEST → epsilon_in_range m ≡ Some n
-range_to m n same low high = cond-true (ltb 0 m && leb m GREATEST) _ _ (and_from _ _ (lt-ltb 0 m (omega arith)) (le-leb m GREATEST (omega arith))) ∙ ap (λ k. Some k) (sym same)
+range_to : (m n : ℕ) → n ≡ m → 0 < n → n ≤ epsilon_limit → epsilon_in_range m ≡ Some n
+range_to m n same low high = cond-true (ltb 0 m && leb m epsilon_limit) _ _ (and_from _ _ (lt-ltb 0 m (omega arith)) (le-leb m epsilon_limit (omega arith))) ∙ ap (λ k. Some k) (sym same)
 
 no_point : (n : ℕ) (text : List ℕ) → IsNumeral n text → All (λ b. b ≢ point) text
 no_point n text (some, short, digits) = digits_apart point refl text digits

@@ -13,7 +13,7 @@ use Rattle.wire_lines.specs.declared.refusal.LineRefusal.TheVariants.{Malformed,
 use Rattle.wire_lines.specs.declared.refusal.MoneyRefusal.TheVariants.{OverBudget, JournalFull}
 use Rattle.wire_lines.specs.declared.refusal.DiskRefusal.TheVariants.{Closed, Fault as DiskFault}
 use Rattle.wire_lines.specs.declared.refusal.NumberRefusal.TheVariants.{Exhausted as NoNoise, Lost as NoAnswer, Unknown as NoSuchNumber, NotYours}
-use Rattle.wire_lines.specs.declared.reply.Standing.TheVariants.{Answered, Open, Lost, Exhausted}
+use Rattle.journal_records.specs.declared.records.Outcome.TheVariants.{Answered, Exhausted, Lost}
 use Rattle.wire_lines.specs.declared.refusal.TypeFault.TheVariants.{Unbound, Mismatch, NotGround, NotFlat}
 use Rattle.wire_lines.proofs.Requests.{long_from, long_to}
 
@@ -504,23 +504,23 @@ unfolding reply_text digits
 greatest_answer = refl
 
 -- number, what became of it, records seen
-recalled_answer : reply_text (recalled 0 (Answered (pos 5)) 2) ≡ codes "recall 0 answer 5 2\n"
+recalled_answer : reply_text (recalled 0 (Some (Answered (pos 5))) 2) ≡ codes "recall 0 answer 5 2\n"
 unfolding reply_text digits
 recalled_answer = refl
 
-recalled_least : reply_text (recalled 4294967295 (Answered (negsuc 9223372036854775807)) 262144) ≡ codes "recall 4294967295 answer -9223372036854775808 262144\n"
+recalled_least : reply_text (recalled 4294967295 (Some (Answered (negsuc 9223372036854775807))) 262144) ≡ codes "recall 4294967295 answer -9223372036854775808 262144\n"
 unfolding reply_text digits
 recalled_least = refl
 
-recalled_open : reply_text (recalled 3 Open 7) ≡ codes "recall 3 open 7\n"
+recalled_open : reply_text (recalled 3 None 7) ≡ codes "recall 3 open 7\n"
 unfolding reply_text digits
 recalled_open = refl
 
-recalled_lost : reply_text (recalled 0 Lost 1) ≡ codes "recall 0 lost 1\n"
+recalled_lost : reply_text (recalled 0 (Some Lost) 1) ≡ codes "recall 0 lost 1\n"
 unfolding reply_text digits
 recalled_lost = refl
 
-recalled_exhausted : reply_text (recalled 1 Exhausted 4) ≡ codes "recall 1 exhausted 4\n"
+recalled_exhausted : reply_text (recalled 1 (Some Exhausted) 4) ≡ codes "recall 1 exhausted 4\n"
 unfolding reply_text digits
 recalled_exhausted = refl
 

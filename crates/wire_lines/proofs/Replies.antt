@@ -1,5 +1,5 @@
 -- The texts of replies.
-use Rattle.std.proofs.Common.{◌≡◌, ◌≢◌, ℕ, ℤ, pos, negsuc, suc, ◌-◌, ◌<◌, ◌≤◌, ◌^◌, Bool, true, false, not, ◌&&◌, cond, eqb, leb, List, [], ◌∷◌, ◌++◌, length, get_or, map, codes, bytes_eq, ◌⊎◌, decimal, inl, inr, refl, sym, ap, ◌∙◌, arith, append_assoc, append-nil}
+use Rattle.std.proofs.Common.{◌≡◌, ◌≢◌, ℕ, ℤ, pos, negsuc, suc, ◌-◌, ◌<◌, ◌≤◌, ◌^◌, Bool, true, false, not, ◌&&◌, cond, eqb, leb, List, [], ◌∷◌, ◌++◌, length, get_or, map, Option, Some, None, codes, bytes_eq, ◌⊎◌, decimal, inl, inr, refl, sym, ap, ◌∙◌, arith, append_assoc, append-nil}
 use Rattle.std.specs.Char.{is_ascii_digit}
 use Rattle.std.specs.Fmt.{signed_decimal}
 use Rattle.std.specs.List.{list_all, slice_split, onto_first, flat_map, AllByRecursion}
@@ -18,8 +18,8 @@ use Rattle.wire_lines.specs.Reply.{Replied, greeted, answered, recalled, remaini
 use Rattle.wire_lines.specs.declared.refusal.LineRefusal.{LineRefusal}
 use Rattle.wire_lines.specs.declared.refusal.LineRefusal.TheVariants.{Malformed, TooLong, Unknown, NoEpsilon, NoHello}
 use Rattle.wire_lines.specs.declared.refusal.MoneyRefusal.TheVariants.{OverBudget, JournalFull}
-use Rattle.wire_lines.specs.declared.reply.Standing.{Standing}
-use Rattle.wire_lines.specs.declared.reply.Standing.TheVariants.{Answered, Open, Lost, Exhausted}
+use Rattle.journal_records.specs.declared.records.Outcome.{Outcome}
+use Rattle.journal_records.specs.declared.records.Outcome.TheVariants.{Answered, Exhausted, Lost}
 use Rattle.wire_lines.specs.declared.refusal.DiskRefusal.TheVariants.{Closed, Fault as DiskFault}
 use Rattle.wire_lines.specs.declared.refusal.NumberRefusal.TheVariants.{Exhausted as NoNoise, Lost as NoAnswer, Unknown as NoSuchNumber, NotYours}
 use Rattle.wire_lines.specs.declared.refusal.TypeFault.{TypeFault}
@@ -134,15 +134,15 @@ nth words i = get_or words i []
 abbrev num : List (List ℕ) → ℕ → ℕ
 num words i = value (nth words i)
 
-abbrev standing_value : List ℕ → Standing
-standing_value word = cond (bytes_eq word (codes "open")) Open (cond (bytes_eq word (codes "lost")) Lost Exhausted)
+abbrev unanswered_value : List ℕ → Option Outcome
+unanswered_value word = cond (bytes_eq word (codes "open")) None (Some (cond (bytes_eq word (codes "lost")) Lost Exhausted))
 
--- an answer has a word more than another standing
+-- an answer has a word more than what else became of a reservation
 abbrev recalled_value : List (List ℕ) → Replied
 recalled_value ws =
     cond (bytes_eq (nth ws 1) (codes "answer"))
-    (recalled (num ws 0) (Answered (signed_value (nth ws 2))) (num ws 3))
-    (recalled (num ws 0) (standing_value (nth ws 1)) (num ws 2))
+    (recalled (num ws 0) (Some (Answered (signed_value (nth ws 2)))) (num ws 3))
+    (recalled (num ws 0) (unanswered_value (nth ws 1)) (num ws 2))
 
 abbrev rows : List (List ℕ × (List (List ℕ) → Replied))
 rows =
@@ -234,10 +234,10 @@ ratio_is (Fin p q) (first, second) =
 read_back_is : (reply : Replied) → IsReply reply → read_back (words_in reply) ≡ reply
 read_back_is (greeted analyst) h = refl
 read_back_is (answered n z taken) h = rw (value_is n h.0, signed_is z h.1.0, value_is taken h.1.1.0) refl
-read_back_is (recalled n (Answered z) seen) h = rw (value_is n h.0, signed_is z h.1.1.0, value_is seen h.1.1.1.0) refl
-read_back_is (recalled n Open seen) h = rw (value_is n h.0, value_is seen h.1.1.0) refl
-read_back_is (recalled n Lost seen) h = rw (value_is n h.0, value_is seen h.1.1.0) refl
-read_back_is (recalled n Exhausted seen) h = rw (value_is n h.0, value_is seen h.1.1.0) refl
+read_back_is (recalled n (Some (Answered z)) seen) h = rw (value_is n h.0, signed_is z h.1.1.0, value_is seen h.1.1.1.0) refl
+read_back_is (recalled n None seen) h = rw (value_is n h.0, value_is seen h.1.1.0) refl
+read_back_is (recalled n (Some Lost) seen) h = rw (value_is n h.0, value_is seen h.1.1.0) refl
+read_back_is (recalled n (Some Exhausted) seen) h = rw (value_is n h.0, value_is seen h.1.1.0) refl
 read_back_is (remaining spent budget seen) h = rw (value_is spent h.0, value_is budget h.1.0, value_is seen h.1.1.0) refl
 read_back_is ended h = refl
 read_back_is (refused (by_line (Malformed n))) h = rw (value_is n h.0) refl
@@ -310,7 +310,7 @@ kind_no_lf : (reply : Replied) → no_lf (reply_words reply).0 ≡ true
 unfolding no_lf
 kind_no_lf (greeted analyst) = refl
 kind_no_lf (answered n z taken) = refl
-kind_no_lf (recalled n standing seen) = refl
+kind_no_lf (recalled n outcome seen) = refl
 kind_no_lf (remaining spent budget seen) = refl
 kind_no_lf ended = refl
 kind_no_lf (refused refusal) = refusal_no_lf refusal

@@ -9,14 +9,14 @@ lf = 10
 abbrev pub cr : ℕ
 cr = 13
 
-abbrev pub space : ℕ
-space = 32
-
 -- without one CR at the end
 abbrev pub without_cr : List ℕ → List ℕ
 without_cr [] = []
 without_cr (b ∷ []) = if b == cr then [] else b ∷ []
 without_cr (b ∷ c ∷ bytes) = b ∷ without_cr (c ∷ bytes)
+
+abbrev pub space : ℕ
+space = 32
 
 -- what stands before each LF, and what stands after the last one where that has a byte
 abbrev pub pieces_of : List ℕ → List (List ℕ)

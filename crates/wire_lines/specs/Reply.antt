@@ -1,5 +1,5 @@
 -- The text of a reply line.
-use Rattle.std.specs.Prelude.{ℕ, ℤ, ◌<◌, ◌^◌, ◌==◌, if◌then◌else◌, IsTrue, List, [], ◌∷◌, ◌++◌, codes, decimal, FitsSigned, ⊤}
+use Rattle.std.specs.Prelude.{ℕ, ℤ, ◌<◌, ◌^◌, ◌==◌, if◌then◌else◌, IsTrue, List, [], ◌∷◌, ◌++◌, Option, Some, None, codes, decimal, FitsSigned, ⊤}
 use Rattle.std.specs.Fmt.{signed_decimal}
 use Rattle.std.specs.Int.{w64}
 use Rattle.std.specs.List.{flat_map, AllByRecursion}
@@ -11,12 +11,12 @@ use Rattle.wire_lines.specs.Codes.{code_of, code_text}
 use Rattle.wire_lines.specs.Refusal.{ProgramRefusal, no_token, no_term, too_nested, ill_typed, too_sensitive, out_of_range, unbounded, no_number, too_deep, too_long, too_wide, Refusal, by_line, by_program, by_money, by_disk, by_number, no_memory, refusal_at}
 use Rattle.wire_lines.specs.declared.reply.Reply.{Reply}
 use Rattle.wire_lines.specs.declared.reply.Reply.TheVariants.{Hello, Answer, Recalled, Left, Bye, Refused}
-use Rattle.wire_lines.specs.declared.reply.Standing.{Standing}
-use Rattle.wire_lines.specs.declared.reply.Standing.TheVariants.{Answered, Open, Lost, Exhausted}
+use Rattle.journal_records.specs.declared.records.Outcome.{Outcome}
+use Rattle.journal_records.specs.declared.records.Outcome.TheVariants.{Answered, Exhausted, Lost}
 use Rattle.wire_lines.specs.declared.reply.Field.{Field}
 use Rattle.wire_lines.specs.declared.reply.Field.TheVariants.{Number, Amount, Signed, Name, Fault, Ratio}
 use Rattle.wire_lines.specs.declared.refusal.LineRefusal.{LineRefusal}
-use Rattle.wire_lines.specs.declared.refusal.LineRefusal.TheVariants.{Malformed, TooLong, Unknown, NoEpsilon, NoHello}
+use Rattle.wire_lines.specs.declared.refusal.LineRefusal.TheVariants.{Malformed, Unknown}
 use Rattle.wire_lines.specs.declared.refusal.MoneyRefusal.{MoneyRefusal}
 use Rattle.wire_lines.specs.declared.refusal.MoneyRefusal.TheVariants.{OverBudget, JournalFull}
 use Rattle.wire_lines.specs.declared.refusal.DiskRefusal.{DiskRefusal}
@@ -30,7 +30,7 @@ use Rattle.wire_lines.specs.declared.refusal.TypeFault.TheVariants.{Unbound, Mis
 pub data Replied : Type 0 where
   greeted : List ℕ → Replied
   answered : ℕ → ℤ → ℕ → Replied
-  recalled : ℕ → Standing → ℕ → Replied
+  recalled : ℕ → Option Outcome → ℕ → Replied
   remaining : (spent budget seen : ℕ) → Replied
   ended : Replied
   refused : Refusal → Replied
@@ -111,17 +111,17 @@ no_words code data_words = (codes "no " ++ code_text code, data_words)
 abbrev pub refusal_words : Refusal → List ℕ × List Datum
 refusal_words refusal = no_words (code_of refusal) (refusal_data refusal)
 
--- what became of a reservation: its answer, or why it has none
-abbrev pub standing_words : Standing → List Datum
-standing_words (Answered value) = text (codes "answer") ∷ signed value ∷ []
-standing_words Open = text (codes "open") ∷ []
-standing_words Lost = text (codes "lost") ∷ []
-standing_words Exhausted = text (codes "exhausted") ∷ []
+-- how a reservation was settled: its answer, or why it has none; it is open where it isn't settled yet
+abbrev pub outcome_words : Option Outcome → List Datum
+outcome_words (Some (Answered value)) = text (codes "answer") ∷ signed value ∷ []
+outcome_words (Some Exhausted) = text (codes "exhausted") ∷ []
+outcome_words (Some Lost) = text (codes "lost") ∷ []
+outcome_words None = text (codes "open") ∷ []
 
 abbrev pub reply_words : Replied → List ℕ × List Datum
 reply_words (greeted analyst) = (codes "hello", text analyst ∷ [])
 reply_words (answered n value taken) = (codes "answer", number n ∷ signed value ∷ number taken ∷ [])
-reply_words (recalled n standing seen) = (codes "recall", number n ∷ standing_words standing ++ (number seen ∷ []))
+reply_words (recalled n outcome seen) = (codes "recall", number n ∷ outcome_words outcome ++ (number seen ∷ []))
 reply_words (remaining spent budget seen) = (codes "left", number spent ∷ number budget ∷ number seen ∷ [])
 reply_words ended = (codes "bye", [])
 reply_words (refused refusal) = refusal_words refusal
@@ -145,7 +145,7 @@ IsReply reply = AllByRecursion HasSize (reply_words reply).1
 abbrev pub replied : Reply → Replied
 replied (Hello analyst) = greeted analyst.bytes.now
 replied (Answer n value taken) = answered n value taken
-replied (Recalled n standing seen) = recalled n standing seen
+replied (Recalled n outcome seen) = recalled n outcome seen
 replied (Left spent budget seen) = remaining spent budget seen
 replied Bye = ended
 replied (Refused refusal) = refused (refusal_at refusal)

@@ -2,9 +2,10 @@
 use Rattle.std.specs.Prelude.{◌≡◌, ◌≢◌, ℕ, ◌+◌, ◌<◌, ◌≤◌, nat_lt, if◌then◌else◌, List, [], ◌∷◌, ◌++◌, length, codes, bytes_eq, All, Option, Some, None, ok_or, Result, Ok, Err, ⊤}
 use Rattle.std.specs.Borrow.{Bor}
 use Rattle.std.specs.Result.{result_map_both}
+use Rattle.journal_records.specs.Encoding.{epsilon_limit}
 use Rattle.wire_lines.specs.Lines.{space, words_of, joined}
 use Rattle.wire_lines.specs.Number.{IsNumberText, is_number, number_of}
-use Rattle.wire_lines.specs.Epsilon.{IsEpsilonText, epsilon_of, GREATEST}
+use Rattle.wire_lines.specs.Epsilon.{IsEpsilonText, epsilon_of}
 use Rattle.wire_lines.specs.declared.request.Request.{Request}
 use Rattle.wire_lines.specs.declared.request.Request.TheVariants.{Hello, Ask, AskPart, Recall, Left, Bye}
 use Rattle.wire_lines.specs.declared.refusal.LineRefusal.{LineRefusal}
@@ -116,12 +117,18 @@ abbrev pub end_at : ℕ → List (List ℕ) → Result ⊤ LineRefusal
 end_at n [] = Ok tt
 end_at n (_ ∷ _) = Err (Malformed n)
 
+-- the one word that is there
+abbrev pub word_alone : List (List ℕ) → Result (List ℕ) LineRefusal
+word_alone words = do
+  word ← word_at 1 words
+  _ ← end_at 2 word.1
+  Ok word.0
+
 -- What a line asks for, by the words behind its first one.
 abbrev pub hello_from : List (List ℕ) → Result Asked LineRefusal
 hello_from words = do
-  analyst ← word_at 1 words
-  _ ← end_at 2 analyst.1
-  Ok (hello analyst.0)
+  analyst ← word_alone words
+  Ok (hello analyst)
 
 abbrev pub ask_from : List (List ℕ) → Result Asked LineRefusal
 ask_from words = do
@@ -148,9 +155,8 @@ recall_from words = do
 
 abbrev pub left_from : List (List ℕ) → Result Asked LineRefusal
 left_from words = do
-  owner ← word_at 1 words
-  _ ← end_at 2 owner.1
-  Ok (left owner.0)
+  owner ← word_alone words
+  Ok (left owner)
 
 abbrev pub bye_from : List (List ℕ) → Result Asked LineRefusal
 bye_from words = do
@@ -200,9 +206,9 @@ number_and_words (number, rest) = (number, words_behind rest)
 abbrev pub HasEpsilonInRange : Request → Type 0
 HasEpsilonInRange (Hello analyst) = ⊤
 HasEpsilonInRange (Ask owner None program) = ⊤
-HasEpsilonInRange (Ask owner (Some n) program) = (0 < n) × (n ≤ GREATEST)
+HasEpsilonInRange (Ask owner (Some n) program) = (0 < n) × (n ≤ epsilon_limit)
 HasEpsilonInRange (AskPart owner partition key None program) = ⊤
-HasEpsilonInRange (AskPart owner partition key (Some n) program) = (0 < n) × (n ≤ GREATEST)
+HasEpsilonInRange (AskPart owner partition key (Some n) program) = (0 < n) × (n ≤ epsilon_limit)
 HasEpsilonInRange (Recall owner number) = ⊤
 HasEpsilonInRange (Left owner) = ⊤
 HasEpsilonInRange Bye = ⊤

@@ -21,5 +21,5 @@ pub use crate::name::Name;
 pub use crate::refusal::{
     DiskRefusal, LineRefusal, MoneyRefusal, NumberRefusal, ProgramRefusal, Refusal, TypeFault,
 };
-pub use crate::reply::{REPLY_LIMIT, Reply, Standing, write_reply, write_sensitivity};
+pub use crate::reply::{REPLY_LIMIT, Reply, write_reply, write_sensitivity};
 pub use crate::request::{LINE_LIMIT, Request, read_request};

@@ -17,19 +17,7 @@ use crate::refusal::{
 use Field::{Amount, Fault, Number, Ratio};
 use fz_frac::Sens;
 use itoa::Buffer;
-
-/// What became of a reservation.
-#[derive(Clone, Copy)]
-pub enum Standing {
-    /// It was answered with this value.
-    Answered(i64),
-    /// It was made in this run, and isn't settled yet.
-    Open,
-    /// Its answer was lost.
-    Lost,
-    /// Its draws were exhausted.
-    Exhausted,
-}
+use journal_records::records::Outcome;
 
 /// A reply line.
 #[derive(Clone, Copy)]
@@ -44,10 +32,11 @@ pub enum Reply<'a> {
         value: i64,
         taken: u64,
     },
-    /// The number of a reservation, what became of it, and the records seen.
+    /// The number of a reservation, how it was settled, which is none where it was made in this run and isn't
+    /// settled yet, and the records seen.
     Recalled {
         number: u32,
-        standing: Standing,
+        outcome: Option<Outcome>,
         seen: u32,
     },
     /// In millionths what is spent and the budget; and the records seen.
@@ -313,13 +302,18 @@ fn write_unanswered(
 }
 
 /// Writes what became of a reservation.
-fn write_recalled(number: u32, standing: Standing, seen: u32, out: &mut [u8; REPLY_LIMIT]) -> usize
+fn write_recalled(
+    number: u32,
+    outcome: Option<Outcome>,
+    seen: u32,
+    out: &mut [u8; REPLY_LIMIT],
+) -> usize
     ensures fits { result ≤ REPLY_LIMIT }
-    ensures sized { AllByRecursion HasSize (reply_words (recalled number standing seen)).1 }
-    ensures text { take result out.new ≡ line_text (reply_words (recalled number standing seen)) }
+    ensures sized { AllByRecursion HasSize (reply_words (recalled number outcome seen)).1 }
+    ensures text { take result out.new ≡ line_text (reply_words (recalled number outcome seen)) }
 {
-    match standing {
-        Standing::Answered(value) => {
+    match outcome {
+        Some(Outcome::Answered(value)) => {
             let said = Field::Name(Name { bytes: b"answer" });
             put_line(
                 out,
@@ -327,9 +321,9 @@ fn write_recalled(number: u32, standing: Standing, seen: u32, out: &mut [u8; REP
                 &[Number(number), said, Field::Signed(value), Number(seen)],
             )
         }
-        Standing::Open => write_unanswered(number, b"open", seen, out),
-        Standing::Lost => write_unanswered(number, b"lost", seen, out),
-        Standing::Exhausted => write_unanswered(number, b"exhausted", seen, out),
+        Some(Outcome::Exhausted) => write_unanswered(number, b"exhausted", seen, out),
+        Some(Outcome::Lost) => write_unanswered(number, b"lost", seen, out),
+        None => write_unanswered(number, b"open", seen, out),
     }
 }
 
@@ -355,9 +349,9 @@ fn write_line(reply: &Reply<'_>, out: &mut [u8; REPLY_LIMIT]) -> usize
         }
         Reply::Recalled {
             number,
-            standing,
+            outcome,
             seen,
-        } => write_recalled(number, standing, seen, out),
+        } => write_recalled(number, outcome, seen, out),
         Reply::Left {
             spent,
             budget,

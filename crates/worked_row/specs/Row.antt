@@ -2,16 +2,16 @@
 use Rattle.std.specs.Prelude.{◌≡◌, ◌⊎◌, ℕ, List, ◌++◌, codes}
 
 -- the analysts ann and bob, and the owner census, whose one table `people` has one column of numbers
-abbrev pub catalog_text : List ℕ
-catalog_text =
-    codes "{\"analysts\":[\"ann\",\"bob\"],\"owners\":[{\"name\":\"census\",\"budget\":10000000,\"capacity\":100,\"tables\":["
-    ++ codes "{\"name\":\"people\",\"file\":\"people.csv\",\"columns\":[{\"name\":\"age\",\"type\":\"num\"}]}],\"partitions\":[]}]}"
-
 abbrev pub table_text : List ℕ
 table_text = codes "age\n20\n30\n40\n"
 
 abbrev pub script : List ℕ
 script = codes "hello ann\nask census 1 size people\nbye\n"
+
+abbrev pub catalog_text : List ℕ
+catalog_text =
+    codes "{\"analysts\":[\"ann\",\"bob\"],\"owners\":[{\"name\":\"census\",\"budget\":10000000,\"capacity\":100,\"tables\":["
+    ++ codes "{\"name\":\"people\",\"file\":\"people.csv\",\"columns\":[{\"name\":\"age\",\"type\":\"num\"}]}],\"partitions\":[]}]}"
 
 abbrev pub row : List ℕ
 row = codes "hello ann\nanswer 0 5 1000000\nbye\n"

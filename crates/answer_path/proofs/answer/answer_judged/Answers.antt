@@ -14,14 +14,14 @@ use Rattle.part_views.specs.Views.{signature_in}
 use Rattle.owner_house.specs.Owner.{Owner}
 use Rattle.answer_path.specs.Program.{IsCharged}
 use Rattle.answer_path.specs.Verdict.{ask_for}
-use Rattle.answer_path.specs.Answered.{HasSmallAnswer, IsSettledBy}
+use Rattle.answer_path.specs.Answered.{HasSmallAnswer, IsSettledBy, IsUnasked}
 use Rattle.owner_desk.specs.Passes.{Pass}
 use Rattle.owner_desk.specs.Answers.{HasReserved}
 use Rattle.answer_path.specs.Turn.{IsTurn}
 use Rattle.answer_path.specs.Code.{query_of}
 use Rattle.answer_path.proofs.Charged.{accepted_finite, terms_of}
 use Rattle.answer_path.proofs.Answering.{owner_with, settled_by_term}
-use Rattle.answer_path.proofs.Turns.{of_owner, settled_small, settled_turn, unreserved_turn}
+use Rattle.answer_path.proofs.Turns.{fault_asked, of_owner, settled_asked, settled_small, settled_turn, unreserved_turn}
 use Rattle.answer_path.proofs.answer.answer_judged.Goals as goal
 
 pub fraction_of-requires : goal.fraction_of-requires
@@ -54,6 +54,14 @@ returns-in-Err-clause-turn g c =
     of_owner (λ (owner : Owner). IsTurn owner draws query pass (refused (refusal_at c.book_refusal_of.result)) after) pass dataset
     (λ name. subst (λ (r : Refusal). IsTurn (owner_with name pass.opened.ledger.entry dataset) draws query pass (refused r) after) (sym c.book_refusal_of.ensures)
     (unreserved_turn name dataset draws query pass after p q c.in-Err.fault accepts why))
+
+pub returns-in-Err-clause-asked : goal.returns-in-Err-clause-asked
+returns-in-Err-clause-asked g c = λ unasked. fault_asked c.in-Err.fault (subst (λ (r : Refusal). IsUnasked (refused r)) c.book_refusal_of.ensures unasked)
+
+pub returns-in-Ok-clause-asked : goal.returns-in-Ok-clause-asked
+returns-in-Ok-clause-asked g c = λ unasked.
+    let settled = c.settle.ensures.settled in
+    settled_asked c.in-Ok.grant c.outcome_at-outcome.result settled.0 (subst IsUnasked settled.2 unasked)
 
 pub returns-in-Ok-clause-turn : goal.returns-in-Ok-clause-turn
 returns-in-Ok-clause-turn g c =

@@ -42,6 +42,7 @@ returns-in-Err g c =
       step = λ owner is. let one = turn owner is in (one.told, one.asked, one.own);
       shuts = λ owner is other own. shuts_by owner draws query pass pass (refused refusal) (turn owner is) other own;
       due = λ owner is other own. due_by owner draws query pass pass (refused refusal) (turn owner is) other own;
+      same = λ unasked. refl;
       kept = refl;
       fits = tt;
     }
@@ -56,6 +57,9 @@ returns-in-Ok-judge-clause-shuts g c = λ owner is other own.
 pub returns-in-Ok-judge-clause-due : goal.returns-in-Ok-judge-clause-due
 returns-in-Ok-judge-clause-due g c = λ owner is other own.
     due_by owner _ _ c.args.pass.now c.answer_judged.new.pass (replied c.answer_judged.result) (c.answer_judged.ensures.turn owner is) other own
+
+pub returns-in-Ok-judge-clause-same : goal.returns-in-Ok-judge-clause-same
+returns-in-Ok-judge-clause-same g c = λ unasked. absurd (c.answer_judged.ensures.asked unasked)
 
 -- its term is refused
 pub returns : goal.returns
@@ -74,6 +78,7 @@ returns g c =
       step = λ owner is. let one = turn owner is in (one.told, one.asked, one.own);
       shuts = λ owner is other own. shuts_by owner draws query pass pass (refused refusal) (turn owner is) other own;
       due = λ owner is other own. due_by owner draws query pass pass (refused refusal) (turn owner is) other own;
+      same = λ unasked. refl;
       kept = refl;
       fits = tt;
     }

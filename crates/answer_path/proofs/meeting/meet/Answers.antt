@@ -50,3 +50,9 @@ pub returns-in-Balances-clause-due : goal.returns-in-Balances-clause-due
 returns-in-Balances-clause-due g c = λ whose is told own.
     subst (λ (d : DemandAt). LeavesDue whose (first_of_run c.args.pass.now) (demand_of d) (replied c.left.result) told c.left.new.pass.seen c.left.new.pass.failure) (sym c.in-Balances.is)
     (balance_due whose (first_of_run c.args.pass.now) (replied c.left.result) told c.left.new.pass)
+
+pub returns-in-Recalls-clause-same : goal.returns-in-Recalls-clause-same
+returns-in-Recalls-clause-same g c = λ unasked. absurd (c.recall.ensures.asked unasked)
+
+pub returns-in-Balances-clause-same : goal.returns-in-Balances-clause-same
+returns-in-Balances-clause-same g c = λ unasked. absurd (c.left.ensures.asked unasked)

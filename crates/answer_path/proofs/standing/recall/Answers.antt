@@ -1,8 +1,8 @@
 use Rattle.std.proofs.Common.{◌≡◌, sym, subst}
 use Rattle.budget_core.specs.Answers.{recalled}
 use Rattle.wire_lines.specs.Reply.{replied}
-use Rattle.answer_path.specs.Answered.{HasSmallAnswer}
-use Rattle.answer_path.proofs.Standings.{is_recalled, recall_small, stays_so}
+use Rattle.answer_path.specs.Answered.{HasSmallAnswer, IsUnasked}
+use Rattle.answer_path.proofs.Standings.{is_recalled, recall_asked, recall_small, stays_so}
 use Rattle.answer_path.proofs.standing.recall.Goals as goal
 
 pub returns-clause-told : goal.returns-clause-told
@@ -11,6 +11,9 @@ returns-clause-told g c =
 
 pub returns-clause-stays : goal.returns-clause-stays
 returns-clause-stays g c = stays_so c.args.pass.now c.recall.new.pass (λ ledger. c.recall.result ≡ recalled ledger c.args.number c.args.analyst) c.recall.ensures.told
+
+pub returns-clause-asked : goal.returns-clause-asked
+returns-clause-asked g c = λ unasked. recall_asked c.args.number c.recall.result (subst IsUnasked c.recall_reply_of.ensures unasked)
 
 pub returns-clause-fits : goal.returns-clause-fits
 returns-clause-fits g c = subst HasSmallAnswer (sym c.recall_reply_of.ensures) (recall_small c.args.number c.recall.result)

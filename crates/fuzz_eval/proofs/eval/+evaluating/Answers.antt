@@ -14,10 +14,11 @@ use Rattle.run_values.specs.Flats.{flats_of}
 use Rattle.run_values.specs.Parts.{elements, rebound}
 use Rattle.run_values.specs.Views.{IsFunction, function_of}
 use Rattle.fuzz_eval.specs.Loops.{Divided, Kept, Mapped, bound_element, function_inside}
+use Rattle.fuzz_eval.specs.Columns.{FiltersOnly, MapsOnly}
 use Rattle.fuzz_eval.specs.Operands.{GivesAtOnce, TakesApart}
 use Rattle.fuzz_eval.specs.Steps.{CanRanged, Gives1, Gives2, GivesRanged, GivesTimes, CanApply, CanTimes, HasValueWithin, injected}
 use Rattle.fuzz_eval.proofs.Applying.{app_can, app_gives, can_closure, element_gives, element_has, given, on_ok, same_function, filter_bag, filter_can, filter_gives, fn_can, fn_gives, fn_has, fun_gives, fun_has, if_ok, map_bag, map_can, map_gives, plain_here, split_bag, split_can, split_gives}
-use Rattle.fuzz_eval.proofs.Held.{high_held, low_held, num_held, times_held}
+use Rattle.row_kernels.proofs.Held.{high_held, low_held, num_held, times_held}
 use Rattle.fuzz_eval.proofs.Loops.{divided_all, divided_no, divided_none, divided_yes, kept_all, kept_can, kept_no, kept_none, kept_of, kept_sum, kept_yes, mapped_all, map_closure, map_nothing, mapped_can, mapped_more, mapped_none, filter_closure, split_nothing}
 use Rattle.fuzz_eval.proofs.Forms.{bang_has, bang_means, case_can, case_has, case_left, case_left_means, case_right, case_right_means, form_has, form_means, if_can, if_has, if_left, if_left_means, if_right, if_right_means, inject_has, inject_means, lambda_function, lambda_means, let_bang_can, let_bang_has, let_bang_inside, let_bang_means, let_has, let_inside, let_means, num_means, ranged_can, ranged_has, ranged_means, text_means, times_can, times_has, times_means, unary_can, unary_has, unary_means, unit_means, var_known, var_means}
 use Rattle.fuzz_eval.proofs.AtOnce.{apart_inside, apart_means, at_once_means}
@@ -675,3 +676,35 @@ filter-element_scope-requires t c = c.body_of-body.ensures.within
 
 pub split-element_scope-requires : goal.split-element_scope-requires
 split-element_scope-requires t c = c.body_of-body.ensures.within
+
+pub map-map_columns-requires-clause-function : goal.map-map_columns-requires-clause-function
+map-map_columns-requires-clause-function t c = map_closure c.args.left c.args.c.now (elements c.args.b.now) (omega (arith, c.if-size-eq0.false, c.size-size.ensures)) c.requires.can
+
+pub map-map_columns-requires-clause-bag : goal.map-map_columns-requires-clause-bag
+map-map_columns-requires-clause-bag t c = c.requires.bag
+
+pub map-returns-in_err-images : goal.map-returns-in_err-images
+map-returns-in_err-images t c = search rules
+
+pub map-returns-in-Some : goal.map-returns-in-Some
+map-returns-in-Some t c =
+    let k = c.requires.can in
+    let h : IfSome c.in_ok-images.field-0 (MapsOnly c.args.c.now (elements c.args.b.now)) = c.in_ok-images.ensures in
+    let only : MapsOnly c.args.c.now (elements c.args.b.now) c.in-Some.images = subst (λ (o : Option Value). IfSome o (MapsOnly c.args.c.now (elements c.args.b.now))) c.in-Some.is h in
+    (k.values, k.gives, only c.args.left k.values k.gives)
+
+pub filter-filter_columns-requires-clause-function : goal.filter-filter_columns-requires-clause-function
+filter-filter_columns-requires-clause-function t c = filter_closure c.args.left c.args.c.now (elements c.args.b.now) (omega (arith, c.if-size-eq0.false, c.size-size.ensures)) c.requires.can
+
+pub filter-filter_columns-requires-clause-bag : goal.filter-filter_columns-requires-clause-bag
+filter-filter_columns-requires-clause-bag t c = c.requires.bag
+
+pub filter-returns-in_err-chosen : goal.filter-returns-in_err-chosen
+filter-returns-in_err-chosen t c = search rules
+
+pub filter-returns-in-Some : goal.filter-returns-in-Some
+filter-returns-in-Some t c =
+    let k = c.requires.can in
+    let h : IfSome c.in_ok-chosen.field-0 (FiltersOnly c.args.c.now (elements c.args.b.now)) = c.in_ok-chosen.ensures in
+    let only : FiltersOnly c.args.c.now (elements c.args.b.now) c.in-Some.chosen = subst (λ (o : Option Value). IfSome o (FiltersOnly c.args.c.now (elements c.args.b.now))) c.in-Some.is h in
+    (k.kept, k.rest, k.gives, only c.args.left k.kept k.rest k.gives)

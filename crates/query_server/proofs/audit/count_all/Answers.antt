@@ -6,8 +6,9 @@ use Rattle.query_server.specs.Shelves.{bytes_on}
 use Rattle.query_server.specs.Opened.{IsOpened}
 use Rattle.query_server.specs.Books.{IsOpenStop}
 use Rattle.query_server.proofs.Disks.{same_still}
-use Rattle.query_server.proofs.Counted.{count_stopped, none_counted, one_counted, one_left, one_still, opened_as, rose_since, stop_passed}
+use Rattle.query_server.proofs.Counted.{none_counted, one_counted, one_left, one_still, opened_as, rose_since, still_elsewhere, stop_passed}
 use Rattle.query_server.proofs.Ran.{passed_disk}
+use Rattle.query_server.proofs.Stops.{book_stopped}
 use Rattle.query_server.proofs.audit.count_all.Goals as goal
 
 pub loop-owner-init : goal.loop-owner-init
@@ -37,9 +38,9 @@ returns-in_err-count_owner-clause-stop g c =
     let stop = c.in_err-count_owner.field-0.0 in
     stop_passed (IsOpenStop loading c.args.opened.now.key (g.B.Bay.shelf c.args.bay.now) (g.B.Bay.shelf c.count_owner.new.bay)) stop
     c.from_residual-in_err-count_owner.result c.from_residual-in_err-count_owner.ensures.1
-    (count_stopped loading c.args.opened.now.key c.loop-owner.owner (g.B.Bay.shelf c.args.bay.now) (g.B.Bay.shelf c.loop-owner.bay) (g.B.Bay.shelf c.count_owner.new.bay) stop
+    (book_stopped loading c.args.opened.now.key c.loop-owner.owner (g.B.Bay.shelf c.args.bay.now) (g.B.Bay.shelf c.loop-owner.bay) (g.B.Bay.shelf c.count_owner.new.bay) stop
     (omega (arith, c.loop-owner-test.true, c.len-owner-end.ensures, c.in_ok-headers.ensures.count)) (c.loop-owner.invariant.disks.others c.loop-owner.owner (omega arith))
-    (λ p less. (counted.0 p, counted.1 p less)) c.loop-owner.invariant.still c.in_err-count_owner.ensures.left c.in_err-count_owner.ensures.stop)
+    (λ p less. (counted.0 p, counted.1 p less)) (still_elsewhere _ _ _ _ c.loop-owner.invariant.still c.in_err-count_owner.ensures.left) c.in_err-count_owner.ensures.stop)
 
 pub returns-in_err-count_owner-clause-disk : goal.returns-in_err-count_owner-clause-disk
 returns-in_err-count_owner-clause-disk g c line is =

@@ -4,9 +4,10 @@ use Rattle.catalog_loading.specs.declared.stops.Stop.TheVariants.{Disk}
 use Rattle.owner_desk.specs.Passes.{Pass}
 use Rattle.catalog_loading.specs.Loaded.{header_of, entry_at, owners_in}
 use Rattle.query_server.specs.Books.{ArePassesOn}
-use Rattle.query_server.proofs.Passes.{no_other_opened, one_opened, opened_pass, risen_from, rose_by, rose_still, some_back}
+use Rattle.query_server.proofs.Disks.{risen_from}
+use Rattle.query_server.proofs.Passes.{no_other_opened, one_opened, opened_pass, rose_by, rose_still, some_back}
 use Rattle.query_server.proofs.Ran.{opened_passes}
-use Rattle.query_server.proofs.Stops.{err_same, open_stopped}
+use Rattle.query_server.proofs.Stops.{book_stopped, err_same, opened_before}
 use Rattle.query_server.proofs.books.open_passes.Goals as goal
 
 pub returns-clause-house : goal.returns-clause-house
@@ -26,8 +27,12 @@ pub returns-in-Err-clause-stop : goal.returns-in-Err-clause-stop
 returns-in-Err-clause-stop g c =
     let loading = c.args.opened.now.loading in
     let within : c.loop-owner.owner < owners_in loading = omega (arith, c.loop-owner-test.true, c.loop-owner.auto.owner-end, c.in_ok-headers.ensures.count) in
-    open_stopped loading c.args.opened.now.key c.loop-owner.owner _ _ _ c.loop-owner.passes.items c.in-Err.stop within c.loop-owner.invariant.on
-    (no_other_opened _ _ c.loop-owner.owner _ _ _ _ c.loop-owner.passes.items c.put_back.ensures.back.0 c.loop-owner.invariant.on c.in-Err.ensures.left c.put_back.ensures.back.1) c.in-Err.ensures.stop
+    let on = c.loop-owner.invariant.on in
+    let old = g.B.Bay.shelf c.args.bay.now in
+    let mid = g.B.Bay.shelf c.loop-owner.bay in
+    book_stopped loading c.args.opened.now.key c.loop-owner.owner old mid (g.B.Bay.shelf c.put_back.new.bay) c.in-Err.stop within (on.others c.loop-owner.owner (omega arith))
+    (opened_before loading c.args.opened.now.key c.loop-owner.owner old mid c.loop-owner.passes.items on)
+    (no_other_opened _ _ c.loop-owner.owner _ _ _ _ c.loop-owner.passes.items c.put_back.ensures.back.0 on c.in-Err.ensures.left c.put_back.ensures.back.1) c.in-Err.ensures.stop
 
 pub loop-owner-preserved : goal.loop-owner-preserved
 loop-owner-preserved g c =
@@ -79,7 +84,7 @@ returns-in-Err-clause-cause g c = λ line is.
     let same = err_same c.in-Err.stop (Disk line) _ refl is in
     let rose = c.in-Err.ensures.cause line (ap Err same) in
     rose_by rose
-    (λ bay. (risen_from _ _ _ c.loop-owner.invariant.faults (omega (arith, c.in-Err.ensures.bay.1, c.put_back.ensures.faults)) (λ less. omega (arith, bay less, c.put_back.ensures.faults))))
+    (risen_from _ _ _ _ c.loop-owner.invariant.faults c.in-Err.ensures.bay.1 (omega (arith, c.put_back.ensures.faults)))
     (rose_still _ _ c.loop-owner.owner _ _ _ _ c.loop-owner.passes.items c.put_back.ensures.back.0 c.loop-owner.invariant.on c.put_back.ensures.back.1)
 
 pub new-requires-clause-book : goal.new-requires-clause-book

@@ -4,15 +4,14 @@ use Rattle.owner_desk.specs.Passes.{Pass}
 use Rattle.owner_house.specs.House.{Register, house_of}
 use Rattle.session_core.specs.Code.{ArePasses}
 use Rattle.catalog_loading.specs.Loaded.{owners_in}
-use Rattle.query_server.specs.Ends.{IsAnsweredOn}
-use Rattle.query_server.specs.declared.end.End.TheVariants.{Run}
+use Rattle.query_server.specs.Ends.{IsScriptEnd}
 use Rattle.query_server.proofs.Contents.{any_left}
+use Rattle.query_server.proofs.Ends.{took_passed}
 use Rattle.query_server.proofs.Ran.{answered_count, answered_in, answered_no_disk, few_owners, open_passed, run_ends}
-use Rattle.query_server.proofs.Taking.{took_passed}
 use Rattle.query_server.proofs.run.answer.Goals as goal
 
 pub returns-in_err-open_passes-clause-taken : goal.returns-in_err-open_passes-clause-taken
-returns-in_err-open_passes-clause-taken g c = took_passed _ Run c.in_err-open_passes.field-0.0 c.from_residual.result c.from_residual.ensures.1
+returns-in_err-open_passes-clause-taken g c = took_passed _ c.in_err-open_passes.field-0.0 c.from_residual.result c.from_residual.ensures.1
 
 pub returns-in_err-open_passes-clause-end : goal.returns-in_err-open_passes-clause-end
 returns-in_err-open_passes-clause-end g c = λ workers.
@@ -50,8 +49,8 @@ returns-clause-end g c = λ workers.
     let passes = c.in_ok-open_passes.field-0.items in
     let after = c.into_vec.result.items in
     let due = c.answer_over-end.ensures.end in
-    let answered = subst (λ (ps : List Pass). IsAnsweredOn house (draws_of key) due.0 ps after c.answer_over-end.result) c.new-passes.ensures
-    (subst (λ (ps : List Pass). IsAnsweredOn house (draws_of key) due.0 c.new-passes.result ps c.answer_over-end.result) (sym c.into_vec.ensures) (answered_in c.house-house.result.now loading.register c.key.result c.args.opened.now.key due.0 _ _ c.answer_over-end.result c.house-house.ensures.house c.key.ensures due.2)) in
+    let answered = subst (λ (ps : List Pass). IsScriptEnd house (draws_of key) due.0 ps after c.answer_over-end.result) c.new-passes.ensures
+    (subst (λ (ps : List Pass). IsScriptEnd house (draws_of key) due.0 c.new-passes.result ps c.answer_over-end.result) (sym c.into_vec.ensures) (answered_in c.house-house.result.now loading.register c.key.result c.args.opened.now.key due.0 _ _ c.answer_over-end.result c.house-house.ensures.house c.key.ensures due.2)) in
     (due.0, due.1, run_ends loading key c.house-house.ensures.lawful.lawful workers _ _ _ passes after c.put_back.ensures.back.0 due.0 c.answer_over-end.result c.in_ok-open_passes.ensures.passes answered c.put_back.ensures.back.1)
 
 pub returns-clause-disk : goal.returns-clause-disk

@@ -1,10 +1,10 @@
+use Rattle.std.proofs.lemmas.List.{set-get_or}
 use Rattle.std.proofs.Common.{◌≡◌, ◌<◌, ◌∙◌, List, [], ◌∷◌, length, set, refl, sym, ap, subst}
 use Rattle.wire_lines.specs.Reply.{replied}
-use Rattle.budget_core.specs.Entries.{Entry}
 use Rattle.owner_catalog.specs.Entries.{PartitionEntry}
 use Rattle.owner_house.specs.House.{house_of, owner_at}
 use Rattle.owner_desk.specs.Passes.{Pass}
-use Rattle.answer_path.specs.Code.{demand_of, IsDemandOf, HasPartFor}
+use Rattle.answer_path.specs.Code.{demand_of, HasPartFor}
 use Rattle.session_core.specs.Exchanges.{Exchange}
 use Rattle.session_core.specs.Code.{meaning_of, pass_at, AreServed}
 use Rattle.session_core.specs.declared.line.LineMeaning.TheVariants.{Says, Wants}
@@ -43,6 +43,12 @@ returns-in-Wants-clause-served g c =
       subst (λ (before : List Pass). AreServed house draws (x ∷ []) before (set items n c.meet.new.pass)) c.passes.view_is
           (served_wants house draws x demand n (owner_at house n) items pass c.meet.new.pass is within old c.meet.ensures.kept met.2 met.1 met.3),
     )
+
+pub returns-in-Wants-clause-same : goal.returns-in-Wants-clause-same
+returns-in-Wants-clause-same g c = λ unasked.
+    let items = c.passes.inside.each.items in
+    let n = c.in-Wants.owner in
+    ap (λ (pass : Pass). set items n pass) (c.meet.ensures.same unasked ∙ c.index_mut.ensures.value) ∙ set-get_or items n c.index_mut.result.now ∙ c.passes.view_is
 
 pub returns-in-Wants-clause-who : goal.returns-in-Wants-clause-who
 returns-in-Wants-clause-who g c =

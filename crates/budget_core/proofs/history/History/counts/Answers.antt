@@ -1,6 +1,6 @@
 use Rattle.std.proofs.Common.{length, ap, arith}
 use Rattle.budget_core.specs.Counts.{reservations_of}
-use Rattle.budget_core.specs.Past.{Past}
+use Rattle.budget_core.specs.History.{History}
 use Rattle.budget_core.proofs.Standings.{settled-within}
 use Rattle.budget_core.proofs.history.History.counts.Goals as goal
 
@@ -13,5 +13,5 @@ overflow_sub-result c =
       c.self.invariant.totals.answered,
       c.self.invariant.totals.exhausted,
       c.reservations-reservations.ensures,
-      ap (λ (p : Past). length (reservations_of p.records)) c.self.view_is,
+      ap (λ (p : History). length (reservations_of p.records)) c.self.view_is,
     )

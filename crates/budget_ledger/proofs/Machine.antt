@@ -1,0 +1,47 @@
+-- A book is the pure machine of budgets.
+use Rattle.std.proofs.Common.{◌≡◌, ℕ, Bool, true, List, [], ◌∷◌, ◌++◌, Result, Ok, is_none, if◌then◌else◌, refl, sym, ◌∙◌, ap}
+use Rattle.std.proofs.lemmas.Bool.{and_from, le-leb}
+use Rattle.journal_records.specs.declared.records.Outcome.{Outcome}
+use Rattle.journal_records.specs.declared.records.Record.{Record}
+use Rattle.journal_records.specs.Records.{settling}
+use Rattle.budget_core.specs.declared.entry.ReserveFault.{ReserveFault}
+use Rattle.budget_core.specs.declared.entry.Grant.{Grant}
+use Rattle.budget_core.specs.declared.events.Event.TheVariants.{Reserve as ToReserve, Settle as ToSettle}
+use Rattle.budget_core.specs.Events.{World, is_ask_of, is_unsettled, stepped}
+use Rattle.budget_core.specs.Ledger.{Ledger, start_of, reservation_for, money_verdict, records_after, IsUnsettled}
+use Rattle.budget_core.proofs.Asks.{ask-test}
+use Rattle.budget_core.proofs.EventLemmas.{if-left, reserved-step}
+use Rattle.budget_ledger.specs.Account.{Account}
+use Rattle.budget_ledger.specs.Machine.{world_by, ReservesAsTheMachine, RefusesAsTheMachine, SettlesAsTheMachine, OpensAsTheMachine}
+
+-- the world of a book with one record more
+with_record : (old : Account) (ledger : Ledger) (next : Record) (sent : List ℕ) → ledger ≡ record old.ledger { records = old.ledger.records ++ next ∷ [] }
+    → record (world_by old sent) { records = old.ledger.records ++ next ∷ [] } ≡ record { records = ledger.records; start = start_of ledger; running = true; sent = sent }
+with_record old ledger next sent is = ap (λ (l : Ledger). record { records = l.records; start = start_of l; running = true; sent = sent }) (sym is)
+
+pub reserves : ReservesAsTheMachine
+reserves old new ask grant sent of (verdict, gained, unsettled) =
+    sym (reserved-step old.ledger.entry (world_by old sent) ask grant refl (ask-test old.ledger.entry ask of) verdict)
+    ∙ with_record old new.ledger (reservation_for old.ledger.records ask grant.taken) sent gained.ledger
+
+pub refuses : RefusesAsTheMachine
+refuses old new ask fault sent of (verdict, same) =
+    let world : World = world_by old sent in
+    if-left true (is_ask_of old.ledger.entry ask)
+    (record world { records = records_after world.records ask (money_verdict old.ledger.entry world.start world.records ask) }) world refl
+    (ask-test old.ledger.entry ask of)
+    ∙ ap (λ (v : Result Grant ReserveFault). record world { records = records_after world.records ask v }) verdict
+    ∙ ap (λ (a : Account). world_by a sent) (sym same)
+
+unsettled_test : (ledger : Ledger) (number : ℕ) → IsUnsettled ledger number → is_unsettled (start_of ledger) ledger.records number ≡ true
+unsettled_test ledger number is = and_from _ _ (and_from _ _ (le-leb (start_of ledger) number is.ours) is.reserved) (ap is_none is.unsettled)
+
+pub settles : SettlesAsTheMachine
+settles old new number seen outcome sent unsettled (gained, counted) =
+    let world : World = world_by old sent in
+    if-left true (is_unsettled world.start world.records number) (record world { records = world.records ++ settling number outcome ∷ [] }) world refl
+    (unsettled_test old.ledger number unsettled)
+    ∙ with_record old new.ledger (settling number outcome) sent gained.ledger
+
+pub opens : OpensAsTheMachine
+opens entry found start running sent book is = ap (λ (l : Ledger). record { records = l.records; start = start_of l; running = true; sent = sent }) (sym is)

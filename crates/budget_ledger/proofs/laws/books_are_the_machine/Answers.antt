@@ -1,0 +1,14 @@
+use Rattle.budget_ledger.proofs.Machine.{reserves, refuses, settles, opens}
+use Rattle.budget_ledger.proofs.laws.books_are_the_machine.Goals as goal
+
+pub returns-clause-reserves : goal.returns-clause-reserves
+returns-clause-reserves c = reserves
+
+pub returns-clause-refuses : goal.returns-clause-refuses
+returns-clause-refuses c = refuses
+
+pub returns-clause-settles : goal.returns-clause-settles
+returns-clause-settles c = settles
+
+pub returns-clause-opens : goal.returns-clause-opens
+returns-clause-opens c = opens

@@ -1,0 +1,40 @@
+-- A book is the pure machine of budgets: what it answers Ok is the machine's own step.
+use Rattle.std.specs.Prelude.{◌≡◌, ℕ, Bool, true, List, Ok, Err}
+use Rattle.journal_records.specs.declared.records.Outcome.{Outcome}
+use Rattle.journal_records.specs.declared.records.Record.{Record}
+use Rattle.budget_core.specs.declared.entry.Ask.{Ask}
+use Rattle.budget_core.specs.declared.entry.Grant.{Grant}
+use Rattle.budget_core.specs.declared.entry.ReserveFault.{ReserveFault}
+use Rattle.budget_core.specs.declared.events.Event.TheVariants.{Reserve as ToReserve, Settle as ToSettle, Open}
+use Rattle.budget_core.specs.Entries.{Entry}
+use Rattle.budget_core.specs.Events.{World, stepped}
+use Rattle.budget_core.specs.Ledger.{start_of, IsAskOf, IsUnsettled}
+use Rattle.budget_ledger.specs.Account.{Account}
+use Rattle.budget_ledger.specs.Booked.{IsReserved, IsSettlementOf}
+use Rattle.budget_ledger.specs.declared.book.BookFault.TheVariants.{Refused}
+
+-- the machine's world that a book is in, where these numbers' answers were sent
+abbrev pub world_by : Account → (sent : List ℕ) → World
+world_by account sent = record { records = account.ledger.records; start = start_of account.ledger; running = true; sent = sent }
+
+-- A reservation that is granted is the machine's,
+abbrev pub ReservesAsTheMachine : Type 0
+ReservesAsTheMachine = (old new : Account) (ask : Ask) (grant : Grant) (sent : List ℕ) → IsAskOf old.ledger.entry ask → IsReserved old ask (Ok grant) new
+    → stepped old.ledger.entry (world_by old sent) (ToReserve ask) ≡ world_by new sent
+
+-- and of an ask that the budget refuses the machine makes nothing, as the book.
+abbrev pub RefusesAsTheMachine : Type 0
+RefusesAsTheMachine = (old new : Account) (ask : Ask) (fault : ReserveFault) (sent : List ℕ) → IsAskOf old.ledger.entry ask
+    → IsReserved old ask (Err (Refused fault)) new → stepped old.ledger.entry (world_by old sent) (ToReserve ask) ≡ world_by new sent
+
+-- So is a settlement,
+abbrev pub SettlesAsTheMachine : Type 0
+SettlesAsTheMachine = (old new : Account) (number seen : ℕ) (outcome : Outcome) (sent : List ℕ) → IsUnsettled old.ledger number
+    → IsSettlementOf old number outcome (Ok seen) new
+    → stepped old.ledger.entry (world_by old sent) (ToSettle number outcome) ≡ world_by new sent
+
+-- and an opening, of whatever was found and whatever ran before.
+abbrev pub OpensAsTheMachine : Type 0
+OpensAsTheMachine = (entry : Entry) (found : List Record) (start : ℕ) (running : Bool) (sent : List ℕ) (book : Account)
+    → book.ledger ≡ record { entry = entry; found = found; records = found }
+    → stepped entry (record { records = found; start = start; running = running; sent = sent }) Open ≡ world_by book sent

@@ -1,0 +1,150 @@
+-- what files a stop leaves, and an answered script as a run
+use Rattle.std.proofs.Common.{◌≡◌, ℕ, ◌+◌, Bool, true, List, [], ◌∷◌, ◌++◌, slice_get, Option, Some, None, refl, sym, ◌∙◌, ap, subst, arith}
+use Rattle.std.specs.Prelude.{IfSome}
+use Rattle.std.proofs.lemmas.Option.{slice_get_within}
+use mathlib.Core.Logic.{◌⊎◌, inl, inr}
+use mathlib.Core.List.{IsPrefix}
+use Rattle.word_streams.specs.Draws.{draws_of}
+use Rattle.outside_disks.specs.Disks.{Trace, Shown, Leaves, Passes, WhereTold, noted}
+use Rattle.outside_disks.specs.Disks.Step.{Synced}
+use Rattle.outside_disks.proofs.Images.{passes-weaker}
+use Rattle.journal_records.specs.declared.records.Header.{Header}
+use Rattle.journal_records.specs.declared.records.Record.{Record}
+use Rattle.budget_journal.specs.Journals.{Stands}
+use Rattle.budget_journal.proofs.One.{stands-one}
+use Rattle.budget_core.specs.Entries.{Entry}
+use Rattle.budget_core.specs.Legal.{MayFollow}
+use Rattle.budget_ledger.specs.Account.{IsMoment, IsKeptNow}
+use Rattle.budget_ledger.specs.declared.failure.Failure.{Failure}
+use Rattle.owner_house.specs.Owner.{Owner}
+use Rattle.owner_house.specs.House.{House, IsOwnerIn, house_of}
+use Rattle.owner_house.proofs.Owners.{entry_said, in_catalog, register_owners}
+use Rattle.owner_history.specs.Sound.{IsFound}
+use Rattle.owner_history.proofs.Prefixes.{prefix_self, prefix_by, prefix_trans}
+use Rattle.answer_path.specs.Demand.{Demand}
+use Rattle.session_core.specs.Code.{IsAnalyst}
+use Rattle.session_core.specs.Meant.{wants}
+use Rattle.session_core.specs.Turns.{Turn, meant_at, turns_of}
+use Rattle.session_core.specs.Exchanges.{Exchange}
+use Rattle.session_core.specs.Gathered.{part_of, AreGathered}
+use Rattle.session_core.specs.Transcript.{Journals, first_new}
+use Rattle.session_core.proofs.Turns.{turns_known}
+use Rattle.session_laws.specs.Growing.{IsMetOn}
+use Rattle.session_laws.proofs.Growing.{growing}
+use Rattle.session_laws.proofs.Listed.{mapped_at, place_of_all}
+use Rattle.session_laws.proofs.Locals.{part_has}
+use Rattle.catalog_loading.specs.Loaded.{IsLoading, Loading, entry_at, header_of}
+use Rattle.query_server.specs.Shelves.{Shelf}
+use Rattle.query_server.specs.Run.{IsScriptAnswered, WentOn, crew_size}
+use Rattle.successive_runs.specs.Left.{IsLeft}
+use Rattle.successive_runs.specs.Life.{IsRun, none_sent}
+use Rattle.successive_runs.specs.Kept.{MayBeGoneOnFrom}
+use Rattle.successive_runs.specs.Script.{run_of, IsLeftOf}
+use Rattle.successive_runs.proofs.Ran.{gone_on}
+
+pub moment_stands : (header : Header) (found records : List Record) (closed : Option Failure) (bytes : List ℕ) → IsMoment header found records closed bytes
+    → (left : List Record) × Stands header left bytes × IsLeft found records closed left
+moment_stands header found records closed bytes (inl (left, begins, ends, stands)) = (left, stands, inl (begins, ends))
+moment_stands header found records closed bytes (inr (failure, is, stands)) = (records ++ failure.pending ∷ [], stands, inr (failure, is, refl))
+
+pub moment_others : (header : Header) (found records left : List Record) (closed : Option Failure) (bytes : List ℕ) → IsMoment header found records closed bytes → Stands header left bytes → IsLeft found records closed left
+moment_others header found records left closed bytes moment stands =
+    let m = moment_stands header found records closed bytes moment in
+    subst (λ (w : List Record). IsLeft found records closed w) (stands-one header m.0 left bytes m.1 stands) m.2
+
+-- A line's reply was made on records that stand in those of the run, and in all that go on from them.
+pub met_on_all : (house : House) (draws : ℕ → ℕ → ℕ → ℕ) (count : ℕ) (crew : ℕ → ℕ) (o : ℕ) (found : List Record) (xs : List Exchange) (records left : List Record) → AreGathered house draws count crew o found xs records → IsPrefix records left
+    → (place : ℕ) (x : Exchange) (asked : Owner) (demand : Demand) → slice_get xs place ≡ Some x → meant_at house x.turn ≡ wants o asked demand → IsMetOn (draws o) (first_new found) asked demand found x left
+met_on_all house draws count crew o found xs records left all ends place x asked demand at meant =
+    let same : 0 + place ≡ place = omega arith in
+    let p = part_has crew (crew place) 0 xs place x at (ap crew same) in
+    let m = (growing house draws o found (part_of crew (crew place) 0 xs) records (all.workers (crew place) (all.crews place))).each p.0 x asked demand p.1 meant in
+    record { seen = m.seen; after = m.after; begins = m.begins; meets = m.meets; stands = prefix_trans m.after records left m.stands ends }
+
+told_weaker : (P Q : List ℕ → Type 0) → ((bytes : List ℕ) → P bytes → Q bytes) → (old new : Option Trace) → WhereTold (Passes P) old new → WhereTold (Passes Q) old new
+told_weaker P Q weaker None None p = tt
+told_weaker P Q weaker None (Some u) p = p
+told_weaker P Q weaker (Some t) None p = p
+told_weaker P Q weaker (Some t) (Some u) p = passes-weaker P Q t u weaker p
+
+leaves_weaker : (P Q : List ℕ → Type 0) → ((bytes : List ℕ) → P bytes → Q bytes) → (told : Option Trace) → IfSome told (Leaves P) → IfSome told (Leaves Q)
+leaves_weaker P Q weaker None p = tt
+leaves_weaker P Q weaker (Some t) p = λ bytes image. weaker bytes (p bytes image)
+
+-- a file of records that are all there, and perhaps that one whose append failed
+record HasAll (header : Header) (found records : List Record) (closed : Option Failure) (bytes : List ℕ) : Type 0 where
+  pub left : List Record
+  pub stands : Stands header left bytes
+  pub leaves : IsLeft found records closed left
+  pub all : IsPrefix records left
+
+kept_has_all : (header : Header) (found records : List Record) (closed : Option Failure) → IsPrefix found records → (told : Option Trace) → IfSome told (IsKeptNow header records closed) → IfSome told (Leaves (HasAll header found records closed))
+kept_has_all header found records closed begins None kept = tt
+kept_has_all header found records None begins (Some t) rest = λ bytes image.
+    record { left = records; stands = subst (Stands header records) (sym (rest.stable bytes image)) rest.stands; leaves = inl (begins, prefix_self records); all = prefix_self records }
+kept_has_all header found records (Some failure) begins (Some t) kept = λ bytes image. either bytes (kept bytes image)
+  where
+    either : (bytes : List ℕ) → Stands header records bytes ⊎ Stands header (records ++ failure.pending ∷ []) bytes → HasAll header found records (Some failure) bytes
+    either bytes (inl stands) = record { left = records; stands = stands; leaves = inl (begins, prefix_self records); all = prefix_self records }
+    either bytes (inr stands) = record { left = records ++ failure.pending ∷ []; stands = stands; leaves = inr (failure, refl, refl); all = prefix_by records (failure.pending ∷ []) }
+
+module _ (loading : Loading) (key : List ℕ) (workers : ℕ) (old new : Shelf) (found : Journals) (script text : List ℕ) (lawful : IsLoading loading)
+    (done : IsScriptAnswered loading key workers old new found script text) (o : ℕ) (owner : Owner) (before after : Shown)
+    (at : slice_get (house_of loading.register).owners o ≡ Some owner) (was : old o ≡ Some before) (is : new o ≡ Some after) where
+  abbrev house : House
+  house = house_of loading.register
+
+  abbrev header : Header
+  header = header_of loading key o
+
+  abbrev Left : (sent : ℕ → Bool) → (bytes : List ℕ) → Type 0
+  Left sent bytes = IsLeftOf loading key workers old new found script text done o owner sent bytes
+
+  went : WentOn (entry_at loading o) header (found o) (done.records o) (done.closed o) before after
+  went =
+      let within = in_catalog loading.register lawful.register o (slice_get_within house.owners o owner at) in
+      let w = done.disks.owned o before within was in
+      let both : Some w.0 ≡ Some after = sym w.1 ∙ is in
+      let same : w.0 ≡ after = cc (both) in
+      subst (λ (s : Shown). WentOn (entry_at loading o) header (found o) (done.records o) (done.closed o) before s) same w.2
+
+  is_run : (sent : ℕ → Bool) (left : List Record) → IsLeft (found o) (done.records o) (done.closed o) left → ((place : ℕ) → sent place ≡ true → IsPrefix (done.records o) left)
+      → IsRun house (draws_of key) o owner (found o) (run_of loading key workers old new found script text done o sent left)
+  is_run sent left leaves all = record {
+    speakers = λ place x there. place_of_all (λ (t : Turn). IsAnalyst house t.who) (turns_of house script) (turns_known house script) place x.turn
+        (ap (λ (w : List Turn). slice_get w place) (sym done.gathered.turns) ∙ mapped_at (λ (y : Exchange). y.turn) done.exchanges place x there);
+    gathered = done.gathered.owners o owner at;
+    shut = done.shut o owner at;
+    follows = λ failure closes. subst (λ (e : Entry). MayFollow e (done.records o) failure.pending) (entry_said loading.register o owner at) (went.follows failure closes);
+    leaves = leaves;
+    kept = λ place x asked demand sends there meant.
+        met_on_all house (draws_of key) (crew_size workers) done.crew o (found o) done.exchanges (done.records o) left (done.gathered.owners o owner at) (all place sends) place x asked demand there meant;
+  }
+
+  moment_left : (bytes : List ℕ) → IsMoment header (found o) (done.records o) (done.closed o) bytes → Left none_sent bytes
+  moment_left bytes moment =
+      let m = moment_stands header (found o) (done.records o) (done.closed o) bytes moment in
+      (m.0, m.1, is_run none_sent m.0 m.2 (λ place sends. absurd (cc (sends))))
+
+  end_left : (bytes : List ℕ) → HasAll header (found o) (done.records o) (done.closed o) bytes → (sent : ℕ → Bool) → Left sent bytes
+  end_left bytes h sent = (h.left, h.stands, is_run sent h.left h.leaves (λ place sends. h.all))
+
+  pub runs_of : WhereTold (Passes (Left none_sent)) (noted Synced before.trace) after.trace × IfSome after.trace (Leaves (λ bytes. (sent : ℕ → Bool) → Left sent bytes))
+  runs_of = (
+    told_weaker (IsMoment header (found o) (done.records o) (done.closed o)) (Left none_sent) moment_left (noted Synced before.trace) after.trace went.moments,
+    leaves_weaker (HasAll header (found o) (done.records o) (done.closed o)) (λ bytes. (sent : ℕ → Bool) → Left sent bytes) end_left after.trace
+        (kept_has_all header (found o) (done.records o) (done.closed o) went.begins after.trace went.kept),
+  )
+
+  module _ (earlier : List (List ℕ)) (f : IsFound owner (draws_of key o) earlier (found o)) where
+    left_may : (bytes : List ℕ) → Left none_sent bytes → MayBeGoneOnFrom owner (draws_of key o) header earlier bytes
+    left_may bytes (left, stands, r) =
+        let inside : IsOwnerIn house owner = register_owners loading.register lawful.register o owner at in
+        let g = gone_on house (draws_of key) o owner (found o) earlier (run_of loading key workers old new found script text done o none_sent left) at inside f r left r.leaves in
+        (left, g.programs, stands, g.goes_on, g.explained)
+
+    pub may_be_gone_on : WhereTold (Passes (MayBeGoneOnFrom owner (draws_of key o) header earlier)) (noted Synced before.trace) after.trace × IfSome after.trace (Leaves (MayBeGoneOnFrom owner (draws_of key o) header earlier))
+    may_be_gone_on = (
+      told_weaker (Left none_sent) (MayBeGoneOnFrom owner (draws_of key o) header earlier) left_may (noted Synced before.trace) after.trace runs_of.0,
+      leaves_weaker (λ bytes. (sent : ℕ → Bool) → Left sent bytes) (MayBeGoneOnFrom owner (draws_of key o) header earlier) (λ bytes l. left_may bytes (l none_sent)) after.trace runs_of.1,
+    )

@@ -1,0 +1,7 @@
+mod Fronts
+mod Numbered
+mod Ran
+mod Sent
+mod Lives
+mod Files
+mod Examples

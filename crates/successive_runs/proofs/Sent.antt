@@ -1,0 +1,162 @@
+-- what the replies of one run say that were sent, and of which numbers
+use Rattle.std.proofs.Common.{◌≡◌, ℕ, ◌≤◌, ◌<◌, true, List, [], ◌∷◌, ◌++◌, length, slice_get, Some, None, refl, sym, ◌∙◌, ap, subst}
+use Rattle.std.proofs.lemmas.Option.{slice_get_within}
+use mathlib.Core.Logic.{◌⊎◌, inl, inr}
+use mathlib.Core.List.{IsPrefix}
+use Rattle.journal_records.specs.declared.records.Outcome.{Outcome}
+use Rattle.journal_records.specs.declared.records.Reservation.{Reservation}
+use Rattle.journal_records.specs.declared.records.Record.{Record}
+use Rattle.journal_records.specs.declared.records.Record.TheVariants.{Reserve}
+use Rattle.journal_records.specs.Records.{settling}
+use Rattle.budget_core.specs.declared.entry.Ask.{Ask}
+use Rattle.budget_core.specs.Counts.{reservations_of}
+use Rattle.budget_core.specs.Legal.{IsHistory}
+use Rattle.budget_core.specs.Ledger.{reservation_numbered}
+use Rattle.budget_core.proofs.Numbers.{reservation_of-next, outcome_of-append-new}
+use Rattle.owner_house.specs.Owner.{Owner}
+use Rattle.owner_house.specs.House.{House, IsOwnerIn}
+use Rattle.owner_desk.specs.Passes.{Told}
+use Rattle.owner_desk.specs.Answers.{Has}
+use Rattle.owner_history.specs.Granted.{told_settlement, IsGranted, IsBorneOut}
+use Rattle.owner_history.specs.Sound.{IsFound}
+use Rattle.owner_history.proofs.Grants.{verdict_grants}
+use Rattle.owner_history.proofs.Prefixes.{prefix_by, prefix_trans, reservation_prefix, outcome_prefix}
+use Rattle.answer_path.specs.Query.{Query}
+use Rattle.answer_path.specs.Demand.{Demand, asks}
+use Rattle.answer_path.specs.Answered.{granted_record}
+use Rattle.session_core.specs.Meant.{wants}
+use Rattle.session_core.specs.Turns.{meant_at}
+use Rattle.session_core.specs.Exchanges.{Exchange}
+use Rattle.session_core.specs.Served.{IsBorneOutTo}
+use Rattle.session_core.specs.Transcript.{first_new}
+use Rattle.session_core.proofs.Exactly.{outcome_said}
+use Rattle.session_laws.specs.Growing.{IsMetOn}
+use Rattle.session_laws.proofs.Added.{IsLeftOpen, IsSettledLater, IsReservedBy, IsKind, kind_met, number_is, number_below, reserved_told}
+use Rattle.session_laws.proofs.Places.{below, listed_below, prefix_seam}
+use Rattle.session_laws.proofs.Sources.{reserve_told, number_new, same_line}
+use Rattle.successive_runs.specs.Life.{Run, IsRun}
+use Rattle.successive_runs.proofs.Fronts.{history_on, unsettled_before}
+use Rattle.successive_runs.proofs.Ran.{spoken, known, By, whole, kind_here, program_here, IsGoneOn}
+
+same_number : (a b : Reservation) → ◌≡◌ {A = Record} (Reserve a) (Reserve b) → a.number ≡ b.number
+same_number a b both = let same : a ≡ b = cc (both) in ap (λ (r : Reservation). r.number) same
+
+-- a reply that speaks of a number speaks of that of its reservation
+pub speaks_of : (draws : ℕ → ℕ → ℕ) (owner : Owner) (found records : List Record) (query : Query) (x : Exchange) (by : IsReservedBy draws owner found records query x) (n : ℕ) (outcome : Outcome)
+    → told_settlement x.reply ≡ Some (n, outcome) → (done : IsSettledLater draws owner found records query by.asking by.grant by.g x) × (by.grant.number ≡ n) × (done.outcome ≡ outcome)
+speaks_of draws owner found records query x by n outcome said = ended by.ends
+  where
+    ended : IsLeftOpen draws owner found records by.asking by.grant by.g x ⊎ IsSettledLater draws owner found records query by.asking by.grant by.g x
+        → (done : IsSettledLater draws owner found records query by.asking by.grant by.g x) × (by.grant.number ≡ n) × (done.outcome ≡ outcome)
+    ended (inl alone) = absurd (let both : None ≡ Some (n, outcome) = sym (ap told_settlement alone.said) ∙ said in cc (both))
+    ended (inr done) =
+        let both : Some (by.grant.number, done.outcome) ≡ Some (n, outcome) = sym (ap told_settlement done.said ∙ outcome_said by.grant done.outcome) ∙ said in
+        let pair : (by.grant.number, done.outcome) ≡ (n, outcome) = cc (both) in
+        (done, ap (λ (z : ℕ × Outcome). z.0) pair, ap (λ (z : ℕ × Outcome). z.1) pair)
+
+module _ (house : House) (draws : ℕ → ℕ → ℕ → ℕ) (o : ℕ) (owner : Owner) (found : List Record) (earlier : List (List ℕ)) (run : Run)
+    (here : slice_get house.owners o ≡ Some owner) (inside : IsOwnerIn house owner) (begun : IsFound owner (draws o) earlier found) (r : IsRun house draws o owner found run) where
+  abbrev MyBy : Query → Exchange → Type 0
+  MyBy query x = By house draws o owner found earlier run here inside begun r query x
+
+  abbrev mine : List (List ℕ)
+  mine = whole house draws o owner found earlier run here inside begun r
+
+  -- a line whose reply speaks of a number reserved it
+  pub number_said : (j : ℕ) (x : Exchange) (query : Query) (n : ℕ) (outcome : Outcome) → slice_get run.exchanges j ≡ Some x → meant_at house x.turn ≡ wants o owner (asks query) → told_settlement x.reply ≡ Some (n, outcome)
+      → (by : MyBy query x) × (by.grant.number ≡ n)
+  number_said j x query n outcome at meant said = of (kind_here house draws o owner found earlier run here inside begun r j x (asks query) at meant)
+    where
+      its_number : MyBy query x → (by : MyBy query x) × (by.grant.number ≡ n)
+      its_number its = (its, (speaks_of (draws o) owner found run.records query x its n outcome said).1)
+
+      of : IsKind (draws o) owner found run.records (asks query) x → (by : MyBy query x) × (by.grant.number ≡ n)
+      of (inl none) = let g : IsGranted [] run.records query n outcome = none.1 [] n outcome said in absurd (cc (g.program))
+      of (inr (other, is, by)) =
+          let same : other ≡ query = cc (is) in
+          its_number (subst (λ (q : Query). MyBy q x) same by)
+
+  -- it is of this run
+  pub number_of_run : (j : ℕ) (x : Exchange) (query : Query) (n : ℕ) (outcome : Outcome) → slice_get run.exchanges j ≡ Some x → meant_at house x.turn ≡ wants o owner (asks query) → told_settlement x.reply ≡ Some (n, outcome)
+      → first_new found ≤ n
+  number_of_run j x query n outcome at meant said =
+      let s = number_said j x query n outcome at meant said in
+      subst (λ (k : ℕ). first_new found ≤ k) s.1
+      (number_new house draws (spoken house draws o owner found earlier run here inside begun r) run.count run.crew o owner found run.exchanges run.records here inside begun.history refl
+      (known house draws o owner found earlier run here inside begun r) r.gathered query x s.0)
+
+  -- and no other line's
+  pub one_line : (j k : ℕ) (x y : Exchange) (query other : Query) (n : ℕ) (outcome then_so : Outcome) → slice_get run.exchanges j ≡ Some x → slice_get run.exchanges k ≡ Some y
+      → meant_at house x.turn ≡ wants o owner (asks query) → meant_at house y.turn ≡ wants o owner (asks other) → told_settlement x.reply ≡ Some (n, outcome) → told_settlement y.reply ≡ Some (n, then_so) → j ≡ k
+  one_line j k x y query other n outcome then_so at there meant means said also =
+      let s = number_said j x query n outcome at meant said in
+      let t = number_said k y other n then_so there means also in
+      same_line house draws (spoken house draws o owner found earlier run here inside begun r) run.count run.crew o owner found run.exchanges run.records here inside begun.history refl
+      (known house draws o owner found earlier run here inside begun r) r.gathered j k x y query other at there meant means s.0 t.0 (s.1 ∙ sym t.1)
+
+  module _ (g : IsGoneOn house draws o owner found earlier run here inside begun r run.left) where
+    abbrev LeftBy : Query → Exchange → Type 0
+    LeftBy query x = IsReservedBy (draws o) owner found run.left query x
+
+    -- the reservation that stands in what is left is the one that the line made
+    program_left : (j : ℕ) (x : Exchange) (query : Query) → slice_get run.exchanges j ≡ Some x → meant_at house x.turn ≡ wants o owner (asks query) → (by : LeftBy query x) → slice_get mine by.grant.number ≡ Some query.program
+    program_left j x query at meant by = of (kind_here house draws o owner found earlier run here inside begun r j x (asks query) at meant)
+      where
+        has : Has {A = Told} (length by.g, granted_record by.asking by.grant) x.told
+        has = reserved_told (draws o) owner found run.left query x by
+
+        its_program : MyBy query x → slice_get mine by.grant.number ≡ Some query.program
+        its_program its =
+            let told = reserve_told (draws o) owner found run.records query x its (length by.g) (reservation_numbered by.grant.number by.asking by.grant.taken) has in
+            let one : by.grant.number ≡ its.grant.number
+            = same_number (reservation_numbered by.grant.number by.asking by.grant.taken) (reservation_numbered its.grant.number its.asking its.grant.taken) told.1 in
+            ap (λ (k : ℕ). slice_get mine k) one ∙ program_here house draws o owner found earlier run here inside begun r j x query at meant its
+
+        of : IsKind (draws o) owner found run.records (asks query) x → slice_get mine by.grant.number ≡ Some query.program
+        of (inl none) = absurd (subst (λ (told : List Told). Has {A = Told} (length by.g, granted_record by.asking by.grant) told) none.0 has)
+        of (inr (other, is, made)) =
+            let same : other ≡ query = cc (is) in
+            its_program (subst (λ (q : Query). MyBy q x) same made)
+
+    number_left : (query : Query) (x : Exchange) (by : LeftBy query x) → by.grant.number < length (reservations_of run.left)
+    number_left query x by =
+        let reserved : Reservation = reservation_numbered by.grant.number by.asking by.grant.taken in
+        let seam = prefix_seam by.g (Reserve reserved) run.left by.stands in
+        subst (λ (k : ℕ). k < length (reservations_of run.left)) (number_below (draws o) owner found run.left query x by)
+        (slice_get_within (reservations_of run.left) (below run.left (length by.g)) reserved (listed_below run.left (length by.g) reserved seam.1))
+
+    granted_left : (j : ℕ) (x : Exchange) (query : Query) → slice_get run.exchanges j ≡ Some x → meant_at house x.turn ≡ wants o owner (asks query) → (by : LeftBy query x)
+        → (done : IsSettledLater (draws o) owner found run.left query by.asking by.grant by.g x) → IsGranted g.programs run.left query by.grant.number done.outcome
+    granted_left j x query at meant by done =
+        let v = verdict_grants owner (first_new found) by.g query by.asking by.grant by.verdict in
+        let n : ℕ = by.grant.number in
+        let reserved : Reservation = reservation_numbered n by.asking by.grant.taken in
+        let on : IsPrefix by.g run.left = prefix_trans by.g (by.g ++ Reserve reserved ∷ []) run.left (prefix_by by.g (Reserve reserved ∷ [])) by.stands in
+        let before : IsHistory owner.entry by.g = history_on owner.entry by.g run.left on g.explained.history in
+        record {
+          reserved = reserved;
+          numbered = reservation_prefix (by.g ++ Reserve reserved ∷ []) run.left n reserved by.stands (reservation_of-next owner.entry by.g reserved before (number_is (draws o) owner found run.left query x by));
+          analyst = ap (λ (a : Ask). a.analyst) v.asks;
+          view = ap (λ (a : Ask). a.view) v.asks;
+          epsilon = ap (λ (a : Ask). a.e) v.asks;
+          settled = outcome_prefix (done.u ++ settling n done.outcome ∷ []) run.left n done.outcome done.stands
+              (outcome_of-append-new done.u n done.outcome (unsettled_before owner.entry done.u run.left n done.outcome done.stands g.explained.history));
+          program = g.agrees n query.program (program_left j x query at meant by) (number_left query x by);
+        }
+
+    borne_asked : (j : ℕ) (x : Exchange) (query : Query) → slice_get run.exchanges j ≡ Some x → meant_at house x.turn ≡ wants o owner (asks query) → LeftBy query x → IsBorneOut g.programs run.left query x.reply
+    borne_asked j x query at meant by = λ n outcome said.
+        let s = speaks_of (draws o) owner found run.left query x by n outcome said in
+        let so : IsGranted g.programs run.left query by.grant.number s.0.outcome = granted_left j x query at meant by s.0 in
+        subst (λ (k : ℕ). IsGranted g.programs run.left query k outcome) s.1 (subst (λ (w : Outcome). IsGranted g.programs run.left query by.grant.number w) s.2 so)
+
+    -- What is left bears out each reply that was sent.
+    pub borne_left : (j : ℕ) (x : Exchange) (demand : Demand) → run.sent j ≡ true → slice_get run.exchanges j ≡ Some x → meant_at house x.turn ≡ wants o owner demand → IsBorneOutTo g.programs run.left demand x.reply
+    borne_left j x demand sent at meant = of (kind_met (draws o) owner found run.left demand met.seen x met.after met.begins met.stands met.meets)
+      where
+        met : IsMetOn (draws o) (first_new found) owner demand found x run.left
+        met = r.kept j x owner demand sent at meant
+
+        of : IsKind (draws o) owner found run.left demand x → IsBorneOutTo g.programs run.left demand x.reply
+        of (inl none) = none.1 g.programs
+        of (inr (query, is, by)) = subst (λ (d : Demand). IsBorneOutTo g.programs run.left d x.reply) (sym is) (borne_asked j x query at (meant ∙ ap (λ (d : Demand). wants o owner d) is) by)

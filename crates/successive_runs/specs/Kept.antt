@@ -1,0 +1,61 @@
+-- What is promised over any runs, one after another.
+use Rattle.std.specs.Prelude.{◌≡◌, ℕ, ℤ, List, slice_get, Some}
+use mathlib.Core.List.{IsPrefix}
+use Rattle.journal_records.specs.declared.records.Outcome.{Outcome}
+use Rattle.journal_records.specs.declared.records.Outcome.TheVariants.{Answered}
+use Rattle.journal_records.specs.declared.records.Record.{Record}
+use Rattle.journal_records.specs.declared.records.Header.{Header}
+use Rattle.budget_journal.specs.Journals.{Stands}
+use Rattle.wire_lines.specs.Reply.{Replied, answered, recalled}
+use Rattle.owner_house.specs.Owner.{Owner}
+use Rattle.owner_house.specs.House.{House}
+use Rattle.owner_history.specs.Explains.{IsNoisedValue}
+use Rattle.owner_history.specs.Granted.{IsGranted, IsSettledFor, told_settlement}
+use Rattle.owner_history.specs.Sound.{IsFound, IsDisplacementBounded}
+use Rattle.answer_path.specs.Query.{Query}
+use Rattle.answer_path.specs.Demand.{Demand, asks, recalls}
+use Rattle.session_core.specs.Served.{IsBorneOutTo}
+use Rattle.successive_runs.specs.Life.{Run, WasSent}
+
+-- A file stands for records that programs explain, which begin with these.
+abbrev pub MayBeGoneOnFrom : Owner → (ℕ → ℕ → ℕ) → Header → (earlier : List (List ℕ)) → (bytes : List ℕ) → Type 0
+MayBeGoneOnFrom owner draws header earlier bytes =
+    (left : List Record) × (programs : List (List ℕ)) × Stands header left bytes × IsPrefix earlier programs × IsFound owner draws programs left
+
+-- The query was granted the number, whose reservation has its analyst, view and epsilon; it stands settled with this answer, which is
+-- its program's value on its part plus what the sampler draws for the number.
+pub record StandsAnswered (owner : Owner) (draws : ℕ → ℕ → ℕ) (programs : List (List ℕ)) (records : List Record) (query : Query) (n : ℕ) (value : ℤ) :
+    Type 0 where
+  pub granted : IsGranted programs records query n (Answered value)
+  pub noised : IsNoisedValue owner (draws n) granted.reserved query.program value
+
+-- The analyst reserved the number, which stands settled with this answer: the value of the number's program plus what the sampler draws
+-- for the number.
+pub record StandsRecalled (owner : Owner) (draws : ℕ → ℕ → ℕ) (programs : List (List ℕ)) (records : List Record) (analyst n : ℕ) (value : ℤ) :
+    Type 0 where
+  pub settled : IsSettledFor records analyst n (Answered value)
+  pub program : List ℕ
+  pub numbered : slice_get programs n ≡ Some program
+  pub noised : IsNoisedValue owner (draws n) settled.reserved program value
+
+-- Behind the owner's records, which begin with those found, stand programs that begin with the earlier ones and explain all records;
+-- these are legal and within the budget, and against any second dataset epsilon times displacement, added up over all answers, is at
+-- most what is spent times the distance. What any reply that was ever sent says of a number stands in them; each answer that was ever
+-- sent, to its query or to a recall, stands, and is its program's value plus its number's noise. No number was ever sent for two lines.
+pub record KeepThePromise (house : House) (draws : ℕ → ℕ → ℕ → ℕ) (o : ℕ) (owner : Owner) (found : List Record) (earlier : List (List ℕ))
+    (runs : List Run) (last : List Record) : Type 0 where
+  pub begins : IsPrefix found last
+  pub programs : List (List ℕ)
+  pub goes_on : IsPrefix earlier programs
+  pub explained : IsFound owner (draws o) programs last
+  pub bounded : IsDisplacementBounded owner programs last
+  pub borne_out : (i place : ℕ) (demand : Demand) (reply : Replied) → WasSent house o owner runs i place demand reply
+      → IsBorneOutTo programs last demand reply
+  pub answers : (i place : ℕ) (query : Query) (n taken : ℕ) (value : ℤ)
+      → WasSent house o owner runs i place (asks query) (answered n value taken) → StandsAnswered owner (draws o) programs last query n value
+  pub recalls : (i place analyst asked n seen : ℕ) (value : ℤ)
+      → WasSent house o owner runs i place (recalls analyst asked) (recalled n (Some (Answered value)) seen)
+      → StandsRecalled owner (draws o) programs last analyst n value
+  pub once : (i j place other : ℕ) (query and : Query) (reply also : Replied) (n : ℕ) (outcome another : Outcome)
+      → WasSent house o owner runs i place (asks query) reply → WasSent house o owner runs j other (asks and) also
+      → told_settlement reply ≡ Some (n, outcome) → told_settlement also ≡ Some (n, another) → (i ≡ j) × (place ≡ other)

@@ -1,0 +1,4 @@
+pub mod Left
+pub mod Life
+pub mod Kept
+pub mod Script

@@ -1,0 +1,73 @@
+//! The laws. Each function does nothing: its contract is the law.
+
+ghost use Rattle.std.specs.Prelude.{◌≡◌, ℕ, Bool, List, [], Option, Some, IfSome, slice_get};
+ghost use mathlib.Core.List.{IsPrefix};
+ghost use Rattle.outside_disks.specs.Disks.{Leaves, Passes, Shown, WhereTold, noted};
+ghost use Rattle.outside_disks.specs.Disks.Step.{Synced};
+ghost use Rattle.journal_records.specs.declared.records.Header.{Header};
+ghost use Rattle.journal_records.specs.declared.records.Record.{Record};
+ghost use Rattle.budget_journal.specs.Journals.{Stands};
+ghost use Rattle.budget_ledger.specs.Account.{IsMoment};
+ghost use Rattle.budget_ledger.specs.declared.failure.Failure.{Failure};
+ghost use Rattle.word_streams.specs.Draws.{draws_of};
+ghost use Rattle.owner_house.specs.Owner.{Owner};
+ghost use Rattle.owner_house.specs.House.{House, AreOwners, house_of};
+ghost use Rattle.owner_history.specs.Sound.{IsFound};
+ghost use Rattle.session_core.specs.Transcript.{Journals};
+ghost use Rattle.session_core.specs.Headline.{Programs, AreFound};
+ghost use Rattle.catalog_loading.specs.Loaded.{IsLoading, Loading, header_of};
+ghost use Rattle.query_server.specs.Shelves.{Shelf};
+ghost use Rattle.query_server.specs.Run.{IsScriptAnswered};
+ghost use Rattle.successive_runs.specs.Left.{IsLeft};
+ghost use Rattle.successive_runs.specs.Life.{Run, AreRuns, IsRun, none_sent};
+ghost use Rattle.successive_runs.specs.Kept.{KeepThePromise, MayBeGoneOnFrom};
+ghost use Rattle.successive_runs.specs.Script.{IsLeftOf};
+
+/// A run over records that programs explain leaves records that programs explain, which begin with the earlier ones: so the next run
+/// may begin with them.
+pub fn what_is_left_may_be_found()
+    ensures { (house : House) (draws : ℕ → ℕ → ℕ → ℕ) (o : ℕ) (owner : Owner) (found : List Record) (earlier : List (List ℕ)) (run : Run) →
+        AreOwners house → slice_get house.owners o ≡ Some owner → IsFound owner (draws o) earlier found → IsRun house draws o owner found run →
+        (programs : List (List ℕ)) × IsPrefix earlier programs × IsFound owner (draws o) programs run.left }
+{}
+
+/// A file that a stop in a run leaves stands for records that the run leaves, and for no others.
+pub fn files_stand_for_what_is_left()
+    ensures stand { (header : Header) (found records : List Record) (closed : Option Failure) (bytes : List ℕ) → IsMoment header found records closed bytes →
+        (left : List Record) × Stands header left bytes × IsLeft found records closed left }
+    ensures others { (header : Header) (found records left : List Record) (closed : Option Failure) (bytes : List ℕ) →
+        IsMoment header found records closed bytes → Stands header left bytes → IsLeft found records closed left }
+{}
+
+/// Any number of runs, one after another, of scripts or sessions, that ended or were stopped, keep the promise, from the first on,
+/// which found no records; and so do those that go on from whatever records programs explain.
+pub fn runs_keep_the_promise()
+    ensures first { (house : House) (draws : ℕ → ℕ → ℕ → ℕ) (o : ℕ) (owner : Owner) (runs : List Run) (last : List Record) →
+        AreOwners house → slice_get house.owners o ≡ Some owner → AreRuns house draws o owner [] runs last →
+        KeepThePromise house draws o owner [] [] runs last }
+    ensures later { (house : House) (draws : ℕ → ℕ → ℕ → ℕ) (o : ℕ) (owner : Owner) (found : List Record) (earlier : List (List ℕ)) (runs : List Run) →
+        (last : List Record) → AreOwners house → slice_get house.owners o ≡ Some owner → IsFound owner (draws o) earlier found →
+        AreRuns house draws o owner found runs last → KeepThePromise house draws o owner found earlier runs last }
+{}
+
+/// An answered script is a run: each file that a stop may have left since an owner's journal was opened stands for records that the
+/// run leaves, and each that a stop leaves now for such as it leaves whichever replies were sent by then.
+pub fn answered_scripts_are_runs()
+    ensures { (loading : Loading) (key : List ℕ) (workers : ℕ) (old new : Shelf) (found : Journals) (script text : List ℕ) → IsLoading loading →
+        (done : IsScriptAnswered loading key workers old new found script text) → (o : ℕ) (owner : Owner) (before after : Shown) →
+        slice_get (house_of loading.register).owners o ≡ Some owner → old o ≡ Some before → new o ≡ Some after →
+        WhereTold (Passes (λ bytes. IsLeftOf loading key workers old new found script text done o owner none_sent bytes))
+        (noted Synced before.trace) after.trace
+        × IfSome after.trace (Leaves (λ bytes. (sent : ℕ → Bool) → IsLeftOf loading key workers old new found script text done o owner sent bytes)) }
+{}
+
+/// Where a script was answered over found records that programs explain, each file that a stop may have left since an owner's journal
+/// was opened, and each that a stop leaves now, stands for records that are explained by programs which begin with the earlier ones.
+pub fn answered_scripts_leave_what_may_be_found()
+    ensures { (loading : Loading) (key : List ℕ) (workers : ℕ) (old new : Shelf) (found : Journals) (script text : List ℕ) (earlier : Programs) →
+        IsLoading loading → AreFound (house_of loading.register) (draws_of key) earlier found →
+        IsScriptAnswered loading key workers old new found script text → (o : ℕ) (owner : Owner) (before after : Shown) →
+        slice_get (house_of loading.register).owners o ≡ Some owner → old o ≡ Some before → new o ≡ Some after →
+        WhereTold (Passes (λ bytes. MayBeGoneOnFrom owner (draws_of key o) (header_of loading key o) (earlier o) bytes)) (noted Synced before.trace) after.trace
+        × IfSome after.trace (Leaves (λ bytes. MayBeGoneOnFrom owner (draws_of key o) (header_of loading key o) (earlier o) bytes)) }
+{}
