@@ -31,7 +31,9 @@ use Rattle.session_core.specs.Turns.{Turn, meant_at, turns_of}
 use Rattle.session_core.specs.Exchanges.{Exchange}
 use Rattle.session_core.specs.Transcript.{first_new}
 use Rattle.session_core.proofs.Exactly.{outcome_said}
-use Rattle.session_core.proofs.Turns.{AreKnown, turns_known}
+use Rattle.session_core.proofs.Turns.{turns_known}
+use Rattle.session_laws.specs.CameBy.{AllCameBy}
+use Rattle.session_laws.specs.Lines.{AreKnown, AreOfTurns, AreHonoured}
 use Rattle.session_laws.proofs.Comes.{came_well, came_lawful}
 use Rattle.session_laws.proofs.Places.{below, prefix_take}
 use Rattle.session_laws.proofs.Listed.{IsListed, stands_at, mapped_at, of_mapped, all_by_places}
@@ -195,21 +197,18 @@ module _ (house : House) (draws : ℕ → ℕ → ℕ → ℕ) (spoken : List Tu
             asks = asks_it;
           }
 
-pub kept : (house : House) (draws : ℕ → ℕ → ℕ → ℕ) (script : List ℕ) (count : ℕ) (crew : ℕ → ℕ) (o : ℕ) (owner : Owner) (found : List Record) (earlier : List (List ℕ)) (xs : List Exchange) (records : List Record)
-    → slice_get house.owners o ≡ Some owner → IsOwnerIn house owner → IsFound owner (draws o) earlier found → AreOfScript house script xs → AreGathered house draws count crew o found xs records
-    → IsHonoured house draws script count crew o owner found earlier xs records
-kept house draws script count crew o owner found earlier xs records here inside found_so turns all =
-    let spoken = turns_of house script in
-    let known : AreKnown house spoken = turns_known house script in
+-- the same in one, of lines of any turns whose speakers the house knows ..
+pub lines_kept : (house : House) (draws : ℕ → ℕ → ℕ → ℕ) (spoken : List Turn) (count : ℕ) (crew : ℕ → ℕ) (o : ℕ) (owner : Owner) (found : List Record) (earlier : List (List ℕ)) (xs : List Exchange) (records : List Record)
+    → slice_get house.owners o ≡ Some owner → IsOwnerIn house owner → IsFound owner (draws o) earlier found → AreKnown house spoken → AreOfTurns spoken xs → AreGathered house draws count crew o found xs records
+    → AreHonoured house draws spoken count crew o owner found earlier xs records
+lines_kept house draws spoken count crew o owner found earlier xs records here inside found_so known turns all =
     let begun = found_so.history in
     let each_has = found_so.explained.each_has in
     record {
       sources = sources house draws spoken count crew o owner found xs records here inside begun turns known all;
-      accounted = record {
-        backed = well_backed owner (draws o) found _ records inside.data_of found_so.within
-            (well house draws spoken count crew o owner found xs records here inside begun turns known all earlier each_has found_so.explained);
-        asked = asked house draws spoken count crew o owner found xs records here inside begun turns known all earlier each_has;
-      };
+      backed = well_backed owner (draws o) found _ records inside.data_of found_so.within
+          (well house draws spoken count crew o owner found xs records here inside begun turns known all earlier each_has found_so.explained);
+      asked = asked house draws spoken count crew o owner found xs records here inside begun turns known all earlier each_has;
       replied = record {
         answers = all.workers;
         held = held house draws spoken count crew o owner found xs records here inside begun turns known all earlier each_has;
@@ -217,10 +216,32 @@ kept house draws script count crew o owner found earlier xs records here inside 
       };
     }
 
--- whatever programs are behind those found
+-- .. whatever programs are behind those found
+pub lines_owed : (house : House) (draws : ℕ → ℕ → ℕ → ℕ) (spoken : List Turn) (count : ℕ) (crew : ℕ → ℕ) (o : ℕ) (owner : Owner) (found : List Record) (xs : List Exchange) (records : List Record)
+    → slice_get house.owners o ≡ Some owner → IsOwnerIn house owner → MayBeFound owner found → AreKnown house spoken → AreOfTurns spoken xs → AreGathered house draws count crew o found xs records → IsOwed owner found records
+lines_owed house draws spoken count crew o owner found xs records here inside may known turns all =
+    lawful_owed owner (draws o) found records may.within
+    (lawful house draws spoken count crew o owner found xs records here inside may.history turns known all
+    (map (λ (r : Reservation). []) (reservations_of found)) (length-map (reservations_of found) (λ (r : Reservation). [])))
+
+-- .. and how each new record came about
+pub lines_came : (house : House) (draws : ℕ → ℕ → ℕ → ℕ) (spoken : List Turn) (count : ℕ) (crew : ℕ → ℕ) (o : ℕ) (owner : Owner) (found : List Record) (earlier : List (List ℕ)) (xs : List Exchange) (records : List Record)
+    → slice_get house.owners o ≡ Some owner → IsOwnerIn house owner → IsHistory owner.entry found → length earlier ≡ first_new found → AreKnown house spoken → AreOfTurns spoken xs → AreGathered house draws count crew o found xs records
+    → (behind : Sources) × AllCameBy owner (draws o) found (earlier ++ behind.programs) records
+lines_came house draws spoken count crew o owner found earlier xs records here inside begun each_has known turns all = (
+  sources house draws spoken count crew o owner found xs records here inside begun turns known all,
+  came_at house draws spoken count crew o owner found xs records here inside begun turns known all earlier each_has,
+)
+
+-- a script's lines are such
+pub kept : (house : House) (draws : ℕ → ℕ → ℕ → ℕ) (script : List ℕ) (count : ℕ) (crew : ℕ → ℕ) (o : ℕ) (owner : Owner) (found : List Record) (earlier : List (List ℕ)) (xs : List Exchange) (records : List Record)
+    → slice_get house.owners o ≡ Some owner → IsOwnerIn house owner → IsFound owner (draws o) earlier found → AreOfScript house script xs → AreGathered house draws count crew o found xs records
+    → IsHonoured house draws script count crew o owner found earlier xs records
+kept house draws script count crew o owner found earlier xs records here inside found_so turns all =
+    let h = lines_kept house draws (turns_of house script) count crew o owner found earlier xs records here inside found_so (turns_known house script) turns all in
+    record { sources = h.sources; accounted = record { backed = h.backed; asked = h.asked }; replied = h.replied }
+
 pub owed : (house : House) (draws : ℕ → ℕ → ℕ → ℕ) (script : List ℕ) (count : ℕ) (crew : ℕ → ℕ) (o : ℕ) (owner : Owner) (found : List Record) (xs : List Exchange) (records : List Record)
     → slice_get house.owners o ≡ Some owner → IsOwnerIn house owner → MayBeFound owner found → AreOfScript house script xs → AreGathered house draws count crew o found xs records → IsOwed owner found records
 owed house draws script count crew o owner found xs records here inside may turns all =
-    lawful_owed owner (draws o) found records may.within
-    (lawful house draws (turns_of house script) count crew o owner found xs records here inside may.history turns (turns_known house script) all
-    (map (λ (r : Reservation). []) (reservations_of found)) (length-map (reservations_of found) (λ (r : Reservation). [])))
+    lines_owed house draws (turns_of house script) count crew o owner found xs records here inside may (turns_known house script) turns all

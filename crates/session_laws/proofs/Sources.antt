@@ -30,9 +30,9 @@ use Rattle.session_core.specs.Meant.{wants}
 use Rattle.session_core.specs.Turns.{Turn, meant_at}
 use Rattle.session_core.specs.Exchanges.{Exchange, is_of}
 use Rattle.session_core.specs.Transcript.{first_new}
-use Rattle.session_core.proofs.Turns.{AreKnown}
 use Rattle.session_core.proofs.Wants.{IsAskOf, AsksOnly, asks_only, query_within}
 use Rattle.session_laws.specs.CameBy.{WasReserved, WasSettled, CameBy}
+use Rattle.session_laws.specs.Lines.{AreKnown}
 use Rattle.owner_desk.proofs.Settles.{counts_behind}
 use Rattle.session_laws.proofs.Places.{below, same_place, reservation_place, listed_below, settled_at, unsettled_nowhere, prefix_seam, prefix_take, reservations_on}
 use Rattle.session_laws.proofs.Listed.{IsListed, listed, stands_at, slice_behind, mapped_at, place_of_all}

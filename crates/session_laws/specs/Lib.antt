@@ -1,6 +1,7 @@
 pub mod CameBy
 pub mod ToldOnce
 pub mod Growing
+pub mod Lines
 pub mod Crew
 pub mod Blocks
 pub mod Between

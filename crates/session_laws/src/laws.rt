@@ -2,6 +2,7 @@
 
 ghost use Rattle.std.specs.Prelude.{ℕ, List, [], ◌∷◌, ◌++◌, ◌<◌, length, ◌≡◌, map, slice_get, Option, Some, None};
 ghost use Rattle.std.specs.List.{AllByRecursion};
+ghost use mathlib.Core.List.{IsPrefix};
 ghost use Rattle.journal_records.specs.declared.records.Outcome.{Outcome};
 ghost use Rattle.journal_records.specs.declared.records.Record.{Record};
 ghost use Rattle.budget_core.specs.declared.entry.Ask.{Ask};
@@ -15,17 +16,19 @@ ghost use Rattle.owner_desk.specs.Passes.{Pass};
 ghost use Rattle.answer_path.specs.Query.{Query};
 ghost use Rattle.answer_path.specs.Answered.{granted_record};
 ghost use Rattle.owner_history.specs.Sound.{IsFound, MayBeFound, IsOwed};
+ghost use Rattle.session_core.specs.Turns.{Turn, turns_of};
 ghost use Rattle.session_core.specs.Exchanges.{Exchange};
 ghost use Rattle.session_core.specs.Transcript.{Journals, first_new, ClosesOn, LeadExactly, IsScriptRun};
-ghost use Rattle.session_core.specs.Served.{Sources};
-ghost use Rattle.session_core.specs.Gathered.{AreGathered, AreOfScript, AreShut, IsAnsweredOn, IsGatheredScript, one_worker};
+ghost use Rattle.session_core.specs.Served.{Sources, AnswersOn};
+ghost use Rattle.session_core.specs.Gathered.{AreGathered, AreOfScript, AreShut, IsAnsweredOn, IsGatheredScript, one_worker, part_of};
 ghost use Rattle.session_core.specs.Headline.{Programs, AreAccountedFor, AreFound, AreHistories, AreOwed, Headline, IsHonoured};
 ghost use Rattle.session_core.specs.Said.{NothingFailed};
 ghost use Rattle.session_core.specs.Code.{AreFresh, AreClosed, AreServed, HasServed, found_by};
 ghost use Rattle.session_laws.specs.CameBy.{CameAboutIsExplained, AllCameBy};
 ghost use Rattle.session_laws.specs.ToldOnce.{AreToldOnce};
-ghost use Rattle.session_laws.specs.Growing.{AreGrowing};
-ghost use Rattle.session_laws.specs.Crew.{AreDone, AreTogether};
+ghost use Rattle.session_laws.specs.Growing.{AreGrowing, AreGrowingFrom};
+ghost use Rattle.session_laws.specs.Lines.{AreKnown, AreOfTurns, AreHonoured};
+ghost use Rattle.session_laws.specs.Crew.{AreDone, AreJoined, AreTogether};
 ghost use Rattle.session_laws.specs.Blocks.{AreDealt};
 ghost use Rattle.session_laws.specs.Between.{two_workers, IsSettledLater, four_records};
 ghost use Rattle.session_laws.specs.Causes.{AreCaused};
@@ -40,6 +43,27 @@ pub fn every_script_keeps_the_headline()
         (xs : List Exchange) (records : Journals) →
         AreOwners house → AreFound house draws earlier found → IsGatheredScript house draws count crew found script xs records →
         Headline house draws found earlier script count crew xs records }
+{}
+
+/// Lines of any turns whose speakers the house knows, of scripts or of sessions, by any number of workers in any order, keep the
+/// promises to an owner, and what is owed to it, whatever programs are behind the records found; and each new record came about by one of
+/// them. A script's turns are such.
+pub fn lines_keep_the_promises()
+    ensures kept { (house : House) (draws : ℕ → ℕ → ℕ → ℕ) (turns : List Turn) (count : ℕ) (crew : ℕ → ℕ) (o : ℕ) (owner : Owner) →
+        (found : List Record) (earlier : List (List ℕ)) (xs : List Exchange) (records : List Record) →
+        slice_get house.owners o ≡ Some owner → IsOwnerIn house owner → IsFound owner (draws o) earlier found →
+        AreKnown house turns → AreOfTurns turns xs → AreGathered house draws count crew o found xs records →
+        AreHonoured house draws turns count crew o owner found earlier xs records }
+    ensures owed { (house : House) (draws : ℕ → ℕ → ℕ → ℕ) (turns : List Turn) (count : ℕ) (crew : ℕ → ℕ) (o : ℕ) (owner : Owner) →
+        (found : List Record) (xs : List Exchange) (records : List Record) →
+        slice_get house.owners o ≡ Some owner → IsOwnerIn house owner → MayBeFound owner found →
+        AreKnown house turns → AreOfTurns turns xs → AreGathered house draws count crew o found xs records → IsOwed owner found records }
+    ensures came_about { (house : House) (draws : ℕ → ℕ → ℕ → ℕ) (turns : List Turn) (count : ℕ) (crew : ℕ → ℕ) (o : ℕ) (owner : Owner) →
+        (found : List Record) (earlier : List (List ℕ)) (xs : List Exchange) (records : List Record) →
+        slice_get house.owners o ≡ Some owner → IsOwnerIn house owner → IsHistory owner.entry found → length earlier ≡ first_new found →
+        AreKnown house turns → AreOfTurns turns xs → AreGathered house draws count crew o found xs records →
+        (sources : Sources) × AllCameBy owner (draws o) found (earlier ++ sources.programs) records }
+    ensures scripts { (house : House) (script : List ℕ) → AreKnown house (turns_of house script) }
 {}
 
 /// Whatever records were found, by whatever programs, those after a script are legal and within the budget.
@@ -142,10 +166,13 @@ pub fn gathered_records_are_kept()
         AreOfScript house script xs → AreGathered house draws count crew o found xs records → IsOwed owner found records }
 {}
 
-/// Each worker's replies on an owner are the stated ones on records that grow along its lines, and begin the owner's in the end.
+/// Each worker's replies on an owner are the stated ones on records that grow along its lines, and begin the owner's in the end: from
+/// the records found on, and from those on that its pass had seen when a stretch of its lines began.
 pub fn replies_are_on_growing_records()
-    ensures { (house : House) (draws : ℕ → ℕ → ℕ → ℕ) (o : ℕ) (found : List Record) (ys : List Exchange) (records : List Record) →
+    ensures found { (house : House) (draws : ℕ → ℕ → ℕ → ℕ) (o : ℕ) (found : List Record) (ys : List Exchange) (records : List Record) →
         IsAnsweredOn house draws o found ys records → AreGrowing house draws o found ys records }
+    ensures seen { (house : House) (draws : ℕ → ℕ → ℕ → ℕ) (o start : ℕ) (seen : List Record) (ys : List Exchange) (records last : List Record) →
+        IsPrefix last records → AnswersOn house draws o start seen ys last → AreGrowingFrom house draws o start seen ys records }
 {}
 
 /// With one worker nothing comes in between: each line is answered on just the records so far, and the last of these are the owner's.
@@ -162,11 +189,18 @@ pub fn one_worker_shuts_books()
         ClosesOn house draws o None xs closed }
 {}
 
-/// What each worker knows of its own lines can be put in the script's order: what the passes own is then what all lines were told.
+/// What each worker knows of its own lines can be put in the script's order: what the passes own is then what all lines were told. So it is
+/// of any lines in any order in which each worker finds its own again, and there is such an order, whatever each of them did.
 pub fn workers_come_together()
-    ensures { (house : House) (draws : ℕ → ℕ → ℕ → ℕ) (count : ℕ) (crew : ℕ → ℕ) (found : Journals) (script : List ℕ) →
+    ensures script { (house : House) (draws : ℕ → ℕ → ℕ → ℕ) (count : ℕ) (crew : ℕ → ℕ) (found : Journals) (script : List ℕ) →
         (parts : ℕ → List Exchange) (replies : List Replied) (records : Journals) →
         AreDone house draws count crew found script parts replies records → AreTogether house draws count crew found script replies records }
+    ensures lines { (house : House) (draws : ℕ → ℕ → ℕ → ℕ) (count : ℕ) (crew : ℕ → ℕ) (parts : ℕ → List Exchange) (xs : List Exchange) →
+        (o : ℕ) (owner : Owner) (found records : List Record) → slice_get house.owners o ≡ Some owner → ((at : ℕ) → crew at < count) →
+        ((i : ℕ) → i < count → part_of crew i 0 xs ≡ parts i) → AreJoined house draws count parts o found records →
+        AreGathered house draws count crew o found xs records }
+    ensures order { (count : ℕ) (parts : ℕ → List Exchange) → 0 < count → (crew : ℕ → ℕ) × (xs : List Exchange) ×
+        ((at : ℕ) → crew at < count) × ((i : ℕ) → i < count → part_of crew i 0 xs ≡ parts i) }
 {}
 
 /// A script's blocks may be dealt to any number of workers.

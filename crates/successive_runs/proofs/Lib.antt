@@ -1,7 +1,7 @@
-mod Fronts
+pub mod Fronts
 mod Numbered
 mod Ran
 mod Sent
-mod Lives
-mod Files
+pub mod Lives
+pub mod Files
 mod Examples

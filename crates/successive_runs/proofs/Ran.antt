@@ -30,7 +30,7 @@ use Rattle.session_core.specs.Meant.{wants}
 use Rattle.session_core.specs.Turns.{Turn, meant_at}
 use Rattle.session_core.specs.Exchanges.{Exchange}
 use Rattle.session_core.specs.Served.{Sources}
-use Rattle.session_core.proofs.Turns.{AreKnown}
+use Rattle.session_laws.specs.Lines.{AreKnown}
 use Rattle.session_laws.proofs.Added.{IsLeftOpen, IsSettledLater, IsReservedBy, IsKind, number_below}
 use Rattle.session_laws.proofs.Causes.{caused}
 use Rattle.session_laws.proofs.Comes.{slice_take}

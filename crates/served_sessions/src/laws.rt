@@ -1,0 +1,138 @@
+//! The laws. Each function does nothing: its contract is the law.
+
+ghost use Rattle.std.specs.Prelude.{◌≡◌, ℕ, ◌<◌, ◌≤◌, true, Bool, MatchBool, List, [], ◌∷◌, ◌++◌, length, map, take, slice_get, Option, Some};
+ghost use mathlib.Core.List.{IsPrefix};
+ghost use Rattle.journal_records.specs.declared.records.Header.{Header};
+ghost use Rattle.journal_records.specs.declared.records.Record.{Record};
+ghost use Rattle.budget_journal.specs.Journals.{Stands};
+ghost use Rattle.budget_ledger.specs.Account.{IsMoment};
+ghost use Rattle.budget_core.specs.Legal.{MayFollow};
+ghost use Rattle.budget_ledger.specs.declared.failure.Failure.{Failure};
+ghost use Rattle.owner_desk.specs.Passes.{Pass, records_told};
+ghost use Rattle.owner_house.specs.Owner.{Owner};
+ghost use Rattle.owner_house.specs.House.{AreOwners, House, IsOwnerIn};
+ghost use Rattle.owner_history.specs.Sound.{IsFound, MayBeFound, IsOwed};
+ghost use Rattle.session_core.specs.Turns.{Turn};
+ghost use Rattle.session_core.specs.Exchanges.{Exchange, told_of};
+ghost use Rattle.session_core.specs.Transcript.{Journals};
+ghost use Rattle.session_core.specs.Gathered.{AreGathered, AreShut, one_worker, part_of};
+ghost use Rattle.session_core.specs.Code.{AreServed, found_by, pass_at};
+ghost use Rattle.session_laws.specs.Lines.{AreHonoured, AreKnown, AreOfTurns};
+ghost use Rattle.successive_runs.specs.Left.{IsLeft};
+ghost use Rattle.successive_runs.specs.Kept.{KeepThePromise};
+ghost use Rattle.successive_runs.specs.Life.{Run, IsRun};
+ghost use Rattle.served_sessions.specs.Sittings.{Sitting, FollowOn, IsWritten, IsWrittenOut, all_exchanges, all_turns, exchanges_in, is_sent, is_whole};
+ghost use Rattle.served_sessions.specs.Kept.{AreHeld, AreShifts, IsKept, KeepThePromises};
+ghost use Rattle.served_sessions.specs.Runs.{AreServiceRuns, AreStopped, IsStopped, MayAllFollow, records_upto, run_of};
+
+/// Sessions one after another, from whatever passes: their lines were served as one list, with the turns of all sessions in order, whose
+/// speakers the house knows.
+pub fn sessions_follow_on()
+    ensures served { (house : House) (draws : ℕ → ℕ → ℕ → ℕ) (sittings : List (Sitting house draws)) (before after : List Pass) →
+        FollowOn house draws before sittings after → AreServed house draws (all_exchanges house draws sittings) before after }
+    ensures turns { (house : House) (draws : ℕ → ℕ → ℕ → ℕ) (sittings : List (Sitting house draws)) →
+        AreOfTurns (all_turns house draws sittings) (all_exchanges house draws sittings) }
+    ensures known { (house : House) (draws : ℕ → ℕ → ℕ → ℕ) (sittings : List (Sitting house draws)) →
+        AreKnown house (all_turns house draws sittings) }
+{}
+
+/// What a session wrote are its replies, all of them or all but the end of the last; and which of them are said to be whole, just those
+/// were written to their end.
+pub fn replies_are_written_out()
+    ensures out { (house : House) (draws : ℕ → ℕ → ℕ → ℕ) (sitting : Sitting house draws) → IsWrittenOut house draws sitting }
+    ensures whole { (house : House) (draws : ℕ → ℕ → ℕ → ℕ) (sitting : Sitting house draws) (place : ℕ) →
+        place < length (exchanges_in house draws sitting) →
+        MatchBool (is_whole house draws sitting place) (IsWritten house draws sitting place) (IsWritten house draws sitting place → ⊥) }
+{}
+
+/// Sessions keep the promises to each owner, all together and each by itself: one worker's, one after another, on books that were opened
+/// for them and closed behind them; and those of several workers, in whatever order their lines came. So does a session from whatever its
+/// passes had seen, whose lines are a stretch of some worker's, wherever all lines keep them.
+pub fn sessions_keep_the_promises()
+    ensures one { (house : House) (draws : ℕ → ℕ → ℕ → ℕ) (sittings : List (Sitting house draws)) (before after : List Pass) (records : Journals) →
+        (closed : ℕ → Option Failure) → AreHeld house draws sittings before after records closed →
+        (o : ℕ) (owner : Owner) → slice_get house.owners o ≡ Some owner → (earlier : List (List ℕ)) → IsOwnerIn house owner →
+        IsFound owner (draws o) earlier (found_by before o) →
+        KeepThePromises house draws o (found_by before o) (all_turns house draws sittings) 1 one_worker owner earlier
+        (all_exchanges house draws sittings) (records o) (λ i. sittings) }
+    ensures several { (house : House) (draws : ℕ → ℕ → ℕ → ℕ) (o : ℕ) (found : List Record) (count : ℕ) (crew : ℕ → ℕ) →
+        (sittings : ℕ → List (Sitting house draws)) (xs : List Exchange) (records : List Record) (owner : Owner) (earlier : List (List ℕ)) →
+        slice_get house.owners o ≡ Some owner → IsOwnerIn house owner → IsFound owner (draws o) earlier found →
+        AreGathered house draws count crew o found xs records → AreShifts house draws o found count crew sittings xs records →
+        KeepThePromises house draws o found (map (λ x. x.turn) xs) count crew owner earlier xs records sittings }
+    ensures stretch { (house : House) (draws : ℕ → ℕ → ℕ → ℕ) (turns : List Turn) (count : ℕ) (crew : ℕ → ℕ) (o : ℕ) (owner : Owner) →
+        (found : List Record) (earlier : List (List ℕ)) (xs : List Exchange) (records : List Record) → slice_get house.owners o ≡ Some owner →
+        (h : AreHonoured house draws turns count crew o owner found earlier xs records) →
+        (i : ℕ) (front later : List Exchange) (sitting : Sitting house draws) →
+        part_of crew i 0 xs ≡ front ++ exchanges_in house draws sitting ++ later →
+        (pass_at sitting.before o).opened.ledger.found ≡ found → IsPrefix found (pass_at sitting.before o).seen →
+        IsPrefix (pass_at sitting.after o).seen records →
+        IsKept house draws o found (earlier ++ h.sources.programs) records sitting }
+{}
+
+/// What is owed to an owner at every end is so behind sessions, too, whatever programs are behind the records found.
+pub fn sessions_are_owed()
+    ensures one { (house : House) (draws : ℕ → ℕ → ℕ → ℕ) (sittings : List (Sitting house draws)) (before after : List Pass) (records : Journals) →
+        (closed : ℕ → Option Failure) → AreHeld house draws sittings before after records closed →
+        (o : ℕ) (owner : Owner) → slice_get house.owners o ≡ Some owner → IsOwnerIn house owner → MayBeFound owner (found_by before o) →
+        IsOwed owner (found_by before o) (records o) }
+    ensures several { (house : House) (draws : ℕ → ℕ → ℕ → ℕ) (o : ℕ) (found : List Record) (count : ℕ) (crew : ℕ → ℕ) →
+        (sittings : ℕ → List (Sitting house draws)) (xs : List Exchange) (records : List Record) (owner : Owner) →
+        slice_get house.owners o ≡ Some owner → IsOwnerIn house owner → MayBeFound owner found →
+        AreGathered house draws count crew o found xs records → AreShifts house draws o found count crew sittings xs records →
+        IsOwed owner found records }
+{}
+
+/// What a stop leaves behind so many of one worker's lines: the records up to there with some of those that are told next, whatever part
+/// of a line's they are; all records with one whose append failed; and of a file that has gone on since then, what it stands for.
+pub fn stops_leave_what_was_told()
+    ensures next { (house : House) (draws : ℕ → ℕ → ℕ → ℕ) (o : ℕ) (found : List Record) (xs : List Exchange) (records : List Record) →
+        AreGathered house draws 1 one_worker o found xs records → (closed : Option Failure) (n m : ℕ) → length (told_of house o (take n xs)) ≤ m →
+        IsStopped house o found xs records closed n (found ++ records_told (take m (told_of house o xs))) }
+    ensures pending { (house : House) (draws : ℕ → ℕ → ℕ → ℕ) (o : ℕ) (found : List Record) (xs : List Exchange) (records : List Record) →
+        AreGathered house draws 1 one_worker o found xs records → (closed : Option Failure) (n : ℕ) (failure : Failure) → closed ≡ Some failure →
+        IsStopped house o found xs records closed n (records ++ failure.pending ∷ []) }
+    ensures files { (house : House) (draws : ℕ → ℕ → ℕ → ℕ) (o : ℕ) (found : List Record) (xs : List Exchange) (records : List Record) →
+        AreGathered house draws 1 one_worker o found xs records → (header : Header) (closed : Option Failure) (n : ℕ) (bytes : List ℕ) →
+        IsMoment header (records_upto house o found xs n) records closed bytes →
+        (left : List Record) × Stands header left bytes × IsStopped house o found xs records closed n left }
+{}
+
+/// Sessions one after another are a run: at their end, with just those replies sent that were written to their end and all records left;
+/// and stopped behind any of their lines, whichever replies to lines up to there were sent by then. So are several workers' sessions, wherever each of them
+/// was stopped, and at their end, once all records are kept. So `runs_keep_the_promise` speaks of all these.
+pub fn sessions_are_runs()
+    ensures ended { (house : House) (draws : ℕ → ℕ → ℕ → ℕ) (sittings : List (Sitting house draws)) (before after : List Pass) (records : Journals) →
+        (closed : ℕ → Option Failure) → AreHeld house draws sittings before after records closed → MayAllFollow house records closed →
+        (o : ℕ) (owner : Owner) → slice_get house.owners o ≡ Some owner → (left : List Record) →
+        IsLeft (found_by before o) (records o) (closed o) left → IsPrefix (records o) left →
+        IsRun house draws o owner (found_by before o)
+        (run_of house draws sittings (records o) (closed o) (is_sent house draws sittings) left) }
+    ensures stopped { (house : House) (draws : ℕ → ℕ → ℕ → ℕ) (sittings : List (Sitting house draws)) (before after : List Pass) (records : Journals) →
+        (closed : ℕ → Option Failure) → AreHeld house draws sittings before after records closed → MayAllFollow house records closed →
+        (o : ℕ) (owner : Owner) → slice_get house.owners o ≡ Some owner → (n : ℕ) (sent : ℕ → Bool) (left : List Record) →
+        ((place : ℕ) → sent place ≡ true → place < n) →
+        IsStopped house o (found_by before o) (all_exchanges house draws sittings) (records o) (closed o) n left →
+        IsRun house draws o owner (found_by before o) (run_of house draws sittings (records o) (closed o) sent left) }
+    ensures several { (house : House) (draws : ℕ → ℕ → ℕ → ℕ) (o : ℕ) (owner : Owner) (found : List Record) →
+        (sittings : ℕ → List (Sitting house draws)) (run : Run) → AreGathered house draws run.count run.crew o found run.exchanges run.records →
+        AreShut house draws run.count run.crew o run.exchanges run.closed →
+        ((failure : Failure) → run.closed ≡ Some failure → MayFollow owner.entry run.records failure.pending) →
+        AreShifts house draws o found run.count run.crew sittings run.exchanges run.records → IsLeft found run.records run.closed run.left →
+        AreStopped house draws run.count run.crew o found run.exchanges run.sent run.left → IsRun house draws o owner found run }
+    ensures all_kept { (house : House) (draws : ℕ → ℕ → ℕ → ℕ) (count : ℕ) (crew : ℕ → ℕ) (o : ℕ) (found : List Record) (xs : List Exchange) →
+        (records left : List Record) (sent : ℕ → Bool) → AreGathered house draws count crew o found xs records → IsPrefix records left →
+        AreStopped house draws count crew o found xs sent left }
+{}
+
+/// Any number of a server's runs, one after another from the journals' making on, each of which has sessions one after another and ended
+/// or was stopped behind any of their lines, keep the promise over all of them; and so do those that go on from whatever records
+/// programs explain.
+pub fn served_runs_keep_the_promise()
+    ensures first { (house : House) (draws : ℕ → ℕ → ℕ → ℕ) (o : ℕ) (owner : Owner) (runs : List Run) (last : List Record) →
+        AreOwners house → slice_get house.owners o ≡ Some owner → AreServiceRuns house draws o [] runs last →
+        KeepThePromise house draws o owner [] [] runs last }
+    ensures later { (house : House) (draws : ℕ → ℕ → ℕ → ℕ) (o : ℕ) (owner : Owner) (found : List Record) (earlier : List (List ℕ)) →
+        (runs : List Run) (last : List Record) → AreOwners house → slice_get house.owners o ≡ Some owner → IsFound owner (draws o) earlier found →
+        AreServiceRuns house draws o found runs last → KeepThePromise house draws o owner found earlier runs last }
+{}
