@@ -8,7 +8,7 @@ set -uo pipefail
 cd "$(dirname "${BASH_SOURCE[0]}")/.." || exit 2
 LIMIT=120
 # A script that isn't there is passed over, so that a line may be put in before its script is.
-SCRIPTS=(prepare.py find_fault.py explain.py why.py pages.py first_programs.py language.py)
+SCRIPTS=(prepare.py find_fault.py explain.py walks.py why.py pages.py first_programs.py language.py)
 
 if ! python3 -c 'import sys; sys.exit(sys.version_info < (3, 9))' 2>/dev/null; then
     echo "the tests of tools and pages are skipped: there is no Python 3.9 or later"

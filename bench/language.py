@@ -31,8 +31,8 @@ def bare(cell):
     return cell.removeprefix("`").removesuffix("`")
 
 
-def in_tables(text):
-    """The rows of the tables that begin with a program: program, what is said, value."""
+def rows_of_tables(text):
+    """The rows of all tables, each cell by its column's name."""
     kind = None
     for line in text.splitlines():
         if not line.startswith("|"):
@@ -41,9 +41,15 @@ def in_tables(text):
         cells = cells_of(line)
         if kind is None:
             kind = cells
-        elif kind[0] == "Program" and not set(cells[0]) <= set("-"):
-            value = int(cells[2]) if kind[2] == "Value" else None
-            yield bare(cells[0]), bare(cells[1]), value
+        elif not set(cells[0]) <= set("-"):
+            yield dict(zip(kind, map(bare, cells)))
+
+
+def in_tables(text):
+    """The rows of the tables that begin with a program: program, what is said, value."""
+    for row in rows_of_tables(text):
+        if "Program" in row:
+            yield row["Program"], row.get("`check`", row.get("Reply")), int(row["Value"]) if "Value" in row else None
 
 
 def in_blocks(text):
@@ -133,4 +139,5 @@ def main():
     sys.exit(1 if trial.differences or lacking else 0)
 
 
-main()
+if __name__ == "__main__":
+    main()

@@ -171,7 +171,9 @@ class TooManySteps(Exception):
 
 
 class Run:
-    """Evaluates terms. It keeps the forms that were met, and ends with TooManySteps after so many nodes, if it is told how many."""
+    """Evaluates terms. It keeps the forms that were met, and ends with TooManySteps after so many nodes, if it is told how many.
+
+    A form that visits each row of a bag hands the bag through `walked`, and works out what its function gives of each by `images`."""
 
     def __init__(self, steps=None):
         self.forms, self.steps = set(), steps
@@ -261,22 +263,28 @@ class Run:
         return clamp(len(self.value(e, scope)))
 
     def clipped_sum(self, node, scope, low, high, e):
-        return clamp(sum(clipped(low, high, element) for element in self.value(e, scope)))
+        return clamp(sum(clipped(low, high, element) for element in self.walked(self.value(e, scope))))
 
     def union(self, node, scope, a, b):
         left = self.value(a, scope)
-        return left + self.value(b, scope)
+        return self.walked(left + self.value(b, scope))
 
     def over_bag(self, node, scope, f, b):
         function = self.value(f, scope)
-        bag = self.value(b, scope)
-        images = [self.value(*function.entered(Bang(element))) for element in bag]
+        bag = self.walked(self.value(b, scope))
+        images = self.images(function, bag)
         if node.form == "map":
             return images
         kept = [element for element, image in zip(bag, images) if image.left]
         if node.form == "filter":
             return kept
         return (kept, [element for element, image in zip(bag, images) if not image.left])
+
+    def walked(self, bag):
+        return bag
+
+    def images(self, function, bag):
+        return [self.value(*function.entered(Bang(element))) for element in bag]
 
 
 MEANINGS = {
