@@ -1,5 +1,5 @@
 -- Lines at a book whose disk fails, and what is said of a number and of the budget, at worked records.
-use Rattle.std.proofs.Common.{◌≡◌, ℕ, List, [], ◌∷◌, ◌++◌, Some, None, codes, refl, ◌∙◌, ap, subst, arith, pos, inl, inr}
+use Rattle.std.proofs.Common.{◌≡◌, ℕ, List, [], ◌∷◌, ◌++◌, length, length-append, Option, Some, None, codes, refl, sym, ◌∙◌, ap, subst, arith, pos, inl, inr}
 use Rattle.journal_records.specs.declared.records.Outcome.TheVariants.{Answered, Exhausted, Lost}
 use Rattle.journal_records.specs.declared.records.Record.{Record}
 use Rattle.journal_records.specs.declared.records.Record.TheVariants.{Reserve, Settle}
@@ -11,9 +11,12 @@ use Rattle.sha2.specs.Sha256.{sha256}
 use Rattle.partition_charge.specs.Cost.{cost_of_charges, partition_cost}
 use Rattle.budget_ledger.specs.declared.failure.Failure.{Failure}
 use Rattle.wire_lines.specs.Reply.{answered, recalled, remaining, refused}
-use Rattle.wire_lines.specs.Refusal.{by_disk, by_number, no_memory}
+use Rattle.wire_lines.specs.Refusal.{by_disk, by_money, by_number, by_program, no_memory, no_token}
+use Rattle.wire_lines.specs.declared.refusal.MoneyRefusal.TheVariants.{OverBudget as NoBudget, JournalFull}
 use Rattle.wire_lines.specs.declared.refusal.DiskRefusal.TheVariants.{Closed, Fault}
-use Rattle.wire_lines.specs.declared.refusal.NumberRefusal.TheVariants.{Unknown as NoNumber, NotYours as AnotherAnalysts}
+use Rattle.wire_lines.specs.declared.refusal.NumberRefusal.TheVariants.{Unknown as NoNumber, NotYours as AnotherAnalysts, Exhausted as NoNoise, Lost as NoAnswer}
+use Rattle.budget_ledger.specs.Account.{Account}
+use Rattle.owner_desk.specs.Passes.{Pass, Told}
 use Rattle.part_views.specs.Views.{signature_in}
 use Rattle.answer_path.specs.Judgement.{Judgement}
 use Rattle.answer_path.specs.Query.{Query}
@@ -22,6 +25,7 @@ use Rattle.answer_path.specs.Answered.{IsAnswered, IsAsked, granted_record}
 use Rattle.answer_path.specs.Shut.{IsGrantPending}
 use Rattle.answer_path.specs.Closing.{Closes}
 use Rattle.answer_path.specs.Standing.{IsBalance, IsRecalled}
+use Rattle.answer_path.specs.Idle.{AddsNone, IsAlone, IsIdle}
 use Rattle.answer_path.proofs.Answering.{money_says}
 use Rattle.answer_path.proofs.SizePeople.{size_people}
 use Rattle.answer_path.proofs.Examples.{a_grant, a_query, an_ask, before, charged, draws_of_minus_one, minus_one, owner, people, reserved, settled_by_three}
@@ -217,3 +221,46 @@ left_at_first = ([], ([], refl), refl, refl)
 not_left_unseen : IsBalance (owner 9000000 100).entry before (remaining 0 9000000 0) [] → ⊥
 unfolding IsBalance
 not_left_unseen (g, begins, said, same) = cc (begins.1, same)
+
+-- ---- lines that add no record
+
+one_more : (found : List Record) (r : Record) → found ++ r ∷ [] ≡ found ++ [] → ⊥
+one_more found r same = omega (arith, sym (length-append found (r ∷ [])) ∙ ap length same ∙ length-append found [])
+
+-- 40, 41, a recall, 60, 61, a balance, 90, and a program that is refused
+none_added : AddsNone (refused (by_money (NoBudget 6 12 10 3))) × AddsNone (refused (by_money (JournalFull 7 1 9))) × AddsNone (recalled 0 None 3)
+    × AddsNone (refused (by_number (NoNumber 5 8))) × AddsNone (refused (by_number (AnotherAnalysts 0 8))) × AddsNone (remaining 6 10 3) × AddsNone (refused no_memory)
+    × AddsNone (refused (by_program (no_token 0)))
+none_added = (tt, tt, tt, tt, tt, tt, tt, tt)
+
+-- an answer, 50, 51, 42 and 52
+some_added : (AddsNone (answered 0 (pos 5) 6) → ⊥) × (AddsNone (refused (by_number (NoNoise 0))) → ⊥) × (AddsNone (refused (by_number (NoAnswer 0))) → ⊥)
+    × (AddsNone (refused (by_disk (Closed 3))) → ⊥) × (AddsNone (refused (by_disk Fault)) → ⊥)
+some_added = (λ none. none, λ none. none, λ none. none, λ none. none, λ none. none)
+
+-- a pass on a book that was found with these records
+module _ (opened : Account) where
+  abbrev pass : List Record → Option Failure → List Told → List Failure → Pass
+  pass more failure own faults = record { opened = opened; seen = opened.ledger.found ++ more; failure = failure; own = own; faults = faults }
+
+  -- 42 of a book that was seen shut; of one that wasn't, another pass may have shut it behind the line's reservation
+  shut_out : IsIdle (pass [] (Some (failed (reserved 1))) [] []) (refused (by_disk (Closed 3)))
+  shut_out = inr ((3, refl), (failed (reserved 1), refl))
+
+  not_shut_before : IsIdle (pass [] None [] []) (refused (by_disk (Closed 3))) → ⊥
+  not_shut_before (inl none) = none
+  not_shut_before (inr (out, (failure, was))) = cc (was)
+
+  not_by_a_fault : IsIdle (pass [] (Some (failed (reserved 1))) [] []) (refused (by_disk Fault)) → ⊥
+  not_by_a_fault (inl none) = none
+  not_by_a_fault (inr ((failed_at, is), was)) = cc (is)
+
+  -- alone with a record of its own and with its own append that failed; not with another's record, nor with another's failure
+  alone : IsAlone (pass (reserved 1 ∷ []) (Some (failed (reserved 1))) ((0, reserved 1) ∷ []) (failed (reserved 1) ∷ []))
+  alone = record { seen = refl; shut = refl }
+
+  among_others : IsAlone (pass (reserved 1 ∷ []) None [] []) → ⊥
+  among_others a = one_more opened.ledger.found (reserved 1) a.seen
+
+  shut_by_another : IsAlone (pass [] (Some (failed (reserved 1))) [] []) → ⊥
+  shut_by_another a = cc (a.shut)

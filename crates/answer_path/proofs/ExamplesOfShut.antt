@@ -1,5 +1,5 @@
 -- What a line does to a book that other passes share, and how a demand is met, at worked lines and on both sides of each choice.
-use Rattle.std.proofs.Common.{◌≡◌, ℕ, List, [], ◌∷◌, ◌++◌, length, Option, Some, None, refl, sym, ap, subst, ◌∙◌, arith, pos, inl, inr}
+use Rattle.std.proofs.Common.{◌≡◌, ℕ, List, [], ◌∷◌, ◌++◌, length, Some, None, refl, sym, ap, ◌∙◌, arith, pos, inr}
 use Rattle.std.specs.List.{enumerate_from}
 use Rattle.journal_records.specs.declared.records.Outcome.TheVariants.{Answered, Exhausted, Lost}
 use Rattle.journal_records.specs.declared.records.Record.{Record}
@@ -20,7 +20,7 @@ use Rattle.answer_path.specs.Demand.{asks, recalls, balances}
 use Rattle.answer_path.specs.Answered.{IsAsked}
 use Rattle.answer_path.specs.Standing.{IsRecalled, IsBalance}
 use Rattle.answer_path.specs.Met.{IsMet, IsMetExactly}
-use Rattle.answer_path.specs.Shut.{Shut, FailsBy, ShutsBy, StaysShut, disk_word, unshut}
+use Rattle.answer_path.specs.Shut.{Shut, FailsBy, ShutsBy, disk_word, unshut}
 use Rattle.answer_path.proofs.SizePeople.{size_people}
 use Rattle.answer_path.proofs.Examples.{a_grant, a_query, before, charged, draws_of_minus_one, minus_one, owner, reserved, settled_by_three}
 

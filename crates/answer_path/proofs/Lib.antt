@@ -20,4 +20,5 @@ pub mod Meets
 pub mod Alone
 pub mod Sole
 pub mod Lost
+pub mod Idle
 pub mod SizePeople

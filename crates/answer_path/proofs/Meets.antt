@@ -1,7 +1,5 @@
 -- a demand is met by what its line makes of a pass
-use Rattle.std.proofs.Common.{◌≡◌, ℕ, List, [], ◌++◌, refl, sym, ◌∙◌, append-nil, Option, Some}
-use Rattle.journal_records.specs.declared.records.Record.{Record}
-use Rattle.budget_ledger.specs.declared.failure.Failure.{Failure}
+use Rattle.std.proofs.Common.{◌≡◌, ℕ, List, [], ◌++◌, refl, sym, ◌∙◌, append-nil}
 use Rattle.wire_lines.specs.Reply.{Replied}
 use Rattle.owner_house.specs.Owner.{Owner}
 use Rattle.owner_desk.specs.Passes.{Pass, Told, first_of_run}

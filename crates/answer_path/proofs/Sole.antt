@@ -1,9 +1,9 @@
 -- where a book is shut by one pass's own appends alone
-use Rattle.std.proofs.Common.{◌≡◌, ℕ, List, [], ◌∷◌, refl, sym, ap, subst, ◌∙◌, inl, inr, Option, Some, None}
+use Rattle.std.proofs.Common.{◌≡◌, ℕ, List, [], refl, sym, ap, subst, ◌∙◌, inl, inr, Option, Some, None}
 use Rattle.journal_records.specs.declared.records.Record.{Record}
 use Rattle.budget_ledger.specs.declared.failure.Failure.{Failure}
 use Rattle.wire_lines.specs.Reply.{Replied, greeted, answered, recalled, remaining, ended, refused}
-use Rattle.wire_lines.specs.Refusal.{Refusal, by_line, by_program, by_money, by_disk, by_number, no_memory}
+use Rattle.wire_lines.specs.Refusal.{by_line, by_program, by_money, by_disk, by_number, no_memory}
 use Rattle.wire_lines.specs.declared.refusal.DiskRefusal.TheVariants.{Closed, Fault}
 use Rattle.wire_lines.specs.declared.refusal.NumberRefusal.TheVariants.{Unknown, NotYours, Exhausted as NoNoise, Lost as NoAnswer}
 use Rattle.owner_house.specs.Owner.{Owner}
@@ -15,7 +15,8 @@ use Rattle.answer_path.specs.Shut.{Shut, ShutsBy, FailsBy, StaysShut, disk_word}
 use Rattle.answer_path.specs.Closing.{Closes, StaysOpen}
 use Rattle.answer_path.specs.Laws.{OnePassCloses}
 
-closing_same : (a b : Option Failure) → closing a ≡ closing b → a ≡ b
+-- what shut a book is known by it as a list
+pub closing_same : (a b : Option Failure) → closing a ≡ closing b → a ≡ b
 closing_same None None is = refl
 closing_same None (Some failure) is = absurd (cc is)
 closing_same (Some failure) None is = absurd (cc is)

@@ -1,5 +1,5 @@
 -- what is told of a number and of the budget
-use Rattle.std.proofs.Common.{◌≡◌, ℕ, ap, subst, ◌∙◌, sym, refl}
+use Rattle.std.proofs.Common.{◌≡◌, ℕ, ap, ◌∙◌, refl}
 use Rattle.budget_core.specs.Answers.{left_of, recalled}
 use Rattle.budget_core.specs.Ledger.{Ledger}
 use Rattle.budget_core.specs.declared.answers.Left.{Left}

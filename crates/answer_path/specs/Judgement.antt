@@ -1,5 +1,5 @@
 -- What a program comes to over tables: it is refused, or is accepted with a sensitivity.
-use Rattle.std.specs.Prelude.{ℕ, ℤ, IsTrue, List, [], ◌∷◌, ⊤}
+use Rattle.std.specs.Prelude.{ℕ, ℤ, List}
 use Rattle.fz_frac.specs.Distance.{Distance}
 use Rattle.fz_frac.specs.Lowest.{lowest}
 use Rattle.fz_ast.specs.Signature.{Signature}
@@ -10,7 +10,6 @@ use Rattle.metric_values.specs.Tables.{Dataset, rows_of}
 use Rattle.metric_values.specs.Values.{NumV}
 use Rattle.metric_law.specs.Means.{Means}
 use Rattle.shape_law.specs.Walk.{WalkOutcome, Shaped, Stops, ShapeFault, TooDeep, TooLong, TooWide, shape}
-use Rattle.wire_lines.specs.Name.{is_name}
 use Rattle.wire_lines.specs.Refusal.{ProgramRefusal, no_token, no_term, too_nested, ill_typed, too_sensitive, out_of_range, unbounded, no_number}
 use Rattle.wire_lines.specs.Refusal.{too_deep, too_long, too_wide}
 use Rattle.wire_lines.specs.declared.refusal.TypeFault.TheVariants.{Unbound as unbound, Mismatch as mismatch, NotGround as notground, NotFlat as notflat}

@@ -9,6 +9,7 @@ pub mod Answered
 pub mod Standing
 pub mod Met
 pub mod Shut
+pub mod Idle
 pub mod Closing
 pub mod Turn
 pub mod Code

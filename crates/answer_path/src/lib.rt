@@ -15,7 +15,7 @@ pub use demand::Demand;
 pub use laws::{
     accepted_programs_have_values, lone_asks_are_answered, lone_demands_are_met,
     lost_answers_are_charged, programs_are_bounded, programs_are_read_in_one_way,
-    verdicts_see_no_answers,
+    refusals_add_nothing, verdicts_see_no_answers,
 };
 pub use meeting::meet;
 pub use owner_desk::{Desk, Pass};

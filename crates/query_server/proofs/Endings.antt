@@ -1,22 +1,23 @@
 -- what a command comes to, by its steps
-use Rattle.std.proofs.Common.{◌≡◌, ℕ, List, Option, Some, None, refl, sym, ◌∙◌, ap, subst}
+use Rattle.std.proofs.Common.{◌≡◌, ℕ, Bool, true, false, List, length, nat_eq, if◌then◌else◌, Option, Some, None, refl, sym, ◌∙◌, ap, subst, eqb-true}
 use Rattle.std.specs.Prelude.{Result, Ok, Err}
 use Rattle.fz_ast.specs.Signature.{Signature}
 use Rattle.metric_values.specs.Tables.{Dataset}
 use Rattle.owner_catalog.specs.Catalog.{Catalog}
 use Rattle.command_words.specs.Command.{Command, init, run, audit, check, gap, command_of}
-use Rattle.catalog_loading.specs.Files.{Contents, ReadsToCome, always}
+use Rattle.catalog_loading.specs.Files.{ReadsToCome}
 use Rattle.catalog_loading.specs.Steps.{FileStep, ◌>>=◌, continued, done, file_read, from}
-use Rattle.catalog_loading.specs.Loaded.{Loading, IsLoading, catalog_read, key_read, loaded, entry_named, owner_loaded, with_house}
+use Rattle.catalog_loading.specs.Loaded.{Loading, IsKeyedHouse, catalog_read, house_read, key_read, keyed, loaded, entry_named, owner_loaded, with_house}
 use Rattle.catalog_loading.specs.Fit.{fitting}
 use Rattle.query_server.specs.Work.{Work, ended, usage, refused, to_answer, to_make, to_count, to_check, to_compare}
 use Rattle.query_server.specs.Run.{run_steps}
+use Rattle.query_server.specs.Init.{init_steps}
+use Rattle.query_server.specs.Audit.{audit_steps}
 use Rattle.query_server.specs.Check.{check_steps}
 use Rattle.query_server.specs.Gap.{gap_steps}
 use Rattle.query_server.specs.Due.{work_of, command_steps}
 use Rattle.query_server.specs.Promise.{IsHouseOf}
 use Rattle.catalog_loading.proofs.Pairs.{inverted}
-use Rattle.catalog_loading.proofs.Told.{keeps_catalog, keeps_key}
 use Rattle.catalog_loading.proofs.Loaded.{catalog_lawful, loaded_register}
 
 -- what the steps to a house gave
@@ -96,41 +97,77 @@ pub work_by : (words : List (List ℕ)) (reads : ReadsToCome) (command : Option 
 unfolding work_of
 work_by words reads command is = ap (λ c. ended (command_steps c reads).given) is
 
--- A script is answered over a house of the files.
-house_of_run : (words : List (List ℕ)) (held : Contents) (catalog name : List ℕ) (workers : ℕ) (loading : Loading) (key : List ℕ) → command_of words ≡ Some (run catalog name workers)
-    → (run_steps catalog name workers (always held)).given ≡ Ok (to_answer workers loading key) → IsHouseOf words held workers loading key
-house_of_run words held catalog name workers loading key commanded is =
-    let found = house_gives (to_answer workers) catalog name (always held) (to_answer workers loading key) is in
-    let same : found.2 ≡ loading = cc in
-    let bytes : found.1 ≡ key = cc in
-    let first = keeps_catalog held catalog in
-    let key_found = subst (λ (rest : ReadsToCome). (key_read name rest).given ≡ Ok found.1) first found.4 in
-    let rest_of_key : (key_read name (catalog_read catalog (always held)).rest).rest ≡ always held = ap (λ (rest : ReadsToCome). (key_read name rest).rest) first ∙ keeps_key held name in
-    let loads = subst (λ (rest : ReadsToCome). (loaded found.0 rest).given ≡ Ok found.2) rest_of_key found.5 in
-    let lawful = loaded_register found.0 (always held) found.2 (catalog_lawful catalog (always held) found.0 found.3) loads in
-    let its : found.0 ≡ loading.register.catalog = sym lawful.0 ∙ ap (λ (l : Loading). l.register.catalog) same in
-    record {
-      catalog = catalog;
-      key_name = name;
-      commanded = commanded;
-      has_catalog = found.3 ∙ ap Ok its;
-      has_tables = subst (λ (c : Catalog). (loaded c (always held)).given ≡ Ok loading) its (loads ∙ ap Ok same);
-      has_key = key_found ∙ ap Ok bytes;
-      lawful = subst IsLoading same lawful.1;
-    }
+-- ---- what was loaded
 
--- what ended as a script that is to be answered was given
-given_answer : (given : Result Work (List ℕ)) (workers : ℕ) (loading : Loading) (key : List ℕ) → ended given ≡ to_answer workers loading key → given ≡ Ok (to_answer workers loading key)
-given_answer (Ok ending) workers loading key is = ap Ok is
-given_answer (Err name) workers loading key is = cc
+-- a key that was read has 32 bytes
+key_by : (name bytes key : List ℕ) (whole : Bool) → nat_eq (length bytes) 32 ≡ whole → (if whole then Ok bytes else Err name) ≡ Ok key → length key ≡ 32
+key_by name bytes key true whole is = let same : bytes ≡ key = cc in ap length (sym same) ∙ eqb-true (length bytes) 32 whole
+key_by name bytes key false whole is = cc
 
--- a script is answered by a `run` alone
+key_whole : (name : List ℕ) (reads : ReadsToCome) (key : List ℕ) → (key_read name reads).given ≡ Ok key → length key ≡ 32
+key_whole name reads key is =
+    let read = inverted (file_read name) (λ bytes. from (if nat_eq (length bytes) 32 then Ok bytes else Err name)) reads key is in
+    key_by name read.0 key (nat_eq (length read.0) 32) refl read.2
+
+-- what two steps give, put together
+both_give : {A B : Type 0} (step : FileStep A) (next : A → FileStep B) (reads : ReadsToCome) (a : A) (b : B) → (step reads).given ≡ Ok a → (next a (step reads).rest).given ≡ Ok b
+    → ((step >>= next) reads).given ≡ Ok b
+unfolding ◌>>=◌
+both_give {A} step next reads a b first second = ap (λ (given : Result A (List ℕ)). (continued given (step reads).names (step reads).rest next).given) first ∙ second
+
+-- A house was read for some work, which tells it.
+pub record IsHouseRead (catalog key_name : List ℕ) (reads : ReadsToCome) (loading : Loading) (key : List ℕ) : Type 0 where
+  pub is_read : (house_read catalog key_name reads).given ≡ Ok (keyed loading key)
+  pub lawful : IsKeyedHouse (keyed loading key)
+
+pub house_of_work : (work : Loading → List ℕ → Work) (catalog key_name : List ℕ) (reads : ReadsToCome) (loading : Loading) (key : List ℕ)
+    → ((other : Loading) (bytes : List ℕ) → work other bytes ≡ work loading key → (other ≡ loading) × (bytes ≡ key))
+    → (with_house work catalog key_name reads).given ≡ Ok (work loading key) → IsHouseRead catalog key_name reads loading key
+house_of_work work catalog key_name reads loading key one is =
+    let found = house_gives work catalog key_name reads (work loading key) is in
+    let its = one found.2 found.1 found.6 in
+    let of_catalog = catalog_lawful catalog reads found.0 found.3 in
+    let lawful = loaded_register found.0 (key_read key_name (catalog_read catalog reads).rest).rest found.2 of_catalog found.5 in
+    let whole = key_whole key_name (catalog_read catalog reads).rest found.1 found.4 in
+    let whole_house : (house_read catalog key_name reads).given ≡ Ok (keyed found.2 found.1)
+    = both_give (catalog_read catalog) (λ house. key_read key_name >>= (λ bytes. loaded house >>= (λ given. done (keyed given bytes)))) reads found.0 (keyed found.2 found.1) found.3
+    (both_give (key_read key_name) (λ bytes. loaded found.0 >>= (λ given. done (keyed given bytes))) (catalog_read catalog reads).rest found.1 (keyed found.2 found.1) found.4
+    (both_give (loaded found.0) (λ given. done (keyed given found.1)) (key_read key_name (catalog_read catalog reads).rest).rest found.2 (keyed found.2 found.1) found.5 refl)) in
+    subst (λ (l : Loading). IsHouseRead catalog key_name reads l key) its.0
+    (subst (λ (k : List ℕ). IsHouseRead catalog key_name reads found.2 k) its.1
+    (record { is_read = whole_house; lawful = record { lawful = lawful.1; whole_key = whole } }))
+
+-- what ended as some work was given as it
+given_work : (given : Result Work (List ℕ)) (work : Work) → ((name : List ℕ) → refused name ≡ work → ⊥) → ended given ≡ work → given ≡ Ok work
+given_work (Ok ending) work other is = ap Ok is
+given_work (Err name) work other is = absurd (other name is)
+
+-- a house is loaded by a `run`, an `init` or an `audit` alone
 run_asked : (command : Option Command) (workers : ℕ) (loading : Loading) (key : List ℕ) → ComesTo command (to_answer workers loading key)
     → (catalog : List ℕ) × (name : List ℕ) × (command ≡ Some (run catalog name workers))
 run_asked command workers loading key (answers {catalog = catalog} {name = name}) = (catalog, name, refl)
 
-pub house_by : (words : List (List ℕ)) (held : Contents) (workers : ℕ) (loading : Loading) (key : List ℕ) → work_of words (always held) ≡ to_answer workers loading key → IsHouseOf words held workers loading key
-house_by words held workers loading key is =
-    let asked = run_asked (command_of words) workers loading key (subst (ComesTo (command_of words)) is (work_comes words (always held))) in
-    house_of_run words held asked.0 asked.1 workers loading key asked.2
-    (given_answer (run_steps asked.0 asked.1 workers (always held)).given workers loading key (sym (work_by words (always held) _ asked.2) ∙ is))
+init_asked : (command : Option Command) (loading : Loading) (key : List ℕ) → ComesTo command (to_make loading key) → (catalog : List ℕ) × (name : List ℕ) × (command ≡ Some (init catalog name))
+init_asked command loading key (makes {catalog = catalog} {name = name}) = (catalog, name, refl)
+
+audit_asked : (command : Option Command) (loading : Loading) (key : List ℕ) → ComesTo command (to_count loading key) → (catalog : List ℕ) × (name : List ℕ) × (command ≡ Some (audit catalog name))
+audit_asked command loading key (counts {catalog = catalog} {name = name}) = (catalog, name, refl)
+
+pub house_by : (words : List (List ℕ)) (reads : ReadsToCome) (workers : ℕ) (loading : Loading) (key : List ℕ) → work_of words reads ≡ to_answer workers loading key → IsHouseOf words reads workers loading key
+house_by words reads workers loading key is =
+    let asked = run_asked (command_of words) workers loading key (subst (ComesTo (command_of words)) is (work_comes words reads)) in
+    let house = house_of_work (to_answer workers) asked.0 asked.1 reads loading key (λ other bytes same. (cc (same), cc (same)))
+    (given_work (run_steps asked.0 asked.1 workers reads).given (to_answer workers loading key) (λ name wrong. cc) (sym (work_by words reads _ asked.2) ∙ is)) in
+    record { catalog = asked.0; key_name = asked.1; commanded = asked.2; is_read = house.is_read; lawful = house.lawful }
+
+pub made_lawful : (words : List (List ℕ)) (reads : ReadsToCome) (loading : Loading) (key : List ℕ) → work_of words reads ≡ to_make loading key → IsKeyedHouse (keyed loading key)
+made_lawful words reads loading key is =
+    let asked = init_asked (command_of words) loading key (subst (ComesTo (command_of words)) is (work_comes words reads)) in
+    (house_of_work to_make asked.0 asked.1 reads loading key (λ other bytes same. (cc (same), cc (same)))
+    (given_work (init_steps asked.0 asked.1 reads).given (to_make loading key) (λ name wrong. cc) (sym (work_by words reads _ asked.2) ∙ is))).lawful
+
+pub counted_lawful : (words : List (List ℕ)) (reads : ReadsToCome) (loading : Loading) (key : List ℕ) → work_of words reads ≡ to_count loading key → IsKeyedHouse (keyed loading key)
+counted_lawful words reads loading key is =
+    let asked = audit_asked (command_of words) loading key (subst (ComesTo (command_of words)) is (work_comes words reads)) in
+    (house_of_work to_count asked.0 asked.1 reads loading key (λ other bytes same. (cc (same), cc (same)))
+    (given_work (audit_steps asked.0 asked.1 reads).given (to_count loading key) (λ name wrong. cc) (sym (work_by words reads _ asked.2) ∙ is))).lawful

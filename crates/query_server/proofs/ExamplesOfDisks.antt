@@ -3,7 +3,7 @@ use Rattle.std.proofs.Common.{◌≡◌, ℕ, zero, suc, ◌+◌, ◌*◌, ◌<�
 use Rattle.std.specs.Prelude.{codes, pos, slice_index, IfSome}
 use Rattle.std.specs.Fmt.{digits}
 use mathlib.Core.Logic.{inl, inr}
-use Rattle.outside_disks.specs.Disks.{Shown, Step, Trace}
+use Rattle.outside_disks.specs.Disks.{Shown, Step, Trace, overlaid, seen}
 use Rattle.outside_disks.specs.Disks.Step.{Wrote, Synced}
 use Rattle.partition_charge.specs.declared.view.View.TheVariants.{Whole}
 use Rattle.partition_charge.specs.Cost.{cost_of_charges, partition_cost}
@@ -14,6 +14,10 @@ use Rattle.journal_records.specs.Records.{settling}
 use Rattle.journal_records.specs.declared.records.Header.{Header}
 use Rattle.budget_core.specs.Cost.{cost_of}
 use Rattle.budget_core.specs.Entries.{Entry}
+use Rattle.budget_journal.specs.Journals.{Stands}
+use Rattle.fz_ast.specs.Signature.{Signature}
+use Rattle.metric_values.specs.Tables.{Dataset}
+use Rattle.owner_house.specs.Owner.{Owner}
 use Rattle.owner_catalog.specs.Catalog.{Catalog, OwnerEntry}
 use Rattle.owner_catalog.specs.Digest.{digest_of}
 use Rattle.session_core.specs.Transcript.{Journals}
@@ -23,12 +27,15 @@ use Rattle.query_server.specs.Opened.{AreOpenedBefore, IsUnopened, IsRefusedAt, 
 use Rattle.query_server.specs.Init.{AreMadeBefore, IsMade, IsExistingDue, IsMakingNamed, MayBeMadeInPart, MayHaveFailed, made_line}
 use Rattle.query_server.specs.Audit.{counted_line, counted_text}
 use Rattle.query_server.specs.Due.{IsDiskLine, IsStopLine}
-use Rattle.query_server.specs.Work.{refused, to_answer, to_make, to_count}
+use Rattle.query_server.specs.Work.{usage, refused, to_answer, to_make, to_count, to_check, to_compare}
+use Rattle.query_server.specs.Valid.{AreEmpty, HoldJournals, IsValidFor, MayEndWell}
+use Rattle.query_server.specs.Found.{KeepsFound}
 use Rattle.query_server.specs.Status.{journal_text, disk_text}
 use Rattle.query_server.specs.declared.end.Status.{Status}
-use Rattle.query_server.specs.declared.end.Status.TheVariants.{Done, JournalRefused, DiskFault}
+use Rattle.query_server.specs.declared.end.Status.TheVariants.{Done, ProgramRefused, Refused, JournalRefused, DiskFault, NoMemory, ScriptTooLong}
 use Rattle.query_server.specs.declared.refusals.JournalRefusal.{JournalRefusal}
 use Rattle.query_server.specs.declared.refusals.JournalRefusal.TheVariants.{Uninitialised, Changed, Damaged, Exists}
+use Rattle.outside_disks.proofs.Images.{seen-image}
 use Rattle.query_server.proofs.Made.{no_other_made}
 
 -- ---- lines
@@ -401,3 +408,90 @@ disk_failed = inr (refl, second_making)
 disk_failed_and_done : (old new : Shelf) (text : List ℕ) → IsStopLine (to_make loading key) old new Done text → ⊥
 disk_failed_and_done old new text (inl (wrong, is)) = cc
 disk_failed_and_done old new text (inr (wrong, line)) = cc
+
+-- ---- what is valid, and how it ends
+
+-- an empty disk, and one with a byte; one that doesn't tell
+empty : AreEmpty 1 (shelf_with [])
+empty zero lt = refl
+empty (suc o) lt = absurd (omega (arith, lt))
+
+not_empty : AreEmpty 1 (shelf_with (0 ∷ [])) → ⊥
+not_empty is = cc (is 0 (omega arith))
+
+not_told_empty : AreEmpty 2 (shelf_with []) → ⊥
+not_told_empty is = cc (is 1 (omega arith))
+
+-- An `init` asks for empty disks, and a `run` and an `audit` for journals, which an empty disk is none of.
+valid_making : IsValidFor (to_make loading key) (λ o. telling [])
+valid_making o lt = refl
+
+no_journals : HoldJournals loading key (λ o. telling []) → ⊥
+no_journals (told, (found, opened)) = let whole = (opened 0 (omega arith)).stands.fills.whole in omega (arith, whole)
+
+not_valid_run : IsValidFor (to_answer 1 loading key) (λ o. telling []) → ⊥
+not_valid_run = no_journals
+
+not_valid_audit : IsValidFor (to_count loading key) (λ o. telling []) → ⊥
+not_valid_audit = no_journals
+
+-- journals of no records are valid, and those that aren't told are not
+module _ (bytes : ℕ → List ℕ) (made : (o : ℕ) → Stands (header_of loading key o) [] (bytes o)) where
+  valid_run : IsValidFor (to_answer 1 loading key) (λ o. telling (bytes o))
+  valid_run = (λ o lt. refl, (λ o. [], λ o lt. record { stands = made o; history = record { follows = λ k r at. absurd (cc (at)) } }))
+
+  not_valid_making : IsValidFor (to_make loading key) (λ o. telling (bytes o)) → ⊥
+  not_valid_making is =
+      let none : bytes 0 ≡ [] = cc (is 0 (omega arith)) in
+      let whole : length (bytes 0) ≡ 6528 = (made 0).fills.whole in
+      let short : length (bytes 0) ≡ 0 = ap length none in
+      omega (arith, whole, short)
+
+not_valid_untold : IsValidFor (to_answer 1 loading key) (λ o. Some (record { trace = None; faults = 0 })) → ⊥
+not_valid_untold (told, journals) = let wrong : false ≡ true = told 0 (omega arith) in true≢false (sym wrong)
+
+-- a program asks nothing of the disks; faulty words and a refused name are never valid
+module _ (tables : Signature) (X Y : Dataset) (program : List ℕ) (shelf : Shelf) where
+  valid_check : IsValidFor (to_check tables program) shelf
+  valid_check = tt
+
+  valid_gap : IsValidFor (to_compare tables X Y program) shelf
+  valid_gap = tt
+
+  not_valid_usage : IsValidFor usage shelf → ⊥
+  not_valid_usage is = is
+
+  not_valid_refused : IsValidFor (refused (codes "cat.json")) shelf → ⊥
+  not_valid_refused is = is
+
+  -- which of 0, 1, 4, 7 and 8 each ends with
+  init_ends : (MayEndWell (to_make loading key) Done × MayEndWell (to_make loading key) NoMemory)
+      × (MayEndWell (to_make loading key) JournalRefused → ⊥) × (MayEndWell (to_make loading key) ScriptTooLong → ⊥) × (MayEndWell (to_make loading key) ProgramRefused → ⊥)
+  init_ends = ((inl refl, inr refl), λ is. absurd (grind (arith, is)), λ is. absurd (grind (arith, is)), λ is. absurd (grind (arith, is)))
+
+  run_ends : (MayEndWell (to_answer 1 loading key) Done × MayEndWell (to_answer 1 loading key) ScriptTooLong × MayEndWell (to_answer 1 loading key) NoMemory)
+      × (MayEndWell (to_answer 1 loading key) JournalRefused → ⊥) × (MayEndWell (to_answer 1 loading key) ProgramRefused → ⊥)
+  run_ends = ((inl (inl refl), inl (inr refl), inr refl), λ is. absurd (grind (arith, is)), λ is. absurd (grind (arith, is)))
+
+  audit_ends : (MayEndWell (to_count loading key) Done × MayEndWell (to_count loading key) NoMemory)
+      × (MayEndWell (to_count loading key) JournalRefused → ⊥) × (MayEndWell (to_count loading key) ScriptTooLong → ⊥)
+  audit_ends = ((inl refl, inr refl), λ is. absurd (grind (arith, is)), λ is. absurd (grind (arith, is)))
+
+  check_ends : (MayEndWell (to_check tables program) Done × MayEndWell (to_check tables program) ProgramRefused × MayEndWell (to_check tables program) NoMemory)
+      × (MayEndWell (to_check tables program) ScriptTooLong → ⊥) × (MayEndWell (to_check tables program) Refused → ⊥)
+  check_ends = ((inl (inl refl), inl (inr refl), inr refl), λ is. absurd (grind (arith, is)), λ is. absurd (grind (arith, is)))
+
+  gap_ends : (MayEndWell (to_compare tables X Y program) Done × MayEndWell (to_compare tables X Y program) ProgramRefused × MayEndWell (to_compare tables X Y program) NoMemory)
+      × (MayEndWell (to_compare tables X Y program) ScriptTooLong → ⊥) × (MayEndWell (to_compare tables X Y program) Refused → ⊥)
+  gap_ends = ((inl (inl refl), inl (inr refl), inr refl), λ is. absurd (grind (arith, is)), λ is. absurd (grind (arith, is)))
+
+-- ---- what an owner keeps
+
+-- A disk to which a byte was written doesn't keep what was found: a stop may leave a file that none could have left before.
+written_isnt_kept : (owner : Owner) (draws : ℕ → ℕ → ℕ) (header : Header) (found : List Record)
+    → KeepsFound owner draws header found (shown []) (record { trace = Some (record { start = []; steps = Wrote 0 (7 ∷ []) ∷ [] }); faults = 0 }) → ⊥
+unfolding overlaid
+written_isnt_kept owner draws header found keeps =
+    let same : seen [] (Wrote 0 (7 ∷ []) ∷ []) ≡ [] = keeps.images.each _ (inl (seen-image [] (Wrote 0 (7 ∷ []) ∷ []))) in
+    let long : 1 ≡ 0 = ap length same in
+    omega (arith, long)

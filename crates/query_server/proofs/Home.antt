@@ -1,30 +1,19 @@
--- disks that are at home again, and a `run` of which nothing was in the way
+-- disks that are at home again
 use Rattle.std.proofs.Common.{◌≡◌, ℕ, ◌<◌, ◌≤◌, List, Option, Some, None, refl, sym, subst, arith}
-use Rattle.std.specs.Prelude.{Err, IsSome}
+use Rattle.std.specs.Prelude.{IsSome}
 use mathlib.Core.Logic.{◌⊎◌, inl, inr}
 use Rattle.std.proofs.lemmas.Bool.{cases_lt, cases_order}
 use Rattle.outside_disks.specs.Disks.{Shown}
 use Rattle.outside_bays.specs.Bays.{Same}
-use Rattle.journal_records.specs.declared.records.Header.{Header}
-use Rattle.journal_records.specs.declared.records.Record.{Record}
-use Rattle.budget_core.specs.Entries.{Entry}
-use Rattle.session_core.specs.Transcript.{Journals}
 use Rattle.command_words.specs.Command.{Command, command_of}
 use Rattle.catalog_loading.specs.Files.{ReadsToCome}
-use Rattle.catalog_loading.specs.Loaded.{Loading, header_of, entry_at, owners_in}
-use Rattle.query_server.specs.Work.{Work, to_answer}
-use Rattle.query_server.specs.Shelves.{Shelf, AreAtHome, EachDisk, TellBytes, bytes_on}
-use Rattle.query_server.specs.Opened.{AreOpened, IsOpened, IsUnopened}
+use Rattle.catalog_loading.specs.Loaded.{Loading, header_of}
+use Rattle.query_server.specs.Work.{Work}
+use Rattle.query_server.specs.Shelves.{Shelf, AreAtHome, EachDisk}
 use Rattle.query_server.specs.Init.{AreMadeBefore, IsMade}
-use Rattle.query_server.specs.Due.{IfFinished, IsDue, IsOfDisks, work_of}
+use Rattle.query_server.specs.Due.{IsOfDisks, work_of}
 use Rattle.query_server.specs.Ends.{Ended, IsEndOf}
-use Rattle.query_server.specs.declared.refusals.JournalRefusal.{JournalRefusal}
-use Rattle.query_server.specs.declared.refusals.JournalRefusal.TheVariants.{Exists}
-use Rattle.query_server.specs.declared.end.Status.{Status}
-use Rattle.query_server.specs.declared.end.Status.TheVariants as code
-use Rattle.catalog_loading.specs.declared.stops.Stop.TheVariants.{Fault}
 use Rattle.query_server.proofs.Endings.{ComesTo, answers, counts, makes, refuses, work_comes}
-use Rattle.query_server.proofs.Unopened.{not_refused}
 
 abbrev pub AreBack : (old new : Shelf) → Type 0
 AreBack old new = (o : ℕ) → IsSome (old o) → IsSome (new o)
@@ -84,35 +73,3 @@ home_again shelf words old new reads script end (inr same) due = λ o home. subs
 
 pub at_home_again : (n m : ℕ) (b a : Shelf) → m ≡ n → AreAtHome n b → AreBack b a → AreAtHome m a
 at_home_again n m b a same home back = λ o within. (let there = home o within in (omega (arith, there.0, same), back o there.1))
-
--- ---- nothing in the way
-
--- what bytes stand for, where they are told
-unrefused : (entry : Entry) (header : Header) (bytes : Option (List ℕ)) (found : List Record) (refusal : JournalRefusal) → IsSome bytes → IsOpened entry header bytes found → IsUnopened entry header bytes refusal → ⊥
-unrefused entry header (Some bytes) found refusal told opened isnt = not_refused entry header found bytes refusal opened.stands opened.history isnt
-unrefused entry header None found (Exists n) told opened isnt = isnt
-unrefused entry header None found refusal told opened isnt = cc
-
-pub complete_by : (workers : ℕ) (loading : Loading) (key : List ℕ) (b a : Shelf) (found : Journals) (script : List ℕ) (status : Status) (text : List ℕ) → TellBytes (owners_in loading) b → AreOpened loading key b found
-    → (status ≡ code.Fault → ⊥) → (status ≡ code.DiskFault → ⊥) → IfFinished status (IsDue (to_answer workers loading key) b a script status text)
-    → (status ≡ code.Done) ⊎ ((status ≡ code.ScriptTooLong) ⊎ (status ≡ code.NoMemory))
-complete_by workers loading key b a found script status text told opened fault disk (inl is) = absurd (fault is)
-complete_by workers loading key b a found script status text told opened fault disk (inr (inl is)) = inr (inr is)
-complete_by workers loading key b a found script status text told opened fault disk (inr (inr (inl is))) = absurd (disk is)
-complete_by workers loading key b a found script status text told opened fault disk (inr (inr (inr (inl r)))) =
-    absurd (unrefused (entry_at loading r.o) (header_of loading key r.o) (bytes_on b r.o) (found r.o) r.refusal (told r.o r.at.known) (opened r.o r.at.known) r.at.refused)
-complete_by workers loading key b a found script status text told opened fault disk (inr (inr (inr (inr (other, opens, inl (done, short, answered)))))) = inl done
-complete_by workers loading key b a found script status text told opened fault disk (inr (inr (inr (inr (other, opens, inr (over, long, is, disks)))))) = inr (inl over)
-
--- no cause, no failure
-pub no_cause : {OfRun Files Source Sink : Type 0} (end : Ended) → (Files → ⊥) → (Source → ⊥) → (Sink → ⊥) → (end ≡ Err Fault) ⊎ Sink → (end ≡ Err Fault → Files ⊎ (OfRun × Source)) → ⊥
-no_cause {OfRun} {Files} {Source} {Sink} end file source sink (inl is) cause = here (cause is)
-  where
-    here : Files ⊎ (OfRun × Source) → ⊥
-    here (inl rose) = file rose
-    here (inr (of, rose)) = source rose
-no_cause end file source sink (inr rose) cause = sink rose
-
-pub no_disk_cause : {Bay Disk : Type 0} → (Bay → ⊥) → (Disk → ⊥) → Bay ⊎ Disk → ⊥
-no_disk_cause bay disk (inl rose) = bay rose
-no_disk_cause bay disk (inr rose) = disk rose

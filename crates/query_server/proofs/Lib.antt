@@ -18,6 +18,8 @@ pub mod Made
 pub mod Counted
 pub mod Diskless
 pub mod Outcomes
+pub mod Valid
+pub mod Found
 pub mod Lines
 pub mod Causes
 pub mod Compared

@@ -4,22 +4,22 @@ use Rattle.std.specs.Io.KnownBytes.{append_known}
 use mathlib.Core.Logic.{◌⊎◌, inl, inr}
 use Rattle.fz_outside.specs.Faults.{HasRisen}
 use Rattle.command_words.specs.Command.{Command, command_of, run}
-use Rattle.catalog_loading.specs.Files.{Contents, always}
+use Rattle.catalog_loading.specs.Files.{Contents, ReadsToCome, always}
 use Rattle.catalog_loading.specs.Loaded.{Loading, owners_in}
 use Rattle.query_server.specs.Work.{Work, to_answer, usage}
 use Rattle.query_server.specs.Shelves.{EachDisk, IsOnlySynced, Shelf}
 use Rattle.query_server.specs.Outside.{Outside}
-use Rattle.query_server.specs.Due.{ForContents, IsBeginning, IsFaultyWordsEnd, IsOfRun, IsWrittenAt, MayStop, SomeFailed, work_of}
+use Rattle.query_server.specs.Due.{AreRead, ForContents, IsBeginning, IsFaultyWordsEnd, IsOfRun, IsWrittenAt, MayStop, SomeFailed, files_of, work_of}
 use Rattle.query_server.specs.Promise.{IsAnsweredScript, IsRunLeft}
-use Rattle.query_server.specs.Laws.{FaultyWordsAreTold, LinesAreExact, OneWorkerTranscribes, OutsideStays, ProgramsAreExact, RefusalsAreExact, RunsAreAnswered, StatusesAreOfCommands, VerdictsAreExact}
+use Rattle.query_server.specs.Laws.{FaultyWordsAreTold, LinesAreExact, LinesAreHeadlines, OneWorkerTranscribes, OutsideStays, ProgramsAreExact, RefusalsAreExact, RunsAreAnswered, StatusesAreOfCommands, VerdictsAreExact, WhatIsLoadedIsLawful}
 use Rattle.query_server.specs.declared.end.Status.{Status}
 use Rattle.query_server.specs.declared.end.Status.TheVariants as code
 use Rattle.word_streams.specs.Draws.{draws_of}
 use Rattle.owner_house.specs.House.{house_of}
 use Rattle.session_laws.proofs.Scripts.{transcript_of}
-use Rattle.query_server.proofs.Contents.{at_held, at_told}
-use Rattle.query_server.proofs.Endings.{house_by, work_by, work_comes}
-use Rattle.query_server.proofs.Outcomes.{Comes, comparison_by, disks_of, finished_due, finished_map, name_by, program_by, program_of, run_of, status_written, usage_of, verdict_by}
+use Rattle.query_server.proofs.Contents.{at_held, at_told, for_contents}
+use Rattle.query_server.proofs.Endings.{counted_lawful, house_by, made_lawful, work_by, work_comes}
+use Rattle.query_server.proofs.Outcomes.{Comes, comparison_by, disks_of, finished_due, finished_map, left_by_run, name_by, program_by, program_of, run_of, status_written, usage_of, verdict_by}
 
 pub lines_exact : LinesAreExact
 lines_exact words before after status text line held files =
@@ -103,22 +103,40 @@ faulty_words_told words before after status text (written, (reads, script, told,
 run_takes : (command : Option Command) (catalog key : List ℕ) (workers : ℕ) → command ≡ Some (run catalog key workers) → IsOfRun command
 run_takes command catalog key workers is = subst IsOfRun (sym is) refl
 
+-- what `line` says of a run is what `headline` says
+pub lines_headlines : LinesAreHeadlines
+lines_headlines words before after status text line takes =
+    let comes = Comes words before.files.names after.files.names before.bay.shelf after.bay.shelf status text in
+    let Also : ReadsToCome → List ℕ → Type 0 = λ reads script. IsWrittenAt (work_of words reads) before.bay.shelf after.bay.shelf script status text
+    × AreRead status (files_of words reads) before.files.names after.files.names × IsRunLeft words reads before.bay.shelf after.bay.shelf script status text in (
+      for_contents before.files.held before.source.left comes Also
+          (λ reads script (due, read). (due, read, left_by_run words reads before.bay.shelf after.bay.shelf script text status takes due)) line.1,
+      λ held script files source. left_by_run words (always held) before.bay.shelf after.bay.shelf script text status takes
+          (at_told held script before.files.held before.source.left comes files source line.1).0,
+    )
+
 pub runs_answered : RunsAreAnswered
-runs_answered words held old new script status written left = (λ takes done. whole (left takes) done, λ workers loading key is. some workers loading key is (left (taken workers loading key is)))
+runs_answered words reads old new script status written left = (λ takes done. whole (left takes) done, λ workers loading key is. some workers loading key is (left (taken workers loading key is)))
   where
-    taken : (workers : ℕ) (loading : Loading) (key : List ℕ) → work_of words (always held) ≡ to_answer workers loading key → IsOfRun (command_of words)
+    taken : (workers : ℕ) (loading : Loading) (key : List ℕ) → work_of words reads ≡ to_answer workers loading key → IsOfRun (command_of words)
     taken workers loading key is =
-        let house = house_by words held workers loading key is in
+        let house = house_by words reads workers loading key is in
         run_takes (command_of words) house.catalog house.key_name workers house.commanded
 
-    whole : IsRunLeft words held old new script status written → status ≡ code.Done → IsAnsweredScript words held old new script written
-    whole (inl (due, answered, begins, same)) done = subst (λ (t : List ℕ). IsAnsweredScript words held old new script t) (sym (same done)) answered
+    whole : IsRunLeft words reads old new script status written → status ≡ code.Done → IsAnsweredScript words reads old new script written
+    whole (inl (due, answered, begins, same)) done = subst (λ (t : List ℕ). IsAnsweredScript words reads old new script t) (sym (same done)) answered
     whole (inr (isnt, may)) done = absurd (isnt done)
 
-    some : (workers : ℕ) (loading : Loading) (key : List ℕ) → work_of words (always held) ≡ to_answer workers loading key → IsRunLeft words held old new script status written
-        → EachDisk (owners_in loading) (λ _. IsOnlySynced) old new ⊎ ((due : List ℕ) × IsAnsweredScript words held old new script due × IsBeginning written due)
+    some : (workers : ℕ) (loading : Loading) (key : List ℕ) → work_of words reads ≡ to_answer workers loading key → IsRunLeft words reads old new script status written
+        → EachDisk (owners_in loading) (λ _. IsOnlySynced) old new ⊎ ((due : List ℕ) × IsAnsweredScript words reads old new script due × IsBeginning written due)
     some workers loading key is (inl (due, answered, begins, same)) = inr (due, answered, begins)
     some workers loading key is (inr (isnt, may)) = inl (subst (λ (w : Work). MayStop w old new) is may)
+
+-- what is loaded is lawful
+pub loaded_lawful : WhatIsLoadedIsLawful
+loaded_lawful words reads loading key (inl (workers, is)) = let house = (house_by words reads workers loading key is).lawful in (house.lawful, house.whole_key)
+loaded_lawful words reads loading key (inr (inl is)) = let house = made_lawful words reads loading key is in (house.lawful, house.whole_key)
+loaded_lawful words reads loading key (inr (inr is)) = let house = counted_lawful words reads loading key is in (house.lawful, house.whole_key)
 
 pub outside_stays : OutsideStays
 outside_stays = (

@@ -28,7 +28,7 @@ use Rattle.query_server.specs.declared.end.Status.{Status}
 use Rattle.query_server.specs.declared.end.Status.TheVariants as code
 use Rattle.catalog_loading.specs.declared.stops.Stop.TheVariants.{Usage, Fault, NoMemory}
 use Rattle.query_server.proofs.Judged.{gap_status}
-use Rattle.query_server.proofs.Contents.{at_some, at_told, for_contents}
+use Rattle.query_server.proofs.Contents.{at_held, at_some, at_told, for_contents}
 use Rattle.query_server.proofs.Prefixes.{prefix_empty, prefix_of_prefix, prefix_whole}
 use Rattle.query_server.proofs.Endings.{ComesTo, answers, checks, compares, counts, makes, no_command, refuses, house_by, work_comes}
 use Rattle.query_server.proofs.Disks.{may_stop_same}
@@ -190,12 +190,12 @@ disks_of command work counts is = refl
 disks_of command work other is = absurd (grind (arith, is))
 
 -- a script that is answered
-answered_by : (words : List (List ℕ)) (held : Contents) (b a : Shelf) (script text : List ℕ) (workers : ℕ) (loading : Loading) (key : List ℕ) → work_of words (always held) ≡ to_answer workers loading key
-    → (found : Journals) → AreOpened loading key b found → length script ≤ script_limit → IsScriptAnswered loading key workers b a found script text → IsAnsweredScript words held b a script text
-answered_by words held b a script text workers loading key work found opened short answered =
-    let house = house_by words held workers loading key work in
-    let owners = register_owners loading.register house.lawful.register in
-    let histories = histories loading key b found house.lawful opened in
+answered_by : (words : List (List ℕ)) (reads : ReadsToCome) (b a : Shelf) (script text : List ℕ) (workers : ℕ) (loading : Loading) (key : List ℕ) → work_of words reads ≡ to_answer workers loading key
+    → (found : Journals) → AreOpened loading key b found → length script ≤ script_limit → IsScriptAnswered loading key workers b a found script text → IsAnsweredScript words reads b a script text
+answered_by words reads b a script text workers loading key work found opened short answered =
+    let house = house_by words reads workers loading key work in
+    let owners = register_owners loading.register house.lawful.lawful.register in
+    let histories = histories loading key b found house.lawful.lawful opened in
     record {
       workers = workers;
       loading = loading;
@@ -211,38 +211,38 @@ answered_by words held b a script text workers loading key work found opened sho
     }
 
 -- what is left of some work
-abbrev IsLeftBy : (words : List (List ℕ)) → (held : Contents) → (b a : Shelf) → (script : List ℕ) → Work → (status : Status) → (text : List ℕ) → Type 0
-IsLeftBy words held b a script work status text =
-    ((due : List ℕ) × IsAnsweredScript words held b a script due × IsBeginning text due × (status ≡ code.Done → text ≡ due))
+abbrev IsLeftBy : (words : List (List ℕ)) → (reads : ReadsToCome) → (b a : Shelf) → (script : List ℕ) → Work → (status : Status) → (text : List ℕ) → Type 0
+IsLeftBy words reads b a script work status text =
+    ((due : List ℕ) × IsAnsweredScript words reads b a script due × IsBeginning text due × (status ≡ code.Done → text ≡ due))
     ⊎ ((status ≡ code.Done → ⊥) × MayStop work b a)
 
 -- what a `run` leaves: where a script is to be answered
 not_done : {A : Type 0} (status wanted : Status) → status ≡ wanted → (code.Done ≡ wanted → ⊥) → status ≡ code.Done → A
 not_done status wanted is isnt done = absurd (isnt (sym done ∙ is))
 
-left_whole : (words : List (List ℕ)) (held : Contents) (b a : Shelf) (script text : List ℕ) (status : Status) (command : Option Command) (work : Work) → ComesTo command work → IsOfRun command → work_of words (always held) ≡ work
-    → IsToWrite work b a script status text → IsLeftBy words held b a script work status text
-left_whole words held b a script text status command work (refuses name) takes is (inl (named, line, same)) = inr (not_done status code.Refused named (λ w. cc), same)
-left_whole words held b a script text status command work answers takes is (inl (inl refusal)) = inr (not_done status code.JournalRefused refusal.is_status (λ w. cc), refusal.disks)
-left_whole words held b a script text status command work answers takes is (inl (inr (found, opened, inl (done, short, answered)))) =
-    inl (text, answered_by words held b a script text _ _ _ is found opened short answered, prefix_whole text, λ is. refl)
-left_whole words held b a script text status command work answers takes is (inl (inr (found, opened, inr (over, long, line, disks)))) = inr (not_done status code.ScriptTooLong over (λ w. cc), disks)
-left_whole words held b a script text status command work other takes is (inr (inl (memory, line), may)) = inr (not_done status code.NoMemory memory (λ w. cc), may)
-left_whole words held b a script text status command work other takes is (inr (inr (disk, line), may)) = inr (not_done status code.DiskFault disk (λ w. cc), may)
-left_whole words held b a script text status command work other takes is due = cc takes
+left_whole : (words : List (List ℕ)) (reads : ReadsToCome) (b a : Shelf) (script text : List ℕ) (status : Status) (command : Option Command) (work : Work) → ComesTo command work → IsOfRun command → work_of words reads ≡ work
+    → IsToWrite work b a script status text → IsLeftBy words reads b a script work status text
+left_whole words reads b a script text status command work (refuses name) takes is (inl (named, line, same)) = inr (not_done status code.Refused named (λ w. cc), same)
+left_whole words reads b a script text status command work answers takes is (inl (inl refusal)) = inr (not_done status code.JournalRefused refusal.is_status (λ w. cc), refusal.disks)
+left_whole words reads b a script text status command work answers takes is (inl (inr (found, opened, inl (done, short, answered)))) =
+    inl (text, answered_by words reads b a script text _ _ _ is found opened short answered, prefix_whole text, λ is. refl)
+left_whole words reads b a script text status command work answers takes is (inl (inr (found, opened, inr (over, long, line, disks)))) = inr (not_done status code.ScriptTooLong over (λ w. cc), disks)
+left_whole words reads b a script text status command work other takes is (inr (inl (memory, line), may)) = inr (not_done status code.NoMemory memory (λ w. cc), may)
+left_whole words reads b a script text status command work other takes is (inr (inr (disk, line), may)) = inr (not_done status code.DiskFault disk (λ w. cc), may)
+left_whole words reads b a script text status command work other takes is due = cc takes
 
 -- a prefix was written, since something failed
-left_part : (words : List (List ℕ)) (held : Contents) (b a : Shelf) (script text due : List ℕ) (status whole : Status) → status ≡ code.Fault → IsBeginning text due
-    → IsRunLeft words held b a script whole due → IsRunLeft words held b a script status text
-left_part words held b a script text due status whole fault prefix (inl (all, answered, begins, same)) =
+left_part : (words : List (List ℕ)) (reads : ReadsToCome) (b a : Shelf) (script text due : List ℕ) (status whole : Status) → status ≡ code.Fault → IsBeginning text due
+    → IsRunLeft words reads b a script whole due → IsRunLeft words reads b a script status text
+left_part words reads b a script text due status whole fault prefix (inl (all, answered, begins, same)) =
     inl (all, answered, prefix_of_prefix text due all prefix begins, not_done status code.Fault fault (λ w. cc))
-left_part words held b a script text due status whole fault prefix (inr (isnt, may)) = inr (not_done status code.Fault fault (λ w. cc), may)
+left_part words reads b a script text due status whole fault prefix (inr (isnt, may)) = inr (not_done status code.Fault fault (λ w. cc), may)
 
-pub left_by_run : (words : List (List ℕ)) (held : Contents) (b a : Shelf) (script text : List ℕ) (status : Status) → IsOfRun (command_of words) → IsWrittenAt (work_of words (always held)) b a script status text
-    → IsRunLeft words held b a script status text
-left_by_run words held b a script text status takes (inl due) = left_whole words held b a script text status _ _ (work_comes words (always held)) takes refl due
-left_by_run words held b a script text status takes (inr (fault, (whole, due, is, prefix))) =
-    left_part words held b a script text due status whole fault prefix (left_whole words held b a script due whole _ _ (work_comes words (always held)) takes refl is)
+pub left_by_run : (words : List (List ℕ)) (reads : ReadsToCome) (b a : Shelf) (script text : List ℕ) (status : Status) → IsOfRun (command_of words) → IsWrittenAt (work_of words reads) b a script status text
+    → IsRunLeft words reads b a script status text
+left_by_run words reads b a script text status takes (inl due) = left_whole words reads b a script text status _ _ (work_comes words reads) takes refl due
+left_by_run words reads b a script text status takes (inr (fault, (whole, due, is, prefix))) =
+    left_part words reads b a script text due status whole fault prefix (left_whole words reads b a script due whole _ _ (work_comes words reads) takes refl is)
 
 -- what was read, whether or not the end's text is written
 read_with : (end : Ended) (status : Status) (text : List ℕ) (files old new : List (List ℕ)) → IsEndingWith end status text → AreRead (status_at end) files old new → AreRead status files old new
@@ -264,7 +264,20 @@ pub all_written : (words : List (List ℕ)) (held : Option Contents) (left : Opt
 all_written words held left old new b a end status text with = for_contents held left (Ends words old new b a end) (Comes words old new b a status text)
     (λ reads script (due, read). (written_by end status text with (work_of words reads) b a script due, read_with end status text (files_of words reads) old new with read))
 
--- the same where the files and the source tell what they hold
+-- What a `run` leaves, for the same contents.
+pub runs_left : (words : List (List ℕ)) (held : Option Contents) (left : Option (List ℕ)) (old new : List (List ℕ)) (b a : Shelf) (end : Ended) (status : Status) (text : List ℕ) → IsOfRun (command_of words)
+    → IsEndingWith end status text → ForContents held left (Ends words old new b a end) → ForContents held left (λ reads script. IsRunLeft words reads b a script status text)
+runs_left words held left old new b a end status text takes with ends =
+    for_contents held left (Comes words old new b a status text) (λ reads script. IsRunLeft words reads b a script status text)
+    (λ reads script (due, read). left_by_run words reads b a script text status takes due) (all_written words held left old new b a end status text with ends)
+
+-- what comes of it where the files tell what they hold, with some bytes of the source
+pub held_written : (words : List (List ℕ)) (told : Contents) (held : Option Contents) (left : Option (List ℕ)) (old new : List (List ℕ)) (b a : Shelf) (end : Ended) (status : Status) (text : List ℕ)
+    → IsEndingWith end status text → ForContents held left (Ends words old new b a end) → held ≡ Some told → (script : List ℕ) × Comes words old new b a status text (always told) script
+held_written words told held left old new b a end status text with ends files =
+    at_held told held left (Comes words old new b a status text) files (all_written words held left old new b a end status text with ends)
+
+-- the same where the source tells them, too
 pub told_written : (words : List (List ℕ)) (told : Contents) (script : List ℕ) (held : Option Contents) (left : Option (List ℕ)) (old new : List (List ℕ)) (b a : Shelf) (end : Ended) (status : Status) (text : List ℕ)
     → IsEndingWith end status text → ForContents held left (Ends words old new b a end) → held ≡ Some told → left ≡ Some script → Comes words old new b a status text (always told) script
 told_written words told script held left old new b a end status text with ends files source =

@@ -1,5 +1,5 @@
 -- What is proved of the definitions.
-use Rattle.std.specs.Prelude.{◌≡◌, ◌⊎◌, ℕ, ◌<◌, List, [], ◌++◌, map, slice_get, None, Some}
+use Rattle.std.specs.Prelude.{◌≡◌, ◌⊎◌, ℕ, ◌<◌, List, [], ◌++◌, length, map, slice_get, None, Some}
 use Rattle.word_streams.specs.Draws.{draws_of}
 use Rattle.fz_outside.specs.Faults.{HasRisen}
 use Rattle.fz_ast.specs.Signature.{Signature, IsSignature}
@@ -24,17 +24,19 @@ use Rattle.session_core.specs.Transcript.{IsScriptRun, Journals}
 use Rattle.command_words.specs.Command.{command_of}
 use Rattle.catalog_loading.specs.Files.{Contents, ReadsToCome, always}
 use Rattle.catalog_loading.specs.Loaded.{IsLoading, Loading, owners_in}
-use Rattle.query_server.specs.Work.{refused, to_answer, to_check, to_compare}
+use Rattle.query_server.specs.Work.{Work, refused, to_answer, to_check, to_compare, to_count, to_make}
 use Rattle.query_server.specs.Shelves.{EachDisk, IsOnlySynced, Shelf}
-use Rattle.query_server.specs.Outside.{Outside, Stays}
+use Rattle.query_server.specs.Outside.{DisksFailed, NothingFailed, Outside, Stays}
 use Rattle.query_server.specs.Run.{IsScriptAnswered, crew_size}
 use Rattle.query_server.specs.Check.{status_by}
 use Rattle.query_server.specs.Status.{refused_text}
 use Rattle.query_server.specs.Due.{IsOfDisks, IsOfProgram, IsOfRun, SomeFailed, files_of, work_of}
-use Rattle.query_server.specs.Due.{AreRead, IfFinished, IsBeginning, IsDue, IsFaultyWordsEnd, IsForProgram, IsLine, IsWrittenAt}
+use Rattle.query_server.specs.Due.{AreRead, ForContents, IfFinished, IsBeginning, IsDue, IsFaultyWordsEnd, IsForProgram, IsLine, IsWrittenAt}
 use Rattle.query_server.specs.Promise.{IsAnsweredScript, IsRunLeft}
+use Rattle.query_server.specs.Valid.{IsValidFor, MayEndWell}
+use Rattle.query_server.specs.Found.{AreKept}
 use Rattle.query_server.specs.declared.end.Status.{Status}
-use Rattle.query_server.specs.declared.end.Status.TheVariants.{Done, Fault, JournalRefused, ProgramRefused, Refused, ScriptTooLong, Usage}
+use Rattle.query_server.specs.declared.end.Status.TheVariants.{DiskFault as DiskFailed, Done, Fault, JournalRefused, ProgramRefused, Refused, ScriptTooLong, Usage}
 
 -- What follows from the clauses of the top call. Where files, source and sink tell what they hold, its clause `line` is exact: what
 -- is written is due, and the names that were read are those that are due, in order.
@@ -82,15 +84,62 @@ FaultyWordsAreTold = (words : List (List ℕ)) (before after : Outside) (status 
     → (status ≡ Fault → SomeFailed (command_of words) before after) → command_of words ≡ None
     → IsFaultyWordsEnd status text (HasRisen before.sink.faults after.sink.faults)
 
+-- Of a run, what `line` says is what `headline` says, of the same contents of files and source and the same text: so where files and
+-- source tell what they hold, it is of these.
+abbrev pub LinesAreHeadlines : Type 0
+LinesAreHeadlines = (words : List (List ℕ)) (before after : Outside) (status : Status) (text : List ℕ) → IsLine words before after status text
+    → IsOfRun (command_of words)
+    → ForContents before.files.held before.source.left
+    (λ reads script. IsWrittenAt (work_of words reads) before.bay.shelf after.bay.shelf script status text
+    × AreRead status (files_of words reads) before.files.names after.files.names
+    × IsRunLeft words reads before.bay.shelf after.bay.shelf script status text)
+    × ((held : Contents) (script : List ℕ) → before.files.held ≡ Some held → before.source.left ≡ Some script
+    → IsRunLeft words (always held) before.bay.shelf after.bay.shelf script status text)
+
 -- A run that ends with status Done has answered its script; and one that was to answer a script has done so, or has written to no
 -- owner's disk: from `headline`.
 abbrev pub RunsAreAnswered : Type 0
-RunsAreAnswered = (words : List (List ℕ)) (held : Contents) (old new : Shelf) (script : List ℕ) (status : Status) (written : List ℕ)
-    → (IsOfRun (command_of words) → IsRunLeft words held old new script status written)
-    → (IsOfRun (command_of words) → status ≡ Done → IsAnsweredScript words held old new script written)
-    × ((workers : ℕ) (loading : Loading) (key : List ℕ) → work_of words (always held) ≡ to_answer workers loading key
+RunsAreAnswered = (words : List (List ℕ)) (reads : ReadsToCome) (old new : Shelf) (script : List ℕ) (status : Status) (written : List ℕ)
+    → (IsOfRun (command_of words) → IsRunLeft words reads old new script status written)
+    → (IsOfRun (command_of words) → status ≡ Done → IsAnsweredScript words reads old new script written)
+    × ((workers : ℕ) (loading : Loading) (key : List ℕ) → work_of words reads ≡ to_answer workers loading key
     → EachDisk (owners_in loading) (λ _. IsOnlySynced) old new
-    ⊎ ((due : List ℕ) × IsAnsweredScript words held old new script due × IsBeginning written due))
+    ⊎ ((due : List ℕ) × IsAnsweredScript words reads old new script due × IsBeginning written due))
+
+-- Where a run that was to answer a script ends without having answered it, each owner that was opened keeps what was found.
+abbrev pub RunsKeepWhatWasFound : Type 0
+RunsKeepWhatWasFound = (words : List (List ℕ)) (reads : ReadsToCome) (old new : Shelf) (script : List ℕ) (status : Status) (written : List ℕ)
+    → (workers : ℕ) (loading : Loading) (key : List ℕ) → work_of words reads ≡ to_answer workers loading key
+    → IsRunLeft words reads old new script status written
+    → ((due : List ℕ) × IsAnsweredScript words reads old new script due × IsBeginning written due)
+    ⊎ ((status ≡ Done → ⊥) × AreKept loading key old new)
+
+-- So it is after an audit, at whatever status. (A `check` and a `gap` leave the bay as it was.)
+abbrev pub AuditsKeepWhatWasFound : Type 0
+AuditsKeepWhatWasFound = (words : List (List ℕ)) (reads : ReadsToCome) (old new : Shelf) (script : List ℕ) (status : Status) (text : List ℕ)
+    → (loading : Loading) (key : List ℕ) → work_of words reads ≡ to_count loading key
+    → IsWrittenAt (work_of words reads) old new script status text → AreKept loading key old new
+
+-- Where all is valid and nothing fails, each command ends well, or memory runs out: from `line` and the causes of Fault and DiskFault,
+-- whatever files and source tell.
+abbrev pub ValidCommandsEndWell : Type 0
+ValidCommandsEndWell = (words : List (List ℕ)) (before after : Outside) (status : Status) (text : List ℕ) → IsLine words before after status text
+    → (status ≡ Fault → SomeFailed (command_of words) before after) → (status ≡ DiskFailed → DisksFailed before.bay after.bay)
+    → NothingFailed before after
+    → ForContents before.files.held before.source.left
+    (λ reads script. IsWrittenAt (work_of words reads) before.bay.shelf after.bay.shelf script status text
+    × AreRead status (files_of words reads) before.files.names after.files.names
+    × (IsValidFor (work_of words reads) before.bay.shelf → MayEndWell (work_of words reads) status))
+
+-- the work is done in this house, which was loaded, and under this key
+abbrev pub IsOfHouse : Loading → (key : List ℕ) → Work → Type 0
+IsOfHouse loading key work =
+    ((workers : ℕ) × (work ≡ to_answer workers loading key)) ⊎ (work ≡ to_make loading key) ⊎ (work ≡ to_count loading key)
+
+-- What a command loads is lawful, and its key has 32 bytes.
+abbrev pub WhatIsLoadedIsLawful : Type 0
+WhatIsLoadedIsLawful = (words : List (List ℕ)) (reads : ReadsToCome) (loading : Loading) (key : List ℕ)
+    → IsOfHouse loading key (work_of words reads) → IsLoading loading × (length key ≡ 32)
 
 -- What stays through work goes on to stay.
 abbrev pub OutsideStays : Type 0

@@ -11,6 +11,8 @@ pub mod Check
 pub mod Gap
 pub mod Due
 pub mod Promise
+pub mod Valid
+pub mod Found
 pub mod Ends
 pub mod Books
 pub mod Making

@@ -63,6 +63,12 @@ KeepsBay shelf owners faults old new = BayStays (bay_in shelf owners faults old)
 abbrev pub DisksFailed : (before after : BaySeen) → Type 0
 DisksFailed before after = HasRisen before.faults after.faults ⊎ SomeRose before.shelf after.shelf
 
+-- No call failed: no count of faults rose, of files, source, sink, the bay or an owner's disk.
+abbrev pub NothingFailed : (before after : Outside) → Type 0
+NothingFailed before after =
+    (HasRisen before.files.faults after.files.faults → ⊥) × (HasRisen before.source.faults after.source.faults → ⊥)
+    × (HasRisen before.sink.faults after.sink.faults → ⊥) × (DisksFailed before.bay after.bay → ⊥)
+
 -- The line of a disk comes only where the bay or an owner's disk failed.
 abbrev pub HasDiskCause : {B T : Type 0} → (B → Shelf) → (owners faults : B → ℕ) → (old new : B) → Result T Stop → Type 0
 HasDiskCause shelf owners faults old new result =

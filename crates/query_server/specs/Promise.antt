@@ -5,8 +5,8 @@ use Rattle.owner_house.specs.House.{house_of}
 use Rattle.session_core.specs.Headline.{Programs, AreFound, AreOwed, Headline}
 use Rattle.session_core.specs.Transcript.{Journals}
 use Rattle.command_words.specs.Command.{run, command_of}
-use Rattle.catalog_loading.specs.Files.{Contents, always}
-use Rattle.catalog_loading.specs.Loaded.{Loading, IsLoading, catalog_read, key_read, loaded}
+use Rattle.catalog_loading.specs.Files.{ReadsToCome}
+use Rattle.catalog_loading.specs.Loaded.{Loading, IsKeyedHouse, house_read, keyed}
 use Rattle.query_server.specs.Shelves.{Shelf}
 use Rattle.query_server.specs.Opened.{AreOpened}
 use Rattle.query_server.specs.Run.{IsScriptAnswered, crew_size, script_limit}
@@ -14,24 +14,23 @@ use Rattle.query_server.specs.Due.{work_of, IsBeginning, MayStop}
 use Rattle.query_server.specs.declared.end.Status.{Status}
 use Rattle.query_server.specs.declared.end.Status.TheVariants.{Done}
 
--- The words are `run CATALOG KEY`, perhaps with a number of workers, and the files hold a catalog, the tables of its owners, and this key.
-pub record IsHouseOf (words : List (List ℕ)) (held : Contents) (workers : ℕ) (loading : Loading) (key : List ℕ) : Type 0 where
+-- The words are `run CATALOG KEY`, perhaps with a number of workers, and this is read for them, by what files hold at each read: a
+-- catalog, then this key, then the tables of the catalog's owners.
+pub record IsHouseOf (words : List (List ℕ)) (reads : ReadsToCome) (workers : ℕ) (loading : Loading) (key : List ℕ) : Type 0 where
   pub catalog : List ℕ
   pub key_name : List ℕ
   pub commanded : command_of words ≡ Some (run catalog key_name workers)
-  pub has_catalog : (catalog_read catalog (always held)).given ≡ Ok loading.register.catalog
-  pub has_tables : (loaded loading.register.catalog (always held)).given ≡ Ok loading
-  pub has_key : (key_read key_name (always held)).given ≡ Ok key
-  pub lawful : IsLoading loading
+  pub is_read : (house_read catalog key_name reads).given ≡ Ok (keyed loading key)
+  pub lawful : IsKeyedHouse (keyed loading key)
 
 -- The script is no longer than it may be. The owners' journals are opened, and what is written is the script's replies, in the house of
 -- the files. The records behind them are legal after those found, and within the budget, for every owner; and for all programs that
 -- explain the found ones, the exchanges that these replies are of and the records keep the promises.
-pub record IsAnsweredScript (words : List (List ℕ)) (held : Contents) (old new : Shelf) (script written : List ℕ) : Type 0 where
+pub record IsAnsweredScript (words : List (List ℕ)) (reads : ReadsToCome) (old new : Shelf) (script written : List ℕ) : Type 0 where
   pub workers : ℕ
   pub loading : Loading
   pub key : List ℕ
-  pub house : IsHouseOf words held workers loading key
+  pub house : IsHouseOf words reads workers loading key
   pub short : length script ≤ script_limit
   pub found : Journals
   pub opened : AreOpened loading key old found
@@ -42,7 +41,7 @@ pub record IsAnsweredScript (words : List (List ℕ)) (held : Contents) (old new
 
 -- What a `run` leaves at whatever status: the script was answered, and what is written is a prefix of its replies, all of them at
 -- status Done; or it wasn't, the status is another, and nothing was written to any owner's disk.
-abbrev pub IsRunLeft : (words : List (List ℕ)) → (held : Contents) → (old new : Shelf) → (script : List ℕ) → (status : Status) → (written : List ℕ) → Type 0
-IsRunLeft words held old new script status written =
-    ((due : List ℕ) × IsAnsweredScript words held old new script due × IsBeginning written due × (status ≡ Done → written ≡ due))
-    ⊎ ((status ≡ Done → ⊥) × MayStop (work_of words (always held)) old new)
+abbrev pub IsRunLeft : (words : List (List ℕ)) → ReadsToCome → (old new : Shelf) → (script : List ℕ) → (status : Status) → (written : List ℕ) → Type 0
+IsRunLeft words reads old new script status written =
+    ((due : List ℕ) × IsAnsweredScript words reads old new script due × IsBeginning written due × (status ≡ Done → written ≡ due))
+    ⊎ ((status ≡ Done → ⊥) × MayStop (work_of words reads) old new)

@@ -4,6 +4,8 @@ ghost use Rattle.query_server.specs.Gap.{GapsAreBounded};
 ghost use Rattle.query_server.specs.Laws.{DiskRefusalsHaveCauses, GapsAreOfDatasets, OneWorkerTranscribes, OutsideStays, RunsAreAnswered};
 ghost use Rattle.query_server.specs.Laws.{LinesAreExact, ProgramsAreExact, RefusalsAreExact, VerdictsAreExact};
 ghost use Rattle.query_server.specs.Laws.{FaultyWordsAreTold, StatusesAreOfCommands};
+ghost use Rattle.query_server.specs.Laws.{AuditsKeepWhatWasFound, LinesAreHeadlines, RunsKeepWhatWasFound, ValidCommandsEndWell};
+ghost use Rattle.query_server.specs.Laws.{WhatIsLoadedIsLawful};
 
 /// Where files, source and sink tell what they hold, what the top call writes and reads is exactly what is due.
 pub fn lines_are_exact()
@@ -35,9 +37,31 @@ pub fn faulty_words_are_told()
     ensures { FaultyWordsAreTold }
 {}
 
+/// What `line` says of a run is what `headline` says, of the same contents and text.
+pub fn lines_are_headlines()
+    ensures { LinesAreHeadlines }
+{}
+
 /// A run with status Done has answered its script; at another it has, or has written to no owner's disk.
 pub fn runs_are_answered()
     ensures { RunsAreAnswered }
+{}
+
+/// Where a run has answered no script, and after each audit, every owner that was opened keeps what was found: legal records within
+/// the budget, explained by the same programs, with a bounded displacement, for which each file stands that a stop may have left.
+pub fn other_ends_keep_what_was_found()
+    ensures runs { RunsKeepWhatWasFound }
+    ensures audits { AuditsKeepWhatWasFound }
+{}
+
+/// Where all is valid and nothing fails, each command ends well, or memory runs out.
+pub fn valid_commands_end_well()
+    ensures { ValidCommandsEndWell }
+{}
+
+/// What is loaded for a run, an init or an audit is lawful, and its key has 32 bytes.
+pub fn what_is_loaded_is_lawful()
+    ensures { WhatIsLoadedIsLawful }
 {}
 
 /// What stays of the outside through some work, and through what follows it, stays through both.

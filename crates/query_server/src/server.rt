@@ -4,15 +4,12 @@ ghost use Rattle.std.specs.Prelude.{◌≡◌, ◌⊎◌, ◌<◌, ◌≤◌, �
 ghost use Rattle.fz_outside.specs.Faults.{HasRisen};
 ghost use Rattle.command_words.specs.Command.{command_of};
 ghost use Rattle.std.specs.Io.KnownBytes.{append_known};
-ghost use Rattle.session_core.specs.Transcript.{Journals};
 ghost use Rattle.catalog_loading.specs.Files.{Contents, always};
-ghost use Rattle.catalog_loading.specs.Loaded.{Loading, owners_in};
-ghost use Rattle.query_server.specs.Work.{to_answer};
-ghost use Rattle.query_server.specs.Shelves.{AreAtHome, SomeRose, TellBytes};
+ghost use Rattle.query_server.specs.Shelves.{AreAtHome, SomeRose};
 ghost use Rattle.query_server.specs.Outside.{DisksFailed, KeepsBay, KeepsFiles, bay_in};
-ghost use Rattle.query_server.specs.Opened.{AreOpened};
 ghost use Rattle.query_server.specs.Due.{AreRead, ForContents, IfFinished, IsDue, IsOfDisks, IsOfRun, IsWrittenAt, work_of, files_of};
 ghost use Rattle.query_server.specs.Promise.{IsRunLeft};
+ghost use Rattle.query_server.specs.Valid.{IsValidFor, MayEndWell};
 ghost use Rattle.query_server.specs.Ends.{IsEndOf, status_at};
 ghost use Rattle.query_server.specs.Taken.{IsTakenAt};
 ghost use Rattle.std.specs.declared.alloc.Global.{Global as Heap};
@@ -125,26 +122,24 @@ pub fn run_server<R, F: Files, B: Bay, S: Source, K: Sink>(
         (λ reads script. IsWrittenAt (work_of given reads) (B.shelf bay.old) (B.shelf bay.new) script result text
         × AreRead result (files_of given reads) (F.names files.old) (F.names files.new)) }
     // What a run leaves, at whatever status it ends: the script was answered, with the promises to every owner, and what is written
-    // is a prefix of its replies, all of them at status Done; or nothing was written to any owner's disk.
-    ensures headline { (held : Contents) (script before : List ℕ) → F.held files.old ≡ Some held → S.left source.old ≡ Some script →
-        K.contents sink.old ≡ Some before → IsOfRun (command_of (map string_bytes words.now)) →
-        (text : List ℕ) × (K.contents sink.new ≡ Some (before ++ text))
-        × IsRunLeft (map string_bytes words.now) held (B.shelf bay.old) (B.shelf bay.new) script result text }
+    // is a prefix of its replies, all of them at status Done; or nothing was written to any owner's disk. That too is so of some
+    // contents of files and source, the ones that are told; by a law, of those of `line`.
+    ensures headline { let given = map string_bytes words.now in IsOfRun (command_of given) →
+        (text : List ℕ) × (K.contents sink.new ≡ append_known (K.contents sink.old) text)
+        × ForContents (F.held files.old) (S.left source.old)
+        (λ reads script. IsRunLeft given reads (B.shelf bay.old) (B.shelf bay.new) script result text) }
     // Each status but Fault, DiskFault and NoMemory comes exactly where the words, the files, the disks and the script give it, in
     // this order.
     ensures status { (held : Contents) (script : List ℕ) → F.held files.old ≡ Some held → S.left source.old ≡ Some script →
         IfFinished result ((text : List ℕ)
         × IsDue (work_of (map string_bytes words.now) (always held)) (B.shelf bay.old) (B.shelf bay.new) script result text) }
-    // Where all that a run reads is valid and no count of faults rises: the journals stand for records that may follow one another,
-    // under the headers of these files. Then it ends with Done, or with ScriptTooLong for the length, or memory runs out.
-    ensures complete { (held : Contents) (script : List ℕ) (workers : ℕ) (loading : Loading) (key : List ℕ) (found : Journals) →
-        F.held files.old ≡ Some held → S.left source.old ≡ Some script →
-        work_of (map string_bytes words.now) (always held) ≡ to_answer workers loading key →
-        TellBytes (owners_in loading) (B.shelf bay.old) → AreOpened loading key (B.shelf bay.old) found →
+    // Where all that a command takes is valid and no count of faults rises, it ends well, or memory runs out: `init` and `audit` with
+    // Done, `run` with Done or with ScriptTooLong, `check` and `gap` with Done or ProgramRefused.
+    ensures complete { let given = map string_bytes words.now in (held : Contents) → F.held files.old ≡ Some held →
+        IsValidFor (work_of given (always held)) (B.shelf bay.old) →
         (HasRisen (F.faults files.old) (F.faults files.new) → ⊥) → (HasRisen (S.faults source.old) (S.faults source.new) → ⊥) →
         (HasRisen (K.faults sink.old) (K.faults sink.new) → ⊥) → (HasRisen (B.faults bay.old) (B.faults bay.new) → ⊥) →
-        (SomeRose (B.shelf bay.old) (B.shelf bay.new) → ⊥) →
-        (result ≡ Status.Done) ⊎ ((result ≡ Status.ScriptTooLong) ⊎ (result ≡ Status.NoMemory)) }
+        (SomeRose (B.shelf bay.old) (B.shelf bay.new) → ⊥) → MayEndWell (work_of given (always held)) result }
     // Of the source a run alone takes anything, at most 2^24 + 1 bytes; and it doesn't where files failed.
     ensures taken { IsTakenAt (command_of (map string_bytes words.now)) (S.left source.old) (S.left source.new) result
         × (IsOfRun (command_of (map string_bytes words.now)) ⊎ (source.new ≡ source.old))

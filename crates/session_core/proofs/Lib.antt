@@ -9,6 +9,7 @@ pub mod Turning
 pub mod Short
 pub mod Serving
 pub mod Others
+pub mod Idle
 pub mod Examples
 pub mod ExamplesOfOwners
 mod ExamplesOfFaults

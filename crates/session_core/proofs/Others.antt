@@ -27,7 +27,7 @@ led_others {S} house o M seen (x ∷ xs) last others leads = led_others house o 
     behind (wants n owner demand) other h =
         subst (λ (b : Bool). MatchBool b ((after : S) × M owner demand seen x after × Lead house o M after xs last) (Lead house o M seen xs last)) other h
 
-same_pass : (a b : Pass) → b.opened ≡ a.opened → b.seen ≡ a.seen → b.own ≡ a.own → shut_of b ≡ shut_of a → b ≡ a
+pub same_pass : (a b : Pass) → b.opened ≡ a.opened → b.seen ≡ a.seen → b.own ≡ a.own → shut_of b ≡ shut_of a → b ≡ a
 same_pass a b opened seen own shut = λ i. record { opened = opened i; seen = seen i; failure = (shut i).failure; own = own i; faults = (shut i).own }
 
 pub others_stay : (house : House) (draws : ℕ → ℕ → ℕ → ℕ) (xs : List Exchange) (before after : List Pass) (o : ℕ) (owner : Owner) → AreServed house draws xs before after → slice_get house.owners o ≡ Some owner

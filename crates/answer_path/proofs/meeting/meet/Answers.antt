@@ -1,8 +1,7 @@
-use Rattle.std.proofs.Common.{List, subst, sym}
-use Rattle.owner_catalog.specs.Entries.{PartitionEntry}
+use Rattle.std.proofs.Common.{subst, sym}
 use Rattle.budget_core.specs.Entries.{Entry}
 use Rattle.wire_lines.specs.Reply.{replied}
-use Rattle.owner_desk.specs.Passes.{Pass, Told, first_of_run}
+use Rattle.owner_desk.specs.Passes.{first_of_run}
 use Rattle.answer_path.specs.declared.demand.Demand.{Demand as DemandAt}
 use Rattle.answer_path.specs.Code.{HasPartFor, IsDemandOf, demand_of, query_of}
 use Rattle.answer_path.specs.Shut.{LeavesDue}

@@ -1,11 +1,9 @@
-use Rattle.std.proofs.Common.{◌∙◌, ap, map, string_bytes, subst}
-use Rattle.std.specs.Io.KnownBytes.{append_known}
+use Rattle.std.proofs.Common.{map, string_bytes}
 use Rattle.command_words.specs.Command.{command_of}
-use Rattle.query_server.specs.Work.{Work}
-use Rattle.query_server.specs.Due.{IfFinished, IsDue}
 use Rattle.query_server.proofs.Diskless.{disk_status}
-use Rattle.query_server.proofs.Home.{at_home_again, complete_by, home_again, no_cause, no_disk_cause}
-use Rattle.query_server.proofs.Outcomes.{all_written, failed_by, finished_due, finished_map, left_by_run, silent_by, taken_with, told_written}
+use Rattle.query_server.proofs.Home.{at_home_again, home_again}
+use Rattle.query_server.proofs.Outcomes.{all_written, failed_by, finished_due, finished_map, held_written, runs_left, silent_by, taken_with, told_written}
+use Rattle.query_server.proofs.Valid.{complete_by, no_cause, no_disk_cause}
 use Rattle.query_server.proofs.server.run_server.Goals as goal
 
 pub returns-clause-line : goal.returns-clause-line
@@ -15,10 +13,9 @@ returns-clause-line g c =
     (done.0, done.1, written)
 
 pub returns-clause-headline : goal.returns-clause-headline
-returns-clause-headline g c = λ told script before files source sink takes.
+returns-clause-headline g c = λ takes.
     let done = c.finish.ensures.written in
-    let w = told_written _ told script _ _ _ _ _ _ _ _ _ done.2 c.run_command-end.ensures.end files source in
-    (done.0, done.1 ∙ ap (λ known. append_known known done.0) sink, left_by_run _ told _ _ script done.0 _ takes w.0)
+    (done.0, done.1, runs_left _ _ _ _ _ _ _ _ _ _ takes done.2 c.run_command-end.ensures.end)
 
 pub returns-clause-status : goal.returns-clause-status
 returns-clause-status g c = λ told script files source.
@@ -27,14 +24,13 @@ returns-clause-status g c = λ told script files source.
     finished_map _ _ _ (λ due. (done.0, due)) (finished_due _ _ _ script _ done.0 w.0)
 
 pub returns-clause-complete : goal.returns-clause-complete
-returns-clause-complete g c = λ told script workers loading key found files source work known opened no_file no_source no_sink no_bay no_disk.
+returns-clause-complete g c = λ told files valid no_file no_source no_sink no_bay no_disk.
     let done = c.finish.ensures.written in
     let status = c.finish.result in
-    let w = told_written _ told script _ _ _ _ _ _ _ _ _ done.2 c.run_command-end.ensures.end files source in
-    complete_by workers loading key _ _ found script status done.0 known opened
+    let w = held_written _ told _ _ _ _ _ _ _ _ _ done.2 c.run_command-end.ensures.end files in
+    complete_by _ _ _ w.0 status done.0 valid
     (λ fault. no_cause c.run_command-end.result no_file no_source no_sink (c.finish.ensures.fault fault) c.run_command-end.ensures.cause)
-    (λ fault. (let end = disk_status c.run_command-end.result status done.0 done.2 fault in no_disk_cause no_bay no_disk (c.run_command-end.ensures.disk end.0 end.1).1))
-    (subst (λ (e : Work). IfFinished status (IsDue e (g.B.Bay.shelf c.args.bay.now) (g.B.Bay.shelf c.run_command-end.new.bay) script status done.0)) work (finished_due _ _ _ script status done.0 w.0))
+    (λ fault. (let end = disk_status c.run_command-end.result status done.0 done.2 fault in no_disk_cause no_bay no_disk (c.run_command-end.ensures.disk end.0 end.1).1)) w.1.0
 
 pub returns-clause-taken : goal.returns-clause-taken
 returns-clause-taken g c =

@@ -1,0 +1,43 @@
+-- What some work takes where nothing is in the way, and how it ends then.
+use Rattle.std.specs.Prelude.{◌≡◌, ◌⊎◌, ℕ, ◌<◌, List, [], Some, ⊤}
+use Rattle.session_core.specs.Transcript.{Journals}
+use Rattle.catalog_loading.specs.Loaded.{Loading, owners_in}
+use Rattle.query_server.specs.Work.{Work, usage, refused, to_answer, to_make, to_count, to_check, to_compare}
+use Rattle.query_server.specs.Shelves.{Shelf, TellBytes, bytes_on}
+use Rattle.query_server.specs.Opened.{AreOpened}
+use Rattle.query_server.specs.declared.end.Status.{Status}
+use Rattle.query_server.specs.declared.end.Status.TheVariants.{Done, ProgramRefused, NoMemory, ScriptTooLong}
+
+-- The first owners' disks are empty.
+abbrev pub AreEmpty : (owners : ℕ) → Shelf → Type 0
+AreEmpty owners shelf = (o : ℕ) → o < owners → bytes_on shelf o ≡ Some []
+
+-- The owners' disks tell journals of records that may follow one another, under the headers of this house and this key.
+abbrev pub HoldJournals : Loading → (key : List ℕ) → Shelf → Type 0
+HoldJournals loading key shelf = TellBytes (owners_in loading) shelf × ((found : Journals) × AreOpened loading key shelf found)
+
+-- All that is taken is valid. The words are a command and no name is refused, or else there would be no such work: each file that
+-- is named is there, not too long and within its definition, and so is each that a catalog names; an owner that is named is known,
+-- and its entries in the two catalogs of a `gap` fit. And the owners' disks hold what the work asks of them.
+abbrev pub IsValidFor : Work → Shelf → Type 0
+IsValidFor usage shelf = ⊥
+IsValidFor (refused name) shelf = ⊥
+IsValidFor (to_make loading key) shelf = AreEmpty (owners_in loading) shelf
+IsValidFor (to_answer workers loading key) shelf = HoldJournals loading key shelf
+IsValidFor (to_count loading key) shelf = HoldJournals loading key shelf
+IsValidFor (to_check tables program) shelf = ⊤
+IsValidFor (to_compare tables X Y program) shelf = ⊤
+
+-- The statuses of some work then, where nothing fails and memory suffices: a script may be too long, and a program refused.
+abbrev pub EndsWell : Work → Status → Type 0
+EndsWell usage status = ⊥
+EndsWell (refused name) status = ⊥
+EndsWell (to_make loading key) status = status ≡ Done
+EndsWell (to_answer workers loading key) status = (status ≡ Done) ⊎ (status ≡ ScriptTooLong)
+EndsWell (to_count loading key) status = status ≡ Done
+EndsWell (to_check tables program) status = (status ≡ Done) ⊎ (status ≡ ProgramRefused)
+EndsWell (to_compare tables X Y program) status = (status ≡ Done) ⊎ (status ≡ ProgramRefused)
+
+-- Memory may run out at any time.
+abbrev pub MayEndWell : Work → Status → Type 0
+MayEndWell work status = EndsWell work status ⊎ (status ≡ NoMemory)
