@@ -1,10 +1,11 @@
 #!/usr/bin/env bash
 # Asks over a table of 2^20 rows, beside sqlite3's query for the same number on the same rows, in turn; and runs that are long or deep.
-# usage: bench/bags.sh [ROUNDS]    (PROGRAM=FILE measures another build)
-# Bars: each ask takes less processor time than sqlite3's query (1.6 times as much where rows are filtered, by a number or by a text),
-# those with a function of numbers under 120 ns a row, and each at most 64 bytes a row above the table; a program of 20,000 turns without
-# bags is read, checked and run in under 10 ms; a map that makes 50 values of a row ends in its answer or in `no 51` within 2 GB of
-# address space, and the deepest values and runs end well on a stack of 1 MiB. It ends with status 1 where one isn't met.
+# usage: bench/bags.sh [ROUNDS]    (PROGRAM=FILE measures another build; BEFORE=FILE has a function that isn't flat beside that build's)
+# Bars: each ask takes less processor time than sqlite3's query, a third of it where a function runs in columns; those with a function of
+# numbers take at most 20 times what a plain C loop takes (bench/bags_loop.c), one whose function isn't flat at most 1.05 times what it took
+# BEFORE, and each at most 64 bytes a row above the table; a program of 20,000 turns without bags is read, checked and run in under 10 ms;
+# a map that makes 50 values of a row ends in its answer or in `no 51` within 2 GB of address space, and the deepest values and runs end
+# well on a stack of 1 MiB. It ends with status 1 where one isn't met.
 # A cost is that of a script with many asks of a program, less that of one with one, by ask: the least of the rounds.
 . "$(dirname "$0")/common.sh"
 rounds=${1:-5}
@@ -12,7 +13,10 @@ need_program
 need_tool /usr/bin/time time
 need_tool sqlite3 sqlite3
 need_tool python3 python3
+need_tool cc gcc
+before=${BEFORE:+$(realpath "$BEFORE")}
 make_room
+cc -O2 -o bags_loop "$top/bench/bags_loop.c"
 
 rows=$((1 << 20))
 asks=41
@@ -68,6 +72,32 @@ peak() {
 bar() {
     printf '%-34s %22s %22s   %s\n' "$1" "$2" "$3" "$4"
     [[ $4 == met* ]] || passed=1
+}
+
+# loops NAME: 20 times the nanoseconds a row that the plain loop NAME takes.
+loops() { ./bags_loop people.csv | awk -v name="$1" '$1 == name { printf "%.1f", 20 * $3 }'; }
+
+# beside NAME EPSILON PROGRAM TIMES: a program by this build and by the one BEFORE, of which it may take so many times the time.
+beside() {
+    local round name of now=$program ours theirs
+    [ -n "$before" ] || return 0
+    rm -f ./*.times
+    script one 1 "$2" "$3"
+    script many 5 "$2" "$3"
+    for ((round = 0; round < rounds; round++)); do
+        for of in ours theirs; do
+            program=$([ "$of" = ours ] && echo "$now" || echo "$before")
+            for name in one many; do
+                spend "$held" "$name"
+                tail -n 1 "$name.times" >>"$of.$name.times"
+            done
+        done
+    done
+    program=$now
+    ours=$(awk -v many="$(least ours.many)" -v one="$(least ours.one)" 'BEGIN { printf "%.6f", (many - one) / 4 }')
+    theirs=$(awk -v many="$(least theirs.many)" -v one="$(least theirs.one)" 'BEGIN { printf "%.6f", (many - one) / 4 }')
+    bar "$1" "$(awk -v s="$ours" 'BEGIN { printf "%.3f ms", s * 1000 }')" "$(awk -v s="$theirs" -v times="$4" 'BEGIN { printf "%.3f ms * %s", s * 1000, times }')" \
+        "$(awk -v ours="$ours" -v theirs="$theirs" -v times="$4" 'BEGIN { print ours <= times * theirs ? "met, of the build before" : "MISSED" }')"
 }
 
 # row NAME EPSILON PROGRAM QUERY TIMES NANOSECONDS: a program beside a query, of which it may take so many times the time, and at
@@ -171,13 +201,14 @@ printf '%-34s %22s %22s\n' what figure bar
 over cat.json people.csv "age integer"
 row "size people" 0.1 "size people" "select count(*) from t" 1 0
 row "sum[0,100] people" 0.001 "sum[0,100] people" "select sum(min(max(age, 0), 100)) from t" 1 0
-row "size of a filter" 0.1 "size (filter (fn (x : num) => x <= 30) people)" "select count(*) from t where age <= 30" 1.6 120
-row "sum of a map" 0.001 "sum[0,100] (map (fn (x : num) => x + 1) people)" "select sum(min(max(age + 1, 0), 100)) from t" 1 120
+row "size of a filter" 0.1 "size (filter (fn (x : num) => x <= 30) people)" "select count(*) from t where age <= 30" 0.3333 "$(loops filter)"
+row "sum of a map" 0.001 "sum[0,100] (map (fn (x : num) => x + 1) people)" "select sum(min(max(age + 1, 0), 100)) from t" 0.3333 "$(loops map)"
+beside "a function that isn't flat" 0.1 "size (filter (fn (x : num) => case inl[unit] x of inl y => y <= 30 | inr y => false) people)" 1.05
 over towns.json towns.csv "town text"
-row "size of a filter of texts" 0.1 'size (filter (fn (t : text) => t == "town 7") people)' "select count(*) from t where town = 'town 7'" 1.6 0
+row "size of a filter of texts" 0.1 'size (filter (fn (t : text) => t == "town 7") people)' "select count(*) from t where town = 'town 7'" 0.3333 0
 over both.json both.csv "town text, age integer"
 row "the same, beside a number" 0.1 'size (filter (fn (r : text * num) => let (t, n) = r in t == "town 7") people)' \
-    "select count(*) from t where town = 'town 7'" 1.6 0
+    "select count(*) from t where town = 'town 7'" 0.3333 0
 long_run "$(turns)"
 ends "map to pairs 50 deep, 2 GB" cat.json -v 2097152 "size (map (fn (x : num) => $(pairs 50)) people)"
 ends "map that doubles 50 times, 2 GB" cat.json -v 2097152 "size (map (fn (x : num) => $(doubled 50)) people)"

@@ -15,6 +15,7 @@ import compare_runs  # noqa: E402
 
 ROWS = [0, 1, 5, 1023, 1024, 1025, 2047, 2048, 2049]
 NUMBERS = "0 1 2 3 5 7 10 99 100 1000 1125899906842624".split()
+KINDS = ["num", "bool", "text"]
 TEXTS = ['""', '"a"', '"it is"', '"\xff"']
 
 
@@ -46,8 +47,17 @@ class Flat:
             lambda: self.apart(scope, deep, self.num),
             lambda: self.call(scope, deep, "num"),
             lambda: f"({rng.choice(['least', 'greatest', 'fst', 'snd'])} <{a()}, {a()}>)",
+            lambda: self.kept(a(), a()),
         ]
         return rng.choice(forms)()
+
+    def kept(self, a, b):
+        """A number of a pair that a name stands for."""
+        pair = self.fresh()
+        return f"(let {pair} = <{a}, {b}> in {self.rng.choice(['least', 'greatest', 'fst', 'snd'])} {pair})"
+
+    def part(self, kind, scope, deep):
+        return self.text(scope) if kind == "text" else (self.num if kind == "num" else self.bool)(scope, deep)
 
     def bool(self, scope, deep):
         rng, names = self.rng, self.named(scope, "bool")
@@ -69,16 +79,16 @@ class Flat:
         return self.rng.choice(names) if names and self.rng.random() < 0.7 else self.rng.choice(TEXTS)
 
     def let(self, scope, deep, body):
-        name, kind = self.fresh(), self.rng.choice(["num", "bool", "text"])
-        bound = self.text(scope) if kind == "text" else (self.num if kind == "num" else self.bool)(scope, deep - 1)
-        return f"(let {name} = {bound} in {body(scope + [(name, kind)], deep - 1)})"
+        name, kind = self.fresh(), self.rng.choice(KINDS)
+        return f"(let {name} = {self.part(kind, scope, deep - 1)} in {body(scope + [(name, kind)], deep - 1)})"
 
     def apart(self, scope, deep, body):
-        rows = self.named(scope, "row")
-        if not rows:
-            return body(scope, deep - 1)
-        t, n = self.fresh(), self.fresh()
-        return f"(let ({t}, {n}) = {self.rng.choice(rows)} in {body(scope + [(t, 'text'), (n, 'num')], deep - 1)})"
+        rows, t, n = self.named(scope, "row"), self.fresh(), self.fresh()
+        if rows and self.rng.random() < 0.6:
+            return f"(let ({t}, {n}) = {self.rng.choice(rows)} in {body(scope + [(t, 'text'), (n, 'num')], deep - 1)})"
+        first, second = self.rng.choice(KINDS), self.rng.choice(KINDS)
+        made = f"({self.part(first, scope, deep - 1)}, {self.part(second, scope, deep - 1)})"
+        return f"(let ({t}, {n}) = {made} in {body(scope + [(t, first), (n, second)], deep - 1)})"
 
     def call(self, scope, deep, kind):
         functions = [its for _, its in scope if its[0] == kind and len(its) == 3]
@@ -97,9 +107,33 @@ class Flat:
         body = (self.num if kind == "num" else self.bool)(scope + [(x, wanted)], deep)
         return f"let {name} = fn ({x} : {written}) => {body} in ", scope + [(name, (kind, name, wanted))]
 
+    def pairs(self, scope, deep):
+        """A bag of pairs of a number and a text, made by a map, and perhaps a filter of them."""
+        rng, x, y, t, n = self.rng, self.fresh(), self.fresh(), self.fresh(), self.fresh()
+        inside = scope + [(y, "row"), (t, "text"), (n, "num")]
+        made = f"({self.num(inside, deep)}, {self.text(inside)})"
+        bag = f"(map (fn ({y} : text * num) => let ({t}, {n}) = {y} in {made}) stays)"
+        if rng.random() < 0.5:
+            return bag
+        inside = scope + [(n, "num"), (t, "text")]
+        return f"(filter (fn ({x} : num * text) => let ({n}, {t}) = {x} in {self.bool(inside, deep)}) {bag})"
+
+    def texts(self, scope, deep):
+        """A bag of texts, made by a map, of which a filter keeps some."""
+        x, y, t, n = self.fresh(), self.fresh(), self.fresh(), self.fresh()
+        inside = scope + [(t, "text"), (n, "num")]
+        bag = f"(map (fn ({y} : text * num) => let ({t}, {n}) = {y} in {self.text(inside)}) stays)"
+        return f"(filter (fn ({x} : text) => {self.bool(scope + [(x, 'text')], deep)}) {bag})"
+
     def bag(self, scope, deep):
-        """A bag of numbers by filters and maps of a table."""
+        """A bag of numbers by filters and maps of a table, seldom none."""
         rng, x = self.rng, self.fresh()
+        if rng.random() < 0.15:
+            n, t = self.fresh(), self.fresh()
+            body = self.num(scope + [(n, "num"), (t, "text")], deep)
+            return f"(map (fn ({x} : num * text) => let ({n}, {t}) = {x} in {body}) {self.pairs(scope, deep)})"
+        if rng.random() < 0.05:
+            return f"(map (fn ({x} : num) => {self.num(scope + [(x, 'num')], deep)}) (filter (fn ({x} : num) => false) people))"
         if rng.random() < 0.5:
             rows = "people"
             for _ in range(rng.choice([0, 1, 1, 2])):
@@ -119,11 +153,22 @@ class Flat:
         for _ in range(rng.choice([0, 0, 1, 2])):
             made, scope = self.function(scope, 2)
             before += made
-        bag = self.bag(scope, rng.choice([1, 2, 3]))
-        if rng.random() < 0.2:
+        lo, hi = rng.choice(["0", "-7", "-1000"]), rng.choice(["9", "100", "4000"])
+        if rng.random() < 0.15:
+            made = rng.choice([self.pairs, self.texts])(scope, rng.choice([1, 2]))
+            return f"{before}size {made}"
+        bag, way = self.bag(scope, rng.choice([1, 2, 3])), rng.random()
+        if way < 0.2:
             x, a, b = self.fresh(), self.fresh(), self.fresh()
-            return f"{before}let ({a}, {b}) = split (fn ({x} : num) => {self.bool(scope + [(x, 'num')], 2)}) {bag} in size {a} + 2 * size {b}"
-        return before + rng.choice([f"size {bag}", f"sum[{rng.choice(['0', '-7', '-1000'])},{rng.choice(['9', '100', '4000'])}] {bag}"])
+            halves = f"split (fn ({x} : num) => {self.bool(scope + [(x, 'num')], 2)}) {bag}"
+            return f"{before}let ({a}, {b}) = {halves} in size {a} + 2 * size {b}"
+        if way < 0.35:
+            b = self.fresh()
+            return f"{before}let {b} = {bag} in sum[{lo},{hi}] {b} - size (union {b} {b})"
+        if way < 0.5:
+            b, f, z = self.fresh(), self.fresh(), self.fresh()
+            return f"{before}let {b} = {bag} in let {f} = fun ({z} : num) => {z} + sum[{lo},{hi}] {b} in {f} 3 + {f} (size people)"
+        return before + rng.choice([f"size {bag}", f"sum[{lo},{hi}] {bag}"])
 
 
 def rows_of(rng):

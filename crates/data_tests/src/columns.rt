@@ -9,14 +9,14 @@ fn is_shared<T: Send + Sync>(_value: &T) -> bool {
     true
 }
 
-fn has_number(cell: Cell<'_>, number: i64) -> bool {
+pub(crate) fn has_number(cell: Cell<'_>, number: i64) -> bool {
     match cell {
         Cell::Number(z) => z == number,
         Cell::Text(_) => false,
     }
 }
 
-fn has_text(cell: Cell<'_>, text: &[u8]) -> bool {
+pub(crate) fn has_text(cell: Cell<'_>, text: &[u8]) -> bool {
     match cell {
         Cell::Number(_) => false,
         Cell::Text(bytes) => bytes == text,

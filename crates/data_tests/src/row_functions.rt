@@ -1,5 +1,6 @@
 //! What flat functions give for all rows of a table at once, where the rows end near the ends of chunks of 1,024.
 
+use crate::columns::{has_number, has_text};
 use crate::csv_tables::column;
 use fz_ast::{Column as Kind, Name, NoMemory, Term, Text};
 use fz_lexer::lex;
@@ -100,12 +101,26 @@ fn is_chosen(chosen: Chosen, row: usize) -> bool {
     }
 }
 
-fn are_images(numbers: &[i64], image: Image, rows: usize) -> bool {
-    if numbers.len() != rows {
+// Whether one column of a table has these numbers.
+fn are_images(images: &Table, column: usize, image: Image, rows: usize) -> bool {
+    if images.len() != rows || images.width() <= column {
         return false;
     }
     for row in 0..rows {
-        if numbers[row] != image_of(image, row) {
+        if !has_number(images.cell(row as u32, column), image_of(image, row)) {
+            return false;
+        }
+    }
+    true
+}
+
+// Whether one column of a table has the towns.
+fn are_towns(images: &Table, column: usize, rows: usize) -> bool {
+    if images.len() != rows || images.width() <= column {
+        return false;
+    }
+    for row in 0..rows {
+        if !has_text(images.cell(row as u32, column), town_of(row)) {
             return false;
         }
     }
@@ -134,40 +149,81 @@ fn outside(alloc: Global) -> Result<Scope, NoMemory> {
 }
 
 #[rattlefmt::skip]
-const IMAGES: [(&[u8], Image); 6] = [
+const IMAGES: [(&[u8], Image); 11] = [
     (b"let (t, n) = r in n", Image::Age),
     (b"let (t, n) = r in 3 * (n - 50) + 1", Image::Tripled),
     (b"let (t, n) = r in if t == \"oslo\" then n else 7", Image::AgeInOslo),
     (b"let (t, n) = r in if home == t then n else 7", Image::AgeInOslo),
     (b"let (t, n) = r in let m = n + n in clip[60,99] m", Image::Doubled),
     (b"let (t, n) = r in let y = n <= limit in if y then 2 else 1", Image::OneOrTwo),
+    (b"let (t, n) = r in let (a, b) = (n, 3) in a", Image::Age),
+    (b"let (t, n) = r in let (a, b) = (3, (t, n)) in let (c, d) = b in d", Image::Age),
+    (b"let (t, n) = r in let p = <7, n> in snd p", Image::Age),
+    (b"let (t, n) = r in least <99, greatest <n + n, 60>>", Image::Doubled),
+    (b"let (t, n) = (snd r, fst r) in if n == home then t else 7", Image::AgeInOslo),
 ];
 
+// Pairs of the age and the town.
+const EXCHANGED: [&[u8]; 3] = [
+    b"let (t, n) = r in (n, t)",
+    b"let (t, n) = r in <n, t>",
+    b"let p = (fst r, snd r) in (snd p, fst p)",
+];
+
+const TOWNS: [&[u8]; 2] = [b"let (t, n) = r in t", b"fst r"];
+
 #[rattlefmt::skip]
-const CHOSEN: [(&[u8], Chosen); 5] = [
+const CHOSEN: [(&[u8], Chosen); 7] = [
     (b"true", Chosen::All),
     (b"let (t, n) = r in n <= 30", Chosen::UpTo30),
     (b"let (t, limit) = r in limit <= 30", Chosen::UpTo30),
     (b"let (t, n) = r in \"bergen\" == t", Chosen::Bergen),
     (b"let (t, n) = r in if t == home then 40 <= n else false", Chosen::From40InOslo),
+    (b"let (n, t) = (snd r, fst r) in \"bergen\" == t", Chosen::Bergen),
+    (b"let p = <30, snd r> in snd p <= fst p", Chosen::UpTo30),
 ];
 
-// Neither numbers nor truths, or not flat.
-const OTHERS: [&[u8]; 4] = [
-    b"r",
-    b"let (t, n) = r in t",
+// Neither rows of one or two cells nor truths, or not flat.
+const OTHERS: [&[u8]; 6] = [
     b"let (t, n) = r in f n",
     b"let (t, n) = r in inl[num] n",
+    b"let (t, n) = r in (n, n <= 30)",
+    b"let (t, n) = r in (n, (n, n))",
+    b"let (t, n) = r in snd ((t, n), n)",
+    b"()",
 ];
 
-fn maps(alloc: Global, outer: &Scope, table: &Rc<Table>, body: &[u8], image: Image) -> bool {
-    let Some(term) = term_of(alloc, body) else {
-        return false;
-    };
+fn images_of(alloc: Global, outer: &Scope, table: &Rc<Table>, body: &[u8]) -> Option<Table> {
+    let term = term_of(alloc, body)?;
     let (nodes, root) = term.parts();
     match mapped(alloc, nodes, Name::new(b"r"), root, outer, 64, table) {
-        Ok(Some(numbers)) => are_images(&numbers, image, table.len()),
-        _ => false,
+        Ok(images) => images,
+        Err(_) => None,
+    }
+}
+
+fn maps(alloc: Global, outer: &Scope, table: &Rc<Table>, body: &[u8], image: Image) -> bool {
+    match images_of(alloc, outer, table, body) {
+        Some(images) => are_images(&images, 0, image, table.len()),
+        None => false,
+    }
+}
+
+fn exchanges(alloc: Global, outer: &Scope, table: &Rc<Table>, body: &[u8]) -> bool {
+    let rows = table.len();
+    match images_of(alloc, outer, table, body) {
+        Some(images) => {
+            rows == 0 || are_images(&images, 0, Image::Age, rows) && are_towns(&images, 1, rows)
+        }
+        None => false,
+    }
+}
+
+fn gives_towns(alloc: Global, outer: &Scope, table: &Rc<Table>, body: &[u8]) -> bool {
+    let rows = table.len();
+    match images_of(alloc, outer, table, body) {
+        Some(images) => rows == 0 || are_towns(&images, 0, rows),
+        None => false,
     }
 }
 
@@ -189,7 +245,7 @@ fn neither(alloc: Global, outer: &Scope, table: &Rc<Table>, body: &[u8]) -> bool
     let (nodes, root) = term.parts();
     let by_map = mapped(alloc, nodes, Name::new(b"r"), root, outer, 64, table);
     let by_filter = filtered(alloc, nodes, Name::new(b"r"), root, outer, 64, table);
-    matches!((by_map, by_filter), (Ok(None), Ok(None)))
+    matches!(by_map, Ok(None)) && matches!(by_filter, Ok(None))
 }
 
 #[test]
@@ -203,6 +259,25 @@ fn images_of_rows(rt: HostRuntime) -> Result<(), Fail> {
         };
         for (body, image) in &IMAGES {
             assert!(rt; maps(alloc, &outer, &table, body, *image));
+        }
+    }
+    Ok(())
+}
+
+#[test]
+fn texts_and_pairs_of_rows(rt: HostRuntime) -> Result<(), Fail> {
+    let alloc = rt.alloc();
+    let outer = outside(alloc)?;
+    for rows in &ROWS {
+        let Some(table) = people_in(alloc, *rows) else {
+            assert!(rt; false);
+            return Ok(());
+        };
+        for body in &EXCHANGED {
+            assert!(rt; exchanges(alloc, &outer, &table, body));
+        }
+        for body in &TOWNS {
+            assert!(rt; gives_towns(alloc, &outer, &table, body));
         }
     }
     Ok(())

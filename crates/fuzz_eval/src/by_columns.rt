@@ -5,7 +5,6 @@ ghost use Rattle.fuzz_eval.specs.Columns.{FiltersOnly, MapsOnly};
 
 use crate::nodes::body_of;
 use fz_ast::{Arrow, NoMemory};
-use metric_values::Table;
 use row_kernels::{filtered, mapped};
 use run_values::Value;
 use std::alloc::Global;
@@ -30,7 +29,7 @@ pub fn map_columns(
     let Arrow::Fn = body.arrow else {
         return Ok(None);
     };
-    let Some(numbers) = mapped(
+    let Some(images) = mapped(
         alloc,
         &function.nodes,
         body.name,
@@ -42,7 +41,6 @@ pub fn map_columns(
     else {
         return Ok(None);
     };
-    let images = Table::numbers(alloc, numbers)?;
     Ok(Some(Value::table(alloc, &images)?))
 }
 

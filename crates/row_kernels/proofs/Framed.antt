@@ -1,8 +1,7 @@
 -- A frame in place of another one that stands for the same.
 use Rattle.std.proofs.Common.{◌≡◌, ℕ, List, [], ◌∷◌, ◌++◌, ap, ◌∙◌}
 use Rattle.fz_ast.specs.Names.{name_of}
-use Rattle.fz_ast.specs.Terms.{Name}
-use Rattle.metric_values.specs.Values.{Bind, Env, Value}
+use Rattle.metric_values.specs.Values.{Bind, Env}
 use Rattle.row_kernels.specs.declared.frames.Frame.{Frame}
 use Rattle.row_kernels.specs.Lanes.{AllLong, AreSameNames, IsSameAt, env_at, lane_at}
 

@@ -1,10 +1,9 @@
 -- What a form has by the rules for each row, from what its parts mean.
-use Rattle.std.proofs.Common.{◌≡◌, ℕ, zero, suc, ◌<◌, ℤ, refl, ap, sym, subst, ◌∙◌, ◌+ℤ◌, ◌-ℤ◌, ◌*ℤ◌, List, [], ◌∷◌, inl, inr, arith}
-use Rattle.std.specs.Int.{int_max, int_min}
-use Rattle.std.specs.Prelude.{Option, None, Some, Result, Ok, Err, IfOk, IfSome, bytes_eq, cond, false, get_or, int_le, true, Bool}
+use Rattle.std.proofs.Common.{◌≡◌, ℕ, zero, suc, ◌<◌, ℤ, refl, ap, sym, subst, ◌∙◌, List, [], ◌∷◌, inl, inr}
+use Rattle.std.specs.Prelude.{Option, None, Some, Result, Ok, Err, IfOk, IfSome, bytes_eq, cond, false, get_or, true, Bool}
 use Rattle.fz_frac.specs.Distance.{Distance}
-use Rattle.fz_ast.specs.Names.{name_of, text_of}
-use Rattle.fz_ast.specs.Terms.{Name, AppE, BangE, ClipE, IfE, InlE, InrE, LetE, LetPairE, NumE, Term, TextE, TimesE, VarE, at}
+use Rattle.fz_ast.specs.Names.{name_of}
+use Rattle.fz_ast.specs.Terms.{Name, AppE, BangE, ClipE, IfE, LetE, LetPairE, NumE, Term, TimesE, VarE, at}
 use Rattle.fz_ast.specs.TermNodes.{binary, form_of, term_of, unary}
 use Rattle.fz_ast.specs.Types.{Ty}
 use Rattle.fz_ast.specs.declared.span.Span.{Span}
@@ -20,17 +19,16 @@ use Rattle.fz_ast.specs.declared.term.Side.TheVariants.{Inl, Inr}
 use Rattle.fz_ast.specs.declared.term.Unary.{Unary}
 use Rattle.fz_ast.specs.declared.term.Unary.TheVariants.{Fst, Snd, Least, Greatest, Size}
 use Rattle.metric_law.specs.Means.{Applies, MeansIn, Rules, apply, apply_fn, find}
-use Rattle.metric_values.specs.Numbers.{clamp, clip}
 use Rattle.metric_values.specs.Values.{BangV, Bind, Env, FnV, FunV, InlV, InrV, NumV, PairV, TextV, UnitV, Value, truth}
-use Rattle.run_values.specs.Parts.{banged_in, first_in, number_in, second_in}
+use Rattle.run_values.specs.Parts.{banged_in, first_in, second_in}
 use Rattle.run_values.specs.Founds.{IsFoundFunction}
 use Rattle.run_values.specs.Views.{function_of}
 use Rattle.run_values.specs.declared.value.Closure.{Closure}
 use Rattle.row_kernels.specs.declared.frames.Frame.{Frame}
 use Rattle.row_kernels.specs.declared.lanes.Lanes.{Lanes}
-use Rattle.row_kernels.specs.declared.lanes.Lanes.TheVariants.{Same, Text}
+use Rattle.row_kernels.specs.declared.lanes.Lanes.TheVariants.{Same}
 use Rattle.row_kernels.specs.Calls.{IsArgument, IsCalled, IsUnitTerm}
-use Rattle.row_kernels.specs.Lanes.{AllLong, AreChosen, AreGiven, AreHalves, AreLiterals, AreMade, AreMeant, AreNamed, AreSameNames, AreSigned, AreWorded, IsFree, IsLong, IsSameAt, IsSign, IsWord, clip_value, env_at, lane_at, literal_value, sign_value, times_value, word_value}
+use Rattle.row_kernels.specs.Lanes.{AllLong, AreChosen, AreGiven, AreHalves, AreLiterals, AreMade, AreMeant, AreNamed, AreSameNames, AreSigned, AreWorded, IsFree, IsSameAt, IsSign, IsWord, clip_value, env_at, lane_at, sign_value, times_value, word_value}
 
 -- what holds of an answer, by what held before
 pub by_answer : {X E : Type 0} (r : Result (Option X) E) (P Q : X → Type 0) → IfOk r (λ o. IfSome o P) → ((l : X) → P l → Q l) → IfOk r (λ o. IfSome o Q)
@@ -89,8 +87,8 @@ module _ (fs : List Frame) (γ : Env) (n : ℕ) where
       step AtMost g j lt m v r = r.4 ∙ both AtMost j lt m (NumV r.0) (NumV r.1) r.2 r.3
       step Equal g j lt m v (inl r) = r.4 ∙ both Equal j lt m (NumV r.0) (NumV r.1) r.2 r.3
       step Equal g j lt m v (inr r) = r.4 ∙ both Equal j lt m (TextV r.0) (TextV r.1) r.2 r.3
-      step Pair g j lt m v r = absurd g
-      step With g j lt m v r = absurd g
+      step Pair g j lt m v r = r.4 ∙ both Pair j lt m r.0 r.1 r.2 r.3
+      step With g j lt m v r = r.4 ∙ both With j lt m r.0 r.1 r.2 r.3
       step App g j lt m v r = absurd g
       step Union g j lt m v r = absurd g
       step Map g j lt m v r = absurd g

@@ -1,6 +1,7 @@
 pub mod Given
 pub mod Changed
-pub mod Images
+pub mod Grown
 pub mod Verdicts
 pub mod Framed
 pub mod Held
+pub mod Examples

@@ -1,26 +1,22 @@
 -- Truths of chunks of rows, put together, and what `filter` keeps.
-use Rattle.std.proofs.Common.{◌≡◌, ℕ, zero, suc, ◌<◌, ◌≤◌, ◌+◌, ◌-◌, ◌⊎◌, inl, inr, ℤ, pos, refl, ap, sym, subst, ◌∙◌, arith, List, [], ◌∷◌, ◌++◌, length, get_or, length-append}
+use Rattle.std.proofs.Common.{◌≡◌, ℕ, suc, ◌<◌, ◌≤◌, ◌+◌, ◌-◌, ◌⊎◌, inl, inr, refl, ap, sym, subst, ◌∙◌, arith, List, [], ◌∷◌, ◌++◌, length, get_or, length-append}
 use Rattle.std.specs.Prelude.{Bool, false, map, true}
 use Rattle.std.specs.List.{All}
 use Rattle.std.proofs.lemmas.List.{get_or_append_left, get_or-append_right}
 use Rattle.std.proofs.lemmas.List.Elements.{All-cons, All-nil}
 use Rattle.fz_ast.specs.Terms.{Name, Term}
-use Rattle.metric_law.specs.Means.{Applies, MeansIn, Splits, apply, apply_fn}
+use Rattle.metric_law.specs.Means.{Applies, MeansIn, Splits, apply_fn}
 use Rattle.metric_values.specs.Cells.{chosen_of, row_at}
-use Rattle.metric_values.specs.Values.{BangV, Bind, Env, Flat, FnV, InlV, InrV, NumV, UnitV, Value, truth, value_of}
+use Rattle.metric_values.specs.Values.{BangV, Bind, Env, Flat, FnV, InlV, InrV, UnitV, Value, truth, value_of}
 use Rattle.run_values.specs.Parts.{banged_in}
-use Rattle.row_kernels.specs.declared.frames.Frame.{Frame}
 use Rattle.row_kernels.specs.declared.lanes.Lanes.{Lanes}
-use Rattle.row_kernels.specs.Lanes.{AreMeant, env_at, lane_at}
-use Rattle.row_kernels.specs.Rows.{AreRowNames, AreTaken, AreVerdicts, taken}
+use Rattle.row_kernels.specs.Lanes.{lane_at}
+use Rattle.row_kernels.specs.Rows.{AreBodyLanes, AreTaken, AreVerdicts, taken}
 
--- the truths of a chunk, by its frame
-module _ (x : Name) (e : Term) (γ : Env) (rows : List Flat) (first n : ℕ) (fs : List Frame) (l : Lanes) where
-  pub chunk_judged : AreRowNames x rows first n fs → AreMeant fs γ e n l → (bs : List Bool) → length bs ≡ n → ((j : ℕ) → lane_at l j ≡ truth (get_or bs j false)) → AreVerdicts x e γ rows first n bs
-  chunk_judged f h bs k s = record {
-    long = k;
-    each = λ j lt m v r. h.each j lt m v (subst (λ (δ : Env). MeansIn m δ e v) (sym (f.each γ j lt)) r) ∙ s j;
-  }
+-- the truths of a chunk, by its lanes
+module _ (x : Name) (e : Term) (γ : Env) (rows : List Flat) (first n : ℕ) (l : Lanes) where
+  pub chunk_judged : AreBodyLanes x e γ rows first n l → (bs : List Bool) → length bs ≡ n → ((j : ℕ) → lane_at l j ≡ truth (get_or bs j false)) → AreVerdicts x e γ rows first n bs
+  chunk_judged h bs k s = record { long = k; each = λ j lt m v r. h.each j lt m v r ∙ s j }
 
 pub taken_more : (k : ℕ) (bs cs : List Bool) → taken k (bs ++ cs) ≡ taken k bs ++ taken (k + length bs) cs
 taken_more k [] cs = let q : k ≡ k + 0 = omega arith in ap (λ i. taken i cs) q

@@ -4,7 +4,7 @@ use Rattle.std.specs.Prelude.{◌≡◌, ◌<◌, ◌+◌, ◌≤◌, ◌^◌, �
 use Rattle.fz_ast.specs.Names.{name_of}
 use Rattle.fz_ast.specs.Terms.{Name, Term, TermForm}
 use Rattle.fz_ast.specs.declared.term.Binary.{Binary}
-use Rattle.fz_ast.specs.declared.term.Binary.TheVariants.{Plus, Minus, AtMost, Equal}
+use Rattle.fz_ast.specs.declared.term.Binary.TheVariants.{Pair, With, Plus, Minus, AtMost, Equal}
 use Rattle.fz_ast.specs.declared.term.Unary.{Unary}
 use Rattle.fz_ast.specs.declared.term.Unary.TheVariants.{Fst, Snd, Least, Greatest, Size}
 use Rattle.fz_ast.specs.declared.term.Side.{Side}
@@ -18,7 +18,7 @@ use Rattle.metric_values.specs.Values.{Bind, Env, Flat, NumV, PairV, TextV, Unit
 use Rattle.run_values.specs.Parts.{first_in, number_in, second_in}
 use Rattle.row_kernels.specs.declared.frames.Frame.{Frame}
 use Rattle.row_kernels.specs.declared.lanes.Lanes.{Lanes}
-use Rattle.row_kernels.specs.declared.lanes.Lanes.TheVariants.{Num, Truth, Same, Text, Part, Cells}
+use Rattle.row_kernels.specs.declared.lanes.Lanes.TheVariants.{Num, Truth, Same, Text, Part, Cells, Pair'}
 
 -- the value for row j
 abbrev pub lane_at : Lanes → ℕ → Value
@@ -28,6 +28,7 @@ lane_at (Same z) j = NumV z
 lane_at (Text s) j = TextV s.items
 lane_at (Part t f k) j = value_of (from_column k (row_at t.value (f + j)))
 lane_at (Cells t f k) j = value_of (cell_at k (row_at t.value (f + j)))
+lane_at (Pair' p a q b) j = PairV (lane_at a j) (lane_at b j)
 
 -- n rows from row f on have a column k
 pub record AreThere (rows : List Flat) (f n k : ℕ) : Type 0 where
@@ -44,6 +45,7 @@ IsLong n (Same z) = ⊤
 IsLong n (Text s) = ⊤
 IsLong n (Part t f k) = AreThere t.value f n k
 IsLong n (Cells t f k) = AreThere t.value f n k
+IsLong n (Pair' p a q b) = IsLong n a × IsLong n b
 
 abbrev pub AllLong : ℕ → List Frame → Type 0
 AllLong n [] = ⊤
@@ -59,6 +61,11 @@ pub record IsSameAt (l k : Lanes) : Type 0 where
   pub long : (n : ℕ) → IsLong n k → IsLong n l
   pub each : (j : ℕ) → lane_at l j ≡ lane_at k j
 
+-- for each row the pair of the two
+pub record ArePairs (a b l : Lanes) : Type 0 where
+  pub long : (n : ℕ) → IsLong n a → IsLong n b → IsLong n l
+  pub each : (j : ℕ) → lane_at l j ≡ PairV (lane_at a j) (lane_at b j)
+
 pub record AreHalves (n : ℕ) (l a b : Lanes) : Type 0 where
   pub first : IsLong n a
   pub second : IsLong n b
@@ -73,8 +80,10 @@ pub record AreNumbers (n : ℕ) (l : Lanes) (zs : List ℤ) : Type 0 where
   pub long : length zs ≡ n
   pub each : (j : ℕ) → j < n → lane_at l j ≡ NumV (get_or zs j (pos 0))
 
--- what a sign gives between two numbers, and `==` between two texts
+-- the pair of two values, what a sign gives between two numbers, and `==` between two texts
 abbrev pub sign_value : Binary → Value → Value → Value
+sign_value Pair u w = PairV u w
+sign_value With u w = PairV u w
 sign_value Plus u w = NumV (clamp (number_in u +ℤ number_in w))
 sign_value Minus u w = NumV (clamp (number_in u -ℤ number_in w))
 sign_value AtMost u w = truth (int_le (number_in u) (number_in w))
@@ -83,6 +92,8 @@ sign_value Equal (TextV s) (TextV t) = truth (bytes_eq s t)
 sign_value o u w = UnitV
 
 abbrev pub IsSign : Binary → Type 0
+IsSign Pair = ⊤
+IsSign With = ⊤
 IsSign Plus = ⊤
 IsSign Minus = ⊤
 IsSign AtMost = ⊤

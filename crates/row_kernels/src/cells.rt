@@ -20,7 +20,9 @@ pub fn cells(
     ensures { IfOk result (λ o. IfSome o (λ zs. AreCells table.now first k len zs.items)) }
 {
     let _ = table.width();
-    let mut zs = Vec::new(alloc);
+    let Ok(mut zs) = Vec::with_capacity(alloc, len) else {
+        return Err(NoMemory);
+    };
     for j in 0..len {
         let Cell::Number(z) = table.cell((first + j) as u32, k) else {
             return Ok(None);

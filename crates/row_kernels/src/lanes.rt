@@ -2,7 +2,8 @@
 ghost use Rattle.std.specs.Prelude.{◌≡◌, ◌<◌, ◌+◌, ◌≤◌, IfOk, IfSome, length, ℕ};
 ghost use Rattle.metric_values.specs.Cells.{from_column, row_at};
 ghost use Rattle.metric_values.specs.Values.{value_of};
-ghost use Rattle.row_kernels.specs.Lanes.{AreChosen, AreCompared, AreHalves, AreMade, AreNumbers, AreSigned, AreThere, AreWorded, IsLong, IsSameAt, clip_value, lane_at, times_value};
+ghost use Rattle.row_kernels.specs.declared.lanes.Lanes.TheVariants.{Part};
+ghost use Rattle.row_kernels.specs.Lanes.{AreChosen, AreCompared, AreHalves, AreMade, AreNumbers, ArePairs, AreSigned, AreThere, AreWorded, IsLong, IsSameAt, clip_value, lane_at, times_value};
 
 use crate::cells::cells;
 use crate::columns::{
@@ -28,6 +29,8 @@ pub enum Lanes {
     Part(Rc<Table>, usize, usize),
     /// The cells of a column: the first row, and the column.
     Cells(Rc<Table>, usize, usize),
+    /// Pairs.
+    Pair(Box<Lanes>, Box<Lanes>),
 }
 
 /// Rows of a table from a column on.
@@ -43,6 +46,30 @@ pub fn rows_from(t: Rc<Table>, first: usize, k: usize, len: usize) -> Lanes
     }
 }
 
+// Pairs of two for each row.
+fn paired(alloc: Global, a: Lanes, b: Lanes) -> Result<Lanes, NoMemory>
+    ensures { IfOk result (ArePairs a b) }
+{
+    let Ok(first) = Box::new(alloc, a) else {
+        return Err(NoMemory);
+    };
+    let Ok(second) = Box::new(alloc, b) else {
+        return Err(NoMemory);
+    };
+    Ok(Lanes::Pair(first, second))
+}
+
+// Pairs of two for each row, if the first is no pair that was made. So what a name stands for is copied in a time that grows with
+// the terms, also where each let doubles the pair before.
+fn row_like(alloc: Global, a: Lanes, b: Lanes) -> Result<Option<Lanes>, NoMemory>
+    ensures { IfOk result (λ o. IfSome o (ArePairs a b)) }
+{
+    if let Lanes::Pair(_, _) = &a {
+        return Ok(None);
+    }
+    Ok(Some(paired(alloc, a, b)?))
+}
+
 impl Lanes {
     /// An equal one.
     pub fn copy(&self, alloc: Global) -> Result<Lanes, NoMemory>
@@ -55,6 +82,11 @@ impl Lanes {
             Lanes::Text(s) => Ok(Lanes::Text(copied_bytes(alloc, s)?)),
             Lanes::Part(t, first, k) => Ok(Lanes::Part(t.clone()?, *first, *k)),
             Lanes::Cells(t, first, k) => Ok(Lanes::Cells(t.clone()?, *first, *k)),
+            Lanes::Pair(a, b) => {
+                let first = a.copy(alloc)?;
+                let second = b.copy(alloc)?;
+                paired(alloc, first, second)
+            }
         }
     }
 
@@ -67,7 +99,7 @@ impl Lanes {
             Lanes::Num(xs) => Ok(Some(xs)),
             Lanes::Same(z) => Ok(Some(repeated(alloc, z, len)?)),
             Lanes::Cells(t, first, k) => cells(alloc, &t, first, k, len),
-            Lanes::Truth(_) | Lanes::Text(_) | Lanes::Part(_, _, _) => Ok(None),
+            Lanes::Truth(_) | Lanes::Text(_) | Lanes::Part(_, _, _) | Lanes::Pair(_, _) => Ok(None),
         }
     }
 }
@@ -132,6 +164,8 @@ pub fn signed(
             }
             signed_numbers(alloc, Binary::Equal, a, b, len)
         }
+        Binary::Pair => row_like(alloc, a, b),
+        Binary::With => row_like(alloc, a, b),
         _ => signed_numbers(alloc, form, a, b, len),
     }
 }
@@ -205,7 +239,7 @@ pub fn worded(alloc: Global, form: Unary, a: Lanes, len: usize) -> Result<Option
     requires { IsLong len a }
     ensures { IfOk result (λ o. IfSome o (AreWorded form len a)) }
 {
-    let Some((first, second)) = halves(&a, len)? else {
+    let Some((first, second)) = halves(a, len)? else {
         return Ok(None);
     };
     match form {
@@ -262,18 +296,32 @@ pub fn chosen(
     }
 }
 
-/// The halves of rows.
-pub fn halves(l: &Lanes, len: usize) -> Result<Option<(Lanes, Lanes)>, NoMemory>
-    requires { IsLong len l.now }
-    ensures { IfOk result (λ o. IfSome o (λ p. AreHalves len l.now p.0 p.1)) }
+// The halves of a table's rows from a column on, if there are two.
+fn halves_of_rows(
+    t: Rc<Table>,
+    first: usize,
+    k: usize,
+    len: usize,
+) -> Result<Option<(Lanes, Lanes)>, NoMemory>
+    requires { AreThere t.value first len k }
+    ensures { IfOk result (λ o. IfSome o (λ p. AreHalves len (Part t first k) p.0 p.1)) }
 {
-    let Lanes::Part(t, first, k) = l else {
-        return Ok(None);
-    };
-    if t.width() <= *k + 1 {
+    if t.width() <= k + 1 {
         return Ok(None);
     }
-    let cells = Lanes::Cells(t.clone()?, *first, *k);
-    let rest = rows_from(t.clone()?, *first, *k + 1, len);
+    let cells = Lanes::Cells(t.clone()?, first, k);
+    let rest = rows_from(t, first, k + 1, len);
     Ok(Some((cells, rest)))
+}
+
+/// The halves of each row's pair.
+pub fn halves(l: Lanes, len: usize) -> Result<Option<(Lanes, Lanes)>, NoMemory>
+    requires { IsLong len l }
+    ensures { IfOk result (λ o. IfSome o (λ p. AreHalves len l p.0 p.1)) }
+{
+    match l {
+        Lanes::Part(t, first, k) => halves_of_rows(t, first, k, len),
+        Lanes::Pair(a, b) => Ok(Some((Box::into_inner(a), Box::into_inner(b)))),
+        _ => Ok(None),
+    }
 }

@@ -4,6 +4,7 @@
 pub mod cells;
 pub mod columns;
 pub mod frames;
+pub mod images;
 pub mod lanes;
 pub mod meant;
 pub mod numbers;

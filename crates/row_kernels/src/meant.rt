@@ -309,7 +309,7 @@ fn lanes_of_pair(
     let Some(pair) = lanes_of(alloc, nodes, frames, outer, len, e, left)? else {
         return Ok(None);
     };
-    let Some((first, second)) = halves(&pair, len)? else {
+    let Some((first, second)) = halves(pair, len)? else {
         return Ok(None);
     };
     let inner = under_two(alloc, frames, *x, first, *y, second)?;

@@ -1,13 +1,15 @@
 //! What a function gives for all rows of a table, chunk by chunk.
-ghost use Rattle.std.specs.Prelude.{◌≡◌, ◌≤◌, ◌<◌, ◌+◌, ◌^◌, ◌++◌, ◌∷◌, [], IfOk, IfSome, OnOk, List, length, map, ℕ};
+ghost use Rattle.std.specs.Prelude.{◌≡◌, ◌≤◌, ◌<◌, ◌+◌, ◌^◌, ◌++◌, IfOk, IfSome, OnOk, List, length, min, ℕ};
 ghost use Rattle.fz_ast.specs.Names.{name_of};
 ghost use Rattle.fz_ast.specs.TermNodes.{term_at};
 ghost use Rattle.metric_law.specs.Means.{Maps, MeansIn, Splits};
 ghost use Rattle.metric_values.specs.Cells.{AreRows, chosen_of};
-ghost use Rattle.metric_values.specs.Values.{Flat, FnV, NumF};
-ghost use Rattle.row_kernels.specs.Rows.{AreImages, AreRowNames, AreTaken, AreVerdicts, taken};
+ghost use Rattle.metric_values.specs.Values.{Flat, FnV};
+ghost use Rattle.row_kernels.specs.Images.{IsEven};
+ghost use Rattle.row_kernels.specs.Rows.{AreAllImages, AreBodyLanes, AreMoreImages, AreRowNames, AreTaken, AreVerdicts, taken};
 
 use crate::frames::{Frame, only};
+use crate::images::{Images, images_like, table_of, with_rows};
 use crate::lanes::{Lanes, rows_from};
 use crate::meant::lanes_of;
 use fz_ast::{Name, NoMemory, Nodes};
@@ -34,8 +36,8 @@ fn frame_of(
     only(alloc, name, lanes)
 }
 
-// The numbers of a chunk of rows.
-fn chunk_images(
+// The lanes of a chunk of rows, if the function's body is flat.
+fn chunk_lanes(
     alloc: Global,
     nodes: &Nodes,
     name: Name,
@@ -45,21 +47,18 @@ fn chunk_images(
     table: &Rc<Table>,
     first: usize,
     len: usize,
-) -> Result<Option<Vec<i64>>, NoMemory>
+) -> Result<Option<Lanes>, NoMemory>
     requires known { term < length nodes.now.terms }
     requires within { first + len ≤ length table.now.value }
     requires below { first + len < 2 ^ 32 }
-    ensures { IfOk result (λ o. IfSome o (λ zs. AreImages (name_of name) (term_at nodes.now.terms term) outer.now table.now.value first len zs.items)) }
+    ensures { IfOk result (λ o. IfSome o (AreBodyLanes (name_of name) (term_at nodes.now.terms term) outer.now table.now.value first len)) }
 {
     let frames = frame_of(alloc, name, table, first, len)?;
-    let Some(lanes) = lanes_of(alloc, nodes, &frames, outer, len, term, left)? else {
-        return Ok(None);
-    };
-    lanes.numbers(alloc, len)
+    lanes_of(alloc, nodes, &frames, outer, len, term, left)
 }
 
-// The numbers of all rows.
-fn images(
+// The images of the first chunk of rows, in columns like them.
+fn first_images(
     alloc: Global,
     nodes: &Nodes,
     name: Name,
@@ -67,28 +66,78 @@ fn images(
     outer: &Scope,
     left: u32,
     table: &Rc<Table>,
-) -> Result<Option<Vec<i64>>, NoMemory>
+) -> Result<Option<Images>, NoMemory>
     requires { term < length nodes.now.terms }
-    ensures { IfOk result (λ o. IfSome o (λ zs. AreImages (name_of name) (term_at nodes.now.terms term) outer.now table.now.value 0 (length table.now.value) zs.items)) }
+    ensures { IfOk result (λ o. IfSome o (AreAllImages (name_of name) (term_at nodes.now.terms term) outer.now table.now.value (min (length table.now.value) 1024))) }
 {
+    let _ = table.width();
+    let len = table.len().min(CHUNK);
+    let Some(lanes) = chunk_lanes(alloc, nodes, name, term, outer, left, table, 0, len)? else {
+        return Ok(None);
+    };
+    let none = images_like(alloc, &lanes, len)?;
+    with_rows(alloc, none, lanes, len)
+}
+
+// Images with those of a chunk of rows behind them.
+fn with_chunk(
+    alloc: Global,
+    nodes: &Nodes,
+    name: Name,
+    term: u32,
+    outer: &Scope,
+    left: u32,
+    table: &Rc<Table>,
+    images: Images,
+    first: usize,
+    len: usize,
+) -> Result<Option<Images>, NoMemory>
+    requires known { term < length nodes.now.terms }
+    requires even { IsEven images }
+    requires within { first + len ≤ length table.now.value }
+    requires below { first + len < 2 ^ 32 }
+    ensures { IfOk result (λ o. IfSome o (AreMoreImages (name_of name) (term_at nodes.now.terms term) outer.now table.now.value first len images)) }
+{
+    let Some(lanes) = chunk_lanes(alloc, nodes, name, term, outer, left, table, first, len)? else {
+        return Ok(None);
+    };
+    with_rows(alloc, images, lanes, len)
+}
+
+// The images of all rows.
+fn all_images(
+    alloc: Global,
+    nodes: &Nodes,
+    name: Name,
+    term: u32,
+    outer: &Scope,
+    left: u32,
+    table: &Rc<Table>,
+) -> Result<Option<Images>, NoMemory>
+    requires { term < length nodes.now.terms }
+    ensures { IfOk result (λ o. IfSome o (AreAllImages (name_of name) (term_at nodes.now.terms term) outer.now table.now.value (length table.now.value))) }
+{
+    let Some(first_ones) = first_images(alloc, nodes, name, term, outer, left, table)? else {
+        return Ok(None);
+    };
+    let mut images = first_ones;
     let rows = table.len();
     let _ = table.width();
-    let mut out = Vec::new(alloc);
-    for chunk in 0..rows / CHUNK + 1 {
+    for chunk in 1..rows / CHUNK + 1 {
         let first = (chunk * CHUNK).min(rows);
         let len = (rows - first).min(CHUNK);
-        let Some(zs) = chunk_images(alloc, nodes, name, term, outer, left, table, first, len)?
+        let Some(more) = with_chunk(
+            alloc, nodes, name, term, outer, left, table, images, first, len,
+        )?
         else {
             return Ok(None);
         };
-        if let Err(_) = out.extend_from_slice(&zs) {
-            return Err(NoMemory);
-        }
+        images = more;
     }
-    Ok(Some(out))
+    Ok(Some(images))
 }
 
-/// The numbers that `map` gives, if the function's body is flat and one of numbers.
+/// The rows that `map` gives, if the function's body is flat and one of numbers, of texts, or of pairs of these.
 pub fn mapped(
     alloc: Global,
     nodes: &Nodes,
@@ -97,14 +146,17 @@ pub fn mapped(
     outer: &Scope,
     left: u32,
     table: &Rc<Table>,
-) -> Result<Option<Vec<i64>>, NoMemory>
+) -> Result<Option<Table>, NoMemory>
     requires { term < length nodes.now.terms }
-    ensures { IfOk result (λ o. IfSome o (λ zs. (m : ℕ) (ys : List Flat) → Maps (MeansIn m) (FnV (name_of name) (term_at nodes.now.terms term) outer.now) table.now.value ys → ys ≡ map NumF zs.items)) }
+    ensures { IfOk result (λ o. IfSome o (λ images. (m : ℕ) (ys : List Flat) → Maps (MeansIn m) (FnV (name_of name) (term_at nodes.now.terms term) outer.now) table.now.value ys → ys ≡ images)) }
 {
-    images(alloc, nodes, name, term, outer, left, table)
+    let Some(images) = all_images(alloc, nodes, name, term, outer, left, table)? else {
+        return Ok(None);
+    };
+    Ok(Some(table_of(alloc, images)?))
 }
 
-// A chunk's lanes.
+// The truths of a chunk of rows.
 fn chunk_verdicts(
     alloc: Global,
     nodes: &Nodes,
@@ -121,8 +173,7 @@ fn chunk_verdicts(
     requires below { first + len < 2 ^ 32 }
     ensures { IfOk result (λ o. IfSome o (λ bs. AreVerdicts (name_of name) (term_at nodes.now.terms term) outer.now table.now.value first len bs.items)) }
 {
-    let frames = frame_of(alloc, name, table, first, len)?;
-    let Some(lanes) = lanes_of(alloc, nodes, &frames, outer, len, term, left)? else {
+    let Some(lanes) = chunk_lanes(alloc, nodes, name, term, outer, left, table, first, len)? else {
         return Ok(None);
     };
     match lanes {
@@ -162,7 +213,8 @@ fn verdicts(
     let rows = table.len();
     let _ = table.width();
     let mut out = Vec::new(alloc);
-    for chunk in 0..rows / CHUNK + 1 {
+    let chunks = rows / CHUNK + 1;
+    for chunk in 0..chunks {
         let first = (chunk * CHUNK).min(rows);
         let len = (rows - first).min(CHUNK);
         let Some(bs) = chunk_verdicts(alloc, nodes, name, term, outer, left, table, first, len)?

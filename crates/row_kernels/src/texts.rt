@@ -8,8 +8,8 @@ use fz_ast::NoMemory;
 use metric_values::Cell;
 use std::alloc::Global;
 
-// The text of a row, if it has one.
-fn text_of_row(lanes: &Lanes, j: usize, len: usize) -> Option<&[u8]>
+/// The text of a row, if it has one.
+pub fn text_of_row(lanes: &Lanes, j: usize, len: usize) -> Option<&[u8]>
     requires long { IsLong len lanes.now }
     requires within { j < len }
     ensures { IfSome result (λ s. lane_at lanes.now j ≡ TextV s.now) }

@@ -1,4 +1,4 @@
-use Rattle.std.proofs.Common.{◌≡◌, ℕ, arith, rules, pos, get_or, to_z, of_z, w64}
+use Rattle.std.proofs.Common.{◌≡◌, arith, pos, get_or, to_z, of_z, w64}
 use Rattle.std.proofs.lemmas.Grind.{common_steps}
 use Rattle.std.proofs.lemmas.Int.{to_z-of_z}
 use Rattle.metric_values.specs.Numbers.{clip}

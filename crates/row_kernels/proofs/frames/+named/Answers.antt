@@ -1,4 +1,4 @@
-use Rattle.std.proofs.Common.{rules, sym, ◌∙◌}
+use Rattle.std.proofs.Common.{rules}
 use Rattle.fz_ast.specs.Names.{name_of}
 use Rattle.row_kernels.proofs.Given.{named_here}
 use Rattle.row_kernels.proofs.frames.+named.Goals as goal

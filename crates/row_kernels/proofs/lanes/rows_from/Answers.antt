@@ -1,4 +1,4 @@
-use Rattle.std.proofs.Common.{◌≡◌, ◌≤◌, ◌+◌, List, length, arith, ap, subst}
+use Rattle.std.proofs.Common.{◌≡◌, ◌+◌, List, arith, ap, subst}
 use Rattle.std.specs.List.{All}
 use Rattle.metric_values.specs.Cells.{columns_in}
 use Rattle.metric_values.specs.Values.{Flat, value_of}

@@ -1,4 +1,4 @@
-use Rattle.std.proofs.Common.{◌≡◌, ◌<◌, ◌∷◌, [], ℤ, List, arith, ap, subst, sym, ◌∙◌, length, rules, to_z, of_z, w64}
+use Rattle.std.proofs.Common.{◌<◌, ◌∷◌, [], ℤ, List, arith, ap, subst, sym, ◌∙◌, length, rules, to_z, of_z, w64}
 use Rattle.fz_ast.specs.Names.{name_of}
 use Rattle.fz_ast.specs.Parts.{Parts}
 use Rattle.fz_ast.specs.TermNodes.{IsKnown, binary, term_at, unary}
@@ -8,7 +8,6 @@ use Rattle.fz_ast.specs.declared.term.Form.{Form}
 use Rattle.fz_ast.specs.declared.term.Form.TheVariants.{Binary as Op2, If, Let, LetPair, Ranged as Bounded, Times, Unary as Op, Var}
 use Rattle.fz_ast.specs.declared.term.Ranged.TheVariants.{Clip}
 use Rattle.row_kernels.specs.declared.frames.Frame.{Frame}
-use Rattle.row_kernels.specs.declared.lanes.Lanes.{Lanes}
 use Rattle.row_kernels.specs.Calls.{IsArgument, IsCalled}
 use Rattle.row_kernels.specs.Lanes.{AllLong, AreGiven, AreHalves, AreMeant, AreNamed, AreSameNames}
 use Rattle.row_kernels.proofs.Given.{by_answer, call_given, form_meant, var_given}

@@ -6,7 +6,7 @@ use Rattle.run_values.proofs.TableParts.{columns_some}
 use Rattle.row_kernels.specs.Lanes.{AreSameNames, AreThere}
 use Rattle.row_kernels.specs.Rows.{AreRowNames}
 use Rattle.row_kernels.proofs.Given.{by_ok}
-use Rattle.row_kernels.proofs.Images.{row_names}
+use Rattle.row_kernels.proofs.Grown.{row_names}
 use Rattle.row_kernels.proofs.rows.frame_of.Goals as goal
 
 pub rows_from-lanes-requires : goal.rows_from-lanes-requires

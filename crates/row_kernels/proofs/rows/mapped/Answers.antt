@@ -1,12 +1,9 @@
-use Rattle.std.proofs.Common.{◌≡◌, ℕ, List, length}
-use Rattle.std.specs.Prelude.{map}
+use Rattle.std.proofs.Common.{◌∙◌, length, rules, sym}
 use Rattle.fz_ast.specs.Names.{name_of}
 use Rattle.fz_ast.specs.TermNodes.{term_at}
-use Rattle.metric_law.specs.Means.{Maps, MeansIn}
-use Rattle.metric_values.specs.Values.{Flat, FnV, NumF}
-use Rattle.row_kernels.specs.Rows.{AreImages}
-use Rattle.row_kernels.proofs.Given.{by_answer}
-use Rattle.row_kernels.proofs.Images.{all_maps}
+use Rattle.row_kernels.specs.Images.{rows_in}
+use Rattle.row_kernels.specs.Rows.{AreAllImages}
+use Rattle.row_kernels.proofs.Grown.{all_maps}
 use Rattle.row_kernels.proofs.rows.mapped.Goals as goal
 
 pub returns : goal.returns
@@ -15,8 +12,5 @@ returns c =
     let e = term_at c.args.nodes.now.terms c.args.term in
     let γ = c.args.outer.now in
     let rows = c.args.table.now.value in
-    by_answer c.images.result
-    (λ zs. AreImages x e γ rows 0 (length rows) zs.items)
-    (λ zs. (m : ℕ) (ys : List Flat) → Maps (MeansIn m) (FnV x e γ) rows ys → ys ≡ map NumF zs.items)
-    c.images.ensures
-    (λ zs h m ys r. all_maps m x e γ rows zs.items h ys r)
+    let h : AreAllImages x e γ rows (length rows) c.in-Some.images = search rules in
+    λ m ys r. all_maps m x e γ rows (rows_in c.in-Some.images) h.are ys r ∙ sym c.in_ok-table_of.ensures

@@ -1,12 +1,12 @@
-use Rattle.std.proofs.Common.{rules, sym, subst, List}
+use Rattle.std.proofs.Common.{List, subst, sym}
 use Rattle.fz_ast.specs.Names.{name_of}
 use Rattle.fz_ast.specs.TermNodes.{term_at}
 use Rattle.row_kernels.specs.declared.frames.Frame.{Frame}
-use Rattle.row_kernels.specs.Lanes.{AllLong, AreNumbers}
-use Rattle.row_kernels.specs.Rows.{AreImages, AreRowNames}
+use Rattle.row_kernels.specs.Lanes.{AllLong, AreMeant}
+use Rattle.row_kernels.specs.Rows.{AreBodyLanes, AreRowNames}
 use Rattle.row_kernels.proofs.Given.{by_answer}
-use Rattle.row_kernels.proofs.Images.{chunk_meant}
-use Rattle.row_kernels.proofs.rows.chunk_images.Goals as goal
+use Rattle.row_kernels.proofs.Grown.{chunk_meant}
+use Rattle.row_kernels.proofs.rows.chunk_lanes.Goals as goal
 
 pub returns : goal.returns
 returns c =
@@ -16,11 +16,8 @@ returns c =
     let rows = c.args.table.now.value in
     let fs = c.deref.result.now in
     let named : AreRowNames x rows c.args.first c.args.len fs = subst (λ (fs : List Frame). AreRowNames x rows c.args.first c.args.len fs) (sym c.deref.ensures.value) c.in_ok-frames.ensures in
-    by_answer c.numbers.result
-    (λ ws. AreNumbers c.args.len c.in-Some.lanes ws.items)
-    (λ ws. AreImages x e γ rows c.args.first c.args.len ws.items)
-    c.numbers.ensures
-    (λ ws k. chunk_meant x e γ rows c.args.first c.args.len fs c.in-Some.lanes named (search rules) ws.items k)
+    by_answer c.lanes_of.result (AreMeant fs γ e c.args.len) (AreBodyLanes x e γ rows c.args.first c.args.len) c.lanes_of.ensures
+    (λ l h. chunk_meant x e γ rows c.args.first c.args.len fs l named h)
 
 pub lanes_of-requires-clause-long : goal.lanes_of-requires-clause-long
 lanes_of-requires-clause-long c = subst (λ (fs : List Frame). AllLong c.args.len fs) (sym c.deref.ensures.value) c.in_ok-frames.ensures.long
