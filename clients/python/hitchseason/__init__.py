@@ -1,0 +1,10 @@
+"""A client of the query server for analysts: Python 3 and its standard library. docs/client.md has its use.
+
+    from hitchseason import connect
+    labour = connect("mine", "mia", "labour")
+    labour.count("persons", "p.age <= 30", eps=0.5)
+"""
+from .client import Client, connect
+from .faults import Cut, Failed, Fault, Refused, Unanswered
+
+__all__ = ["Client", "Cut", "Failed", "Fault", "Refused", "Unanswered", "connect"]

@@ -1,0 +1,232 @@
+"""What comes back: answers, and what is worked out of them, each with intervals, what it took, and what is left.
+
+An interval at 95 of 100 holds the exact value in at least 95 of 100 answers, whatever the tables have. An answer's ends are whole numbers: those
+of the value less and plus its noise's margin (noise.py). No end is moved to where values can be, as counts from 0 on.
+"""
+from decimal import Decimal
+from math import inf, nextafter
+
+from . import noise, pictures
+from .borrowed import explain
+
+PERCENTS = ("50", "95", "99.9")
+
+
+def written(number):
+    """A number as it is told, whole or with the digits that count."""
+    if isinstance(number, int) or number == int(number):
+        return str(int(number))
+    return f"{float(number):.6g}"
+
+
+def units(millionths):
+    """Millionths as EPS is written."""
+    return f"{Decimal(millionths) / 10**6:f}"
+
+
+class Left:
+    """What is spent of a budget, in millionths, and how many records there are."""
+
+    def __init__(self, owner, spent, budget, records, time):
+        self.owner, self.spent, self.budget, self.records, self.time = owner, spent, budget, records, time
+
+    @property
+    def left(self):
+        return self.budget - self.spent
+
+    def as_dict(self):
+        return {"owner": self.owner, "time": self.time, "spent": self.spent, "budget": self.budget, "left": self.left, "records": self.records}
+
+    def __str__(self):
+        return f"{self.owner}: {units(self.left)} left of {units(self.budget)}, {units(self.spent)} spent; {self.records} records"
+
+
+class Known:
+    """A value with intervals: `value`, `interval(PERCENT)`, `taken` in millionths, `left` (a Left), the answers' `numbers`."""
+
+    def interval(self, percent=95):
+        raise NotImplementedError
+
+    def intervals(self):
+        return {percent: self.interval(percent) for percent in PERCENTS}
+
+    def as_dict(self):
+        ends = {percent: [exact(end) for end in ends] for percent, ends in self.intervals().items()}
+        left = self.left.left if self.left else None
+        return {"value": exact(self.value), "intervals": ends, "taken": self.taken, "left": left, "numbers": self.numbers}
+
+    def __str__(self):
+        low, high = self.interval(95)
+        left = f", {units(self.left.left)} left" if self.left else ""
+        taken = "recalled" if self.taken is None else f"{units(self.taken)} taken"
+        return f"{written(self.value)} (95 of 100: {written(low)} to {written(high)}); {numbers_said(self.numbers)}, {taken}{left}"
+
+    __repr__ = __str__
+
+
+def numbers_said(numbers):
+    """Numbers of reservations: those that follow one another by their ends."""
+    if len(numbers) > 2 and numbers == list(range(numbers[0], numbers[0] + len(numbers))):
+        return f"numbers {numbers[0]} to {numbers[-1]}"
+    return f"number{'s' if len(numbers) > 1 else ''} {' '.join(map(str, numbers))}"
+
+
+def exact(number):
+    """A number as it is told: whole where it is whole, else with a point."""
+    return int(number) if number == int(number) else float(number)
+
+
+class Answer(Known):
+    """An answer of one ask. `taken` is nothing where it was recalled: what it took isn't told again, and is at most ASK's charge."""
+
+    def __init__(self, ask, number, value, taken, recalled=False):
+        self.ask, self.number, self.value, self.taken, self.recalled, self.left = ask, number, value, taken, recalled, None
+
+    @property
+    def numbers(self):
+        return [self.number]
+
+    def margin(self, percent=95):
+        return noise.margin(self.ask.e, noise.level_of(percent))
+
+    def interval(self, percent=95):
+        margin = self.margin(percent)
+        return self.value - margin, self.value + margin
+
+    def as_dict(self):
+        ask = self.ask
+        return {**super().as_dict(), "number": self.number, "eps": explain.in_units(ask.e), "sent": ask.sent, "recalled": self.recalled}
+
+
+class Worked(Known):
+    """What is worked out of several answers; ENDS gives the interval at a level."""
+
+    def __init__(self, value, answers, ends):
+        self.value, self.answers, self.ends = exact(value), answers, ends
+
+    @property
+    def taken(self):
+        taken = [answer.taken for answer in self.answers]
+        return None if None in taken else sum(taken)
+
+    @property
+    def left(self):
+        return self.answers[-1].left
+
+    @property
+    def numbers(self):
+        return [answer.number for answer in self.answers]
+
+    def interval(self, percent=95):
+        """The ends are whole, or rounded outwards."""
+        low, high = self.ends(noise.level_of(percent))
+        return (exact(low) if low == int(low) else nextafter(low, -inf)), (exact(high) if high == int(high) else nextafter(high, inf))
+
+
+def total(answers):
+    """The sum of counts, by the distribution of the sum of their noises."""
+    value = sum(answer.value for answer in answers)
+
+    def ends(level):
+        margin = noise.sum_margin([answer.ask.e for answer in answers], level)
+        return value - margin, value + margin
+
+    return Worked(value, answers, ends)
+
+
+class Groups:
+    """An answer for each key of a partition, in its order."""
+
+    def __init__(self, partition, answers):
+        self.partition, self.answers = partition, answers
+
+    def __getitem__(self, key):
+        return self.answers[key]
+
+    def __iter__(self):
+        return iter(self.answers)
+
+    def __len__(self):
+        return len(self.answers)
+
+    def items(self):
+        return self.answers.items()
+
+    @property
+    def taken(self):
+        return total(list(self.answers.values())).taken
+
+    @property
+    def left(self):
+        return list(self.answers.values())[-1].left
+
+    def total(self, keys=None):
+        """The sum over some keys, or all. Rows of no key aren't in it."""
+        return total([self.answers[key] for key in (self.answers if keys is None else keys)])
+
+    def together(self, percent=95):
+        """Intervals, by key, that hold all at once at a level."""
+        level = noise.each_of(len(self.answers), noise.level_of(percent))
+        margins = {key: noise.margin(answer.ask.e, level) for key, answer in self.items()}
+        return {key: (answer.value - margins[key], answer.value + margins[key]) for key, answer in self.items()}
+
+    def top(self, count, percent=95):
+        """The keys with the greatest answers, the greatest first: each with its answer, and whether it is surely among the so many greatest values,
+        all that is said so being right at once at the level."""
+        ends = self.together(percent)
+        order = sorted(self.answers, key=lambda key: -self.answers[key].value)[:count]
+
+        def sure(key):
+            return sum(ends[other][1] >= ends[key][0] for other in self.answers if other != key) < count
+
+        return [(key, self.answers[key], sure(key)) for key in order]
+
+    def svg(self, title=None, percent="95"):
+        """The histogram with its error bars, as tools/plot draws it."""
+        return pictures.histogram_svg(pictures.bars_of(self.as_dict(), percent), title or self.partition, percent)
+
+    def as_dict(self):
+        return {"partition": self.partition, "taken": self.taken, "groups": {key: answer.as_dict() for key, answer in self.items()}}
+
+    def __str__(self):
+        return "\n".join(f"{key}: {answer}" for key, answer in self.items())
+
+
+class Crosstab(Groups):
+    """Groups whose keys join those of two columns: cells by both, and totals."""
+
+    def __init__(self, partition, answers, separator="."):
+        super().__init__(partition, answers)
+        parts = {key: key.split(separator) for key in answers}
+        odd = [key for key, found in parts.items() if len(found) != 2]
+        if odd:
+            raise ValueError(f"`{odd[0]}` isn't two keys with one `{separator}` between them: {partition} is no partition by a joint column")
+        self.cells = {tuple(found): answers[key] for key, found in parts.items()}
+        self.rows = list(dict.fromkeys(row for row, _ in self.cells))
+        self.columns = list(dict.fromkeys(column for _, column in self.cells))
+
+    def row_total(self, row):
+        return total([answer for cell, answer in self.cells.items() if cell[0] == row])
+
+    def column_total(self, column):
+        return total([answer for cell, answer in self.cells.items() if cell[1] == column])
+
+    def __str__(self):
+        head = ["", *self.columns, "total"]
+        rows = [[row, *(self.cell(row, column) for column in self.columns), short(self.row_total(row))] for row in self.rows]
+        rows.append(["total", *(short(self.column_total(column)) for column in self.columns), short(self.total())])
+        return laid_out([head, *rows])
+
+    def cell(self, row, column):
+        return short(self.cells[row, column]) if (row, column) in self.cells else ""
+
+
+def laid_out(rows):
+    """Rows of words in columns, the first to the left."""
+    widths = [max(len(row[place]) for row in rows) for place in range(len(rows[0]))]
+    return "\n".join("  ".join([row[0].ljust(widths[0]), *(word.rjust(width) for word, width in zip(row[1:], widths[1:]))]) for row in rows)
+
+
+def short(known):
+    """A value with its margin at 95 of 100."""
+    return f"{known.value} ±{known.interval(95)[1] - known.value}"

@@ -1,0 +1,187 @@
+"""What is asked: a line's program with its columns' names written out, its EPS, its part, and what it costs at most.
+
+    View(CATALOG, OWNER)          an owner's tables, by what tools/public gives; `ask` makes an Ask, or raises Refused
+    price(..), divided(..)        EPS in millionths, of an EPS or of a charge; a charge, divided by shares
+    Plan, Forecast                the asks of a statistic, and what is known of them before anything is asked
+"""
+from decimal import Decimal, InvalidOperation
+from fractions import Fraction
+from math import ceil
+
+from . import faults, names, noise
+from .answers import PERCENTS, units
+from .borrowed import explain, lines, program_parts, programs
+
+MOST_EPS = 10**9
+
+
+def number_text(number):
+    return f"{Decimal(str(number)):f}" if not isinstance(number, str) else number
+
+
+def millionths(number, what):
+    """A positive decimal in millionths, exactly."""
+    try:
+        found = Fraction(number_text(number)) * 10**6
+    except (ValueError, InvalidOperation):
+        found = 0
+    if found <= 0 or found.denominator != 1:
+        raise ValueError(f"{what} is a decimal over 0 with at most six places, as 0.5, and not {number}")
+    return int(found)
+
+
+def price(sensitivity, eps=None, charge=None):
+    """EPS in millionths: the one that is given, or the greatest at which an ask of this sensitivity takes at most the charge."""
+    if (eps is None) == (charge is None):
+        raise ValueError("say either `eps`, of which the noise's scale is 1/EPS, or `charge`, which is sensitivity times EPS")
+    if charge is None:
+        e = lines.millionths(number_text(eps).encode())
+        if e is None:
+            raise ValueError(lines.why_no_epsilon(number_text(eps).encode()))
+        return e
+    e = int(millionths(charge, "a charge") / sensitivity) if sensitivity else MOST_EPS
+    if e < 1:
+        raise ValueError(f"at a sensitivity of {sensitivity} the least charge is {units(ceil(sensitivity))}, and not {charge}")
+    return min(e, MOST_EPS)
+
+
+def divided(charge, shares):
+    """A charge in millionths, divided by shares."""
+    whole, total = millionths(charge, "a charge"), sum(Fraction(str(share)) for share in shares)
+    if any(share <= 0 for share in shares):
+        raise ValueError("shares are over 0")
+    found = [int(whole * Fraction(str(share)) / total) for share in shares]
+    if 0 in found:
+        raise ValueError(f"a charge of {charge} can't be divided in {len(found)}")
+    return [units(part) for part in found]
+
+
+class Ask:
+    def __init__(self, owner, written, sensitivity, e, part=None):
+        self.owner, self.written, self.sensitivity, self.e, self.part = owner, written, sensitivity, e, part
+
+    @property
+    def sent(self):
+        """The program as it is sent, in one line."""
+        return self.written.sent.decode().replace("\r", " ").replace("\n", " ")
+
+    @property
+    def charge(self):
+        """In millionths; of a part the most that it can be."""
+        return ceil(self.sensitivity * self.e)
+
+    def line(self):
+        of = f"askpart {self.owner} {' '.join(self.part)}" if self.part else f"ask {self.owner}"
+        return f"{of} {explain.in_units(self.e)} {self.sent}"
+
+
+class View:
+    def __init__(self, catalog, owner):
+        self.catalog, self.entry, self.known = catalog, owner, {}
+
+    @property
+    def name(self):
+        return self.entry["name"]
+
+    def named(self, what, name, entries):
+        found = next((entry for entry in entries if entry["name"] == name), None)
+        if found is None:
+            names_of = [entry["name"] for entry in entries]
+            raise faults.Refused(f"{self.name} has no {what} `{name}`: {faults.known(name, names_of, 'it has')}")
+        return found
+
+    def table(self, name):
+        return self.named("table", name, self.entry["tables"])
+
+    def partition(self, name):
+        return self.named("partition", name, self.entry["partitions"])
+
+    def part(self, partition, key):
+        """A partition and one of its keys, as an ask has them."""
+        keys = self.partition(partition)["keys"]
+        if key not in keys:
+            raise faults.Refused(f"the partition {partition} has no key `{key}`: {faults.known(key, keys, 'it has')}")
+        return partition, key
+
+    def checked(self, program, partition=None):
+        """A program as it is sent, and its sensitivity, over the owner's tables or those that a part shows."""
+        if (program, partition) not in self.known:
+            house = program_parts.House(self.catalog, self.entry, self.partition(partition) if partition else None)
+            try:
+                found = names.written(program, house.owner["tables"])
+            except names.BadName as fault:
+                raise faults.of_names(fault, program.encode()) from None
+            words, said = explain.refused(house, found.sent)
+            if words:
+                raise faults.of_program(house, found, words, said)
+            self.known[program, partition] = found, said
+        return self.known[program, partition]
+
+    def ask(self, program, eps=None, charge=None, part=None):
+        part = self.part(*part) if part else None
+        found, sensitivity = self.checked(program, part[0] if part else None)
+        ask = Ask(self.name, found, sensitivity, price(sensitivity, eps, charge), part)
+        if len(ask.line().encode()) > lines.LINE_LIMIT:
+            raise faults.Refused(f"the line that asks it has over {lines.LINE_LIMIT} bytes.")
+        return ask
+
+
+class Plan:
+    """The asks of a statistic, and what is made of their answers; NOTE says what a forecast can't say in figures."""
+
+    def __init__(self, asks, made, note=None):
+        self.asks, self.made, self.note = asks, made, note
+
+    def work(self, send):
+        return self.made(send(self.asks))
+
+
+class Forecast:
+    """Before anything is asked: the `charge` in millionths, of parts the most that it can be, and for each kind of ask its margins."""
+
+    def __init__(self, plan):
+        self.asks, self.note = plan.asks, plan.note
+        of_parts = {}
+        for ask in self.asks:
+            partition, key = ask.part or (None, None)
+            keys = of_parts.setdefault(partition, {})
+            keys[key] = keys.get(key, 0) + ask.charge
+        self.charge = sum(max(keys.values()) for keys in of_parts.values())
+
+    def kinds(self):
+        """Asks that differ in their part alone count as one: (ask, how many)."""
+        found = {}
+        for ask in self.asks:
+            found.setdefault((ask.sent, ask.e), [ask, 0])[1] += 1
+        return [tuple(kind) for kind in found.values()]
+
+    def margin(self, percent=95, number=0):
+        """By how much an answer is off at most, at this level; of several kinds of asks that of the kind with this number."""
+        return noise.margin(self.kinds()[number][0].e, noise.level_of(percent))
+
+    def as_dict(self):
+        kinds = [
+            {
+                "asks": count,
+                "sent": ask.sent,
+                "eps": explain.in_units(ask.e),
+                "sensitivity": programs.sensitivity_text(ask.sensitivity),
+                "charge": ask.charge,
+                "part": ask.part and ask.part[0],
+                "margins": {percent: noise.margin(ask.e, noise.level_of(percent)) for percent in PERCENTS},
+            }
+            for ask, count in self.kinds()
+        ]
+        return {"charge": self.charge, "at_most": any(ask.part for ask in self.asks), "kinds": kinds, "note": self.note}
+
+    def __str__(self):
+        most = "at most " if any(ask.part for ask in self.asks) else ""
+        said = [f"charge: {most}{units(self.charge)} ({len(self.asks)} {'ask' if len(self.asks) == 1 else 'asks'})"]
+        for ask, count in self.kinds():
+            margins = ", ".join(f"{percent} of 100 ±{noise.margin(ask.e, noise.level_of(percent))}" for percent in PERCENTS)
+            sensitivity = programs.sensitivity_text(ask.sensitivity)
+            times = f"{count} times " if count > 1 else ""
+            said.append(f"{times}EPS {explain.in_units(ask.e)}, sensitivity {sensitivity}, charge {units(ask.charge)}: {margins}")
+        return "\n".join(said + ([self.note] if self.note else []))
+
+    __repr__ = __str__

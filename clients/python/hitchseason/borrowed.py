@@ -1,0 +1,39 @@
+"""What the package takes of the repository's tools, which stand in `tools/` at its top: words of refusals, the language's second reader, and
+what an owner gives to analysts. Nothing of it is copied here.
+"""
+import importlib.machinery
+import importlib.util
+import sys
+from os.path import abspath, dirname
+
+TOP = dirname(dirname(dirname(dirname(abspath(__file__)))))
+TOOLS = f"{TOP}/tools"
+
+
+def command(name):
+    """A command of `tools/` as a module."""
+    loader = importlib.machinery.SourceFileLoader(f"hitchseason_{name}", f"{TOOLS}/{name}")
+    module = importlib.util.module_from_spec(importlib.util.spec_from_loader(loader.name, loader))
+    kept, sys.dont_write_bytecode = sys.dont_write_bytecode, True
+    try:
+        loader.exec_module(module)
+    finally:
+        sys.dont_write_bytecode = kept
+    return module
+
+
+sys.path.insert(0, TOOLS)
+try:
+    import lines
+    import meanings
+    import program_parts
+    import programs
+    import runs
+    import tables
+
+    explain = command("explain")
+    public = command("public")
+finally:
+    sys.path.remove(TOOLS)
+
+__all__ = ["TOOLS", "TOP", "explain", "lines", "meanings", "program_parts", "programs", "public", "runs", "tables"]

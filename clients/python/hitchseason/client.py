@@ -1,0 +1,218 @@
+"""The client: asks of one owner as one analyst, and what became of a run that was cut.
+
+    connect(PLACE, ANALYST, OWNER)      PLACE is a folder (transport.py); OWNER may be left out where there is one, and ANALYST where nothing is asked
+
+**One client an analyst and owner at a time**: only so are an analyst's new reservations those of its client. The client never asks again by itself.
+"""
+import time
+from inspect import Parameter, signature
+
+from . import statistics
+from .answers import Answer, Left, units
+from .asks import Forecast, View
+from .borrowed import meanings
+from .faults import Cut, Failed, Fault, Refused, Unanswered, known, of_reply
+from .transport import Stopped, transport_of
+
+RECALLS = 64
+PLANS = {
+    "ask": statistics.single, "count": statistics.count, "sum": statistics.sum_of, "mean": statistics.mean, "median": statistics.median,
+    "quantile": statistics.quantile, "variance": statistics.variance, "groups": statistics.groups, "histogram": statistics.histogram,
+    "crosstab": statistics.crosstab, "top": statistics.top,
+}  # fmt: skip
+
+
+def connect(place, analyst, owner=None, **words):
+    """WORDS of a folder: `program`, `catalog`, `key`, and `public`, a file that tools/public --json wrote."""
+    transport = transport_of(place, **words)
+    return Client(transport, transport.public(), analyst, owner)
+
+
+def unasked(call):
+    """What comes of lines that ask nothing."""
+    try:
+        return call()
+    except Stopped as stopped:
+        raise Failed(f"{stopped}; nothing had been asked, and nothing is charged.") from None
+
+
+def asking(name):
+    """The method of a client that asks a statistic, with the words that the statistic has."""
+
+    def call(self, *words, **more):
+        return self.work(name, *words, **more)
+
+    plan = signature(PLANS[name])
+    call.__name__, call.__doc__ = name, PLANS[name].__doc__
+    call.__signature__ = plan.replace(parameters=[Parameter("self", Parameter.POSITIONAL_ONLY), *list(plan.parameters.values())[1:]])
+    return call
+
+
+class Pending:
+    """Asks that may have been answered, and the number from which on the analyst had none."""
+
+    def __init__(self, asks, first):
+        self.asks, self.first = asks, first
+
+
+class Client:
+    def __init__(self, transport, catalog, analyst, owner=None):
+        names = [entry["name"] for entry in catalog["owners"]]
+        owner = names[0] if owner is None and len(names) == 1 else owner
+        analysts = [*catalog["analysts"], None]
+        for what, name, all_names in (("analyst", analyst, analysts), ("owner", owner, names)):
+            if name not in all_names:
+                raise Refused(f"there is no {what} `{name}`: {known(name, [one for one in all_names if one], 'there is')}")
+        self.transport, self.catalog, self.analyst = transport, catalog, analyst
+        self.view = View(catalog, catalog["owners"][names.index(owner)])
+        self.next = self.pending = None
+
+    # What is asked. Each takes `eps` or `charge`, and `part=(PARTITION, KEY)`, as statistics.py says.
+
+    ask, count, sum, mean, variance = (asking(name) for name in ("ask", "count", "sum", "mean", "variance"))
+    quantile, median = asking("quantile"), asking("median")
+    groups, histogram, crosstab, top = (asking(name) for name in ("groups", "histogram", "crosstab", "top"))
+
+    def work(self, name, *words, **more):
+        plan = self.plan(name, *words, **more)
+        self.afford(plan)
+        return plan.work(self.send)
+
+    def plan(self, name, *words, **more):
+        return PLANS[name](self.view, *words, **more)
+
+    def afford(self, plan):
+        """Refuses asks of the whole that don't fit together, so that none of them is paid in vain. Of parts it can't be known."""
+        if len(plan.asks) == 1 or any(ask.part for ask in plan.asks):
+            return
+        charge, left = Forecast(plan).charge, self.left()
+        if charge > left.left:
+            raise Refused(f"its {len(plan.asks)} asks take up to {units(charge)} together, and {units(left.left)} is left: none of them was asked.")
+
+    # What costs nothing.
+
+    def forecast(self, name, *words, **more):
+        """What a call would be charged, and how far its answers are off: forecast("count", "people", eps=0.5). It asks nothing."""
+        return Forecast(self.plan(name, *words, **more))
+
+    def sent(self, program):
+        """A program as it is sent, with its columns' names written out."""
+        return self.view.checked(program)[0].sent.decode()
+
+    def left(self):
+        return self.left_of(self.told([f"left {self.view.name}"])[0])
+
+    def recall(self, number):
+        """What became of a reservation: its value, or Refused where it isn't the analyst's, or Unanswered where it has none."""
+        reply = self.told([self.hello(), f"recall {self.view.name} {number}"])[1]
+        words = reply.split(" ")
+        if words[0] != "recall":
+            raise Refused(f"{reply}: {meanings.meaning(reply)}.", reply)
+        if words[2] != "answer":
+            raise Unanswered(f"{reply}: {meanings.meaning(reply)}.", reply, number)
+        return int(words[3])
+
+    def hello(self):
+        if self.analyst is None:
+            raise Refused("nobody asks: connect as an analyst.")
+        return f"hello {self.analyst}"
+
+    def told(self, wanted):
+        """Replies to lines that ask nothing."""
+        return unasked(lambda: self.transport.replies(wanted))
+
+    def left_of(self, reply):
+        words = reply.split(" ")
+        if words[0] != "left":
+            raise Failed(f"{reply}: {meanings.meaning(reply)}.", reply)
+        return Left(self.view.name, *map(int, words[1:4]), time.strftime("%Y-%m-%dT%H:%M:%SZ", time.gmtime()))
+
+    # Asking.
+
+    def send(self, asks):
+        """An answer for each ask, all in one script."""
+        hello = self.hello()
+        if self.pending:
+            raise Cut("a run before was cut, and what came of it isn't known yet: recover() first")
+        if self.next is None:
+            self.learn()
+        try:
+            replies = self.transport.replies([hello, *(ask.line() for ask in asks), f"left {self.view.name}"])
+        except Stopped as stopped:
+            self.pending = Pending(asks, self.next)
+            return self.recover(f"{stopped}. ")
+        return self.taken(asks, replies[1:-1], self.left_of(replies[-1]))
+
+    def taken(self, asks, replies, left):
+        """The answers, or the first fault with the answers beside it."""
+        found = [self.one(ask, reply, left) for ask, reply in zip(asks, replies)]
+        numbers = [one.number for one in found if isinstance(one, (Answer, Unanswered))]
+        self.next = None if None in numbers else max([self.next - 1, *numbers]) + 1
+        return self.all_answered(asks, found)
+
+    def one(self, ask, reply, left):
+        words = reply.split(" ")
+        if words[0] != "answer" or meanings.meaning(reply) is None:
+            return of_reply(reply, ask.line(), self.catalog, self.analyst, (ask.sensitivity, ask.e))
+        answer = Answer(ask, *map(int, words[1:4]))
+        answer.left = left
+        return answer
+
+    @staticmethod
+    def all_answered(asks, found):
+        fault = next((one for one in found if isinstance(one, Fault)), None)
+        if fault is None:
+            return found
+        fault.answers = [one for one in found if isinstance(one, Answer)]
+        raise fault
+
+    # After a run that was cut.
+
+    def learn(self):
+        """The next number: each that there is has one record or two."""
+        least = (self.left().records + 1) // 2
+        self.next, _, _ = unasked(lambda: self.numbers_from(least))
+
+    def numbers_from(self, first):
+        """The next number, those of the analyst from the first on with what `recall` says of each, and what is left."""
+        found, at = [], first
+        while True:
+            asked = [self.hello(), *(f"recall {self.view.name} {number}" for number in range(at, at + RECALLS)), f"left {self.view.name}"]
+            replies = [reply.split(" ") for reply in self.transport.replies(asked)]
+            for number, words in enumerate(replies[1:-1], at):
+                if words[:2] == ["no", "60"]:
+                    return number, found, self.left_of(" ".join(replies[-1]))
+                if words[0] == "recall":
+                    found.append((number, words[2:-1]))
+            at += RECALLS
+
+    def recover(self, why=""):
+        """What came of the asks of a run that was cut, by `recall`, which costs nothing: their answers, where the analyst's new numbers are as
+        many as the asks; Failed where there is none, so that nothing was charged; Cut where it can't be told."""
+        if self.pending is None:
+            raise Failed("no run was cut")
+        asks = self.pending.asks
+        try:
+            after, found, left = self.numbers_from(self.pending.first)
+        except (Stopped, Failed) as fault:
+            raise Cut(f"{why}What came of it isn't known, since no recall is answered: {fault}. recover() tries once more, for nothing.") from None
+        if any(said == ["open"] for _, said in found):
+            raise Cut(f"{why}A reservation is still open: recover() later.", found)
+        self.next, self.pending = after, None
+        if not found:
+            raise Failed(f"{why}Nothing that was asked came to be reserved: nothing is charged, and it may be asked again.")
+        if len(found) != len(asks):
+            told = "; ".join(f"{number} {' '.join(said)}" for number, said in found)
+            raise Cut(f"{why}Of {len(asks)} asks the analyst has {len(found)} new reservations, and which is whose isn't known: {told}.", found)
+        return self.all_answered(asks, [self.recalled(ask, number, said, left) for ask, (number, said) in zip(asks, found)])
+
+    def recalled(self, ask, number, said, left):
+        if said[0] != "answer":
+            reply = f"recall {number} {said[0]} {left.records}"
+            return Unanswered(f"{reply}: {meanings.meaning(reply)}.", reply, number)
+        answer = Answer(ask, number, int(said[1]), None, recalled=True)
+        answer.left = left
+        return answer
+
+
+__all__ = ["Client", "connect"]

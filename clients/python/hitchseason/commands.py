@@ -1,0 +1,175 @@
+"""The commands of `tools/` that stand on the package: askparts, forecast, left and plot. Each gives its status."""
+import argparse
+import csv
+import io
+import json
+import os
+import sys
+
+from . import pictures
+from .answers import PERCENTS, Groups, units
+from .client import connect
+from .faults import Fault
+
+FOLDER = ("program", "catalog", "key")
+WRITES = {"histogram": "tools/askparts --json", "budget": "tools/left --json"}
+
+
+def place_words(parser):
+    parser.add_argument("place", metavar="FOLDER", help="with the catalog, the key, the tables and the journals; the program is started there")
+    parser.add_argument("--program", metavar="FILE", help="else PROGRAM=FILE, `hitchseason` on the path, or tools/build's quick build")
+    parser.add_argument("--catalog", default="catalog.json", metavar="NAME", help="of the catalog in the folder: catalog.json, unless said")
+    parser.add_argument("--key", default="key", metavar="NAME", help="of the key in the folder: key, unless said")
+
+
+def client_of(given, analyst, owner):
+    return connect(given.place, analyst, owner, **{name: getattr(given, name) for name in FOLDER})
+
+
+def text_of(name):
+    with sys.stdin if name == "-" else open(name, encoding="utf-8") as file:
+        return file.read()
+
+
+def run(name, call, parser, words):
+    """The status of a command: 1 where something was refused or failed, 2 where the words are none."""
+    given = parser.parse_intermixed_args(words)
+    try:
+        call(given)
+        return 0
+    except (Fault, ValueError, OSError) as fault:
+        sys.stdout.flush()
+        print(f"tools/{name}: {fault}", file=sys.stderr)
+        return 1
+
+
+def parser_of(name, doc):
+    return argparse.ArgumentParser(prog=f"tools/{name}", description=doc, formatter_class=argparse.RawDescriptionHelpFormatter)
+
+
+# A program of each part.
+
+
+def askparts(words, doc):
+    parser = parser_of("askparts", doc)
+    place_words(parser)
+    for name in ("analyst", "owner", "partition", "eps", "file"):
+        parser.add_argument(name, metavar=name.upper())
+    parser.add_argument("keys", nargs="*", metavar="KEY", help="each once; all of the partition's, unless said")
+    form = parser.add_mutually_exclusive_group()
+    form.add_argument("--csv", action="store_const", const=csv_lines, dest="form", help="with a header, and both ends of each interval")
+    form.add_argument("--json", action="store_const", const=json_lines, dest="form", help="as tools/plot histogram reads it")
+    parser.add_argument("--level", default="95", metavar="PERCENT", help="of the interval in text: 95 of 100, unless said")
+    parser.set_defaults(form=text_lines)
+
+    def call(given):
+        client = client_of(given, given.analyst, given.owner)
+        try:
+            groups = client.groups(given.partition, text_of(given.file), eps=given.eps, keys=given.keys or None)
+        except Fault as fault:
+            # What was answered before it is paid.
+            if fault.answers:
+                print(given.form(Groups(given.partition, {answer.ask.part[1]: answer for answer in fault.answers}), given.level))
+            raise
+        print(given.form(groups, given.level))
+
+    return run("askparts", call, parser, words)
+
+
+def text_lines(groups, percent):
+    """A line a key, and one of what they took together."""
+    rows = [[key, str(answer.value), "{} to {}".format(*answer.interval(percent))] for key, answer in groups.items()]
+    widths = [max(len(row[place]) for row in rows) for place in range(3)]
+    lines = [f"{key.ljust(widths[0])}  {value.rjust(widths[1])}  {ends.rjust(widths[2])}" for key, value, ends in rows]
+    taken = "some were recalled, and what they took isn't told" if groups.taken is None else f"taken {units(groups.taken)}"
+    return "\n".join([*lines, f"{percent} of 100; {taken}; {units(groups.left.left)} left"])
+
+
+def csv_lines(groups, _):
+    file = io.StringIO()
+    lines = csv.writer(file, lineterminator="\n")
+    lines.writerow(["key", "value", *(f"{end}_{percent}" for percent in PERCENTS for end in ("low", "high")), "number", "taken"])
+    for key, answer in groups.items():
+        ends = [end for percent in PERCENTS for end in answer.interval(percent)]
+        lines.writerow([key, answer.value, *ends, answer.number, answer.taken])
+    return file.getvalue().rstrip("\n")
+
+
+def json_lines(groups, _):
+    return json.dumps(groups.as_dict(), ensure_ascii=False)
+
+
+# What costs nothing.
+
+
+def left(words, doc):
+    parser = parser_of("left", doc)
+    place_words(parser)
+    parser.add_argument("owner", metavar="OWNER")
+    parser.add_argument("--json", action="store_true", help="a line, as tools/plot budget reads it")
+
+    def call(given):
+        found = client_of(given, None, given.owner).left()
+        print(json.dumps(found.as_dict(), ensure_ascii=False) if given.json else found)
+
+    return run("left", call, parser, words)
+
+
+def forecast(words, doc):
+    parser = parser_of("forecast", doc)
+    place_words(parser)
+    for name in ("owner", "eps", "file"):
+        parser.add_argument(name, metavar=name.upper())
+    parser.add_argument("partition", nargs="?", metavar="PARTITION", help="asked of each of its keys")
+    form = parser.add_mutually_exclusive_group()
+    form.add_argument("--json", action="store_true")
+    form.add_argument("--sent", action="store_true", help="the program as it is sent, alone: columns' names are written out")
+
+    def call(given):
+        client, program = client_of(given, None, given.owner), text_of(given.file)
+        if given.sent:
+            print(client.sent(program).rstrip("\n"))
+            return
+        said = client.forecast("groups", given.partition, program, eps=given.eps) if given.partition else client.forecast("ask", program, eps=given.eps)
+        print(json.dumps(said.as_dict(), ensure_ascii=False) if given.json else said)
+
+    return run("forecast", call, parser, words)
+
+
+# Pictures.
+
+
+def plot(words, doc):
+    parser = parser_of("plot", doc)
+    parser.add_argument("what", choices=("histogram", "budget"))
+    parser.add_argument("file", nargs="?", default="-", metavar="FILE", help="of tools/askparts --json, or of lines of tools/left --json; else standard input")
+    parser.add_argument("--text", action="store_true", help="for a terminal; else SVG")
+    parser.add_argument("--level", default="95", choices=PERCENTS, help="of the error bars, of 100")
+    parser.add_argument("--title")
+
+    def call(given):
+        said = text_of(given.file)
+        try:
+            print(histogram(said, given) if given.what == "histogram" else budget(said, given), end="")
+        except (KeyError, TypeError, AttributeError, IndexError):
+            raise ValueError(f"this isn't what {WRITES[given.what]} writes") from None
+
+    return run("plot", call, parser, words)
+
+
+def histogram(said, given):
+    groups = json.loads(said)
+    bars, title = pictures.bars_of(groups, given.level), given.title or groups["partition"]
+    if given.text:
+        return pictures.histogram_text(bars, title, given.level, columns())
+    return pictures.histogram_svg(bars, title, given.level)
+
+
+def budget(said, given):
+    lefts = [json.loads(line) for line in said.splitlines() if line.strip()]
+    points, title = pictures.points_of(lefts), given.title or f"{lefts[0].get('owner', 'budget')}: epsilon spent"
+    return pictures.budget_text(points, title, columns()) if given.text else pictures.budget_svg(points, title)
+
+
+def columns():
+    return max(40, min(160, os.get_terminal_size().columns)) if sys.stdout.isatty() else pictures.COLUMNS

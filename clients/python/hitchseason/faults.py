@@ -1,0 +1,85 @@
+"""What goes wrong, as exceptions, in tools/explain's words.
+
+    Fault                        all of them
+    Refused                      nothing is charged; `reply` is the line or nothing, `place` the part of the analyst's program
+    Unanswered                   charged, or perhaps, and no answer comes
+    Failed                       the program didn't run, or closed a journal: nothing of what was asked is known to be charged
+    Cut                          the run was cut, and what came of it isn't known, or not which answer is whose
+"""
+from .borrowed import explain, lines, meanings, program_parts
+from .names import Places, known
+
+OF_PROGRAMS = explain.OF_PROGRAMS
+OF_LINES = ("10", "11", "12", "13", "14")
+
+
+class Fault(Exception):
+    """ANSWERS are those that came before it in the same asking, by what they were asked of, and are paid."""
+
+    answers = ()
+
+
+class Refused(Fault):
+    def __init__(self, said, reply=None, place=None):
+        super().__init__(said)
+        self.reply, self.place = reply, place
+
+
+class Unanswered(Fault):
+    def __init__(self, said, reply, number=None):
+        super().__init__(said)
+        self.reply, self.number = reply, number
+
+
+class Failed(Fault):
+    def __init__(self, said, reply=None):
+        super().__init__(said)
+        self.reply = reply
+
+
+class Cut(Fault):
+    """NUMBERS are the new reservations of the analyst, each with what `recall` says of it, where that is known."""
+
+    def __init__(self, said, numbers=None):
+        super().__init__(said)
+        self.numbers = numbers
+
+
+def of_names(fault, source):
+    """A column or a table that isn't there."""
+    text = program_parts.Text(source)
+    return Refused(f"{fault}\n{text.marked(*fault.place)}", place=fault.place)
+
+
+def of_program(house, written, words, exception):
+    """A program that the rules refuse, its place being marked in what the analyst wrote."""
+    refusal = program_parts.Refusal(house, written.sent, words, exception)
+    refusal.text = Places(written)
+    explanation = explain.Explanation(refusal)
+    part = f"\n(Of a part: {house.shown_alone()})" if house.partition and house.hidden else ""
+    place = written.place(*explanation.place) if explanation.place else None
+    return Refused(explanation.lines() + part, f"no {' '.join(words)}", place)
+
+
+def of_reply(reply, line, catalog, analyst, sensitivity):
+    """What a refusal of a line that asks means, the program being one that the rules accept."""
+    words = reply.split(" ")
+    code = words[1] if words[0] == "no" and len(words) > 1 else None
+    said = meanings.meaning(reply)
+    if said is None or code is None:
+        return Failed(f"`{reply}` is no reply to `{line[:60]}`", reply)
+    if code in OF_LINES:
+        why = lines.Line(line.encode(), catalog, analyst).why
+        return Refused(f"{reply}: {why or said}.", reply)
+    if code in OF_PROGRAMS:
+        return Failed(f"{reply}: {said}. The rules that this client reads accept the program: is its server another version?", reply)
+    if code == "40":
+        charge = -(-sensitivity[0] * sensitivity[1] // 1)
+        return Refused(f"{reply}: {said}.{explain.affordable(words, sensitivity[0], int(charge))}", reply)
+    if code in ("50", "51", "52"):
+        return Unanswered(f"{reply}: {said}.", reply, int(words[2]) if len(words) > 2 else None)
+    return (Refused if code in ("41", "60", "61") else Failed)(f"{reply}: {said}.", reply)
+
+
+
+__all__ = ["Cut", "Failed", "Fault", "Refused", "Unanswered", "known", "of_names", "of_program", "of_reply"]

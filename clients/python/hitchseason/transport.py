@@ -1,0 +1,99 @@
+"""How lines come to the program and replies back: the seam between the client and where the journals are.
+
+A transport has `public()`, which gives what tools/public --json gives, and `replies(LINES)`, which gives a reply for each line, or raises Stopped
+where replies are missing and lines may have been answered all the same, or Failed where none was.
+
+    Folder(FOLDER, ..)      runs `hitchseason run` in a folder, as an owner or who tries out does: the folder has the catalog, the key, the
+                            tables and the journals. Who may read the key and the tables needs no answers.
+    transport_of(PLACE)     the one that a place stands for
+
+A transport that talks to a server keeps one connection, or starts one process, and says `Stopped` where it ends too early.
+"""
+import fcntl
+import json
+import os
+import shutil
+import signal
+import subprocess
+from contextlib import contextmanager
+
+from .borrowed import TOP, meanings, public
+from .faults import Failed
+
+NEVER_ASKED = (2, 3, 4, 6, 8)
+
+
+class Stopped(Exception):
+    """Replies are missing, and what became of the lines isn't known."""
+
+
+class Folder:
+    def __init__(self, folder, program=None, catalog="catalog.json", key="key", public=None):
+        self.folder, self.catalog, self.key, self.program, self.given = folder, catalog, key, program, public
+
+    def public(self):
+        if self.given is not None:
+            with open(self.given, encoding="utf-8") as file:
+                return json.load(file)
+        name = os.path.join(self.folder, self.catalog)
+        try:
+            with open(name, "rb") as file:
+                return public.without_files(public.read(file.read()), {})
+        except OSError as fault:
+            raise Failed(f"{name} can't be read: {fault.strerror}") from None
+        except public.BadCatalog:
+            raise Failed(f"{name} is no catalog: tools/find_fault {name} says why") from None
+
+    def replies(self, lines):
+        script = "".join(f"{line}\n" for line in lines).encode()
+        with self.locked():
+            try:
+                ran = subprocess.run(
+                    [self.found(), "run", self.catalog, self.key], input=script, cwd=self.folder, stdout=subprocess.PIPE, stderr=subprocess.DEVNULL, check=False
+                )
+            except OSError as fault:
+                raise Failed(f"{self.program} can't be run: {fault.strerror}") from None
+        said = ran.stdout.decode(errors="backslashreplace")
+        if ran.returncode in NEVER_ASKED:
+            more = f"`tools/why run {self.catalog} {self.key} < /dev/null` in {self.folder} says more"
+            raise Failed(f"the program ended with status {ran.returncode}: {meanings.STATUSES[ran.returncode]} ({said.strip()}). {more}.", said.strip())
+        found = said.split("\n")[:-1]
+        if ran.returncode != 0 or len(found) != len(lines):
+            raise Stopped(ended(ran.returncode))
+        return found
+
+    @contextmanager
+    def locked(self):
+        """One process at a time works on a folder of journals, by the lock of docs/operators-guide.md."""
+        try:
+            file = open(os.path.join(self.folder, "journals.lock"), "a", encoding="ascii")
+        except OSError as fault:
+            raise Failed(f"{self.folder}/journals.lock can't be written: {fault.strerror}") from None
+        with file:
+            fcntl.flock(file, fcntl.LOCK_EX)
+            yield
+
+    def found(self):
+        """The program that was named, else `hitchseason` on the path, else tools/build's quick build."""
+        named = self.program or os.environ.get("PROGRAM") or shutil.which("hitchseason")
+        if named is None:
+            named = f"{TOP}/out/hitchseason"
+            if not os.path.exists(named):
+                raise Failed("there is no program: name one (`program`, or PROGRAM=FILE), or build one by tools/build")
+        self.program = os.path.abspath(named) if os.sep in named else named
+        return self.program
+
+
+def ended(status):
+    if status < 0:
+        return f"{signal.Signals(-status).name} ended the run"
+    return f"the run ended with status {status}, {meanings.STATUSES.get(status, 'which the program never ends with')}" if status else "replies are missing"
+
+
+def transport_of(place, **words):
+    """A folder's. `ssh://` and addresses are kept for what talks to a server."""
+    if "://" in place or (":" in place and not os.path.isdir(place)):
+        raise Failed(f"{place}: there is no server to talk to yet; a folder with a catalog, a key and journals is a place")
+    if not os.path.isdir(place):
+        raise Failed(f"{place} is no folder")
+    return Folder(place, **words)

@@ -1,0 +1,169 @@
+"""The commands of `tools/`, and the pictures."""
+import csv
+import io
+import json
+import os
+import subprocess
+import unittest
+from collections import Counter
+from xml.etree import ElementTree
+
+from common import PROGRAM, TOP, Place, rows_of, survey
+from hitchseason import Refused, connect, pictures
+
+YOUNG = "size (filter (fn (p : row persons) =>\n  p.age <= 30) persons)\n"
+REGISTER = f"{TOP}/examples/register"
+SVG = "{http://www.w3.org/2000/svg}"
+
+
+def tool(name, *words, given=""):
+    return subprocess.run([f"{TOP}/tools/{name}", *words], input=given, capture_output=True, text=True, env={**os.environ, "PROGRAM": PROGRAM})
+
+
+class Commands(unittest.TestCase):
+    @classmethod
+    def setUpClass(cls):
+        cls.place = survey(budget=20_000_000, capacity=1000)
+        cls.folder = cls.place.folder
+        cls.file = f"{cls.folder}/young"
+        with open(cls.file, "w") as file:
+            file.write(YOUNG)
+
+    @classmethod
+    def tearDownClass(cls):
+        cls.place.__exit__()
+
+    def said(self, name, *words, given=""):
+        ran = tool(name, *words, given=given)
+        self.assertEqual((ran.returncode, ran.stderr), (0, ""))
+        return ran.stdout
+
+    def test_askparts(self):
+        keys = ["north", "south", "east", "west", "capital"]
+        text = self.said("askparts", self.folder, "mia", "labour", "areas", "0.5", self.file).splitlines()
+        self.assertEqual([line.split()[0] for line in text[:-1]], keys)
+        for line in text[:-1]:
+            _, value, low, to, high = line.split()
+            self.assertEqual((int(low), to, int(high)), (int(value) - 6, "to", int(value) + 6))
+        self.assertIn("taken 0.5", text[-1])
+        rows = list(csv.DictReader(io.StringIO(self.said("askparts", self.folder, "mia", "labour", "areas", "0.5", self.file, "--csv"))))
+        self.assertEqual([row["key"] for row in rows], keys)
+        self.assertTrue(all(int(row["high_50"]) - int(row["value"]) == 1 for row in rows))
+        found = json.loads(self.said("askparts", "--json", self.folder, "mia", "labour", "areas", "0.5", self.file))
+        self.assertEqual(list(found["groups"]), keys)
+        self.assertEqual(found["taken"], 500_000)
+        few = self.said("askparts", self.folder, "mia", "labour", "areas", "0.5", "-", "west", "north", "west", given=YOUNG)
+        self.assertEqual([line.split()[0] for line in few.splitlines()[:-1]], ["west", "north"])
+
+    def test_left_and_forecast(self):
+        left = json.loads(self.said("left", self.folder, "health", "--json"))
+        self.assertEqual((left["owner"], left["spent"], left["budget"], left["records"]), ("health", 0, 20_000_000, 0))
+        self.assertEqual(self.said("left", self.folder, "health"), "health: 20 left of 20, 0 spent; 0 records\n")
+        one = json.loads(self.said("forecast", self.folder, "labour", "0.5", self.file, "--json"))
+        self.assertEqual((one["charge"], one["at_most"], one["kinds"][0]["margins"]), (500_000, False, {"50": 1, "95": 6, "99.9": 14}))
+        each = json.loads(self.said("forecast", "--json", self.folder, "labour", "0.5", self.file, "areas"))
+        self.assertEqual((each["charge"], each["at_most"], each["kinds"][0]["asks"]), (500_000, True, 5))
+        sent = self.said("forecast", self.folder, "labour", "0.5", self.file, "--sent")
+        self.assertIn("fn (p : text * num * text * num) =>\n  let (_, p) = p in let (age, p) = p in age <= 30", sent)
+
+    def test_refusals(self):
+        for words, status, said in (
+            (["askparts", self.folder, "mia", "labour", "area", "0.5", self.file], 1, "is `areas` meant?"),
+            (["askparts", self.folder, "mia", "labour", "areas", "1e3", self.file], 1, "EPS"),
+            (["askparts", self.folder, "mia", "labour", "areas", "0.5", "/nowhere"], 1, "/nowhere"),
+            (["left", "/nowhere", "labour"], 1, "no folder"),
+            (["left", self.folder], 2, "usage"),
+            (["forecast", "ssh://there", "labour", "1", self.file], 1, "no server"),
+            (["plot", "histogram", self.file], 1, "tools/plot"),
+        ):
+            ran = tool(*words)
+            self.assertEqual(ran.returncode, status, ran.stderr)
+            self.assertIn(said, ran.stderr)
+            self.assertNotIn("Traceback", ran.stderr)
+        ran = tool("askparts", self.folder, "mia", "labour", "areas", "0.5", "-", given="size (filter (fn (p : row persons) => p.agee <= 30) persons)")
+        self.assertIn("is `age` meant?\nline 1:\n", ran.stderr)
+        self.assertIn("^^^^^^", ran.stderr)
+
+    def test_some_answered(self):
+        """What was answered before a refusal is told."""
+        with survey(budget=20_000_000, capacity=6) as place:
+            ran = tool("askparts", place.folder, "mia", "labour", "areas", "0.5", self.file)
+            self.assertEqual(ran.returncode, 1)
+            self.assertIn("no 41", ran.stderr)
+            self.assertEqual([line.split()[0] for line in ran.stdout.splitlines()[:-1]], ["north", "south", "east"])
+
+    def test_plot(self):
+        asked = self.said("askparts", self.folder, "mia", "labour", "areas", "0.5", self.file, "--json")
+        drawn = ElementTree.fromstring(self.said("plot", "histogram", given=asked).encode())
+        self.assertEqual(len(drawn.findall(f"{SVG}rect")), 1 + 5)
+        text = self.said("plot", "histogram", "--text", "--level", "99.9", given=asked).splitlines()
+        self.assertEqual([line.split()[0] for line in text[1:-1]], ["north", "south", "east", "west", "capital"])
+        self.assertTrue(all("├" in line and "┤" in line for line in text[1:-1]))
+        lefts = "".join(self.said("left", self.folder, "labour", "--json") for _ in range(3))
+        drawn = ElementTree.fromstring(self.said("plot", "budget", given=lefts).encode())
+        self.assertEqual(len(drawn.findall(f"{SVG}path")), 2)
+        self.assertEqual(len(self.said("plot", "budget", "--text", given=lefts).splitlines()), 5)
+
+
+class Register(unittest.TestCase):
+    """A cross table by a joint column, and the client beside a file that tools/public wrote."""
+
+    def test_crosstab(self):
+        with open(f"{REGISTER}/catalog.json") as file:
+            catalog = json.load(file)
+        rows = rows_of(f"{REGISTER}/people.csv")
+        groups = Counter(row[4] for row in rows[1:])
+        with Place(catalog, {"people.csv": rows}) as place:
+            public = f"{place.folder}/public.json"
+            with open(public, "w") as file:
+                file.write(tool("public", "--json", f"{place.folder}/catalog.json").stdout)
+            client = connect(place.folder, "ann", program=PROGRAM, public=public)
+            self.assertEqual(client.forecast("crosstab", "group", eps="0.5").charge, 500_000)
+            table = client.crosstab("group", eps="0.5")
+            self.assertEqual((table.taken, table.left.left), (500_000, 500_000))
+            self.assertEqual((table.rows, len(table.columns)), (["f", "m", "unknown"], 5))
+            for (row, column), answer in table.cells.items():
+                low, high = answer.interval("99.9")
+                self.assertTrue(low <= groups[f"{row}.{column}"] <= high)
+            low, high = table.row_total("f").interval("99.9")
+            self.assertTrue(low <= sum(count for key, count in groups.items() if key.startswith("f.")) <= high)
+            self.assertEqual(len(str(table).splitlines()), 5)
+            self.assertEqual(len(ElementTree.fromstring(table.svg("cells")).findall(f"{SVG}rect")), 1 + 15)
+            nobody = connect(place.folder, None, program=PROGRAM)
+            with self.assertRaises(Refused):
+                nobody.count("people", eps="0.1")
+
+
+class Pictures(unittest.TestCase):
+    """Odd numbers are drawn too: within the picture, and as XML."""
+
+    def test_histograms(self):
+        for bars in (
+            [("a", 0, -6, 6)],
+            [("a", -3, -9, 3), ("<b> & \"c\"", 10**9, 10**9 - 6, 10**9 + 6)],
+            [(f"a long key of group {number}", number, number - 3, number + 3) for number in range(250)],
+        ):
+            drawn = ElementTree.fromstring(pictures.histogram_svg(bars, "of <these>").encode())
+            height = float(drawn.get("height"))
+            for one in drawn.iter(f"{SVG}rect"):
+                self.assertTrue(0 <= float(one.get("y", 0)) and float(one.get("y", 0)) + float(one.get("height")) <= height)
+            for one in drawn.iter(f"{SVG}line"):
+                self.assertTrue(all(0 <= float(one.get(end)) <= height for end in ("y1", "y2")), bars[:2])
+            lines = pictures.histogram_text(bars, "of these", columns=80).splitlines()
+            self.assertTrue(all(len(line) <= 80 for line in lines[1:-1]))
+
+    def test_budgets(self):
+        for points in ([(None, 0, 10**6)], [("2026-01-01T00:00:00Z", 5, 10), ("2026-01-03T00:00:00Z", 10, 10)], [(None, number, 20) for number in range(9)]):
+            ElementTree.fromstring(pictures.budget_svg(points, "a budget").encode())
+            self.assertEqual(len(pictures.budget_text(points, "a budget").splitlines()), len(points) + 2)
+
+    def test_scales(self):
+        for low, high in ((0, 1), (0, 7), (-3, 5), (0, 999), (-10**9, 10**12), (0, 10**18)):
+            first, last, ticks = pictures.scale_of([low, high])
+            self.assertLessEqual(first, low)
+            self.assertGreaterEqual(last, high)
+            self.assertTrue(2 <= len(ticks) <= 9, ticks)
+
+
+if __name__ == "__main__":
+    unittest.main()
