@@ -1,11 +1,11 @@
 -- contents of files and of the source: those that are told, or some
 use Rattle.std.proofs.Common.{◌≡◌, ℕ, List, [], Option, Some, None, refl, subst}
 use Rattle.catalog_loading.specs.Files.{Contents, ReadsToCome, AreTold, always}
-use Rattle.query_server.specs.Due.{ForContents, IsLeft}
+use Rattle.query_server.specs.Due.{ForContents, IsLeftToRead}
 use Rattle.catalog_loading.proofs.Reached.{any_reads}
 
 -- some bytes of a source
-pub any_left : (left : Option (List ℕ)) → (script : List ℕ) × IsLeft left script
+pub any_left : (left : Option (List ℕ)) → (script : List ℕ) × IsLeftToRead left script
 any_left None = ([], tt)
 any_left (Some bytes) = (bytes, refl)
 
@@ -30,5 +30,5 @@ at_held held known left P same (reads, script, told, is, p) =
 pub at_told : (held : Contents) (script : List ℕ) (known : Option Contents) (left : Option (List ℕ)) (P : ReadsToCome → List ℕ → Type 0) → known ≡ Some held → left ≡ Some script → ForContents known left P → P (always held) script
 at_told held script known left P same source (reads, other, told, is, p) =
     let told : AreTold (Some held) reads = subst (λ (h : Option Contents). AreTold h reads) same told in
-    let is : IsLeft (Some script) other = subst (λ (l : Option (List ℕ)). IsLeft l other) source is in
+    let is : IsLeftToRead (Some script) other = subst (λ (l : Option (List ℕ)). IsLeftToRead l other) source is in
     subst (λ (s : List ℕ). P (always held) s) is (subst (λ (rs : ReadsToCome). P rs other) told p)

@@ -8,7 +8,7 @@ use Rattle.catalog_loading.specs.Files.{Contents}
 use Rattle.catalog_loading.specs.Steps.{StepOutcome, FileStep}
 use Rattle.query_server.specs.Shelves.{Shelf}
 use Rattle.query_server.specs.Run.{script_limit}
-use Rattle.query_server.specs.Due.{AreRead, ForContents, IsDue, IsLeft}
+use Rattle.query_server.specs.Due.{AreRead, ForContents, IsDue, IsLeftToRead}
 use Rattle.query_server.specs.Status.{refused_text}
 use Rattle.catalog_loading.specs.Given.{IsStopAt}
 use Rattle.query_server.specs.Ends.{Ended, IsEndOf, IsStepEnd, status_at, stop_status}
@@ -53,7 +53,7 @@ passed_end held left old new shelf steps stop result is passed =
 
 -- What ends the work that the steps gave ends the command.
 pub done_end : (held : Option Contents) (left : Option (List ℕ)) (old new : List (List ℕ)) (before after : Shelf) (steps : FileStep Work) (ending : Work) (script : List ℕ) (end : Ended)
-    → IsDone held old new steps ending → IsLeft left script → IsEndOf ending before after script end → ForContents held left (IsStepEnd old new before after steps end)
+    → IsDone held old new steps ending → IsLeftToRead left script → IsEndOf ending before after script end → ForContents held left (IsStepEnd old new before after steps end)
 done_end held left old new before after steps ending script end is told due =
     let some = any_reads held in
     let one = is some.0 some.1 in (
@@ -86,13 +86,13 @@ took_passed left stop (Ok end) wrong = absurd wrong
 took_passed left stop (Err other) same = took_nothing left other
 
 -- a source that was read to its end held what was read
-pub left_at_end : (before after : Option (List ℕ)) (script : List ℕ) → before ≡ prepend_known script after → IsAtEnd after → IsLeft before script
-left_at_end before None script is end = subst (λ (left : Option (List ℕ)). IsLeft left script) (sym is) tt
-left_at_end before (Some rest) script is end = subst (λ (left : Option (List ℕ)). IsLeft left script) (sym is) (sym (ap (λ xs. script ++ xs) end ∙ append-nil script))
+pub left_at_end : (before after : Option (List ℕ)) (script : List ℕ) → before ≡ prepend_known script after → IsAtEnd after → IsLeftToRead before script
+left_at_end before None script is end = subst (λ (left : Option (List ℕ)). IsLeftToRead left script) (sym is) tt
+left_at_end before (Some rest) script is end = subst (λ (left : Option (List ℕ)). IsLeftToRead left script) (sym is) (sym (ap (λ xs. script ++ xs) end ∙ append-nil script))
 
 -- a source of which too much was read held too much
 pub left_too_long : (before after : Option (List ℕ)) (taken : List ℕ) → before ≡ prepend_known taken after → script_limit < length taken
-    → (script : List ℕ) × IsLeft before script × (script_limit < length script)
-left_too_long before None taken is long = (taken, subst (λ (left : Option (List ℕ)). IsLeft left taken) (sym is) tt, long)
+    → (script : List ℕ) × IsLeftToRead before script × (script_limit < length script)
+left_too_long before None taken is long = (taken, subst (λ (left : Option (List ℕ)). IsLeftToRead left taken) (sym is) tt, long)
 left_too_long before (Some rest) taken is long =
-    (taken ++ rest, subst (λ (left : Option (List ℕ)). IsLeft left (taken ++ rest)) (sym is) refl, omega (arith, long, length-append taken rest))
+    (taken ++ rest, subst (λ (left : Option (List ℕ)). IsLeftToRead left (taken ++ rest)) (sym is) refl, omega (arith, long, length-append taken rest))

@@ -10,7 +10,7 @@ use Rattle.catalog_loading.specs.Files.{ReadsToCome}
 use Rattle.catalog_loading.specs.Loaded.{Loading, header_of, entry_at, owners_in}
 use Rattle.query_server.specs.Work.{Work, usage, refused, to_answer, to_make, to_count, to_check, to_compare}
 use Rattle.query_server.specs.Shelves.{Shelf, bytes_on}
-use Rattle.query_server.specs.Outside.{NothingFailed, Outside}
+use Rattle.query_server.specs.Outside.{NoCallFailed, Outside}
 use Rattle.query_server.specs.Opened.{IsOpened, IsRefusedAt, IsUnopened}
 use Rattle.query_server.specs.Due.{AreRead, IfFinished, IsDue, IsWrittenAt, SomeFailed, files_of, work_of}
 use Rattle.query_server.specs.Valid.{AreEmpty, EndsWell, HoldJournals, IsValidFor, MayEndWell}
@@ -79,7 +79,7 @@ no_disk_cause bay disk (inl rose) = bay rose
 no_disk_cause bay disk (inr rose) = disk rose
 
 -- the same of what is seen of the outside
-none_failed : (command : Option Command) (before after : Outside) → NothingFailed before after → SomeFailed command before after → ⊥
+none_failed : (command : Option Command) (before after : Outside) → NoCallFailed before after → SomeFailed command before after → ⊥
 none_failed command before after (files, source, sink, disks) (inl (some, rose)) = files rose
 none_failed command before after (files, source, sink, disks) (inr (inl (takes, rose))) = source rose
 none_failed command before after (files, source, sink, disks) (inr (inr rose)) = sink rose

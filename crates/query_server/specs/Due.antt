@@ -116,12 +116,12 @@ pub record AreRead (status : Status) (files old new : List (List ℕ)) : Type 0 
   pub all : IfFinished status (names ≡ files)
 
 -- the source has these bytes, where it tells them
-abbrev pub IsLeft : (left : Option (List ℕ)) → (script : List ℕ) → Type 0
-IsLeft left script = IfSome left (λ told. script ≡ told)
+abbrev pub IsLeftToRead : (left : Option (List ℕ)) → (script : List ℕ) → Type 0
+IsLeftToRead left script = IfSome left (λ told. script ≡ told)
 
 -- It comes so at some contents of the files, at each read, and of the source: those that are told, where they are.
 abbrev pub ForContents : (held : Option Contents) → (left : Option (List ℕ)) → (Comes : ReadsToCome → (script : List ℕ) → Type 0) → Type 0
-ForContents held left Comes = (reads : ReadsToCome) × (script : List ℕ) × AreTold held reads × IsLeft left script × Comes reads script
+ForContents held left Comes = (reads : ReadsToCome) × (script : List ℕ) × AreTold held reads × IsLeftToRead left script × Comes reads script
 
 -- What the top call says of what it writes and reads: its clause `line`, of this text.
 abbrev pub IsLine : (words : List (List ℕ)) → (before after : Outside) → (status : Status) → (text : List ℕ) → Type 0

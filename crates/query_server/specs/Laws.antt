@@ -26,7 +26,7 @@ use Rattle.catalog_loading.specs.Files.{Contents, ReadsToCome, always}
 use Rattle.catalog_loading.specs.Loaded.{IsLoading, Loading, owners_in}
 use Rattle.query_server.specs.Work.{Work, refused, to_answer, to_check, to_compare, to_count, to_make}
 use Rattle.query_server.specs.Shelves.{EachDisk, IsOnlySynced, Shelf}
-use Rattle.query_server.specs.Outside.{DisksFailed, NothingFailed, Outside, Stays}
+use Rattle.query_server.specs.Outside.{DisksFailed, NoCallFailed, Outside, Stays}
 use Rattle.query_server.specs.Run.{IsScriptAnswered, crew_size}
 use Rattle.query_server.specs.Check.{status_by}
 use Rattle.query_server.specs.Status.{refused_text}
@@ -125,7 +125,7 @@ AuditsKeepWhatWasFound = (words : List (List ℕ)) (reads : ReadsToCome) (old ne
 abbrev pub ValidCommandsEndWell : Type 0
 ValidCommandsEndWell = (words : List (List ℕ)) (before after : Outside) (status : Status) (text : List ℕ) → IsLine words before after status text
     → (status ≡ Fault → SomeFailed (command_of words) before after) → (status ≡ DiskFailed → DisksFailed before.bay after.bay)
-    → NothingFailed before after
+    → NoCallFailed before after
     → ForContents before.files.held before.source.left
     (λ reads script. IsWrittenAt (work_of words reads) before.bay.shelf after.bay.shelf script status text
     × AreRead status (files_of words reads) before.files.names after.files.names

@@ -64,8 +64,8 @@ abbrev pub DisksFailed : (before after : BaySeen) → Type 0
 DisksFailed before after = HasRisen before.faults after.faults ⊎ SomeRose before.shelf after.shelf
 
 -- No call failed: no count of faults rose, of files, source, sink, the bay or an owner's disk.
-abbrev pub NothingFailed : (before after : Outside) → Type 0
-NothingFailed before after =
+abbrev pub NoCallFailed : (before after : Outside) → Type 0
+NoCallFailed before after =
     (HasRisen before.files.faults after.files.faults → ⊥) × (HasRisen before.source.faults after.source.faults → ⊥)
     × (HasRisen before.sink.faults after.sink.faults → ⊥) × (DisksFailed before.bay after.bay → ⊥)
 

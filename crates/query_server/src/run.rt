@@ -9,7 +9,7 @@ ghost use Rattle.session_core.specs.Code.{ArePasses};
 ghost use Rattle.query_server.specs.Work.{to_answer};
 ghost use Rattle.query_server.specs.Run.{run_steps};
 ghost use Rattle.query_server.specs.Shelves.{AreAtHome};
-ghost use Rattle.query_server.specs.Due.{ForContents, IsLeft};
+ghost use Rattle.query_server.specs.Due.{ForContents, IsLeftToRead};
 ghost use Rattle.query_server.specs.Ends.{IsScriptEnd, IsEndOf, IsStepEnd, status_at};
 ghost use Rattle.query_server.specs.Taken.{IsTaken};
 
@@ -39,7 +39,7 @@ fn answer_over<D: Disk, S: Source>(
     source: &mut S,
 ) -> Result<End, Stop>
     requires passes { ArePasses (house_of house.now) passes.old }
-    ensures end { (script : List ℕ) × IsLeft (S.left source.old) script
+    ensures end { (script : List ℕ) × IsLeftToRead (S.left source.old) script
         × IsScriptEnd (house_of house.now) (draws_of key) script passes.old passes.new result }
     ensures taken { IsTaken (S.left source.old) (S.left source.new) (status_at result) }
     ensures cause { HasCause (S.faults source.old) (S.faults source.new) (IsErrOf result Stop.Fault) }
@@ -62,7 +62,7 @@ fn answer<B: Bay, S: Source>(
     source: &mut S,
 ) -> Result<End, Stop>
     requires home { AreAtHome (B.owners bay.old) (B.shelf bay.old) }
-    ensures end { (workers : ℕ) → (script : List ℕ) × IsLeft (S.left source.old) script
+    ensures end { (workers : ℕ) → (script : List ℕ) × IsLeftToRead (S.left source.old) script
         × IsEndOf (to_answer workers opened.now.loading opened.now.key) (B.shelf bay.old) (B.shelf bay.new) script result }
     ensures taken { IsTaken (S.left source.old) (S.left source.new) (status_at result) }
     ensures bay { KeepsBay B.shelf B.owners B.faults bay.old bay.new }

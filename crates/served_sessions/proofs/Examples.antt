@@ -41,7 +41,7 @@ use Rattle.session_serve.specs.declared.serve.SessionEnd.TheVariants.{Bye, Write
 use Rattle.successive_runs.specs.Life.{Run, IsRun, AreRuns}
 use Rattle.served_sessions.specs.Sittings.{Sitting, FollowOn, all_exchanges, is_sent, whole_count}
 use Rattle.served_sessions.specs.Kept.{AreHeld, IsKept, IsShift, AreShifts}
-use Rattle.served_sessions.specs.Runs.{IsStopped, AreStopped, MayAllFollow, run_of, IsServiceRun, AreServiceRuns}
+use Rattle.served_sessions.specs.Runs.{IsStoppedBehind, AreStopped, MayAllFollow, run_of, IsServiceRun, AreServiceRuns}
 use Rattle.served_sessions.proofs.Runs.{ended_run, stopped_run, crew_run}
 
 -- who speaks is one of the house's two analysts, or nobody yet
@@ -251,7 +251,7 @@ reserved = granted_record an_ask a_grant ∷ []
 abbrev first_sent : (place : ℕ) → Bool
 first_sent place = nat_lt place 1
 
-stop_behind_greeting : (draws : ℕ → ℕ → ℕ → ℕ) → IsStopped house 0 [] (all_exchanges house draws (both draws)) (made (outcome_at draws)) None 1 reserved
+stop_behind_greeting : (draws : ℕ → ℕ → ℕ → ℕ) → IsStoppedBehind house 0 [] (all_exchanges house draws (both draws)) (made (outcome_at draws)) None 1 reserved
 unfolding meant_by request_of first_session last_session
 stop_behind_greeting draws = record { upto = (reserved, refl); leaves = inl ((reserved, refl), (settling 0 (outcome_at draws) ∷ [], refl)) }
 
@@ -261,7 +261,7 @@ stopped_early draws =
     (λ place is. ltb-true place 1 is) (stop_behind_greeting draws)
 
 -- behind the answer a stop leaves its settlement, too
-not_unsettled : (draws : ℕ → ℕ → ℕ → ℕ) → IsStopped house 0 [] (all_exchanges house draws (both draws)) (made (outcome_at draws)) None 2 reserved → ⊥
+not_unsettled : (draws : ℕ → ℕ → ℕ → ℕ) → IsStoppedBehind house 0 [] (all_exchanges house draws (both draws)) (made (outcome_at draws)) None 2 reserved → ⊥
 unfolding meant_by request_of first_session last_session
 not_unsettled draws stop = let more = stop.upto in cc (more.1)
 

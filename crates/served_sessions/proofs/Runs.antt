@@ -38,7 +38,7 @@ use Rattle.successive_runs.proofs.Files.{moment_stands}
 use Rattle.successive_runs.proofs.Fronts.{prefix_front}
 use Rattle.served_sessions.specs.Sittings.{Sitting, all_exchanges, is_sent}
 use Rattle.served_sessions.specs.Kept.{AreHeld, AreShifts}
-use Rattle.served_sessions.specs.Runs.{MayAllFollow, records_upto, IsStopped, AreStopped, run_of, IsServiceRun, AreServiceRuns}
+use Rattle.served_sessions.specs.Runs.{MayAllFollow, records_upto, IsStoppedBehind, AreStopped, run_of, IsServiceRun, AreServiceRuns}
 use Rattle.served_sessions.proofs.Lists.{prefix_map, prefix_behind}
 use Rattle.served_sessions.proofs.Splits.{lead_split}
 use Rattle.served_sessions.proofs.Written.{sent_within}
@@ -83,7 +83,7 @@ module _ (house : House) (draws : ℕ → ℕ → ℕ → ℕ) (o : ℕ) (found 
       place x asked demand (slice_take xs n place x lt at) meant
 
   -- Records up to there, with some of those that are told next, are such a stop's.
-  pub stopped_at : (closed : Option Failure) (n m : ℕ) → length (told_of house o (take n xs)) ≤ m → IsStopped house o found xs records closed n (found ++ records_told (take m (told_of house o xs)))
+  pub stopped_at : (closed : Option Failure) (n m : ℕ) → length (told_of house o (take n xs)) ≤ m → IsStoppedBehind house o found xs records closed n (found ++ records_told (take m (told_of house o xs)))
   stopped_at closed n m le =
       let told : List Told = told_of house o (take n xs) in
       let on : IsPrefix told (told_of house o xs) = (told_of house o (drop n xs), sym (told_parts n)) in
@@ -102,23 +102,23 @@ module _ (house : House) (draws : ℕ → ℕ → ℕ → ℕ) (o : ℕ) (found 
       (prefix_map (λ (z : Told). z.1) (told_of house o (take n xs)) (told_of house o xs) (told_of house o (drop n xs), sym (told_parts n))))
 
   -- A record whose append failed may stand behind all of them.
-  pub stopped_pending : (closed : Option Failure) (n : ℕ) (failure : Failure) → closed ≡ Some failure → IsStopped house o found xs records closed n (records ++ failure.pending ∷ [])
+  pub stopped_pending : (closed : Option Failure) (n : ℕ) (failure : Failure) → closed ≡ Some failure → IsStoppedBehind house o found xs records closed n (records ++ failure.pending ∷ [])
   stopped_pending closed n failure is = record {
     upto = prefix_trans (upto n) records (records ++ failure.pending ∷ []) (upto_stands n) (prefix_by records (failure.pending ∷ []));
     leaves = inr (failure, is, refl);
   }
 
   -- A file that has gone on since then stands for what such a stop leaves.
-  pub file_stands : (header : Header) (closed : Option Failure) (n : ℕ) (bytes : List ℕ) → IsMoment header (upto n) records closed bytes → (left : List Record) × Stands header left bytes × IsStopped house o found xs records closed n left
+  pub file_stands : (header : Header) (closed : Option Failure) (n : ℕ) (bytes : List ℕ) → IsMoment header (upto n) records closed bytes → (left : List Record) × Stands header left bytes × IsStoppedBehind house o found xs records closed n left
   file_stands header closed n bytes moment =
       let m = moment_stands header (upto n) records closed bytes moment in
       (m.0, m.1, stopped_so m.0 m.2)
     where
-      stopped_so : (left : List Record) → IsLeft (upto n) records closed left → IsStopped house o found xs records closed n left
+      stopped_so : (left : List Record) → IsLeft (upto n) records closed left → IsStoppedBehind house o found xs records closed n left
       stopped_so left (inl (begins, ends)) =
           record { upto = begins; leaves = inl (prefix_trans found (upto n) left (prefix_by found (records_told (told_of house o (take n xs)))) begins, ends) }
       stopped_so left (inr (failure, is, left_is)) =
-          subst (λ (rs : List Record). IsStopped house o found xs records closed n rs) (sym left_is) (stopped_pending closed n failure is)
+          subst (λ (rs : List Record). IsStoppedBehind house o found xs records closed n rs) (sym left_is) (stopped_pending closed n failure is)
 
 module _ (house : House) (draws : ℕ → ℕ → ℕ → ℕ) (sittings : List (Sitting house draws)) (before after : List Pass) (records : Journals) (closed : ℕ → Option Failure)
     (held : AreHeld house draws sittings before after records closed) (may : MayAllFollow house records closed)
@@ -132,7 +132,7 @@ module _ (house : House) (draws : ℕ → ℕ → ℕ → ℕ) (sittings : List 
   both : AreGathered house draws 1 one_worker o begun exchanges (records o) × AreShut house draws 1 one_worker o exchanges (closed o)
   both = row_gathered house draws sittings before after records closed held o owner here
 
-  pub stopped_run : (n : ℕ) (sent : ℕ → Bool) (left : List Record) → ((place : ℕ) → sent place ≡ true → place < n) → IsStopped house o begun exchanges (records o) (closed o) n left
+  pub stopped_run : (n : ℕ) (sent : ℕ → Bool) (left : List Record) → ((place : ℕ) → sent place ≡ true → place < n) → IsStoppedBehind house o begun exchanges (records o) (closed o) n left
       → IsRun house draws o owner begun (run_of house draws sittings (records o) (closed o) sent left)
   stopped_run n sent left early stop = record {
     speakers = row_speaker house draws o begun sittings;
@@ -202,7 +202,7 @@ service_run house draws o owner here found run r =
     let xs : List Exchange = all_exchanges house draws r.sittings in
     let is_run : IsRun house draws o owner (found_by r.before o) (run_of house draws r.sittings (r.records o) (r.closed o) run.sent run.left)
     = stopped_run house draws r.sittings r.before r.after r.records r.closed r.held r.may o owner here r.n run.sent run.left r.early
-    (subst (λ (rs : List Record). IsStopped house o rs xs (r.records o) (r.closed o) r.n run.left) (sym r.begins) r.stop) in
+    (subst (λ (rs : List Record). IsStoppedBehind house o rs xs (r.records o) (r.closed o) r.n run.left) (sym r.begins) r.stop) in
     subst (λ (rs : List Record). IsRun house draws o owner rs run) r.begins (subst (λ (v : Run). IsRun house draws o owner (found_by r.before o) v) (sym r.is) is_run)
 
 pub service_runs : (house : House) (draws : ℕ → ℕ → ℕ → ℕ) (o : ℕ) (owner : Owner) → slice_get house.owners o ≡ Some owner → (runs : List Run) (found last : List Record) → AreServiceRuns house draws o found runs last

@@ -28,7 +28,7 @@ records_upto house o found xs n = found ++ records_told (told_of house o (take n
 
 -- A stop behind so many of the exchanges leaves the records up to there, and perhaps some that the next ones would have added: it is
 -- told as the run would have gone on.
-pub record IsStopped (house : House) (o : ℕ) (found : List Record) (xs : List Exchange) (records : List Record) (closed : Option Failure)
+pub record IsStoppedBehind (house : House) (o : ℕ) (found : List Record) (xs : List Exchange) (records : List Record) (closed : Option Failure)
     (n : ℕ) (left : List Record) : Type 0 where
   pub upto : IsPrefix (records_upto house o found xs n) left
   pub leaves : IsLeft found records closed left
@@ -72,7 +72,7 @@ module _ (house : House) (draws : ℕ → ℕ → ℕ → ℕ) where
     pub begins : found_by before o ≡ found
     pub n : ℕ
     pub early : (place : ℕ) → run.sent place ≡ true → place < n
-    pub stop : IsStopped house o found (all_exchanges house draws sittings) (records o) (closed o) n run.left
+    pub stop : IsStoppedBehind house o found (all_exchanges house draws sittings) (records o) (closed o) n run.left
     pub is : run ≡ run_of sittings (records o) (closed o) run.sent run.left
 
   -- One such run after another, each on what the one before it left.

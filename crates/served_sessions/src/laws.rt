@@ -23,7 +23,7 @@ ghost use Rattle.successive_runs.specs.Kept.{KeepThePromise};
 ghost use Rattle.successive_runs.specs.Life.{Run, IsRun};
 ghost use Rattle.served_sessions.specs.Sittings.{Sitting, FollowOn, IsWritten, IsWrittenOut, all_exchanges, all_turns, exchanges_in, is_sent, is_whole};
 ghost use Rattle.served_sessions.specs.Kept.{AreHeld, AreShifts, IsKept, KeepThePromises};
-ghost use Rattle.served_sessions.specs.Runs.{AreServiceRuns, AreStopped, IsStopped, MayAllFollow, records_upto, run_of};
+ghost use Rattle.served_sessions.specs.Runs.{AreServiceRuns, AreStopped, IsStoppedBehind, MayAllFollow, records_upto, run_of};
 
 /// Sessions one after another, from whatever passes: their lines were served as one list, with the turns of all sessions in order, whose
 /// speakers the house knows.
@@ -88,14 +88,14 @@ pub fn sessions_are_owed()
 pub fn stops_leave_what_was_told()
     ensures next { (house : House) (draws : ℕ → ℕ → ℕ → ℕ) (o : ℕ) (found : List Record) (xs : List Exchange) (records : List Record) →
         AreGathered house draws 1 one_worker o found xs records → (closed : Option Failure) (n m : ℕ) → length (told_of house o (take n xs)) ≤ m →
-        IsStopped house o found xs records closed n (found ++ records_told (take m (told_of house o xs))) }
+        IsStoppedBehind house o found xs records closed n (found ++ records_told (take m (told_of house o xs))) }
     ensures pending { (house : House) (draws : ℕ → ℕ → ℕ → ℕ) (o : ℕ) (found : List Record) (xs : List Exchange) (records : List Record) →
         AreGathered house draws 1 one_worker o found xs records → (closed : Option Failure) (n : ℕ) (failure : Failure) → closed ≡ Some failure →
-        IsStopped house o found xs records closed n (records ++ failure.pending ∷ []) }
+        IsStoppedBehind house o found xs records closed n (records ++ failure.pending ∷ []) }
     ensures files { (house : House) (draws : ℕ → ℕ → ℕ → ℕ) (o : ℕ) (found : List Record) (xs : List Exchange) (records : List Record) →
         AreGathered house draws 1 one_worker o found xs records → (header : Header) (closed : Option Failure) (n : ℕ) (bytes : List ℕ) →
         IsMoment header (records_upto house o found xs n) records closed bytes →
-        (left : List Record) × Stands header left bytes × IsStopped house o found xs records closed n left }
+        (left : List Record) × Stands header left bytes × IsStoppedBehind house o found xs records closed n left }
 {}
 
 /// Sessions one after another are a run: at their end, with just those replies sent that were written to their end and all records left;
@@ -112,7 +112,7 @@ pub fn sessions_are_runs()
         (closed : ℕ → Option Failure) → AreHeld house draws sittings before after records closed → MayAllFollow house records closed →
         (o : ℕ) (owner : Owner) → slice_get house.owners o ≡ Some owner → (n : ℕ) (sent : ℕ → Bool) (left : List Record) →
         ((place : ℕ) → sent place ≡ true → place < n) →
-        IsStopped house o (found_by before o) (all_exchanges house draws sittings) (records o) (closed o) n left →
+        IsStoppedBehind house o (found_by before o) (all_exchanges house draws sittings) (records o) (closed o) n left →
         IsRun house draws o owner (found_by before o) (run_of house draws sittings (records o) (closed o) sent left) }
     ensures several { (house : House) (draws : ℕ → ℕ → ℕ → ℕ) (o : ℕ) (owner : Owner) (found : List Record) →
         (sittings : ℕ → List (Sitting house draws)) (run : Run) → AreGathered house draws run.count run.crew o found run.exchanges run.records →
