@@ -6,6 +6,8 @@ mod books;
 #[cfg(test)]
 mod charges;
 #[cfg(test)]
+mod growth;
+#[cfg(test)]
 mod journals;
 #[cfg(test)]
 mod ledgers;

@@ -1,0 +1,267 @@
+//! A journal that grows: its sizes, its refusals, and a fault or a stop at each kind of disk call of a growth.
+
+ghost use Rattle.std.specs.Prelude.{◌≡◌};
+ghost use Rattle.journal_records.specs.Encoding.{IsHeader, IsValid};
+
+use budget_journal::journal::{DiskFault, Journal};
+use budget_journal::making::InitFault;
+use budget_journal::opening::OpenFault;
+use growing_journal::journal::GrowingJournal;
+use journal_records::records::{Header, Outcome, Record, Settlement};
+use outside_disks::disk::Disk;
+use outside_disks::failing::{BlipDisk, FuseDisk};
+use outside_disks::memory::{Limits, MemDisk};
+use std::alloc::Global;
+
+const LIMITS: Limits = Limits {
+    length: 16_384,
+    calls: 65_536,
+    written: 65_536,
+};
+
+fn header_of(digest: u8) -> Header
+    ensures valid { IsHeader result }
+    ensures capacity { result.capacity ≡ 100 }
+{
+    Header {
+        owner: 0,
+        budget: 10_000_000,
+        capacity: 100,
+        digest: [digest; 32],
+    }
+}
+
+fn settlement(number: u32) -> Record
+    ensures { IsValid result }
+{
+    Record::Settle(Settlement {
+        number,
+        outcome: Outcome::Exhausted,
+    })
+}
+
+/// What an opening answers: how many records, or why none.
+fn opened<D: Disk + Drop>(alloc: Global, disk: D, header: &Header) -> Result<usize, OpenFault> {
+    match GrowingJournal::open(alloc, disk, header) {
+        Ok((_journal, records)) => Ok(records.len()),
+        Err((_disk, fault)) => Err(fault),
+    }
+}
+
+/// Opens the journal and appends a settlement.
+fn append_one<D: Disk>(alloc: Global, disk: D, number: u32) -> (D, Result<(), DiskFault>) {
+    match GrowingJournal::open(alloc, disk, &header_of(1)) {
+        Ok((mut journal, records)) => {
+            let answer = if records.len() < 100 {
+                journal.append(&settlement(number))
+            } else {
+                Err(DiskFault)
+            };
+            (journal.into_disk(), answer)
+        }
+        Err((disk, _)) => (disk, Err(DiskFault)),
+    }
+}
+
+/// A disk with a journal of so many records.
+fn with_records(alloc: Global, count: u32) -> Option<MemDisk<'static>> {
+    let mut disk = MemDisk::new(alloc, &[], LIMITS, &[]).ok()?;
+    GrowingJournal::init(&mut disk, &header_of(1)).ok()?;
+    for number in 0..count {
+        let (next, answer) = append_one(alloc, disk, number);
+        answer.ok()?;
+        disk = next;
+    }
+    Some(disk)
+}
+
+/// What is on the disk of a journal of so many records.
+fn bytes_with(alloc: Global, count: u32) -> Option<Vec<u8>> {
+    with_records(alloc, count)?.bytes().to_vec(alloc).ok()
+}
+
+/// A disk with these bytes, some of them changed.
+fn changed(alloc: Global, bytes: &[u8], changes: &[(usize, u8)]) -> Option<MemDisk<'static>> {
+    let mut changed = bytes.to_vec(alloc).ok()?;
+    for (place, byte) in changes {
+        if let Some(old) = changed.get_mut(*place) {
+            *old = *byte;
+        }
+    }
+    MemDisk::new(alloc, &changed, LIMITS, &[]).ok()
+}
+
+// How many records, how long the file is, the gate of area 1, and a place with the gate of the last record.
+const SIZES: [(u32, usize, u8, usize); 4] = [
+    (1, 4224, 0, 128),
+    (64, 4224, 0, 4160),
+    (65, 10_624, 0xA5, 8320),
+    (66, 10_624, 0xA5, 8384),
+];
+
+#[test]
+fn sizes(rt: HostRuntime) {
+    let alloc = rt.alloc();
+    for (count, length, gate, place) in &SIZES {
+        let bytes = bytes_with(alloc, *count).expect(&rt, "a journal");
+        assert!(rt; bytes.len() == *length);
+        assert!(rt; bytes.get(97) == Some(gate));
+        assert!(rt; bytes.get(*place) == Some(&0xA5));
+        let disk = changed(alloc, &bytes, &[]).expect(&rt, "a disk");
+        assert!(rt; opened(alloc, disk, &header_of(1)) == Ok(*count as usize));
+    }
+}
+
+// Changed bytes of a journal with 65 records: none; a gate that is torn, one that is no gate's byte, and a slot of area 0, which isn't live; with
+// area 0 live, bytes behind it; the last record's gate; a slot open behind a closed one.
+#[rattlefmt::skip]
+const BYTES: [(&[(usize, u8)], Result<usize, OpenFault>); 6] = [
+    (&[], Ok(65)),
+    (&[(97, 0x25)], Ok(64)),
+    (&[(127, 7), (128, 0), (192, 7)], Ok(65)),
+    (&[(97, 0), (4224, 7), (4300, 9)], Ok(64)),
+    (&[(8320, 0)], Ok(64)),
+    (&[(8448, 0xA5)], Err(OpenFault::Damaged { slot: 66 })),
+];
+
+#[test]
+fn bytes(rt: HostRuntime) {
+    let alloc = rt.alloc();
+    let bytes = bytes_with(alloc, 65).expect(&rt, "a journal");
+    for (changes, want) in &BYTES {
+        let disk = changed(alloc, &bytes, changes).expect(&rt, "a disk");
+        assert!(rt; opened(alloc, disk, &header_of(1)) == *want);
+    }
+}
+
+// Another version; byte 96; a gate behind one that isn't, and for no area.
+#[rattlefmt::skip]
+const HEADERS: [&[(usize, u8)]; 4] = [&[(9, 1)], &[(96, 1)], &[(97, 0), (98, 0xA5)], &[(98, 0xA5)]];
+
+#[test]
+fn headers(rt: HostRuntime) {
+    let alloc = rt.alloc();
+    let bytes = bytes_with(alloc, 65).expect(&rt, "a journal");
+    for changes in &HEADERS {
+        let disk = changed(alloc, &bytes, changes).expect(&rt, "a disk");
+        assert!(rt;
+            matches!(
+                opened(alloc, disk, &header_of(1)),
+                Err(OpenFault::Changed { .. })
+            )
+        );
+    }
+    let disk = changed(alloc, &bytes, &[]).expect(&rt, "a disk");
+    assert!(rt;
+        matches!(
+            opened(alloc, disk, &header_of(2)),
+            Err(OpenFault::Changed { .. })
+        )
+    );
+}
+
+// So many bytes of a journal with 65 records: all but the last, fewer than the live area begins with, less than a header, none.
+#[rattlefmt::skip]
+const LENGTHS: [(usize, OpenFault); 4] = [
+    (10_623, OpenFault::Damaged { slot: 99 }),
+    (4000, OpenFault::Damaged { slot: 0 }),
+    (127, OpenFault::NotInitialised { length: 127 }),
+    (0, OpenFault::NotInitialised { length: 0 }),
+];
+
+/// A disk with the first of these bytes.
+fn cut(alloc: Global, bytes: &[u8], length: usize) -> Option<MemDisk<'static>> {
+    let mut first = bytes.to_vec(alloc).ok()?;
+    first.truncate(length);
+    MemDisk::new(alloc, &first, LIMITS, &[]).ok()
+}
+
+#[test]
+fn lengths(rt: HostRuntime) {
+    let alloc = rt.alloc();
+    let bytes = bytes_with(alloc, 65).expect(&rt, "a journal");
+    for (length, fault) in &LENGTHS {
+        let disk = cut(alloc, &bytes, *length).expect(&rt, "a disk");
+        assert!(rt; opened(alloc, disk, &header_of(1)) == Err(*fault));
+    }
+}
+
+// A journal of version 1 isn't taken for one, nor is one made twice.
+#[test]
+fn others(rt: HostRuntime) {
+    let alloc = rt.alloc();
+    let mut fixed = MemDisk::new(alloc, &[], LIMITS, &[])
+        .ok()
+        .expect(&rt, "a disk");
+    assert!(rt; Journal::init(&mut fixed, &header_of(1)) == Ok(()));
+    assert!(rt;
+        matches!(
+            opened(alloc, fixed, &header_of(1)),
+            Err(OpenFault::Changed { .. })
+        )
+    );
+    let mut disk = with_records(alloc, 0).expect(&rt, "a journal");
+    let again = GrowingJournal::init(&mut disk, &header_of(1));
+    assert!(rt; again == Err(InitFault::AlreadyThere { length: 4224 }));
+}
+
+// A call, and how many records an opening finds after a fault there. Opening has 67 calls, copying 164: a copy's read and write, and a
+// write of zeros; then a sync, area 1's gate and a sync, and the four calls of the record.
+const LEFT: [(u64, usize); 9] = [
+    (67, 64),
+    (68, 64),
+    (230, 64),
+    (231, 64),
+    (232, 64),
+    (233, 64),
+    (234, 64),
+    (236, 64),
+    (237, 65),
+];
+
+/// How many records are found after a fault at this call of an append, which is refused.
+fn left_at(alloc: Global, call: u64) -> Option<Result<usize, OpenFault>> {
+    let (blip, answer) = append_one(alloc, BlipDisk::new(with_records(alloc, 64)?, call), 64);
+    if answer == Err(DiskFault) {
+        Some(opened(alloc, blip.into_inner(), &header_of(1)))
+    } else {
+        None
+    }
+}
+
+#[test]
+fn a_fault_at_each_call(rt: HostRuntime) {
+    for (call, left) in &LEFT {
+        assert!(rt; left_at(rt.alloc(), *call) == Some(Ok(*left)));
+    }
+}
+
+// A stop behind area 1's sync and before its gate: 64 records, area 0 live. The next append writes the area once more.
+#[test]
+fn a_stop_before_the_gate(rt: HostRuntime) {
+    let alloc = rt.alloc();
+    let disk = with_records(alloc, 64).expect(&rt, "a journal");
+    let (fuse, answer) = append_one(alloc, FuseDisk::new(disk, 232), 64);
+    assert!(rt; answer == Err(DiskFault));
+    let stopped = fuse.into_inner();
+    assert!(rt; stopped.bytes().len() == 10_624);
+    assert!(rt; stopped.bytes().get(97) == Some(&0));
+    let (grown, again) = append_one(alloc, stopped, 64);
+    assert!(rt; again == Ok(()));
+    assert!(rt; grown.bytes().get(97) == Some(&0xA5));
+    assert!(rt; opened(alloc, grown, &header_of(1)) == Ok(65));
+}
+
+// All of them, and its version.
+#[test]
+fn a_full_journal(rt: HostRuntime) {
+    let alloc = rt.alloc();
+    let disk = with_records(alloc, 100).expect(&rt, "a journal");
+    assert!(rt; disk.bytes().len() == 10_624);
+    let (journal, records) = GrowingJournal::open(alloc, disk, &header_of(1))
+        .ok()
+        .expect(&rt, "a journal");
+    assert!(rt; records.len() == 100);
+    assert!(rt; journal.version() == 2);
+    assert!(rt; journal.fault_count() == 0);
+}
