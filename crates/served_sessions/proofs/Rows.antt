@@ -87,8 +87,7 @@ module _ (house : House) (draws : ℕ → ℕ → ℕ → ℕ) where
         let begins_here : IsPrefix found (pass_at s.before o).seen = subst (λ (p : List Pass). IsPrefix found (pass_at p o).seen) (sym at) begins in
         let on : IsPrefix (pass_at s.before o).seen (pass_at s.after o).seen = seen_grows s opened_here in
         let opened_next : (pass_at s.after o).opened.ledger.found ≡ found = ap (λ (a : Account). a.ledger.found) (goes s).opened ∙ opened_here in
-        let rest = row_kept sittings s.after after row opened_next (prefix_trans found (pass_at s.before o).seen (pass_at s.after o).seen begins_here on) ends split.1 in
-        (
+        let rest = row_kept sittings s.after after row opened_next (prefix_trans found (pass_at s.before o).seen (pass_at s.after o).seen begins_here on) ends split.1 in (
           (one_kept s opened_here begins_here rest.1 split.0, rest.0),
           subst (λ (p : List Pass). IsPrefix (pass_at p o).seen records) at (prefix_trans (pass_at s.before o).seen (pass_at s.after o).seen records on rest.1),
         )

@@ -69,7 +69,7 @@ module _ (house : House) (draws : ℕ → ℕ → ℕ → ℕ) (o : ℕ) (found 
   front : (n : ℕ) → LeadExactly house draws o start found (take n xs) (upto n)
   front n =
       let s = lead_split house o (MeetsExactly (draws o) start) found (take n xs) (drop n xs) records
-          (subst (λ (ys : List Exchange). LeadExactly house draws o start found ys records) (sym (take-append-drop n xs)) leads) in
+      (subst (λ (ys : List Exchange). LeadExactly house draws o start found ys records) (sym (take-append-drop n xs)) leads) in
       subst (λ (rs : List Record). LeadExactly house draws o start found (take n xs) rs) (sym (told_leads (take n xs) s.0 s.1)) s.1
 
   pub upto_all : upto (length xs) ≡ records
