@@ -1,0 +1,5 @@
+mod Examples
+pub mod Keeps
+mod Laws
+pub mod Lists
+pub mod Logs

@@ -1,0 +1,5 @@
+pub mod Calls
+mod Examples
+pub mod Lists
+pub mod Settles
+pub mod Steps

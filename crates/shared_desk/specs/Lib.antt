@@ -1,0 +1,4 @@
+pub mod Noted
+pub mod Watched
+pub mod Lawful
+pub mod Shared
