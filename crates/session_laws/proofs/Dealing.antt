@@ -91,6 +91,9 @@ abbrev blocks_from : {X : Type 0} → (parts : ℕ → List X) → (k m : ℕ) �
 blocks_from parts k zero = []
 blocks_from parts k (suc m) = parts k ∷ blocks_from parts (k + 1) m
 
+mod_below : (k count : ℕ) → k < count → k % count ≡ k
+mod_below k count lt = mod-eq_of_lt lt
+
 module _ {X : Type 0} (parts : ℕ → List X) (count i : ℕ) where
   abbrev own_of : (k m : ℕ) → List X
   own_of k m = flat_map (λ (block : List X). block) (own_blocks count i k (blocks_from parts k m))
@@ -102,7 +105,7 @@ module _ {X : Type 0} (parts : ℕ → List X) (count i : ℕ) where
   own_past : (k m : ℕ) → k + m ≡ count → i < k → own_of k m ≡ []
   own_past k zero is lt = refl
   own_past k (suc m) is lt =
-      here (k % count == i) (ne_eqb (k % count) i (λ e. omega (arith, e, mod-eq_of_lt (omega (arith, is)), lt))) (own_past (k + 1) m (omega (arith, is)) (omega (arith, lt)))
+      here (k % count == i) (ne_eqb (k % count) i (λ e. omega (arith, e, mod_below k count (omega (arith, is)), lt))) (own_past (k + 1) m (omega (arith, is)) (omega (arith, lt)))
     where
       here : (b : Bool) → b ≡ false → own_of (k + 1) m ≡ [] → own_with b k m ≡ []
       here true miss rest = absurd (cc (miss))
@@ -114,9 +117,9 @@ module _ {X : Type 0} (parts : ℕ → List X) (count i : ℕ) where
     where
       here : (k + 1 ≤ i → own_of (k + 1) m ≡ parts i) → (b : Bool) → (k % count == i) ≡ b → own_with b k m ≡ parts i
       here later true hit =
-          let same : k ≡ i = sym (mod-eq_of_lt (omega (arith, is))) ∙ eqb-true (k % count) i hit in
+          let same : k ≡ i = sym (mod_below k count (omega (arith, is))) ∙ eqb-true (k % count) i hit in
           ap (λ (w : List X). parts k ++ w) (own_past (k + 1) m (omega (arith, is)) (omega (arith, same))) ∙ append-nil (parts k) ∙ ap parts same
-      here later false miss = later (omega (arith, le, eqb-false (k % count) i miss, mod-eq_of_lt (omega (arith, is))))
+      here later false miss = later (omega (arith, le, eqb-false (k % count) i miss, mod_below k count (omega (arith, is))))
 
 pub in_some_order : (count : ℕ) (parts : ℕ → List Exchange) → 0 < count → (crew : ℕ → ℕ) × (xs : List Exchange) × ((at : ℕ) → crew at < count) × ((i : ℕ) → i < count → part_of crew i 0 xs ≡ parts i)
 in_some_order count parts some =
