@@ -11,7 +11,6 @@ use Rattle.wire_lines.specs.Refusal.{by_line, by_program, by_money, by_disk, by_
 use Rattle.wire_lines.specs.declared.refusal.NumberRefusal.TheVariants.{Unknown, NotYours, Exhausted as NoNoise, Lost as NoAnswer}
 use Rattle.owner_house.specs.Owner.{Owner}
 use Rattle.owner_desk.specs.Passes.{Pass, Told, records_told}
-use Rattle.owner_desk.proofs.Own.{records_are}
 use Rattle.answer_path.specs.Query.{Query}
 use Rattle.answer_path.specs.Demand.{Demand, asks, recalls, balances}
 use Rattle.answer_path.specs.Verdict.{program_refused, money_refused, granted}
@@ -20,7 +19,7 @@ use Rattle.answer_path.specs.Standing.{IsBalance, IsRecalled}
 use Rattle.answer_path.specs.Met.{IsMet}
 use Rattle.answer_path.specs.Shut.{FailsBy, Shut, ShutsBy, StaysShut, disk_word, shut_of}
 use Rattle.answer_path.specs.Idle.{AddsNone, IsAlone, IsShutOut, LeavesBook}
-use Rattle.answer_path.specs.Laws.{RefusalsAddNothing, RefusalsLeavePass, RefusalsLeaveRecords, SolePassesAreAlone}
+use Rattle.answer_path.specs.Laws.{RefusalsAddNothing, RefusalsLeavePass, RefusalsLeaveRecords}
 use Rattle.answer_path.proofs.Alone.{exactly_is_met}
 use Rattle.answer_path.proofs.Sole.{closing_same}
 
@@ -138,9 +137,6 @@ leave_pass owner draws (asks query) before after reply told met own shuts opened
     same_out before after told own opened was is (shuts_out owner draws query reply told (shut_of before) (shut_of after) out shuts)
 leave_pass owner draws (recalls analyst number) before after reply told met own shuts opened was is idle = the_same before after told own opened was is met.1 shuts.1
 leave_pass owner draws balances before after reply told met own shuts opened was is idle = the_same before after told own opened was is met.1 shuts.1
-
-pub sole_alone : SolePassesAreAlone
-sole_alone opened now sole = record { seen = records_are opened now sole; shut = refl }
 
 -- where demands are met exactly
 met_none : (owner : Owner) (draws : ℕ → ℕ → ℕ) (start : ℕ) (demand : Demand) (seen : List Record) (reply : Replied) (told : List Told) (after : List Record)

@@ -31,7 +31,7 @@ IsIdle before reply = AddsNone reply ⊎ (IsShutOut reply × ((failure : Failure
 abbrev pub LeavesBook : (before after : Pass) → Type 0
 LeavesBook before after = IsPrefix before.seen after.seen × PassStays before after.seen after
 
--- All that was added is the pass's own, and so is the append that shut the book: of the only pass on a book.
+-- All that was added is the pass's own, and so is the append that shut the book: no other pass has added to it.
 pub record IsAlone (pass : Pass) : Type 0 where
   pub seen : pass.seen ≡ pass.opened.ledger.found ++ records_told pass.own
   pub shut : pass.faults ≡ closing pass.failure

@@ -11,7 +11,6 @@ use Rattle.owner_catalog.specs.Entries.{PartitionEntry}
 use Rattle.part_views.specs.Partitions.{ArePartitions}
 use Rattle.part_views.specs.Views.{signature_in, rows_in}
 use Rattle.budget_core.specs.Bare.{without_answers}
-use Rattle.budget_ledger.specs.Account.{Account}
 use Rattle.budget_core.specs.Entries.{Entry}
 use Rattle.fz_frac.specs.Distance.{Distance, Fin, mul, ◌⊑◌}
 use Rattle.fz_ast.specs.Limits.{IsNumber}
@@ -27,7 +26,7 @@ use Rattle.owner_house.specs.Owner.{Owner}
 use Rattle.answer_path.specs.Query.{Query}
 use Rattle.answer_path.specs.Program.{IsCharged}
 use Rattle.answer_path.specs.Verdict.{Verdict, IsVerdict}
-use Rattle.owner_desk.specs.Passes.{IsSole, Pass, Told, closing, first_of_run, pass_on, records_told}
+use Rattle.owner_desk.specs.Passes.{Pass, Told, closing, first_of_run, records_told}
 use Rattle.answer_path.specs.Demand.{Demand, asks}
 use Rattle.answer_path.specs.Answered.{IsAsked, IsAnswered, IsUnanswered}
 use Rattle.answer_path.specs.Met.{IsMet, IsMetExactly}
@@ -126,10 +125,6 @@ RefusalsAddNothing =
     (owner : Owner) (draws : ℕ → ℕ → ℕ) (demand : Demand) (before after : Pass) (reply : Replied) (told : List Told)
     → IsMet owner draws (first_of_run before) demand before.seen reply told after.seen → after.own ≡ before.own ++ told
     → ShutsBy owner draws demand reply told (shut_of before) (shut_of after) → IsIdle before reply → LeavesBook before after
-
--- The only pass on a book, as each is until there is a lock, is alone on it.
-abbrev pub SolePassesAreAlone : Type 0
-SolePassesAreAlone = (opened now : Account) → IsSole opened now → IsAlone (pass_on opened now)
 
 -- Where its pass is alone on the book, it leaves the pass as it was; and so does one that is told 42.
 abbrev pub RefusalsLeavePass : Type 0

@@ -14,6 +14,7 @@ ghost use Rattle.part_views.specs.Partitions.{HasPart};
 ghost use Rattle.owner_house.specs.Owner.{Owner, IsOwnerOf};
 ghost use Rattle.owner_desk.specs.Answers.{HasGranted, HasSettled};
 ghost use Rattle.owner_desk.specs.Passes.{Told, first_of_run};
+ghost use Rattle.owner_desk.specs.Shared.{IsKept};
 ghost use Rattle.answer_path.specs.Noise.{scale_numerator, scale_denominator, noise_at};
 ghost use Rattle.answer_path.specs.Verdict.{ask_for, money_refusal};
 ghost use Rattle.answer_path.specs.Answered.{HasSmallAnswer, IsAsked, IsSettledAt, IsUnasked, answer_limit, outcome_reply};
@@ -38,6 +39,7 @@ use part_views::Dataset;
 use partition_charge::view::View;
 use sha2::{Digest, Sha256};
 use std::alloc::Global;
+use std::sync::Wait;
 use wire_lines::{DiskRefusal, MoneyRefusal, NumberRefusal, Refusal, Reply};
 
 /// The noise's scale at an epsilon in millionths: 10^6 / e in lowest terms.
@@ -206,13 +208,20 @@ fn asking_of(query: &Query<'_>, sens: Frac) -> Ask
 }
 
 /// Settles a grant, and says its outcome only once the settlement is kept.
-fn settle<'a, D: Disk>(desk: &Desk, pass: &mut Pass<D>, grant: Grant, outcome: Outcome) -> Reply<'a>
-    requires { HasGranted pass.old grant.number }
-    ensures settled { (written : Result ℕ AppendFault) × HasSettled pass.old grant.number outcome written pass.new
+fn settle<'a, R: Wait, D: Disk>(
+    rt: &R,
+    desk: &Desk<D>,
+    pass: &mut Pass<D>,
+    grant: Grant,
+    outcome: Outcome,
+) -> Reply<'a>
+    requires here { pass.old.lock ≡ desk.now }
+    requires granted { HasGranted pass.old.knows grant.number }
+    ensures settled { (written : Result ℕ AppendFault) × HasSettled pass.old.knows grant.number outcome written pass.new.knows
         × (replied result ≡ settled_reply grant outcome written) }
-    ensures kept { pass.new.opened ≡ pass.old.opened }
+    ensures kept { IsKept pass.old pass.new }
 {
-    match desk.settle(pass, grant.number, outcome) {
+    match desk.settle(rt, pass, grant.number, outcome) {
         Ok(_) => reply_of(grant, outcome),
         Err(fault) => Reply::Refused(Refusal::Disk(disk_refusal_of(fault))),
     }
@@ -220,9 +229,10 @@ fn settle<'a, D: Disk>(desk: &Desk, pass: &mut Pass<D>, grant: Grant, outcome: O
 
 /// Answers a query whose program is judged: the budget is asked, the noise is drawn, the program is run, and the reservation
 /// is settled.
-fn answer_judged<'a, D: Disk, S: Streams>(
+fn answer_judged<'a, R: Wait, D: Disk, S: Streams>(
+    rt: &R,
     alloc: Global,
-    desk: &Desk,
+    desk: &Desk<D>,
     pass: &mut Pass<D>,
     judged: &Judged<'_>,
     dataset: &Dataset,
@@ -230,22 +240,23 @@ fn answer_judged<'a, D: Disk, S: Streams>(
     owner: u32,
     query: &Query<'_>,
 ) -> Reply<'a>
-    requires query { IsQueryOf pass.old.opened.ledger.entry (query_of query.now) }
+    requires here { pass.old.lock ≡ desk.now }
+    requires query { IsQueryOf pass.old.knows.opened.ledger.entry (query_of query.now) }
     requires part { HasPart dataset.now.partitions query.now.view }
     requires reads { IsReading query.now.program.now (read (judged.now.checked.term.now)) }
     requires judged { IsJudgedIn dataset.now query.now.view judged.now }
-    ensures turn { (whose : Owner) → IsOwnerOf pass.old.opened.ledger.entry dataset.now whose
-        → IsTurn whose (S.given streams.now owner) (query_of query.now) pass.old (replied result) pass.new }
+    ensures turn { (whose : Owner) → IsOwnerOf pass.old.knows.opened.ledger.entry dataset.now whose
+        → IsTurn whose (S.given streams.now owner) (query_of query.now) pass.old.knows (replied result) pass.new.knows }
     ensures asked { IsUnasked (replied result) → ⊥ }
-    ensures kept { pass.new.opened ≡ pass.old.opened }
+    ensures kept { IsKept pass.old pass.new }
     ensures fits { HasSmallAnswer (replied result) }
 {
     let asking = asking_of(query, fraction_of(judged.checked.sens));
-    match desk.reserve(pass, &asking) {
+    match desk.reserve(rt, pass, &asking) {
         Err(fault) => Reply::Refused(book_refusal_of(fault)),
         Ok(grant) => {
             let outcome = outcome_at(alloc, judged, dataset, streams, owner, query, grant.number);
-            settle(desk, pass, grant, outcome)
+            settle(rt, desk, pass, grant, outcome)
         }
     }
 }
@@ -253,33 +264,38 @@ fn answer_judged<'a, D: Disk, S: Streams>(
 /// Answers a query of the owner of this number: the program is read and judged over the tables of the query's view, the budget
 /// is asked, the noise is drawn, the program is run on the view's rows, and the reservation is settled. Want of memory is said
 /// before a reservation, and an answer is lost after it.
-pub fn ask<'d, D: Disk, S: Streams>(
+pub fn ask<'d, R: Wait, D: Disk, S: Streams>(
+    rt: &R,
     alloc: Global,
-    desk: &Desk,
+    desk: &Desk<D>,
     pass: &mut Pass<D>,
     dataset: &'d Dataset,
     streams: &S,
     owner: u32,
     query: &Query<'_>,
 ) -> Reply<'d>
-    requires query { IsQueryOf pass.old.opened.ledger.entry (query_of query.now) }
+    requires here { pass.old.lock ≡ desk.now }
+    requires query { IsQueryOf pass.old.knows.opened.ledger.entry (query_of query.now) }
     requires part { HasPart dataset.now.partitions query.now.view }
     requires names { AreNames dataset.now.tables }
     // The stated reply on some records that begin with those seen, and what the line added.
-    ensures step { (whose : Owner) → IsOwnerOf pass.old.opened.ledger.entry dataset.now whose → (told : List Told)
-        × IsAsked whose (S.given streams.now owner) (first_of_run pass.old) (query_of query.now) pass.old.seen (replied result) told pass.new.seen
-        × (pass.new.own ≡ pass.old.own ++ told) }
+    ensures step { (whose : Owner) → IsOwnerOf pass.old.knows.opened.ledger.entry dataset.now whose → (told : List Told)
+        × IsAsked whose (S.given streams.now owner) (first_of_run pass.old.knows) (query_of query.now)
+        pass.old.knows.seen (replied result) told pass.new.knows.seen
+        × (pass.new.knows.own ≡ pass.old.knows.own ++ told) }
     // What the line did to the owner's book.
-    ensures shuts { (whose : Owner) → IsOwnerOf pass.old.opened.ledger.entry dataset.now whose
-        → (told : List Told) → pass.new.own ≡ pass.old.own ++ told
-        → FailsBy whose (S.given streams.now owner) (query_of query.now) (disk_word (replied result)) told (shut_of pass.old) (shut_of pass.new) }
+    ensures shuts { (whose : Owner) → IsOwnerOf pass.old.knows.opened.ledger.entry dataset.now whose
+        → (told : List Told) → pass.new.knows.own ≡ pass.old.knows.own ++ told
+        → FailsBy whose (S.given streams.now owner) (query_of query.now) (disk_word (replied result)) told
+        (shut_of pass.old.knows) (shut_of pass.new.knows) }
     // Where the append of the reservation failed, what the disk may have is what was granted on the records seen then.
-    ensures due { (whose : Owner) → IsOwnerOf pass.old.opened.ledger.entry dataset.now whose
-        → (told : List Told) → pass.new.own ≡ pass.old.own ++ told
-        → IsGrantPending whose (first_of_run pass.old) (query_of query.now) (replied result) told pass.new.seen pass.new.failure }
+    ensures due { (whose : Owner) → IsOwnerOf pass.old.knows.opened.ledger.entry dataset.now whose
+        → (told : List Told) → pass.new.knows.own ≡ pass.old.knows.own ++ told
+        → IsGrantPending whose (first_of_run pass.old.knows) (query_of query.now) (replied result) told
+        pass.new.knows.seen pass.new.knows.failure }
     // A line that is refused before the budget is asked leaves the pass as it was.
     ensures same { IsUnasked (replied result) → pass.new ≡ pass.old }
-    ensures kept { pass.new.opened ≡ pass.old.opened }
+    ensures kept { IsKept pass.old pass.new }
     // An answer is within 2^50 + 2^33 in absolute value.
     ensures fits { HasSmallAnswer (replied result) }
 {
@@ -288,7 +304,9 @@ pub fn ask<'d, D: Disk, S: Streams>(
         Err(refusal) => return Reply::Refused(refusal),
     };
     match judge(alloc, dataset.sig(query.view), &term) {
-        Ok(judged) => answer_judged(alloc, desk, pass, &judged, dataset, streams, owner, query),
+        Ok(judged) => answer_judged(
+            rt, alloc, desk, pass, &judged, dataset, streams, owner, query,
+        ),
         Err(refusal) => Reply::Refused(refusal),
     }
 }

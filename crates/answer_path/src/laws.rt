@@ -2,7 +2,7 @@
 
 ghost use Rattle.answer_path.specs.Laws.{AcceptedAreBounded, AcceptedHaveValues, AloneIsAnswered, AloneIsMet, ChargedAreBounded, ChargedHaveValues};
 ghost use Rattle.answer_path.specs.Laws.{EveryReading, ExactlyIsMet, LostAreCharged, OnePassCloses, OneReading, OneValue, VerdictsSeeNoAnswers};
-ghost use Rattle.answer_path.specs.Laws.{RefusalsAddNothing, RefusalsLeavePass, RefusalsLeaveRecords, SolePassesAreAlone};
+ghost use Rattle.answer_path.specs.Laws.{RefusalsAddNothing, RefusalsLeavePass, RefusalsLeaveRecords};
 
 /// Any bytes come to just one term or one fault.
 pub fn programs_are_read_in_one_way()
@@ -48,11 +48,10 @@ pub fn lost_answers_are_charged()
 {}
 
 /// A line that is refused by the budget (40, 41), a recall, a balance, and one that is told 42 of a book that was seen shut before, add
-/// nothing: the pass's own records stay, and what it has seen goes on from what it had. The only pass on a book is the same after it, and
-/// where demands are met exactly, as one worker's are, the records are.
+/// nothing: the pass's own records stay, and what it has seen goes on from what it had. A pass that is alone on its book is the same after it,
+/// and where demands are met exactly, as one worker's are, the records are.
 pub fn refusals_add_nothing()
     ensures any { RefusalsAddNothing }
     ensures alone { RefusalsLeavePass }
-    ensures sole { SolePassesAreAlone }
     ensures exactly { RefusalsLeaveRecords }
 {}

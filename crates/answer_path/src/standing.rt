@@ -4,6 +4,7 @@ ghost use Rattle.std.specs.Prelude.{◌≡◌};
 ghost use Rattle.wire_lines.specs.Reply.{replied};
 ghost use Rattle.owner_desk.specs.Passes.{first_of_run};
 ghost use Rattle.owner_desk.specs.Answers.{PassStays};
+ghost use Rattle.owner_desk.specs.Shared.{IsKept};
 ghost use Rattle.answer_path.specs.Answered.{HasSmallAnswer, IsUnasked};
 ghost use Rattle.answer_path.specs.Standing.{IsBalance, IsRecalled, left_reply, recall_reply};
 
@@ -11,6 +12,7 @@ use budget_core::answers::{Left, Recall};
 use journal_records::records::Outcome;
 use outside_disks::disk::Disk;
 use owner_desk::{Desk, Pass};
+use std::sync::Wait;
 use wire_lines::{NumberRefusal, Refusal, Reply};
 
 fn recalled<'a>(number: u32, outcome: Option<Outcome>, seen: u32) -> Reply<'a>
@@ -55,28 +57,31 @@ fn left_reply_of<'a>(left: Left) -> Reply<'a>
 }
 
 /// Says what became of a reservation, to the analyst who asked for it.
-pub(crate) fn recall<D: Disk>(
-    desk: &Desk,
+pub(crate) fn recall<R: Wait, D: Disk>(
+    rt: &R,
+    desk: &Desk<D>,
     pass: &mut Pass<D>,
     number: u32,
     analyst: u16,
 ) -> Reply<'static>
-    ensures told { IsRecalled (first_of_run pass.old) analyst number pass.old.seen (replied result) pass.new.seen }
-    ensures stays { PassStays pass.old pass.new.seen pass.new }
-    ensures kept { pass.new.opened ≡ pass.old.opened }
+    requires here { pass.old.lock ≡ desk.now }
+    ensures told { IsRecalled (first_of_run pass.old.knows) analyst number pass.old.knows.seen (replied result) pass.new.knows.seen }
+    ensures stays { PassStays pass.old.knows pass.new.knows.seen pass.new.knows }
+    ensures kept { IsKept pass.old pass.new }
     ensures asked { IsUnasked (replied result) → ⊥ }
     ensures fits { HasSmallAnswer (replied result) }
 {
-    recall_reply_of(number, desk.recall(pass, number, analyst))
+    recall_reply_of(number, desk.recall(rt, pass, number, analyst))
 }
 
 /// Says what is spent of an owner's budget.
-pub(crate) fn left<D: Disk>(desk: &Desk, pass: &mut Pass<D>) -> Reply<'static>
-    ensures told { IsBalance pass.old.opened.ledger.entry pass.old.seen (replied result) pass.new.seen }
-    ensures stays { PassStays pass.old pass.new.seen pass.new }
-    ensures kept { pass.new.opened ≡ pass.old.opened }
+pub(crate) fn left<R: Wait, D: Disk>(rt: &R, desk: &Desk<D>, pass: &mut Pass<D>) -> Reply<'static>
+    requires here { pass.old.lock ≡ desk.now }
+    ensures told { IsBalance pass.old.knows.opened.ledger.entry pass.old.knows.seen (replied result) pass.new.knows.seen }
+    ensures stays { PassStays pass.old.knows pass.new.knows.seen pass.new.knows }
+    ensures kept { IsKept pass.old pass.new }
     ensures asked { IsUnasked (replied result) → ⊥ }
     ensures fits { HasSmallAnswer (replied result) }
 {
-    left_reply_of(desk.left(pass))
+    left_reply_of(desk.left(rt, pass))
 }

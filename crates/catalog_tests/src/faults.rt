@@ -3,7 +3,9 @@
 use crate::commands::{RUN, refuses};
 use memory_runs::{AGE, CATALOG, KEY, TABLE, TableText, census_with, file, owner_text};
 use std::alloc::{AllocError, Global};
+use std::sync::Wait;
 use std::test::Fail;
+use std::thread::Threads;
 
 // What stands in a catalog of one owner and its table, and what is put in its place: once for each kind of fault at least.
 #[rattlefmt::skip]
@@ -30,11 +32,15 @@ const CHANGES: [(&str, &str); 14] = [
 ];
 
 // The first change by which the catalog isn't refused, if there is one: what was put into it.
-fn first_taken(alloc: Global, whole: &str) -> Result<Option<&'static str>, AllocError> {
+fn first_taken<R: Threads + Wait + Sync>(
+    rt: &R,
+    alloc: Global,
+    whole: &str,
+) -> Result<Option<&'static str>, AllocError> {
     for (old, new) in &CHANGES {
         let changed = whole.replace(alloc, old, new)?;
         let held = [file("cat.json", changed.as_bytes())];
-        if !refuses(alloc, &RUN, &held, b"refused cat.json\n")? {
+        if !refuses(rt, alloc, &RUN, &held, b"refused cat.json\n")? {
             return Ok(Some(new));
         }
     }
@@ -44,7 +50,7 @@ fn first_taken(alloc: Global, whole: &str) -> Result<Option<&'static str>, Alloc
 // The catalog in which one text is changed is refused by its file's name, before key and tables are looked at.
 #[test]
 fn each_change(rt: HostRuntime) -> Result<(), Fail> {
-    let taken = first_taken(rt.alloc(), str::from_utf8(CATALOG)?)?;
+    let taken = first_taken(&rt, rt.alloc(), str::from_utf8(CATALOG)?)?;
     assert!(rt; taken.is_none(), "{taken:?}");
     Ok(())
 }
@@ -70,7 +76,7 @@ fn each_table(rt: HostRuntime) -> Result<(), Fail> {
             file("people.csv", TABLE),
             file("key", &KEY),
         ];
-        let is_due = refuses(alloc, &RUN, &held, b"refused cat.json\n")?;
+        let is_due = refuses(&rt, alloc, &RUN, &held, b"refused cat.json\n")?;
         assert!(rt; is_due, "{catalog}");
     }
     Ok(())
@@ -101,7 +107,12 @@ fn catalog_over(
 }
 
 // Whether `run` and `check` both refuse a file by this line.
-fn is_refused(alloc: Global, catalog: &str, line: &[u8]) -> Result<bool, AllocError> {
+fn is_refused<R: Threads + Wait + Sync>(
+    rt: &R,
+    alloc: Global,
+    catalog: &str,
+    line: &[u8],
+) -> Result<bool, AllocError> {
     let held = [
         file("cat.json", catalog.as_bytes()),
         file("age", b"age\n1\n"),
@@ -109,8 +120,8 @@ fn is_refused(alloc: Global, catalog: &str, line: &[u8]) -> Result<bool, AllocEr
         file("header", b"ages\n1\n"),
         file("key", &KEY),
     ];
-    let run = refuses(alloc, &RUN, &held, line)?;
-    let check = refuses(alloc, &["check", "cat.json", "one", "age"], &held, line)?;
+    let run = refuses(rt, alloc, &RUN, &held, line)?;
+    let check = refuses(rt, alloc, &["check", "cat.json", "one", "age"], &held, line)?;
     Ok(run && check)
 }
 
@@ -118,7 +129,7 @@ fn is_refused(alloc: Global, catalog: &str, line: &[u8]) -> Result<bool, AllocEr
 fn each_file(rt: HostRuntime) -> Result<(), Fail> {
     for (first, second, third, line) in &FILES {
         let catalog = catalog_over(rt.alloc(), first, second, third)?;
-        let is_due = is_refused(rt.alloc(), &catalog, line)?;
+        let is_due = is_refused(&rt, rt.alloc(), &catalog, line)?;
         assert!(rt; is_due, "{first} {second} {third}");
     }
     Ok(())

@@ -29,8 +29,8 @@ fn greatest_of_two_tables(rt: HostRuntime) -> Result<(), Fail> {
         file("program", b"size a + 2 * size b"),
     ];
     let words = ["check", "cat.json", "census", "program"];
-    assert!(rt; ends(alloc, &words, &held, b"", Status::Done, b"ok 2\n")?);
-    assert!(rt; ends(alloc, &RUN, &held, SUMS, Status::Done, CHARGED)?);
+    assert!(rt; ends(&rt, alloc, &words, &held, b"", Status::Done, b"ok 2\n")?);
+    assert!(rt; ends(&rt, alloc, &RUN, &held, SUMS, Status::Done, CHARGED)?);
     Ok(())
 }
 
@@ -82,6 +82,6 @@ fn two_owners(rt: HostRuntime) -> Result<(), Fail> {
         file("stays.csv", b"ward,nights\nA,3\nB,4\n"),
         file("key", &KEY),
     ];
-    assert!(rt; ends(alloc, &RUN, &held, SCRIPT, Status::Done, REPLIES)?);
+    assert!(rt; ends(&rt, alloc, &RUN, &held, SCRIPT, Status::Done, REPLIES)?);
     Ok(())
 }

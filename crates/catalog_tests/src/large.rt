@@ -5,7 +5,9 @@ use fz_outside::files::MemFile;
 use memory_runs::{AGE, CATALOG, KEY, TABLE, TableText, file, joined, owner_text};
 use query_server::Status;
 use std::alloc::{AllocError, Global};
+use std::sync::Wait;
 use std::test::Fail;
+use std::thread::Threads;
 
 // So many tables; the last one is the file last.csv.
 const TABLES: [TableText<'static>; 9] = [
@@ -86,13 +88,18 @@ const COUNTS: [(usize, usize, usize, bool); 8] = [
 ];
 
 // Whether `check` takes this catalog, or else refuses it by its name.
-fn is_taken(alloc: Global, catalog: &str, fits: bool) -> Result<bool, AllocError> {
+fn is_taken<R: Threads + Wait + Sync>(
+    rt: &R,
+    alloc: Global,
+    catalog: &str,
+    fits: bool,
+) -> Result<bool, AllocError> {
     let held = files_of(catalog, "program", b"size t0");
     let words = ["check", "cat.json", "o0", "program"];
     if fits {
-        ends(alloc, &words, &held, b"", Status::Done, b"ok 1\n")
+        ends(rt, alloc, &words, &held, b"", Status::Done, b"ok 1\n")
     } else {
-        refuses(alloc, &words, &held, b"refused cat.json\n")
+        refuses(rt, alloc, &words, &held, b"refused cat.json\n")
     }
 }
 
@@ -100,7 +107,7 @@ fn is_taken(alloc: Global, catalog: &str, fits: bool) -> Result<bool, AllocError
 fn each_count(rt: HostRuntime) -> Result<(), Fail> {
     for (analysts, owners, tables, fits) in &COUNTS {
         let catalog = catalog_of(rt.alloc(), *analysts, *owners, *tables)?;
-        let is_due = is_taken(rt.alloc(), &catalog, *fits)?;
+        let is_due = is_taken(&rt, rt.alloc(), &catalog, *fits)?;
         assert!(rt; is_due, "{analysts} {owners} {tables}");
     }
     Ok(())
@@ -128,19 +135,23 @@ fn last_of_all(rt: HostRuntime) -> Result<(), Fail> {
     let alloc = rt.alloc();
     let catalog = catalog_of(alloc, 64, 16, 8)?;
     let held = files_of(&catalog, "key", &KEY);
-    assert!(rt; ends(alloc, &RUN, &held, SCRIPT, Status::Done, REPLIES)?);
+    assert!(rt; ends(&rt, alloc, &RUN, &held, SCRIPT, Status::Done, REPLIES)?);
     Ok(())
 }
 
 // Whether `check` refuses this table by its name: that it is too long is no want of memory.
-fn is_too_long(alloc: Global, table: &[u8]) -> Result<bool, AllocError> {
+fn is_too_long<R: Threads + Wait + Sync>(
+    rt: &R,
+    alloc: Global,
+    table: &[u8],
+) -> Result<bool, AllocError> {
     let held = [
         file("cat.json", CATALOG),
         file("people.csv", table),
         file("program", b"size people"),
     ];
     let words = ["check", "cat.json", "census", "program"];
-    refuses(alloc, &words, &held, b"refused people.csv\n")
+    refuses(rt, alloc, &words, &held, b"refused people.csv\n")
 }
 
 // A byte more than 2^26. The table would be right.
@@ -148,6 +159,6 @@ fn is_too_long(alloc: Global, table: &[u8]) -> Result<bool, AllocError> {
 fn a_byte_too_many(rt: HostRuntime) -> Result<(), Fail> {
     let mut table = joined(rt.alloc(), &[(b"age\n", 1)])?;
     table.resize(67_108_865, b'0')?;
-    assert!(rt; is_too_long(rt.alloc(), &table)?);
+    assert!(rt; is_too_long(&rt, rt.alloc(), &table)?);
     Ok(())
 }

@@ -3,7 +3,9 @@
 use crate::commands::RUN;
 use memory_runs::{KEY, Piece, census_with, ended, file, joined};
 use std::alloc::{AllocError, Global};
+use std::sync::Wait;
 use std::test::Fail;
+use std::thread::Threads;
 
 const TOWN: &str = "{\"name\":\"town\",\"type\":\"text\"}";
 
@@ -57,7 +59,8 @@ fn script_of(alloc: Global, program: &[u8]) -> Result<Vec<u8>, AllocError> {
 }
 
 // What a run writes over a file of these columns.
-fn written_over(
+fn written_over<R: Threads + Wait + Sync>(
+    rt: &R,
     alloc: Global,
     columns: &str,
     table: &[u8],
@@ -69,7 +72,7 @@ fn written_over(
         file("people.csv", table),
         file("key", &KEY),
     ];
-    let (_, out) = ended(alloc, &RUN, &held, script)?;
+    let (_, out) = ended(rt, alloc, &RUN, &held, script)?;
     Ok(out)
 }
 
@@ -79,19 +82,23 @@ fn behind_hello(out: &[u8]) -> &[u8] {
 }
 
 // Whether a file of a table comes to what is wanted of it.
-fn comes_to(alloc: Global, row: &Row) -> Result<bool, AllocError> {
+fn comes_to<R: Threads + Wait + Sync>(
+    rt: &R,
+    alloc: Global,
+    row: &Row,
+) -> Result<bool, AllocError> {
     let (columns, pieces, program, wanted) = row;
     let table = joined(alloc, pieces)?;
     let script = script_of(alloc, program)?;
-    let out = written_over(alloc, columns, &table, &script)?;
+    let out = written_over(rt, alloc, columns, &table, &script)?;
     Ok(behind_hello(&out) == *wanted)
 }
 
 // How many files come to what is wanted of them, from the first on.
-fn count_right(alloc: Global) -> Result<usize, AllocError> {
+fn count_right<R: Threads + Wait + Sync>(rt: &R, alloc: Global) -> Result<usize, AllocError> {
     let mut count = 0usize;
     for row in &FILES {
-        if !comes_to(alloc, row)? {
+        if !comes_to(rt, alloc, row)? {
             break;
         }
         count = count.saturating_add(1);
@@ -101,7 +108,7 @@ fn count_right(alloc: Global) -> Result<usize, AllocError> {
 
 #[test]
 fn each_table_file(rt: HostRuntime) -> Result<(), Fail> {
-    let count = count_right(rt.alloc())?;
+    let count = count_right(&rt, rt.alloc())?;
     assert!(rt; count == FILES.len(), "row {count}");
     Ok(())
 }

@@ -6,6 +6,8 @@ use memory_runs::{CATALOG, KEY, TABLE, file};
 use outside_disks::memory::{Limits, MemDisk};
 use query_server::Status;
 use std::alloc::{AllocError, Global};
+use std::sync::Wait;
+use std::thread::Threads;
 
 pub const INIT: &[&str] = &["init", "cat.json", "key"];
 
@@ -75,13 +77,14 @@ pub struct Faults<'a> {
 pub const NO_FAULTS: Faults<'static> = Faults { calls: 4_096, first: &[], second: &[], bay: &[] };
 
 // A command over these journals.
-fn ran(
+fn ran<R: Threads + Wait + Sync>(
+    rt: &R,
     alloc: Global,
     mut journals: MemJournals<'_>,
     texts: &[&str],
     script: &[u8],
 ) -> Result<Outcome, AllocError> {
-    let (status, out) = journals.ran(alloc, texts, &held(), script)?;
+    let (status, out) = journals.ran(rt, alloc, texts, &held(), script)?;
     match journals.into_disks() {
         Some((first, second)) => Ok(Outcome {
             status,
@@ -94,7 +97,8 @@ fn ran(
 }
 
 /// A command over disks of owners 0 and 1 with these bytes, which fail so. Those of others are empty.
-pub fn ran_over(
+pub fn ran_over<R: Threads + Wait + Sync>(
+    rt: &R,
     alloc: Global,
     bytes: (&[u8], &[u8]),
     faults: &Faults<'_>,
@@ -105,15 +109,16 @@ pub fn ran_over(
     let first = MemDisk::new(alloc, bytes.0, Limits { calls, ..LARGE }, faults.first)?;
     let second = MemDisk::new(alloc, bytes.1, SMALL, faults.second)?;
     let journals = journals_on(alloc, first, second, faults.bay)?;
-    ran(alloc, journals, texts, script)
+    ran(rt, alloc, journals, texts, script)
 }
 
 /// A command over a disk of owner 0 with these bytes.
-pub fn ran_again(
+pub fn ran_again<R: Threads + Wait + Sync>(
+    rt: &R,
     alloc: Global,
     bytes: &[u8],
     texts: &[&str],
     script: &[u8],
 ) -> Result<Outcome, AllocError> {
-    ran_over(alloc, (bytes, b""), &NO_FAULTS, texts, script)
+    ran_over(rt, alloc, (bytes, b""), &NO_FAULTS, texts, script)
 }

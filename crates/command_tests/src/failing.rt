@@ -4,10 +4,13 @@
 use crate::commands::{AUDIT, Faults, INIT, NO_FAULTS, Outcome, RUN, ran_again, ran_over};
 use query_server::Status;
 use std::alloc::{AllocError, Global};
+use std::sync::Wait;
 use std::test::Fail;
+use std::thread::Threads;
 
 // A command over a disk with these bytes whose call of this number fails; and all calls behind it too where it is a stop.
-fn ran_failing(
+fn ran_failing<R: Threads + Wait + Sync>(
+    rt: &R,
     alloc: Global,
     bytes: &[u8],
     call: u32,
@@ -22,7 +25,7 @@ fn ran_failing(
         first,
         ..NO_FAULTS
     };
-    ran_over(alloc, (bytes, b""), &faults, texts, script)
+    ran_over(rt, alloc, (bytes, b""), &faults, texts, script)
 }
 
 // How long the file is where making a journal fails at this call.
@@ -53,10 +56,15 @@ fn asked_behind(alloc: Global, call: u32) -> Result<String, AllocError> {
 }
 
 // Whether a making whose call of this number fails, or stops there, ends as it should, and a run behind it writes what it should.
-fn making_fails(alloc: Global, call: u32, stop: bool) -> Result<bool, AllocError> {
-    let made = ran_failing(alloc, &[], call, stop, INIT, b"")?;
+fn making_fails<R: Threads + Wait + Sync>(
+    rt: &R,
+    alloc: Global,
+    call: u32,
+    stop: bool,
+) -> Result<bool, AllocError> {
+    let made = ran_failing(rt, alloc, &[], call, stop, INIT, b"")?;
     let ask = b"hello ann\nask census 1 size people\n";
-    let asked = ran_again(alloc, &made.first, RUN, ask)?;
+    let asked = ran_again(rt, alloc, &made.first, RUN, ask)?;
     let due = asked_behind(alloc, call)?;
     Ok(is_made(&made, call) && asked.out.as_slice() == due.as_bytes())
 }
@@ -66,8 +74,8 @@ fn making_fails(alloc: Global, call: u32, stop: bool) -> Result<bool, AllocError
 #[test]
 fn failing_makings(rt: HostRuntime) -> Result<(), Fail> {
     for call in 0..=108_u32 {
-        let fault = making_fails(rt.alloc(), call, false)?;
-        let stop = making_fails(rt.alloc(), call, true)?;
+        let fault = making_fails(&rt, rt.alloc(), call, false)?;
+        let stop = making_fails(&rt, rt.alloc(), call, true)?;
         assert!(rt; fault && stop, "{call}");
     }
     Ok(())
@@ -114,32 +122,43 @@ const LATER: &[u8] =
     b"hello ann\nleft census\nrecall census 0\nrecall census 1\nrecall census 2\nask census 1 size people\n";
 
 // Whether so many records are found on a disk with these bytes.
-fn are_found(alloc: Global, bytes: &[u8], records: usize) -> Result<bool, AllocError> {
+fn are_found<R: Threads + Wait + Sync>(
+    rt: &R,
+    alloc: Global,
+    bytes: &[u8],
+    records: usize,
+) -> Result<bool, AllocError> {
     let Some((counts, replies)) = FOUND.get(records) else {
         return Ok(false);
     };
-    let counted = ran_again(alloc, bytes, AUDIT, b"")?;
-    let again = ran_again(alloc, bytes, RUN, LATER)?;
+    let counted = ran_again(rt, alloc, bytes, AUDIT, b"")?;
+    let again = ran_again(rt, alloc, bytes, RUN, LATER)?;
     Ok(counted.out.as_slice() == counts.as_bytes() && again.out.as_slice() == replies.as_bytes())
 }
 
 // Whether a run of three asks whose call of this number fails, or stops there, ends as it should and leaves what it should. Where a
 // gate was written the record is found, though the sync behind it has failed.
-fn run_fails(alloc: Global, made: &[u8], call: u32, stop: bool) -> Result<bool, AllocError> {
+fn run_fails<R: Threads + Wait + Sync>(
+    rt: &R,
+    alloc: Global,
+    made: &[u8],
+    call: u32,
+    stop: bool,
+) -> Result<bool, AllocError> {
     let (status, out) = ended_behind(call);
-    let asked = ran_failing(alloc, made, call, stop, RUN, THREE_ASKS)?;
+    let asked = ran_failing(rt, alloc, made, call, stop, RUN, THREE_ASKS)?;
     let records = call.saturating_sub(102) as usize / 4;
-    let found = are_found(alloc, &asked.first, records)?;
+    let found = are_found(rt, alloc, &asked.first, records)?;
     Ok(asked.status == status && asked.out.as_slice() == out.as_bytes() && found)
 }
 
 // Opening takes 103 calls, and then each record four: a write and a sync of all but the gate, and a write and a sync of the gate.
 #[test]
 fn failing_runs(rt: HostRuntime) -> Result<(), Fail> {
-    let made = ran_again(rt.alloc(), &[], INIT, b"")?;
+    let made = ran_again(&rt, rt.alloc(), &[], INIT, b"")?;
     for call in 0..=127_u32 {
-        let fault = run_fails(rt.alloc(), &made.first, call, false)?;
-        let stop = run_fails(rt.alloc(), &made.first, call, true)?;
+        let fault = run_fails(&rt, rt.alloc(), &made.first, call, false)?;
+        let stop = run_fails(&rt, rt.alloc(), &made.first, call, true)?;
         assert!(rt; fault && stop, "{call}");
     }
     Ok(())
@@ -189,18 +208,31 @@ static CASES: [Case<'static>; 8] = [
 ];
 
 // A run of both owners over disks with what was there, which fail so.
-fn ran_both(
+fn ran_both<R: Threads + Wait + Sync>(
+    rt: &R,
     alloc: Global,
     there: &Outcome,
     faults: &Faults<'_>,
     script: &[u8],
 ) -> Result<Outcome, AllocError> {
     let bytes = (there.first.as_slice(), there.second.as_slice());
-    ran_over(alloc, bytes, faults, &["run", "two.json", "key"], script)
+    ran_over(
+        rt,
+        alloc,
+        bytes,
+        faults,
+        &["run", "two.json", "key"],
+        script,
+    )
 }
 
 // Whether a run of both owners whose calls fail so ends and writes what is wanted, and a run behind it.
-fn is_cut(alloc: Global, made: &Outcome, case: &Case<'_>) -> Result<bool, AllocError> {
+fn is_cut<R: Threads + Wait + Sync>(
+    rt: &R,
+    alloc: Global,
+    made: &Outcome,
+    case: &Case<'_>,
+) -> Result<bool, AllocError> {
     let (first, second, bay, status, wanted, afterwards) = *case;
     let faults = Faults {
         first,
@@ -208,8 +240,8 @@ fn is_cut(alloc: Global, made: &Outcome, case: &Case<'_>) -> Result<bool, AllocE
         bay,
         ..NO_FAULTS
     };
-    let asked = ran_both(alloc, made, &faults, BOTH)?;
-    let again = ran_both(alloc, &asked, &NO_FAULTS, BOTH_LATER)?;
+    let asked = ran_both(rt, alloc, made, &faults, BOTH)?;
+    let again = ran_both(rt, alloc, &asked, &NO_FAULTS, BOTH_LATER)?;
     Ok(
         asked.status == status
             && asked.out.as_slice() == wanted
@@ -220,9 +252,9 @@ fn is_cut(alloc: Global, made: &Outcome, case: &Case<'_>) -> Result<bool, AllocE
 // An owner whose disk fails is refused, and another is answered.
 #[test]
 fn failing_owners(rt: HostRuntime) -> Result<(), Fail> {
-    let made = ran_again(rt.alloc(), &[], &["init", "two.json", "key"], b"")?;
+    let made = ran_again(&rt, rt.alloc(), &[], &["init", "two.json", "key"], b"")?;
     for case in &CASES {
-        assert!(rt; is_cut(rt.alloc(), &made, case)?, "{case:?}");
+        assert!(rt; is_cut(&rt, rt.alloc(), &made, case)?, "{case:?}");
     }
     Ok(())
 }
@@ -241,7 +273,7 @@ const NEVER: u64 = u64::MAX;
 
 #[test]
 fn failing_full_books(rt: HostRuntime) -> Result<(), Fail> {
-    let made = ran_again(rt.alloc(), &[], &["init", "three.json", "key"], b"")?;
+    let made = ran_again(&rt, rt.alloc(), &[], &["init", "three.json", "key"], b"")?;
     let script =
         b"hello ann\nask census 1 size people\nask census 1 size people\nask census 11 size people\n";
     for (call, wanted) in &THREE_RECORDS {
@@ -251,6 +283,7 @@ fn failing_full_books(rt: HostRuntime) -> Result<(), Fail> {
         };
         let bytes = (made.first.as_slice(), b"".as_slice());
         let asked = ran_over(
+            &rt,
             rt.alloc(),
             bytes,
             &faults,

@@ -6,7 +6,9 @@ use memory_runs::journals::empty_journals;
 use memory_runs::{KEY, TABLE, census_files};
 use query_server::Status;
 use std::alloc::{AllocError, Global};
+use std::sync::Wait;
 use std::test::Fail;
+use std::thread::Threads;
 
 // Words and script, how the command ends, and what it writes.
 type Step<'a> = (&'a [&'a str], &'a [u8], Status, &'a [u8]);
@@ -89,10 +91,14 @@ static TWO_JOURNALS: [Step<'static>; 6] = [
 ];
 
 // How many of these commands on the same disks end and write what is wanted, before the first that doesn't.
-fn as_wanted(alloc: Global, steps: &[Step<'_>]) -> Result<usize, AllocError> {
+fn as_wanted<R: Threads + Wait + Sync>(
+    rt: &R,
+    alloc: Global,
+    steps: &[Step<'_>],
+) -> Result<usize, AllocError> {
     let mut journals = empty_journals(alloc)?;
     for (number, (texts, script, status, wanted)) in steps.iter().enumerate() {
-        let (ended, out) = journals.ran(alloc, texts, &held(), script)?;
+        let (ended, out) = journals.ran(rt, alloc, texts, &held(), script)?;
         if ended != *status || out.as_slice() != *wanted {
             return Ok(number);
         }
@@ -104,7 +110,7 @@ fn as_wanted(alloc: Global, steps: &[Step<'_>]) -> Result<usize, AllocError> {
 fn commands_in_a_row(rt: HostRuntime) -> Result<(), Fail> {
     let histories: [&[Step<'_>]; 4] = [&ONE_OWNER, &THREE_RECORDS, &TWO_OWNERS, &TWO_JOURNALS];
     for steps in histories {
-        let done = as_wanted(rt.alloc(), steps)?;
+        let done = as_wanted(&rt, rt.alloc(), steps)?;
         assert!(rt; done == steps.len(), "{done}");
     }
     Ok(())
@@ -117,9 +123,9 @@ fn mark_taken_off(rt: HostRuntime) -> Result<(), Fail> {
     let marked = census_files(b"\xEF\xBB\xBFage\n20\n30\n40\n", "key", &KEY);
     let plain = census_files(TABLE, "key", &KEY);
     let mut journals = empty_journals(alloc)?;
-    journals.ran(alloc, INIT, &marked, b"")?;
-    let (kept, replies) = journals.ran(alloc, RUN, &marked, ASK)?;
-    let (refused, line) = journals.ran(alloc, RUN, &plain, ASK)?;
+    journals.ran(&rt, alloc, INIT, &marked, b"")?;
+    let (kept, replies) = journals.ran(&rt, alloc, RUN, &marked, ASK)?;
+    let (refused, line) = journals.ran(&rt, alloc, RUN, &plain, ASK)?;
     assert!(rt; kept == Status::Done && replies.starts_with(b"hello ann\nanswer 0 5 1000000\n"));
     assert!(rt; refused == Status::JournalRefused && line.starts_with(b"journal census changed\n"));
     Ok(())

@@ -3,7 +3,9 @@
 use crate::commands::{AUDIT, INIT, RUN, ran_again};
 use query_server::Status;
 use std::alloc::{AllocError, Global};
+use std::sync::Wait;
 use std::test::Fail;
+use std::thread::Threads;
 
 // The header of the owner census: gate, name, version, owner, budget and capacity; and its digest, by Python's hashlib.
 const HEADER: &[u8; 26] = b"\xA5FUZZBUDG\x01\0\0\0\0\0\0\0\0\0\x98\x96\x80\0\0\0\x64";
@@ -138,14 +140,18 @@ static REFUSED: [Refused; 33] = [
 ];
 
 // The file of a journal behind this script.
-fn file_behind(alloc: Global, script: &[u8]) -> Result<Vec<u8>, AllocError> {
-    let made = ran_again(alloc, &[], INIT, b"")?;
-    Ok(ran_again(alloc, &made.first, RUN, script)?.first)
+fn file_behind<R: Threads + Wait + Sync>(
+    rt: &R,
+    alloc: Global,
+    script: &[u8],
+) -> Result<Vec<u8>, AllocError> {
+    let made = ran_again(rt, alloc, &[], INIT, b"")?;
+    Ok(ran_again(rt, alloc, &made.first, RUN, script)?.first)
 }
 
 // The file of a journal behind one ask, which is answered.
-fn answered(alloc: Global) -> Result<Vec<u8>, AllocError> {
-    file_behind(alloc, b"hello ann\nask census 1 size people\nbye\n")
+fn answered<R: Threads + Wait + Sync>(rt: &R, alloc: Global) -> Result<Vec<u8>, AllocError> {
+    file_behind(rt, alloc, b"hello ann\nask census 1 size people\nbye\n")
 }
 
 #[rattlefmt::skip]
@@ -155,19 +161,24 @@ static WRITTEN: [(usize, &[u8]); 5] = [(0, HEADER), (64, DIGEST), (128, RESERVED
 #[test]
 fn written_file(rt: HostRuntime) -> Result<(), Fail> {
     let due = patched(rt.alloc(), &[], 6528, &WRITTEN)?;
-    assert!(rt; answered(rt.alloc())?.as_slice() == due.as_slice());
-    let blanks = file_behind(rt.alloc(), b"hello ann\nask census 1  size people \n")?;
+    assert!(rt; answered(&rt, rt.alloc())?.as_slice() == due.as_slice());
+    let blanks = file_behind(&rt, rt.alloc(), b"hello ann\nask census 1  size people \n")?;
     let due_then = patched(rt.alloc(), &due, 6528, &[(160, WITH_BLANKS)])?;
     assert!(rt; blanks.as_slice() == due_then.as_slice());
     Ok(())
 }
 
 // Whether `audit` counts what this file has and leaves it as it was, and `run` goes on from it.
-fn is_kept(alloc: Global, whole: &[u8], row: &Kept) -> Result<bool, AllocError> {
+fn is_kept<R: Threads + Wait + Sync>(
+    rt: &R,
+    alloc: Global,
+    whole: &[u8],
+    row: &Kept,
+) -> Result<bool, AllocError> {
     let (patches, counts, replies) = row;
     let bytes = patched(alloc, whole, 6528, patches)?;
-    let counted = ran_again(alloc, &bytes, AUDIT, b"")?;
-    let asked = ran_again(alloc, &bytes, RUN, SCRIPT)?;
+    let counted = ran_again(rt, alloc, &bytes, AUDIT, b"")?;
+    let asked = ran_again(rt, alloc, &bytes, RUN, SCRIPT)?;
     Ok(
         counted.out.as_slice() == *counts
             && counted.first.as_slice() == bytes.as_slice()
@@ -177,21 +188,22 @@ fn is_kept(alloc: Global, whole: &[u8], row: &Kept) -> Result<bool, AllocError> 
 
 #[test]
 fn kept_files(rt: HostRuntime) -> Result<(), Fail> {
-    let whole = answered(rt.alloc())?;
+    let whole = answered(&rt, rt.alloc())?;
     for row in &KEPT {
-        assert!(rt; is_kept(rt.alloc(), &whole, row)?, "{row:?}");
+        assert!(rt; is_kept(&rt, rt.alloc(), &whole, row)?, "{row:?}");
     }
     Ok(())
 }
 
 // Whether the command of these words refuses a file with this line, and leaves it as it was.
-fn is_refused(
+fn is_refused<R: Threads + Wait + Sync>(
+    rt: &R,
     alloc: Global,
     bytes: &[u8],
     texts: &[&str],
     line: &[u8],
 ) -> Result<bool, AllocError> {
-    let refused = ran_again(alloc, bytes, texts, SCRIPT)?;
+    let refused = ran_again(rt, alloc, bytes, texts, SCRIPT)?;
     Ok(
         refused.status == Status::JournalRefused
             && refused.out.as_slice() == line
@@ -200,18 +212,23 @@ fn is_refused(
 }
 
 // Whether `audit` and `run` refuse this file.
-fn are_refused(alloc: Global, whole: &[u8], row: &Refused) -> Result<bool, AllocError> {
+fn are_refused<R: Threads + Wait + Sync>(
+    rt: &R,
+    alloc: Global,
+    whole: &[u8],
+    row: &Refused,
+) -> Result<bool, AllocError> {
     let (length, patches, line) = row;
     let bytes = patched(alloc, whole, *length, patches)?;
-    let audited = is_refused(alloc, &bytes, AUDIT, line)?;
-    Ok(is_refused(alloc, &bytes, RUN, line)? && audited)
+    let audited = is_refused(rt, alloc, &bytes, AUDIT, line)?;
+    Ok(is_refused(rt, alloc, &bytes, RUN, line)? && audited)
 }
 
 #[test]
 fn refused_files(rt: HostRuntime) -> Result<(), Fail> {
-    let whole = answered(rt.alloc())?;
+    let whole = answered(&rt, rt.alloc())?;
     for row in &REFUSED {
-        assert!(rt; are_refused(rt.alloc(), &whole, row)?, "{row:?}");
+        assert!(rt; are_refused(&rt, rt.alloc(), &whole, row)?, "{row:?}");
     }
     Ok(())
 }

@@ -6,7 +6,9 @@ use memory_runs::journals::empty_journals;
 use memory_runs::{KEY, file, joined};
 use query_server::Status;
 use std::alloc::{AllocError, Global};
+use std::sync::Wait;
 use std::test::Fail;
+use std::thread::Threads;
 
 const PEOPLE: &[u8] = b"town,team,age\nA,x,20\nB,y,30\nA,y,40\nC,x,50\nB,x,60\n";
 
@@ -97,7 +99,8 @@ static CASES: [Case; 5] = [
 ];
 
 // Whether runs that follow one another on one journal write what is wanted, under the catalog with this budget and these towns.
-fn are_charged(
+fn are_charged<R: Threads + Wait + Sync>(
+    rt: &R,
     alloc: Global,
     budget: &[u8],
     towns: &[u8],
@@ -112,9 +115,9 @@ fn are_charged(
         file("key", &KEY),
     ];
     let mut journals = empty_journals(alloc)?;
-    journals.ran(alloc, INIT, &held, b"")?;
+    journals.ran(rt, alloc, INIT, &held, b"")?;
     for (script, wanted) in runs {
-        let (status, out) = journals.ran(alloc, RUN, &held, script)?;
+        let (status, out) = journals.ran(rt, alloc, RUN, &held, script)?;
         if status != Status::Done || out.as_slice() != *wanted {
             return Ok(false);
         }
@@ -125,7 +128,7 @@ fn are_charged(
 #[test]
 fn parts(rt: HostRuntime) -> Result<(), Fail> {
     for (budget, runs) in &CASES {
-        let charged = are_charged(rt.alloc(), budget, TOWNS, PEOPLE, runs)?;
+        let charged = are_charged(&rt, rt.alloc(), budget, TOWNS, PEOPLE, runs)?;
         assert!(rt; charged, "{runs:?}");
     }
     Ok(())
@@ -154,6 +157,6 @@ static OF_MANY: [Run; 1] = [(
 #[test]
 fn many_parts(rt: HostRuntime) -> Result<(), Fail> {
     let keys = many_keys(rt.alloc())?;
-    assert!(rt; are_charged(rt.alloc(), b"1000000", keys.as_bytes(), MANY, &OF_MANY)?);
+    assert!(rt; are_charged(&rt, rt.alloc(), b"1000000", keys.as_bytes(), MANY, &OF_MANY)?);
     Ok(())
 }

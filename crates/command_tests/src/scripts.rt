@@ -10,7 +10,9 @@ use memory_runs::journals::{MemJournals, empty_journals};
 use memory_runs::{KEY, Piece, TABLE, census_files, ended, joined, words_of};
 use query_server::Status;
 use std::alloc::{AllocError, Global};
+use std::sync::Wait;
 use std::test::Fail;
+use std::thread::Threads;
 
 // Whether a transcript is the plain one, which has `?` for the refusal of a program that it doesn't read, and `*` for the reply to a
 // `recall` or a `left`.
@@ -112,9 +114,14 @@ static SCRIPTS: [Script<'static>; 17] = [
 ];
 
 // Whether this is what is written for a script, and what the plain server writes.
-fn is_written(alloc: Global, script: &[u8], wanted: &[u8]) -> Result<bool, AllocError> {
+fn is_written<R: Threads + Wait + Sync>(
+    rt: &R,
+    alloc: Global,
+    script: &[u8],
+    wanted: &[u8],
+) -> Result<bool, AllocError> {
     let held = census_files(TABLE, "key", &KEY);
-    let (status, out) = ended(alloc, RUN, &held, script)?;
+    let (status, out) = ended(rt, alloc, RUN, &held, script)?;
     let plain = plain::transcript(alloc, 3, KEY, script)?;
     Ok(status == Status::Done && out.as_slice() == wanted && agrees(plain.as_bytes(), wanted))
 }
@@ -123,7 +130,7 @@ fn is_written(alloc: Global, script: &[u8], wanted: &[u8]) -> Result<bool, Alloc
 fn transcripts(rt: HostRuntime) -> Result<(), Fail> {
     for (pieces, wanted) in &SCRIPTS {
         let script = joined(rt.alloc(), pieces)?;
-        assert!(rt; is_written(rt.alloc(), &script, wanted)?, "{pieces:?}");
+        assert!(rt; is_written(&rt, rt.alloc(), &script, wanted)?, "{pieces:?}");
     }
     Ok(())
 }
@@ -164,27 +171,34 @@ static STATUSES: [Work<'static>; 20] = [
 ];
 
 // Whether a run ends so, and writes what is wanted.
-fn ends_so(alloc: Global, row: &Work<'_>) -> Result<bool, AllocError> {
+fn ends_so<R: Threads + Wait + Sync>(
+    rt: &R,
+    alloc: Global,
+    row: &Work<'_>,
+) -> Result<bool, AllocError> {
     let (words, table, key, pieces, status, wanted) = row;
     let script = joined(alloc, pieces)?;
     let held = census_files(table, "key", key);
-    let (end, out) = ended(alloc, words, &held, &script)?;
+    let (end, out) = ended(rt, alloc, words, &held, &script)?;
     Ok(end == *status && out.as_slice() == *wanted)
 }
 
 #[test]
 fn statuses(rt: HostRuntime) -> Result<(), Fail> {
     for row in &STATUSES {
-        assert!(rt; ends_so(rt.alloc(), row)?, "{row:?}");
+        assert!(rt; ends_so(&rt, rt.alloc(), row)?, "{row:?}");
     }
     Ok(())
 }
 
 // The journal of the catalog's owner, which an `init` has made.
-fn made(alloc: Global) -> Result<MemJournals<'static>, AllocError> {
+fn made<R: Threads + Wait + Sync>(
+    rt: &R,
+    alloc: Global,
+) -> Result<MemJournals<'static>, AllocError> {
     let mut journals = empty_journals(alloc)?;
     let held = census_files(TABLE, "key", &KEY);
-    journals.ran(alloc, INIT, &held, b"")?;
+    journals.ran(rt, alloc, INIT, &held, b"")?;
     Ok(journals)
 }
 
@@ -198,7 +212,7 @@ fn longest_script(rt: HostRuntime) -> Result<(), Fail> {
     let mut files = MemFiles::new(&held);
     let mut source = MemSource::new(&script);
     let mut sink = MemSink::<134_217_728>::new(alloc)?;
-    let status = made(alloc)?.ran_over(alloc, &words, &mut files, &mut source, &mut sink);
+    let status = made(&rt, alloc)?.ran_over(&rt, alloc, &words, &mut files, &mut source, &mut sink);
     let out = sink.bytes();
     assert!(rt; status == Status::Done && out.len() == 134_217_728);
     assert!(rt; out.ends_with(b"no 10 0\nno 10 0\n"));
@@ -211,14 +225,18 @@ fn on_schedule<T>(inner: T, failing: &[u64]) -> Flaky<'_, T> {
 }
 
 // A run of one ask, of which these calls of the files, of the source and of the sink fail: how it ends, and what it writes.
-fn ran_failing(alloc: Global, failing: &[u64; 3]) -> Result<(Status, Vec<u8>), AllocError> {
+fn ran_failing<R: Threads + Wait + Sync>(
+    rt: &R,
+    alloc: Global,
+    failing: &[u64; 3],
+) -> Result<(Status, Vec<u8>), AllocError> {
     let words = words_of(alloc, RUN)?;
     let held = census_files(TABLE, "key", &KEY);
     let script = b"hello ann\nask census 1 size people\nbye\n";
     let mut files = on_schedule(MemFiles::new(&held), &failing[..1]);
     let mut source = on_schedule(MemSource::new(script), &failing[1..2]);
     let mut sink = on_schedule(MemSink::<64>::new(alloc)?, &failing[2..]);
-    let status = made(alloc)?.ran_over(alloc, &words, &mut files, &mut source, &mut sink);
+    let status = made(rt, alloc)?.ran_over(rt, alloc, &words, &mut files, &mut source, &mut sink);
     Ok((status, sink.inner.bytes().to_vec(alloc)?))
 }
 
@@ -241,7 +259,7 @@ static FAULTS: [([u64; 3], Status, usize); 18] = [
 fn faults(rt: HostRuntime) -> Result<(), Fail> {
     let whole = b"hello ann\nanswer 0 5 1000000\nbye\n";
     for (failing, status, length) in &FAULTS {
-        let (ended, out) = ran_failing(rt.alloc(), failing)?;
+        let (ended, out) = ran_failing(&rt, rt.alloc(), failing)?;
         let due = whole.get(..*length);
         assert!(rt;
             ended == *status && due == Some(out.as_slice()),
@@ -272,13 +290,17 @@ const COUNTED: [u8; 32] = *b"\x00\x01\x02\x03\x04\x05\x06\x07\x08\x09\x0a\x0b\x0
     \x10\x11\x12\x13\x14\x15\x16\x17\x18\x19\x1a\x1b\x1c\x1d\x1e\x1f";
 
 // Whether the plain server writes what is written for the script of this number, of three telling lines, under another key.
-fn agree(alloc: Global, number: usize) -> Result<bool, AllocError> {
+fn agree<R: Threads + Wait + Sync>(
+    rt: &R,
+    alloc: Global,
+    number: usize,
+) -> Result<bool, AllocError> {
     let mut script = Vec::new(alloc);
     for place in [169, 13, 1] {
         script.extend_from_slice(TELLING[number / place % 13])?;
     }
     let held = census_files(TABLE, "key", &COUNTED);
-    let (status, out) = ended(alloc, RUN, &held, &script)?;
+    let (status, out) = ended(rt, alloc, RUN, &held, &script)?;
     let plain = plain::transcript(alloc, 3, COUNTED, &script)?;
     Ok(status == Status::Done && out.as_slice() == plain.as_bytes())
 }
@@ -287,7 +309,7 @@ fn agree(alloc: Global, number: usize) -> Result<bool, AllocError> {
 #[test]
 fn plain_transcripts_agree(rt: HostRuntime) -> Result<(), Fail> {
     for number in 0..2197_usize {
-        assert!(rt; agree(rt.alloc(), number)?, "{number}");
+        assert!(rt; agree(&rt, rt.alloc(), number)?, "{number}");
     }
     Ok(())
 }

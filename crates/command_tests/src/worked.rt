@@ -5,7 +5,9 @@ use crate::commands::RUN;
 use memory_runs::{AGE, KEY, Piece, TABLE, census_files, ended, file, joined, owner_text};
 use query_server::Status;
 use std::alloc::{AllocError, Global};
+use std::sync::Wait;
 use std::test::Fail;
+use std::thread::Threads;
 
 // A table, what is asked of it, and what is written.
 type Row<'a> = (&'a [u8], &'a [Piece<'a>], &'a [u8]);
@@ -44,19 +46,23 @@ fn between(alloc: Global, lines: &[u8]) -> Result<Vec<u8>, AllocError> {
 }
 
 // Whether what is asked is answered so.
-fn is_answered(alloc: Global, row: &Row<'_>) -> Result<bool, AllocError> {
+fn is_answered<R: Threads + Wait + Sync>(
+    rt: &R,
+    alloc: Global,
+    row: &Row<'_>,
+) -> Result<bool, AllocError> {
     let (table, asked, wanted) = row;
     let script = between(alloc, &joined(alloc, asked)?)?;
     let due = between(alloc, wanted)?;
     let held = census_files(table, "key", &KEY);
-    let (status, out) = ended(alloc, RUN, &held, &script)?;
+    let (status, out) = ended(rt, alloc, RUN, &held, &script)?;
     Ok(status == Status::Done && out.as_slice() == due.as_slice())
 }
 
 #[test]
 fn worked_rows(rt: HostRuntime) -> Result<(), Fail> {
     for row in &ROWS {
-        assert!(rt; is_answered(rt.alloc(), row)?, "{row:?}");
+        assert!(rt; is_answered(&rt, rt.alloc(), row)?, "{row:?}");
     }
     Ok(())
 }
@@ -80,7 +86,12 @@ fn rich(alloc: Global) -> Result<String, AllocError> {
 }
 
 // Whether the sum over this table is answered so, under this catalog.
-fn is_summed(alloc: Global, catalog: &[u8], row: &Sum<'_>) -> Result<bool, AllocError> {
+fn is_summed<R: Threads + Wait + Sync>(
+    rt: &R,
+    alloc: Global,
+    catalog: &[u8],
+    row: &Sum<'_>,
+) -> Result<bool, AllocError> {
     let (times, number, more, program, wanted) = row;
     let table = joined(
         alloc,
@@ -93,7 +104,7 @@ fn is_summed(alloc: Global, catalog: &[u8], row: &Sum<'_>) -> Result<bool, Alloc
         file("people.csv", &table),
         file("key", &KEY),
     ];
-    let (_, out) = ended(alloc, RUN, &held, &script)?;
+    let (_, out) = ended(rt, alloc, RUN, &held, &script)?;
     Ok(out.strip_prefix(b"hello ann\n") == Some(*wanted))
 }
 
@@ -103,7 +114,7 @@ fn sums_of_many_rows(rt: HostRuntime) -> Result<(), Fail> {
     let catalog = rich(rt.alloc())?;
     for row in &SUMS {
         assert!(rt;
-            is_summed(rt.alloc(), catalog.as_bytes(), row)?,
+            is_summed(&rt, rt.alloc(), catalog.as_bytes(), row)?,
             "{} rows",
             row.0
         );

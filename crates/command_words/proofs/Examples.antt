@@ -57,18 +57,46 @@ plus_and_zeros : command_of (codes "run" ∷ codes "c" ∷ codes "k" ∷ codes "
 unfolding command_of clap_on_literals
 plus_and_zeros = refl
 
--- other numbers, no number, no value, and two values
+-- numbers on both sides of the range, no number, no value, and two values
 no_workers : command_of (codes "run" ∷ codes "c" ∷ codes "k" ∷ codes "--workers" ∷ codes "0" ∷ []) ≡ None
 unfolding command_of clap_on_literals
 no_workers = refl
 
-two_workers : command_of (codes "run" ∷ codes "c" ∷ codes "k" ∷ codes "--workers" ∷ codes "2" ∷ []) ≡ None
+no_workers_in_one_word : command_of (codes "run" ∷ codes "c" ∷ codes "k" ∷ codes "--workers=0" ∷ []) ≡ None
+unfolding command_of clap_on_literals
+no_workers_in_one_word = refl
+
+two_workers : command_of (codes "run" ∷ codes "c" ∷ codes "k" ∷ codes "--workers" ∷ codes "2" ∷ []) ≡ Some (run (codes "c") (codes "k") 2)
 unfolding command_of clap_on_literals
 two_workers = refl
 
-two_workers_in_one_word : command_of (codes "run" ∷ codes "c" ∷ codes "k" ∷ codes "--workers=2" ∷ []) ≡ None
+two_workers_in_one_word : command_of (codes "run" ∷ codes "c" ∷ codes "k" ∷ codes "--workers=2" ∷ []) ≡ Some (run (codes "c") (codes "k") 2)
 unfolding command_of clap_on_literals
 two_workers_in_one_word = refl
+
+most_workers : command_of (codes "run" ∷ codes "c" ∷ codes "k" ∷ codes "--workers" ∷ codes "16" ∷ []) ≡ Some (run (codes "c") (codes "k") 16)
+unfolding command_of clap_on_literals
+most_workers = refl
+
+most_workers_in_one_word : command_of (codes "run" ∷ codes "c" ∷ codes "k" ∷ codes "--workers=16" ∷ []) ≡ Some (run (codes "c") (codes "k") 16)
+unfolding command_of clap_on_literals
+most_workers_in_one_word = refl
+
+most_workers_behind_zeros : command_of (codes "run" ∷ codes "c" ∷ codes "k" ∷ codes "--workers=+000000000000000000000016" ∷ []) ≡ Some (run (codes "c") (codes "k") 16)
+unfolding command_of clap_on_literals
+most_workers_behind_zeros = refl
+
+too_many_workers : command_of (codes "run" ∷ codes "c" ∷ codes "k" ∷ codes "--workers" ∷ codes "17" ∷ []) ≡ None
+unfolding command_of clap_on_literals
+too_many_workers = refl
+
+too_many_workers_in_one_word : command_of (codes "run" ∷ codes "c" ∷ codes "k" ∷ codes "--workers=17" ∷ []) ≡ None
+unfolding command_of clap_on_literals
+too_many_workers_in_one_word = refl
+
+a_hundred_workers : command_of (codes "run" ∷ codes "c" ∷ codes "k" ∷ codes "--workers" ∷ codes "100" ∷ []) ≡ None
+unfolding command_of clap_on_literals
+a_hundred_workers = refl
 
 negative_workers : command_of (codes "run" ∷ codes "c" ∷ codes "k" ∷ codes "--workers=-1" ∷ []) ≡ None
 unfolding command_of clap_on_literals
@@ -323,6 +351,10 @@ workers_past_the_numbers = refl
 workers_past_the_numbers_in_one_word : command_of (codes "run" ∷ codes "c" ∷ codes "k" ∷ codes "--workers=4294967297" ∷ []) ≡ None
 unfolding command_of clap_on_literals
 workers_past_the_numbers_in_one_word = refl
+
+workers_past_all_numbers : command_of (codes "run" ∷ codes "c" ∷ codes "k" ∷ codes "--workers" ∷ codes "18446744073709551617" ∷ []) ≡ None
+unfolding command_of clap_on_literals
+workers_past_all_numbers = refl
 
 two_pluses : command_of (codes "run" ∷ codes "c" ∷ codes "k" ∷ codes "--workers" ∷ codes "++1" ∷ []) ≡ None
 unfolding command_of clap_on_literals

@@ -5,7 +5,7 @@ use Rattle.clap.specs.declared.builder.value_parser.ValueParser.TheVariants as p
 
 -- the most workers of a run
 abbrev pub greatest_workers : ℕ
-greatest_workers = 1
+greatest_workers = 16
 
 -- a word that must be given
 abbrev pub required_word : Text → Rule

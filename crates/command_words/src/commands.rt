@@ -10,7 +10,7 @@ use clap::{Arg, Command};
 use std::alloc::{AllocError, Global};
 
 /// The most workers of a run.
-const GREATEST_WORKERS: i64 = 1;
+const GREATEST_WORKERS: i64 = 16;
 
 /// A word that must be given.
 fn word<'a>(alloc: Global, name: &'a str) -> Arg<'a>

@@ -152,7 +152,7 @@ fn command_found<'a>(matches: &ArgMatches<'a>) -> Option<Command<'a>>
 ///
 /// - `check CATALOG OWNER FILE`
 /// - `init CATALOG KEY`
-/// - `run CATALOG KEY`, perhaps with `--workers W`: W is 1, also where it isn't given.
+/// - `run CATALOG KEY`, perhaps with `--workers W`: W is from 1 to 16, and 1 where it isn't given.
 /// - `audit CATALOG KEY`
 /// - `gap CATALOG OWNER CATALOG2 FILE`
 ///

@@ -9,8 +9,11 @@ use fz_outside::source::{MemSource, Source};
 use outside_bays::bay::Bay;
 use outside_bays::memory::MemBay;
 use outside_disks::memory::{Limits, MemDisk};
+use outside_links::gate::FreeGate;
 use query_server::{Status, run_server};
 use std::alloc::{AllocError, Global};
+use std::sync::Wait;
+use std::thread::Threads;
 
 /// How much a disk of a test takes: a journal of up to 126 records.
 pub const LARGE: Limits = Limits {
@@ -35,8 +38,9 @@ pub struct Journals<B: Bay> {
 
 impl<B: Bay + Drop> Journals<B> {
     /// How the command of these words ends over these files and this source, and what it writes.
-    pub fn ran(
+    pub fn ran<R: Threads + Wait + Sync>(
         &mut self,
+        rt: &R,
         alloc: Global,
         texts: &[&str],
         held: &[MemFile<'_>],
@@ -46,20 +50,30 @@ impl<B: Bay + Drop> Journals<B> {
         let mut files = MemFiles::new(held);
         let mut source = MemSource::new(script);
         let mut sink = MemSink::<ROOM>::new(alloc)?;
-        let status = self.ran_over(alloc, &words, &mut files, &mut source, &mut sink);
+        let status = self.ran_over(rt, alloc, &words, &mut files, &mut source, &mut sink);
         Ok((status, sink.bytes().to_vec(alloc)?))
     }
 
     /// How the command of these words ends over these files, this source and this sink.
-    pub fn ran_over<F: Files, S: Source, K: Sink>(
+    pub fn ran_over<R: Threads + Wait + Sync, F: Files, S: Source, K: Sink>(
         &mut self,
+        rt: &R,
         alloc: Global,
         words: &[String],
         files: &mut F,
         source: &mut S,
         sink: &mut K,
     ) -> Status {
-        run_server(&(), alloc, words, files, &mut self.bay, source, sink)
+        run_server(
+            rt,
+            alloc,
+            words,
+            files,
+            &mut self.bay,
+            source,
+            sink,
+            &FreeGate,
+        )
     }
 
     /// The bay.

@@ -7,6 +7,8 @@ use crate::journals::empty_journals;
 use fz_outside::files::MemFile;
 use query_server::Status;
 use std::alloc::{AllocError, Global};
+use std::sync::Wait;
+use std::thread::Threads;
 
 /// The most bytes that a run in memory writes.
 pub const ROOM: usize = 65_536;
@@ -101,7 +103,8 @@ pub fn census_files<'a>(table: &'a [u8], name: &'a str, bytes: &'a [u8]) -> [Mem
 
 /// How the command of these words ends over these files and this source, and what it writes. A `run` finds journals that an
 /// `init` has made.
-pub fn ended(
+pub fn ended<R: Threads + Wait + Sync>(
+    rt: &R,
     alloc: Global,
     texts: &[&str],
     held: &[MemFile<'_>],
@@ -109,7 +112,7 @@ pub fn ended(
 ) -> Result<(Status, Vec<u8>), AllocError> {
     let mut journals = empty_journals(alloc)?;
     if let ["run", catalog, key] = texts {
-        journals.ran(alloc, &["init", catalog, key], held, b"")?;
+        journals.ran(rt, alloc, &["init", catalog, key], held, b"")?;
     }
-    journals.ran(alloc, texts, held, script)
+    journals.ran(rt, alloc, texts, held, script)
 }

@@ -12,7 +12,7 @@ use outside_disks::disk::Disk;
 ///
 /// A taken disk isn't taken again before it is put back. A disk that wasn't made yet is an empty one.
 pub trait Bay {
-    type D: Disk + Drop;
+    type D: Disk + Drop + Send;
 
     // How many owners there are.
     ghost owners: { Self → ℕ };

@@ -18,7 +18,7 @@ pub struct MemBay<'a, D: Disk> {
     schedule: Schedule<'a>,
 }
 
-impl<'a, D: Disk + Drop> MemBay<'a, D> {
+impl<'a, D: Disk + Drop + Send> MemBay<'a, D> {
     /// These disks, all of them at home.
     pub fn new(disks: Vec<Option<D>>, failing: &'a [u64]) -> Self
         ensures owners { ⟦<MemBay<'a, D> as Bay>⟧.owners result ≡ length disks.items }
@@ -50,7 +50,7 @@ fn begin(schedule: &mut Schedule<'_>) -> Result<(), Failed>
     schedule.begin()
 }
 
-impl<D: Disk + Drop> Bay for MemBay<'_, D> {
+impl<D: Disk + Drop + Send> Bay for MemBay<'_, D> {
     type D = D;
 
     ghost owners = { λ bay. length bay.disks.items };

@@ -19,7 +19,7 @@ pub struct RealBay<'a, R> {
     faults: u64,
 }
 
-impl<'a, R: rt::Files<File = fs::File>> RealBay<'a, R> {
+impl<'a, R: rt::Files<File = fs::File> + Sync> RealBay<'a, R> {
     /// The bay of so many owners in this folder, whose own folder is there.
     pub fn new(alloc: Global, rt: &'a R, folder: &str, owners: u32) -> Result<Self, AllocError>
         ensures owners { IfOk result (λ bay. ⟦<RealBay<'a, R> as Bay>⟧.owners bay ≡ owners) }
@@ -50,7 +50,7 @@ fn open_place<R: rt::Files<File = fs::File>>(
     }
 }
 
-impl<'a, R: rt::Files<File = fs::File>> Bay for RealBay<'a, R> {
+impl<'a, R: rt::Files<File = fs::File> + Sync> Bay for RealBay<'a, R> {
     type D = FileDisk<'a, R>;
 
     ghost owners = { λ bay. length bay.places.items };

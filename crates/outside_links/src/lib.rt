@@ -7,6 +7,7 @@ ghost use Rattle.fz_outside.specs.Faults.{HasRisen};
 
 use fz_outside::Failed;
 
+pub mod gate;
 pub mod link;
 pub mod memory;
 

@@ -16,7 +16,7 @@ fn words_of(alloc: Global, texts: &[&str]) -> Result<Vec<String>, AllocError> {
 
 // Words, and the command that they are.
 #[rattlefmt::skip]
-const COMMANDS: [(&[&str], Command<'static>); 13] = [
+const COMMANDS: [(&[&str], Command<'static>); 14] = [
     // each command
     (&["check", "c", "o", "f"], Command::Check { catalog: "c", owner: "o", file: "f" }),
     (&["init", "c", "k"], Command::Init { catalog: "c", key: "k" }),
@@ -30,6 +30,8 @@ const COMMANDS: [(&[&str], Command<'static>); 13] = [
     (&["run", "c", "k", "--workers=1"], RUN),
     (&["run", "c", "k", "--workers", "01"], RUN),
     (&["run", "c", "k", "--workers", "+1"], RUN),
+    // the most workers
+    (&["run", "c", "k", "--workers", "16"], Command::Run { catalog: "c", key: "k", workers: 16 }),
     // names that begin with a hyphen, or are empty
     (&["run", "--", "-c", "--workers"], Command::Run { catalog: "-c", key: "--workers", workers: 1 }),
     (&["run", "-", ""], Command::Run { catalog: "-", key: "", workers: 1 }),
@@ -46,7 +48,7 @@ const RUN: Command<'static> = Command::Run {
 const OTHER_WORDS: [&[&str]; 33] = [
     // other numbers, and no number
     &["run", "c", "k", "--workers", "0"],
-    &["run", "c", "k", "--workers", "2"],
+    &["run", "c", "k", "--workers", "17"],
     &["run", "c", "k", "--workers", "-1"],
     &["run", "c", "k", "--workers", "one"],
     &["run", "c", "k", "--workers", ""],

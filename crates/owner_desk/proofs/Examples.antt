@@ -17,7 +17,7 @@ use Rattle.budget_ledger.specs.Account.{Account}
 use Rattle.budget_ledger.specs.declared.failure.Failure.{Failure}
 use Rattle.budget_ledger.specs.declared.book.AppendFault.TheVariants.{Closed, DiskFault}
 use Rattle.budget_ledger.specs.declared.book.BookFault.TheVariants.{Refused, Unwritten}
-use Rattle.owner_desk.specs.Passes.{Pass, Told, IsJustOpened, closing, first_of_run, pass_on, records_told, told_behind}
+use Rattle.owner_desk.specs.Passes.{Pass, Told, IsJustOpened, closing, first_of_run, records_told, told_behind}
 use Rattle.owner_desk.specs.Answers.{Has, HasGranted, HasLooked, HasReserved, HasSettled}
 
 -- an ask of the whole at sensitivity 1, and its reservation under a number
@@ -74,13 +74,6 @@ closing_one = refl
 -- the one reservation found was of an earlier run
 run_begins : first_of_run (pass found None [] []) ≡ 1
 run_begins = refl
-
-first_pass : pass_on (book found None) (book found None) ≡ pass found None [] []
-first_pass = refl
-
-later_pass : pass_on (book found None) (book (found ++ reserved 1 ∷ []) (Some (failed (settling 1 Lost))))
-    ≡ pass (found ++ reserved 1 ∷ []) (Some (failed (settling 1 Lost))) ((2, reserved 1) ∷ []) (failed (settling 1 Lost) ∷ [])
-later_pass = refl
 
 -- ---- a reservation, of a pass that has seen what was found, where another pass has added one meanwhile
 

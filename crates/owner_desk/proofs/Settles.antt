@@ -1,4 +1,4 @@
--- a reservation that a pass made, and hasn't settled, isn't settled
+-- reservations and settlements among the records of a book
 use Rattle.std.proofs.Common.{◌≡◌, ◌⊎◌, ℕ, zero, suc, ◌<◌, ◌≤◌, Bool, true, false, cond, ◌==◌, List, [], ◌∷◌, length, take, drop, refl, sym, ap, ◌∙◌, subst, inl, inr, ⊎_elim, arith, Option, Some, None, IsSome, slice_get}
 use Rattle.std.proofs.lemmas.Bool.{cases_lt, ltb-true, lt-ltb, eqb-true, eq-eqb}
 use Rattle.std.proofs.lemmas.List.{take-take, take_all, take-append-drop}
@@ -11,16 +11,10 @@ use Rattle.journal_records.specs.declared.records.Record.TheVariants.{Reserve, S
 use Rattle.journal_records.specs.Records.{settling}
 use Rattle.budget_core.specs.Counts.{reservations_of, reservation_of, outcome_of}
 use Rattle.budget_core.specs.Entries.{Entry}
-use Rattle.budget_core.specs.Ledger.{IsUnsettled}
 use Rattle.budget_core.specs.Legal.{IsHistory}
 use Rattle.budget_core.proofs.LegalLemmas.{reservations_within}
 use Rattle.budget_core.proofs.Numbers.{reserved_below}
 use Rattle.budget_core.proofs.Histories.{history-front}
-use Rattle.budget_core.proofs.SoundLemmas.{sound-history}
-use Rattle.budget_ledger.specs.Account.{Account}
-use Rattle.owner_desk.specs.Passes.{Told, IsSole, pass_on}
-use Rattle.owner_desk.specs.Answers.{Has, HasGranted}
-use Rattle.owner_desk.proofs.Own.{told_at, at_told, found_is}
 
 -- a reservation counts in all that stand behind it
 pub counts_behind : (records : List Record) (j k : ℕ) (one : Reservation) → slice_get records j ≡ Some (Reserve one) → j < k
@@ -43,7 +37,7 @@ counts_le (Reserve first ∷ records) (suc j) (suc k) le = omega (arith, counts_
 counts_le (Settle settlement ∷ records) (suc j) (suc k) le = counts_le records j k (omega (arith, le))
 
 -- where a number is settled, its settlement stands
-settled_at : (records : List Record) (n : ℕ) (outcome : Outcome) → outcome_of records n ≡ Some outcome → (q : ℕ) × (slice_get records q ≡ Some (settling n outcome))
+pub settled_at : (records : List Record) (n : ℕ) (outcome : Outcome) → outcome_of records n ≡ Some outcome → (q : ℕ) × (slice_get records q ≡ Some (settling n outcome))
 settled_at [] n outcome is = absurd cc
 settled_at (Reserve reserved ∷ records) n outcome is = let r = settled_at records n outcome is in (suc r.0, r.1)
 settled_at (Settle settlement ∷ records) n outcome is =
@@ -76,7 +70,7 @@ not_unsettled (Settle settlement ∷ records) (suc q) n outcome at none = here (
     here true none rec = cc
     here false none rec = rec none
 
-none_or : {X : Type 0} (o : Option X) → (o ≡ None) ⊎ ((x : X) × (o ≡ Some x))
+pub none_or : {X : Type 0} (o : Option X) → (o ≡ None) ⊎ ((x : X) × (o ≡ Some x))
 none_or None = inl refl
 none_or (Some x) = inr (x, refl)
 
@@ -84,7 +78,7 @@ module _ (entry : Entry) (records : List Record) (h : IsHistory entry records) (
   numbered : reserved.number ≡ length (reservations_of (take place records))
   numbered = (h.follows place (Reserve reserved) at).numbered
 
-  is_reserved : IsSome (reservation_of records reserved.number)
+  pub is_reserved : IsSome (reservation_of records reserved.number)
   is_reserved =
       let within : place < length records = slice_get_within records place (Reserve reserved) at in
       let all : take (length records) records ≡ records = take_all (length records) records (omega arith) in
@@ -93,7 +87,7 @@ module _ (entry : Entry) (records : List Record) (h : IsHistory entry records) (
       reserved_below entry records h reserved.number ∙ lt-ltb reserved.number (length (reservations_of records)) below
 
   -- a settlement stands behind its reservation
-  settled_behind : (q n : ℕ) (outcome : Outcome) → n ≡ reserved.number → slice_get records q ≡ Some (settling n outcome) → place < q
+  pub settled_behind : (q n : ℕ) (outcome : Outcome) → n ≡ reserved.number → slice_get records q ≡ Some (settling n outcome) → place < q
   settled_behind q n outcome same there =
       let may : IsSome (reservation_of (take q records) n) = (h.follows q (settling n outcome) there).reserved in
       let below : n < length (reservations_of (take q records)) = ltb-true n (length (reservations_of (take q records))) (sym (reserved_below entry (take q records) (front q) n) ∙ may) in
@@ -106,38 +100,7 @@ module _ (entry : Entry) (records : List Record) (h : IsHistory entry records) (
       front q = history-front entry (take q records) (drop q records) (subst (IsHistory entry) (sym (take-append-drop q records)) h)
 
   -- it is of this run where it stands behind the records found
-  ours : (found : List Record) → take (length found) records ≡ found → length found ≤ place → length (reservations_of found) ≤ reserved.number
+  pub ours : (found : List Record) → take (length found) records ≡ found → length found ≤ place → length (reservations_of found) ≤ reserved.number
   ours found begins behind =
       let front : take (length found) (take place records) ≡ found = take-take (length found) place records behind ∙ begins in
       omega (arith, reservations_within found (take place records) front, numbered)
-
-module _ (opened now : Account) (sole : IsSole opened now) (number : ℕ) (mine : HasGranted (pass_on opened now) number) where
-  abbrev records : List Record
-  records = now.ledger.records
-
-  abbrev reserved : Reservation
-  reserved = mine.reserved
-
-  stands : (length opened.ledger.found ≤ mine.place) × (slice_get records mine.place ≡ Some (Reserve reserved))
-  stands = told_at opened.ledger.found records mine.place (Reserve reserved) mine.granted
-
-  history : IsHistory now.ledger.entry records
-  history = sound-history now.ledger sole.book.sound
-
-  behind : length now.ledger.found ≤ mine.place
-  behind = omega (arith, stands.0, ap length (found_is opened now sole))
-
-  unsettled : outcome_of records reserved.number ≡ None
-  unsettled = ⊎_elim (λ none. none) (λ (t : (outcome : Outcome) × (outcome_of records reserved.number ≡ Some outcome)).
-      let at = settled_at records reserved.number t.0 t.1 in
-      let later : mine.place < at.0 = settled_behind now.ledger.entry records history mine.place reserved stands.1 at.0 reserved.number t.0 refl at.1 in
-      let here = at_told opened.ledger.found records at.0 (settling reserved.number t.0) (omega (arith, stands.0, later)) at.1 in
-      absurd (mine.unsettled at.0 t.0 (subst (λ (n : ℕ). Has {A = Told} (at.0, settling n t.0) (pass_on opened now).own) mine.numbered here)))
-      (none_or (outcome_of records reserved.number))
-
-  pub may_settle : IsUnsettled now.ledger number
-  may_settle = subst (IsUnsettled now.ledger) mine.numbered (record {
-    ours = ours now.ledger.entry records history mine.place reserved stands.1 now.ledger.found sole.book.sound.legal.begins behind;
-    reserved = is_reserved now.ledger.entry records history mine.place reserved stands.1;
-    unsettled = unsettled;
-  })

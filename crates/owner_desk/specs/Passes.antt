@@ -60,13 +60,3 @@ pub record IsSole (opened now : Account) : Type 0 where
   pub gone : HasGone opened now
   pub untouched : IsUntouched opened now
   pub book : IsBook now
-
--- the one pass on a book that was opened so, and is so now: all that was added is its own
-abbrev pub pass_on : (opened now : Account) → Pass
-pass_on opened now = record {
-  opened = opened;
-  seen = now.ledger.records;
-  failure = now.storage.closed;
-  own = told_behind opened.ledger.found now.ledger.records;
-  faults = closing now.storage.closed;
-}

@@ -1,8 +1,12 @@
-//! One owner's desk: by a pass on it a worker reserves and settles, and knows what it added.
+//! An owner's book behind a lock: each call is the book's, by a pass, of which every worker has one.
 #![tactic(auto)]
 
-pub mod desk;
-pub mod pass;
+mod desk;
+mod guarded;
+mod held;
+mod noted;
 
-pub use desk::Desk;
-pub use pass::Pass;
+pub use desk::{Desk, Pass};
+pub use guarded::Guarded;
+pub use held::{Held, Knows, Locked, Locks};
+pub use noted::Noted;

@@ -4,7 +4,9 @@ use fz_outside::files::MemFile;
 use memory_runs::{AGE, CATALOG, TableText, census_with, ended, file};
 use query_server::Status;
 use std::alloc::{AllocError, Global};
+use std::sync::Wait;
 use std::test::Fail;
+use std::thread::Threads;
 
 const WORDS: [&str; 5] = ["gap", "first.json", "census", "second.json", "program"];
 
@@ -35,18 +37,24 @@ const GAPS: [GapRow<'static>; 10] = [
 ];
 
 // Whether `gap` over these files ends so and writes this.
-fn ends(
+fn ends<R: Threads + Wait + Sync>(
+    rt: &R,
     alloc: Global,
     held: &[MemFile<'_>],
     status: Status,
     wanted: &[u8],
 ) -> Result<bool, AllocError> {
-    let (end, out) = ended(alloc, &WORDS, held, b"hello ann\n")?;
+    let (end, out) = ended(rt, alloc, &WORDS, held, b"hello ann\n")?;
     Ok(end == status && out.as_slice() == wanted)
 }
 
 // Whether `gap` says of two tables and a program what is wanted.
-fn is_gap(alloc: Global, other: &[u8], row: &GapRow<'_>) -> Result<bool, AllocError> {
+fn is_gap<R: Threads + Wait + Sync>(
+    rt: &R,
+    alloc: Global,
+    other: &[u8],
+    row: &GapRow<'_>,
+) -> Result<bool, AllocError> {
     let (first, second, program, wanted) = *row;
     let held = [
         file("first.json", CATALOG),
@@ -60,7 +68,7 @@ fn is_gap(alloc: Global, other: &[u8], row: &GapRow<'_>) -> Result<bool, AllocEr
     } else {
         Status::Done
     };
-    ends(alloc, &held, due, wanted)
+    ends(rt, alloc, &held, due, wanted)
 }
 
 #[test]
@@ -68,7 +76,7 @@ fn each_gap(rt: HostRuntime) -> Result<(), Fail> {
     let alloc = rt.alloc();
     let other = census_with(alloc, &[("people", "second.csv", AGE)])?;
     for row in &GAPS {
-        assert!(rt; is_gap(alloc, other.as_bytes(), row)?);
+        assert!(rt; is_gap(&rt, alloc, other.as_bytes(), row)?);
     }
     Ok(())
 }
@@ -88,7 +96,8 @@ const FITS: [(&[TableText<'static>], bool); 9] = [
 ];
 
 // Whether an entry with these tables is told to fit, or not to, the one of the first catalog.
-fn is_told(
+fn is_told<R: Threads + Wait + Sync>(
+    rt: &R,
     alloc: Global,
     first: &[u8],
     tables: &[TableText<'_>],
@@ -103,7 +112,7 @@ fn is_told(
         file("none", b"age\n"),
         file("program", b"size people + 2 * size wards"),
     ];
-    let (status, out) = ended(alloc, &WORDS, &held, b"")?;
+    let (status, out) = ended(rt, alloc, &WORDS, &held, b"")?;
     let is_done = status == Status::Done;
     let is_refused = out.as_slice() == b"refused census\n".as_slice();
     Ok(is_done == fits && is_refused != fits)
@@ -115,7 +124,7 @@ fn entries_fit(rt: HostRuntime) -> Result<(), Fail> {
     let alloc = rt.alloc();
     let first = census_with(alloc, FITS[0].0)?;
     for (tables, fits) in &FITS {
-        assert!(rt; is_told(alloc, first.as_bytes(), tables, *fits)?);
+        assert!(rt; is_told(&rt, alloc, first.as_bytes(), tables, *fits)?);
     }
     Ok(())
 }

@@ -5,7 +5,9 @@ use crate::{chains, close_rules, columns, limits, rules};
 use fz_outside::files::MemFile;
 use memory_runs::{CATALOG, KEY, TABLE, ended, file, joined};
 use std::alloc::{AllocError, Global};
+use std::sync::Wait;
 use std::test::Fail;
+use std::thread::Threads;
 
 const PEOPLE: House<'static> = House {
     catalog: CATALOG,
@@ -14,32 +16,35 @@ const PEOPLE: House<'static> = House {
 };
 
 // Whether `check` says of the program in these files what is wanted.
-fn is_checked(
+fn is_checked<R: Threads + Wait + Sync>(
+    rt: &R,
     alloc: Global,
     held: &[MemFile<'_>],
     wanted: &Wanted<'_>,
 ) -> Result<bool, AllocError> {
     let words = ["check", "cat.json", "census", "program"];
-    let (status, line) = ended(alloc, &words, held, b"hello ann\n")?;
+    let (status, line) = ended(rt, alloc, &words, held, b"hello ann\n")?;
     let due = wanted.checked(alloc)?;
     Ok(status == wanted.status() && line.as_slice() == due.as_bytes())
 }
 
 // Whether `ask` says of a program what is wanted.
-fn is_asked(
+fn is_asked<R: Threads + Wait + Sync>(
+    rt: &R,
     alloc: Global,
     held: &[MemFile<'_>],
     program: &[u8],
     wanted: &Wanted<'_>,
 ) -> Result<bool, AllocError> {
     let script = joined(alloc, &[(ASK, 1), (program, 1), (b"\n", 1)])?;
-    let (_, reply) = ended(alloc, &["run", "cat.json", "key"], held, &script)?;
+    let (_, reply) = ended(rt, alloc, &["run", "cat.json", "key"], held, &script)?;
     let due = wanted.asked(alloc)?;
     Ok(reply.as_slice() == due.as_bytes())
 }
 
 // Whether both say of a program what is wanted.
-fn says(
+fn says<R: Threads + Wait + Sync>(
+    rt: &R,
     alloc: Global,
     house: &House<'_>,
     program: &[u8],
@@ -52,14 +57,19 @@ fn says(
         file("program", program),
         file("key", &KEY),
     ];
-    Ok(is_checked(alloc, &held, wanted)? && is_asked(alloc, &held, program, wanted)?)
+    Ok(is_checked(rt, alloc, &held, wanted)? && is_asked(rt, alloc, &held, program, wanted)?)
 }
 
 // How many of the programs there are before the first of which something else is said.
-fn right_ones(alloc: Global, house: &House<'_>, rows: &[Row<'_>]) -> Result<usize, AllocError> {
+fn right_ones<R: Threads + Wait + Sync>(
+    rt: &R,
+    alloc: Global,
+    house: &House<'_>,
+    rows: &[Row<'_>],
+) -> Result<usize, AllocError> {
     let mut count = 0usize;
     for (program, wanted) in rows {
-        if !says(alloc, house, program.as_bytes(), wanted)? {
+        if !says(rt, alloc, house, program.as_bytes(), wanted)? {
             break;
         }
         count = count.saturating_add(1);
@@ -102,7 +112,7 @@ const PROGRAMS: [(&House<'static>, &[Row<'static>]); 22] = [
 #[test]
 fn each_program(rt: HostRuntime) -> Result<(), Fail> {
     for (house, rows) in &PROGRAMS {
-        let right = right_ones(rt.alloc(), house, rows)?;
+        let right = right_ones(&rt, rt.alloc(), house, rows)?;
         if let Some((program, _)) = rows.get(right) {
             panic!(rt; "{program}");
         }
@@ -116,7 +126,7 @@ fn chains_of_names(rt: HostRuntime) -> Result<(), Fail> {
     let alloc = rt.alloc();
     for chain in &chains::CHAINS {
         let program = chains::text_of(alloc, chain)?;
-        assert!(rt; says(alloc, &PEOPLE, &program, &chain.4)?);
+        assert!(rt; says(&rt, alloc, &PEOPLE, &program, &chain.4)?);
     }
     Ok(())
 }
@@ -127,7 +137,7 @@ fn long_programs(rt: HostRuntime) -> Result<(), Fail> {
     let alloc = rt.alloc();
     for (pieces, wanted) in &limits::LONG_PROGRAMS {
         let program = joined(alloc, pieces)?;
-        assert!(rt; says(alloc, &PEOPLE, &program, wanted)?);
+        assert!(rt; says(&rt, alloc, &PEOPLE, &program, wanted)?);
     }
     Ok(())
 }

@@ -7,7 +7,9 @@ use memory_runs::journals::empty_journals;
 use memory_runs::{AGE, CATALOG, TABLE, TableText, census_with, ended, file, owner_text, words_of};
 use query_server::Status;
 use std::alloc::{AllocError, Global};
+use std::sync::Wait;
 use std::test::Fail;
+use std::thread::Threads;
 
 // A table of one column of numbers, in a file whose cells are none.
 const BAD: TableText<'static> = ("people", "bad.csv", AGE);
@@ -29,7 +31,7 @@ const STATUSES: [StatusRow<'static>; 35] = [
     (&["check", "cat.json", "program"], TABLE, Status::Usage, b"usage\n"),
     (&["run", "cat.json", "census", "program"], TABLE, Status::Usage, b"usage\n"),
     (&["run", "cat.json"], TABLE, Status::Usage, b"usage\n"),
-    (&["run", "cat.json", "key", "--workers", "2"], TABLE, Status::Usage, b"usage\n"),
+    (&["run", "cat.json", "key", "--workers", "17"], TABLE, Status::Usage, b"usage\n"),
     (&["gap"], TABLE, Status::Usage, b"usage\n"),
     (&["gap", "cat.json", "census", "cat.json"], TABLE, Status::Usage, b"usage\n"),
     (&["gap", "cat.json", "census", "cat.json", "program", "more"], TABLE, Status::Usage, b"usage\n"),
@@ -57,7 +59,13 @@ const STATUSES: [StatusRow<'static>; 35] = [
 ];
 
 // Whether a command ends so and writes this. `bad` and `other` are catalogs.
-fn ends(alloc: Global, bad: &[u8], other: &[u8], row: &StatusRow<'_>) -> Result<bool, AllocError> {
+fn ends<R: Threads + Wait + Sync>(
+    rt: &R,
+    alloc: Global,
+    bad: &[u8],
+    other: &[u8],
+    row: &StatusRow<'_>,
+) -> Result<bool, AllocError> {
     let (words, table, status, wanted) = *row;
     let held = [
         file("cat.json", CATALOG),
@@ -67,7 +75,7 @@ fn ends(alloc: Global, bad: &[u8], other: &[u8], row: &StatusRow<'_>) -> Result<
         file("other.json", other),
         file("program", b"size people"),
     ];
-    let (end, out) = ended(alloc, words, &held, b"hello ann\n")?;
+    let (end, out) = ended(rt, alloc, words, &held, b"hello ann\n")?;
     Ok(end == status && out.as_slice() == wanted)
 }
 
@@ -83,13 +91,17 @@ fn statuses(rt: HostRuntime) -> Result<(), Fail> {
     let bad = census_with(alloc, &[BAD])?;
     let other = other_catalog(alloc)?;
     for row in &STATUSES {
-        assert!(rt; ends(alloc, bad.as_bytes(), other.as_bytes(), row)?);
+        assert!(rt; ends(&rt, alloc, bad.as_bytes(), other.as_bytes(), row)?);
     }
     Ok(())
 }
 
 // Whether a command is done and leaves all ten bytes of its source.
-fn leaves_source(alloc: Global, texts: &[&str]) -> Result<bool, AllocError> {
+fn leaves_source<R: Threads + Wait + Sync>(
+    rt: &R,
+    alloc: Global,
+    texts: &[&str],
+) -> Result<bool, AllocError> {
     let held = [
         file("cat.json", CATALOG),
         file("people.csv", TABLE),
@@ -100,7 +112,7 @@ fn leaves_source(alloc: Global, texts: &[&str]) -> Result<bool, AllocError> {
     let mut source = MemSource::new(b"hello ann\n");
     let mut sink = MemSink::<64>::new(alloc)?;
     let mut journals = empty_journals(alloc)?;
-    let status = journals.ran_over(alloc, &words, &mut files, &mut source, &mut sink);
+    let status = journals.ran_over(rt, alloc, &words, &mut files, &mut source, &mut sink);
     let mut left = [0; 16];
     Ok(status == Status::Done && source.read(&mut left) == Ok(10))
 }
@@ -109,8 +121,8 @@ fn leaves_source(alloc: Global, texts: &[&str]) -> Result<bool, AllocError> {
 #[test]
 fn sources_are_left(rt: HostRuntime) -> Result<(), Fail> {
     let check = ["check", "cat.json", "census", "program"];
-    assert!(rt; leaves_source(rt.alloc(), &check)?);
+    assert!(rt; leaves_source(&rt, rt.alloc(), &check)?);
     let gap = ["gap", "cat.json", "census", "cat.json", "program"];
-    assert!(rt; leaves_source(rt.alloc(), &gap)?);
+    assert!(rt; leaves_source(&rt, rt.alloc(), &gap)?);
     Ok(())
 }

@@ -11,6 +11,7 @@ use Rattle.owner_desk.specs.Passes.{Pass}
 use Rattle.session_core.specs.Code.{no_pass, pass_at}
 use Rattle.query_server.specs.Shelves.{Shelf}
 use Rattle.query_server.specs.Books.{ArePutBack, GaveBook, shown_by}
+use Rattle.query_server.proofs.Bundled.{one_fewer}
 
 pub changed_here : (k : ℕ) (now : Option Shown) (old new : Shelf) → Changes k now old new → new k ≡ now
 changed_here k now old new changes = changes k ∙ ap (λ (b : Bool). if b then now else old k) (eq-eqb k k refl)
@@ -50,10 +51,6 @@ pub record BackFrom (passes rest : List Pass) (start now : Shelf) : Type 0 where
 -- at most all of them are left
 pub left_few : (passes rest : List Pass) (start now : Shelf) → BackFrom passes rest start now → length rest ≤ length passes
 left_few passes rest start now b = let all : length passes ≡ length rest + length b.done = ap length b.split ∙ length-append rest b.done in omega (arith, all)
-
--- one fewer is left
-pub one_fewer : (old rest : List Pass) (pass : Pass) → old ≡ rest ++ pass ∷ [] → length old ≡ length rest + 1
-one_fewer old rest pass popped = ap length popped ∙ length-append rest (pass ∷ [])
 
 -- no book is back yet
 abbrev no_books : ℕ → Account

@@ -13,7 +13,6 @@ use Rattle.owner_house.proofs.Owners.{owner_there, owners_length}
 use Rattle.answer_path.specs.Shut.{IsPendingOf, disk_word}
 use Rattle.session_laws.specs.Causes.{AreCaused}
 use Rattle.session_laws.proofs.Causes.{caused}
-use Rattle.query_server.specs.Run.{crew_size}
 use Rattle.query_server.specs.Laws.{DiskRefusalsHaveCauses}
 
 pub disk_refusals_caused : DiskRefusalsHaveCauses
@@ -22,7 +21,7 @@ disk_refusals_caused loading key workers old new found script text ran lawful k 
     its : AreCaused (house_of loading.register) (draws_of key) o ran.exchanges (ran.closed o)
     its =
         let there = owner_there loading.register o (omega (arith, within, owners_length loading.register lawful.register)) in
-        caused (house_of loading.register) (draws_of key) o (crew_size workers) ran.crew ran.exchanges (ran.closed o) (ran.shut o (owner_at (house_of loading.register) o) there)
+        caused (house_of loading.register) (draws_of key) o workers ran.crew ran.exchanges (ran.closed o) (ran.shut o (owner_at (house_of loading.register) o) there)
 
     risen : (failure : Failure) → ran.closed o ≡ Some failure → (before : Shown) → old o ≡ Some before → (after : Shown) × (new o ≡ Some after) × HasRisen before.faults after.faults
     risen failure shut before was = let after = ran.disks.owned o before within was in (after.0, after.1, (after.2.failed failure shut).0)

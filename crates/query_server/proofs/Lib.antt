@@ -1,4 +1,5 @@
 pub mod Prefixes
+pub mod Bundled
 pub mod Back
 pub mod Went
 pub mod Passes

@@ -16,6 +16,7 @@ use Rattle.query_server.specs.declared.end.Status.{Status}
 use Rattle.query_server.specs.declared.end.Status.TheVariants as code
 use Rattle.word_streams.specs.Draws.{draws_of}
 use Rattle.owner_house.specs.House.{house_of}
+use Rattle.session_core.specs.Gathered.{IsGatheredScript}
 use Rattle.session_laws.proofs.Scripts.{transcript_of}
 use Rattle.query_server.proofs.Contents.{at_held, at_told, for_contents}
 use Rattle.query_server.proofs.Endings.{counted_lawful, house_by, made_lawful, work_by, work_comes}
@@ -151,4 +152,5 @@ outside_stays = (
 
 pub transcribed : OneWorkerTranscribes
 transcribed loading key workers old new found script text answered one =
-    transcript_of (house_of loading.register) (draws_of key) found script answered.crew answered.exchanges answered.records answered.gathered
+    transcript_of (house_of loading.register) (draws_of key) found script answered.crew answered.exchanges answered.records
+    (subst (λ (n : ℕ). IsGatheredScript (house_of loading.register) (draws_of key) n answered.crew found script answered.exchanges answered.records) one answered.gathered)

@@ -16,7 +16,7 @@ use Rattle.catalog_loading.specs.Files.{Contents, ReadsToCome, always}
 use Rattle.catalog_loading.specs.Loaded.{Loading}
 use Rattle.query_server.specs.Shelves.{Shelf}
 use Rattle.query_server.specs.Opened.{AreOpened}
-use Rattle.query_server.specs.Run.{IsScriptAnswered, crew_size, script_limit}
+use Rattle.query_server.specs.Run.{IsScriptAnswered, script_limit}
 use Rattle.query_server.specs.Check.{status_by}
 use Rattle.query_server.specs.Gap.{IsGapDue}
 use Rattle.query_server.specs.Status.{refused_text, memory_text}
@@ -30,6 +30,7 @@ use Rattle.catalog_loading.specs.declared.stops.Stop.TheVariants.{Usage, Fault, 
 use Rattle.query_server.proofs.Judged.{gap_status}
 use Rattle.query_server.proofs.Contents.{at_held, at_some, at_told, for_contents}
 use Rattle.query_server.proofs.Prefixes.{prefix_empty, prefix_of_prefix, prefix_whole}
+use Rattle.query_server.proofs.Ends.{took_passed}
 use Rattle.query_server.proofs.Endings.{ComesTo, answers, checks, compares, counts, makes, no_command, refuses, house_by, work_comes}
 use Rattle.query_server.proofs.Disks.{may_stop_same}
 use Rattle.query_server.proofs.Owed.{histories}
@@ -205,9 +206,9 @@ answered_by words reads b a script text workers loading key work found opened sh
       found = found;
       opened = opened;
       answered = answered;
-      owed = owed_of (house_of loading.register) (draws_of key) found script (crew_size workers) answered.crew answered.exchanges answered.records owners histories answered.gathered;
+      owed = owed_of (house_of loading.register) (draws_of key) found script workers answered.crew answered.exchanges answered.records owners histories answered.gathered;
       headline = λ earlier explained.
-          headline_of (house_of loading.register) (draws_of key) found earlier script (crew_size workers) answered.crew answered.exchanges answered.records owners explained answered.gathered;
+          headline_of (house_of loading.register) (draws_of key) found earlier script workers answered.crew answered.exchanges answered.records owners explained answered.gathered;
     }
 
 -- what is left of some work
@@ -299,6 +300,14 @@ pub unread_end : (words : List (List ℕ)) (held : Option Contents) (left : Opti
 unread_end words held left old shelf =
     at_some held left (Ends words old old shelf shelf (Err NoMemory))
     (λ reads script. (inr (inr (inl refl), may_stop_same (work_of words reads) shelf), record { names = []; is = sym (append-nil old); some = (files_of words reads, refl); all = inr (inl refl) }))
+
+-- Where memory ran out before anything was read, nothing was taken.
+pub unread_taken : (command : Option Command) (left : Option (List ℕ)) → IsTakenAt command left left code.NoMemory
+unread_taken command left = here (command_kind command).source
+  where
+    here : (takes : Bool) → MatchBool takes (IsTaken left left code.NoMemory) (left ≡ left)
+    here true = took_passed left NoMemory (Err NoMemory) refl
+    here false = refl
 
 -- Where nothing failed to be written, a failed read wrote nothing.
 nothing_written : (end : Ended) (text : List ℕ) (status : Status) (before after : Option (List ℕ)) → end ≡ Err Fault → IsEndingWith end status text → after ≡ append_known before text → after ≡ before

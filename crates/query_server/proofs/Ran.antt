@@ -16,10 +16,13 @@ use Rattle.budget_ledger.specs.Account.{Account, Went}
 use Rattle.budget_ledger.specs.declared.failure.Failure.{Failure}
 use Rattle.owner_desk.specs.Passes.{Pass}
 use Rattle.owner_house.specs.House.{House, Register, house_of, owner_at}
-use Rattle.session_core.specs.Code.{AreClosed, ArePasses, AreFresh, HasServed, found_by, pass_at}
-use Rattle.session_core.specs.Gathered.{one_worker}
+use Rattle.owner_desk.specs.Shared.{Shared}
+use Rattle.session_core.specs.Blocks.{crew_of, script_blocks}
+use Rattle.session_core.specs.Bundles.{Bundle, bundle_of}
+use Rattle.session_core.specs.Code.{AreClosed, ArePasses, AreFresh, found_by, pass_at}
+use Rattle.session_core.specs.Worked.{HasWorked, HaveAddedNone}
 use Rattle.session_core.specs.Transcript.{Journals}
-use Rattle.session_laws.proofs.Scripts.{lines_gathered, script_gathered}
+use Rattle.session_laws.proofs.Worked.{script_gathered}
 use Rattle.owner_house.proofs.Owners.{entry_said, in_catalog, owner_there, owners_length}
 use Rattle.std.proofs.lemmas.Option.{slice_get_within}
 use Rattle.catalog_loading.specs.Given.{stop_at_fault}
@@ -35,23 +38,28 @@ use Rattle.catalog_loading.specs.declared.stops.Stop.{Stop}
 use Rattle.catalog_loading.specs.declared.stops.Stop.TheVariants.{Journal, Disk, NoMemory}
 use Rattle.query_server.specs.declared.end.End.TheVariants.{Done, ProgramRefused, ScriptTooLong}
 use Rattle.query_server.specs.declared.end.Status.TheVariants as code
-use Rattle.query_server.proofs.Passes.{all_back}
+use Rattle.query_server.proofs.Bundled.{many_known}
+use Rattle.query_server.proofs.Passes.{all_back, fresh_none}
 use Rattle.query_server.proofs.Ends.{end_passed}
 use Rattle.query_server.proofs.Stops.{err_same, pass_opened}
 use Rattle.query_server.proofs.Went.{went_on}
 
--- what was served, by the draws and the script as they are called elsewhere
-pub served_as : (house : House) (given draws : ℕ → ℕ → ℕ → ℕ) (script other text : List ℕ) (old new : List Pass) → given ≡ draws → script ≡ other
-    → HasServed house given script text old new → HasServed house draws other text old new
-served_as house given draws script other text old new drawn same served =
-    subst (λ (d : ℕ → ℕ → ℕ → ℕ). HasServed house d other text old new) drawn (subst (λ (s : List ℕ). HasServed house given s text old new) same served)
+-- what was answered by workers, by the draws and the script as they are called elsewhere
+pub worked_as : (house : House) (given draws : ℕ → ℕ → ℕ → ℕ) (workers : ℕ) (script other text : List ℕ) (old new : List Pass) → given ≡ draws → script ≡ other
+    → HasWorked house given workers script text old new → HasWorked house draws workers other text old new
+worked_as house given draws workers script other text old new drawn same worked =
+    subst (λ (d : ℕ → ℕ → ℕ → ℕ). HasWorked house d workers other text old new) drawn (subst (λ (s : List ℕ). HasWorked house given workers s text old new) same worked)
 
 -- what was answered over a house and a key, by the names that they have elsewhere
-pub answered_in : (register other : Register) (bytes key : List ℕ) (script : List ℕ) (old new : List Pass) (result : Ended) → register ≡ other → bytes ≡ key
-    → IsScriptEnd (house_of register) (draws_of bytes) script old new result → IsScriptEnd (house_of other) (draws_of key) script old new result
-answered_in register other bytes key script old new result same is answered =
-    subst (λ (r : Register). IsScriptEnd (house_of r) (draws_of key) script old new result) same
-    (subst (λ (k : List ℕ). IsScriptEnd (house_of register) (draws_of k) script old new result) is answered)
+pub answered_in : (register other : Register) (bytes key : List ℕ) (workers : ℕ) (script : List ℕ) (old new : List Pass) (result : Ended) → register ≡ other → bytes ≡ key
+    → IsScriptEnd (house_of register) (draws_of bytes) workers script old new result → IsScriptEnd (house_of other) (draws_of key) workers script old new result
+answered_in register other bytes key workers script old new result same is answered =
+    subst (λ (r : Register). IsScriptEnd (house_of r) (draws_of key) workers script old new result) same
+    (subst (λ (k : List ℕ). IsScriptEnd (house_of register) (draws_of k) workers script old new result) is answered)
+
+-- nothing was added by passes that were just made
+pub none_yet : (house : House) (passes : List Pass) → AreFresh house passes → HaveAddedNone house passes passes
+none_yet house passes fresh = λ o owner at. fresh_none (pass_at passes o) (fresh o owner at)
 
 -- what stopped the opening of the owners' books ends the work that it was for
 pub open_ends : (work : Work) (loading : Loading) (key : List ℕ) (old new : Shelf) (script : List ℕ) (stop : Stop)
@@ -82,7 +90,7 @@ module _ (loading : Loading) (key : List ℕ) (lawful : IsLoading loading) where
         (let within = in_catalog loading.register lawful.register o (slice_get_within house.owners o owner at) in (on.each o within).book.of_entry ∙ entry_said loading.register o owner at);
   }
 
-  opened_fresh : (old mid : Shelf) (passes : List Pass) → ArePassesOn (entry_at loading) (header_of loading key) (owners_in loading) old mid passes → AreFresh (house_of loading.register) passes
+  pub opened_fresh : (old mid : Shelf) (passes : List Pass) → ArePassesOn (entry_at loading) (header_of loading key) (owners_in loading) old mid passes → AreFresh (house_of loading.register) passes
   opened_fresh old mid passes on = λ o owner at. (on.each o (in_catalog loading.register lawful.register o (slice_get_within house.owners o owner at))).fresh
 
   passes_opened : (old mid : Shelf) (passes : List Pass) → ArePassesOn (entry_at loading) (header_of loading key) (owners_in loading) old mid passes → AreOpened loading key old (found_by passes)
@@ -95,11 +103,15 @@ module _ (loading : Loading) (key : List ℕ) (lawful : IsLoading loading) where
   abbrev closings_of : (ℕ → Account) → ℕ → Option Failure
   closings_of books o = (books o).storage.closed
 
-  books_closed : (mid new : Shelf) (after : List Pass) (books : ℕ → Account) → length after ≡ owners_in loading → ArePutBack (length after) after books mid new
+  -- there are as many passes as owners, also after the script
+  pub many_opened : (register : Register) (passes : List Shared) (bundle : Bundle) → bundle_of passes ≡ bundle → register ≡ loading.register → ArePasses (house_of register) bundle.knows
+      → length passes ≡ owners_in loading
+  many_opened register passes bundle is same are =
+      sym (many_known passes) ∙ ap (λ (b : Bundle). length b.knows) is ∙ (subst (λ (r : Register). ArePasses (house_of r) bundle.knows) same are).each_has ∙ count_owners
+
+  books_closed : (mid new : Shelf) (after : List Pass) (books : ℕ → Account) → ArePutBack (owners_in loading) after books mid new
       → AreClosed (house_of loading.register) after (records_of books) (closings_of books)
-  books_closed mid new after books count back = λ o owner at.
-      let within = in_catalog loading.register lawful.register o (slice_get_within house.owners o owner at) in
-      (back.gave o (omega (arith, within, count))).closed
+  books_closed mid new after books back = λ o owner at. (back.gave o (in_catalog loading.register lawful.register o (slice_get_within house.owners o owner at))).closed
 
   -- an owner's disk, by its pass before the script and the book that the pass after it gave
   owner_went : (o : ℕ) (old : Shelf) (before : Shown) (p q : Pass) (book : Account) → old o ≡ Some before → IsNewPass (entry_at loading o) (header_of loading key o) (old o) p → q.opened ≡ p.opened → GaveBook q book
@@ -113,63 +125,59 @@ module _ (loading : Loading) (key : List ℕ) (lawful : IsLoading loading) where
       (subst (λ (rs : List Record). Went rs book.ledger.records p.opened.storage book.storage) new.book.fresh went) gave.sound.kept
       (subst (λ (e : Entry). (failure : Failure) → book.storage.closed ≡ Some failure → MayFollow e book.ledger.records failure.pending) entry gave.sound.follows)
 
-  pub answered_over : (workers : ℕ) (old mid new : Shelf) (passes after : List Pass) (books : ℕ → Account) (script text : List ℕ) → ArePassesOn (entry_at loading) (header_of loading key) (owners_in loading) old mid passes
-      → HasServed (house_of loading.register) (draws_of key) script text passes after → ArePutBack (length after) after books mid new → IsScriptAnswered loading key workers old new (found_by passes) script text
-  answered_over workers old mid new passes after books script text on h back =
-      let count : length after ≡ owners_in loading = h.served.each_has ∙ on.count in
-      let fresh = opened_fresh old mid passes on in
-      let shut = books_closed mid new after books count back in
+  pub answered_over : (workers : ℕ) (old mid new : Shelf) (passes after : List Pass) (books : ℕ → Account) (script text : List ℕ) → 0 < workers
+      → ArePassesOn (entry_at loading) (header_of loading key) (owners_in loading) old mid passes → HasWorked (house_of loading.register) (draws_of key) workers script text passes after
+      → ArePutBack (owners_in loading) after books mid new → IsScriptAnswered loading key workers old new (found_by passes) script text
+  answered_over workers old mid new passes after books script text some on h back =
+      let all = script_gathered (house_of loading.register) (draws_of key) workers script text passes after (records_of books) (closings_of books) some (opened_fresh old mid passes on) h (books_closed mid new after books back) in
       record {
-        crew = one_worker;
+        crew = crew_of workers 0 (script_blocks script);
+        dealt = λ at. refl;
         exchanges = h.exchanges;
         records = records_of books;
-        gathered = script_gathered (house_of loading.register) (draws_of key) script text passes after (records_of books) (closings_of books) fresh h shut;
+        gathered = all.0;
         written = h.written;
         closed = closings_of books;
-        shut = λ o owner at. (lines_gathered (house_of loading.register) (draws_of key) h.exchanges passes after (records_of books) (closings_of books) fresh h.served shut o owner at).1;
+        shut = all.1;
         disks = record {
           owned = λ o before within at. (
             shown_by (books o),
-            back.each o (omega (arith, within, count)),
-            owner_went o old before (pass_at passes o) (pass_at after o) (books o) at (on.each o within) (h.served.owners o (owner_at house o) (there o within)).opened (back.gave o (omega (arith, within, count))),
+            back.each o within,
+            owner_went o old before (pass_at passes o) (pass_at after o) (books o) at (on.each o within) (h.owners o (owner_at house o) (there o within)).opened (back.gave o within),
           );
-          others = λ o past. back.others o (omega (arith, past, count)) ∙ on.others o past;
+          others = λ o past. back.others o past ∙ on.others o past;
         };
       }
 
-  -- passes that served nothing give the disks back with nothing written
-  unserved_back : (old mid new : Shelf) (passes after : List Pass) (books : ℕ → Account) → ArePassesOn (entry_at loading) (header_of loading key) (owners_in loading) old mid passes → after ≡ passes
-      → ArePutBack (length after) after books mid new → EachDisk (owners_in loading) (λ _. IsOnlySynced) old new
-  unserved_back old mid new passes after books on same back =
-      all_back (entry_at loading) (header_of loading key) (owners_in loading) old mid new passes books on (subst (λ (ps : List Pass). ArePutBack (length ps) ps books mid new) same back)
+  -- passes that added nothing give the disks back with nothing written
+  unserved_back : (old mid new : Shelf) (passes after : List Pass) (books : ℕ → Account) → ArePassesOn (entry_at loading) (header_of loading key) (owners_in loading) old mid passes
+      → HaveAddedNone (house_of loading.register) passes after → ArePutBack (owners_in loading) after books mid new → EachDisk (owners_in loading) (λ _. IsOnlySynced) old new
+  unserved_back old mid new passes after books on none back =
+      all_back (entry_at loading) (header_of loading key) (owners_in loading) old mid new passes after books on (λ o within. none o (owner_at house o) (there o within)) back
 
   -- How the script that was to be answered ends, once the disks are put back.
-  pub run_ends : (workers : ℕ) (old mid new : Shelf) (passes after : List Pass) (books : ℕ → Account) (script : List ℕ) (result : Ended) → ArePassesOn (entry_at loading) (header_of loading key) (owners_in loading) old mid passes
-      → IsScriptEnd (house_of loading.register) (draws_of key) script passes after result → ArePutBack (length after) after books mid new → IsEndOf (to_answer workers loading key) old new script result
-  run_ends workers old mid new passes after books script (Ok (Done replies)) on (short, h) back =
-      inl (inr (found_by passes, passes_opened old mid passes on, inl (refl, short, answered_over workers old mid new passes after books script replies.items on h back)))
-  run_ends workers old mid new passes after books script (Ok (ProgramRefused line)) on wrong back = absurd wrong
-  run_ends workers old mid new passes after books script (Ok ScriptTooLong) on (long, same) back =
-      inl (inr (found_by passes, passes_opened old mid passes on, inr (refl, long, refl, unserved_back old mid new passes after books on same back)))
-  run_ends workers old mid new passes after books script (Err stop) on (inl is, same) back = inr (inl (ap Err is), unserved_back old mid new passes after books on same back)
-  run_ends workers old mid new passes after books script (Err stop) on (inr is, same) back = inr (inr (inl (ap Err is)), unserved_back old mid new passes after books on same back)
+  pub run_ends : (workers : ℕ) (old mid new : Shelf) (passes after : List Pass) (books : ℕ → Account) (script : List ℕ) (result : Ended) → 0 < workers
+      → ArePassesOn (entry_at loading) (header_of loading key) (owners_in loading) old mid passes → IsScriptEnd (house_of loading.register) (draws_of key) workers script passes after result
+      → ArePutBack (owners_in loading) after books mid new → IsEndOf (to_answer workers loading key) old new script result
+  run_ends workers old mid new passes after books script (Ok (Done replies)) some on (short, h) back =
+      inl (inr (found_by passes, passes_opened old mid passes on, inl (refl, short, answered_over workers old mid new passes after books script replies.items some on h back)))
+  run_ends workers old mid new passes after books script (Ok (ProgramRefused line)) some on wrong back = absurd wrong
+  run_ends workers old mid new passes after books script (Ok ScriptTooLong) some on (long, none) back =
+      inl (inr (found_by passes, passes_opened old mid passes on, inr (refl, long, refl, unserved_back old mid new passes after books on none back)))
+  run_ends workers old mid new passes after books script (Err stop) some on (inl is, none) back = inr (inl (ap Err is), unserved_back old mid new passes after books on none back)
+  run_ends workers old mid new passes after books script (Err stop) some on (inr is, none) back = inr (inr (inl (ap Err is)), unserved_back old mid new passes after books on none back)
 
   -- There are as many passes as owners.
   pub few_owners : owners_in loading ≤ 16
   few_owners = lawful.register.catalog.few_owners
 
-  pub answered_count : (draws : ℕ → ℕ → ℕ → ℕ) (passes after : List Pass) (script : List ℕ) (result : Ended) → IsScriptEnd (house_of loading.register) draws script passes after result → length after ≡ length passes
-  answered_count draws passes after script (Ok (Done replies)) (short, h) = h.served.each_has
-  answered_count draws passes after script (Ok (ProgramRefused line)) wrong = absurd wrong
-  answered_count draws passes after script (Ok ScriptTooLong) (long, same) = ap length same
-  answered_count draws passes after script (Err stop) (failing, same) = ap length same
-
   -- a script that was to be answered names no disk at its end
-  pub answered_no_disk : {A : Type 0} (draws : ℕ → ℕ → ℕ → ℕ) (passes after : List Pass) (script : List ℕ) (result : Ended) (line : Vec ℕ Global) → IsScriptEnd (house_of loading.register) draws script passes after result
+  pub answered_no_disk : {A : Type 0} (draws : ℕ → ℕ → ℕ → ℕ) (workers : ℕ) (passes after : List Pass) (script : List ℕ) (result : Ended) (line : Vec ℕ Global)
+      → IsScriptEnd (house_of loading.register) draws workers script passes after result
       → result ≡ Err (Disk line) → A
-  answered_no_disk draws passes after script (Ok end) line due is = cc
-  answered_no_disk draws passes after script (Err (Disk other)) line (failing, same) is = absurd (grind (arith, failing))
-  answered_no_disk draws passes after script (Err stop) line (failing, same) is = cc
+  answered_no_disk draws workers passes after script (Ok end) line due is = cc
+  answered_no_disk draws workers passes after script (Err (Disk other)) line (failing, none) is = absurd (grind (arith, failing))
+  answered_no_disk draws workers passes after script (Err stop) line (failing, none) is = cc
 
   pub open_passed : (workers : ℕ) (old new : Shelf) (script : List ℕ) (stop : Stop) (result : Ended) → IsOpenStop loading key old new stop → EachDisk (owners_in loading) (λ _. IsOnlySynced) old new → IsErrAnd result (λ e. e ≡ stop)
       → IsEndOf (to_answer workers loading key) old new script result
@@ -178,11 +186,11 @@ module _ (loading : Loading) (key : List ℕ) (lawful : IsLoading loading) where
       (open_ends (to_answer workers loading key) loading key old new script stop (λ text. inl) (λ text named. named) disks is disks)
 
 -- a fault of the source is passed on
-pub unread_passed : (house : House) (draws : ℕ → ℕ → ℕ → ℕ) (script : List ℕ) (passes : List Pass) (fault : FileFault) (result : Ended) → IsErrAnd result (λ e. e ≡ stop_at_fault fault)
-    → IsScriptEnd house draws script passes passes result
-unread_passed _ draws script passes fault (Ok end) wrong = absurd wrong
-unread_passed _ draws script passes Failed (Err stop) is = (inl is, refl)
-unread_passed _ draws script passes NoneToRead (Err stop) is = (inr is, refl)
+pub unread_passed : (house : House) (draws : ℕ → ℕ → ℕ → ℕ) (workers : ℕ) (script : List ℕ) (passes : List Pass) (fault : FileFault) (result : Ended) → AreFresh house passes
+    → IsErrAnd result (λ e. e ≡ stop_at_fault fault) → IsScriptEnd house draws workers script passes passes result
+unread_passed owners draws workers script passes fault (Ok end) fresh wrong = absurd wrong
+unread_passed owners draws workers script passes Failed (Err stop) fresh is = (inl is, none_yet owners passes fresh)
+unread_passed owners draws workers script passes NoneToRead (Err stop) fresh is = (inr is, none_yet owners passes fresh)
 
 pub passed_disk : {T : Type 0} (stop : Stop) (result : Result T Stop) (line : Vec ℕ Global) → IsErrAnd result (λ e. e ≡ stop) → result ≡ Err (Disk line) → stop ≡ Disk line
 passed_disk stop (Ok x) line wrong is = absurd wrong

@@ -7,7 +7,7 @@ use Rattle.query_server.specs.Check.{IsProgramDue}
 use Rattle.query_server.specs.Gap.{IsGapDue}
 use Rattle.catalog_loading.specs.Files.{ReadsToCome}
 use Rattle.owner_desk.specs.Passes.{Pass}
-use Rattle.session_core.specs.Code.{HasServed}
+use Rattle.session_core.specs.Worked.{HasWorked, HaveAddedNone}
 use Rattle.owner_house.specs.House.{House}
 use Rattle.query_server.specs.Run.{script_limit}
 use Rattle.catalog_loading.specs.Steps.{FileStep}
@@ -95,13 +95,13 @@ abbrev pub IsStepEnd : (old new : List (List ℕ)) → (before after : Shelf) �
 IsStepEnd old new before after steps end reads script =
     IsEndOf (ended (steps reads).given) before after script end × AreRead (status_at end) (steps reads).names old new
 
--- How a script ends that was to be answered over these passes: its replies; or the passes are as they were.
-abbrev pub IsScriptEnd : House → (draws : ℕ → ℕ → ℕ → ℕ) → (script : List ℕ) → (old new : List Pass) → Ended → Type 0
-IsScriptEnd house draws script old new (Ok (Done replies)) =
-    (length script ≤ script_limit) × HasServed house draws script replies.items old new
-IsScriptEnd house draws script old new (Ok ScriptTooLong) = (script_limit < length script) × (new ≡ old)
-IsScriptEnd house draws script old new (Ok (ProgramRefused line)) = ⊥
-IsScriptEnd house draws script old new (Err stop) = IsFailing stop × (new ≡ old)
+-- How a script ends that was to be answered by so many workers over these passes: its replies; or nothing was added by them.
+abbrev pub IsScriptEnd : House → (draws : ℕ → ℕ → ℕ → ℕ) → (workers : ℕ) → (script : List ℕ) → (old new : List Pass) → Ended → Type 0
+IsScriptEnd house draws workers script old new (Ok (Done replies)) =
+    (length script ≤ script_limit) × HasWorked house draws workers script replies.items old new
+IsScriptEnd house draws workers script old new (Ok ScriptTooLong) = (script_limit < length script) × HaveAddedNone house old new
+IsScriptEnd house draws workers script old new (Ok (ProgramRefused line)) = ⊥
+IsScriptEnd house draws workers script old new (Err stop) = IsFailing stop × HaveAddedNone house old new
 
 -- The end's text is written with its status; or a prefix of it, and something failed.
 pub record IsEndingWith (end : Ended) (status : Status) (text : List ℕ) : Type 0 where

@@ -27,7 +27,7 @@ use Rattle.catalog_loading.specs.Loaded.{IsLoading, Loading, owners_in}
 use Rattle.query_server.specs.Work.{Work, refused, to_answer, to_check, to_compare, to_count, to_make}
 use Rattle.query_server.specs.Shelves.{EachDisk, IsOnlySynced, Shelf}
 use Rattle.query_server.specs.Outside.{DisksFailed, NoCallFailed, Outside, Stays}
-use Rattle.query_server.specs.Run.{IsScriptAnswered, crew_size}
+use Rattle.query_server.specs.Run.{IsScriptAnswered}
 use Rattle.query_server.specs.Check.{status_by}
 use Rattle.query_server.specs.Status.{refused_text}
 use Rattle.query_server.specs.Due.{IsOfDisks, IsOfProgram, IsOfRun, SomeFailed, files_of, work_of}
@@ -155,7 +155,7 @@ GapsAreOfDatasets = (words : List (List ℕ)) (reads : ReadsToCome) (tables : Si
 -- those after it.
 abbrev pub OneWorkerTranscribes : Type 0
 OneWorkerTranscribes = (loading : Loading) (key : List ℕ) (workers : ℕ) (old new : Shelf) (found : Journals) (script text : List ℕ)
-    → (answered : IsScriptAnswered loading key workers old new found script text) → crew_size workers ≡ 1
+    → (answered : IsScriptAnswered loading key workers old new found script text) → workers ≡ 1
     → IsScriptRun (house_of loading.register) (draws_of key) found script (map (λ x. x.reply) answered.exchanges) answered.records
 
 -- A query is refused for its owner's disk (42 or 52) only where the count of faults of that disk rose in the run. Of a line that is told

@@ -9,7 +9,7 @@ use Rattle.catalog_loading.specs.Files.{ReadsToCome}
 use Rattle.catalog_loading.specs.Loaded.{Loading, IsKeyedHouse, house_read, keyed}
 use Rattle.query_server.specs.Shelves.{Shelf}
 use Rattle.query_server.specs.Opened.{AreOpened}
-use Rattle.query_server.specs.Run.{IsScriptAnswered, crew_size, script_limit}
+use Rattle.query_server.specs.Run.{IsScriptAnswered, script_limit}
 use Rattle.query_server.specs.Due.{work_of, IsBeginning, MayStop}
 use Rattle.query_server.specs.declared.end.Status.{Status}
 use Rattle.query_server.specs.declared.end.Status.TheVariants.{Done}
@@ -37,7 +37,7 @@ pub record IsAnsweredScript (words : List (List ℕ)) (reads : ReadsToCome) (old
   pub answered : IsScriptAnswered loading key workers old new found script written
   pub owed : AreOwed (house_of loading.register) found answered.records
   pub headline : (earlier : Programs) → AreFound (house_of loading.register) (draws_of key) earlier found
-      → Headline (house_of loading.register) (draws_of key) found earlier script (crew_size workers) answered.crew answered.exchanges answered.records
+      → Headline (house_of loading.register) (draws_of key) found earlier script workers answered.crew answered.exchanges answered.records
 
 -- What a `run` leaves at whatever status: the script was answered, and what is written is a prefix of its replies, all of them at
 -- status Done; or it wasn't, the status is another, and nothing was written to any owner's disk.

@@ -15,6 +15,7 @@ use Rattle.budget_ledger.specs.declared.failure.Failure.{Failure}
 use Rattle.wire_lines.specs.Reply.{reply_text}
 use Rattle.owner_house.specs.House.{house_of}
 use Rattle.owner_house.specs.Owner.{Owner}
+use Rattle.session_core.specs.Blocks.{crew_of, script_blocks}
 use Rattle.session_core.specs.Exchanges.{Exchange}
 use Rattle.session_core.specs.Gathered.{AreShut, IsGatheredScript}
 use Rattle.session_core.specs.Transcript.{Journals}
@@ -52,23 +53,21 @@ pub record WentOn (entry : Entry) (header : Header) (found records : List Record
   pub failed : (failure : Failure) → closed ≡ Some failure → HasRisen before.faults after.faults × (failure.failed_at ≡ after.faults)
   pub follows : (failure : Failure) → closed ≡ Some failure → MayFollow entry records failure.pending
 
--- how many workers answer a script, whatever the words say: one, so far
-abbrev pub crew_size : (workers : ℕ) → ℕ
-crew_size workers = 1
-
--- A script was answered by a crew of workers, each at its own places and in any order, where these records were found. The replies
+-- A script was answered by so many workers, each at the places of its own blocks and in any order, where these records were found. The replies
 -- are the text; an owner's disk has its records and, by the replies, failed or didn't.
 pub record IsScriptAnswered (loading : Loading) (key : List ℕ) (workers : ℕ) (old new : Shelf) (found : Journals) (script text : List ℕ) :
     Type 0 where
   pub crew : ℕ → ℕ
+  -- block k of the script is worker k mod workers'
+  pub dealt : (at : ℕ) → crew at ≡ crew_of workers 0 (script_blocks script) at
   pub exchanges : List Exchange
   pub records : Journals
-  pub gathered : IsGatheredScript (house_of loading.register) (draws_of key) (crew_size workers) crew found script exchanges records
+  pub gathered : IsGatheredScript (house_of loading.register) (draws_of key) workers crew found script exchanges records
   pub written : text ≡ flat_map reply_text (map (λ x. x.reply) exchanges)
   -- what became of each owner's book: an append to its journal failed, or none did
   pub closed : ℕ → Option Failure
   pub shut : (o : ℕ) (owner : Owner) → slice_get (house_of loading.register).owners o ≡ Some owner
-      → AreShut (house_of loading.register) (draws_of key) (crew_size workers) crew o exchanges (closed o)
+      → AreShut (house_of loading.register) (draws_of key) workers crew o exchanges (closed o)
   pub disks : EachDisk (owners_in loading) (λ o. WentOn (entry_at loading o) (header_of loading key o) (found o) (records o) (closed o)) old new
 
 -- the script is answered, or has too many bytes, and then no disk was written

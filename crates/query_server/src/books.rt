@@ -1,14 +1,16 @@
 //! The owners' books are opened on their disks, and the disks are put back.
 
-ghost use Rattle.std.specs.Prelude.{◌≡◌, ℕ, ◌<◌, ◌≤◌, length, None, IfErr, IfOk, IsSome, OnErr, OnOk};
+ghost use Rattle.std.specs.Prelude.{◌≡◌, ℕ, ◌<◌, ◌≤◌, length, All, None, IfErr, IfOk, IsSome, OnErr, OnOk};
 ghost use Rattle.budget_ledger.specs.Account.{Account};
 ghost use Rattle.owner_house.specs.House.{house_of};
+ghost use Rattle.owner_lock.specs.Known.{whole_share};
+ghost use Rattle.session_core.specs.Bundles.{bundle_of};
 ghost use Rattle.session_core.specs.Code.{ArePasses};
 ghost use Rattle.owner_catalog.specs.Limits.{owner_limit};
 ghost use Rattle.catalog_loading.specs.Loaded.{entry_at, header_of, owners_in};
 ghost use Rattle.query_server.specs.Shelves.{AreAtHome, EachDisk, IsOnlySynced};
 ghost use Rattle.query_server.specs.Outside.{HasDiskCause, KeepsBay};
-ghost use Rattle.query_server.specs.Books.{ArePassesOn, ArePutBack, IsNewBook, LeftDisk, TookDisk};
+ghost use Rattle.query_server.specs.Books.{ArePassesOn, ArePutBack, IsNewBook, IsNewPass, LeftDisk, TookDisk};
 ghost use Rattle.query_server.specs.Books.{IsBookFaultStop, IsBookStop, IsDiskStop, IsJournalStop, IsOpenStop};
 
 use crate::refusals::{JournalRefusal, disk_line, journal_line};
@@ -17,7 +19,8 @@ use budget_ledger::book::Book;
 use catalog_loading::{Opened, Stop, headers_of};
 use journal_records::records::Header;
 use outside_bays::bay::Bay;
-use owner_desk::Pass;
+use outside_disks::disk::Disk;
+use owner_desk::{Desk, Pass};
 use std::alloc::Global;
 
 /// The bay or an owner's disk has failed.
@@ -93,48 +96,100 @@ pub(crate) fn open_book<B: Bay>(
     }
 }
 
-/// Puts the disks of the first owners' passes back.
+/// The owners' desks, in order, and the first pass on each.
+#[derive(Drop)]
+pub struct Opening<D: Disk> {
+    pub desks: Vec<Desk<D>>,
+    pub passes: Vec<Pass<D>>,
+}
+
+/// Closes the first owners' desks with the passes that have the whole shares, and puts the disks back.
 #[tactic(none)]
-pub fn put_back<B: Bay>(bay: &mut B, passes: Vec<Pass<B::D>>)
+pub fn put_back<B: Bay>(bay: &mut B, desks: Vec<Desk<B::D>>, passes: Vec<Pass<B::D>>)
+    requires here { (bundle_of passes.items).locks ≡ desks.items }
+    requires whole { All (λ s. s ≡ whole_share) (bundle_of passes.items).shares }
     requires few { length passes.items ≤ owner_limit }
     requires known { length passes.items ≤ B.owners bay.old }
     requires taken { (o : ℕ) → o < length passes.items → B.shelf bay.old o ≡ None }
-    ensures back { (books : ℕ → Account) × ArePutBack (length passes.items) passes.items books (B.shelf bay.old) (B.shelf bay.new) }
+    ensures back { (books : ℕ → Account)
+        × ArePutBack (length passes.items) (bundle_of passes.items).knows books (B.shelf bay.old) (B.shelf bay.new) }
     ensures owners { B.owners bay.new ≡ B.owners bay.old }
     ensures faults { B.faults bay.new ≡ B.faults bay.old }
 {
+    let mut desks = desks;
     let mut rest = passes;
     while let Some(pass) = rest.pop() {
         let owner = rest.len() as u32;
-        bay.put_back(owner, pass.close().into_disk());
+        let Some(desk) = desks.pop() else {
+            unreachable!()
+        };
+        bay.put_back(owner, desk.close(pass).into_disk());
     }
 }
 
-/// A pass for each owner, in order, on the book that is opened on its disk. Where a book isn't opened, all disks are put back.
-pub fn open_passes<B: Bay>(
+/// Opens an owner's book on its disk and puts it behind a lock. Where it isn't opened, or memory runs out, the disk is put back.
+fn open_desk<B: Bay>(
     alloc: Global,
     bay: &mut B,
     opened: &Opened,
-) -> Result<Vec<Pass<B::D>>, Stop>
+    header: &Header,
+    owner: u32,
+) -> Result<(Desk<B::D>, Pass<B::D>), Stop>
+    requires owner { owner < owners_in opened.now.loading }
+    requires header { header.now ≡ header_of opened.now.loading opened.now.key owner }
+    requires known { owner < B.owners bay.old }
+    requires home { IsSome (B.shelf bay.old owner) }
+    ensures desk { IfOk result (λ r. (r.1.lock ≡ r.0) × (r.1.share ≡ whole_share)
+        × IsNewPass (entry_at opened.now.loading owner) header.now (B.shelf bay.old owner) r.1.knows) }
+    ensures taken { OnOk result (TookDisk owner (B.shelf bay.old) (B.shelf bay.new)) }
+    ensures left { OnErr result (LeftDisk owner (B.shelf bay.old) (B.shelf bay.new)) }
+    ensures stop { IfErr result (IsBookStop opened.now.loading opened.now.key (B.shelf bay.old) owner) }
+    ensures bay { KeepsBay B.shelf B.owners B.faults bay.old bay.new }
+    ensures cause { HasDiskCause B.shelf B.owners B.faults bay.old bay.new result }
+{
+    let book = open_book(alloc, bay, opened, header, owner)?;
+    match Desk::new(alloc, owner, book) {
+        Ok(desk) => Ok(desk),
+        Err((book, _)) => {
+            bay.put_back(owner, book.into_disk());
+            Err(Stop::NoMemory)
+        }
+    }
+}
+
+/// A desk for each owner, in order, over the book that is opened on its disk, and its first pass. Where a book isn't opened, or memory
+/// runs out, all disks are put back.
+pub fn open_desks<B: Bay>(
+    alloc: Global,
+    bay: &mut B,
+    opened: &Opened,
+) -> Result<Opening<B::D>, Stop>
     requires home { AreAtHome (B.owners bay.old) (B.shelf bay.old) }
-    ensures passes { IfOk result (λ passes. ArePassesOn (entry_at opened.now.loading)
-        (header_of opened.now.loading opened.now.key) (owners_in opened.now.loading) (B.shelf bay.old) (B.shelf bay.new) passes.items) }
-    ensures house { IfOk result (λ passes. ArePasses (house_of opened.now.loading.register) passes.items) }
+    ensures passes { IfOk result (λ r. ArePassesOn (entry_at opened.now.loading)
+        (header_of opened.now.loading opened.now.key) (owners_in opened.now.loading) (B.shelf bay.old) (B.shelf bay.new)
+        (bundle_of r.passes.items).knows) }
+    ensures here { IfOk result (λ r. (bundle_of r.passes.items).locks ≡ r.desks.items) }
+    ensures whole { IfOk result (λ r. All (λ s. s ≡ whole_share) (bundle_of r.passes.items).shares) }
+    ensures house { IfOk result (λ r. ArePasses (house_of opened.now.loading.register) (bundle_of r.passes.items).knows) }
     ensures left { OnErr result (EachDisk (owners_in opened.now.loading) (λ _. IsOnlySynced) (B.shelf bay.old) (B.shelf bay.new)) }
     ensures stop { IfErr result (IsOpenStop opened.now.loading opened.now.key (B.shelf bay.old) (B.shelf bay.new)) }
     ensures bay { KeepsBay B.shelf B.owners B.faults bay.old bay.new }
     ensures cause { HasDiskCause B.shelf B.owners B.faults bay.old bay.new result }
 {
     let headers = headers_of(alloc, opened)?;
+    let mut desks = Vec::with_capacity(alloc, headers.len())?;
     let mut passes = Vec::with_capacity(alloc, headers.len())?;
     for owner in 0..headers.len() as u32 {
-        match open_book(alloc, bay, opened, &headers[owner as usize], owner) {
-            Ok(book) => passes.push_reserved(Pass::new(book)),
+        match open_desk(alloc, bay, opened, &headers[owner as usize], owner) {
+            Ok((desk, pass)) => {
+                desks.push_reserved(desk);
+                passes.push_reserved(pass);
+            }
             Err(stop) => {
-                put_back(bay, passes);
+                put_back(bay, desks, passes);
                 return Err(stop);
             }
         }
     }
-    Ok(passes)
+    Ok(Opening { desks, passes })
 }

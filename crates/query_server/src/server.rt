@@ -26,15 +26,20 @@ use fz_outside::files::Files;
 use fz_outside::sink::Sink;
 use fz_outside::source::Source;
 use outside_bays::bay::Bay;
+use outside_links::gate::Gate;
 use std::alloc::Global;
+use std::sync::Wait;
+use std::thread::Threads;
 
 /// Does a command, up to what is written at its end.
-fn run_command<F: Files, B: Bay, S: Source>(
+fn run_command<R: Threads + Wait + Sync, F: Files, B: Bay, S: Source, G: Gate + Sync>(
+    rt: &R,
     alloc: Global,
     words: &[String],
     files: &mut F,
     bay: &mut B,
     source: &mut S,
+    gate: &G,
 ) -> Result<End, Stop>
     requires home { AreAtHome (B.owners bay.old) (B.shelf bay.old) }
     ensures end { let given = map string_bytes words.now in ForContents (F.held files.old) (S.left source.old)
@@ -65,9 +70,13 @@ fn run_command<F: Files, B: Bay, S: Source>(
         Ok(Command::Audit { catalog, key }) => {
             list_owners(alloc, files, bay, catalog, key, Listing::Counted)
         }
-        Ok(Command::Run { catalog, key, .. }) => {
-            run_script(alloc, files, bay, source, catalog, key)
-        }
+        Ok(
+            Command::Run {
+                catalog,
+                key,
+                workers,
+            },
+        ) => run_script(rt, alloc, files, bay, source, gate, catalog, key, workers),
         Ok(
             Command::Check {
                 catalog,
@@ -90,9 +99,10 @@ fn run_command<F: Files, B: Bay, S: Source>(
 ///
 /// - `init CATALOG KEY`: CATALOG is a catalog, KEY a file of 32 bytes. Each owner's journal is made on its disk, which has to be
 ///   empty, and a line for each goes to the sink.
-/// - `run CATALOG KEY`, perhaps with `--workers W`: the source is a script. The owners' journals are opened, the script is answered,
-///   each line on the records so far of the owner that it asks, and its replies go to the sink. What a line adds is kept before it
-///   is answered.
+/// - `run CATALOG KEY`, perhaps with `--workers W`, 1 to 16: the source is a script. The owners' journals are opened, the script is
+///   answered, and its replies go to the sink. Block k of it is answered by worker k mod W, and each worker answers its lines one after
+///   another, each on records of the owner that it asks which begin with all that the worker saw and added before: with one worker on
+///   the records so far. What a line adds is kept before it is answered.
 /// - `audit CATALOG KEY`: the owners' journals are opened, and what their records come to goes to the sink, a line for each.
 /// - `check CATALOG OWNER FILE`: OWNER is an owner of the catalog, and FILE holds a program. Its sensitivity, or the line that
 ///   refuses it, goes to the sink. Nothing is taken of the source, and no disk.
@@ -103,15 +113,17 @@ fn run_command<F: Files, B: Bay, S: Source>(
 /// Each reads the tables of all owners of its catalogs, in order. At another status than Done the status's line goes to the sink.
 /// Files, source, sink and disks tell what they hold, or don't; what is said of their contents holds where they do. Want of memory
 /// (`NoMemory`) may be answered at any time, at faulty words too; in a script that is answered it may be the reply to a line that
-/// asks: 90 before a reservation, and 51 after it. The runtime is for workers, of which there are none yet.
-pub fn run_server<R, F: Files, B: Bay, S: Source, K: Sink>(
-    _rt: &R,
+/// asks: 90 before a reservation, and 51 after it. The runtime is for the workers of a `run`: each has a thread, and waits for the owners'
+/// locks. The gate is told of each line when it begins and when it has been answered.
+pub fn run_server<R: Threads + Wait + Sync, F: Files, B: Bay, S: Source, K: Sink, G: Gate + Sync>(
+    rt: &R,
     alloc: Global,
     words: &[String],
     files: &mut F,
     bay: &mut B,
     source: &mut S,
     sink: &mut K,
+    gate: &G,
 ) -> Status
     requires home { AreAtHome (B.owners bay.old) (B.shelf bay.old) }
     // What is written, whatever files and source hold or tell: it is due for some contents of the files, at each read, and of the
@@ -165,6 +177,6 @@ pub fn run_server<R, F: Files, B: Bay, S: Source, K: Sink>(
     ensures disk { result ≡ Status.DiskFault → IsOfDisks (command_of (map string_bytes words.now))
         × (HasRisen (B.faults bay.old) (B.faults bay.new) ⊎ SomeRose (B.shelf bay.old) (B.shelf bay.new)) }
 {
-    let end = run_command(alloc, words, files, bay, source);
+    let end = run_command(rt, alloc, words, files, bay, source, gate);
     finish(sink, &end)
 }

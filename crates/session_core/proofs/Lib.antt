@@ -6,9 +6,13 @@ pub mod Demands
 pub mod Exactly
 pub mod OneTranscript
 pub mod Turning
+pub mod FirstBlocks
+pub mod Bundles
+mod Joins
 pub mod Short
 pub mod Serving
 pub mod Others
+pub mod Dealing
 pub mod Idle
 pub mod Examples
 pub mod ExamplesOfOwners

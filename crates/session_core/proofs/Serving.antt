@@ -1,14 +1,11 @@
 -- lines that are served one after another
-use Rattle.std.proofs.Common.{◌≡◌, ℕ, ◌+◌, ◌-◌, ◌^◌, ◌<◌, ◌≤◌, ◌==◌, Bool, true, false, List, [], ◌∷◌, ◌++◌, length, get_or, map, set, Option, None, refl, sym, ◌∙◌, ap, subst, arith, append-nil, append_assoc}
+use Rattle.std.proofs.Common.{◌≡◌, ℕ, ◌+◌, ◌<◌, ◌≤◌, ◌==◌, Bool, true, false, List, [], ◌∷◌, ◌++◌, length, map, set, Option, None, refl, sym, ◌∙◌, ap, subst, arith, append-nil, append_assoc, length-append}
 use Rattle.std.proofs.Common.{eq-eqb, eqb-true, length-set, get_or-set_same, get_or-set_other}
-use Rattle.std.specs.Prelude.{if◌then◌else◌, min, MatchBool}
+use Rattle.std.specs.Prelude.{if◌then◌else◌, MatchBool}
 use Rattle.std.proofs.lemmas.List.Sums.{sum_by-cons}
-use Rattle.std.proofs.lemmas.Option.{get_or_from_slice_get, slice_get-get_or}
-use Rattle.std.specs.List.{flat_map}
 use Rattle.std.proofs.lemmas.List.{map-append}
 use Rattle.std.proofs.lemmas.List.Concat.{flat_map-append}
 use Rattle.budget_ledger.specs.Account.{Account}
-use Rattle.wire_lines.specs.Lines.{lines_of}
 use Rattle.wire_lines.specs.Reply.{Replied, reply_text}
 use Rattle.owner_house.specs.Owner.{Owner}
 use Rattle.owner_house.specs.House.{House}
@@ -16,21 +13,16 @@ use Rattle.owner_desk.specs.Passes.{Pass, Told, first_of_run}
 use Rattle.answer_path.specs.Demand.{Demand}
 use Rattle.answer_path.specs.Shut.{shut_of}
 use Rattle.budget_core.specs.Ledger.{start_of}
-use Rattle.session_core.specs.Meant.{Meant, says, wants}
-use Rattle.session_core.specs.Turns.{Turn, meant_at, turns_of}
+use Rattle.session_core.specs.Meant.{Meant, says, wants, meant_by, next_who}
+use Rattle.session_core.specs.Turns.{Turn, meant_at, session_turns}
 use Rattle.session_core.specs.Exchanges.{Exchange, IsPlain, TurnLeads, Lead, is_of, told_of}
 use Rattle.session_core.specs.Served.{MeetsOnSome, AnswersOn, ShutsFor}
-use Rattle.session_core.specs.Code.{turns_left, who_behind, no_pass, pass_at, ArePasses, GoesOn, AreServed, HasServed, room_for_line, room_for_lines}
+use Rattle.session_core.specs.Code.{no_pass, pass_at, ArePasses, GoesOn, AreServed, HasServed, room_for_line, room_for_lines}
 use Rattle.session_core.proofs.Exchanges.{all_append, lead_append}
-use Rattle.session_core.proofs.Turning.{turns_first, turns_next}
 
 -- room for a line's reply, and for those of the lines behind it
 pub room_next : (line : List ℕ) (lines : List (List ℕ)) → room_for_lines (line ∷ lines) ≡ room_for_line (length line) + room_for_lines lines
 room_next line lines = sum_by-cons (λ (l : List ℕ). room_for_line (length l)) line lines
-
--- what is taken is the room that was asked for, where it is a size at all
-pub room_taken : (room taken : ℕ) → taken ≡ min (2 ^ 64 - 1) room → taken < 2 ^ 63 → room ≤ taken
-room_taken room taken is small = omega (arith, is, small)
 
 -- passes that served lines are still those of the house
 pub passes_kept : (house : House) (draws : ℕ → ℕ → ℕ → ℕ) (xs : List Exchange) (before after : List Pass) → AreServed house draws xs before after → ArePasses house before → ArePasses house after
@@ -38,13 +30,6 @@ passes_kept house draws xs before after served of = record {
   each_has = served.each_has ∙ of.each_has;
   entries = λ o owner at. ap (λ (a : Account). a.ledger.entry) (served.owners o owner at).opened ∙ of.entries o owner at;
 }
-
--- there is a pass of each owner
-pub pass_within : (house : House) (passes : List Pass) (o : ℕ) → length passes ≡ length house.owners → o < length house.owners → o < length passes
-pass_within house passes o each within = omega (arith, each, within)
-
-pub pass_there : (passes : List Pass) (o : ℕ) (pass : Pass) → o < length passes → pass ≡ get_or passes o pass → pass ≡ pass_at passes o
-pass_there passes o pass within is = is ∙ get_or_from_slice_get passes o (get_or passes o no_pass) pass (slice_get-get_or passes o no_pass within)
 
 module _ (house : House) (draws : ℕ → ℕ → ℕ → ℕ) where
   told_append : (o : ℕ) (xs ys : List Exchange) → told_of house o (xs ++ ys) ≡ told_of house o xs ++ told_of house o ys
@@ -157,37 +142,47 @@ module _ (house : House) (draws : ℕ → ℕ → ℕ → ℕ) (x : Exchange) (d
           (subst (λ (r : Pass). GoesOn house draws n (x ∷ []) p r) (sym pass_asked) goes_asked))
       each o false miss = subst (λ (r : Pass). GoesOn house draws o (x ∷ []) (pass_at before o) r) (sym (pass_others o miss)) (goes_others o (pass_at before o) miss)
 
--- a script that is answered up to a line
-pub record IsUpTo (house : House) (draws : ℕ → ℕ → ℕ → ℕ) (script : List ℕ) (who : Option ℕ) (lines : List (List ℕ)) (out : List ℕ) (before now : List Pass) : Type 0 where
-  pub exchanges : List Exchange
-  pub turns : map (λ (x : Exchange). x.turn) exchanges ++ turns_left house who lines ≡ turns_of house script
-  pub written : out ≡ flat_map reply_text (map (λ (x : Exchange). x.reply) exchanges)
-  pub served : AreServed house draws exchanges before now
-
-module _ (house : House) (draws : ℕ → ℕ → ℕ → ℕ) (script : List ℕ) (before : List Pass) where
-  pub up_to_first : (out : List ℕ) → out ≡ [] → IsUpTo house draws script None (lines_of script) out before before
-  up_to_first out none = record { exchanges = []; turns = turns_first house script; written = none; served = none_served house draws before }
-
-  pub up_to_next : (who next : Option ℕ) (line : List ℕ) (lines rest : List (List ℕ)) (out text : List ℕ) (now after : List Pass) (x : Exchange) → x.turn ≡ record { who = who; line = line }
-      → IsUpTo house draws script who lines out before now → lines ≡ line ∷ rest → AreServed house draws (x ∷ []) now after
-      → text ≡ out ++ reply_text x.reply → next ≡ who_behind house who line → IsUpTo house draws script next rest text before after
-  up_to_next who next line lines rest out text now after x turn up cut served put behind = record {
-    exchanges = up.exchanges ++ x ∷ [];
-    turns = ap (λ ts. ts ++ turns_left house next rest) (map-append (λ (y : Exchange). y.turn) up.exchanges (x ∷ []))
-        ∙ append_assoc (map (λ (y : Exchange). y.turn) up.exchanges) (x.turn ∷ []) (turns_left house next rest)
-        ∙ ap (λ ts. map (λ (y : Exchange). y.turn) up.exchanges ++ ts)
-        (ap (λ (t : Turn). t ∷ turns_left house next rest) turn ∙ ap (λ (w : Option ℕ). record { who = who; line = line } ∷ turns_left house w rest) behind ∙ sym (turns_next house who line rest) ∙ ap (λ ls. turns_left house who ls) (sym cut))
-        ∙ up.turns;
-    written = put ∙ ap (λ ts. ts ++ reply_text x.reply) up.written ∙ ap (λ ts. flat_map reply_text (map (λ (y : Exchange). y.reply) up.exchanges) ++ ts) (sym (append-nil (reply_text x.reply)))
-        ∙ sym (flat_map-append reply_text (map (λ (y : Exchange). y.reply) up.exchanges) (x.reply ∷ []))
-        ∙ ap (λ rs. flat_map reply_text rs) (sym (map-append (λ (y : Exchange). y.reply) up.exchanges (x ∷ [])));
-    served = served_append house draws up.exchanges (x ∷ []) before now after up.served served;
+-- what is written for served lines
+module _ (house : House) (draws : ℕ → ℕ → ℕ → ℕ) where
+  pub written_append : (turns more : List Turn) (text next : List ℕ) (a b c : List Pass) → HasServed house draws turns text a b → HasServed house draws more next b c
+      → HasServed house draws (turns ++ more) (text ++ next) a c
+  written_append turns more text next a b c f g = record {
+    exchanges = f.exchanges ++ g.exchanges;
+    turns_are = map-append (λ (x : Exchange). x.turn) f.exchanges g.exchanges ∙ cc (f.turns_are, g.turns_are);
+    written = cc (f.written, g.written, flat_map-append reply_text (map (λ (x : Exchange). x.reply) f.exchanges) (map (λ (x : Exchange). x.reply) g.exchanges), map-append (λ (x : Exchange). x.reply) f.exchanges g.exchanges);
+    served = served_append house draws f.exchanges g.exchanges a b c f.served g.served;
   }
 
-  pub up_to_all : (who : Option ℕ) (lines : List (List ℕ)) (out : List ℕ) (now : List Pass) → IsUpTo house draws script who lines out before now → lines ≡ [] → HasServed house draws script out before now
-  up_to_all who lines out now up none = record {
-    exchanges = up.exchanges;
-    turns = sym (append-nil (map (λ (x : Exchange). x.turn) up.exchanges)) ∙ ap (λ ls. map (λ (x : Exchange). x.turn) up.exchanges ++ turns_left house who ls) (sym none) ∙ up.turns;
-    written = up.written;
-    served = up.served;
+  pub written_none : (a : List Pass) → HasServed house draws [] [] a a
+  written_none a = record { exchanges = []; turns_are = refl; written = refl; served = none_served house draws a }
+
+  pub written_one : (x : Exchange) (a b : List Pass) → AreServed house draws (x ∷ []) a b → HasServed house draws (x.turn ∷ []) (reply_text x.reply) a b
+  written_one x a b served = record { exchanges = x ∷ []; turns_are = refl; written = sym (append-nil (reply_text x.reply)); served = served }
+
+-- a block that is answered but for the lines that are left of it, and fits its room
+pub record IsUpTo (house : House) (draws : ℕ → ℕ → ℕ → ℕ) (block left : List (List ℕ)) (who : Option ℕ) (text : List ℕ) (before now : List Pass) : Type 0 where
+  pub done : List Turn
+  pub turns : done ++ session_turns house who left ≡ session_turns house None block
+  pub fits : length text + room_for_lines left ≤ room_for_lines block
+  pub served : HasServed house draws done text before now
+
+module _ (house : House) (draws : ℕ → ℕ → ℕ → ℕ) (block : List (List ℕ)) (before : List Pass) where
+  pub up_to_first : IsUpTo house draws block block None [] before before
+  up_to_first = record { done = []; turns = refl; fits = omega arith; served = written_none house draws before }
+
+  pub up_to_next : (who next : Option ℕ) (line : List ℕ) (rest : List (List ℕ)) (text : List ℕ) (now after : List Pass) (x : Exchange) → x.turn ≡ record { who = who; line = line }
+      → IsUpTo house draws block (line ∷ rest) who text before now → AreServed house draws (x ∷ []) now after → length (reply_text x.reply) ≤ room_for_line (length line)
+      → session_turns house next rest ≡ session_turns house (next_who who (meant_by house who line)) rest → IsUpTo house draws block rest next (text ++ reply_text x.reply) before after
+  up_to_next who next line rest text now after x turn up served short behind = record {
+    done = up.done ++ x.turn ∷ [];
+    turns = append_assoc up.done (x.turn ∷ []) (session_turns house next rest) ∙ ap (λ ts. up.done ++ ts) (cc (turn, behind)) ∙ up.turns;
+    fits = omega (arith, up.fits, room_next line rest, length-append text (reply_text x.reply), short);
+    served = written_append house draws up.done (x.turn ∷ []) text (reply_text x.reply) before now after up.served (written_one house draws x now after served);
   }
+
+  pub up_to_all : (who : Option ℕ) (text : List ℕ) (now : List Pass) → IsUpTo house draws block [] who text before now
+      → (length text ≤ room_for_lines block) × HasServed house draws (session_turns house None block) text before now
+  up_to_all who text now up = (
+    omega (arith, up.fits),
+    subst (λ (ts : List Turn). HasServed house draws ts text before now) (sym (append-nil up.done) ∙ up.turns) up.served,
+  )

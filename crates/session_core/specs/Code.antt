@@ -18,7 +18,7 @@ use Rattle.answer_path.specs.Shut.{shut_of}
 use Rattle.answer_path.specs.Code.{demand_of, IsDemandOf, HasPartFor}
 use Rattle.owner_house.specs.House.{House, owner_at, no_entry}
 use Rattle.session_core.specs.Meant.{Meant, Subject, says, wants, meant_by, next_who}
-use Rattle.session_core.specs.Turns.{Turn, session_turns, blocks_of, is_bye, turns_of}
+use Rattle.session_core.specs.Turns.{Turn, session_turns, blocks_of, is_bye}
 use Rattle.session_core.specs.Exchanges.{Exchange, ArePlain, told_of}
 use Rattle.session_core.specs.Served.{AnswersOn, ShutsOn}
 use Rattle.session_core.specs.Transcript.{Journals}
@@ -146,10 +146,10 @@ abbrev pub AreFresh : House → List Pass → Type 0
 AreFresh house passes = (o : ℕ) (owner : Owner) → slice_get house.owners o ≡ Some owner
     → pass_at passes o ≡ fresh_pass (pass_at passes o).opened
 
--- The text is the replies to the script's turns, which were served.
-pub record HasServed (house : House) (draws : ℕ → ℕ → ℕ → ℕ) (script text : List ℕ) (before after : List Pass) : Type 0 where
+-- The text is the replies to these turns, which were served.
+pub record HasServed (house : House) (draws : ℕ → ℕ → ℕ → ℕ) (turns : List Turn) (text : List ℕ) (before after : List Pass) : Type 0 where
   pub exchanges : List Exchange
-  pub turns : map (λ x. x.turn) exchanges ≡ turns_of house script
+  pub turns_are : map (λ x. x.turn) exchanges ≡ turns
   pub written : text ≡ flat_map reply_text (map (λ x. x.reply) exchanges)
   pub served : AreServed house draws exchanges before after
 

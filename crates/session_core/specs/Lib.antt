@@ -7,3 +7,6 @@ pub mod Gathered
 pub mod Headline
 pub mod Said
 pub mod Code
+pub mod Bundles
+pub mod Blocks
+pub mod Worked

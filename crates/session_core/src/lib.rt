@@ -1,7 +1,9 @@
 //! One script: its lines in blocks, each a session of an analyst, answered one after another.
 #![tactic(auto)]
 
+pub mod blocks;
 pub mod laws;
 pub mod line;
 pub mod passes;
 pub mod script;
+pub mod server;

@@ -1,51 +1,26 @@
-//! A script, from its bytes to its replies.
+//! A script's lines, from their bytes to their replies.
 
-ghost use Rattle.std.specs.Prelude.{◌≡◌, ◌+◌, ◌-◌, ◌++◌, ◌<◌, ◌≤◌, ◌^◌, length, min};
-ghost use Rattle.std.specs.Prelude.{IfOk, IfErr, None, if◌then◌else◌, vec_capacity, List};
+ghost use Rattle.std.specs.Prelude.{◌≡◌, ◌+◌, ◌++◌, ◌<◌, ◌≤◌, length};
+ghost use Rattle.std.specs.Prelude.{None, if◌then◌else◌, vec_capacity, List, ℕ};
 ghost use Rattle.wire_lines.specs.Lines.{lines_of};
 ghost use Rattle.wire_lines.specs.Reply.{replied, reply_text};
 ghost use Rattle.owner_desk.specs.Passes.{Told};
 ghost use Rattle.answer_path.specs.Answered.{IsUnasked};
 ghost use Rattle.owner_house.specs.House.{house_of};
-ghost use Rattle.session_core.specs.Turns.{is_bye};
+ghost use Rattle.session_core.specs.Turns.{is_bye, session_turns};
+ghost use Rattle.session_core.specs.Blocks.{behind_block, first_block};
 ghost use Rattle.session_core.specs.Code.{IsAnalyst, who_behind, is_ended, one_line, room_for_line, room_for_lines, short_reply_limit};
 ghost use Rattle.session_core.specs.Code.{ArePasses, AreServed, HasServed};
 
 use crate::line::{LineMeaning, read_line};
 use crate::passes::Passes;
-use answer_path::{Desk, meet};
+use crate::server::Server;
+use answer_path::meet;
 use fz_outside::words::Streams;
 use outside_disks::disk::Disk;
-use owner_house::house::House;
-use std::alloc::{AllocError, Global};
+use outside_links::gate::Gate;
+use std::sync::Wait;
 use wire_lines::{REPLY_LIMIT, Reply, next_line, write_reply};
-
-/// The most bytes of a reply to a line of fewer than six bytes.
-const SHORT_REPLY_LIMIT: usize = 8;
-
-// Room for the longest reply to a line of so many bytes. A shorter line than six asks nothing, and its reply is short.
-fn room_of(len: usize) -> usize
-    ensures { result ≡ room_for_line len }
-{
-    if len < 6 {
-        SHORT_REPLY_LIMIT
-    } else {
-        REPLY_LIMIT
-    }
-}
-
-// Room for the replies to all lines. It is taken before the first line, so that no reply waits for memory.
-fn room_for(script: &[u8]) -> usize
-    ensures { result ≡ min (2 ^ 64 - 1) (room_for_lines (lines_of script.now)) }
-{
-    let mut room = 0usize;
-    let mut rest = script;
-    while let Some((line, after)) = next_line(rest) {
-        room = room.saturating_add(room_of(line.len()));
-        rest = after;
-    }
-    room
-}
 
 // Puts bytes at the end, for which there is room.
 fn push_all(out: &mut Vec<u8>, bytes: &[u8])
@@ -97,34 +72,35 @@ fn is_end(reply: &Reply<'_>) -> bool
 }
 
 /// Answers one line, where this analyst speaks. Nobody speaks behind a `bye`.
-pub fn answer_line<'a, D: Disk, S: Streams>(
-    alloc: Global,
-    house: &'a House,
-    desk: &Desk,
+pub fn answer_line<'a, R: Wait, D: Disk, S: Streams, G>(
+    server: &Server<'a, R, D, S, G>,
     passes: &mut Passes<D>,
-    streams: &S,
     who: Option<u16>,
     line: &'a [u8],
 ) -> Answer<'a>
-    requires passes { ArePasses (house_of house.now) passes.old }
-    requires known { IsAnalyst (house_of house.now) who }
+    requires here { passes.old.locks ≡ server.now.desks.now }
+    requires passes { ArePasses (house_of server.now.house.now) passes.old.knows }
+    requires known { IsAnalyst (house_of server.now.house.now) who }
     ensures served { (told : List Told) ×
-        AreServed (house_of house.now) (S.given streams.now) (one_line who line.now (replied result.reply) told) passes.old passes.new }
+        AreServed (house_of server.now.house.now) (S.given server.now.streams.now) (one_line who line.now (replied result.reply) told)
+        passes.old.knows passes.new.knows }
     // A line that is refused before an owner's budget is asked leaves all passes as they were.
     ensures same { IsUnasked (replied result.reply) → passes.new ≡ passes.old }
-    ensures who { result.who ≡ who_behind (house_of house.now) who line.now }
+    ensures kept { passes.new ≡ record passes.old { knows = passes.new.knows } }
+    ensures who { result.who ≡ who_behind (house_of server.now.house.now) who line.now }
     ensures ends { result.ends ≡ is_bye line.now }
-    ensures known { IsAnalyst (house_of house.now) result.who }
+    ensures known { IsAnalyst (house_of server.now.house.now) result.who }
     ensures short { length line.now < 6 → length (reply_text (replied result.reply)) ≤ short_reply_limit }
 {
-    match read_line(house, who, line) {
+    match read_line(server.house, who, line) {
         LineMeaning::Wants { owner, demand } => Answer {
             reply: meet(
-                alloc,
-                desk,
+                server.rt,
+                server.alloc,
+                &server.desks[owner as usize],
                 &mut passes.each[owner as usize],
-                house.dataset(owner),
-                streams,
+                server.house.dataset(owner),
+                server.streams,
                 owner,
                 &demand,
             ),
@@ -139,28 +115,43 @@ pub fn answer_line<'a, D: Disk, S: Streams>(
     }
 }
 
-/// The replies to a script. All memory is taken first, so an error leaves the passes as they were.
-pub fn answer_script<D: Disk, S: Streams>(
-    alloc: Global,
-    house: &House,
-    desk: &Desk,
+/// Answers the lines of the first block as a session of their own: one after another, to the first that is `bye` or to the end. The
+/// replies go behind what is there, and what is behind the block comes back.
+pub fn answer_block<'a, R: Wait, D: Disk, S: Streams, G: Gate>(
+    server: &Server<'a, R, D, S, G>,
     passes: &mut Passes<D>,
-    streams: &S,
-    script: &[u8],
-) -> Result<Vec<u8>, AllocError>
-    requires passes { ArePasses (house_of house.now) passes.old }
+    block: u32,
+    script: &'a [u8],
+    out: &mut Vec<u8>,
+) -> &'a [u8]
+    requires here { passes.old.locks ≡ server.now.desks.now }
+    requires passes { ArePasses (house_of server.now.house.now) passes.old.knows }
+    requires room { length out.old.items + room_for_lines (first_block (lines_of script.now)) ≤ vec_capacity out.old }
     // The stated replies, in any order with other lines; what they added is the passes' own.
-    ensures served { IfOk result (λ out. HasServed (house_of house.now) (S.given streams.now) script.now out.items passes.old passes.new) }
-    ensures refused { IfErr result (λ _. passes.new ≡ passes.old) }
+    ensures served { (text : List ℕ) × (out.new.items ≡ out.old.items ++ text)
+        × (length text ≤ room_for_lines (first_block (lines_of script.now)))
+        × HasServed (house_of server.now.house.now) (S.given server.now.streams.now)
+        (session_turns (house_of server.now.house.now) None (first_block (lines_of script.now))) text passes.old.knows passes.new.knows }
+    ensures behind { lines_of result.now ≡ behind_block (lines_of script.now) }
+    ensures nearer { 0 < length script.now → length result.now < length script.now }
+    ensures passes { ArePasses (house_of server.now.house.now) passes.new.knows }
+    ensures kept { passes.new ≡ record passes.old { knows = passes.new.knows } }
+    ensures capacity { vec_capacity out.new ≡ vec_capacity out.old }
 {
-    let mut out = Vec::with_capacity(alloc, room_for(script))?;
     let mut rest = script;
     let mut who = None;
+    let mut number = 0u32;
     while let Some((line, after)) = next_line(rest) {
-        let answer = answer_line(alloc, house, desk, passes, streams, who, line);
-        push_reply(&mut out, &answer.reply, line.len());
+        server.gate.enter(block, number);
+        let answer = answer_line(server, passes, who, line);
+        server.gate.leave(block, number);
+        push_reply(out, &answer.reply, line.len());
+        if answer.ends {
+            return after;
+        }
         who = answer.who;
+        number = number.saturating_add(1);
         rest = after;
     }
-    Ok(out)
+    rest
 }

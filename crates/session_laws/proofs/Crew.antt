@@ -13,7 +13,8 @@ use Rattle.owner_house.specs.House.{House}
 use Rattle.session_core.specs.Turns.{meant_at, turns_of}
 use Rattle.session_core.specs.Exchanges.{Exchange, IsPlain, ArePlain, told_of}
 use Rattle.session_core.specs.Transcript.{Journals}
-use Rattle.session_laws.specs.Crew.{Ascends, AreJoined, AreDone, AreTogether}
+use Rattle.owner_lock.specs.Entries.{Ascends}
+use Rattle.session_laws.specs.Crew.{AreJoined, AreDone, AreTogether}
 use Rattle.session_laws.proofs.Counting.{at_place, counted_has, found_in}
 use Rattle.session_laws.proofs.Listed.{all_by_places, place_of_all}
 use Rattle.session_laws.proofs.Locals.{part_has}

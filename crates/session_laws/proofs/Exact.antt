@@ -64,9 +64,9 @@ one_part {X = X} crew one at (x ∷ xs) = here (one_part crew one (at + 1) xs) (
     here rest true hit = ap (λ (w : List X). x ∷ w) rest
     here rest false miss = absurd (cc (miss))
 
-counted : (zs : List Told) → sum_by (λ z. 1) zs ≡ length zs
+pub counted : {X : Type 0} (zs : List X) → sum_by (λ z. 1) zs ≡ length zs
 counted [] = refl
-counted (z ∷ zs) = omega (arith, sum_by-cons (λ (y : Told). 1) z zs, counted zs)
+counted {X} (z ∷ zs) = omega (arith, sum_by-cons (λ (y : X). 1) z zs, counted zs)
 
 pub exact : (house : House) (draws : ℕ → ℕ → ℕ → ℕ) (crew : ℕ → ℕ) (o : ℕ) (found : List Record) (xs : List Exchange) (records : List Record) → AreGathered house draws 1 crew o found xs records
     → LeadExactly house draws o (first_new found) found xs records

@@ -18,4 +18,6 @@ pub mod Causes
 pub mod Closings
 pub mod Exists
 pub mod Scripts
+pub mod Worked
 mod Orders
+mod ExamplesOfBlocks

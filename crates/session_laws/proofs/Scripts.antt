@@ -21,7 +21,7 @@ use Rattle.session_core.specs.Transcript.{Journals, first_new, LeadExactly, IsSc
 use Rattle.session_core.specs.Served.{Sources, AreAskedBy, AnswersOn, ShutsOn}
 use Rattle.session_core.specs.Gathered.{part_of, one_worker, AreAnsweredOn, AreGathered, AreShut, IsGatheredScript}
 use Rattle.session_core.specs.Headline.{Programs, IsAccountedFor, AreOwed, AreAccountedFor, Headline, AreFound, AreHistories}
-use Rattle.session_core.specs.Code.{pass_at, found_by, fresh_pass, GoesOn, AreServed, AreFresh, HasServed, IsClosedWith, AreClosed}
+use Rattle.session_core.specs.Code.{pass_at, found_by, fresh_pass, GoesOn, AreServed, AreFresh, IsClosedWith, AreClosed}
 use Rattle.session_core.proofs.Demands.{prefix_whole}
 use Rattle.session_core.proofs.Turns.{turns_lines}
 use Rattle.session_core.proofs.Exactly.{answers_on, adds_in_order}
@@ -135,16 +135,6 @@ lines_gathered house draws xs before after records closed fresh served shut o ow
   closed_gathered house draws o xs (pass_at before o) (pass_at after o) (records o) (closed o) (fresh o owner here) (served.owners o owner here) (shut o owner here),
   closed_shut house draws o xs (pass_at before o) (pass_at after o) (records o) (closed o) (fresh o owner here) (served.owners o owner here) (shut o owner here),
 )
-
--- .. and a script's.
-pub script_gathered : (house : House) (draws : ℕ → ℕ → ℕ → ℕ) (script text : List ℕ) (before after : List Pass) (records : Journals) (closed : ℕ → Option Failure) → AreFresh house before
-    → (h : HasServed house draws script text before after) → AreClosed house after records closed → IsGatheredScript house draws 1 one_worker (found_by before) script h.exchanges records
-script_gathered house draws script text before after records closed fresh h shut = record {
-  crews = λ at. omega arith;
-  turns = h.turns;
-  plain = h.served.plain;
-  owners = λ o owner here. (lines_gathered house draws h.exchanges before after records closed fresh h.served shut o owner here).0;
-}
 
 -- Where nothing was answered, the records found are accounted for ..
 nothing_asked : Sources

@@ -1,19 +1,15 @@
 -- What a crew of workers did with a script.
-use Rattle.std.specs.Prelude.{◌≡◌, ℕ, ◌+◌, ◌<◌, ◌≤◌, List, [], ◌∷◌, ◌++◌, length, map, sum_by, slice_get, Some, ⊤}
+use Rattle.std.specs.Prelude.{◌≡◌, ℕ, ◌<◌, List, ◌++◌, length, map, sum_by, slice_get, Some}
 use Rattle.journal_records.specs.declared.records.Record.{Record}
 use Rattle.wire_lines.specs.Reply.{Replied}
 use Rattle.owner_house.specs.Owner.{Owner}
 use Rattle.owner_house.specs.House.{House}
+use Rattle.owner_lock.specs.Entries.{Ascends}
 use Rattle.owner_desk.specs.Passes.{Told, records_told}
 use Rattle.session_core.specs.Turns.{turns_of}
 use Rattle.session_core.specs.Exchanges.{Exchange, ArePlain, told_of}
 use Rattle.session_core.specs.Transcript.{Journals}
 use Rattle.session_core.specs.Gathered.{part_of, added_below, IsAnsweredOn, IsGatheredScript}
-
--- places in order, each once, none below p
-abbrev pub Ascends : ℕ → List Told → Type 0
-Ascends p [] = ⊤
-Ascends p (z ∷ zs) = (p ≤ z.0) × Ascends (z.0 + 1) zs
 
 -- One owner's book once all passes were joined into one, whose own records these are, and the book was closed: each worker's exchanges
 -- were answered on records that the book's begin with, what the pass owns is what all were told, and the book's records are those

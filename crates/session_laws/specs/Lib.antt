@@ -3,7 +3,6 @@ pub mod ToldOnce
 pub mod Growing
 pub mod Lines
 pub mod Crew
-pub mod Blocks
 pub mod Between
 pub mod Causes
 pub mod Order

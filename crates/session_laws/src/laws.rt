@@ -23,13 +23,14 @@ ghost use Rattle.session_core.specs.Served.{Sources, AnswersOn};
 ghost use Rattle.session_core.specs.Gathered.{AreGathered, AreOfScript, AreShut, IsAnsweredOn, IsGatheredScript, one_worker, part_of};
 ghost use Rattle.session_core.specs.Headline.{Programs, AreAccountedFor, AreFound, AreHistories, AreOwed, Headline, IsHonoured};
 ghost use Rattle.session_core.specs.Said.{NothingFailed};
-ghost use Rattle.session_core.specs.Code.{AreFresh, AreClosed, AreServed, HasServed, found_by};
+ghost use Rattle.session_core.specs.Blocks.{AreDealt, crew_of, script_blocks};
+ghost use Rattle.session_core.specs.Worked.{HasWorked};
+ghost use Rattle.session_core.specs.Code.{AreFresh, AreClosed, AreServed, found_by};
 ghost use Rattle.session_laws.specs.CameBy.{CameAboutIsExplained, AllCameBy};
 ghost use Rattle.session_laws.specs.ToldOnce.{AreToldOnce};
 ghost use Rattle.session_laws.specs.Growing.{AreGrowing, AreGrowingFrom};
 ghost use Rattle.session_laws.specs.Lines.{AreKnown, AreOfTurns, AreHonoured};
 ghost use Rattle.session_laws.specs.Crew.{AreDone, AreJoined, AreTogether};
-ghost use Rattle.session_laws.specs.Blocks.{AreDealt};
 ghost use Rattle.session_laws.specs.Between.{two_workers, IsSettledLater, four_records};
 ghost use Rattle.session_laws.specs.Causes.{AreCaused};
 ghost use Rattle.session_laws.specs.Order.{LeastCodeRefuses, GrantsAreUnopposed};
@@ -82,16 +83,19 @@ pub fn found_records_are_owed()
         AreOwners house → AreFound house draws earlier found → AreAccountedFor house draws found earlier script found }
 {}
 
-/// Lines, and those of a script, that were served by passes on books just opened, which were closed then: all records behind those
-/// found are the lines' own, and what shut a book is a line's own append that failed.
+/// Lines that were served by passes on books just opened, and a script that so many workers answered by halves of such passes, where the
+/// books were closed then: all records behind those found are the lines' own, and what shut a book is a line's own append that failed.
 pub fn served_lines_are_gathered()
     ensures lines { (house : House) (draws : ℕ → ℕ → ℕ → ℕ) (xs : List Exchange) (before after : List Pass) (records : Journals) →
         (closed : ℕ → Option Failure) → AreFresh house before → AreServed house draws xs before after → AreClosed house after records closed →
         (o : ℕ) (owner : Owner) → slice_get house.owners o ≡ Some owner →
         AreGathered house draws 1 one_worker o (found_by before o) xs (records o) × AreShut house draws 1 one_worker o xs (closed o) }
-    ensures script { (house : House) (draws : ℕ → ℕ → ℕ → ℕ) (script text : List ℕ) (before after : List Pass) (records : Journals) →
-        (closed : ℕ → Option Failure) → AreFresh house before → (h : HasServed house draws script text before after) →
-        AreClosed house after records closed → IsGatheredScript house draws 1 one_worker (found_by before) script h.exchanges records }
+    ensures script { (house : House) (draws : ℕ → ℕ → ℕ → ℕ) (count : ℕ) (script text : List ℕ) (before after : List Pass) (records : Journals) →
+        (closed : ℕ → Option Failure) → 0 < count → AreFresh house before → (h : HasWorked house draws count script text before after) →
+        AreClosed house after records closed →
+        IsGatheredScript house draws count (crew_of count 0 (script_blocks script)) (found_by before) script h.exchanges records
+        × ((o : ℕ) (owner : Owner) → slice_get house.owners o ≡ Some owner →
+        AreShut house draws count (crew_of count 0 (script_blocks script)) o h.exchanges (closed o)) }
 {}
 
 /// One worker's replies are the script's transcript.

@@ -3,6 +3,7 @@ use Rattle.std.proofs.Common.{◌≡◌, ◌≢◌, ℕ, zero, suc, ◌+◌, ◌
 use Rattle.std.specs.Prelude.{Result, Ok, Err, IsErr}
 use Rattle.std.proofs.lemmas.List.{take_more}
 use Rattle.std.specs.Io.KnownBytes.{IsAtEnd}
+use Rattle.atomic_table.specs.Seated.{TableId}
 use Rattle.fz_outside.specs.Faults.{HasRisen}
 use Rattle.fz_outside.specs.declared.Failed.{Failed}
 use Rattle.outside_links.specs.Links.{Connection, HasGiven, HasTaken}
@@ -14,6 +15,7 @@ use Rattle.owner_house.specs.House.{House}
 use Rattle.session_core.specs.Turns.{is_bye}
 use Rattle.session_core.specs.Exchanges.{Exchange}
 use Rattle.session_core.proofs.Exchanges.{all_append}
+use Rattle.session_core.specs.Bundles.{Bundle}
 use Rattle.session_core.specs.Code.{who_behind}
 use Rattle.session_serve.specs.Session.{AreWhole, HasNoEnd, AreNoBye, EndsInLine, EndsWithBye, HasAnswered, IsCutShort, reply_texts, HasEnded, IsSession, session_limit}
 use Rattle.session_serve.specs.Code.{Keeps, speaker, IsTold, IsLineAnswered, GoesOnWith, HasParted, HasBroken, Leads}
@@ -27,6 +29,14 @@ piece_cut : (piece : List ℕ) (i b : ℕ) → i < length piece → b ≡ get_or
 piece_cut [] i b within at = absurd (omega arith)
 piece_cut (x ∷ xs) zero b within at = (xs, ap (λ (y : ℕ). y ∷ xs) (sym at))
 piece_cut (x ∷ xs) (suc i) b within at = let r = piece_cut xs i b (omega arith) at in (r.0, ap (λ (ys : List ℕ). x ∷ ys) r.1)
+
+-- of a worker's passes only what they know goes on
+pub bundle_goes : (before now after : Bundle) → now ≡ record before { knows = now.knows } → after ≡ record now { knows = after.knows } → after ≡ record before { knows = after.knows }
+bundle_goes before now after was is = is ∙ ap (λ (b : Bundle). record b { knows = after.knows }) was
+
+-- .. so they stay those of the desks
+pub still_here : (desks : List TableId) (now after : Bundle) → now.locks ≡ desks → after ≡ record now { knows = after.knows } → after.locks ≡ desks
+still_here desks now after here is = ap (λ (b : Bundle). b.locks) is ∙ here
 
 module _ (house : House) (draws : ℕ → ℕ → ℕ → ℕ) where
   -- nothing was given yet

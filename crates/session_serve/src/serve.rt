@@ -15,15 +15,15 @@ ghost use Rattle.session_serve.specs.Code.{Keeps, IsLineAnswered, GoesOnWith, Le
 ghost use Rattle.session_serve.specs.declared.serve.SessionEnd.TheVariants.{NoMemory};
 
 use crate::line::Line;
-use answer_path::Desk;
 use fz_outside::Failed;
 use fz_outside::words::Streams;
 use outside_disks::disk::Disk;
+use outside_links::gate::Gate;
 use outside_links::link::{Link, send};
-use owner_house::house::House;
 use session_core::passes::Passes;
 use session_core::script::{Answer, answer_line};
-use std::alloc::Global;
+use session_core::server::Server;
+use std::sync::Wait;
 use wire_lines::{LineRefusal, REPLY_LIMIT, Refusal, Reply, write_reply};
 
 /// The most bytes whose lines a session answers.
@@ -49,48 +49,35 @@ pub enum SessionEnd {
     NoMemory,
 }
 
-// By what lines are answered.
-#[derive(Drop)]
-struct Server<'a, S> {
-    alloc: Global,
-    house: &'a House,
-    desk: &'a Desk,
-    streams: &'a S,
-}
-
-// Who speaks, and the line that isn't ended yet.
+// Who speaks, the line that isn't ended yet, and where it stands, which the gate is told.
 #[derive(Drop)]
 struct Session {
     who: Option<u16>,
     line: Line,
+    block: u32,
+    number: u32,
 }
 
 // Answers a line that has ended. A line over the limit wasn't kept, and is refused as such.
-fn answer<'a, D: Disk, S: Streams>(
-    server: &'a Server<'_, S>,
+fn answer<'a, R: Wait, D: Disk, S: Streams, G>(
+    server: &'a Server<'_, R, D, S, G>,
     passes: &mut Passes<D>,
     who: Option<u16>,
     line: &'a Line,
 ) -> Answer<'a>
-    requires passes { ArePasses (house_of server.now.house.now) passes.old }
+    requires here { passes.old.locks ≡ server.now.desks.now }
+    requires passes { ArePasses (house_of server.now.house.now) passes.old.knows }
     requires known { IsAnalyst (house_of server.now.house.now) who }
     ensures served { (raw text : List ℕ) → Keeps line.now raw → lines_of raw ≡ text ∷ [] → (told : List Told) ×
-        AreServed (house_of server.now.house.now) (S.given server.now.streams.now) (one_line who text (replied result.reply) told) passes.old passes.new }
+        AreServed (house_of server.now.house.now) (S.given server.now.streams.now) (one_line who text (replied result.reply) told) passes.old.knows passes.new.knows }
     ensures who { (raw text : List ℕ) → Keeps line.now raw → lines_of raw ≡ text ∷ [] → result.who ≡ who_behind (house_of server.now.house.now) who text }
     ensures ends { (raw text : List ℕ) → Keeps line.now raw → lines_of raw ≡ text ∷ [] → result.ends ≡ is_bye text }
     ensures known { IsAnalyst (house_of server.now.house.now) result.who }
-    ensures passes { ArePasses (house_of server.now.house.now) passes.new }
+    ensures passes { ArePasses (house_of server.now.house.now) passes.new.knows }
+    ensures kept { passes.new ≡ record passes.old { knows = passes.new.knows } }
 {
     match line.text() {
-        Some(text) => answer_line(
-            server.alloc,
-            server.house,
-            server.desk,
-            passes,
-            server.streams,
-            who,
-            text,
-        ),
+        Some(text) => answer_line(server, passes, who, text),
         None => Answer {
             reply: Reply::Refused(Refusal::Line(LineRefusal::TooLong)),
             who,
@@ -100,51 +87,58 @@ fn answer<'a, D: Disk, S: Streams>(
 }
 
 // Answers the line that has ended and writes its reply: whether the session ends with it.
-fn reply<L: Link, D: Disk, S: Streams>(
-    server: &Server<'_, S>,
+fn reply<L: Link, R: Wait, D: Disk, S: Streams, G: Gate>(
+    server: &Server<'_, R, D, S, G>,
     link: &mut L,
     passes: &mut Passes<D>,
     session: &mut Session,
 ) -> Result<bool, Failed>
-    requires passes { ArePasses (house_of server.now.house.now) passes.old }
+    requires here { passes.old.locks ≡ server.now.desks.now }
+    requires passes { ArePasses (house_of server.now.house.now) passes.old.knows }
     requires known { IsAnalyst (house_of server.now.house.now) session.old.who }
     ensures replied { (raw text : List ℕ) → Keeps session.old.line raw → lines_of raw ≡ text ∷ [] →
         IsLineAnswered (house_of server.now.house.now) (S.given server.now.streams.now) result text session.old.who session.new.who
         (shown (L.left link.old) (L.written link.old) (L.faults link.old)) (shown (L.left link.new) (L.written link.new) (L.faults link.new))
-        passes.old passes.new }
+        passes.old.knows passes.new.knows }
     ensures cleared { Keeps session.new.line [] }
     ensures apart { L.left link.new ≡ L.left link.old }
     ensures known { IsAnalyst (house_of server.now.house.now) session.new.who }
-    ensures passes { ArePasses (house_of server.now.house.now) passes.new }
+    ensures passes { ArePasses (house_of server.now.house.now) passes.new.knows }
+    ensures kept { passes.new ≡ record passes.old { knows = passes.new.knows } }
 {
+    server.gate.enter(session.block, session.number);
     let answer = answer(server, passes, session.who, &session.line);
+    server.gate.leave(session.block, session.number);
     let mut text = [0u8; REPLY_LIMIT];
     let n = write_reply(&answer.reply, &mut text);
     let ends = answer.ends;
     session.who = answer.who;
     session.line.clear();
+    session.number = session.number.saturating_add(1);
     send(link, &text[..n])?;
     Ok(ends)
 }
 
 // Takes one byte. At an LF the line is answered.
-fn take_byte<L: Link, D: Disk, S: Streams>(
-    server: &Server<'_, S>,
+fn take_byte<L: Link, R: Wait, D: Disk, S: Streams, G: Gate>(
+    server: &Server<'_, R, D, S, G>,
     link: &mut L,
     passes: &mut Passes<D>,
     session: &mut Session,
     byte: u8,
 ) -> Result<bool, Failed>
-    requires passes { ArePasses (house_of server.now.house.now) passes.old }
+    requires here { passes.old.locks ≡ server.now.desks.now }
+    requires passes { ArePasses (house_of server.now.house.now) passes.old.knows }
     requires known { IsAnalyst (house_of server.now.house.now) session.old.who }
     ensures leads { (start : List Seen) (begin : Connection) (given : List ℕ) →
         GoesOnWith (house_of server.now.house.now) (S.given server.now.streams.now) start begin given session.old
-        (shown (L.left link.old) (L.written link.old) (L.faults link.old)) passes.old →
+        (shown (L.left link.old) (L.written link.old) (L.faults link.old)) passes.old.knows →
         Leads (house_of server.now.house.now) (S.given server.now.streams.now) start begin given (byte ∷ []) result session.new
-        (shown (L.left link.new) (L.written link.new) (L.faults link.new)) passes.new }
+        (shown (L.left link.new) (L.written link.new) (L.faults link.new)) passes.new.knows }
     ensures apart { L.left link.new ≡ L.left link.old }
     ensures known { IsAnalyst (house_of server.now.house.now) session.new.who }
-    ensures passes { ArePasses (house_of server.now.house.now) passes.new }
+    ensures passes { ArePasses (house_of server.now.house.now) passes.new.knows }
+    ensures kept { passes.new ≡ record passes.old { knows = passes.new.knows } }
 {
     session.line.push(byte);
     if byte == b'\n' {
@@ -155,23 +149,25 @@ fn take_byte<L: Link, D: Disk, S: Streams>(
 }
 
 // Takes the bytes of a piece, up to a `bye`.
-fn take_piece<L: Link, D: Disk, S: Streams>(
-    server: &Server<'_, S>,
+fn take_piece<L: Link, R: Wait, D: Disk, S: Streams, G: Gate>(
+    server: &Server<'_, R, D, S, G>,
     link: &mut L,
     passes: &mut Passes<D>,
     session: &mut Session,
     piece: &[u8],
 ) -> Result<bool, Failed>
-    requires passes { ArePasses (house_of server.now.house.now) passes.old }
+    requires here { passes.old.locks ≡ server.now.desks.now }
+    requires passes { ArePasses (house_of server.now.house.now) passes.old.knows }
     requires known { IsAnalyst (house_of server.now.house.now) session.old.who }
     ensures leads { (start : List Seen) (begin : Connection) (given : List ℕ) →
         GoesOnWith (house_of server.now.house.now) (S.given server.now.streams.now) start begin given session.old
-        (shown (L.left link.old) (L.written link.old) (L.faults link.old)) passes.old →
+        (shown (L.left link.old) (L.written link.old) (L.faults link.old)) passes.old.knows →
         Leads (house_of server.now.house.now) (S.given server.now.streams.now) start begin given piece.now result session.new
-        (shown (L.left link.new) (L.written link.new) (L.faults link.new)) passes.new }
+        (shown (L.left link.new) (L.written link.new) (L.faults link.new)) passes.new.knows }
     ensures apart { L.left link.new ≡ L.left link.old }
     ensures known { IsAnalyst (house_of server.now.house.now) session.new.who }
-    ensures passes { ArePasses (house_of server.now.house.now) passes.new }
+    ensures passes { ArePasses (house_of server.now.house.now) passes.new.knows }
+    ensures kept { passes.new ≡ record passes.old { knows = passes.new.knows } }
 {
     for &byte in piece {
         if take_byte(server, link, passes, session, byte)? {
@@ -182,21 +178,24 @@ fn take_piece<L: Link, D: Disk, S: Streams>(
 }
 
 // At the end of the input a line needs no LF.
-fn finish<L: Link, D: Disk, S: Streams>(
-    server: &Server<'_, S>,
+fn finish<L: Link, R: Wait, D: Disk, S: Streams, G: Gate>(
+    server: &Server<'_, R, D, S, G>,
     link: &mut L,
     passes: &mut Passes<D>,
     session: &mut Session,
 ) -> SessionEnd
-    requires passes { ArePasses (house_of server.now.house.now) passes.old }
+    requires here { passes.old.locks ≡ server.now.desks.now }
+    requires passes { ArePasses (house_of server.now.house.now) passes.old.knows }
     requires known { IsAnalyst (house_of server.now.house.now) session.old.who }
     ensures session { (start : List Seen) (begin : Connection) (given : List ℕ) →
         GoesOnWith (house_of server.now.house.now) (S.given server.now.streams.now) start begin given session.old
-        (shown (L.left link.old) (L.written link.old) (L.faults link.old)) passes.old →
+        (shown (L.left link.old) (L.written link.old) (L.faults link.old)) passes.old.knows →
         HasGiven begin.left given (L.left link.old) → IsAtEnd (L.left link.old) → length given ≤ session_limit →
         IsSession (house_of server.now.house.now) (S.given server.now.streams.now) result begin
-        (shown (L.left link.new) (L.written link.new) (L.faults link.new)) start passes.new }
+        (shown (L.left link.new) (L.written link.new) (L.faults link.new)) start passes.new.knows }
     ensures memory { result ≡ NoMemory → ⊥ }
+    ensures passes { ArePasses (house_of server.now.house.now) passes.new.knows }
+    ensures kept { passes.new ≡ record passes.old { knows = passes.new.knows } }
 {
     if session.line.is_empty() {
         return SessionEnd::EndOfInput;
@@ -211,31 +210,32 @@ fn finish<L: Link, D: Disk, S: Streams>(
 /// Serves a connection: answers its lines one after another from no analyst, to a `bye`, to the end, or to the limit. All lines
 /// that have come are answered before more is read, and all memory of its own is taken before the first read.
 ///
-/// The passes have the owners' books for as long as the session goes on.
-pub fn serve<L: Link, D: Disk, S: Streams>(
-    alloc: Global,
+/// Others may serve at the same time by passes of their own; an owner's lock is held for single calls of its book. Block and line are
+/// told to the gate alone.
+pub fn serve<L: Link, R: Wait, D: Disk, S: Streams, G: Gate>(
+    server: &Server<'_, R, D, S, G>,
     link: &mut L,
-    house: &House,
-    desk: &Desk,
     passes: &mut Passes<D>,
-    streams: &S,
+    block: u32,
 ) -> SessionEnd
-    requires passes { ArePasses (house_of house.now) passes.old }
-    ensures session { IsSession (house_of house.now) (S.given streams.now) result
+    requires here { passes.old.locks ≡ server.now.desks.now }
+    requires passes { ArePasses (house_of server.now.house.now) passes.old.knows }
+    ensures session { IsSession (house_of server.now.house.now) (S.given server.now.streams.now) result
         (shown (L.left link.old) (L.written link.old) (L.faults link.old)) (shown (L.left link.new) (L.written link.new) (L.faults link.new))
-        passes.old passes.new }
+        passes.old.knows passes.new.knows }
     ensures memory { result ≡ NoMemory → passes.new ≡ passes.old }
+    ensures passes { ArePasses (house_of server.now.house.now) passes.new.knows }
+    ensures kept { passes.new ≡ record passes.old { knows = passes.new.knows } }
 {
-    let Ok(line) = Line::new(alloc) else {
+    let Ok(line) = Line::new(server.alloc) else {
         return SessionEnd::NoMemory;
     };
-    let server = Server {
-        alloc,
-        house,
-        desk,
-        streams,
+    let mut session = Session {
+        who: None,
+        line,
+        block,
+        number: 0,
     };
-    let mut session = Session { who: None, line };
     let mut piece = [0u8; PIECE];
     let mut taken = 0usize;
     loop {
@@ -246,7 +246,7 @@ pub fn serve<L: Link, D: Disk, S: Streams>(
             Err(_) => return SessionEnd::ReadFault,
         };
         if n == 0 {
-            return finish(&server, link, passes, &mut session);
+            return finish(server, link, passes, &mut session);
         }
         if taken == SESSION_LIMIT {
             return SessionEnd::TooLong {
@@ -254,7 +254,7 @@ pub fn serve<L: Link, D: Disk, S: Streams>(
             };
         }
         taken += n;
-        match take_piece(&server, link, passes, &mut session, &piece[..n]) {
+        match take_piece(server, link, passes, &mut session, &piece[..n]) {
             Ok(false) => {}
             Ok(true) => return SessionEnd::Bye,
             Err(_) => return SessionEnd::WriteFault,

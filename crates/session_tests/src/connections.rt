@@ -10,7 +10,9 @@ use outside_links::link::Link;
 use outside_links::memory::MemLink;
 use session_serve::serve::SessionEnd::{self, Bye, EndOfInput};
 use std::alloc::{AllocError, Global};
+use std::sync::Wait;
 use std::test::Fail;
+use std::thread::Threads;
 
 // The bytes of a connection, what is written to it, and how its session ends.
 type Visit = (&'static [Piece<'static>], &'static [u8], SessionEnd);
@@ -62,7 +64,8 @@ const REFUSED: [Visit; 2] = [
 ];
 
 // Whether a connection that passes so many bytes a call is served as is wanted.
-fn is_served(
+fn is_served<R: Threads + Wait + Sync>(
+    rt: &R,
     alloc: Global,
     house: &mut Serving<'_>,
     visit: &Visit,
@@ -71,16 +74,21 @@ fn is_served(
     let (pieces, wanted, end) = visit;
     let input = joined(alloc, pieces)?;
     let mut link = connection(alloc, &input, 1024, piece, &[])?;
-    let came = house.serve_by_key(alloc, &mut link);
+    let came = house.serve_by_key(rt, alloc, &mut link);
     Ok(came == *end && link.written() == *wanted && link.faults() == 0)
 }
 
 // How many connections in a row are served as is wanted, from the first on.
-fn count_served(alloc: Global, visits: &[Visit], piece: usize) -> Result<usize, AllocError> {
-    let mut house = served(alloc, TABLE)?;
+fn count_served<R: Threads + Wait + Sync>(
+    rt: &R,
+    alloc: Global,
+    visits: &[Visit],
+    piece: usize,
+) -> Result<usize, AllocError> {
+    let mut house = served(rt, alloc, TABLE)?;
     let mut count = 0usize;
     for visit in visits {
-        if !is_served(alloc, &mut house, visit, piece)? {
+        if !is_served(rt, alloc, &mut house, visit, piece)? {
             break;
         }
         count = count.saturating_add(1);
@@ -97,7 +105,7 @@ const PIECES: [usize; 4] = [65_536, 7, 3, 1];
 fn connections(rt: HostRuntime) -> Result<(), Fail> {
     for visits in &ROWS {
         for piece in &PIECES {
-            let count = count_served(rt.alloc(), visits, *piece)?;
+            let count = count_served(&rt, rt.alloc(), visits, *piece)?;
             assert!(rt; count == visits.len(), "{count} by {piece}");
         }
     }
@@ -115,12 +123,16 @@ const LISTED: [Draw; 2] = [
 ];
 
 // Whether the replies over these draws are those.
-fn is_drawn(alloc: Global, draw: &Draw) -> Result<bool, AllocError> {
+fn is_drawn<R: Threads + Wait + Sync>(
+    rt: &R,
+    alloc: Global,
+    draw: &Draw,
+) -> Result<bool, AllocError> {
     let (table, draws, wanted) = draw;
-    let mut house = served(alloc, table)?;
+    let mut house = served(rt, alloc, table)?;
     let input = b"hello ann\nask census 1 size people\nrecall census 0\nleft census\n";
     let mut link = MemLink::new(alloc, input, 256, 256, &[])?;
-    let end = house.serve(alloc, &mut link, &ListStreams::new(draws));
+    let end = house.serve(rt, alloc, &mut link, &ListStreams::new(draws));
     Ok(end == EndOfInput && link.written() == *wanted)
 }
 
@@ -128,7 +140,7 @@ fn is_drawn(alloc: Global, draw: &Draw) -> Result<bool, AllocError> {
 #[test]
 fn listed_draws(rt: HostRuntime) -> Result<(), Fail> {
     for draw in &LISTED {
-        assert!(rt; is_drawn(rt.alloc(), draw)?);
+        assert!(rt; is_drawn(&rt, rt.alloc(), draw)?);
     }
     Ok(())
 }
@@ -141,7 +153,7 @@ const TURNS: &[u8] = b"hello ann\nanswer 0 5 1000000\nno 10 0\nleft 1000000 1000
 #[test]
 fn replies_come_first(rt: HostRuntime) -> Result<(), Fail> {
     let mut link = RepliesFirst::new(rt.alloc(), IN_TURN);
-    let end = served(rt.alloc(), TABLE)?.serve_by_key(rt.alloc(), &mut link);
+    let end = served(&rt, rt.alloc(), TABLE)?.serve_by_key(&rt, rt.alloc(), &mut link);
     assert!(rt; end == EndOfInput);
     assert!(rt; link.faults() == 0);
     assert!(rt; link.written() == TURNS);

@@ -7,7 +7,9 @@ use outside_disks::memory::{Limits, MemDisk};
 use outside_links::memory::MemLink;
 use session_serve::serve::SessionEnd::{self, Bye, ReadFault, WriteFault};
 use std::alloc::{AllocError, Global};
+use std::sync::Wait;
 use std::test::Fail;
+use std::thread::Threads;
 
 const INPUT: &[u8] = b"hello ann\nask census 1 size people\nleft census\nbye\n";
 
@@ -54,16 +56,17 @@ fn outcome_of(
 }
 
 // A session over a connection that takes so many bytes, passes so many a call, and fails these calls.
-fn session_over(
+fn session_over<R: Threads + Wait + Sync>(
+    rt: &R,
     alloc: Global,
     room: usize,
     piece: usize,
     failing: &[u64],
 ) -> Result<Outcome, AllocError> {
-    let mut house = served(alloc, TABLE)?;
+    let mut house = served(rt, alloc, TABLE)?;
     let mut link = connection(alloc, INPUT, room, piece, failing)?;
-    let end = house.serve_by_key(alloc, &mut link);
-    let later = house.told(alloc, LATER)?;
+    let end = house.serve_by_key(rt, alloc, &mut link);
+    let later = house.told(rt, alloc, LATER)?;
     outcome_of(alloc, end, &link, later)
 }
 
@@ -110,7 +113,7 @@ fn failing_calls(rt: HostRuntime) -> Result<(), Fail> {
     for (piece, reads, calls) in &CALLS {
         let mut failed = 0u64;
         for call in 0..=*calls {
-            let came = session_over(rt.alloc(), 64, *piece, &[call])?;
+            let came = session_over(&rt, rt.alloc(), 64, *piece, &[call])?;
             assert!(rt; is_due_at(&came, call, *calls), "call {call} by {piece}");
             if came.end == ReadFault {
                 failed = failed.saturating_add(1);
@@ -122,8 +125,13 @@ fn failing_calls(rt: HostRuntime) -> Result<(), Fail> {
 }
 
 // Whether a connection that has room for so many bytes takes these and no more.
-fn fills(alloc: Global, room: usize, piece: usize) -> Result<bool, AllocError> {
-    let came = session_over(alloc, room, piece, &[])?;
+fn fills<R: Threads + Wait + Sync>(
+    rt: &R,
+    alloc: Global,
+    room: usize,
+    piece: usize,
+) -> Result<bool, AllocError> {
+    let came = session_over(rt, alloc, room, piece, &[])?;
     Ok(is_due(&came) && came.written.len() == room && (came.end == Bye) == (room == REPLIES.len()))
 }
 
@@ -132,7 +140,7 @@ fn fills(alloc: Global, room: usize, piece: usize) -> Result<bool, AllocError> {
 fn no_room(rt: HostRuntime) -> Result<(), Fail> {
     for (piece, _, _) in &CALLS {
         for room in 0..=REPLIES.len() {
-            let is_due = fills(rt.alloc(), room, *piece)?;
+            let is_due = fills(&rt, rt.alloc(), room, *piece)?;
             assert!(rt; is_due, "room {room} by {piece}");
         }
     }
@@ -167,9 +175,13 @@ const STOPPED: [(&[u8], &[u8]); 2] = [
 ];
 
 // Whether sessions over a disk that stops are told so.
-fn are_told_of_a_stop(alloc: Global, house: &mut Serving<'_>) -> Result<bool, AllocError> {
+fn are_told_of_a_stop<R: Threads + Wait + Sync>(
+    rt: &R,
+    alloc: Global,
+    house: &mut Serving<'_>,
+) -> Result<bool, AllocError> {
     for (asked, wanted) in &STOPPED {
-        if house.told(alloc, asked)?.as_slice() != *wanted {
+        if house.told(rt, alloc, asked)?.as_slice() != *wanted {
             return Ok(false);
         }
     }
@@ -186,23 +198,27 @@ fn bytes_with(alloc: Global, disk: &MemDisk<'_>, gate: u8) -> Result<Vec<u8>, Al
 }
 
 // What a session is told over the journal of these bytes.
-fn told_over(alloc: Global, journal: &[u8]) -> Result<Vec<u8>, AllocError> {
+fn told_over<R: Threads + Wait + Sync>(
+    rt: &R,
+    alloc: Global,
+    journal: &[u8],
+) -> Result<Vec<u8>, AllocError> {
     let disk = MemDisk::new(alloc, journal, LARGE, &[])?;
-    served_on(alloc, TABLE, disk)?.told(alloc, LATER)
+    served_on(alloc, TABLE, disk)?.told(rt, alloc, LATER)
 }
 
 // A stop between a reservation and its settlement, and sessions behind it.
 #[test]
 fn stops(rt: HostRuntime) -> Result<(), Fail> {
     let alloc = rt.alloc();
-    let journal = made(alloc, TABLE)?;
+    let journal = made(&rt, alloc, TABLE)?;
     for (gate, wanted) in &GATES {
         let disk = MemDisk::new(alloc, &journal, STOP, &[])?;
         let mut house = served_on(alloc, TABLE, disk)?;
-        assert!(rt; are_told_of_a_stop(alloc, &mut house)?);
+        assert!(rt; are_told_of_a_stop(&rt, alloc, &mut house)?);
         let disk = house.into_disk().ok_or("no disk")?;
         let bytes = bytes_with(alloc, &disk, *gate)?;
-        let told = told_over(alloc, &bytes)?;
+        let told = told_over(&rt, alloc, &bytes)?;
         assert!(rt; told.as_slice() == *wanted, "{gate}");
     }
     Ok(())

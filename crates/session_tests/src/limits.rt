@@ -4,7 +4,9 @@ use crate::serving::{connection, served};
 use memory_runs::{TABLE, joined};
 use session_serve::serve::SessionEnd::{self, Bye, EndOfInput, TooLong};
 use std::alloc::{AllocError, Global};
+use std::sync::Wait;
 use std::test::Fail;
+use std::thread::Threads;
 
 // The most bytes whose lines are answered.
 const LIMIT: usize = 16_777_216;
@@ -36,10 +38,16 @@ const LONG: [Long; 11] = [
 const PIECES: [usize; 2] = [65_536, 4_099];
 
 // Whether the session over these bytes comes to what is wanted of such a connection.
-fn ends_so(alloc: Global, input: &[u8], piece: usize, row: &Long) -> Result<bool, AllocError> {
+fn ends_so<R: Threads + Wait + Sync>(
+    rt: &R,
+    alloc: Global,
+    input: &[u8],
+    piece: usize,
+    row: &Long,
+) -> Result<bool, AllocError> {
     let (_, _, wanted, end, left) = row;
     let mut link = connection(alloc, input, 64, piece, &[])?;
-    let came = served(alloc, TABLE)?.serve_by_key(alloc, &mut link);
+    let came = served(rt, alloc, TABLE)?.serve_by_key(rt, alloc, &mut link);
     let replies = link.written().strip_prefix(b"hello ann\n");
     Ok(came == *end && replies == Some(*wanted) && link.left().len() == *left)
 }
@@ -53,7 +61,7 @@ fn long_connections(rt: HostRuntime) -> Result<(), Fail> {
         input.truncate(LIMIT.saturating_sub(*short));
         input.extend_from_slice(behind)?;
         for piece in &PIECES {
-            let is_due = ends_so(alloc, &input, *piece, row)?;
+            let is_due = ends_so(&rt, alloc, &input, *piece, row)?;
             assert!(rt; is_due, "{short} {behind:?} by {piece}");
         }
     }

@@ -5,7 +5,9 @@ use memory_runs::TABLE;
 use outside_links::memory::MemLink;
 use session_serve::serve::SessionEnd::{self, Bye, NoMemory};
 use std::alloc::{AllocError, Global};
+use std::sync::Wait;
 use std::test::Fail;
+use std::thread::Threads;
 
 const INPUT: &[u8] =
     b"ask census 1 size people\nhello ann\nask census 1 size people\nask census 1 size people\nrecall census 0\nleft census\nbye\n";
@@ -49,21 +51,21 @@ fn outcome_of(end: SessionEnd, link: &MemLink<'_>) -> Option<&'static str> {
 type Outcomes = (Option<&'static str>, Option<&'static str>);
 
 // What became of a session, and of a second one over the same connection, which follows where the first wasn't read.
-fn outcomes(alloc: Global) -> Result<Outcomes, AllocError> {
-    let mut house = served(alloc, TABLE)?;
+fn outcomes<R: Threads + Wait + Sync>(rt: &R, alloc: Global) -> Result<Outcomes, AllocError> {
+    let mut house = served(rt, alloc, TABLE)?;
     let mut link = MemLink::new(alloc, INPUT, 256, 256, &[])?;
-    let end = house.serve_by_key(alloc, &mut link);
+    let end = house.serve_by_key(rt, alloc, &mut link);
     let first = outcome_of(end, &link);
     if first != Some(UNREAD) {
         return Ok((first, first));
     }
-    let end = house.serve_by_key(alloc, &mut link);
+    let end = house.serve_by_key(rt, alloc, &mut link);
     Ok((first, outcome_of(end, &link)))
 }
 
 #[test]
 fn refused_memory(rt: HostRuntime) -> Result<(), Fail> {
-    let (Some(first), Some(second)) = outcomes(rt.alloc())? else {
+    let (Some(first), Some(second)) = outcomes(&rt, rt.alloc())? else {
         panic!(rt; "another end");
     };
     println!(rt; "{first}")?;

@@ -1,36 +1,52 @@
 //! A house whose connections are served one after another.
 
+ghost use Rattle.std.specs.Prelude.{◌≡◌, All};
+ghost use Rattle.owner_lock.specs.Known.{whole_share};
 ghost use Rattle.owner_house.specs.House.{house_of};
+ghost use Rattle.session_core.specs.Bundles.{bundle_of};
 ghost use Rattle.session_core.specs.Code.{ArePasses};
 
-use answer_path::Desk;
+use crate::abreast::{HoldStreams, told_two};
+use answer_path::{Desk, Pass};
 use catalog_loading::{Opened, open_house};
 use fz_outside::files::MemFiles;
 use fz_outside::words::Streams;
 use memory_runs::journals::{LARGE, SMALL, empty_journals, journals_on};
 use memory_runs::{KEY, census_files};
+use outside_disks::disk::Disk;
 use outside_disks::memory::MemDisk;
+use outside_links::gate::FreeGate;
 use outside_links::link::Link;
 use outside_links::memory::MemLink;
-use query_server::books::open_passes;
+use query_server::books::open_desks;
 use session_core::passes::Passes;
+use session_core::server::Server;
 use session_serve::serve::{SessionEnd, serve};
 use std::alloc::{AllocError, Global};
+use std::sync::Wait;
+use std::thread::Threads;
 use word_streams::KeyStreams;
 
-/// The house of census, and a pass on the book that was opened on its disk.
+/// The house of census, its desk, over the book that was opened on its disk, and a worker's pass with the whole share.
 #[derive(Drop)]
 pub struct Serving<'a> {
     opened: Opened,
+    desks: Vec<Desk<MemDisk<'a>>>,
     passes: Passes<MemDisk<'a>>,
-    ghost passes_of_the_house: { ArePasses (house_of opened.loading.register) passes },
+    ghost here: { passes.locks ≡ desks.items },
+    ghost of_the_house: { ArePasses (house_of opened.loading.register) passes.knows },
+    ghost whole: { All (λ s. s ≡ whole_share) passes.shares },
 }
 
 /// The bytes of the journal of census with this table, which an `init` has made.
-pub fn made(alloc: Global, table: &[u8]) -> Result<Vec<u8>, AllocError> {
+pub fn made<R: Threads + Wait + Sync>(
+    rt: &R,
+    alloc: Global,
+    table: &[u8],
+) -> Result<Vec<u8>, AllocError> {
     let held = census_files(table, "key", &KEY);
     let mut journals = empty_journals(alloc)?;
-    journals.ran(alloc, &["init", "cat.json", "key"], &held, b"")?;
+    journals.ran(rt, alloc, &["init", "cat.json", "key"], &held, b"")?;
     match journals.into_disks() {
         Some((disk, _)) => disk.bytes().to_vec(alloc),
         None => Err(AllocError),
@@ -49,18 +65,23 @@ pub fn served_on<'a>(
     let Ok(opened) = open_house(alloc, &mut MemFiles::new(&held), "cat.json", "key") else {
         return Err(AllocError);
     };
-    match open_passes(alloc, &mut bay, &opened) {
-        Ok(passes) => Ok(Serving {
+    match open_desks(alloc, &mut bay, &opened) {
+        Ok(opening) => Ok(Serving {
             opened,
-            passes: Passes::new(passes),
+            desks: opening.desks,
+            passes: Passes::new(opening.passes),
         }),
         Err(_) => Err(AllocError),
     }
 }
 
 /// The house of census with this table, over a new journal.
-pub fn served(alloc: Global, table: &[u8]) -> Result<Serving<'static>, AllocError> {
-    let disk = MemDisk::new(alloc, &made(alloc, table)?, LARGE, &[])?;
+pub fn served<R: Threads + Wait + Sync>(
+    rt: &R,
+    alloc: Global,
+    table: &[u8],
+) -> Result<Serving<'static>, AllocError> {
+    let disk = MemDisk::new(alloc, &made(rt, alloc, table)?, LARGE, &[])?;
     served_on(alloc, table, disk)
 }
 
@@ -76,45 +97,89 @@ pub fn connection<'a>(
     MemLink::new(alloc, input, room, piece, failing)
 }
 
-// The disk of the last pass.
-fn disk_of(passes: Passes<MemDisk<'_>>) -> Option<MemDisk<'_>> {
-    let pass = passes.into_vec().pop()?;
-    Some(pass.close().into_disk())
+// The disk of the last owner, whose desk is closed.
+fn disk_of<D: Disk + Drop>(desks: Vec<Desk<D>>, passes: Vec<Pass<D>>) -> Option<D>
+    requires here { (bundle_of passes.items).locks ≡ desks.items }
+    requires whole { All (λ s. s ≡ whole_share) (bundle_of passes.items).shares }
+{
+    let mut desks = desks;
+    let mut passes = passes;
+    let desk = desks.pop()?;
+    let pass = passes.pop()?;
+    Some(desk.close(pass).into_disk())
 }
 
 impl<'a> Serving<'a> {
     /// Serves a connection, with these draws.
-    pub fn serve<L: Link, S: Streams>(
+    pub fn serve<R: Wait, L: Link, S: Streams>(
         &mut self,
+        rt: &R,
         alloc: Global,
         link: &mut L,
         streams: &S,
     ) -> SessionEnd {
-        serve(
+        let server = Server {
+            rt,
             alloc,
-            link,
-            self.opened.house(),
-            &Desk::new(),
-            &mut self.passes,
+            house: self.opened.house(),
+            desks: &self.desks,
             streams,
-        )
+            gate: &FreeGate,
+        };
+        serve(&server, link, &mut self.passes, 0)
     }
 
     /// Serves a connection under the house's key.
-    pub fn serve_by_key<L: Link>(&mut self, alloc: Global, link: &mut L) -> SessionEnd {
+    pub fn serve_by_key<R: Wait, L: Link>(
+        &mut self,
+        rt: &R,
+        alloc: Global,
+        link: &mut L,
+    ) -> SessionEnd {
         let streams = KeyStreams::new(KEY);
-        self.serve(alloc, link, &streams)
+        self.serve(rt, alloc, link, &streams)
     }
 
     /// What is written to a connection of these bytes, under the house's key.
-    pub fn told(&mut self, alloc: Global, input: &[u8]) -> Result<Vec<u8>, AllocError> {
+    pub fn told<R: Wait>(
+        &mut self,
+        rt: &R,
+        alloc: Global,
+        input: &[u8],
+    ) -> Result<Vec<u8>, AllocError> {
         let mut link = MemLink::new(alloc, input, 256, 256, &[])?;
-        self.serve_by_key(alloc, &mut link);
+        self.serve_by_key(rt, alloc, &mut link);
         link.written().to_vec(alloc)
+    }
+
+    /// What is written to two connections of these bytes, which two workers serve at the same time.
+    #[tactic(auto, using(crate::proofs::Halves::may_split, crate::proofs::Halves::passes_handed))]
+    pub fn told_two<R: Threads + Wait + Sync>(
+        self,
+        rt: &R,
+        alloc: Global,
+        streams: &HoldStreams,
+        input: &[u8],
+    ) -> Result<(Vec<u8>, Vec<u8>), AllocError> {
+        let desks = self.desks;
+        let mut first = self.passes;
+        let second = first.split(alloc, &desks)?;
+        let opened = self.opened;
+        let (one, other) = told_two(
+            rt,
+            alloc,
+            opened.house(),
+            &desks,
+            streams,
+            first,
+            second,
+            input,
+        );
+        Ok((one.1?, other.1?))
     }
 
     /// The owner's disk.
     pub fn into_disk(self) -> Option<MemDisk<'a>> {
-        disk_of(self.passes)
+        disk_of(self.desks, self.passes.into_vec())
     }
 }

@@ -7,7 +7,7 @@ ghost use Rattle.journal_records.specs.Encoding.{AreChargeTerms, IsByteList, IsH
 ghost use Rattle.budget_core.specs.Ledger.{IsAskOf};
 ghost use Rattle.budget_ledger.specs.Account.{IsBook};
 ghost use Rattle.owner_desk.specs.Passes.{IsJustOpened};
-ghost use Rattle.shared_desk.specs.Shared.{IsKept};
+ghost use Rattle.owner_desk.specs.Shared.{IsKept};
 
 use budget_core::answers::{Counts, Recall};
 use budget_core::entry::{Ask, Entry};
@@ -17,8 +17,8 @@ use journal_records::records::{Header, Outcome};
 use outside_disks::disk::Disk;
 use outside_disks::failing::BlipDisk;
 use outside_disks::memory::{Limits, MemDisk};
+use owner_desk::{Desk, Pass};
 use partition_charge::view::View;
-use shared_desk::{Desk, Pass};
 use std::alloc::{AllocError, Global};
 use std::sync::Wait;
 use std::test::*;

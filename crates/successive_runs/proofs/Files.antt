@@ -35,7 +35,7 @@ use Rattle.session_laws.proofs.Listed.{mapped_at, place_of_all}
 use Rattle.session_laws.proofs.Locals.{part_has}
 use Rattle.catalog_loading.specs.Loaded.{IsLoading, Loading, entry_at, header_of}
 use Rattle.query_server.specs.Shelves.{Shelf}
-use Rattle.query_server.specs.Run.{IsScriptAnswered, WentOn, crew_size}
+use Rattle.query_server.specs.Run.{IsScriptAnswered, WentOn}
 use Rattle.successive_runs.specs.Left.{IsLeft}
 use Rattle.successive_runs.specs.Life.{IsRun, none_sent}
 use Rattle.successive_runs.specs.Kept.{MayBeGoneOnFrom}
@@ -118,7 +118,7 @@ module _ (loading : Loading) (key : List ℕ) (workers : ℕ) (old new : Shelf) 
     follows = λ failure closes. subst (λ (e : Entry). MayFollow e (done.records o) failure.pending) (entry_said loading.register o owner at) (went.follows failure closes);
     leaves = leaves;
     kept = λ place x asked demand sends there meant.
-        met_on_all house (draws_of key) (crew_size workers) done.crew o (found o) done.exchanges (done.records o) left (done.gathered.owners o owner at) (all place sends) place x asked demand there meant;
+        met_on_all house (draws_of key) workers done.crew o (found o) done.exchanges (done.records o) left (done.gathered.owners o owner at) (all place sends) place x asked demand there meant;
   }
 
   moment_left : (bytes : List ℕ) → IsMoment header (found o) (done.records o) (done.closed o) bytes → Left none_sent bytes

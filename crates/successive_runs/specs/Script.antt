@@ -8,7 +8,7 @@ use Rattle.owner_house.specs.House.{house_of}
 use Rattle.session_core.specs.Transcript.{Journals}
 use Rattle.catalog_loading.specs.Loaded.{Loading, header_of}
 use Rattle.query_server.specs.Shelves.{Shelf}
-use Rattle.query_server.specs.Run.{IsScriptAnswered, crew_size}
+use Rattle.query_server.specs.Run.{IsScriptAnswered}
 use Rattle.successive_runs.specs.Life.{Run, IsRun}
 
 module _ (loading : Loading) (key : List ℕ) (workers : ℕ) (old new : Shelf) (found : Journals) (script text : List ℕ)
@@ -16,7 +16,7 @@ module _ (loading : Loading) (key : List ℕ) (workers : ℕ) (old new : Shelf) 
   -- what it is for this owner, where it had sent these replies when it was stopped, and left these records
   abbrev pub run_of : (sent : ℕ → Bool) → (left : List Record) → Run
   run_of sent left = record {
-    count = crew_size workers;
+    count = workers;
     crew = done.crew;
     exchanges = done.exchanges;
     records = done.records o;

@@ -10,10 +10,13 @@ ghost use Rattle.query_server.specs.declared.end.Status.{Status as Ended};
 use fz_outside::real::{RealFiles, RealSink, RealSource};
 use fz_outside::sink::{Sink, put};
 use outside_bays::real::RealBay;
+use outside_links::gate::FreeGate;
 use query_server::{Status, run_server};
 use std::alloc::{AllocError, Global};
 use std::io::ErrorKind;
 use std::process::ExitCode;
+use std::sync::Wait;
+use std::thread::Threads;
 use std::{env, fs, io};
 
 /// The most owners of a catalog. The journal of owner N is `journals/N.bud`.
@@ -42,8 +45,9 @@ fn hold_number(rt: &HostRuntime) -> Option<fs::File> {
     fs::open(rt, "/").ok()
 }
 
-/// Does the command of the process's words. The process is to end with the number of the command's status.
-pub fn run_process(rt: &HostRuntime) -> ExitCode
+/// Does the command of the process's words; the workers of a `run` are threads of `threads`. The process is to end with the number of the
+/// command's status.
+pub fn run_process<R: Threads + Wait + Sync>(rt: &HostRuntime, threads: &R) -> ExitCode
     ensures { (status : Ended) × (exit_status result ≡ status_code status) }
 {
     let _held = (hold_number(rt), hold_number(rt), hold_number(rt));
@@ -54,13 +58,14 @@ pub fn run_process(rt: &HostRuntime) -> ExitCode
     let status = match words_of(rt, alloc) {
         Ok(words) => match RealBay::new(alloc, rt, "journals", OWNERS) {
             Ok(mut bay) => run_server(
-                rt,
+                threads,
                 alloc,
                 &words,
                 &mut files,
                 &mut bay,
                 &mut source,
                 &mut sink,
+                &FreeGate,
             ),
             Err(_) => without_memory(&mut sink),
         },

@@ -11,8 +11,11 @@ use fz_outside::files::{MemFile, MemFiles};
 use fz_outside::sink::{MemSink, Sink};
 use fz_outside::source::MemSource;
 use outside_bays::bay::Bay;
+use outside_links::gate::FreeGate;
 use query_server::{Status, run_server};
 use std::alloc::{AllocError, Global};
+use std::sync::Wait;
+use std::thread::Threads;
 
 /// How many bytes the sink has room for: more than any status writes here.
 const ROOM: usize = 64;
@@ -60,7 +63,11 @@ fn files_of_row() -> [MemFile<'static>; 3]
 /// An analyst asks for the size of a table of three rows, over a journal that was made and has no records. Under a key of zeros
 /// the noise is 2, so the answer is 5. These replies are written; or memory is wanting, for the whole, for the one program, or
 /// after its reservation; or the owner's disk failed, as its journal was opened or as a record was appended; nothing else can come.
-pub fn row_one<R, B: Bay>(rt: &R, alloc: Global, bay: &mut B) -> Result<Ran, AllocError>
+pub fn row_one<R: Threads + Wait + Sync, B: Bay>(
+    rt: &R,
+    alloc: Global,
+    bay: &mut B,
+) -> Result<Ran, AllocError>
     requires home { AreAtHome (B.owners bay.old) (B.shelf bay.old) }
     requires made { IsJournalMade (B.shelf bay.old) }
     ensures { IfOk result (λ ran. (ran.status ≡ Status.NoMemory) ⊎ (ran.status ≡ Status.DiskFault)
@@ -75,7 +82,16 @@ pub fn row_one<R, B: Bay>(rt: &R, alloc: Global, bay: &mut B) -> Result<Ran, All
     let mut files = MemFiles::new(&listed);
     let mut source = MemSource::new(b"hello ann\nask census 1 size people\nbye\n");
     let mut sink = MemSink::<ROOM>::new(alloc)?;
-    let status = run_server(rt, alloc, &words, &mut files, bay, &mut source, &mut sink);
+    let status = run_server(
+        rt,
+        alloc,
+        &words,
+        &mut files,
+        bay,
+        &mut source,
+        &mut sink,
+        &FreeGate,
+    );
     // The sink isn't full, so it hasn't failed.
     let faults = sink.faults();
     prove!(faults == 0);

@@ -28,9 +28,9 @@ pub fraction_of-requires : goal.fraction_of-requires
 fraction_of-requires g c =
     accepted_finite (signature_in c.args.dataset.now.tables c.args.dataset.now.partitions c.args.query.now.view) c.args.query.now.program.now (c.args.judged.now.checked.term.now) (distance_of c.args.judged.now.checked.sens) c.requires.reads c.requires.judged.accepts
 
-pub reserve-requires : goal.reserve-requires
-reserve-requires g c =
-    subst (λ (asking : Ask). IsAskOf c.args.pass.now.opened.ledger.entry asking) (sym c.asking_of-asking.ensures.asking) (record {
+pub reserve-requires-clause-of_entry : goal.reserve-requires-clause-of_entry
+reserve-requires-clause-of_entry g c =
+    subst (λ (asking : Ask). IsAskOf c.args.pass.now.knows.opened.ledger.entry asking) (sym c.asking_of-asking.ensures.asking) (record {
       analyst = c.requires.query.analyst;
       view = c.requires.query.view;
       terms = terms_of c.args.query.now.epsilon c.fraction_of.result.p c.fraction_of.result.q c.requires.query.epsilon c.fraction_of.result.above_zero c.fraction_of.result.lowest;
@@ -39,8 +39,8 @@ reserve-requires g c =
 
 pub returns-in-Err-clause-turn : goal.returns-in-Err-clause-turn
 returns-in-Err-clause-turn g c =
-    let pass : Pass = c.args.pass.now in
-    let after : Pass = c.reserve.new.pass in
+    let pass : Pass = c.args.pass.now.knows in
+    let after : Pass = c.reserve.new.pass.knows in
     let dataset = c.args.dataset.now in
     let query = query_of c.args.query.now in
     let draws = g.S.Streams.given c.args.streams.now c.args.owner in
@@ -65,9 +65,9 @@ returns-in-Ok-clause-asked g c = λ unasked.
 
 pub returns-in-Ok-clause-turn : goal.returns-in-Ok-clause-turn
 returns-in-Ok-clause-turn g c =
-    let pass : Pass = c.args.pass.now in
-    let mid : Pass = c.reserve.new.pass in
-    let after : Pass = c.settle.new.pass in
+    let pass : Pass = c.args.pass.now.knows in
+    let mid : Pass = c.reserve.new.pass.knows in
+    let after : Pass = c.settle.new.pass.knows in
     let dataset = c.args.dataset.now in
     let query = query_of c.args.query.now in
     let draws = g.S.Streams.given c.args.streams.now c.args.owner in

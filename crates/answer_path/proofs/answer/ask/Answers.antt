@@ -30,7 +30,7 @@ answer_judged-requires-clause-judged g c =
 -- the program's bytes are refused
 pub returns-in-Err : goal.returns-in-Err
 returns-in-Err g c =
-    let pass : Pass = c.args.pass.now in
+    let pass : Pass = c.args.pass.now.knows in
     let dataset = c.args.dataset.now in
     let query = query_of c.args.query.now in
     let draws = g.S.Streams.given c.args.streams.now c.args.owner in
@@ -43,7 +43,7 @@ returns-in-Err g c =
       shuts = λ owner is other own. shuts_by owner draws query pass pass (refused refusal) (turn owner is) other own;
       due = λ owner is other own. due_by owner draws query pass pass (refused refusal) (turn owner is) other own;
       same = λ unasked. refl;
-      kept = refl;
+      kept = record { lock = refl; share = refl; opened = refl };
       fits = tt;
     }
 
@@ -52,11 +52,11 @@ returns-in-Ok-judge-clause-step g c = λ owner is. let turn = c.answer_judged.en
 
 pub returns-in-Ok-judge-clause-shuts : goal.returns-in-Ok-judge-clause-shuts
 returns-in-Ok-judge-clause-shuts g c = λ owner is other own.
-    shuts_by owner _ _ c.args.pass.now c.answer_judged.new.pass (replied c.answer_judged.result) (c.answer_judged.ensures.turn owner is) other own
+    shuts_by owner _ _ c.args.pass.now.knows c.answer_judged.new.pass.knows (replied c.answer_judged.result) (c.answer_judged.ensures.turn owner is) other own
 
 pub returns-in-Ok-judge-clause-due : goal.returns-in-Ok-judge-clause-due
 returns-in-Ok-judge-clause-due g c = λ owner is other own.
-    due_by owner _ _ c.args.pass.now c.answer_judged.new.pass (replied c.answer_judged.result) (c.answer_judged.ensures.turn owner is) other own
+    due_by owner _ _ c.args.pass.now.knows c.answer_judged.new.pass.knows (replied c.answer_judged.result) (c.answer_judged.ensures.turn owner is) other own
 
 pub returns-in-Ok-judge-clause-same : goal.returns-in-Ok-judge-clause-same
 returns-in-Ok-judge-clause-same g c = λ unasked. absurd (c.answer_judged.ensures.asked unasked)
@@ -64,7 +64,7 @@ returns-in-Ok-judge-clause-same g c = λ unasked. absurd (c.answer_judged.ensure
 -- its term is refused
 pub returns : goal.returns
 returns g c =
-    let pass : Pass = c.args.pass.now in
+    let pass : Pass = c.args.pass.now.knows in
     let dataset = c.args.dataset.now in
     let query = query_of c.args.query.now in
     let draws = g.S.Streams.given c.args.streams.now c.args.owner in
@@ -79,6 +79,6 @@ returns g c =
       shuts = λ owner is other own. shuts_by owner draws query pass pass (refused refusal) (turn owner is) other own;
       due = λ owner is other own. due_by owner draws query pass pass (refused refusal) (turn owner is) other own;
       same = λ unasked. refl;
-      kept = refl;
+      kept = record { lock = refl; share = refl; opened = refl };
       fits = tt;
     }

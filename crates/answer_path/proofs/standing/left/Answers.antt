@@ -6,10 +6,10 @@ use Rattle.answer_path.proofs.Standings.{is_balance, stays_so}
 use Rattle.answer_path.proofs.standing.left.Goals as goal
 
 pub returns-clause-told : goal.returns-clause-told
-returns-clause-told g c = is_balance c.args.pass.now c.left.new.pass (replied c.left_reply_of.result) c.left.result c.left.ensures.told c.left_reply_of.ensures
+returns-clause-told g c = is_balance c.args.pass.now.knows c.left.new.pass.knows (replied c.left_reply_of.result) c.left.result c.left.ensures.told c.left_reply_of.ensures
 
 pub returns-clause-stays : goal.returns-clause-stays
-returns-clause-stays g c = stays_so c.args.pass.now c.left.new.pass (λ ledger. c.left.result ≡ left_of ledger) c.left.ensures.told
+returns-clause-stays g c = stays_so c.args.pass.now.knows c.left.new.pass.knows (λ ledger. c.left.result ≡ left_of ledger) c.left.ensures.told
 
 pub returns-clause-asked : goal.returns-clause-asked
 returns-clause-asked g c = λ unasked. subst IsUnasked c.left_reply_of.ensures unasked

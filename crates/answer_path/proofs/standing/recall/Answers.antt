@@ -7,10 +7,10 @@ use Rattle.answer_path.proofs.standing.recall.Goals as goal
 
 pub returns-clause-told : goal.returns-clause-told
 returns-clause-told g c =
-    is_recalled c.args.pass.now c.recall.new.pass c.recall.result c.args.number c.args.analyst (replied c.recall_reply_of.result) c.recall.ensures.told c.recall_reply_of.ensures
+    is_recalled c.args.pass.now.knows c.recall.new.pass.knows c.recall.result c.args.number c.args.analyst (replied c.recall_reply_of.result) c.recall.ensures.told c.recall_reply_of.ensures
 
 pub returns-clause-stays : goal.returns-clause-stays
-returns-clause-stays g c = stays_so c.args.pass.now c.recall.new.pass (λ ledger. c.recall.result ≡ recalled ledger c.args.number c.args.analyst) c.recall.ensures.told
+returns-clause-stays g c = stays_so c.args.pass.now.knows c.recall.new.pass.knows (λ ledger. c.recall.result ≡ recalled ledger c.args.number c.args.analyst) c.recall.ensures.told
 
 pub returns-clause-asked : goal.returns-clause-asked
 returns-clause-asked g c = λ unasked. recall_asked c.args.number c.recall.result (subst IsUnasked c.recall_reply_of.ensures unasked)

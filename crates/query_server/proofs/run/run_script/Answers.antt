@@ -7,17 +7,17 @@ use Rattle.query_server.proofs.Stops.{step_no_disk}
 use Rattle.query_server.proofs.run.run_script.Goals as goal
 
 pub returns-in_err-opened-clause-end : goal.returns-in_err-opened-clause-end
-returns-in_err-opened-clause-end g c = λ workers.
-    passed_end _ _ _ _ (g.B.Bay.shelf c.args.bay.now) (run_steps c.args.catalog.now c.args.key.now workers) _ c.from_residual.result (house_stopped _ _ _ (to_answer workers) c.args.catalog.now c.args.key.now _ c.in_err-opened.ensures.step) c.from_residual.ensures.1
+returns-in_err-opened-clause-end g c =
+    passed_end _ _ _ _ (g.B.Bay.shelf c.args.bay.now) (run_steps c.args.catalog.now c.args.key.now c.args.workers) _ c.from_residual.result (house_stopped _ _ _ (to_answer c.args.workers) c.args.catalog.now c.args.key.now _ c.in_err-opened.ensures.step) c.from_residual.ensures.1
 
 pub returns-in_err-opened-clause-taken : goal.returns-in_err-opened-clause-taken
 returns-in_err-opened-clause-taken g c = took_passed _ _ c.from_residual.result c.from_residual.ensures.1
 
 pub returns-clause-end : goal.returns-clause-end
-returns-clause-end g c = λ workers.
+returns-clause-end g c =
     let opened = c.in_ok-opened.opened in
-    let due = c.answer.ensures.end workers in
-    done_end _ _ _ _ _ _ (run_steps c.args.catalog.now c.args.key.now workers) (to_answer workers opened.loading opened.key) due.0 c.answer.result (house_done _ _ _ (to_answer workers) c.args.catalog.now c.args.key.now _ c.in_ok-opened.ensures.step) due.1 due.2
+    let due = c.answer.ensures.end in
+    done_end _ _ _ _ _ _ (run_steps c.args.catalog.now c.args.key.now c.args.workers) (to_answer c.args.workers opened.loading opened.key) due.0 c.answer.result (house_done _ _ _ (to_answer c.args.workers) c.args.catalog.now c.args.key.now _ c.in_ok-opened.ensures.step) due.1 due.2
 
 pub returns-in_err-opened-clause-disk : goal.returns-in_err-opened-clause-disk
 returns-in_err-opened-clause-disk g c = λ line is.

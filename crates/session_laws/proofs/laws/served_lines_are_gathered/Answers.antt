@@ -1,4 +1,5 @@
-use Rattle.session_laws.proofs.Scripts.{lines_gathered, script_gathered}
+use Rattle.session_laws.proofs.Scripts.{lines_gathered}
+use Rattle.session_laws.proofs.Worked.{script_gathered}
 use Rattle.session_laws.proofs.laws.served_lines_are_gathered.Goals as goal
 
 pub returns-clause-lines : goal.returns-clause-lines

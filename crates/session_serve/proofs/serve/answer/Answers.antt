@@ -10,7 +10,7 @@ returns-in-Some-clause-who g c = λ raw text keeps one.
 
 pub returns-in-None-clause-served : goal.returns-in-None-clause-served
 returns-in-None-clause-served g c = λ raw text keeps one.
-    long_served text (c.in-None.ensures raw text keeps one) (house_of c.args.server.now.house.now) c.args.who (g.S.Streams.given c.args.server.now.streams.now) c.args.passes.now
+    long_served text (c.in-None.ensures raw text keeps one) (house_of c.args.server.now.house.now) c.args.who (g.S.Streams.given c.args.server.now.streams.now) c.args.passes.now.knows
 
 pub returns-in-None-clause-who : goal.returns-in-None-clause-who
 returns-in-None-clause-who g c = λ raw text keeps one. long_who text (c.in-None.ensures raw text keeps one) (house_of c.args.server.now.house.now) c.args.who

@@ -16,5 +16,5 @@ returns-then-byte-eq10-clause-leads g c = λ start begin given goes.
     let is : c.args.byte ≡ lf = omega (arith, c.if-byte-eq10.true) in
     let kept = subst (λ (b : ℕ). Keeps c.push.new.self (goes.raw ++ b ∷ [])) is (c.push.ensures goes.raw goes.keeps) in
     let replied = c.reply.ensures.replied (goes.raw ++ lf ∷ []) (without_cr goes.raw) kept (line_ended goes.raw goes.unended) in
-    subst (λ (b : ℕ). Leads house draws start begin given (b ∷ []) c.reply.result c.reply.new.session after c.reply.new.passes) (sym is)
-    (leads_line house draws start begin given c.args.session.now c.reply.new.session now after c.args.passes.now c.reply.new.passes c.reply.result goes replied c.reply.ensures.cleared)
+    subst (λ (b : ℕ). Leads house draws start begin given (b ∷ []) c.reply.result c.reply.new.session after c.reply.new.passes.knows) (sym is)
+    (leads_line house draws start begin given c.args.session.now c.reply.new.session now after c.args.passes.now.knows c.reply.new.passes.knows c.reply.result goes replied c.reply.ensures.cleared)

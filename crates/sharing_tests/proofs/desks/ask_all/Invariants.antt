@@ -1,4 +1,4 @@
-use Rattle.shared_desk.specs.Shared.{IsKept}
+use Rattle.owner_desk.specs.Shared.{IsKept}
 use Rattle.sharing_tests.proofs.desks.ask_all.Given as goal
 
 abbrev pub invariant-loop : goal.invariant-loop

@@ -1,0 +1,29 @@
+use Rattle.std.proofs.Common.{IfOk, ◌≡◌, subst}
+use Rattle.owner_lock.specs.Passes.{known}
+use Rattle.budget_ledger.specs.Booked.{IsReserved}
+use Rattle.owner_desk.specs.Answers.{HasReserved}
+use Rattle.owner_desk.specs.Watched.{Watched, account_at}
+use Rattle.owner_desk.specs.Shared.{Shared, opened_in, pass_with}
+use Rattle.owner_desk.proofs.Calls.{has_granted, has_reserved}
+use Rattle.owner_desk.proofs.desk.Desk+D.reserve.Goals as goal
+
+pub returns-clause-reserved : goal.returns-clause-reserved
+returns-clause-reserved g c =
+    let (x, y, meets, called, after) = c.with.ensures.ran in
+    let v = known c.pass.inside.ticket in
+    let w = known c.with.new.pass in
+    let said : IsReserved (account_at x) c.args.asking.now c.with.result (account_at y) =
+    subst (λ (z : Watched). IsReserved (account_at z) c.args.asking.now c.with.result (account_at y)) called.shows
+    (subst (λ (z : Watched). IsReserved (account_at called.shown.now) c.args.asking.now c.with.result (account_at z)) called.leaves called.met.0) in
+    subst (λ (p : Shared). HasReserved p.knows c.args.asking.now c.with.result (pass_with (opened_in w.fixed) w)) c.pass.view_is
+    (has_reserved (opened_in v.fixed) v w x y meets after c.pass.invariant c.args.asking.now c.with.result said)
+
+pub returns-clause-granted : goal.returns-clause-granted
+returns-clause-granted g c =
+    let (x, y, meets, called, after) = c.with.ensures.ran in
+    let v = known c.pass.inside.ticket in
+    let w = known c.with.new.pass in
+    let said : IsReserved (account_at x) c.args.asking.now c.with.result (account_at y) =
+    subst (λ (z : Watched). IsReserved (account_at z) c.args.asking.now c.with.result (account_at y)) called.shows
+    (subst (λ (z : Watched). IsReserved (account_at called.shown.now) c.args.asking.now c.with.result (account_at z)) called.leaves called.met.0) in
+    has_granted (opened_in v.fixed) v w x y meets after c.pass.invariant c.args.asking.now c.with.result said

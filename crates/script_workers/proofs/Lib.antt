@@ -1,0 +1,9 @@
+pub mod Blocks
+pub mod Kept
+pub mod Served
+pub mod Ordered
+pub mod Dealt
+pub mod Shares
+pub mod Taking
+pub mod Brought
+pub mod Back

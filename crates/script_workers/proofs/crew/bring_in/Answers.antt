@@ -1,0 +1,27 @@
+use Rattle.std.proofs.Common.{◌≡◌, ◌<◌, ℕ, List, length, get_or, sym, ap, ◌∙◌, subst, arith}
+use Rattle.atomic_table.specs.Seated.{TableId}
+use Rattle.session_core.specs.Code.{pass_at}
+use Rattle.script_workers.proofs.Taking.{popped, shares_taken, taken_next}
+use Rattle.script_workers.proofs.crew.bring_in.Goals as goal
+
+pub join-requires : goal.join-requires
+join-requires g c =
+    let I = c.loop-worker.invariant in
+    let rest = c.pop.new.self.items in
+    let worker = c.in-Some.worker in
+    let p = popped c.args.crew.items c.loop-worker.workers.items rest worker I.front c.in-Some.ensures.items in
+    record { here = (I.locks ∙ c.requires.here, ap (λ w. w.passes.locks) (sym p.there) ∙ c.requires.all (length rest) worker p.within) }
+
+pub loop-worker-preserved : goal.loop-worker-preserved
+loop-worker-preserved g c =
+    let I = c.loop-worker.invariant in
+    let worker = c.in-Some.worker in
+    let one = c.join.ensures.taken in
+    let p = popped c.args.crew.items c.loop-worker.workers.items c.pop.new.self.items worker I.front c.in-Some.ensures.items in
+    let all : length c.loop-worker.passes.locks ≡ length c.args.desks.now = ap length (I.locks ∙ c.requires.here) in
+    record {
+      locks = one.locks ∙ I.locks;
+      front = p.front;
+      shares = λ o. shares_taken (λ w. get_or w.passes.shares o 0) _ _ _ _ _ worker p.later (one.shares o) (I.shares o);
+      taken = λ o lt. taken_next (λ w. pass_at w.passes.knows o) _ _ _ _ _ worker p.later (I.taken o lt) (one.passes o (omega (arith, all, lt)));
+    }

@@ -1,0 +1,11 @@
+//! A script answered by several workers: each has passes of its own and answers the blocks dealt to it, and the replies are put in the
+//! script's order.
+#![tactic(auto)]
+
+mod answer;
+mod crew;
+mod order;
+mod texts;
+mod worker;
+
+pub use answer::answer_script;

@@ -1,0 +1,147 @@
+//! One worker, and what it does.
+
+ghost use Rattle.std.specs.Prelude.{◌≡◌, ◌+◌, ◌++◌, ◌<◌, ◌≤◌, ◌-◌, ◌^◌, [], ◌∷◌, List, ℕ, length, map, min, All, IfErr, IfOk, None, vec_capacity};
+ghost use Rattle.wire_lines.specs.Lines.{lines_of};
+ghost use Rattle.owner_house.specs.House.{house_of};
+ghost use Rattle.session_core.specs.Turns.{session_turns};
+ghost use Rattle.session_core.specs.Exchanges.{Exchange};
+ghost use Rattle.session_core.specs.Blocks.{behind_block, first_block, own_blocks, script_blocks};
+ghost use Rattle.session_core.specs.Bundles.{given_halves, kept_halves};
+ghost use Rattle.session_core.specs.Code.{ArePasses, AreServed, room_for_lines};
+ghost use Rattle.script_workers.specs.Texts.{KeepsTexts};
+ghost use Rattle.script_workers.specs.Crews.{HasDone, HasRoomFor, IsHired, own_room, replies_text};
+
+use crate::texts::Texts;
+use answer_path::Desk;
+use fz_outside::words::Streams;
+use outside_disks::disk::Disk;
+use outside_links::gate::Gate;
+use owner_desk::Knows;
+use session_core::blocks::pass_block;
+use session_core::passes::{Bundle, Passes, Token};
+use session_core::script::answer_block;
+use session_core::server::Server;
+use std::alloc::{AllocError, Global};
+use std::sync::Wait;
+
+/// A worker's passes, and the texts of its blocks. It is generic in what its passes hold, so that it may go to a thread of its own.
+#[derive(Drop)]
+pub(crate) struct Worker<T: Knows> {
+    pub(crate) passes: Bundle<T>,
+    pub(crate) texts: Texts,
+}
+
+/// What a worker's blocks ask for.
+#[derive(Clone, Copy)]
+struct Needs {
+    /// Room for their replies.
+    room: usize,
+    /// How many blocks there are.
+    blocks: usize,
+}
+
+// Block k is worker `k % count`'s.
+fn needs_of(script: &[u8], count: usize, index: usize) -> Needs
+    requires count { 0 < count }
+    ensures room { result.room ≡ min (2 ^ 64 - 1) (own_room count index 0 (script_blocks script.now)) }
+    ensures blocks { result.blocks ≡ length (own_blocks count index 0 (script_blocks script.now)) }
+{
+    let mut needs = Needs { room: 0, blocks: 0 };
+    let mut rest = script;
+    let mut number = 0usize;
+    while !rest.is_empty() {
+        let block = pass_block(rest);
+        if number % count == index {
+            needs.room = needs.room.saturating_add(block.room);
+            needs.blocks += 1;
+        }
+        number += 1;
+        rest = block.behind;
+    }
+    needs
+}
+
+/// A worker for its blocks of a script, with half of the passes' shares. Without memory nothing is given away.
+pub(crate) fn hire<D: Disk>(
+    alloc: Global,
+    desks: &[Desk<D>],
+    passes: &mut Passes<D>,
+    script: &[u8],
+    count: usize,
+    index: usize,
+) -> Result<Worker<Token<D>>, AllocError>
+    requires here { passes.old.locks ≡ desks.now }
+    requires shares { All (λ s. 2 ≤ s) passes.old.shares }
+    requires count { 0 < count }
+    ensures kept { IfOk result (λ _. passes.new ≡ kept_halves passes.old) }
+    ensures hired { IfOk result (λ w. IsHired count index script.now passes.old w.passes w.texts) }
+    ensures shares { IfOk result (λ w. w.passes.shares ≡ (given_halves passes.old).shares) }
+    ensures refused { IfErr result (λ _. passes.new ≡ passes.old) }
+{
+    let needs = needs_of(script, count, index);
+    let texts = Texts::with_room(alloc, needs.room, needs.blocks)?;
+    let passes = passes.split(alloc, desks)?;
+    Ok(Worker { passes, texts })
+}
+
+/// Answers the blocks of the worker of this number, of so many, one after another.
+pub(crate) fn serve<'a, R: Wait, D: Disk, S: Streams, G: Gate>(
+    server: &Server<'a, R, D, S, G>,
+    worker: &mut Worker<Token<D>>,
+    script: &'a [u8],
+    count: usize,
+    index: usize,
+)
+    requires count { 0 < count }
+    requires here { worker.old.passes.locks ≡ server.now.desks.now }
+    requires passes { ArePasses (house_of server.now.house.now) worker.old.passes.knows }
+    requires room { HasRoomFor count index script.now worker.old.texts }
+    ensures done { HasDone (house_of server.now.house.now) (S.given server.now.streams.now) count index script.now
+        worker.old.passes worker.new.passes worker.new.texts }
+{
+    let mut rest = script;
+    let mut number = 0usize;
+    while !rest.is_empty() {
+        rest = if number % count == index {
+            serve_block(server, worker, number, rest)
+        } else {
+            pass_block(rest).behind
+        };
+        number += 1;
+    }
+}
+
+// Answers the first block of some lines, whose number is told to the gate.
+fn serve_block<'a, R: Wait, D: Disk, S: Streams, G: Gate>(
+    server: &Server<'a, R, D, S, G>,
+    worker: &mut Worker<Token<D>>,
+    number: usize,
+    lines: &'a [u8],
+) -> &'a [u8]
+    requires here { worker.old.passes.locks ≡ server.now.desks.now }
+    requires passes { ArePasses (house_of server.now.house.now) worker.old.passes.knows }
+    requires bytes { length worker.old.texts.bytes.items + room_for_lines (first_block (lines_of lines.now)) ≤ vec_capacity worker.old.texts.bytes }
+    requires ends { length worker.old.texts.ends.items < vec_capacity worker.old.texts.ends }
+    ensures served { (xs : List Exchange)
+        × (map (λ (x : Exchange). x.turn) xs ≡ session_turns (house_of server.now.house.now) None (first_block (lines_of lines.now)))
+        × AreServed (house_of server.now.house.now) (S.given server.now.streams.now) xs worker.old.passes.knows worker.new.passes.knows
+        × (length (replies_text xs) ≤ room_for_lines (first_block (lines_of lines.now)))
+        × ((texts : List (List ℕ)) → KeepsTexts worker.old.texts texts → KeepsTexts worker.new.texts (texts ++ replies_text xs ∷ [])) }
+    ensures passes { ArePasses (house_of server.now.house.now) worker.new.passes.knows }
+    ensures stays { worker.new.passes ≡ record worker.old.passes { knows = worker.new.passes.knows } }
+    ensures capacity { (vec_capacity worker.new.texts.bytes ≡ vec_capacity worker.old.texts.bytes)
+        × (vec_capacity worker.new.texts.ends ≡ vec_capacity worker.old.texts.ends) }
+    ensures behind { lines_of result.now ≡ behind_block (lines_of lines.now) }
+    ensures nearer { 0 < length lines.now → length result.now < length lines.now }
+{
+    let block = u32::try_from(number).unwrap_or(u32::MAX);
+    let behind = answer_block(
+        server,
+        &mut worker.passes,
+        block,
+        lines,
+        &mut worker.texts.bytes,
+    );
+    worker.texts.ends.push_reserved(worker.texts.bytes.len());
+    behind
+}

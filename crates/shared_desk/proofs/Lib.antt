@@ -1,5 +1,0 @@
-pub mod Calls
-mod Examples
-pub mod Lists
-pub mod Settles
-pub mod Steps

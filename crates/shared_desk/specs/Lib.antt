@@ -1,4 +1,0 @@
-pub mod Noted
-pub mod Watched
-pub mod Lawful
-pub mod Shared

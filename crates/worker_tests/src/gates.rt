@@ -1,0 +1,90 @@
+//! Two workers answer at once.
+
+use fz_outside::files::{MemFile, MemFiles};
+use fz_outside::sink::MemSink;
+use fz_outside::source::MemSource;
+use memory_runs::journals::empty_journals;
+use memory_runs::{KEY, ROOM, TABLE, census_files, words_of};
+use outside_links::gate::Gate;
+use query_server::{Status, run_server};
+use std::alloc::{AllocError, Global};
+use std::hint;
+use std::sync::Wait;
+use std::sync::atomic::{AtomicU64, Ordering};
+use std::test::Fail;
+use std::thread::Threads;
+
+/// How many turns a request is held at most.
+const TURNS: u32 = 10_000_000;
+
+// Holds the first request of block 0 until the first request of block 1 has left.
+#[derive(Drop)]
+struct HoldGate {
+    left: AtomicU64,
+    let_go: AtomicU64,
+}
+
+impl Gate for HoldGate {
+    fn enter(&self, block: u32, line: u32) {
+        if block != 0 || line != 0 {
+            return;
+        }
+        for _ in 0..TURNS {
+            if self.left.load(Ordering::SeqCst) == 1 {
+                self.let_go.store(1, Ordering::SeqCst);
+                return;
+            }
+            hint::spin_loop();
+        }
+    }
+
+    fn leave(&self, block: u32, line: u32) {
+        if block == 1 && line == 0 {
+            self.left.store(1, Ordering::SeqCst);
+        }
+    }
+}
+
+// A run of two blocks by so many workers, behind a gate: how it ends, and what it writes.
+fn ran<R: Threads + Wait + Sync>(
+    rt: &R,
+    alloc: Global,
+    workers: &str,
+    gate: &HoldGate,
+    held: &[MemFile<'_>],
+) -> Result<(Status, Vec<u8>), AllocError> {
+    let mut journals = empty_journals(alloc)?;
+    journals.ran(rt, alloc, &["init", "cat.json", "key"], held, b"")?;
+    let mut bay = journals.into_bay();
+    let words = words_of(alloc, &["run", "cat.json", "key", "--workers", workers])?;
+    let mut files = MemFiles::new(held);
+    let mut source = MemSource::new(b"hello ann\nbye\nhello bob\nbye\n");
+    let mut sink = MemSink::<ROOM>::new(alloc)?;
+    let status = run_server(
+        rt,
+        alloc,
+        &words,
+        &mut files,
+        &mut bay,
+        &mut source,
+        &mut sink,
+        gate,
+    );
+    Ok((status, sink.bytes().to_vec(alloc)?))
+}
+
+// The first request waits for one of another block: one worker would never let it go.
+#[test]
+fn two_workers_answer_at_once(rt: HostRuntime) -> Result<(), Fail> {
+    let gate = HoldGate {
+        left: AtomicU64::new(0),
+        let_go: AtomicU64::new(0),
+    };
+    let held = census_files(TABLE, "key", &KEY);
+    let (status, out) = ran(&rt, rt.alloc(), "2", &gate, &held)?;
+    assert!(rt;
+        status == Status::Done && out.as_slice() == b"hello ann\nbye\nhello bob\nbye\n".as_slice()
+    );
+    assert!(rt; gate.let_go.load(Ordering::SeqCst) == 1);
+    Ok(())
+}
