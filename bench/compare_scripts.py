@@ -91,8 +91,8 @@ class Case:
         with open(name, "wb") as file:
             file.write(data)
 
-    def ran(self, command, script=b""):
-        ran = subprocess.run([PROGRAM, command, "cat.json", "key"], input=script, capture_output=True)
+    def ran(self, command, script=b"", words=()):
+        ran = subprocess.run([PROGRAM, command, "cat.json", "key", *words], input=script, capture_output=True)
         if (ran.returncode, ran.stderr) != (0, b""):
             raise Differs(f"{command} ended with {ran.returncode}, {ran.stdout[:200]!r} and {ran.stderr[:200]!r}")
         return ran.stdout
@@ -113,15 +113,25 @@ class Case:
         analysts = len(self.house.catalog["analysts"])
         return [book_of(kept, head, entry, analysts) for kept, head, entry in zip(self.kept, self.heads, self.entries)]
 
+    def made(self, books):
+        """How many reservations there are of each owner, by its name."""
+        return {entry["name"].encode(): len(book.reserved) for entry, book in zip(self.entries, books)}
+
     def run(self, turn):
-        """Answers a script by both. Nothing is compared where a program takes the second server too long."""
         books = self.books()
-        script = script_of(self.rng, self.house.catalog, {entry["name"].encode(): len(book.reserved) for entry, book in zip(self.entries, books)})
+        self.answered(turn, script_of(self.rng, self.house.catalog, self.made(books)), books)
+
+    def put(self, turn, script):
+        """Keeps the script and the journals as they are before it."""
         self.file(f"script{turn}", script)
         shutil.copytree("journals", f"before{turn}/journals")
+
+    def answered(self, turn, script, books, words=()):
+        """Answers a script by both. Nothing is compared where a program takes the second server too long."""
+        self.put(turn, script)
         server, lines = Server(self.house, key_words(self.key), books, STEPS), lines_of(script)
         replies = [server.reply(line) for line in lines]
-        self.same(f"run {turn}", self.ran("run", script), "".join(reply + "\n" for reply in replies).encode())
+        self.same(f"run {turn}", self.ran("run", script, words), "".join(reply + "\n" for reply in replies).encode())
         for order, (book, owner) in enumerate(zip(books, server.owners.values())):
             begin = HEAD + SLOT * len(book.records)
             added = b"".join(record.encoded() for record in owner.added)
@@ -226,4 +236,5 @@ def main():
     sys.exit(0 if same and told(seed, came) else 1)
 
 
-main()
+if __name__ == "__main__":
+    main()

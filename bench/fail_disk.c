@@ -4,6 +4,7 @@
 // STOP=N     the process is killed at call N, in the place of the call; a write has then put half of its bytes
 // SHORT=1    each write of several bytes puts half of them, and says so
 // LOG=FILE   a line for each write, sync and folder made, with its path, in their order; also for a sync of any other folder
+// ONLY=WORD  the calls are those on files alone whose path has the word, such as /2.bud
 // The calls are reads and writes at a place, syncs, asking for a length, and opening or making such a file or folder.
 #define _GNU_SOURCE
 #include <dlfcn.h>
@@ -18,6 +19,7 @@
 #include <unistd.h>
 
 static long calls, fail_at, stop_at, fail_all, short_writes;
+static const char *only;
 static FILE *log_file;
 
 __attribute__((constructor)) static void begin(void) {
@@ -25,6 +27,7 @@ __attribute__((constructor)) static void begin(void) {
     stop_at = getenv("STOP") ? atol(getenv("STOP")) : 0;
     fail_all = getenv("FAIL_ALL") != 0;
     short_writes = getenv("SHORT") != 0;
+    only = getenv("ONLY");
     log_file = getenv("LOG") ? fopen(getenv("LOG"), "a") : 0;
 }
 
@@ -33,10 +36,17 @@ __attribute__((destructor)) static void end(void) {
         fprintf(stderr, "%ld", calls);
 }
 
-static int counts(const char *path) { return path && strstr(path, "journals") != 0; }
+// A program that ends by _exit runs no destructor.
+__attribute__((noreturn)) void _exit(int status) {
+    end();
+    ((void (*)(int))dlsym(RTLD_NEXT, "_exit"))(status);
+    __builtin_unreachable();
+}
+
+static int counts(const char *path) { return path && strstr(path, "journals") != 0 && (!only || strstr(path, only) != 0); }
 
 static const char *path_of(int file) {
-    static char path[4096];
+    static _Thread_local char path[4096];
     char link[64];
     snprintf(link, sizeof link, "/proc/self/fd/%d", file);
     ssize_t n = readlink(link, path, sizeof path - 1);
@@ -48,15 +58,17 @@ static int file_counts(int file) { return counts(path_of(file)); }
 
 static void note(const char *name, const char *path) {
     if (log_file)
-        fprintf(log_file, "%s %s\n", name, path);
+        fprintf(log_file, "%s %s\n", name, path), fflush(log_file);
 }
 
-// Whether this call is to fail. Where it is to stop, there is nobody left to tell.
-static int fails(void) {
-    calls++;
-    if (calls == stop_at)
+// The number of this call, among those of all threads.
+static long numbered(void) { return __atomic_add_fetch(&calls, 1, __ATOMIC_SEQ_CST); }
+
+// Whether the call of this number is to fail. Where it is to stop, there is nobody left to tell.
+static int fails(long call) {
+    if (call == stop_at)
         raise(SIGKILL);
-    if (fail_at && (calls == fail_at || (fail_all && calls > fail_at))) {
+    if (fail_at && (call == fail_at || (fail_all && call > fail_at))) {
         errno = EIO;
         return 1;
     }
@@ -73,9 +85,10 @@ typedef int (*mkdir_call)(const char *, mode_t);
 static ssize_t writes(const char *name, int file, const void *bytes, size_t size, off_t place) {
     write_call next = (write_call)dlsym(RTLD_NEXT, name);
     if (file_counts(file)) {
-        if (calls + 1 == stop_at)
+        long call = numbered();
+        if (call == stop_at)
             next(file, bytes, size / 2, place);
-        if (fails())
+        if (fails(call))
             return -1;
         note("write", path_of(file));
         if (short_writes && size > 1)
@@ -87,7 +100,7 @@ ssize_t pwrite(int file, const void *bytes, size_t size, off_t place) { return w
 ssize_t pwrite64(int file, const void *bytes, size_t size, off_t place) { return writes("pwrite64", file, bytes, size, place); }
 
 static ssize_t reads(const char *name, int file, void *bytes, size_t size, off_t place) {
-    if (file_counts(file) && fails())
+    if (file_counts(file) && fails(numbered()))
         return -1;
     return ((read_call)dlsym(RTLD_NEXT, name))(file, bytes, size, place);
 }
@@ -95,7 +108,7 @@ ssize_t pread(int file, void *bytes, size_t size, off_t place) { return reads("p
 ssize_t pread64(int file, void *bytes, size_t size, off_t place) { return reads("pread64", file, bytes, size, place); }
 
 static int syncs(const char *name, int file) {
-    if (file_counts(file) && fails())
+    if (file_counts(file) && fails(numbered()))
         return -1;
     note("sync", path_of(file));
     return ((sync_call)dlsym(RTLD_NEXT, name))(file);
@@ -104,7 +117,7 @@ int fsync(int file) { return syncs("fsync", file); }
 int fdatasync(int file) { return syncs("fdatasync", file); }
 
 static int opens(const char *name, const char *path, int flags, mode_t mode) {
-    if (counts(path) && fails())
+    if (counts(path) && fails(numbered()))
         return -1;
     return ((open_call)dlsym(RTLD_NEXT, name))(path, flags, mode);
 }
@@ -125,7 +138,7 @@ OPEN(open64)
         va_start(more, flags);                                                                                                            \
         mode_t mode = va_arg(more, mode_t);                                                                                               \
         va_end(more);                                                                                                                     \
-        if (counts(path) && fails())                                                                                                      \
+        if (counts(path) && fails(numbered()))                                                                                            \
             return -1;                                                                                                                    \
         return ((openat_call)dlsym(RTLD_NEXT, #NAME))(folder, path, flags, mode);                                                         \
     }
@@ -133,7 +146,7 @@ OPENAT(openat)
 OPENAT(openat64)
 
 int mkdir(const char *path, mode_t mode) {
-    if (counts(path) && fails())
+    if (counts(path) && fails(numbered()))
         return -1;
     note("mkdir", path);
     return ((mkdir_call)dlsym(RTLD_NEXT, "mkdir"))(path, mode);
@@ -142,7 +155,7 @@ int mkdir(const char *path, mode_t mode) {
 typedef int (*statx_call)(int, const char *, int, unsigned, struct statx *);
 
 int statx(int file, const char *restrict path, int flags, unsigned mask, struct statx *restrict told) {
-    if (path && !*path && file_counts(file) && fails())
+    if (path && !*path && file_counts(file) && fails(numbered()))
         return -1;
     return ((statx_call)dlsym(RTLD_NEXT, "statx"))(file, path, flags, mask, told);
 }

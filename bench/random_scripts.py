@@ -1,8 +1,9 @@
 """Catalogs, tables and scripts at random, for the comparisons beside: good ones and hostile ones.
 
     house_at_random(RNG)            a catalog's bytes, and its files' bytes by name: 1 to 4 owners, whose budgets and capacities end soon
-    script_of(RNG, CATALOG, MADE)   a script of some 5 to 60 lines over a catalog as catalog.py reads it, of all kinds and by any analysts; MADE
-                                    says how many reservations there are of each owner, by its name
+    script_of(RNG, CATALOG, MADE)   a script of some 5 to 60 lines, or as many as is said behind these, over a catalog as catalog.py reads it,
+                                    of all kinds and by any analysts; MADE says how many reservations there are of each owner, by its name
+    blocks_at_random(RNG, CATALOG, MADE)   a script of 2 to 30 blocks, each made so
     program_for(RNG, TABLES)        one line's program over these tables: accepted ones, mostly, and refused ones of each code
     lay_records(RNG, BOOK)          records that runs could have left, added to an empty book (journal.py)
 """
@@ -305,9 +306,9 @@ class Lines:
         return self.changed(words) if self.chance(self.hostile) else b" ".join(words)
 
 
-def script_of(rng, catalog, made):
+def script_of(rng, catalog, made, least=5, most=60):
     lines = Lines(rng, catalog, made)
-    many = rng.randint(5, 60)
+    many = rng.randint(least, most)
     written = [b" ".join(lines.hello())] if rng.random() < 0.9 else []
     while len(written) < many:
         written.append(b" ".join(lines.hello()) if written and written[-1] == b"bye" and rng.random() < 0.7 else lines.line())
@@ -317,3 +318,14 @@ def script_of(rng, catalog, made):
     if rng.random() < 0.3:
         return script + rng.choice(last)
     return script[:-1] if rng.random() < 0.3 else script
+
+
+def blocks_at_random(rng, catalog, made):
+    """Analysts who speak at once recall numbers that others have just made, too."""
+    many, written = rng.choice([2, 3, 4, 6, 8, 12, 16, 20, 30]), b""
+    for number in range(many):
+        likely = {name: count + rng.choice([0, rng.randint(0, many)]) for name, count in made.items()}
+        block = script_of(rng, catalog, likely, 2, 14)
+        ends = number < many - 1 or rng.random() < 0.7
+        written += (block if block.endswith(b"\n") else block + b"\n") + b"bye\n" if ends else block
+    return written

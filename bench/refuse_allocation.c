@@ -40,3 +40,10 @@ __attribute__((destructor)) static void tell(void) {
     int length = snprintf(text, sizeof text, "%ld\n", count);
     if (write(2, text, length) < 0) return;
 }
+
+// A program that ends by _exit runs no destructor.
+__attribute__((noreturn)) void _exit(int status) {
+    tell();
+    ((void (*)(int))dlsym(RTLD_NEXT, "_exit"))(status);
+    __builtin_unreachable();
+}

@@ -111,12 +111,13 @@ def cost_of(charges):
 class Owner:
     """An owner's entry, tables and rows, and what was charged and recorded: of each reservation who made it, and what became of it.
 
-    A view is None for the whole, else a partition's number and a key's. `added` has the records that its journal got in this run."""
+    A view is None for the whole, else a partition's number and a key's. `added` has the records that its journal got in this run, and
+    `unsettled` says how many reservations of this run have no settlement yet: none where one line is answered after another."""
 
     def __init__(self, entry, rows):
         self.entry, self.rows, self.tables = entry, rows, signature(entry)
         self.charges, self.records, self.start = {}, 0, 0
-        self.reservations, self.added = [], []
+        self.reservations, self.added, self.unsettled = [], [], 0
 
     def goes_on(self, charges, records, reservations):
         """From here on a later run is answered, behind so many records, where each view was charged so much. A reservation is who
@@ -298,8 +299,8 @@ class Server:
         spent, after = owner.spent, cost_of(charges)
         if after > budget:
             return f"no 40 {spent} {after} {budget} {owner.records}"
-        if owner.records + 2 > capacity:
-            return f"no 41 {owner.records} 0 {capacity}"
+        if owner.records + owner.unsettled + 2 > capacity:
+            return f"no 41 {owner.records} {owner.unsettled} {capacity}"
         number, order = len(owner.reservations), list(self.owners.values()).index(owner)
         owner.charges = charges
         owner.records += 2

@@ -1,0 +1,171 @@
+#!/usr/bin/env python3
+"""How fast several workers answer, beside one worker, beside processes of one worker each, and beside a plain C loop, in turn.
+
+usage: bench/workers_speed.py [ROUNDS [ANSWERS [FOLDER]]]    (PROGRAM=FILE measures another build)
+9 rounds, 500 answers an owner, and a folder on the disk of this repository, unless said. Needs cc.
+Each figure is the median of the rounds, in which what is beside each other is run in turn, in either order; above it stand the least and the most
+wall time of both. Bars:
+
+- a run by one worker takes at most 1.25 times the wall time of the loop that writes and syncs the same (bench/journal_loop.c);
+- 4 workers over 4 owners, the journals in memory and a program of about a millisecond over 2^14 rows, give at least 0.75 times the answers a
+  second of four runs by one worker at once, each in a folder of its own;
+- on the disk, `size people`, at least 0.8 times those of four loops at once, each on a file of its own;
+- 16 workers at one owner take at most 1.5 times the processor time an answer of one worker, and give at least 0.8 times its answers a second,
+  on the disk and in memory.
+
+Times are of whole processes, but the loop's, which takes its own behind the making of its file. It ends with status 1 where a bar isn't met.
+"""
+import os
+import subprocess
+import sys
+import tempfile
+import time
+from statistics import median
+
+TOP = os.path.dirname(os.path.dirname(os.path.abspath(__file__)))
+PROGRAM = os.path.abspath(os.environ.get("PROGRAM", f"{TOP}/crates/hitchseason/out/hitchseason"))
+sys.path.insert(0, f"{TOP}/tools")
+from catalog import catalog, owner  # noqa: E402
+
+OWNERS = ("o1", "o2", "o3", "o4")
+SHORT = "size people"
+LONG = "sum[0,100] (map (fn (x : num) => x + 1) (filter (fn (x : num) => x <= 50) people))"
+MEMORY = "/dev/shm"
+
+
+class Folder:
+    """A folder with new journals, its scripts, and what a run on it takes."""
+
+    def __init__(self, place, names, rows, answers):
+        self.made = tempfile.TemporaryDirectory(dir=place)
+        self.name = self.made.name
+        self.put("cat.json", catalog(*[owner(name, budget=10**18, capacity=2 * len(names) * answers) for name in names], analysts=("ann",)))
+        self.put("key", bytes(32))
+        self.put("people.csv", b"age\n" + b"".join(b"%d\n" % (20 + at * 7919 % 80) for at in range(rows)))
+
+    def put(self, name, data):
+        with open(f"{self.name}/{name}", "wb") as file:
+            file.write(data)
+
+    def script(self, script, blocks):
+        """Blocks of so many asks of an owner: an owner, a count and a program for each."""
+        written = [f"hello ann\n{f'ask {name} 1 {program}{chr(10)}' * count}bye\n" for name, count, program in blocks]
+        self.put(script, "".join(written).encode())
+
+    def renew(self):
+        subprocess.run(["rm", "-rf", f"{self.name}/journals"], check=True)
+        subprocess.run([PROGRAM, "init", "cat.json", "key"], cwd=self.name, check=True, stdout=subprocess.DEVNULL)
+
+    def begin(self, script, workers):
+        with open(f"{self.name}/{script}") as given, open(f"{self.name}/out", "w") as out:
+            return subprocess.Popen([PROGRAM, "run", "cat.json", "key", "--workers", str(workers)], cwd=self.name, stdin=given, stdout=out)
+
+    def answered(self):
+        with open(f"{self.name}/out") as out:
+            return sum(line.startswith("answer ") for line in out)
+
+
+def timed(folders, script, workers, answers):
+    """Wall and processor seconds of runs at once, one in each folder, which give so many answers together."""
+    for folder in folders:
+        folder.renew()
+    began = time.monotonic()
+    runs = [folder.begin(script, workers) for folder in folders]
+    used = [os.wait4(run.pid, 0) for run in runs]
+    wall = time.monotonic() - began
+    found = sum(folder.answered() for folder in folders)
+    if any(status for _, status, _ in used) or found != answers:
+        sys.exit(f"{found} answers in {[folder.name for folder in folders]}, and {answers} are due")
+    return wall, sum(one.ru_utime + one.ru_stime for _, _, one in used)
+
+
+def looped(loop, place, count, answers):
+    """Wall seconds of so many loops at once; their processor time isn't wanted."""
+    with tempfile.TemporaryDirectory(dir=place) as folder:
+        runs = [subprocess.Popen([loop, f"{folder}/{number}", str(answers)], stdout=subprocess.PIPE, text=True) for number in range(count)]
+        return max(float(run.communicate()[0]) for run in runs), 0
+
+
+class Table:
+    missed = False
+
+    def row(self, what, figure, bar, met):
+        self.missed = self.missed or not met
+        print(f"{what:<52} {figure:>24} {bar:>30}   {'met' if met else 'MISSED'}", flush=True)
+
+
+def in_turn(rounds, ours, theirs):
+    """The figures of both ways, each the median of the rounds. Every other round begins with the other way, since disks change their speed."""
+    found = {ours: [], theirs: []}
+    for number in range(rounds):
+        for way in (ours, theirs) if number % 2 == 0 else (theirs, ours):
+            found[way].append(way())
+    walls = [sorted(wall for wall, _ in found[way]) for way in (ours, theirs)]
+    print("    " + ", and beside it ".join(f"{wall[0]:.3f} to {wall[-1]:.3f} s" for wall in walls))
+    return [[median(column) for column in zip(*found[way])] for way in (ours, theirs)]
+
+
+def one_worker(table, rounds, answers, disk, loop):
+    folder = Folder(disk, OWNERS[:1], 3, answers)
+    folder.script("script", [(OWNERS[0], answers, SHORT)])
+    (ours, _), (theirs, _) = in_turn(rounds, lambda: timed([folder], "script", 1, answers), lambda: looped(loop, disk, 1, answers))
+    table.row(f"{answers} asks, one worker, on the disk, beside the loop", f"{ours:.3f} s", f"1.25 * {theirs:.3f} s", ours <= 1.25 * theirs)
+
+
+def four_in_memory(table, rounds, answers):
+    all_of_them, apart = Folder(MEMORY, OWNERS, 2**14, answers), [Folder(MEMORY, [name], 2**14, answers) for name in OWNERS]
+    all_of_them.script("script", [(name, answers, LONG) for name in OWNERS])
+    for name, folder in zip(OWNERS, apart):
+        folder.script("script", [(name, answers, LONG)])
+    (ours, used), (theirs, used_apart) = in_turn(
+        rounds, lambda: timed([all_of_them], "script", 4, 4 * answers), lambda: timed(apart, "script", 1, 4 * answers)
+    )
+    ours, theirs = 4 * answers / ours, 4 * answers / theirs
+    table.row("4 workers, 4 owners, in memory, beside 4 processes", f"{ours:.0f} a second", f"0.75 * {theirs:.0f} a second", ours >= 0.75 * theirs)
+    print(f"    processor time an answer {used / answers / 4 * 1000:.3f} ms, of the 4 processes {used_apart / answers / 4 * 1000:.3f} ms")
+
+
+def four_on_disk(table, rounds, answers, disk, loop):
+    folder = Folder(disk, OWNERS, 3, answers)
+    folder.script("script", [(name, answers, SHORT) for name in OWNERS])
+    (ours, _), (theirs, _) = in_turn(rounds, lambda: timed([folder], "script", 4, 4 * answers), lambda: looped(loop, disk, 4, answers))
+    ours, theirs = 4 * answers / ours, 4 * answers / theirs
+    table.row("4 workers, 4 owners, on the disk, beside 4 loops", f"{ours:.0f} a second", f"0.8 * {theirs:.0f} a second", ours >= 0.8 * theirs)
+
+
+def at_one_owner(table, rounds, answers, place, where):
+    each = answers // 16
+    answers = 16 * each
+    folder = Folder(place, OWNERS[:1], 3, answers)
+    folder.script("script", [(OWNERS[0], each, SHORT)] * 16)
+    by = lambda workers: lambda: timed([folder], "script", workers, answers)
+    (many, used), (one, used_by_one) = in_turn(rounds, by(16), by(1))
+    used, used_by_one = (seconds / answers * 10**6 for seconds in (used, used_by_one))
+    many, one = answers / many, answers / one
+    table.row(f"16 workers at one owner {where}: processor time", f"{used:.1f} us an answer", f"1.5 * {used_by_one:.1f} us", used <= 1.5 * used_by_one)
+    table.row(f"16 workers at one owner {where}: answers", f"{many:.0f} a second", f"0.8 * {one:.0f} a second", many >= 0.8 * one)
+
+
+def main():
+    if not os.access(PROGRAM, os.X_OK):
+        sys.exit(f"there is no {PROGRAM}: run 'rt run' in crates/hitchseason first, which proves and builds it")
+    words = sys.argv[1:]
+    rounds, answers = (int(word) for word in (words[:2] + ["9", "500"][len(words[:2]) :]))
+    disk = words[2] if len(words) > 2 else f"{TOP}/out"
+    os.makedirs(disk, exist_ok=True)
+    table = Table()
+    print(f"{os.cpu_count()} processors, load {os.getloadavg()[0]:.1f}, {rounds} rounds")
+    with tempfile.TemporaryDirectory() as built:
+        loop = f"{built}/loop"
+        subprocess.run(["cc", "-O2", "-o", loop, f"{TOP}/bench/journal_loop.c"], check=True)
+        one_worker(table, rounds, answers, disk, loop)
+        if os.path.isdir(MEMORY):
+            four_in_memory(table, rounds, answers)
+        four_on_disk(table, rounds, answers, disk, loop)
+        at_one_owner(table, rounds, answers, disk, "on the disk")
+        if os.path.isdir(MEMORY):
+            at_one_owner(table, rounds, 16 * answers, MEMORY, "in memory")
+    sys.exit(1 if table.missed else 0)
+
+
+main()
