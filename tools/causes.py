@@ -95,7 +95,7 @@ def about_rest(found):
         yield f"`{found.name}` takes {len(wanted)} words, {' '.join(wanted)}, and {given}."
     for option in found.options:
         if found.name == "run" and option.startswith("--workers"):
-            yield f"`{shown(option)}`: `--workers` stands once, and takes 1 alone. It may be left out."
+            yield f"`{shown(option)}`: `--workers` stands once, and takes a whole number from 1 to 16. It may be left out."
         else:
             yield (
                 f"`{shown(option)}` begins with a hyphen and is taken for an option, which `{found.name}` hasn't: a file of this name is written "

@@ -7,7 +7,7 @@
 import re
 
 COMMANDS = {
-    "init": "CATALOG KEY", "run": "CATALOG KEY [--workers 1] < SCRIPT", "audit": "CATALOG KEY", "check": "CATALOG OWNER FILE",
+    "init": "CATALOG KEY", "run": "CATALOG KEY [--workers W] < SCRIPT", "audit": "CATALOG KEY", "check": "CATALOG OWNER FILE",
     "gap": "CATALOG OWNER CATALOG2 FILE",
 }  # fmt: skip
 STATUSES = {
@@ -58,8 +58,9 @@ REFUSALS = {
     "no 40 N N N N": "the budget doesn't allow it: of {2} millionths {0} are spent, and with this ask it would be {1}",
     "no 41 N N N": "there is no room for its two records: {0} of {2} are taken, and room is kept for {1} that are to come; no ask is answered any more, not "
         "even one that costs nothing",
-    "no 42 N": "the owner's journal is closed for the rest of this run, since its disk failed (fault {0}) at an ask before; nothing is charged, and it may "
-        "be asked again in the next run",
+    "no 42 N": "the owner's journal is closed for the rest of this run, since its disk failed (fault {0}) at an ask before; nothing is charged, "
+        "unless several workers answered the script and another one's record failed behind this ask's reservation (`left` in the next run tells): it may be "
+        "asked again then",
     "no 50 N": "the noise of reservation {0} took over 4096 draws, which hardly ever happens: it is charged, and has no answer for ever",
     "no 51 N": "memory ran out while the program of reservation {0} was run: it is charged, and has no answer for ever",
     "no 52": "the disk failed while its record was written: it may be charged, and has no answer; `audit`, and `recall` of its number in the next run, tell "

@@ -61,7 +61,7 @@ def token_at(text, at):
     if text[at : at + 2] == b"-o" and not (at + 2 < len(text) and text[at + 2] in LETTERS | DIGITS):
         return ("-o", "-o", at, at + 2)
     for sign in SIGNS:
-        if text[at:].startswith(sign.encode()):
+        if text.startswith(sign.encode(), at):
             return (sign, sign, at, at + len(sign))
     return None
 

@@ -57,11 +57,16 @@ class Known:
 
     def __str__(self):
         low, high = self.interval(95)
-        left = f", {units(self.left.left)} left" if self.left else ""
-        taken = "recalled" if self.taken is None else f"{units(self.taken)} taken"
-        return f"{written(self.value)} (95 of 100: {written(low)} to {written(high)}); {numbers_said(self.numbers)}, {taken}{left}"
+        return f"{written(self.value)} (95 of 100: {written(low)} to {written(high)}); {paid(self)}"
 
     __repr__ = __str__
+
+
+def paid(known):
+    """Which numbers it has, what it took, and what is left."""
+    left = f", {units(known.left.left)} left" if known.left else ""
+    taken = "recalled" if known.taken is None else f"{units(known.taken)} taken"
+    return f"{numbers_said(known.numbers)}, {taken}{left}"
 
 
 def numbers_said(numbers):
@@ -94,8 +99,8 @@ class Answer(Known):
         return self.value - margin, self.value + margin
 
     def as_dict(self):
-        ask = self.ask
-        return {**super().as_dict(), "number": self.number, "eps": explain.in_units(ask.e), "sent": ask.sent, "recalled": self.recalled}
+        asked = {"owner": self.ask.owner, "part": self.ask.part, "eps": explain.in_units(self.ask.e), "sent": self.ask.sent}
+        return {**super().as_dict(), "number": self.number, **asked, "recalled": self.recalled}
 
 
 class Worked(Known):
@@ -160,6 +165,10 @@ class Groups:
     def left(self):
         return list(self.answers.values())[-1].left
 
+    @property
+    def numbers(self):
+        return [answer.number for answer in self.answers.values()]
+
     def total(self, keys=None):
         """The sum over some keys, or all. Rows of no key aren't in it."""
         return total([self.answers[key] for key in (self.answers if keys is None else keys)])
@@ -179,7 +188,7 @@ class Groups:
         def sure(key):
             return sum(ends[other][1] >= ends[key][0] for other in self.answers if other != key) < count
 
-        return [(key, self.answers[key], sure(key)) for key in order]
+        return Top(self, [(key, self.answers[key], sure(key)) for key in order], percent)
 
     def svg(self, title=None, percent="95"):
         """The histogram with its error bars, as tools/plot draws it."""
@@ -190,6 +199,27 @@ class Groups:
 
     def __str__(self):
         return "\n".join(f"{key}: {answer}" for key, answer in self.items())
+
+
+class Top:
+    """Of GROUPS the keys with the greatest answers: each with its answer, and whether it is surely among the so many greatest."""
+
+    def __init__(self, groups, found, percent):
+        self.groups, self.found, self.percent = groups, found, percent
+        self.taken, self.left, self.numbers = groups.taken, groups.left, groups.numbers
+
+    def __getitem__(self, place):
+        return self.found[place]
+
+    def __len__(self):
+        return len(self.found)
+
+    def as_dict(self):
+        found = [{"key": key, "surely": sure, **answer.as_dict()} for key, answer, sure in self.found]
+        return {"partition": self.groups.partition, "taken": self.taken, "percent": str(self.percent), "top": found}
+
+    def __str__(self):
+        return laid_out([[key, short(answer), "surely" if sure else "perhaps"] for key, answer, sure in self.found])
 
 
 class Crosstab(Groups):
@@ -210,6 +240,11 @@ class Crosstab(Groups):
 
     def column_total(self, column):
         return total([answer for cell, answer in self.cells.items() if cell[1] == column])
+
+    def as_dict(self):
+        rows = {row: self.row_total(row).as_dict() for row in self.rows}
+        columns = {column: self.column_total(column).as_dict() for column in self.columns}
+        return {**super().as_dict(), "totals": {"rows": rows, "columns": columns, "all": self.total().as_dict()}}
 
     def __str__(self):
         head = ["", *self.columns, "total"]

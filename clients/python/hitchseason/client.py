@@ -12,7 +12,7 @@ from .answers import Answer, Left, units
 from .asks import Forecast, View
 from .borrowed import meanings
 from .faults import Cut, Failed, Fault, Refused, Unanswered, known, of_reply
-from .transport import Stopped, transport_of
+from .transport import Stopped, Waited, transport_of
 
 RECALLS = 64
 PLANS = {
@@ -58,7 +58,9 @@ class Pending:
 class Client:
     def __init__(self, transport, catalog, analyst, owner=None):
         names = [entry["name"] for entry in catalog["owners"]]
-        owner = names[0] if owner is None and len(names) == 1 else owner
+        if owner is None and len(names) > 1:
+            raise Refused(f"there are several owners, and one is asked: {', '.join(f'`{name}`' for name in names)}.")
+        owner = names[0] if owner is None else owner
         analysts = [*catalog["analysts"], None]
         for what, name, all_names in (("analyst", analyst, analysts), ("owner", owner, names)):
             if name not in all_names:
@@ -130,17 +132,20 @@ class Client:
     # Asking.
 
     def send(self, asks):
-        """An answer for each ask, all in one script."""
+        """An answer for each ask, all in one script. Whatever ends it before its replies are read, Ctrl-C among it, leaves `pending` for recover()."""
         hello = self.hello()
         if self.pending:
             raise Cut("a run before was cut, and what came of it isn't known yet: recover() first")
         if self.next is None:
             self.learn()
+        self.pending = Pending(asks, self.next)
         try:
             replies = self.transport.replies([hello, *(ask.line() for ask in asks), f"left {self.view.name}"])
         except Stopped as stopped:
-            self.pending = Pending(asks, self.next)
             return self.recover(f"{stopped}. ")
+        except (Failed, Waited):
+            self.pending = None
+            raise
         return self.taken(asks, replies[1:-1], self.left_of(replies[-1]))
 
     def taken(self, asks, replies, left):
@@ -148,6 +153,7 @@ class Client:
         found = [self.one(ask, reply, left) for ask, reply in zip(asks, replies)]
         numbers = [one.number for one in found if isinstance(one, (Answer, Unanswered))]
         self.next = None if None in numbers else max([self.next - 1, *numbers]) + 1
+        self.pending = None
         return self.all_answered(asks, found)
 
     def one(self, ask, reply, left):

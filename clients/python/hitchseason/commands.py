@@ -22,8 +22,8 @@ def place_words(parser):
     parser.add_argument("--key", default="key", metavar="NAME", help="of the key in the folder: key, unless said")
 
 
-def client_of(given, analyst, owner):
-    return connect(given.place, analyst, owner, **{name: getattr(given, name) for name in FOLDER})
+def client_of(given, analyst, owner, public=None):
+    return connect(given.place, analyst, owner, public=public, **{name: getattr(given, name) for name in FOLDER})
 
 
 def text_of(name):

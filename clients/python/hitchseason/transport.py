@@ -27,9 +27,15 @@ class Stopped(Exception):
     """Replies are missing, and what became of the lines isn't known."""
 
 
+class Waited(KeyboardInterrupt):
+    """Ctrl-C while another run on the folder was waited for: nothing was asked."""
+
+
 class Folder:
+    """`waiting` says whether another run on the folder is waited for."""
+
     def __init__(self, folder, program=None, catalog="catalog.json", key="key", public=None):
-        self.folder, self.catalog, self.key, self.program, self.given = folder, catalog, key, program, public
+        self.folder, self.catalog, self.key, self.program, self.given, self.waiting = folder, catalog, key, program, public, False
 
     def public(self):
         if self.given is not None:
@@ -46,13 +52,8 @@ class Folder:
 
     def replies(self, lines):
         script = "".join(f"{line}\n" for line in lines).encode()
-        with self.locked():
-            try:
-                ran = subprocess.run(
-                    [self.found(), "run", self.catalog, self.key], input=script, cwd=self.folder, stdout=subprocess.PIPE, stderr=subprocess.DEVNULL, check=False
-                )
-            except OSError as fault:
-                raise Failed(f"{self.program} can't be run: {fault.strerror}") from None
+        with self.locked() as lock:
+            ran = self.ran(script, lock)
         said = ran.stdout.decode(errors="backslashreplace")
         if ran.returncode in NEVER_ASKED:
             more = f"`tools/why run {self.catalog} {self.key} < /dev/null` in {self.folder} says more"
@@ -62,6 +63,16 @@ class Folder:
             raise Stopped(ended(ran.returncode))
         return found
 
+    def ran(self, script, lock):
+        """A run in a session of its own, which Ctrl-C at a terminal doesn't reach: what is asked isn't cut by it. It has the lock for as long as it lives."""
+        try:
+            return subprocess.run(
+                [self.found(), "run", self.catalog, self.key], input=script, cwd=self.folder, stdout=subprocess.PIPE, stderr=subprocess.DEVNULL,
+                check=False, start_new_session=True, pass_fds=(lock,),
+            )  # fmt: skip
+        except OSError as fault:
+            raise Failed(f"{self.program} can't be run: {fault.strerror}") from None
+
     @contextmanager
     def locked(self):
         """One process at a time works on a folder of journals, by the lock of docs/operators-guide.md."""
@@ -70,8 +81,15 @@ class Folder:
         except OSError as fault:
             raise Failed(f"{self.folder}/journals.lock can't be written: {fault.strerror}") from None
         with file:
-            fcntl.flock(file, fcntl.LOCK_EX)
-            yield
+            try:
+                self.waiting = True
+                fcntl.flock(file, fcntl.LOCK_EX)
+                self.waiting = False
+            except KeyboardInterrupt:
+                raise Waited() from None
+            finally:
+                self.waiting = False
+            yield file.fileno()
 
     def found(self):
         """The program that was named, else `hitchseason` on the path, else tools/build's quick build."""

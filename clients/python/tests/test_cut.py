@@ -8,7 +8,7 @@ from statistics import median
 
 from common import PROGRAM, often, survey
 from hitchseason import Client, Cut, Failed, Refused, Unanswered
-from hitchseason.transport import Stopped
+from hitchseason.transport import Stopped, Waited
 
 # The program under a mode that the folder's file `mode` has, once: killed before it has read anything, killed when it has answered and before it has
 # written, asked twice so, behind another analyst's ask, and killed always.
@@ -127,6 +127,32 @@ class Cuts(unittest.TestCase):
         self.assertEqual(self.spent()[0], 1)
         with self.assertRaises(Failed):
             self.client.recover()
+
+    def test_interrupted(self):
+        """Ctrl-C goes through, and until it is known what came of the ask nothing more is asked."""
+        real = self.client.transport.replies
+        for ends, answered in ((KeyboardInterrupt, True), (KeyboardInterrupt, False), (Waited, False)):
+
+            def replies(lines):
+                self.client.transport.replies = real
+                if answered:
+                    real(lines)
+                raise ends
+
+            self.client.transport.replies = replies
+            with self.assertRaises(KeyboardInterrupt):
+                self.client.count("persons", eps=1)
+            if ends is Waited:
+                break
+            with self.assertRaises(Cut):
+                self.client.count("persons", eps=1)
+            if answered:
+                (answer,) = self.client.recover()
+                self.assertEqual((answer.number, answer.value, answer.recalled), (0, self.client.recall(0), True))
+            else:
+                with self.assertRaises(Failed):
+                    self.client.recover()
+        self.assertEqual(self.client.count("persons", eps=1).number, 1)
 
     def test_new_client(self):
         """Another client of the analyst begins behind what there is, lost numbers among it."""
