@@ -17,17 +17,14 @@ import os
 import random
 import subprocess
 import sys
-import tempfile
-import traceback
 from collections import Counter
 
-from compare_scripts import TOP, WANTED, Case, Differs, keep
+from compare_scripts import TOP, WANTED, Case, Differs, is_same
 from journal import HEAD, SLOT, Refused, Reservation, Settlement, book_of, contents
 from orders import Wrong, blocks_of, check, judged
 from programs import deep
 from random_scripts import blocks_at_random
 from reference import Server, key_words, lines_of
-from runs import TooManySteps
 
 STEPS = 100_000
 SHARE = 100
@@ -203,20 +200,9 @@ def compare(seed, number, came):
     """Whether a case's two sides are the same."""
     rng = random.Random(f"orders {seed} {number}")
     place = f"{TOP}/out" if rng.random() < 0.2 or not os.path.isdir("/dev/shm") else "/dev/shm"
-    with tempfile.TemporaryDirectory(dir=place) as room:
-        os.chdir(room)
-        try:
-            Orders(rng, came).compared()
-            came["cases"] += 1
-        except TooManySteps:
-            came["cut short"] += 1
-        except Exception as fault:
-            print(f"case {number} of seed {seed}: {fault}" if isinstance(fault, (Differs, Wrong, Refused)) else traceback.format_exc())
-            keep(room, f"orders-{seed}-{number}")
-            return False
-        finally:
-            os.chdir(TOP)
-    return True
+    return is_same(
+        place, f"case {number} of seed {seed}", f"orders-{seed}-{number}", came, (Differs, Wrong, Refused), lambda: Orders(rng, came).compared()
+    )
 
 
 def told(seed, came):

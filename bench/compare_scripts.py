@@ -195,22 +195,30 @@ def keep(room, name):
     print(f"  {TOP}/tools/reference.py --catalog cat.json --key key --found beforeN < scriptN")
 
 
-def compare(seed, number, came):
-    """Whether a case's two sides are the same."""
-    with tempfile.TemporaryDirectory(dir="/dev/shm" if os.path.isdir("/dev/shm") else None) as room:
+def is_same(place, what, name, came, differences, compared):
+    """Whether a comparison in a folder of its own there finds none of these differences; where it finds one, the folder is kept under the name."""
+    with tempfile.TemporaryDirectory(dir=place) as room:
         os.chdir(room)
         try:
-            Case(random.Random(f"{seed} {number}"), came).compared()
+            compared()
             came["cases"] += 1
         except TooManySteps:
             came["cut short"] += 1
         except Exception as fault:
-            print(f"case {number} of seed {seed}: {fault}" if isinstance(fault, Differs) else traceback.format_exc())
-            keep(room, f"{seed}-{number}")
+            print(f"{what}: {fault}" if isinstance(fault, differences) else traceback.format_exc())
+            keep(room, name)
             return False
         finally:
             os.chdir(TOP)
     return True
+
+
+def compare(seed, number, came):
+    """Whether a case's two sides are the same."""
+    place = "/dev/shm" if os.path.isdir("/dev/shm") else None
+    return is_same(
+        place, f"case {number} of seed {seed}", f"{seed}-{number}", came, Differs, lambda: Case(random.Random(f"{seed} {number}"), came).compared()
+    )
 
 
 def told(seed, came):
