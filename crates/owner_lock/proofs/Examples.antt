@@ -196,10 +196,10 @@ not_with_more h = let no : ◌≡◌ {A = List ℕ} (5 ∷ 6 ∷ 7 ∷ []) (5 �
 -- ---- the history of a table
 
 -- Nobody has a share twice.
-abbrev twice : State (Option Sheet) (View ℕ ℕ)
+abbrev twice : State Sheet (View ℕ ℕ)
 twice = record {
   words = 1 ∷ 0 ∷ [];
-  homes = some (Some (sheet (5 ∷ []))) ∷ [];
+  homes = some (sheet (5 ∷ [])) ∷ [];
   views = first_view sheets (sheet (5 ∷ [])) ∷ first_view sheets (sheet (5 ∷ [])) ∷ [];
 }
 
@@ -207,8 +207,8 @@ not_a_share_twice : OneHistory sheets twice → ⊥
 not_a_share_twice h = let two : 8589934592 ≡ whole_share = h.shares in omega (arith, two)
 
 -- Of a sheet at home with one note the count is 1.
-abbrev miscounted : State (Option Sheet) (View ℕ ℕ)
-miscounted = record { words = 2 ∷ 0 ∷ []; homes = some (Some (sheet (5 ∷ []))) ∷ []; views = first_view sheets (sheet (5 ∷ [])) ∷ [] }
+abbrev miscounted : State Sheet (View ℕ ℕ)
+miscounted = record { words = 2 ∷ 0 ∷ []; homes = some (sheet (5 ∷ [])) ∷ []; views = first_view sheets (sheet (5 ∷ [])) ∷ [] }
 
 not_another_count : OneHistory sheets miscounted → ⊥
 not_another_count h = by h.phase h.homes h.placed
@@ -216,7 +216,7 @@ not_another_count h = by h.phase h.homes h.placed
     counted : length h.history ≡ 2
     counted = sym (ap (λ ws. get_or ws 0 0) h.words)
 
-    by : (p : Phase Sheet) → some (Some (sheet (5 ∷ []))) ∷ [] ≡ homes_in sheets p → InPhase sheets h.fixed h.history miscounted.views p → ⊥
+    by : (p : Phase Sheet) → some (sheet (5 ∷ [])) ∷ [] ≡ homes_in sheets p → InPhase sheets h.fixed h.history miscounted.views p → ⊥
     by (home x) at is =
         let here : sheet (5 ∷ []) ≡ x = cc in
         let one : 5 ∷ [] ≡ h.history = ap (λ (s : Sheet). s.notes) here ∙ is.0 in

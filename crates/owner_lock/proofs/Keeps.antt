@@ -1,5 +1,5 @@
 -- Each step keeps the rule.
-use Rattle.std.proofs.Common.{◌≡◌, ℕ, suc, ◌+◌, ◌-◌, ◌/◌, ◌<◌, ◌≤◌, eqb, ◌≢◌, ◌⊎◌, ◌||◌, Bool, true, false, List, [], ◌∷◌, ◌++◌, map, length, get_or, set, sym, refl, ap, ◌∙◌, subst, inl, inr, ⊎_elim, arith, Option, Some, None, slice_get, eq-eqb, length-set, length-append}
+use Rattle.std.proofs.Common.{◌≡◌, ℕ, suc, ◌+◌, ◌-◌, ◌/◌, ◌<◌, ◌≤◌, eqb, ◌≢◌, ◌⊎◌, ◌||◌, Bool, true, false, List, [], ◌∷◌, ◌++◌, map, length, get_or, set, sym, refl, ap, ◌∙◌, subst, inl, inr, ⊎_elim, arith, Some, slice_get, eq-eqb, length-set, length-append}
 use mathlib.Core.Option.{some, none, some-injective, some-ne-none}
 use mathlib.Core.List.{IsPrefix}
 use mathlib.Core.Logic.{dite}
@@ -8,14 +8,14 @@ use Rattle.std.proofs.lemmas.Bool.{lt-ltb, le-ltb}
 use lib.ListN.{get_elem?}
 use prog.Atomic.{either}
 use Rattle.std.specs.Bool.{if◌then◌else◌}
-use Rattle.atomic_table.specs.Table.{State, Me, Act, keeps, takes, gives, step, stepped, Valid, Allows, Splits, Joins, opening, Final, Seen, carried_after}
+use Rattle.atomic_table.specs.Table.{State, Me, Act, keeps, takes, gives, rest, step, stepped, Valid, Allows, Splits, Joins, opening, Final, Seen, carried_after}
 use Rattle.atomic_table.proofs.Lists.{at_set, set_here, set_else, set_again, at_longer, exchanged}
 use Rattle.owner_lock.specs.declared.stands.StandsFor.{Ghosts}
 use Rattle.owner_lock.specs.declared.view.View.{View}
 use Rattle.owner_lock.specs.Entries.{Has, Ascends, longer, merged}
 use Rattle.owner_lock.specs.Jobs.{ComesBack, Knows, Meets, Owes}
 use Rattle.owner_lock.specs.Views.{ClosesIn, IsFreed, IsMarked, MayEnd, Rests, adding, both, first_view, freeing, known_by, left_half, right_half, settled, spent, taking}
-use Rattle.owner_lock.specs.History.{Phase, home, held, total, entries_of, own_of, Below, lock_word, homes_in, shut_in, InPhase, OneHand, Fits, OneHistory, Took, turned, marked, freed, looked}
+use Rattle.owner_lock.specs.History.{Phase, home, held, total, entries_of, own_of, Below, lock_word, homes_in, shut_in, InPhase, OneHand, Fits, OneHistory, Took, turned, warned, marked, freed, looked}
 use Rattle.owner_lock.proofs.Lists.{total_set, total_snoc, total_two, at_within, at_end, at_map_back, prefix_self, prefix_trans, prefix_shorter, prefix_whole, prefix_length, other_than_first, some_at}
 use Rattle.owner_lock.proofs.Logs.{own_added, own_other, own_new, below_more, below_snoc, own_there, own_back, own_left, own_else, own_merged, moved, hand_over, entries_moved, below_moved, append_nil, later_at, later_back, below_at, own_all, own_ascends, entries_snoc, length_entries}
 
@@ -36,7 +36,7 @@ module _ {T E F : Type 0} (k : Ghosts T E F) where
   V = View E F
 
   abbrev St : Type 0
-  St = State (Option T) V
+  St = State T V
 
   abbrev seat_of : Phase T → ℕ
   seat_of (home x) = 0
@@ -75,6 +75,7 @@ module _ {T E F : Type 0} (k : Ghosts T E F) where
         history = r.history;
         log = r.log;
         phase = r.phase;
+        awaited = r.awaited;
         made = r.made;
         words = r.words;
         homes = r.homes;
@@ -114,8 +115,8 @@ module _ {T E F : Type 0} (k : Ghosts T E F) where
       }
 
   -- a load of word 0 changes neither words nor homes
-  same_word : (h : List E) (p : Phase T) (ws : List ℕ) → ws ≡ length h ∷ lock_word k p ∷ [] → set ws 0 (get_or ws 0 0) ≡ length h ∷ lock_word k p ∷ []
-  same_word h p ws e = ap (λ (u : List ℕ). set u 0 (get_or u 0 0)) e
+  same_word : (n m : ℕ) (ws : List ℕ) → ws ≡ n ∷ m ∷ [] → set ws 0 (get_or ws 0 0) ≡ n ∷ m ∷ []
+  same_word n m ws e = ap (λ (u : List ℕ). set u 0 (get_or u 0 0)) e
 
   longer_left : (xs ys h : List E) → IsPrefix xs h → IsPrefix ys h → IsPrefix xs (longer xs ys) × IsPrefix ys (longer xs ys) × IsPrefix (longer xs ys) h
   longer_left xs ys h p q = dite (dec_le (length ys) (length xs))
@@ -139,8 +140,9 @@ module _ {T E F : Type 0} (k : Ghosts T E F) where
           history = r.history;
           log = r.log;
           phase = r.phase;
+          awaited = r.awaited;
           made = r.made;
-          words = same_word r.history r.phase s.words r.words;
+          words = same_word (length r.history) (lock_word k r.awaited r.phase) s.words r.words;
           homes = r.homes;
           legal = r.legal;
           placed = placed_set r.fixed r.history s.views id v (settled v) at (λ t. t) r.phase r.placed;
@@ -189,6 +191,7 @@ module _ {T E F : Type 0} (k : Ghosts T E F) where
         history = r.history;
         log = log;
         phase = r.phase;
+        awaited = r.awaited;
         made = r.made ∙ ap (λ x. r.base ++ x) (sym (entries_moved id other r.log));
         words = r.words;
         homes = r.homes;
@@ -240,13 +243,14 @@ module _ {T E F : Type 0} (k : Ghosts T E F) where
 
   -- the table at the start
   pub opens : (x : T) → k.legal (k.fixed x) (k.history x)
-      → OneHistory k (opening (length (k.history x) ∷ (if k.shut x then 2 else 0) ∷ []) (Some x ∷ []) (first_view k x))
+      → OneHistory k (opening (length (k.history x) ∷ (if k.shut x then 2 else 0) ∷ []) (x ∷ []) (first_view k x))
   opens x legal = record {
     fixed = k.fixed x;
     base = k.history x;
     history = k.history x;
     log = [];
     phase = home x;
+    awaited = false;
     made = sym (append_nil (k.history x));
     words = refl;
     homes = refl;
@@ -305,23 +309,24 @@ module _ {T E F : Type 0} (k : Ghosts T E F) where
             );
       }
 
-  word_at : (h : List E) (p : Phase T) (ws : List ℕ) → ws ≡ length h ∷ lock_word k p ∷ [] → get_or ws 1 0 ≡ lock_word k p
-  word_at h p ws e = ap (λ (u : List ℕ). get_or u 1 0) e
+  word_at : (n m : ℕ) (ws : List ℕ) → ws ≡ n ∷ m ∷ [] → get_or ws 1 0 ≡ m
+  word_at n m ws e = ap (λ (u : List ℕ). get_or u 1 0) e
 
-  count_at : (h : List E) (p : Phase T) (ws : List ℕ) → ws ≡ length h ∷ lock_word k p ∷ [] → get_or ws 0 0 ≡ length h
-  count_at h p ws e = ap (λ (u : List ℕ). get_or u 0 0) e
+  count_at : (n m : ℕ) (ws : List ℕ) → ws ≡ n ∷ m ∷ [] → get_or ws 0 0 ≡ n
+  count_at n m ws e = ap (λ (u : List ℕ). get_or u 0 0) e
 
-  -- a seat that finds the turn taken stays as it is
-  unmoved : (s : St) (r : OneHistory k s) (id : ℕ) (v : V) (cs : List (ℕ × Option T)) → get_elem? s.views id ≡ some v
-      → OneHistory k (stepped s 1 (get_or s.words 1 0) id cs v keeps)
-  unmoved s r id v cs at = record {
+  -- a seat that doesn't get the turn stays as it is
+  unmoved : (s : St) (r : OneHistory k s) (id : ℕ) (v : V) (cs : List (ℕ × T)) (awaited : Bool) (word : ℕ) → get_elem? s.views id ≡ some v
+      → word ≡ lock_word k awaited r.phase → OneHistory k (stepped s 1 word id cs v keeps)
+  unmoved s r id v cs awaited word at is = record {
     fixed = r.fixed;
     base = r.base;
     history = r.history;
     log = r.log;
     phase = r.phase;
+    awaited = awaited;
     made = r.made;
-    words = ap (λ (u : List ℕ). set u 1 (get_or u 1 0)) r.words;
+    words = ap (λ (u : List ℕ). set u 1 word) r.words ∙ ap (λ (n : ℕ). length r.history ∷ n ∷ []) is;
     homes = r.homes;
     legal = r.legal;
     placed = subst (λ (z : List V). InPhase k r.fixed r.history z r.phase) (sym (set_again s.views id v at)) r.placed;
@@ -332,16 +337,43 @@ module _ {T E F : Type 0} (k : Ghosts T E F) where
         (sym (set_again s.views id v at)) r.each;
   }
 
-  taken_now : (s : St) (r : OneHistory k s) (id : ℕ) (v : V) (p : Phase T) → r.phase ≡ p → get_elem? s.views id ≡ some v → 0 < v.share → lock_word k p ≢ 1
-      → (w : V) × (a : Act (Option T)) × Valid s.homes [] a × OneHistory k (stepped s 1 1 id [] w a) × Took k v (w, carried_after [] a)
-  taken_now s r id v (held j b) is at some_share ne = absurd (ne refl)
-  taken_now s r id v (home x) is at some_share ne =
+  -- what word 1 is while a seat has the turn
+  abbrev taken_word : Bool → ℕ
+  taken_word awaited = if awaited then 3 else 1
+
+  taken_or_free : (b : Bool) → taken_word b ≢ 1 → taken_word b ≢ 3 → ⊥
+  taken_or_free true one three = three refl
+  taken_or_free false one three = one refl
+
+  two_or_none : (b : Bool) → ◌≡◌ {A = ℕ} (if b then 2 else 0) 1 → ⊥
+  two_or_none true e = omega (arith, e)
+  two_or_none false e = omega (arith, e)
+
+  when_taken : (p : Phase T) (b : Bool) → lock_word k b p ≡ 1 → 3 ≡ lock_word k true p
+  when_taken (home x) b e = absurd (two_or_none (k.shut x) e)
+  when_taken (held j c) b e = refl
+
+  -- a seat announces that it may sleep
+  pub warns : (slots id : ℕ) (m : Me T V) → Allows (OneHistory k) slots id m 1 (λ n. either (eqb n 1) 3 n) (warned k (step slots 1 1 3 none) m)
+  warns slots id m s r len at small =
+      let n : ℕ = get_or s.words 1 0 in
+      let is : n ≡ lock_word k r.awaited r.phase = word_at (length r.history) (lock_word k r.awaited r.phase) s.words r.words in
+      exchanged n 1 3 (λ (j : ℕ). (w : V) × (a : Act T) × Valid s.homes m.1 a
+      × OneHistory k (stepped s 1 j id m.1 w a) × warned k (step slots 1 1 3 none) m n (w, carried_after m.1 a))
+      (λ e. (m.0, keeps, tt, unmoved s r id m.0 m.1 true 3 at (when_taken r.phase r.awaited (sym is ∙ e)), refl))
+      (λ d. (m.0, keeps, tt, unmoved s r id m.0 m.1 r.awaited n at is, refl))
+
+  taken_now : (s : St) (r : OneHistory k s) (id : ℕ) (v : V) (awaited : Bool) (p : Phase T) → r.phase ≡ p → get_elem? s.views id ≡ some v → 0 < v.share
+      → lock_word k r.awaited p ≢ 1 → lock_word k r.awaited p ≢ 3
+      → (w : V) × (a : Act T) × Valid s.homes [] a × OneHistory k (stepped s 1 (taken_word awaited) id [] w a) × Took k v (w, carried_after [] a)
+  taken_now s r id v awaited (held j b) is at some_share one three = absurd (taken_or_free r.awaited one three)
+  taken_now s r id v awaited (home x) is at some_share one three =
       let fit = subst (λ (z : Phase T). Fits k r.fixed r.base r.history r.log z id v) is (r.each id v at) in
       let placed = subst (λ (z : Phase T). InPhase k r.fixed r.history s.views z) is r.placed in
-      let homes : s.homes ≡ some (Some x) ∷ [] = r.homes ∙ ap (homes_in k) is in
+      let homes : s.homes ≡ some x ∷ [] = r.homes ∙ ap (homes_in k) is in
       let w : V = taking k v x in (
         w,
-        takes 0 (Some x),
+        takes 0 x,
         ap (λ hs. get_elem? hs 0) homes,
         record {
           fixed = r.fixed;
@@ -349,8 +381,9 @@ module _ {T E F : Type 0} (k : Ghosts T E F) where
           history = r.history;
           log = r.log;
           phase = held id (k.shut x);
+          awaited = awaited;
           made = r.made;
-          words = ap (λ (u : List ℕ). set u 1 1) r.words;
+          words = ap (λ (u : List ℕ). set u 1 (taken_word awaited)) r.words;
           homes = ap (λ hs. set hs 0 none) homes;
           legal = r.legal;
           placed = (w, set_here s.views id w (at_within s.views id v at), refl);
@@ -381,30 +414,29 @@ module _ {T E F : Type 0} (k : Ghosts T E F) where
         (x, refl, refl, met r.fixed r.base r.history r.log id v x r.made r.legal r.one_hand fit some_share placed.0 placed.1),
       )
 
-  turns_at : (slots id free : ℕ) (v : V) → 0 < v.share → free ≢ 1
-      → Allows (OneHistory k) slots id (v, []) 1 (λ n. either (eqb n free) 1 n) (turned k (step slots 1 free 1 none) (v, []))
-  turns_at slots id free v some_share ne s r len at small =
+  turns_at : (slots id free : ℕ) (awaited : Bool) (v : V) → 0 < v.share → free ≢ 1 → free ≢ 3
+      → Allows (OneHistory k) slots id (v, []) 1 (λ n. either (eqb n free) (taken_word awaited) n) (turned k (step slots 1 free (taken_word awaited) none) (v, []))
+  turns_at slots id free awaited v some_share one three s r len at small =
       let n : ℕ = get_or s.words 1 0 in
-      exchanged n free 1 (λ (m : ℕ). (w : V) × (a : Act (Option T)) × Valid s.homes [] a
-      × OneHistory k (stepped s 1 m id [] w a) × turned k (step slots 1 free 1 none) (v, []) n (w, carried_after [] a))
-      (λ e. let t = taken_now s r id v r.phase refl at some_share (λ h. ne (sym e ∙ (word_at r.history r.phase s.words r.words ∙ h))) in
+      let is : n ≡ lock_word k r.awaited r.phase = word_at (length r.history) (lock_word k r.awaited r.phase) s.words r.words in
+      exchanged n free (taken_word awaited) (λ (m : ℕ). (w : V) × (a : Act T) × Valid s.homes [] a
+      × OneHistory k (stepped s 1 m id [] w a) × turned k (step slots 1 free (taken_word awaited) none) (v, []) n (w, carried_after [] a))
+      (λ e. let t = taken_now s r id v awaited r.phase refl at some_share (λ h. one (sym e ∙ (is ∙ h))) (λ h. three (sym e ∙ (is ∙ h))) in
       (t.0, t.1, t.2, t.3, ((λ _. t.4), (λ d. absurd (d e)))))
-      (λ d. (v, keeps, tt, unmoved s r id v [] at, ((λ e. absurd (d e)), λ _. refl)))
+      (λ d. (v, keeps, tt, unmoved s r id v [] r.awaited n at is, ((λ e. absurd (d e)), λ _. refl)))
 
-  pub turns : (slots id free : ℕ) (m : Me (Option T) V) → m.1 ≡ [] → 0 < m.0.share → free ≢ 1
-      → Allows (OneHistory k) slots id m 1 (λ n. either (eqb n free) 1 n) (turned k (step slots 1 free 1 none) m)
-  turns slots id free m e some_share ne =
-      subst (λ (cs : List (ℕ × Option T)). Allows (OneHistory k) slots id (m.0, cs) 1 (λ n. either (eqb n free) 1 n) (turned k (step slots 1 free 1 none) (m.0, cs))) (sym e) (turns_at slots id free m.0 some_share ne)
+  pub turns : (slots id free : ℕ) (awaited : Bool) (m : Me T V) → m.1 ≡ [] → 0 < m.0.share → free ≢ 1 → free ≢ 3
+      → Allows (OneHistory k) slots id m 1 (λ n. either (eqb n free) (taken_word awaited) n) (turned k (step slots 1 free (taken_word awaited) none) m)
+  turns slots id free awaited m e some_share one three =
+      subst (λ (cs : List (ℕ × T)). Allows (OneHistory k) slots id (m.0, cs) 1 (λ n. either (eqb n free) (taken_word awaited) n)
+      (turned k (step slots 1 free (taken_word awaited) none) (m.0, cs))) (sym e) (turns_at slots id free awaited m.0 some_share one three)
 
-  same_state : (y z : T) → some (Some y) ≡ some (Some z) → y ≡ z
-  same_state y z e = cc
-
-  abbrev slot_of : Option T → List (ℕ × Option T) → Option T
+  abbrev slot_of : T → List (ℕ × T) → T
   slot_of d [] = d
   slot_of d (x ∷ xs) = x.1
 
-  pub held_state : (y z : T) → ◌≡◌ {A = List (ℕ × Option T)} ((0, Some y) ∷ []) ((0, Some z) ∷ []) → y ≡ z
-  held_state y z e = let h : Some y ≡ Some z = ap (slot_of None) e in cc
+  pub held_state : (y z : T) → ◌≡◌ {A = List (ℕ × T)} ((0, y) ∷ []) ((0, z) ∷ []) → y ≡ z
+  held_state y z e = ap (slot_of y) e
 
   more_placed : (f : F) (h h' : List E) (vs : List V) (p : Phase T) (j : ℕ) (b : Bool) → p ≡ held j b → InPhase k f h vs p → InPhase k f h' vs p
   more_placed f h h' vs (home x) j b e i = false_true (ap is_held e)
@@ -441,7 +473,7 @@ module _ {T E F : Type 0} (k : Ghosts T E F) where
     alone : (j : ℕ) (b : Bool) → j ≢ id → r.phase ≡ held j b → ⊥
     alone j b ne e = ne (ap seat_of (sym e ∙ (mine.turn turn).0))
 
-    pub marks_at : (cs : List (ℕ × Option T)) (y : T) (e : E) → Some (k.fixed y) ≡ v.fixed → k.legal (k.fixed y) (k.history y)
+    pub marks_at : (cs : List (ℕ × T)) (y : T) (e : E) → Some (k.fixed y) ≡ v.fixed → k.legal (k.fixed y) (k.history y)
         → k.history y ≡ v.seen ++ e ∷ [] → ClosesIn k v e
         → OneHistory k (stepped s 0 (length (k.history y)) id cs (adding v e) keeps)
     marks_at cs y e fixed legal adds closes =
@@ -459,8 +491,9 @@ module _ {T E F : Type 0} (k : Ghosts T E F) where
           history = h;
           log = log;
           phase = r.phase;
+          awaited = r.awaited;
           made = ap (λ (z : List E). z ++ e ∷ []) r.made ∙ sym (entries_snoc r.base r.log id e);
-          words = ap (λ (u : List ℕ). set u 0 (length (k.history y))) r.words ∙ ap (λ (z : List E). length z ∷ lock_word k r.phase ∷ []) grown;
+          words = ap (λ (u : List ℕ). set u 0 (length (k.history y))) r.words ∙ ap (λ (z : List E). length z ∷ lock_word k r.awaited r.phase ∷ []) grown;
           homes = r.homes;
           legal = subst (λ (z : F × List E). k.legal z.0 z.1) (λ i. (f i, grown i)) legal;
           placed = more_placed r.fixed r.history h (set s.views id (adding v e)) r.phase id v.shut t.0
@@ -498,7 +531,7 @@ module _ {T E F : Type 0} (k : Ghosts T E F) where
         }
 
     pub frees_at : (y : T) → Some (k.fixed y) ≡ v.fixed → k.history y ≡ v.seen → (v.shut ≡ true → k.shut y ≡ true)
-        → OneHistory k (stepped s 1 (if k.shut y then 2 else 0) id ((0, Some y) ∷ []) (freeing k v y) gives)
+        → OneHistory k (stepped s 1 (if k.shut y then 2 else 0) id ((0, y) ∷ []) (freeing k v y) gives)
     frees_at y fixed same shut =
         let t = mine.turn turn in
         let alive = mine.alive alive_here in
@@ -508,9 +541,10 @@ module _ {T E F : Type 0} (k : Ghosts T E F) where
           history = r.history;
           log = r.log;
           phase = home y;
+          awaited = false;
           made = r.made;
           words = ap (λ (u : List ℕ). set u 1 (if k.shut y then 2 else 0)) r.words;
-          homes = ap (λ hs. set hs 0 (some (Some y))) (r.homes ∙ ap (homes_in k) t.0);
+          homes = ap (λ hs. set hs 0 (some y)) (r.homes ∙ ap (homes_in k) t.0);
           legal = r.legal;
           placed = (same ∙ t.1, some_fixed (k.fixed y) r.fixed (fixed ∙ alive.0));
           shares = (let b = total_set (λ (u : V). u.share) s.views id v (freeing k v y) at in let d = r.shares in omega arith);
@@ -538,34 +572,34 @@ module _ {T E F : Type 0} (k : Ghosts T E F) where
               });
         }
 
-  pub marks : (slots id : ℕ) (v : V) (y : T) (old new : ℕ) → v.turn ≡ true → old ≡ length v.seen → new ≡ length (k.history y) → old < new → MayEnd k v y
-      → Allows (OneHistory k) slots id (v, (0, None) ∷ []) 0 (λ n. either (eqb n old) new n)
-      (marked k (step slots 0 old new (some (Some y))) (v, (0, None) ∷ []))
-  marks slots id v y old new turn is long lt ends s r len at small =
+  pub marks : (slots id : ℕ) (m : Me T V) (y : T) (old new : ℕ) → m.1 ≡ (0, y) ∷ [] → m.0.turn ≡ true → old ≡ length m.0.seen → new ≡ length (k.history y)
+      → old < new → MayEnd k m.0 y → Allows (OneHistory k) slots id m 0 (λ n. either (eqb n old) new n) (marked k (step slots 0 old new none) m)
+  marks slots id m y old new slot turn is long lt ends s r len at small =
+      let v : V = m.0 in
       let t = (r.each id v at).turn turn in
       let n : ℕ = get_or s.words 0 0 in
-      let found : n ≡ old = count_at r.history r.phase s.words r.words ∙ (ap length (sym t.1) ∙ sym is) in
+      let found : n ≡ old = count_at (length r.history) (lock_word k r.awaited r.phase) s.words r.words ∙ (ap length (sym t.1) ∙ sym is) in
       ⊎_elim
       (λ (same : k.history y ≡ v.seen). let a = ap length same in absurd (omega arith))
       (λ (more : (e : E) × (k.history y ≡ v.seen ++ e ∷ []) × ClosesIn k v e). (
         adding v more.0,
         keeps,
         tt,
-        subst (λ (b : Bool). OneHistory k (stepped s 0 (either b new n) id ((0, None) ∷ []) (adding v more.0) keeps)) (sym (eq-eqb n old found))
-            (subst (λ (m : ℕ). OneHistory k (stepped s 0 m id ((0, None) ∷ []) (adding v more.0) keeps)) (sym long)
-            (marks_at s r id v at turn ((0, None) ∷ []) y more.0 ends.fixed ends.legal more.1 more.2)),
-        (refl, λ z e. (more.0, subst (λ (x : T). k.history x ≡ v.seen ++ more.0 ∷ []) (same_state y z e) more.1, refl)),
+        subst (λ (b : Bool). OneHistory k (stepped s 0 (either b new n) id m.1 (adding v more.0) keeps)) (sym (eq-eqb n old found))
+            (subst (λ (j : ℕ). OneHistory k (stepped s 0 j id m.1 (adding v more.0) keeps)) (sym long)
+            (marks_at s r id v at turn m.1 y more.0 ends.fixed ends.legal more.1 more.2)),
+        (refl, λ z e. (more.0, subst (λ (x : T). k.history x ≡ v.seen ++ more.0 ∷ []) (held_state y z (sym slot ∙ e)) more.1, refl)),
       ))
       ends.adds
 
   frees_with : (slots id : ℕ) (v : V) (y : T) (word : ℕ) → v.turn ≡ true → word ≡ (if k.shut y then 2 else 0) → Some (k.fixed y) ≡ v.fixed
       → k.history y ≡ v.seen → (v.shut ≡ true → k.shut y ≡ true)
-      → Allows (OneHistory k) slots id (v, (0, Some y) ∷ []) 1 (λ _. word) (λ _. freed k (step slots 1 word 0 none) (v, (0, Some y) ∷ []) word)
+      → Allows (OneHistory k) slots id (v, (0, y) ∷ []) 1 (λ _. word) (freed k (step slots 1 word 0 none) (v, (0, y) ∷ []))
   frees_with slots id v y word turn is fixed same shut s r len at small = (
     freeing k v y,
     gives,
     tt,
-    subst (λ (m : ℕ). OneHistory k (stepped s 1 m id ((0, Some y) ∷ []) (freeing k v y) gives))
+    subst (λ (m : ℕ). OneHistory k (stepped s 1 m id ((0, y) ∷ []) (freeing k v y) gives))
         (sym is) (frees_at s r id v at turn y fixed same shut),
     (refl, λ z e. ap (freeing k v) (held_state y z e)),
   )
@@ -588,13 +622,20 @@ module _ {T E F : Type 0} (k : Ghosts T E F) where
       ))
       m
 
-  pub frees : (slots id : ℕ) (m : Me (Option T) V) (v w : V) (y : T) (word : ℕ) → m ≡ (w, (0, Some y) ∷ []) → v.turn ≡ true
+  pub frees : (slots id : ℕ) (m : Me T V) (v w : V) (y : T) (word : ℕ) → m ≡ (w, (0, y) ∷ []) → v.turn ≡ true
       → word ≡ (if k.shut y then 2 else 0) → MayEnd k v y → IsMarked k v y w
-      → Allows (OneHistory k) slots id m 1 (λ _. word) (λ _. freed k (step slots 1 word 0 none) m word)
+      → Allows (OneHistory k) slots id m 1 (λ _. word) (freed k (step slots 1 word 0 none) m)
   frees slots id m v w y word e turn is ends marks =
       let r = ready v w y turn ends marks in
-      subst (λ (z : Me (Option T) V). Allows (OneHistory k) slots id z 1 (λ _. word) (λ _. freed k (step slots 1 word 0 none) z word))
+      subst (λ (z : Me T V). Allows (OneHistory k) slots id z 1 (λ _. word) (freed k (step slots 1 word 0 none) z))
       (sym e) (frees_with slots id w y word r.0 is r.1 r.2 r.3)
+
+  -- what a seat holds that took the turn
+  pub holds : (v : V) (m : Me T V) (x : T) → Took k v m → m.1 ≡ (0, x) ∷ rest m.1 → (m.0 ≡ taking k v x) × (rest m.1 ≡ []) × Meets k (known_by v) x
+  holds v m x took is =
+      let none_left : rest m.1 ≡ [] = ap rest took.2 in
+      let same : took.0 ≡ x = held_state took.0 x (sym took.2 ∙ (is ∙ ap (λ (cs : List (ℕ × T)). (0, x) ∷ cs) none_left)) in
+      (took.1 ∙ ap (taking k v) same, none_left, subst (Meets k (known_by v)) same took.3)
 
   -- a state that a job left may end the hold
   pub ends : (v : V) (x y : T) → Meets k (known_by v) x → Owes k (known_by v) x y → MayEnd k (taking k v x) y
@@ -620,6 +661,12 @@ module _ {T E F : Type 0} (k : Ghosts T E F) where
       })
       done
 
+  pub rests_again : (v : V) (x y : T) (w : V) → Rests v → IsFreed k (taking k v x) y w → Rests w
+  rests_again v x y w rests done = ⊎_elim
+      (λ (t : (k.history y ≡ k.history x) × (w ≡ freeing k (taking k v x) y)). subst Rests (sym t.1) (rests.0, refl, rests.2))
+      (λ (t : (z : E) × (k.history y ≡ k.history x ++ z ∷ []) × (w ≡ freeing k (adding (taking k v x) z) y)). subst Rests (sym t.2) (rests.0, refl, rests.2))
+      done
+
   module _ (s : St) (r : OneHistory k s) (id : ℕ) (v : V) (at : get_elem? s.views id ≡ some v) (rests : v.turn ≡ false) (whole : v.share ≡ 4294967296) where
     -- another view has no share left
     nothing : (j : ℕ) (u : V) → j ≢ id → get_elem? s.views j ≡ some u → (u.own ≡ []) × (u.turn ≡ false)
@@ -631,7 +678,7 @@ module _ {T E F : Type 0} (k : Ghosts T E F) where
         let none_own : own_of a.0 (length r.base) r.log ≡ [] = sym (r.each a.0 u.0 u.1).own ∙ (nothing a.0 u.0 ne u.1).0 in
         absurd (subst (Has (length r.base + i, a.1)) none_own (own_back a.0 (length r.base) i a.1 r.log e)))
 
-    closed_in : (p : Phase T) → r.phase ≡ p → (x : T) × (s.homes ≡ some (Some x) ∷ []) × ComesBack k (known_by v) x
+    closed_in : (p : Phase T) → r.phase ≡ p → (x : T) × (s.homes ≡ some x ∷ []) × ComesBack k (known_by v) x
     closed_in (held j b) is =
         let i = subst (λ (z : Phase T). InPhase k r.fixed r.history s.views z) is r.placed in
         dite (ℕ_discrete j id)
@@ -653,13 +700,10 @@ module _ {T E F : Type 0} (k : Ghosts T E F) where
           },
         )
 
-  pub closes : (id : ℕ) (v : V) (ws : List ℕ) (xs : List (Option T)) (y : Option T) → v.turn ≡ false → v.share ≡ 4294967296
-      → Final (Seen (OneHistory k) id v) ws xs → get_elem? xs 0 ≡ some y → (x : T) × (y ≡ Some x) × ComesBack k (known_by v) x
+  pub closes : (id : ℕ) (v : V) (ws : List ℕ) (xs : List T) (y : T) → v.turn ≡ false → v.share ≡ 4294967296
+      → Final (Seen (OneHistory k) id v) ws xs → get_elem? xs 0 ≡ some y → ComesBack k (known_by v) y
   closes id v ws xs y rests whole final at =
       let s = final.0 in
       let kept = final.1 in
       let c = closed_in s kept.0 id v kept.1 rests whole kept.0.phase refl in
-      (c.0, some-injective y (Some c.0) (sym at ∙ final.4 0 (Some c.0) (ap (λ hs. get_elem? hs 0) c.1)), c.2)
-
-  pub same_some : (x y : T) (o : Option T) → o ≡ Some x → o ≡ Some y → x ≡ y
-  same_some x y o e h = let f : Some x ≡ Some y = sym e ∙ h in cc
+      subst (ComesBack k (known_by v)) (some-injective c.0 y (sym (final.4 0 c.0 (ap (λ hs. get_elem? hs 0) c.1)) ∙ at)) c.2

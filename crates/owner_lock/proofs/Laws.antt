@@ -1,5 +1,5 @@
 -- What the rule says of all seats: each entry that was added under the lock is the own one of just one of them.
-use Rattle.std.proofs.Common.{◌≡◌, ℕ, ◌≤◌, length, sym, ap, ◌∙◌, subst, arith, Option, Some, slice_get}
+use Rattle.std.proofs.Common.{◌≡◌, ℕ, ◌≤◌, length, sym, ap, ◌∙◌, subst, arith, Some, slice_get}
 use mathlib.Core.Option.{some, some-injective}
 use mathlib.Core.List.{IsPrefix}
 use lib.ListN.{get_elem?}
@@ -11,7 +11,7 @@ use Rattle.owner_lock.specs.History.{OneHistory, own_of}
 use Rattle.owner_lock.proofs.Lists.{some_at}
 use Rattle.owner_lock.proofs.Logs.{below_at, later_at, later_back, own_back, own_there}
 
-module _ {T E F : Type 0} (k : Ghosts T E F) (s : State (Option T) (View E F)) (h : OneHistory k s) where
+module _ {T E F : Type 0} (k : Ghosts T E F) (s : State T (View E F)) (h : OneHistory k s) where
   -- What a seat has seen is a beginning of the history.
   pub seen_begins : (j : ℕ) (v : View E F) → get_elem? s.views j ≡ some v → IsPrefix v.seen h.history
   seen_begins j v at = (h.each j v at).seen

@@ -1,9 +1,9 @@
 -- One history for all passes: the rule of the lock's table, and what each kind of step tells.
--- Word 0 counts the history. Word 1 is 1 while a seat has the turn, else 2 where the state is shut, else 0. Slot 0 has the state.
-use Rattle.std.specs.Prelude.{◌≡◌, ◌≢◌, ℕ, ◌+◌, ◌<◌, Bool, true, false, if◌then◌else◌, ◌==◌, List, [], ◌∷◌, ◌++◌, map, length, Option, Some}
+-- Word 0 counts the history. Word 1 is 1 while a seat has the turn, or 3 where another may sleep until it ends; else 2 where the state
+-- is shut, else 0. Slot 0 has the state.
+use Rattle.std.specs.Prelude.{◌≡◌, ◌≢◌, ℕ, ◌+◌, ◌<◌, Bool, true, false, if◌then◌else◌, ◌==◌, List, [], ◌∷◌, ◌++◌, map, length, Some}
 use mathlib.Core.List.{IsPrefix}
-use mathlib.Core.Option.{some, none}
-use mathlib.Core.Option as maybe
+use mathlib.Core.Option.{Option, some, none}
 use lib.ListN.{get_elem?}
 use Rattle.atomic_table.specs.Table.{State, Me, Step, rest}
 use Rattle.owner_lock.specs.declared.stands.StandsFor.{Ghosts}
@@ -37,12 +37,12 @@ Below n [] = Unit {0}
 Below n (x ∷ xs) = (x.0 < n) × Below n xs
 
 module _ {T E F : Type 0} (k : Ghosts T E F) where
-  abbrev pub lock_word : Phase T → ℕ
-  lock_word (home x) = if k.shut x then 2 else 0
-  lock_word (held j b) = 1
+  abbrev pub lock_word : (awaited : Bool) → Phase T → ℕ
+  lock_word awaited (home x) = if k.shut x then 2 else 0
+  lock_word awaited (held j b) = if awaited then 3 else 1
 
-  abbrev pub homes_in : Phase T → List (maybe.Option (Option T))
-  homes_in (home x) = some (Some x) ∷ []
+  abbrev pub homes_in : Phase T → List (Option T)
+  homes_in (home x) = some x ∷ []
   homes_in (held j b) = none ∷ []
 
   abbrev pub shut_in : Phase T → Bool
@@ -68,14 +68,15 @@ module _ {T E F : Type 0} (k : Ghosts T E F) where
     pub shut : v.shut ≡ true → shut_in phase ≡ true
 
   -- There is one legal history, of which every seat knows a beginning; each entry behind the base is one seat's own.
-  pub record OneHistory (s : State (Option T) (View E F)) : Type 0 where
+  pub record OneHistory (s : State T (View E F)) : Type 0 where
     pub fixed : F
     pub base : List E
     pub history : List E
     pub log : List (ℕ × E)
     pub phase : Phase T
+    pub awaited : Bool
     pub made : history ≡ base ++ entries_of log
-    pub words : s.words ≡ length history ∷ lock_word phase ∷ []
+    pub words : s.words ≡ length history ∷ lock_word awaited phase ∷ []
     pub homes : s.homes ≡ homes_in phase
     pub legal : k.legal fixed history
     pub placed : InPhase fixed history s.views phase
@@ -85,21 +86,25 @@ module _ {T E F : Type 0} (k : Ghosts T E F) where
     pub each : (j : ℕ) (v : View E F) → get_elem? s.views j ≡ some v → Fits fixed base history log phase j v
 
   abbrev pub Mine : Type 0
-  Mine = Me (Option T) (View E F)
+  Mine = Me T (View E F)
 
   -- The turn came, with the state.
   abbrev pub Took : View E F → Mine → Type 0
-  Took v m = (x : T) × (m.0 ≡ taking k v x) × (m.1 ≡ (0, Some x) ∷ []) × Meets k (known_by v) x
+  Took v m = (x : T) × (m.0 ≡ taking k v x) × (m.1 ≡ (0, x) ∷ []) × Meets k (known_by v) x
 
-  abbrev pub turned : Step (Option T) → Mine → ℕ → Mine → Type 0
+  abbrev pub turned : Step T → Mine → ℕ → Mine → Type 0
   turned st m found n = (found ≡ st.first → Took m.0 n) × (found ≢ st.first → n ≡ m)
 
-  -- The state that was announced has one entry more.
-  abbrev pub marked : Step (Option T) → Mine → ℕ → Mine → Type 0
-  marked st m found n = (n.1 ≡ m.1) × ((y : T) → st.said ≡ some (Some y) → (e : E) × (k.history y ≡ m.0.seen ++ e ∷ []) × (n.0 ≡ adding m.0 e))
+  -- Who waits may sleep. It tells the seat nothing.
+  abbrev pub warned : Step T → Mine → ℕ → Mine → Type 0
+  warned st m found n = n ≡ m
 
-  abbrev pub freed : Step (Option T) → Mine → ℕ → Mine → Type 0
-  freed st m found n = (n.1 ≡ rest m.1) × ((y : T) → m.1 ≡ (0, Some y) ∷ [] → n.0 ≡ freeing k m.0 y)
+  -- The state in the seat's slot has one entry more.
+  abbrev pub marked : Step T → Mine → ℕ → Mine → Type 0
+  marked st m found n = (n.1 ≡ m.1) × ((y : T) → m.1 ≡ (0, y) ∷ [] → (e : E) × (k.history y ≡ m.0.seen ++ e ∷ []) × (n.0 ≡ adding m.0 e))
 
-  abbrev pub looked : Step (Option T) → Mine → ℕ → Mine → Type 0
+  abbrev pub freed : Step T → Mine → ℕ → Mine → Type 0
+  freed st m found n = (n.1 ≡ rest m.1) × ((y : T) → m.1 ≡ (0, y) ∷ [] → n.0 ≡ freeing k m.0 y)
+
+  abbrev pub looked : Step T → Mine → ℕ → Mine → Type 0
   looked st m found n = (n.1 ≡ m.1) × (n.0 ≡ settled m.0) × IsPrefix m.0.seen n.0.seen × IsPrefix m.0.told n.0.seen × Ascends 0 n.0.own

@@ -1,6 +1,6 @@
 //! The rule of the lock's table, and what each kind of step tells. These types are for the proofs alone.
 
-ghost use Rattle.owner_lock.specs.History.{OneHistory, freed, looked, marked, turned};
+ghost use Rattle.owner_lock.specs.History.{OneHistory, freed, looked, marked, turned, warned};
 ghost use Rattle.owner_lock.specs.Views.{both, first_view, left_half, right_half, spent};
 
 use crate::stands::StandsFor;
@@ -12,37 +12,44 @@ use std::snapshot::Snapshot;
 /// There is one legal history.
 pub struct Law;
 
-impl<T: StandsFor> TableRule<Option<T>, View<T::Entry, T::Fixed>, Snapshot<T>> for Law {
+impl<T: StandsFor> TableRule<T, View<T::Entry, T::Fixed>, Snapshot<T>> for Law {
     ghost holds = { λ _. OneHistory T.StandsFor };
 
     ghost first = { λ s. first_view T.StandsFor s.value };
 }
 
-/// Word 1 from 0 or 2 to 1.
+/// Word 1 from 0 or 2 to 1 or 3.
 pub struct Turn<T>(PhantomData<T>);
 
-impl<T: StandsFor> Play<Option<T>, View<T::Entry, T::Fixed>> for Turn<T> {
+impl<T: StandsFor> Play<T, View<T::Entry, T::Fixed>> for Turn<T> {
     ghost then = { turned T.StandsFor };
+}
+
+/// Word 1 from 1 to 3.
+pub struct Warn<T>(PhantomData<T>);
+
+impl<T: StandsFor> Play<T, View<T::Entry, T::Fixed>> for Warn<T> {
+    ghost then = { warned T.StandsFor };
 }
 
 /// Word 0 by one up.
 pub struct Mark<T>(PhantomData<T>);
 
-impl<T: StandsFor> Play<Option<T>, View<T::Entry, T::Fixed>> for Mark<T> {
+impl<T: StandsFor> Play<T, View<T::Entry, T::Fixed>> for Mark<T> {
     ghost then = { marked T.StandsFor };
 }
 
 /// Word 1 back to 0 or 2.
 pub struct Free<T>(PhantomData<T>);
 
-impl<T: StandsFor> Play<Option<T>, View<T::Entry, T::Fixed>> for Free<T> {
+impl<T: StandsFor> Play<T, View<T::Entry, T::Fixed>> for Free<T> {
     ghost then = { freed T.StandsFor };
 }
 
 /// A look at word 0.
 pub struct Look<T>(PhantomData<T>);
 
-impl<T: StandsFor> Play<Option<T>, View<T::Entry, T::Fixed>> for Look<T> {
+impl<T: StandsFor> Play<T, View<T::Entry, T::Fixed>> for Look<T> {
     ghost then = { looked T.StandsFor };
 }
 

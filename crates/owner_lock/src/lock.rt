@@ -18,6 +18,6 @@ pub struct NoMemory<T> {
 /// A lock round one state.
 #[derive(Drop)]
 pub struct Owned<T: StandsFor> {
-    pub(crate) table: Table<Option<T>, View<T::Entry, T::Fixed>, Snapshot<T>, Law, Global>,
+    pub(crate) table: Table<T, View<T::Entry, T::Fixed>, Snapshot<T>, Law, Global>,
     ghost sized: { (table.shared.table_id.words ≡ 2) × (table.shared.table_id.slots ≡ 1) },
 }

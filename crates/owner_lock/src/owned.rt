@@ -1,6 +1,6 @@
 //! The lock's calls.
 
-ghost use Rattle.std.specs.Prelude.{◌≡◌, ◌≢◌, ◌<◌, ◌≤◌, ◌∷◌, [], true, length, if◌then◌else◌, IfErr, IfOk, None, Some};
+ghost use Rattle.std.specs.Prelude.{◌≡◌, ◌≢◌, ◌<◌, ◌≤◌, ◌∷◌, [], true, false, length, if◌then◌else◌, IfErr, IfOk};
 ghost use Rattle.std.specs.Fn.{FnOnceReturnsAtMut, FnOnceTakesAtMut};
 ghost use mathlib.Core.List.{IsPrefix};
 ghost use Rattle.owner_lock.specs.Entries.{Ascends};
@@ -10,7 +10,7 @@ ghost use Rattle.owner_lock.specs.Views.{IsFreed, IsMarked, MayEnd, Rests};
 ghost use Rattle.owner_lock.specs.History.{Took};
 ghost use Rattle.owner_lock.specs.Passes.{IsPassOf, IsSameLock, known};
 
-use crate::law::{Free, Halves, Look, Mark, Turn};
+use crate::law::{Free, Halves, Look, Mark, Turn, Warn};
 use crate::lock::{NoMemory, Owned};
 use crate::pass::{Pass, Ticket};
 use crate::stands::StandsFor;
@@ -24,18 +24,30 @@ use std::sync::Wait;
 // How often a caller that waits tries before it sleeps.
 const TRIES: u32 = 100;
 
+// Word 1 while a seat has the turn, and nobody sleeps.
+const TAKEN: u64 = 1;
+
+// Word 1 while a seat has the turn, and another may sleep until it ends.
+const AWAITED: u64 = 3;
+
 // Word 1 while no seat has the turn.
-fn word_of(shut: bool) -> u64
+fn free_word(shut: bool) -> u64
     ensures { result ≡ if shut then 2 else 0 }
 {
     if shut { 2 } else { 0 }
 }
 
-// What word 1 may be changed from.
-fn not_taken(word: u64) -> u64
-    ensures { result ≢ 1 }
+// Word 1 for a seat that takes the turn.
+fn taken_word(awaited: bool) -> u64
+    ensures { result ≡ if awaited then 3 else 1 }
 {
-    if word == 2 { 2 } else { 0 }
+    if awaited { AWAITED } else { TAKEN }
+}
+
+fn is_taken(word: u64) -> bool
+    ensures { result ≡ false → (word ≢ 1) × (word ≢ 3) }
+{
+    word == TAKEN || word == AWAITED
 }
 
 impl<T: StandsFor> Owned<T> {
@@ -46,19 +58,18 @@ impl<T: StandsFor> Owned<T> {
         ensures refused { IfErr result (λ r. r.state ≡ state) }
     {
         let count = state.entries();
-        let word = word_of(state.is_shut());
+        let word = free_word(state.is_shut());
         let about = Snapshot::of(&state);
         let mut slots = Vec::new(alloc);
-        if let Err(failed) = slots.push(Some(state)) {
+        if let Err(failed) = slots.push(state) {
             slots.destroy_empty();
             let AllocFailed { value } = failed;
-            let Some(state) = value else { unreachable!() };
-            return Err(NoMemory { state });
+            return Err(NoMemory { state: value });
         }
         match Table::new(alloc, &[count, word], slots, &about) {
             Ok((table, seat)) => Ok((Owned { table }, Ticket { seat })),
             Err(Refused { mut slots }) => {
-                let Some(Some(state)) = slots.pop() else {
+                let Some(state) = slots.pop() else {
                     unreachable!()
                 };
                 slots.destroy_empty();
@@ -103,95 +114,107 @@ impl<T: StandsFor> Owned<T> {
             × Knows T.StandsFor (known pass.old) x y (known pass.new) }
     {
         self.turn(rt, &mut pass.seat);
-        let mut state = self.take(&mut pass.seat);
+        let state = pass.seat.slot_mut(&self.table.shared, 0);
         let before = state.entries();
-        let result = job(&mut state);
-        self.finish(&mut pass.seat, state, before);
+        let result = job(state);
+        self.finish(&mut pass.seat, before);
         result
     }
 
     // Waits for the turn. The seat then has the slot.
-    fn turn<W: Wait>(&self, rt: &W, seat: &mut Seat<Option<T>, View<T::Entry, T::Fixed>>)
+    fn turn<W: Wait>(&self, rt: &W, seat: &mut Seat<T, View<T::Entry, T::Fixed>>)
         requires here { seat.old.table_id ≡ self.now.table.shared.table_id }
         requires rests { Rests seat.old.me.0 × (seat.old.me.1 ≡ []) }
         ensures here { (seat.new.table_id ≡ seat.old.table_id) × (seat.new.id ≡ seat.old.id) }
         ensures took { Took T.StandsFor seat.old.me.0 seat.new.me }
     {
         let mut tries = 0u32;
+        let mut slept = false;
         for _ in rt.forever() {
-            let free = not_taken(self.table.shared.peek(1));
-            if self
-                .table
-                .shared
-                .compare_exchange::<Turn<T>>(seat, 1, free, 1)
-                == free
-            {
+            if self.try_turn(seat, slept) {
                 return;
             }
             if tries < TRIES {
                 tries += 1;
                 hint::spin_loop();
             } else {
-                self.table.shared.park(rt, 1, 1);
+                self.sleep(rt, seat);
+                slept = true;
+                tries = 0;
             }
         }
         unreachable!()
     }
 
-    // The state, out of its slot.
-    fn take(&self, seat: &mut Seat<Option<T>, View<T::Entry, T::Fixed>>) -> T
+    // Takes the turn, if nobody has it. Who has slept says that others may sleep still: of all who sleep one alone is woken, and its leave
+    // has to wake the next.
+    fn try_turn(&self, seat: &mut Seat<T, View<T::Entry, T::Fixed>>, awaited: bool) -> bool
         requires here { seat.old.table_id ≡ self.now.table.shared.table_id }
-        requires held { (x : T) × (seat.old.me.1 ≡ (0, Some x) ∷ []) }
+        requires rests { Rests seat.old.me.0 × (seat.old.me.1 ≡ []) }
         ensures here { (seat.new.table_id ≡ seat.old.table_id) × (seat.new.id ≡ seat.old.id) }
-        ensures held { (seat.old.me.1 ≡ (0, Some result) ∷ []) × (seat.new.me ≡ (seat.old.me.0, (0, None) ∷ [])) }
+        ensures took { result ≡ true → Took T.StandsFor seat.old.me.0 seat.new.me }
+        ensures not { result ≡ false → seat.new.me ≡ seat.old.me }
     {
-        let held = self.table.shared.exchange(seat, 0, None);
-        let Some(state) = held else { unreachable!() };
-        state
+        let word = self.table.shared.peek(1);
+        if is_taken(word) {
+            return false;
+        }
+        let taken = taken_word(awaited);
+        self.table
+            .shared
+            .compare_exchange::<Turn<T>>(seat, 1, word, taken)
+            == word
     }
 
-    // Counts what was added, gives the state back, and ends the turn.
-    fn finish(&self, seat: &mut Seat<Option<T>, View<T::Entry, T::Fixed>>, state: T, before: u64)
+    // Sleeps until the turn may have ended. The kernel puts to sleep only where word 1 is 3, and it stays 3 until whoever has the turn
+    // ends it and then wakes one; so no wake is missed.
+    fn sleep<W: Wait>(&self, rt: &W, seat: &mut Seat<T, View<T::Entry, T::Fixed>>)
         requires here { seat.old.table_id ≡ self.now.table.shared.table_id }
-        requires held { seat.old.me.1 ≡ (0, None) ∷ [] }
+        ensures here { (seat.new.table_id ≡ seat.old.table_id) × (seat.new.id ≡ seat.old.id) }
+        ensures same { seat.new.me ≡ seat.old.me }
+    {
+        let found = self
+            .table
+            .shared
+            .compare_exchange::<Warn<T>>(seat, 1, TAKEN, AWAITED);
+        if is_taken(found) {
+            self.table.shared.park(rt, 1, AWAITED as u32);
+        }
+    }
+
+    // Counts what was added to the state in the seat's slot, and ends the turn.
+    fn finish(&self, seat: &mut Seat<T, View<T::Entry, T::Fixed>>, before: u64)
+        requires here { seat.old.table_id ≡ self.now.table.shared.table_id }
         requires turn { seat.old.me.0.turn ≡ true }
         requires before { before ≡ length seat.old.me.0.seen }
-        requires ends { MayEnd T.StandsFor seat.old.me.0 state }
+        requires held { (y : T) × (seat.old.me.1 ≡ (0, y) ∷ []) × MayEnd T.StandsFor seat.old.me.0 y }
         ensures here { (seat.new.table_id ≡ seat.old.table_id) × (seat.new.id ≡ seat.old.id) }
-        ensures freed { IsFreed T.StandsFor seat.old.me.0 state seat.new.me.0 }
+        ensures freed { (y : T) → seat.old.me.1 ≡ (0, y) ∷ [] → IsFreed T.StandsFor seat.old.me.0 y seat.new.me.0 }
         ensures empty { seat.new.me.1 ≡ [] }
     {
+        let state = seat.slot_mut(&self.table.shared, 0);
         let after = state.entries();
-        let word = word_of(state.is_shut());
-        let held = Some(state);
-        self.mark(seat, &held, before, after);
-        let none = self.table.shared.exchange(seat, 0, held);
-        let None = none else { unreachable!() };
-        self.table.shared.store::<Free<T>>(seat, 1, word);
-        self.table.shared.wake_one(1);
+        let word = free_word(state.is_shut());
+        self.mark(seat, before, after);
+        if self.table.shared.swap::<Free<T>>(seat, 1, word) == AWAITED {
+            self.table.shared.wake_one(1);
+        }
     }
 
     // Counts the entry that the state has more, if it has one.
-    fn mark(
-        &self,
-        seat: &mut Seat<Option<T>, View<T::Entry, T::Fixed>>,
-        held: &Option<T>,
-        before: u64,
-        after: u64,
-    )
+    fn mark(&self, seat: &mut Seat<T, View<T::Entry, T::Fixed>>, before: u64, after: u64)
         requires here { seat.old.table_id ≡ self.now.table.shared.table_id }
-        requires held { seat.old.me.1 ≡ (0, None) ∷ [] }
         requires turn { seat.old.me.0.turn ≡ true }
-        requires state { (y : T) × (held.now ≡ Some y) × (before ≡ length seat.old.me.0.seen) × (after ≡ length (T.history y))
+        requires held { (y : T) × (seat.old.me.1 ≡ (0, y) ∷ []) × (before ≡ length seat.old.me.0.seen) × (after ≡ length (T.history y))
             × MayEnd T.StandsFor seat.old.me.0 y }
         ensures here { (seat.new.table_id ≡ seat.old.table_id) × (seat.new.id ≡ seat.old.id) }
-        ensures empty { seat.new.me.1 ≡ seat.old.me.1 }
-        ensures marked { (y : T) → held.now ≡ Some y → IsMarked T.StandsFor seat.old.me.0 y seat.new.me.0 }
+        ensures same { seat.new.me.1 ≡ seat.old.me.1 }
+        ensures marked { (y : T) → seat.old.me.1 ≡ (0, y) ∷ [] → IsMarked T.StandsFor seat.old.me.0 y seat.new.me.0 }
     {
         if before < after {
             self.table
                 .shared
-                .compare_exchange_with::<Mark<T>>(seat, 0, before, after, held);
+                .compare_exchange::<Mark<T>>(seat, 0, before, after);
         }
     }
 
@@ -204,9 +227,7 @@ impl<T: StandsFor> Owned<T> {
         let Ticket { seat } = pass;
         let Owned { table } = self;
         let mut closed = table.close_with(seat);
-        let Some(state) = closed.take(0) else {
-            unreachable!()
-        };
+        let state = closed.take(0);
         closed.free();
         state
     }

@@ -10,7 +10,7 @@ use atomic_table::Seat;
 /// A pass of one lock. It names no bound, so that a type with a parameter can hold one.
 #[derive(Drop)]
 pub struct Ticket<T, E, F> {
-    pub(crate) seat: Seat<Option<T>, View<E, F>>,
+    pub(crate) seat: Seat<T, View<E, F>>,
     pub ghost rests: { Rests seat.me.0 },
     pub ghost empty: { seat.me.1 ≡ [] },
 }
