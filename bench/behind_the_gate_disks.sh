@@ -2,8 +2,8 @@
 # Behind a passed gate: ends of the program over real files, streams and journals that no stored run of a crate can have.
 # usage: bench/behind_the_gate_disks.sh    (PROGRAM=FILE tries another build than the proved one)
 # Each row is a run's status and output beside what is wanted, and it ends with status 1 where one differs. As root it also tries files
-# that may not be read, as the user nobody; where there is a C compiler, each call on a journal failing or killed at, and allocations
-# refused. What can't be tried is named.
+# that may not be read, as the user nobody; where there is a C compiler, each call on a journal failing or killed at, what is written to one
+# torn, and allocations refused. What can't be tried is named.
 . "$(dirname "$0")/common.sh"
 need_program
 need_tool python3 python3
@@ -98,11 +98,12 @@ fi
 
 if command -v cc >/dev/null; then
     PROGRAM=$program "$top/bench/failing_disk.py" || passed=1
+    PROGRAM=$program "$top/bench/torn_writes.py" || passed=1
     PROGRAM=$program "$top/bench/refused_memory.sh" >memory.said || passed=1
     grep -c "want of memory" memory.said | sed 's/$/ refused allocations end with 7/'
     grep WRONG memory.said && passed=1
 else
-    echo "not tried, for want of cc: calls on a journal that fail, refused allocations"
+    echo "not tried, for want of cc: calls on a journal that fail, torn writes, refused allocations"
 fi
 if [ $passed = 0 ]; then echo "journals on disks: all as they should be"; else echo "journals on disks: something is WRONG"; fi
 exit $passed

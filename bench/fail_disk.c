@@ -4,8 +4,9 @@
 // STOP=N     the process is killed at call N, in the place of the call; a write has then put half of its bytes
 // SHORT=1    each write of several bytes puts half of them, and says so
 // LOG=FILE   a line for each write, sync and folder made, with its path, in their order; also for a sync of any other folder
+// RECORD=FILE  what each write put and each sync, in their order: `W`, place and size of 8 bytes each and the bytes, and `S`
 // ONLY=WORD  the calls are those on files alone whose path has the word, such as /2.bud
-// The calls are reads and writes at a place, syncs, asking for a length, and opening or making such a file or folder.
+// The calls are reads and writes at a place, syncs, asking for a length, locking, and opening or making such a file or folder.
 #define _GNU_SOURCE
 #include <dlfcn.h>
 #include <errno.h>
@@ -15,12 +16,13 @@
 #include <stdio.h>
 #include <stdlib.h>
 #include <string.h>
+#include <sys/file.h>
 #include <sys/stat.h>
 #include <unistd.h>
 
 static long calls, fail_at, stop_at, fail_all, short_writes;
 static const char *only;
-static FILE *log_file;
+static FILE *log_file, *record_file;
 
 __attribute__((constructor)) static void begin(void) {
     fail_at = getenv("FAIL") ? atol(getenv("FAIL")) : 0;
@@ -29,6 +31,7 @@ __attribute__((constructor)) static void begin(void) {
     short_writes = getenv("SHORT") != 0;
     only = getenv("ONLY");
     log_file = getenv("LOG") ? fopen(getenv("LOG"), "a") : 0;
+    record_file = getenv("RECORD") ? fopen(getenv("RECORD"), "a") : 0;
 }
 
 __attribute__((destructor)) static void end(void) {
@@ -61,6 +64,16 @@ static void note(const char *name, const char *path) {
         fprintf(log_file, "%s %s\n", name, path), fflush(log_file);
 }
 
+static ssize_t recorded(ssize_t put, const void *bytes, off_t place) {
+    if (record_file && put > 0) {
+        unsigned long long head[2] = {(unsigned long long)place, (unsigned long long)put};
+        flockfile(record_file);
+        fputc('W', record_file), fwrite(head, 8, 2, record_file), fwrite(bytes, 1, (size_t)put, record_file), fflush(record_file);
+        funlockfile(record_file);
+    }
+    return put;
+}
+
 // The number of this call, among those of all threads.
 static long numbered(void) { return __atomic_add_fetch(&calls, 1, __ATOMIC_SEQ_CST); }
 
@@ -78,6 +91,7 @@ static int fails(long call) {
 typedef ssize_t (*write_call)(int, const void *, size_t, off_t);
 typedef ssize_t (*read_call)(int, void *, size_t, off_t);
 typedef int (*sync_call)(int);
+typedef int (*lock_call)(int, int);
 typedef int (*open_call)(const char *, int, ...);
 typedef int (*openat_call)(int, const char *, int, ...);
 typedef int (*mkdir_call)(const char *, mode_t);
@@ -93,6 +107,7 @@ static ssize_t writes(const char *name, int file, const void *bytes, size_t size
         note("write", path_of(file));
         if (short_writes && size > 1)
             size /= 2;
+        return recorded(next(file, bytes, size, place), bytes, place);
     }
     return next(file, bytes, size, place);
 }
@@ -111,10 +126,19 @@ static int syncs(const char *name, int file) {
     if (file_counts(file) && fails(numbered()))
         return -1;
     note("sync", path_of(file));
-    return ((sync_call)dlsym(RTLD_NEXT, name))(file);
+    int status = ((sync_call)dlsym(RTLD_NEXT, name))(file);
+    if (record_file && status == 0 && file_counts(file))
+        fputc('S', record_file), fflush(record_file);
+    return status;
 }
 int fsync(int file) { return syncs("fsync", file); }
 int fdatasync(int file) { return syncs("fdatasync", file); }
+
+int flock(int file, int how) {
+    if (file_counts(file) && fails(numbered()))
+        return -1;
+    return ((lock_call)dlsym(RTLD_NEXT, "flock"))(file, how);
+}
 
 static int opens(const char *name, const char *path, int flags, mode_t mode) {
     if (counts(path) && fails(numbered()))

@@ -243,7 +243,7 @@ MADE = [
 NOBODY = "setpriv --reuid 65534 --regid 65534 --clear-groups"
 RIGHTS = [
     (lambda: os.chmod("people.csv", 0o600), AUDIT, 5, ["people.csv: it can't be read: Permission denied for nobody"]),
-    (lambda: os.chmod("journals/0.bud", 0o444), AUDIT, 6, ["disk census", "nobody may not open journals/0.bud to read and write it", "`journals/0.bud` is "
+    (both(lambda: os.chmod("journals", 0o755), lambda: os.chmod("journals/0.bud", 0o444)), AUDIT, 6, ["disk census", "nobody may not open journals/0.bud to read and write it", "`journals/0.bud` is "
         "-r--r--r--, of user 0"]),
     (lambda: os.chmod("journals", 0o700), RUN, 6, ["`journals` is drwx------"]),
     (emptied, INIT, 6, ["disk census", "nobody may not make files in `.`: `.` is drwxr-xr-x"]),

@@ -2,4 +2,6 @@ mod Examples
 pub mod Images
 pub mod Overlaid
 pub mod Pools
+pub mod Stops
+mod StopExamples
 pub mod Told

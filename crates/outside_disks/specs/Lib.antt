@@ -3,3 +3,4 @@ pub mod Failing
 pub mod Laws
 pub mod Memory
 pub mod Shown
+pub mod Stops

@@ -19,3 +19,13 @@ abbrev pub sizes : List Kept → ℕ
 sizes [] = 0
 sizes (Wrote place size ∷ kept) = size + sizes kept
 sizes (Synced ∷ kept) = sizes kept
+
+-- a step that is kept, whose bytes begin these
+abbrev pub first_in : Kept → List ℕ → Step
+first_in (Wrote place size) pool = Written place (take size pool)
+first_in Synced pool = Flushed
+
+-- the bytes of the steps behind it
+abbrev pub rest_in : Kept → List ℕ → List ℕ
+rest_in (Wrote place size) pool = drop size pool
+rest_in Synced pool = pool

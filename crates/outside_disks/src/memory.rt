@@ -5,7 +5,8 @@ ghost use Rattle.fz_outside.specs.Faults.{HasCause, last_count};
 ghost use Rattle.fz_outside.specs.Schedule.{is_listed};
 ghost use Rattle.outside_disks.specs.Disks.{seen, seen_of, noted, overlaid, Gives, MayHaveWritten};
 ghost use Rattle.outside_disks.specs.Disks.Step.{Wrote as Written, Synced as Flushed};
-ghost use Rattle.outside_disks.specs.Memory.{steps_of, sizes};
+ghost use Rattle.outside_disks.specs.Memory.{steps_of, sizes, first_in, rest_in};
+ghost use Rattle.outside_disks.specs.Stops.{filled, left_in, left_next, left_by};
 ghost use Rattle.outside_disks.specs.declared.memory.Kept.TheVariants.{Wrote, Synced};
 
 use crate::disk::Disk;
@@ -45,9 +46,23 @@ pub struct MemDisk<'a> {
     ghost current: { bytes.items ≡ seen start.items (steps_of steps.items written.items) },
 }
 
+/// What a stop makes of the writes since the last sync: of their ranges, and of all behind the end that was synced.
+#[derive(Clone, Copy, Debug, Drop, PartialEq, Eq)]
+pub enum Torn {
+    /// The old bytes, and the old end.
+    Old,
+    /// The new bytes.
+    New,
+    /// `0xFF` in each place.
+    Ones,
+    /// `0xA5` in each place, the byte by which a slot of a journal counts.
+    Gates,
+}
+
 impl<'a> MemDisk<'a> {
     ghost use Rattle.std.specs.Prelude.{[]};
-    ghost use Rattle.outside_disks.specs.Shown.{bytes_in, calls_of, limits_of, failing_of};
+    ghost use Rattle.outside_disks.specs.Disks.{IsImageOf};
+    ghost use Rattle.outside_disks.specs.Shown.{bytes_in, calls_of, limits_of, failing_of, told};
 
     /// A disk with these bytes, all of them stable.
     pub fn new(
@@ -83,6 +98,20 @@ impl<'a> MemDisk<'a> {
         ensures { result.now ≡ bytes_in self.now }
     {
         &self.bytes
+    }
+
+    /// The disk that such a stop leaves, if it comes now: its bytes are all stable, and none of its calls is to fail.
+    pub fn after_stop(&self, alloc: Global, torn: Torn) -> Result<MemDisk<'static>, AllocError>
+        ensures image { IfOk result (λ disk. IfSome (told self.now) (λ t. IsImageOf t (bytes_in disk))) }
+        ensures bytes { IfOk result (λ disk. IfSome (told self.now) (λ t. bytes_in disk ≡ left_by torn t.start t.steps)) }
+        ensures told { IfOk result (λ disk. told disk ≡ Some (record { start = bytes_in disk; steps = [] })) }
+        ensures faults { IfOk result (λ disk. ⟦<MemDisk<'a> as Disk>⟧.faults disk ≡ 0) }
+        ensures calls { IfOk result (λ disk. calls_of disk ≡ 0) }
+        ensures limits { IfOk result (λ disk. limits_of disk ≡ limits_of self.now) }
+        ensures failing { IfOk result (λ disk. failing_of disk ≡ []) }
+    {
+        let left = left_after(alloc, &self.start, &self.steps, &self.written, torn)?;
+        MemDisk::new(alloc, &left, self.limits, &[])
     }
 }
 
@@ -196,6 +225,90 @@ fn fill(bytes: &[u8], place: u64, buf: &mut [u8])
     for i in 0..buf.len() {
         buf[i] = byte_at(bytes, place, i);
     }
+}
+
+// Puts a byte in each place behind the end, up to a place.
+fn pad(bytes: &mut Vec<u8>, end: usize, byte: u8) -> Result<(), AllocError>
+    ensures { OnOk result (bytes.new.items ≡ bytes.old.items ++ replicate (end - vec_len bytes.old) byte) }
+{
+    if bytes.len() < end {
+        bytes.resize(end, byte)?;
+    }
+    Ok(())
+}
+
+// Puts a byte in each place of a range, and in those between the end and it.
+fn spoil(bytes: &mut Vec<u8>, place: usize, size: usize, byte: u8) -> Result<(), AllocError>
+    requires { place + size < 2 ^ 63 }
+    ensures { OnOk result (bytes.new.items ≡ filled bytes.old.items place size byte) }
+{
+    let mut piece = Vec::new(*bytes.allocator());
+    pad(&mut piece, size, byte)?;
+    pad(bytes, place, byte)?;
+    overwrite(bytes, place, &piece)
+}
+
+// What a stop makes of a file in the write of a piece.
+fn tear(left: &mut Vec<u8>, place: usize, piece: &[u8], torn: Torn) -> Result<(), AllocError>
+    requires { place + length piece.now < 2 ^ 63 }
+    ensures { OnOk result (left.new.items ≡ left_in torn left.old.items place piece.now) }
+{
+    match torn {
+        Torn::Old => Ok(()),
+        Torn::New => overwrite(left, place, piece),
+        Torn::Ones => spoil(left, place, piece.len(), 0xff),
+        Torn::Gates => spoil(left, place, piece.len(), 0xa5),
+    }
+}
+
+// One step more, of what is read and of what a stop leaves. Its bytes begin the pool, whose rest is the result.
+fn redo<'p>(
+    read: &mut Vec<u8>,
+    left: &mut Vec<u8>,
+    step: Kept,
+    pool: &'p [u8],
+    torn: Torn,
+) -> Result<&'p [u8], AllocError>
+    requires pooled { sizes (step ∷ []) ≤ length pool.now }
+    requires fits { length (seen read.old.items (first_in step pool.now ∷ [])) < 2 ^ 63 }
+    ensures read { OnOk result (read.new.items ≡ seen read.old.items (first_in step pool.now ∷ [])) }
+    ensures left { OnOk result (left.new.items ≡ left_next torn (first_in step pool.now) read.old.items left.old.items) }
+    ensures rest { IfOk result (λ rest. rest.now ≡ rest_in step pool.now) }
+{
+    match step {
+        Kept::Wrote { place, size } => {
+            let (piece, rest) = pool.split_at(size);
+            overwrite(read, place as usize, piece)?;
+            tear(left, place as usize, piece, torn)?;
+            Ok(rest)
+        }
+        Kept::Synced => {
+            left.clear();
+            left.extend_from_slice(read)?;
+            Ok(pool)
+        }
+    }
+}
+
+// The file that a stop leaves behind these steps.
+fn left_after(
+    alloc: Global,
+    start: &[u8],
+    steps: &[Kept],
+    written: &[u8],
+    torn: Torn,
+) -> Result<Vec<u8>, AllocError>
+    requires pooled { length written.now ≡ sizes steps.now }
+    requires fits { length (seen start.now (steps_of steps.now written.now)) < 2 ^ 63 }
+    ensures { IfOk result (λ left. left.items ≡ left_by torn start.now (steps_of steps.now written.now)) }
+{
+    let mut read = start.to_vec(alloc)?;
+    let mut left = start.to_vec(alloc)?;
+    let mut pool = written;
+    for step in steps {
+        pool = redo(&mut read, &mut left, *step, pool, torn)?;
+    }
+    Ok(left)
 }
 
 impl Disk for MemDisk<'_> {

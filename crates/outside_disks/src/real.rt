@@ -8,7 +8,7 @@ use crate::fault;
 use fz_outside::Failed;
 use std::alloc::{AllocError, Global};
 use std::io::ErrorKind;
-use std::os::unix::fs::FileExt;
+use std::os::unix::fs::{DirBuilderExt, FileExt, OpenOptionsExt};
 use std::{fs, io, rt};
 
 /// Where a file belongs, and how often it has failed as a disk.
@@ -35,7 +35,14 @@ impl FilePlace {
     }
 }
 
+// A journal is for its owner alone to read and write, and its folder for nobody else to look into.
+const FILE_MODE: u32 = 0o600;
+
+const FOLDER_MODE: u32 = 0o700;
+
 /// A file that is read and written. Where it isn't there it is an empty one, and its first write makes it and its folder.
+///
+/// It is locked for as long as it is open, so that no other process has it open as a disk. Such a lock ends with the process.
 #[derive(Drop)]
 pub struct FileDisk<'a, R> {
     rt: &'a R,
@@ -43,7 +50,13 @@ pub struct FileDisk<'a, R> {
     file: Option<fs::File>,
 }
 
-/// Opens the file of this place, if it is there.
+// A file for this process alone, or the error that says that another one has it.
+fn locked(file: fs::File) -> io::Result<fs::File> {
+    file.try_lock()?;
+    Ok(file)
+}
+
+/// Opens the file of this place for this process alone, if it is there.
 pub fn open_file<R: rt::Files<File = fs::File>>(
     rt: &R,
     home: &FilePlace,
@@ -53,7 +66,7 @@ pub fn open_file<R: rt::Files<File = fs::File>>(
         .write(true)
         .open(rt, home.path.as_str())
     {
-        Ok(file) => Ok(Some(file)),
+        Ok(file) => Ok(Some(locked(file)?)),
         Err(e) if e.kind() == ErrorKind::NotFound => Ok(None),
         Err(e) => Err(e),
     }
@@ -106,9 +119,13 @@ fn read_from(file: &Option<fs::File>, place: u64, buf: &mut [u8]) -> io::Result<
     }
 }
 
-// Makes an empty file, and its folder where that isn't there, and syncs what they are in: a stop doesn't lose them.
+// Makes an empty file for this process alone, and its folder where that isn't there, and syncs what they are in: a stop doesn't lose
+// them.
 fn make<R: rt::Files<File = fs::File>>(rt: &R, home: &FilePlace) -> io::Result<fs::File> {
-    match fs::create_dir(rt, home.folder.as_str()) {
+    let made = fs::DirBuilder::new()
+        .mode(FOLDER_MODE)
+        .create(rt, home.folder.as_str());
+    match made {
         Err(e) if e.kind() != ErrorKind::AlreadyExists => return Err(e),
         _ => (),
     }
@@ -117,7 +134,9 @@ fn make<R: rt::Files<File = fs::File>>(rt: &R, home: &FilePlace) -> io::Result<f
         .read(true)
         .write(true)
         .create_new(true)
+        .mode(FILE_MODE)
         .open(rt, home.path.as_str())?;
+    let file = locked(file)?;
     fs::open(rt, home.folder.as_str())?.sync_all()?;
     Ok(file)
 }

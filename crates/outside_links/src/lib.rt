@@ -11,8 +11,8 @@ pub mod gate;
 pub mod link;
 pub mod memory;
 
-// Counts a fault.
-fn fault(count: &mut u64) -> Failed
+/// Counts a fault.
+pub fn fault(count: &mut u64) -> Failed
     ensures later { count.old ≤ count.new }
     ensures risen { HasRisen count.old count.new }
 {

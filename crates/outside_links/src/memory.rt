@@ -90,8 +90,8 @@ impl<'a> MemLink<'a> {
     }
 }
 
-// Begins a call, which fails where it is listed.
-fn begin(schedule: &mut Schedule<'_>) -> Result<(), Failed>
+/// Begins a call, which fails where it is listed.
+pub fn begin(schedule: &mut Schedule<'_>) -> Result<(), Failed>
     ensures listed { is_err result ≡ is_listed schedule.old }
     ensures began { schedule.new ≡ began schedule.old }
     ensures cause { HasCause schedule.old.faults schedule.new.faults (IsErr result) }

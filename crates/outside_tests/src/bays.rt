@@ -6,8 +6,9 @@ use outside_bays::memory::MemBay;
 use outside_bays::real::RealBay;
 use outside_disks::disk::Disk;
 use outside_disks::memory::{Limits, MemDisk};
-use std::fs;
+use std::os::unix::fs::PermissionsExt;
 use std::test::Fail;
+use std::{fs, io, rt};
 
 const LIMITS: Limits = Limits {
     length: 8,
@@ -44,6 +45,28 @@ fn files_of_the_system(rt: HostRuntime) -> Result<(), Fail> {
     assert!(rt; fs::metadata(&rt, "outside_bays_test/1.bud")?.len() == 3);
     fs::remove_dir_all(&rt, "outside_bays_test")?;
     Ok(())
+}
+
+// Whoever has taken a disk has its file alone, and both are for their owner alone.
+#[test]
+fn one_holder_a_file(rt: HostRuntime) -> Result<(), Fail> {
+    let mut bay = RealBay::new(rt.alloc(), &rt, "outside_bays_held", 1)?;
+    let mut other = RealBay::new(rt.alloc(), &rt, "outside_bays_held", 1)?;
+    let mut made = bay.take(0).ok().expect(&rt, "a disk");
+    assert!(rt; made.write_at(0, b"abc") == Ok(()));
+    assert!(rt; other.take(0).is_err());
+    bay.put_back(0, made);
+    let mut found = other.take(0).ok().expect(&rt, "a disk");
+    assert!(rt; found.len() == Ok(3));
+    assert!(rt; bay.take(0).is_err());
+    assert!(rt; mode_of(&rt, "outside_bays_held/0.bud")? == 0o600);
+    assert!(rt; mode_of(&rt, "outside_bays_held")? == 0o700);
+    fs::remove_dir_all(&rt, "outside_bays_held")?;
+    Ok(())
+}
+
+fn mode_of<R: rt::Files>(rt: &R, path: &str) -> io::Result<u32> {
+    Ok(fs::metadata(rt, path)?.permissions().mode() & 0o777)
 }
 
 // A folder of that name can't be opened, and stays as it is.

@@ -141,13 +141,27 @@ fn disk_at<'a, R: rt::Files<File = fs::File>>(
     Ok(FileDisk::new(rt, home, file))
 }
 
+// A device as a disk. It isn't locked: other processes have it, too.
+fn device_at<'a, R: rt::Files<File = fs::File>>(
+    rt: &'a R,
+    alloc: Global,
+    path: &str,
+) -> Result<FileDisk<'a, R>, Fail> {
+    let home = FilePlace::new(alloc, "/dev", "none")?;
+    let device = fs::OpenOptions::new()
+        .read(true)
+        .write(true)
+        .open(rt, path)?;
+    Ok(FileDisk::new(rt, home, Some(device)))
+}
+
 // What the system refuses is a fault, and counts: a write to a full device, and the sync of one that can't be synced.
 #[test]
 fn devices_that_refuse(rt: HostRuntime) -> Result<(), Fail> {
-    let mut full = disk_at(&rt, rt.alloc(), "/dev", "full")?;
+    let mut full = device_at(&rt, rt.alloc(), "/dev/full")?;
     assert!(rt; full.write_at(0, b"x") == Err(Failed));
     assert!(rt; full.fault_count() == 1);
-    let mut null = disk_at(&rt, rt.alloc(), "/dev", "null")?;
+    let mut null = device_at(&rt, rt.alloc(), "/dev/null")?;
     assert!(rt; null.sync() == Err(Failed));
     assert!(rt; null.fault_count() == 1);
     Ok(())
