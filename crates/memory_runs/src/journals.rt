@@ -8,6 +8,7 @@ use fz_outside::sink::{MemSink, Sink};
 use fz_outside::source::{MemSource, Source};
 use outside_bays::bay::Bay;
 use outside_bays::memory::MemBay;
+use outside_disks::failing::{BlipDisk, FuseDisk};
 use outside_disks::memory::{Limits, MemDisk};
 use outside_links::gate::FreeGate;
 use query_server::{Status, run_server};
@@ -109,6 +110,37 @@ pub fn journals_on<'a>(
     }
     Ok(Journals {
         bay: MemBay::new(disks, failing),
+    })
+}
+
+/// A disk in memory that passes so many calls on, or fails one of them.
+pub type CutDisk<'a> = BlipDisk<FuseDisk<MemDisk<'a>>>;
+
+/// A number of calls that no disk of a test comes to.
+pub const NEVER: u64 = u64::MAX;
+
+/// This disk, which fails each call behind so many, and that of the number `failing`.
+pub fn cut_disk(disk: MemDisk<'_>, calls: u64, failing: u64) -> CutDisk<'_> {
+    BlipDisk::new(FuseDisk::new(disk, calls), failing)
+}
+
+/// Disks that are cut, in a bay.
+pub type CutJournals<'a> = Journals<MemBay<'a, CutDisk<'a>>>;
+
+/// These disks for owners 0 and 1, and empty ones for the others, which aren't cut.
+#[tactic(auto, using(crate::proofs::Bays::one_more, crate::proofs::Bays::at_home))]
+pub fn cut_journals<'a>(
+    alloc: Global,
+    first: CutDisk<'a>,
+    second: CutDisk<'a>,
+) -> Result<CutJournals<'a>, AllocError> {
+    let mut disks = vec![in alloc; Some(first), Some(second)]?;
+    for _ in 2..16_usize {
+        let empty = MemDisk::new(alloc, &[], SMALL, &[])?;
+        disks.push(Some(cut_disk(empty, NEVER, NEVER)))?;
+    }
+    Ok(Journals {
+        bay: MemBay::new(disks, &[]),
     })
 }
 
