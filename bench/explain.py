@@ -270,7 +270,6 @@ LINES = [
         "no answer"),
     ("recall 1 exhausted 4", "4096 draws"), ("recall 1 answer 5 4", "answered with 5"), ("left 1 2 3", "1 of 2 millionths"), ("hello mia", "mia speaks"),
     *[(f"status {status}", words) for status, words in enumerate(STATUS_WORDS.split("|"))],
-    ("66", "lock file"), ("69", "couldn't start the program"),
     ("124", "timeout"), ("126", "may not be run"), ("127", "no such program"), ("137", "signal 9"), ("99", "never ends so"),
 ]  # fmt: skip
 NO_LINES = ["no", "no 40 1", "no 15", "no 10", "answer 1 2", "no 33 a b", "journal labour", "foo", "no 010"]

@@ -16,6 +16,7 @@ import select
 import stat
 
 from faults import Fault, Unreadable, bytes_of, catalog_of, check_key, survey_lines, table_of, whoever
+from holders import holders
 from journal import GATE, HEAD, SLOT, Refused, Reservation, book_of, contents, decoded, header
 from journal_changes import House, changes
 from meanings import COMMANDS, STATUSES
@@ -25,6 +26,10 @@ SCRIPT_LIMIT = 2**24
 MOST_TOLD = 10
 IN_SERVICE = "Don't run `init`, which would begin the budget anew: go on as with `damaged`, its budget counts as spent."
 SERVICE = ("init", "run", "audit")
+ONE_PROCESS = (
+    "One process at a time works on a folder of journals, and it keeps them until it ends. Nothing was written. To look at journals beside it, copy them "
+    "by tools/snapshot."
+)
 
 
 # The words.
@@ -448,6 +453,12 @@ def about_disk(command, before):
         if fault:
             yield f"disk {entry['name']}"
             yield about_error(fault, path_of(number))
+            return
+        held = holders(path_of(number))
+        if held:
+            yield f"disk {entry['name']}"
+            yield from held
+            yield ONE_PROCESS
             return
         if command.name == "init" and not was_made(number, entry):
             yield f"disk {entry['name']}"

@@ -7,24 +7,22 @@
 import re
 
 COMMANDS = {
-    "init": "CATALOG KEY", "run": "CATALOG KEY [--workers W] < SCRIPT", "audit": "CATALOG KEY", "check": "CATALOG OWNER FILE",
+    "init": "CATALOG KEY", "run": "CATALOG KEY [--workers W] < SCRIPT",
+    "audit": "CATALOG KEY", "check": "CATALOG OWNER FILE",
     "gap": "CATALOG OWNER CATALOG2 FILE",
 }  # fmt: skip
 STATUSES = {
     0: "all was done; replies of a run may still be refusals, which are the analyst's, but for `no 42` and `no 52`",
-    1: "`check` or `gap` refuses the program, by its line; `init`, `run` and `audit` never end so: the shell couldn't open a file, or `flock -n` found the "
-        "lock taken, and nothing was asked",
+    1: "`check` or `gap` refuses the program, by its line; other commands never end so: the shell couldn't open a file, and nothing was asked",
     2: "the words are no command",
     3: "a file that the words or a catalog names is absent, too long or not what it should be, or OWNER isn't in the catalog, or `gap`'s entries don't fit",
     4: "an owner's journal isn't the one that belongs there; nothing was read of the script",
     5: "a file, standard input or standard output failed; what was written is a part of what was due, or nothing",
-    6: "the disk, or the folder `journals`, failed while an owner's journal was made or opened; nothing was read of the script",
+    6: "the disk, or the folder `journals`, failed while an owner's journal was made or opened, or another process has that journal; nothing was asked",
     7: "memory ran out before anything was answered",
     8: "the script has over 2^24 bytes, and nothing of it was answered",
 }
 ENDINGS = {
-    66: "`flock` couldn't open the lock file, and nothing was asked",
-    69: "`flock` couldn't start the program, which isn't on the path or may not be run; nothing was asked",
     124: "`timeout` ended it: it has written nothing, or a part of what was due; `audit` shows by its reservations what was asked",
     126: "it may not be run; nothing was asked",
     127: "there is no such program on the path; nothing was asked",
@@ -78,7 +76,7 @@ LINES = {
         "is no repair",
     "journal W changed": "the entry of {0}, the analysts, the key or a table isn't what it was when the journal was made, or it is another owner's",
     "journal W exists N": "`init` finds a file of {1} bytes in the place of the journal of {0}",
-    "disk W": "the disk of the journal of {0}, or the folder `journals`, failed",
+    "disk W": "the disk of the journal of {0}, or the folder `journals`, failed, or another process has the journal",
     "bye": "the session ended",
     "hello W": "{0} speaks from here on",
     "answer N V N": "reservation {0} has the noisy value {1}, and took {2} millionths",
@@ -108,4 +106,4 @@ def of_status(status):
         return STATUSES[status]
     if status > 128:
         return f"signal {status - 128} ended it: it has written nothing, or a part of what was due; `audit` shows by its reservations what was asked"
-    return ENDINGS.get(status, "the program never ends so: the shell, `flock` or `timeout` did")
+    return ENDINGS.get(status, "the program never ends so: the shell or `timeout` did")
