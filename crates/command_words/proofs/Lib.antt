@@ -2,7 +2,6 @@ pub mod Numbers
 pub mod Parses
 pub mod Kept
 pub mod Accepted
-pub mod Said
 pub mod Plain
 mod Examples
 pub mod Workers

@@ -3,7 +3,6 @@ mod ExamplesOfForms
 mod ExamplesOfLimits
 pub mod Laws
 pub mod Lists
-mod Made
 pub mod OnLiterals
 pub mod Partitions
 mod Pieces

@@ -8,4 +8,3 @@ pub mod Entries
 pub mod Lawful
 pub mod Catalog
 pub mod Digest
-pub mod Made

@@ -10,8 +10,6 @@ mod failing;
 #[cfg(test)]
 mod limits;
 #[cfg(test)]
-mod lines;
-#[cfg(test)]
 mod links;
 #[cfg(test)]
 mod memory;

@@ -1,5 +1,0 @@
-pub mod Closing
-pub mod Settling
-pub mod Counts
-pub mod Recalls
-mod Examples

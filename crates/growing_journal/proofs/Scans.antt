@@ -1,0 +1,187 @@
+-- Reading one slot of an area after another.
+use Rattle.std.proofs.Common.{◌≡◌, ◌≢◌, ℕ, zero, suc, ◌+◌, ◌-◌, ◌*◌, ◌<◌, ◌≤◌, List, [], ◌∷◌, ◌++◌, length, drop, slice_index, Option, None, Some, refl, sym, ◌∙◌, ap, subst, arith, inl, inr, ⊎_elim, Bool, true, Ok, Err, Vec}
+use Rattle.std.proofs.lemmas.Bool.{cases_lt, cases_eq}
+use Rattle.std.proofs.lemmas.List.{get_or-take, get_or-drop, length_push}
+use Rattle.std.proofs.lemmas.Nat.{pow_pos}
+use Rattle.outside_disks.specs.Disks.{Trace, noted, seen_of, WhereTold}
+use Rattle.outside_disks.specs.Disks.Step.{Synced}
+use Rattle.journal_records.specs.Encoding.{gate}
+use Rattle.journal_records.specs.declared.records.Record.{Record}
+use Rattle.journal_records.specs.declared.records.Header.{Header}
+use Rattle.journal_records.proofs.Shapes.{encoded-gate}
+use Rattle.budget_journal.specs.declared.opening.OpenFault.{OpenFault}
+use Rattle.budget_journal.specs.declared.opening.OpenFault.TheVariants.{DiskFault, NoMemory, NotInitialised, Changed, Damaged}
+use Rattle.budget_journal.specs.Journals.{Layout, slot_place, slot, gate_of, SlotRead, Holds, IsDamaged, FillsSlots, IsFirstDamaged}
+use Rattle.budget_journal.proofs.Slots.{pushed-cases}
+use Rattle.budget_journal.proofs.Scans.{element}
+use Rattle.std.specs.declared.alloc.Global.{Global}
+use Rattle.growing_journal.specs.declared.area.Area.{Area}
+use Rattle.growing_journal.specs.Areas.{area_slots, area_begin, IsArea, area_in, live_area, areas_in, HasGrownHeader, StandsGrown}
+use Rattle.growing_journal.specs.Growth.{Mark}
+use Rattle.growing_journal.specs.Opening.{IsGrownHeaderFault, GrownHeaderRead, IsAreaFault, SlotsScanned, GrownFound, IsGrownOpenFault}
+
+pub slot-gate : (layout : Layout) (bytes : List ℕ) (k : ℕ) → slice_index (slot layout bytes k) 0 ≡ gate_of layout bytes k
+slot-gate layout bytes k = let here : slot_place layout k + 0 ≡ slot_place layout k = omega arith in
+    get_or-take 64 (drop (slot_place layout k) bytes) 0 0 (omega arith) ∙ get_or-drop (slot_place layout k) bytes 0 0 ∙ ap (slice_index bytes) here
+
+pub holds-gate : (layout : Layout) (bytes : List ℕ) (k : ℕ) (r : Record) → Holds (slot layout bytes k) r → gate_of layout bytes k ≡ gate
+holds-gate layout bytes k r holds = sym (slot-gate layout bytes k) ∙ ap (λ (s : List ℕ). slice_index s 0) holds.bytes ∙ encoded-gate r
+
+module _ (layout : Layout) (bytes : List ℕ) (k : ℕ) (records : List Record) (scanned : SlotsScanned layout bytes k records) where
+  within-more : slot_place layout k + 64 ≤ length bytes → (j : ℕ) → j < k + 1 → slot_place layout j + 64 ≤ length bytes
+  within-more within j lt = ⊎_elim
+      (λ here. subst (λ (i : ℕ). slot_place layout i + 64 ≤ length bytes) (sym here) within)
+      (λ other. scanned.within j (omega (arith, other)))
+      (cases_eq j k)
+
+  pub scanned-none : slot_place layout k + 64 ≤ length bytes → gate_of layout bytes k ≢ gate → SlotsScanned layout bytes (k + 1) records
+  scanned-none within shut = record {
+    within = within-more within;
+    counted = omega (arith, scanned.counted);
+    kept = scanned.kept;
+    shut = λ j le lt. ⊎_elim
+        (λ here is. shut (ap (gate_of layout bytes) (sym here) ∙ is))
+        (λ other. scanned.shut j le (omega (arith, other)))
+        (cases_eq j k);
+  }
+
+  pub scanned-some : (r : Record) → length records ≡ k → slot_place layout k + 64 ≤ length bytes → Holds (slot layout bytes k) r
+      → SlotsScanned layout bytes (k + 1) (records ++ r ∷ [])
+  scanned-some r all within holds = record {
+    within = within-more within;
+    counted = omega (arith, length_push records r);
+    kept = λ j next is. ⊎_elim
+        (λ early. scanned.kept j next early)
+        (λ last. subst (λ (i : ℕ). Holds (slot layout bytes i) next) (sym (last.0 ∙ all))
+        (subst (λ (s : Record). Holds (slot layout bytes k) s) (sym last.1) holds))
+        (pushed-cases records r next j is);
+    shut = λ j le lt. absurd (omega (arith, length_push records r));
+  }
+
+  -- an open slot below k holds a record
+  open-below : (j : ℕ) → j < k → gate_of layout bytes j ≡ gate → j < length records
+  open-below j lt is_open = ⊎_elim (λ within. within) (λ past. absurd (scanned.shut j past lt is_open)) (cases_lt j (length records))
+
+  pub sound-below : k ≤ layout.slots → (j : ℕ) → j < k → IsDamaged layout bytes j → ⊥
+  sound-below le j lt (inl torn) = let a = torn.1 in absurd (omega (arith, a, scanned.within j lt))
+  sound-below le j lt (inr (inl beyond)) = let a = beyond.0 in absurd (omega (arith, a))
+  sound-below le j lt (inr (inr (inl unreadable))) =
+      let e = element records j (open-below j lt unreadable.0) in
+      unreadable.1 e.0 (scanned.kept j e.0 e.1)
+  sound-below le j lt (inr (inr (inr behind))) =
+      let within = open-below j lt behind.0 in
+      let earlier : behind.1.0 < j = behind.1.1 in
+      let e = element records behind.1.0 (omega arith) in
+      behind.1.2 (holds-gate layout bytes behind.1.0 e.0 (scanned.kept behind.1.0 e.0 e.1))
+
+  first-damaged : k < layout.slots → IsDamaged layout bytes k → (k < layout.slots) × IsFirstDamaged layout bytes k
+  first-damaged lt damaged = (lt, record { damaged = damaged; first = λ j below. sound-below (omega arith) j below })
+
+  pub torn-off : k < layout.slots → length bytes < slot_place layout k + 64 → (k < layout.slots) × IsFirstDamaged layout bytes k
+  torn-off lt short = first-damaged lt (inl (lt, short))
+
+  unreadable : k < layout.slots → gate_of layout bytes k ≡ gate → ((r : Record) → Holds (slot layout bytes k) r → ⊥)
+      → (k < layout.slots) × IsFirstDamaged layout bytes k
+  unreadable lt is_open none = first-damaged lt (inr (inr (inl (is_open, none))))
+
+  behind-closed : k < layout.slots → gate_of layout bytes k ≡ gate → length records < k → (k < layout.slots) × IsFirstDamaged layout bytes k
+  behind-closed lt is_open fewer = first-damaged lt
+      (inr (inr (inr (is_open, (length records, fewer, scanned.shut (length records) (omega arith) fewer)))))
+
+  pub fills : k ≡ layout.slots → length bytes ≡ layout.size → FillsSlots layout bytes records
+  fills last whole = record {
+    whole = whole;
+    room = omega (arith, scanned.counted);
+    kept = scanned.kept;
+    shut = λ j le lt. scanned.shut j le (omega arith);
+  }
+
+  -- why a slot wasn't read is why the slots weren't
+  pub slot-fault : (closed : Bool) (fault : OpenFault) → k < layout.slots → (closed ≡ true → length records < k) → SlotRead layout bytes k closed (Err fault)
+      → IsAreaFault layout bytes fault
+  slot-fault closed DiskFault lt fewer read = tt
+  slot-fault closed NoMemory lt fewer read = tt
+  slot-fault closed (NotInitialised n) lt fewer read = read
+  slot-fault closed (Changed kept found) lt fewer read = read
+  slot-fault closed (Damaged s) lt fewer read =
+      subst (λ (i : ℕ). (i < layout.slots) × IsFirstDamaged layout bytes i) (sym read.0) (⊎_elim
+      (λ is_closed. behind-closed lt read.1 (fewer is_closed))
+      (λ none. unreadable lt read.1 none)
+      read.2)
+
+pub scanned-start : (layout : Layout) (bytes : List ℕ) → SlotsScanned layout bytes 0 []
+scanned-start layout bytes = record {
+  within = λ j lt. absurd (omega arith);
+  counted = omega arith;
+  kept = λ j r is. absurd cc;
+  shut = λ j le lt. absurd (omega arith);
+}
+
+-- a journal that stands has no damaged slot
+pub sound : (layout : Layout) (bytes : List ℕ) (records : List Record) → FillsSlots layout bytes records → layout.begin + 64 * layout.slots ≤ length bytes
+    → (k : ℕ) → k < layout.slots → IsDamaged layout bytes k → ⊥
+sound layout bytes records filled long k lt = sound-below layout bytes layout.slots records
+    (record { within = λ j below. omega (arith, long, below); counted = filled.room; kept = filled.kept; shut = λ j le below. filled.shut j le below })
+    (omega arith) k lt
+
+-- a live area whose slots are wholly there is in the file
+reaches : (capacity area : ℕ) (bytes : List ℕ) (records : List Record) → IsArea capacity area → 128 ≤ length bytes
+    → SlotsScanned (area_in capacity area (length bytes)) bytes (area_slots capacity area) records → area_begin capacity (suc area) ≤ length bytes
+reaches capacity zero bytes records is long scanned = ⊎_elim
+    (λ some. omega (arith, scanned.within (area_slots capacity 0 - 1) (omega (arith, some)), some))
+    (λ none. omega (arith, none))
+    (cases_lt 0 (area_slots capacity 0))
+reaches capacity (suc area) bytes records is long scanned =
+    let more = is area (omega arith) in
+    let some : 0 < area_slots capacity (suc area) = omega (arith, more, pow_pos (suc area)) in
+    omega (arith, scanned.within (area_slots capacity (suc area) - 1) (omega (arith, some)), some)
+
+pub area-read : (capacity area : ℕ) (bytes : List ℕ) (records : List Record) → IsArea capacity area → 128 ≤ length bytes
+    → SlotsScanned (area_in capacity area (length bytes)) bytes (area_slots capacity area) records
+    → FillsSlots (area_in capacity area (length bytes)) bytes records
+area-read capacity area bytes records is long scanned =
+    let reach = reaches capacity area bytes records is long scanned in
+    fills (area_in capacity area (length bytes)) bytes (area_slots capacity area) records scanned refl (omega (arith, reach))
+
+-- where it is told
+pub told-found : (header : Header) (records : List Record) (mark : Mark) (old new : Option Trace) → header.capacity ≡ mark.capacity → length records ≡ mark.used
+    → new ≡ noted Synced old → ((t : Trace) → old ≡ Some t → StandsGrown header records (seen_of t) × (mark.area ≡ live_area (seen_of t)))
+    → WhereTold (GrownFound header records mark) old new
+told-found header records mark None new capacity used synced stands =
+    subst (λ (o : Option Trace). WhereTold (GrownFound header records mark) None o) (sym synced) tt
+told-found header records mark (Some t) new capacity used synced stands =
+    subst (λ (o : Option Trace). WhereTold (GrownFound header records mark) (Some t) o) (sym synced) (
+      refl,
+      record { stands = (stands t refl).0; stable = λ c image. image },
+      record { capacity = capacity; area = sym (stands t refl).1; used = used },
+    )
+
+-- ---- the header and then the slots
+
+pub header-fault : (header : Header) (bytes : List ℕ) (fault : OpenFault) → IsGrownHeaderFault header bytes fault → IsGrownOpenFault header bytes fault
+header-fault header bytes DiskFault is = tt
+header-fault header bytes NoMemory is = tt
+header-fault header bytes (NotInitialised n) is = is
+header-fault header bytes (Changed kept found) is = is
+header-fault header bytes (Damaged k) is = absurd is
+
+slot-open-fault : (header : Header) (bytes : List ℕ) (fault : OpenFault) → 128 ≤ length bytes → HasGrownHeader header bytes
+    → IsAreaFault (areas_in header bytes) bytes fault → IsGrownOpenFault header bytes fault
+slot-open-fault header bytes DiskFault long head is = tt
+slot-open-fault header bytes NoMemory long head is = tt
+slot-open-fault header bytes (NotInitialised n) long head is = absurd is
+slot-open-fault header bytes (Changed kept found) long head is = absurd is
+slot-open-fault header bytes (Damaged k) long head is = (long, head, is.0, is.1)
+
+module _ (header : Header) (bytes : List ℕ) (size : ℕ) (live : Area) (read : GrownHeaderRead header bytes (Ok (size, live))) where
+  -- what was read of the live area's slots, by the words of the definitions
+  by-header : (P : Layout → Type 0) → P (area_in live.capacity live.number size) → P (areas_in header bytes)
+  by-header P holds = subst (λ (n : ℕ). P (area_in header.capacity (live_area bytes) n)) read.0
+      (subst (λ (a : ℕ). P (area_in header.capacity a size)) read.4 (subst (λ (c : ℕ). P (area_in c live.number size)) read.3 holds))
+
+  pub read-fault : (fault : OpenFault) → IsAreaFault (area_in live.capacity live.number size) bytes fault → IsGrownOpenFault header bytes fault
+  read-fault fault is = slot-open-fault header bytes fault read.1 read.2 (by-header (λ layout. IsAreaFault layout bytes fault) is)
+
+  pub read-records : (records : Vec Record Global) → FillsSlots (area_in live.capacity live.number size) bytes records.items
+      → StandsGrown header records.items bytes × (live.number ≡ live_area bytes)
+  read-records records filled = (record { head = read.2; fills = by-header (λ layout. FillsSlots layout bytes records.items) filled }, read.4)

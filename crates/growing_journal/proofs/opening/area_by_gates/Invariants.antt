@@ -1,0 +1,10 @@
+use Rattle.std.proofs.Common.{◌≡◌}
+use Rattle.growing_journal.proofs.Gates.{GatesRead}
+use Rattle.growing_journal.proofs.opening.area_by_gates.Given as goal
+
+abbrev pub invariant-loop-number : goal.invariant-loop-number
+invariant-loop-number l =
+    record {
+      read : GatesRead l.kept l.number l.live.number l.shut;
+      capacity : l.live.capacity ≡ l.capacity;
+    }

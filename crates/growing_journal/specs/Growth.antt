@@ -1,0 +1,107 @@
+-- From one moment of a disk to a later one: an area more, or a record more, and what a stop leaves.
+use Rattle.std.specs.Prelude.{◌≡◌, ℕ, suc, ◌+◌, ◌*◌, ◌<◌, ◌≤◌, List, [], ◌∷◌, ◌++◌, length, replicate, slice_index}
+use Rattle.outside_disks.specs.Disks.{Trace, after, seen_of, Gives, Only, Passes}
+use Rattle.outside_disks.specs.Disks.Step.{Wrote}
+use Rattle.journal_records.specs.declared.records.Record.{Record}
+use Rattle.journal_records.specs.declared.records.Header.{Header}
+use Rattle.budget_journal.specs.Journals.{slot_place}
+use Rattle.growing_journal.specs.Areas.{area_slots, live_area, areas_in, StandsGrown, IsGrownBeforeOrAfter, IsGrownAtRest}
+
+-- ---- a record more
+
+-- Where a journal is: how much it may hold, its live area, and how many records it has.
+pub record Mark : Type 0 where
+  pub capacity : ℕ
+  pub area : ℕ
+  pub used : ℕ
+
+-- a disk with these records is there
+pub record IsMarked (mark : Mark) (header : Header) (records : List Record) (t : Trace) : Type 0 where
+  pub capacity : header.capacity ≡ mark.capacity
+  pub area : live_area (seen_of t) ≡ mark.area
+  pub used : length records ≡ mark.used
+
+-- A journal that was at rest: with the record after an append that answered Ok, and at each moment before and since with it
+-- or without, while an area was written too.
+abbrev pub GrownAppended : Mark → Record → Mark → Trace → Trace → Type 0
+GrownAppended mark next now t u =
+    (header : Header) (records : List Record) → IsGrownAtRest header records t → IsMarked mark header records t → mark.used < mark.capacity
+    → IsGrownAtRest header (records ++ next ∷ []) u × IsMarked now header (records ++ next ∷ []) u × Passes (IsGrownBeforeOrAfter header records next) t u
+
+-- The same of an append that failed: all that was or may be left has the records from before, with the next one or without.
+abbrev pub GrownAppendFailed : Mark → Record → Trace → Trace → Type 0
+GrownAppendFailed mark next t u =
+    (header : Header) (records : List Record) → IsGrownAtRest header records t → IsMarked mark header records t → mark.used < mark.capacity
+    → Passes (IsGrownBeforeOrAfter header records next) t u
+
+-- ---- a slot that is filled
+
+-- The place is that of the first closed slot.
+abbrev pub IsNextPlace : ℕ → Header → List Record → Trace → Type 0
+IsNextPlace place header records t =
+    (place ≡ slot_place (areas_in header (seen_of t)) (length records)) × (length records < (areas_in header (seen_of t)).slots)
+
+-- The slot there was filled, of the live area, which is the same.
+abbrev pub SlotFilled : ℕ → Record → Trace → Trace → Type 0
+SlotFilled place next t u =
+    (header : Header) (records : List Record) → IsGrownAtRest header records t → IsNextPlace place header records t
+    → IsGrownAtRest header (records ++ next ∷ []) u × (live_area (seen_of u) ≡ live_area (seen_of t)) × Passes (IsGrownBeforeOrAfter header records next) t u
+
+abbrev pub SlotFillFailed : ℕ → Record → Trace → Trace → Type 0
+SlotFillFailed place next t u =
+    (header : Header) (records : List Record) → IsGrownAtRest header records t → IsNextPlace place header records t
+    → Passes (IsGrownBeforeOrAfter header records next) t u
+
+-- ---- an area that is written
+
+-- The first bytes of a file are those of another.
+pub record HasFront (size : ℕ) (old new : List ℕ) : Type 0 where
+  pub long : size ≤ length new
+  pub same : (i : ℕ) → i < size → slice_index new i ≡ slice_index old i
+
+-- Behind an area of so many slots stand the first of another one: each of these slots as it was, and then zeros.
+pub record HasCopy (begin slots count : ℕ) (old new : List ℕ) : Type 0 where
+  pub long : begin + 64 * slots + 64 * count ≤ length new
+  pub copied : (k i : ℕ) → k < slots → k < count → i < 64 → slice_index new (begin + 64 * slots + 64 * k + i) ≡ slice_index old (begin + 64 * k + i)
+  pub zeros : (k i : ℕ) → slots ≤ k → k < count → i < 64 → slice_index new (begin + 64 * slots + 64 * k + i) ≡ 0
+
+-- Slot k behind an area was written: with what the area's slot k holds, or with zeros.
+abbrev pub SlotCopied : (begin slots k : ℕ) → Trace → Trace → Type 0
+SlotCopied begin slots k t u = (bytes : List ℕ) × (length bytes ≡ 64) × (k < slots → Gives (seen_of t) (begin + 64 * k) bytes)
+    × (slots ≤ k → bytes ≡ replicate 64 0) × (u ≡ after (Wrote (begin + 64 * slots + 64 * k) bytes) t)
+
+-- Each file that a stop may have left since then has what stands up to the area's end, and what reads give has the copy.
+abbrev pub AreaCopied : (begin slots count : ℕ) → Trace → Trace → Type 0
+AreaCopied begin slots count t u = begin + 64 * slots ≤ length (seen_of t) → Only (seen_of t) t
+    → Passes (HasFront (begin + 64 * slots) (seen_of t)) t u × HasCopy begin slots count (seen_of t) (seen_of u)
+
+abbrev pub AreaCopyFailed : (begin slots : ℕ) → Trace → Trace → Type 0
+AreaCopyFailed begin slots t u = begin + 64 * slots ≤ length (seen_of t) → Only (seen_of t) t
+    → Passes (HasFront (begin + 64 * slots) (seen_of t)) t u
+
+-- ---- an area more
+
+-- A full live area with fewer slots than the capacity.
+pub record IsFull (capacity area : ℕ) (header : Header) (records : List Record) (t : Trace) : Type 0 where
+  pub rest : IsGrownAtRest header records t
+  pub capacity_is : header.capacity ≡ capacity
+  pub live : live_area (seen_of t) ≡ area
+  pub full : length records ≡ area_slots capacity area
+  pub more : area_slots capacity area < capacity
+
+-- The next area is live, with the same records, and no stop left anything else.
+abbrev pub AreaAdded : (capacity area : ℕ) → Trace → Trace → Type 0
+AreaAdded capacity area t u = (header : Header) (records : List Record) → IsFull capacity area header records t
+    → IsGrownAtRest header records u × (live_area (seen_of u) ≡ suc area) × Passes (StandsGrown header records) t u
+
+abbrev pub AreaAddFailed : (capacity area : ℕ) → Trace → Trace → Type 0
+AreaAddFailed capacity area t u = (header : Header) (records : List Record) → IsFull capacity area header records t → Passes (StandsGrown header records) t u
+
+-- The area with this number is live and has a free slot, with the same records, and no stop left anything else.
+abbrev pub RoomMade : Mark → (area : ℕ) → Trace → Trace → Type 0
+RoomMade mark area t u = (header : Header) (records : List Record) → IsGrownAtRest header records t → IsMarked mark header records t → mark.used < mark.capacity
+    → IsGrownAtRest header records u × (live_area (seen_of u) ≡ area) × (mark.used < area_slots mark.capacity area) × Passes (StandsGrown header records) t u
+
+abbrev pub RoomNotMade : Mark → Trace → Trace → Type 0
+RoomNotMade mark t u = (header : Header) (records : List Record) → IsGrownAtRest header records t → IsMarked mark header records t → mark.used < mark.capacity
+    → Passes (StandsGrown header records) t u

@@ -1,0 +1,5 @@
+pub mod Areas
+pub mod Growth
+pub mod Making
+pub mod Opening
+pub mod Laws

@@ -1,0 +1,238 @@
+//! Opening a journal that grows, which a stop may have left.
+
+ghost use Rattle.std.specs.Prelude.{◌≡◌, ◌≢◌, ◌↔◌, ℕ, ◌+◌, ◌*◌, ◌^◌, ◌<◌, ◌≤◌, Some, List, length, take, drop, IsTrue, IsErrOf, IfOk, IfErr, IfSome, IfNone, OnOk, false};
+ghost use Rattle.std.specs.List.{All};
+ghost use Rattle.fz_outside.specs.Faults.{HasCause};
+ghost use Rattle.outside_disks.specs.Disks.{Trace, seen_of, noted, WhereTold};
+ghost use Rattle.outside_disks.specs.Disks.Step.{Synced};
+ghost use Rattle.journal_records.specs.Encoding.{IsValid};
+ghost use Rattle.budget_journal.specs.declared.opening.OpenFault.TheVariants.{DiskFault};
+ghost use Rattle.budget_journal.specs.Journals.{Layout, slot_place, SlotRead, MayHaveSynced};
+ghost use Rattle.growing_journal.specs.Areas.{area_in, HasGates, IsStray};
+ghost use Rattle.growing_journal.specs.Opening.{GrownHeaderRead, SlotsScanned, IsAreaFault, AreaRead, GrownJournalRead, GrownFound, IsGrownOpenFault, disk_of, used, is_closed, capacity_of, mark_of};
+
+use crate::area::Area;
+use crate::journal::GrowingJournal;
+use crate::making::encode_grown;
+use budget_journal::opening::OpenFault;
+use journal_records::coding::GATE;
+use journal_records::decoding::decode;
+use journal_records::records::{Header, Record};
+use outside_disks::disk::Disk;
+use std::alloc::Global;
+
+// The live area by the gates in a header, where these are in order.
+fn area_by_gates(kept: &[u8; 128], capacity: u32) -> Option<Area>
+    ensures live { IfSome result (λ area. (area.capacity ≡ capacity) × HasGates capacity area.number kept.now) }
+    ensures stray { IfNone result ((n : ℕ) × IsStray capacity kept.now n) }
+{
+    let mut live = Area::first(capacity);
+    let mut shut = false;
+    for number in 1..32 {
+        if kept[96 + number] != GATE {
+            shut = true;
+        } else if shut {
+            // behind one that isn't open
+            return None;
+        } else if live.slots == capacity {
+            // for no area
+            return None;
+        } else {
+            live = live.next();
+        }
+    }
+    Some(live)
+}
+
+// Whether two headers have the same fields.
+fn are_alike(kept: &[u8; 128], found: &[u8; 128]) -> bool
+    ensures { IsTrue result ↔ (take 97 kept.now ≡ take 97 found.now) }
+{
+    kept[..97] == found[..97]
+}
+
+// The length and the live area of a journal with so many bytes, if its header is the wanted one.
+fn judge_header(size: u64, kept: &[u8; 128], header: &Header) -> Result<(u64, Area), OpenFault>
+    requires { 128 ≤ size }
+    ensures judged { (bytes : List ℕ) → size ≡ length bytes → kept.now ≡ take 128 bytes → GrownHeaderRead header.now bytes result }
+    ensures long { IfOk result (λ read. read.0 ≡ size) }
+    ensures same { IfOk result (λ read. read.1.capacity ≡ header.now.capacity) }
+    ensures sound { IsErrOf result DiskFault → ⊥ }
+{
+    if kept[0] != GATE {
+        return Err(OpenFault::NotInitialised { length: size });
+    }
+    let mut found = [0u8; 128];
+    encode_grown(header, &mut found);
+    if !are_alike(kept, &found) {
+        return Err(OpenFault::Changed { kept: *kept, found });
+    }
+    match area_by_gates(kept, header.capacity) {
+        Some(live) => Ok((size, live)),
+        None => Err(OpenFault::Changed { kept: *kept, found }),
+    }
+}
+
+// Syncs, and reads the header. Gives the length and the live area.
+fn read_header<D: Disk>(disk: &mut D, header: &Header) -> Result<(u64, Area), OpenFault>
+    ensures judged { (t : Trace) → D.trace disk.old ≡ Some t → GrownHeaderRead header.now (seen_of t) result }
+    ensures long { IfOk result (λ read. 128 ≤ read.0) }
+    ensures same { IfOk result (λ read. read.1.capacity ≡ header.now.capacity) }
+    ensures synced { OnOk result (D.trace disk.new ≡ noted Synced (D.trace disk.old)) }
+    ensures kept { MayHaveSynced (D.trace disk.old) (D.trace disk.new) }
+    ensures cause { HasCause (D.faults disk.old) (D.faults disk.new) (IsErrOf result DiskFault) }
+    ensures passed { OnOk result (D.faults disk.new ≡ D.faults disk.old) }
+{
+    disk.sync()?;
+    let size = disk.len()?;
+    if size < 128 {
+        return Err(OpenFault::NotInitialised { length: size });
+    }
+    let mut kept = [0u8; 128];
+    disk.read_at(0, &mut kept)?;
+    judge_header(size, &kept, header)
+}
+
+// The record in a slot that was read, if it is open.
+fn judge_slot(slot: u32, bytes: &[u8; 64], closed: bool) -> Result<Option<Record>, OpenFault>
+    ensures judged { (file : List ℕ) (layout : Layout) → slot_place layout slot + 64 ≤ length file → bytes.now ≡ take 64 (drop (slot_place layout slot) file)
+        → SlotRead layout file slot closed result }
+    ensures valid { IfOk result (λ found. IfSome found IsValid) }
+    ensures sound { IsErrOf result DiskFault → ⊥ }
+{
+    if bytes[0] != GATE {
+        return Ok(None);
+    }
+    if closed {
+        return Err(OpenFault::Damaged { slot });
+    }
+    match decode(bytes) {
+        Some(found) => Ok(Some(found)),
+        None => Err(OpenFault::Damaged { slot }),
+    }
+}
+
+// Reads a slot that is wholly there.
+fn read_slot<D: Disk>(
+    disk: &mut D,
+    place: u64,
+    slot: u32,
+    closed: bool,
+) -> Result<Option<Record>, OpenFault>
+    ensures judged { (t : Trace) (layout : Layout) → D.trace disk.old ≡ Some t → place ≡ slot_place layout slot → place + 64 ≤ length (seen_of t)
+        → SlotRead layout (seen_of t) slot closed result }
+    ensures valid { IfOk result (λ found. IfSome found IsValid) }
+    ensures same { D.trace disk.new ≡ D.trace disk.old }
+    ensures cause { HasCause (D.faults disk.old) (D.faults disk.new) (IsErrOf result DiskFault) }
+    ensures passed { OnOk result (D.faults disk.new ≡ D.faults disk.old) }
+{
+    let mut bytes = [0u8; 64];
+    disk.read_at(place, &mut bytes)?;
+    judge_slot(slot, &bytes, closed)
+}
+
+// Adds the record of the next slot of the live area, if it is open.
+fn add_slot<D: Disk>(
+    disk: &mut D,
+    size: u64,
+    live: &Area,
+    slot: u32,
+    records: &mut Vec<Record>,
+) -> Result<(), OpenFault>
+    ensures judged { (t : Trace) (layout : Layout) → D.trace disk.old ≡ Some t → size ≡ length (seen_of t) → live.now.begin ≡ layout.begin → slot < layout.slots
+        → SlotsScanned layout (seen_of t) slot records.old.items
+        → OnOk result (SlotsScanned layout (seen_of t) (slot + 1) records.new.items) × IfErr result (IsAreaFault layout (seen_of t)) }
+    ensures bounded { length records.new.items ≤ length records.old.items + 1 }
+    ensures valid { All IsValid records.old.items → All IsValid records.new.items }
+    ensures same { D.trace disk.new ≡ D.trace disk.old }
+    ensures cause { HasCause (D.faults disk.old) (D.faults disk.new) (IsErrOf result DiskFault) }
+    ensures passed { OnOk result (D.faults disk.new ≡ D.faults disk.old) }
+{
+    let place = live.place(slot);
+    if size < place + 64 {
+        return Err(OpenFault::Damaged { slot });
+    }
+    let closed = records.len() < slot as usize;
+    if let Some(found) = read_slot(disk, place, slot, closed)? {
+        records.push(found)?;
+    }
+    Ok(())
+}
+
+// Reads the live area's slots of a journal with so many bytes, up to the least that is damaged. Takes memory for these alone.
+fn read_slots<D: Disk>(
+    alloc: Global,
+    disk: &mut D,
+    size: u64,
+    live: &Area,
+) -> Result<Vec<Record>, OpenFault>
+    requires { 128 ≤ size }
+    ensures judged { (t : Trace) → D.trace disk.old ≡ Some t → size ≡ length (seen_of t)
+        → AreaRead (area_in live.now.capacity live.now.number size) (seen_of t) result }
+    ensures bounded { IfOk result (λ records. length records.items ≤ live.now.slots) }
+    ensures valid { IfOk result (λ records. All IsValid records.items) }
+    ensures same { D.trace disk.new ≡ D.trace disk.old }
+    ensures cause { HasCause (D.faults disk.old) (D.faults disk.new) (IsErrOf result DiskFault) }
+    ensures passed { OnOk result (D.faults disk.new ≡ D.faults disk.old) }
+{
+    let mut records = Vec::with_capacity(alloc, live.slots as usize)?;
+    for slot in 0..live.slots {
+        add_slot(disk, size, live, slot, &mut records)?;
+    }
+    Ok(records)
+}
+
+// Reads the live area and its records, or says why not.
+fn read_journal<D: Disk>(
+    alloc: Global,
+    disk: &mut D,
+    header: &Header,
+) -> Result<(Area, Vec<Record>), OpenFault>
+    ensures judged { (t : Trace) → D.trace disk.old ≡ Some t → GrownJournalRead header.now (seen_of t) result }
+    ensures capacity { IfOk result (λ read. read.0.capacity ≡ header.now.capacity) }
+    ensures bounded { IfOk result (λ read. length read.1.items ≤ read.0.slots) }
+    ensures valid { IfOk result (λ read. All IsValid read.1.items) }
+    ensures synced { OnOk result (D.trace disk.new ≡ noted Synced (D.trace disk.old)) }
+    ensures kept { MayHaveSynced (D.trace disk.old) (D.trace disk.new) }
+    ensures cause { HasCause (D.faults disk.old) (D.faults disk.new) (IsErrOf result DiskFault) }
+    ensures passed { OnOk result (D.faults disk.new ≡ D.faults disk.old) }
+{
+    let (size, live) = read_header(disk, header)?;
+    let records = read_slots(alloc, disk, size, &live)?;
+    Ok((live, records))
+}
+
+impl<D: Disk> GrowingJournal<D> {
+    /// Opens the journal of this header that a stop may have left. It begins with a sync: what is read is stable.
+    pub fn open(
+        alloc: Global,
+        disk: D,
+        header: &Header,
+    ) -> Result<(GrowingJournal<D>, Vec<Record>), (D, OpenFault)>
+        ensures found { IfOk result (λ opened. WhereTold (GrownFound header.now opened.1.items (mark_of opened.0)) (D.trace disk) (D.trace (disk_of opened.0))) }
+        ensures open { IfOk result (λ opened. is_closed opened.0 ≡ false) }
+        ensures counted { IfOk result (λ opened. used opened.0 ≡ length opened.1.items) }
+        ensures capacity { IfOk result (λ opened. capacity_of opened.0 ≡ header.now.capacity) }
+        ensures room { IfOk result (λ opened. length opened.1.items ≤ header.now.capacity) }
+        ensures valid { IfOk result (λ opened. All IsValid opened.1.items) }
+        ensures passed { IfOk result (λ opened. D.faults (disk_of opened.0) ≡ D.faults disk) }
+
+        ensures refused { IfErr result (λ refused. (t : Trace) → D.trace disk ≡ Some t → IsGrownOpenFault header.now (seen_of t) refused.1) }
+        ensures kept { IfErr result (λ refused. MayHaveSynced (D.trace disk) (D.trace refused.0)) }
+        ensures cause { IfErr result (λ refused. HasCause (D.faults disk) (D.faults refused.0) (refused.1 ≡ DiskFault)) }
+    {
+        let mut disk = disk;
+        match read_journal(alloc, &mut disk, header) {
+            Ok((area, records)) => {
+                let journal = GrowingJournal {
+                    disk,
+                    area,
+                    used: records.len() as u32,
+                    closed: false,
+                };
+                Ok((journal, records))
+            }
+            Err(fault) => Err((disk, fault)),
+        }
+    }
+}

@@ -1,6 +1,0 @@
-pub mod Lists
-pub mod Rows
-pub mod Promises
-pub mod Written
-pub mod Together
-mod Examples

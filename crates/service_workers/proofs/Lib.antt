@@ -1,4 +1,0 @@
-pub mod Attending
-pub mod Posted
-pub mod Joined
-mod Examples
