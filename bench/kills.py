@@ -27,7 +27,7 @@ TOP = os.path.dirname(os.path.dirname(os.path.abspath(__file__)))
 PROGRAM = os.path.abspath(os.environ.get("PROGRAM", f"{TOP}/out/hitchseason"))
 sys.path.insert(0, f"{TOP}/tools")
 from catalog import catalog, owner, read  # noqa: E402
-from journal import HEAD, SLOT, Refused, book_of, contents, header, slots  # noqa: E402
+from journal import Refused, book_of, changes_since, contents, header, live_area, slots  # noqa: E402
 
 ASKS = 40
 PARTITIONS = (("area", "people", "town", ("A", "B")), ("age", "people", "town", ("A",)))
@@ -66,8 +66,7 @@ class Trial:
         if self.book is None:
             self.book = book_of(now, self.head, self.entry, 2)
         before = len(self.book.records)
-        end = HEAD + SLOT * before
-        if now[:end] != self.kept[:end]:
+        if changes_since(self.kept, now, self.entry["capacity"]) != []:
             raise Wrong("an earlier record isn't what it was")
         book = self.book
         for record in slots(now, self.entry["capacity"], before):
@@ -140,7 +139,7 @@ class Trial:
         self.count(status, grown, said)
 
     def count(self, status, grown, said):
-        slot = self.kept[HEAD + SLOT * len(self.book.records) :][:SLOT]
+        slot = live_area(self.kept, self.entry["capacity"]).slot(self.kept, len(self.book.records))
         if status == 0:
             moment = "had ended"
         elif said:

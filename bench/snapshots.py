@@ -1,92 +1,207 @@
 #!/usr/bin/env python3
-"""Copies of journals, made by tools/snapshot beside runs that go on writing them: each opens, and none has less than the one before it.
+"""Copies of journals beside a busy service (tools/snapshot): each must open, and say no less than was told before it was begun.
 
-usage: bench/snapshots.py [COPIES [FOLDER]]    (PROGRAM=FILE tries another build)
-50 copies, and a folder on /dev/shm, unless said. It ends with status 1 where a copy is refused, or where records went missing.
+usage: bench/snapshots.py [COUNT [SEED]]    50 copies, unless said; 1,000 is the whole (PROGRAM=FILE tries another build than tools/build's)
+Four connections ask four owners without a pause, and copies are made meanwhile. Of each copy:
+
+- `audit` of the program opens it, in a folder of its own, and counts what the second reader (tools/journal.py) counts in it;
+- it begins with all records of the copy before, byte for byte, and the journals at the end begin with all of its records;
+- each answer that came before it was begun is in it;
+- tools/watch says the same of it, in text, JSON and for Prometheus.
+
+Copies that were read in another order are damaged now and then: a plain one, from the first byte to the last by a byte at a time, is tried beside, and how
+many of these don't open is said. Then journals that no `init` ended, that are damaged, and copies that are there already. It ends with status 1 at the
+first difference.
 """
+import json
 import os
+import random
 import shutil
 import subprocess
 import sys
 import tempfile
+import threading
+import time
 
-TOP = os.path.dirname(os.path.dirname(os.path.abspath(__file__)))
-PROGRAM = os.path.abspath(os.environ.get("PROGRAM", f"{TOP}/crates/hitchseason/out/hitchseason"))
-sys.path.insert(0, f"{TOP}/tools")
-from catalog import catalog, owner  # noqa: E402
+from served import TOP, Caller, Room, Service, Wrong, contents, need_program, place
+from journal import HEAD, SLOT, Refused, book_of
 
-OWNERS = ("first", "second")
-CAPACITY = 262144
-ASKS = 20000
-
-
-def prepare(folder):
-    """The files of a house with two owners, a script, and its journals."""
-    made = {
-        "cat.json": catalog(*[owner(name, budget=10**18, capacity=CAPACITY) for name in OWNERS], analysts=("ann",)),
-        "key": bytes(32),
-        "people.csv": b"age\n20\n30\n40\n",
-        "script": b"hello ann\n" + b"ask first 1 size people\nask second 1 size people\n" * ASKS + b"bye\n",
-    }
-    for name, data in made.items():
-        with open(f"{folder}/{name}", "wb") as file:
-            file.write(data)
-    renew(folder)
+ANALYST = "ann"
+SNAPSHOT, WATCH = f"{TOP}/tools/snapshot", f"{TOP}/tools/watch"
 
 
-def renew(folder):
-    shutil.rmtree(f"{folder}/journals", ignore_errors=True)
-    subprocess.run([PROGRAM, "init", "cat.json", "key"], cwd=folder, check=True, stdout=subprocess.DEVNULL)
+class Load:
+    """Asks an owner without a pause until it is told to end, or has `most` answers. `answered` has the last number that was told."""
+
+    def __init__(self, service, room, order):
+        self.service, self.name, self.order, self.answered, self.ends, self.fault, self.most = service, room.names[order], order, -1, False, None, 0
+        self.thread = threading.Thread(target=self.run, daemon=True)
+        self.thread.start()
+
+    def run(self):
+        try:
+            with Caller(self.service.port + self.order % self.service.workers, ANALYST) as caller:
+                while not self.ends:
+                    while self.answered >= self.most and not self.ends:
+                        time.sleep(0.001)
+                    words = caller.ask(f"ask {self.name} 0.000001 size people").split(" ")
+                    if words[0] != "answer":
+                        raise Wrong(f"an ask was told {' '.join(words)}")
+                    self.answered = int(words[1])
+        except Exception as fault:
+            self.fault = fault
+
+    def end(self):
+        self.ends = True
+        self.thread.join()
+        if self.fault:
+            raise Wrong(f"{self.name}: {self.fault!r}")
 
 
-def begin(folder):
-    with open(f"{folder}/script", encoding="ascii") as script:
-        return subprocess.Popen([PROGRAM, "run", "cat.json", "key"], cwd=folder, stdin=script, stdout=subprocess.DEVNULL)
+def copied(room, name, status=0):
+    ran = subprocess.run([SNAPSHOT, name], cwd=room.folder, capture_output=True, text=True)
+    if ran.returncode != status:
+        raise Wrong(f"tools/snapshot ended with {ran.returncode}: {ran.stderr}")
+    return ran.stderr
 
 
-def counts(folder):
-    """What an audit of a copy counts, by owner, or nothing where it is refused."""
-    done = subprocess.run([PROGRAM, "audit", "cat.json", "key"], cwd=folder, stdout=subprocess.PIPE, check=False)
-    if done.returncode:
-        print(f"audit of a copy: status {done.returncode}, {done.stdout.decode().strip()}")
-        return None
-    return [int(line.split()[2]) for line in done.stdout.splitlines()]
+def audited(room, copy):
+    """What the program says of a copy, in a folder of its own."""
+    with tempfile.TemporaryDirectory(dir=place()) as folder:
+        for name in ("catalog.json", "key", "people.csv"):
+            shutil.copy(f"{room.folder}/{name}", folder)
+        shutil.copytree(f"{room.folder}/{copy}", f"{folder}/journals")
+        return room.ran("audit", folder)
 
 
-def copied(folder, copy):
-    """The counts of a copy that is made now."""
-    shutil.rmtree(copy, ignore_errors=True)
-    os.mkdir(copy)
-    for name in ("cat.json", "key", "people.csv"):
-        shutil.copy(f"{folder}/{name}", copy)
-    subprocess.run([f"{TOP}/tools/snapshot", f"{copy}/journals", folder], check=True)
-    return counts(copy)
+def watched(room, copy, *words):
+    ran = subprocess.run([WATCH, "catalog.json", copy, *words], cwd=room.folder, capture_output=True, text=True)
+    if ran.returncode != 0:
+        raise Wrong(f"tools/watch {words} ended with {ran.returncode}: {ran.stderr}")
+    return ran.stdout
+
+
+def judge_watch(room, copy, books):
+    told = json.loads(watched(room, copy, "--json"))["owners"]
+    text, lines = watched(room, copy), watched(room, copy, "--prometheus").splitlines()
+    for book in books:
+        name, unsettled = book.entry["name"], len(book.reserved) - len(book.settled)
+        wanted = {"spent_millionths": book.spent, "budget_millionths": book.entry["budget"], "records": len(book.records), "open": unsettled, "lost": 0}
+        for what, value in wanted.items():
+            if told[name][what] != value or f'hitchseason_{what}{{owner="{name}"}} {value}' not in lines:
+                raise Wrong(f"tools/watch: {what} of {name} isn't {value}")
+        if f"{name}: spent {book.spent} of" not in text or f"open {unsettled}, lost 0" not in text:
+            raise Wrong(f"tools/watch said {text}")
+
+
+def records_of(book):
+    """The bytes of a book's records, wherever in the file they stand."""
+    return b"".join(record.encoded() for record in book.records)
+
+
+def judge(room, copy, before, told):
+    """One copy: what it holds, as its records and their bytes; BEFORE are the bytes of the one before, TOLD the last numbers that were told by then."""
+    books = room.books(f"{room.folder}/{copy}")
+    said, due = audited(room, copy), "".join(f"{book.counts()}\n" for book in books)
+    if said != due:
+        raise Wrong(f"audit said {said}, and by the second reader it is {due}")
+    now = [records_of(book) for book in books]
+    for order, book in enumerate(books):
+        if not now[order].startswith(before[order]):
+            raise Wrong(f"owner {order}: a record of the copy before isn't in this one")
+        if told[order] >= 0 and told[order] not in book.settled:
+            raise Wrong(f"owner {order}: number {told[order]} was told before the copy, and isn't settled in it")
+    return books, now
+
+
+def plain(room, rng):
+    """Whether a copy that is read from the first byte to the last, slowly, opens."""
+    order = rng.randrange(len(room.names))
+    with open(f"{room.folder}/journals/{order}.bud", "rb", buffering=0) as file:
+        data = b"".join(iter(lambda: file.read(SLOT), b""))
+    try:
+        book_of(data, room.heads[order], room.catalog["owners"][order], len(room.analysts))
+        return True
+    except Refused:
+        return False
+
+
+def beside_a_service(rng, count):
+    with tempfile.TemporaryDirectory(dir=place()) as folder:
+        capacity = min(2**18, 300 * count + 200)
+        room = Room(folder, capacity=capacity)
+        before, plain_ones = [b""] * len(room.names), 0
+        with Service(room, len(room.names)) as service:
+            loads = [Load(service, room, order) for order in range(len(room.names))]
+            for number in range(count):
+                # So much more room for each copy that the journals last until the last one.
+                for load in loads:
+                    load.most = (number + 1) * (capacity // 2 - 10) // count
+                told, copy = [load.answered for load in loads], f"copy{number}"
+                copied(room, copy)
+                books, before = judge(room, copy, before, told)
+                if number % 10 == 0:
+                    judge_watch(room, copy, books)
+                plain_ones += not plain(room, rng)
+                shutil.rmtree(f"{folder}/{copy}")
+            for load in loads:
+                load.end()
+        books = room.audited()
+        for order in range(len(room.names)):
+            if not records_of(books[order]).startswith(before[order]):
+                raise Wrong(f"owner {order}: a record of the last copy isn't in the journal")
+        total = sum(len(book.records) for book in books)
+        print(f"{count} copies beside {total} records that were written meanwhile: all open; of {count} plain ones {plain_ones} didn't")
+
+
+def said_by(copy, room, order):
+    try:
+        return room.book(order, f"{room.folder}/{copy}").counts()
+    except Refused as refusal:
+        return str(refusal)
+
+
+def other_files():
+    """What isn't a journal in service, and what can't be copied."""
+    with tempfile.TemporaryDirectory(dir=place()) as folder:
+        room = Room(folder, capacity=3000)
+        journal = f"{folder}/journals/1.bud"
+        whole = contents(journal)
+        damaged = bytearray(whole)
+        damaged[-SLOT] = 0xA5
+        cases = [b"", bytes(500), b"\0" + whole[1:], bytes(damaged), whole[:-1], whole + b"\xa5", whole[: HEAD - 28], whole[:HEAD], whole]
+        for number, data in enumerate(cases):
+            with open(journal, "wb") as file:
+                file.write(data)
+            copied(room, f"copy{number}")
+            found, due = said_by(f"copy{number}", room, 1), said_by("journals", room, 1)
+            if found != due or contents(f"{folder}/copy{number}/1.bud") != data:
+                raise Wrong(f"the copy of {data[:10]!r} .. is {found}, and {due} is due")
+        if "is there already" not in copied(room, "copy0", status=2):
+            raise Wrong("a copy that is there isn't refused")
+        with open(journal, "r+b") as file:
+            file.seek(9)
+            file.write(b"\x09")
+        if "version 9" not in copied(room, "copy_of_another", status=2) or os.path.exists(f"{folder}/copy_of_another"):
+            raise Wrong("a journal of a version that isn't known is copied")
+        if [oct(os.stat(f"{folder}/copy0{name}").st_mode)[-3:] for name in ("", "/0.bud")] != ["700", "600"]:
+            raise Wrong("others may read a copy")
+    print(f"{len(cases)} other files are copied as they are, and what can't be is told")
 
 
 def main():
-    wanted = int(sys.argv[1]) if len(sys.argv) > 1 else 50
-    place = sys.argv[2] if len(sys.argv) > 2 else "/dev/shm"
-    wrong = beside = runs = 0
-    with tempfile.TemporaryDirectory(dir=place) as top:
-        folder, copy = f"{top}/house", f"{top}/copy"
-        os.mkdir(folder)
-        while beside < wanted:
-            prepare(folder)
-            runs += 1
-            run, before = begin(folder), [0, 0]
-            while run.poll() is None and beside < wanted:
-                now = copied(folder, copy)
-                if run.poll() is None:
-                    beside += 1
-                if now is None or any(new < old for new, old in zip(now, before)):
-                    wrong += 1
-                    print(f"copy {beside}: {now}, {before} before it")
-                before = now or before
-            run.kill()
-            run.wait()
-    print(f"{beside} copies beside {runs} runs, {wrong} wrong")
-    return 1 if wrong else 0
+    if sys.argv[1:] == ["--help"]:
+        print(__doc__.strip())
+        return
+    need_program()
+    count, seed = (int(word) for word in (sys.argv[1:] + ["50", "1"][len(sys.argv) - 1 :]))
+    try:
+        other_files()
+        beside_a_service(random.Random(f"snapshots {seed}"), count)
+    except (Wrong, Refused) as fault:
+        print(f"seed {seed}: {fault}")
+        sys.exit(1)
 
 
 if __name__ == "__main__":
-    sys.exit(main())
+    main()

@@ -37,7 +37,7 @@ TOP = os.path.dirname(os.path.dirname(os.path.abspath(__file__)))
 PROGRAM = os.path.abspath(os.environ.get("PROGRAM", f"{TOP}/out/hitchseason"))
 sys.path.insert(0, f"{TOP}/tools")
 from catalog import catalog, owner  # noqa: E402
-from journal import GATE, HEAD, SLOT, WHOLE, Refused, Reservation, Settlement, book_of, contents, header, slots  # noqa: E402
+from journal import SLOT, WHOLE, Refused, Reservation, Settlement, begun, book_of, capacity_in, changes_since, contents, header, live_area, slots  # noqa: E402
 from orders import Wrong, blocks_of, judged  # noqa: E402
 from reference import Exhausted, house_of, key_draws, key_words, noise  # noqa: E402
 from runs import asked, value  # noqa: E402
@@ -312,8 +312,8 @@ class Kills:
         """The books of these journals, which go on from those found: every earlier byte is there."""
         books = []
         for kept, now, found in zip(self.kept, journals, self.found):
-            book, end = copy_of(found), HEAD + SLOT * len(found.records)
-            if now[:end] != kept[:end] or len(now) != len(kept):
+            book = copy_of(found)
+            if changes_since(kept, now, book.entry["capacity"]) != [] or len(now) < len(kept):
                 raise Wrong(f"an earlier record of {found.entry['name']} isn't what it was")
             for record in slots(now, book.entry["capacity"], len(found.records)):
                 if not book.add(record):
@@ -335,7 +335,7 @@ class Kills:
 
     def moment(self, said, status, journals, books, measured):
         grown = [len(book.records) - len(found.records) for book, found in zip(books, self.found)]
-        torn = [any(data[HEAD + SLOT * len(book.records) :][:SLOT]) for data, book in zip(journals, books)]
+        torn = [any(live_area(data, book.entry["capacity"]).slot(data, len(book.records))) for data, book in zip(journals, books)]
         waiting = sum(len(book.reserved) - len(book.settled) - len(found.reserved) + len(found.settled) for book, found in zip(books, self.found))
         self.came["records"] += sum(grown)
         if measured:
@@ -518,11 +518,13 @@ def plant_replies(rng, script, said, journals, judge, came, exchanges=True):
         plant("a refusal that is off by 1", with_reply(said, at, f"no 40 {spent + 1} {after + 1} {budget} {seen}"), journals)
         plant("a refusal behind too many records", with_reply(said, at, f"no 40 {spent} {after} {budget} {seen + 10**6}"), journals)
     order = script.asks[told[0]].order
-    plant("a settlement off by 1", said, with_byte(journals, order, HEAD + SLOT + 15))
-    plant("a record's program", said, with_byte(journals, order, HEAD + 40))
-    plant("a record's analyst", said, with_byte(journals, order, HEAD + 29))
-    last = max(at for at in range(HEAD, len(journals[order]), SLOT) if journals[order][at] == GATE)
-    plant("the last record's gate", said, with_byte(journals, order, last))
+    capacity = capacity_in(journals[order])
+    area = live_area(journals[order], capacity)
+    plant("a settlement off by 1", said, with_byte(journals, order, area.place(1) + 15))
+    plant("a record's program", said, with_byte(journals, order, area.place(0) + 40))
+    plant("a record's analyst", said, with_byte(journals, order, area.place(0) + 29))
+    last = len(begun(journals[order], capacity)) - 1
+    plant("the last record's gate", said, with_byte(journals, order, area.place(last)))
     if exchanges:
         plant("two blocks exchanged", exchanged(rng, script, replies), journals)
 
@@ -545,7 +547,7 @@ def plant_kills(rng, trial, kept, found):
     judge = lambda said, journals: trial.judge(script, said, -9, journals)
     order = rng.randrange(len(kept))
     if found[order].records:
-        place = HEAD + SLOT * rng.randrange(len(found[order].records))
+        place = live_area(kept[order], found[order].entry["capacity"]).place(rng.randrange(len(found[order].records)))
         must_be_wrong("an earlier record", judge, came, b"", with_byte(kept, order, place + rng.randrange(SLOT)))
     at, ask = next(iter(script.asks.items()))
     number = len(found[ask.order].reserved)

@@ -13,11 +13,12 @@ import fcntl
 import os
 import resource
 import select
+import socket
 import stat
 
 from faults import Fault, Unreadable, bytes_of, catalog_of, check_key, survey_lines, table_of, whoever
+from journal import GATE, HEAD, SLOT, VERSION_AT, Area, Refused, Reservation, begun, book_of, capacity_in, contents, decoded, fields, header, live_area, version_of
 from holders import holders
-from journal import GATE, HEAD, SLOT, Refused, Reservation, book_of, contents, decoded, header
 from journal_changes import House, changes
 from meanings import COMMANDS, STATUSES
 
@@ -25,7 +26,7 @@ OWNERS = 16
 SCRIPT_LIMIT = 2**24
 MOST_TOLD = 10
 IN_SERVICE = "Don't run `init`, which would begin the budget anew: go on as with `damaged`, its budget counts as spent."
-SERVICE = ("init", "run", "audit")
+SERVICE = ("init", "run", "serve", "audit")
 ONE_PROCESS = (
     "One process at a time works on a folder of journals, and it keeps them until it ends. Nothing was written. To look at journals beside it, copy them "
     "by tools/snapshot."
@@ -33,6 +34,14 @@ ONE_PROCESS = (
 
 
 # The words.
+
+# Options that take a value: what each takes, and the commands that have it.
+OPTIONS = {
+    "--workers": ("a whole number from 1 to 16. It may be left out", ("run", "serve")),
+    "--port": ("a whole number from 1 to 65520, the first worker's port", ("serve",)),
+    "--each": ("a whole number from 1 to 1000000, the connections that each worker serves", ("serve",)),
+    "--addr": ("an address of this machine. It may be left out", ("serve",)),
+}
 
 
 class Command:
@@ -44,7 +53,7 @@ class Command:
         for word in rest:
             if word == "--":
                 self.words += rest
-            elif word == "--workers":
+            elif word in OPTIONS:
                 self.options.append(" ".join([word, *[next(rest, "")]]).strip())
             elif word.startswith("-") and word != "-":
                 self.options.append(word)
@@ -53,6 +62,11 @@ class Command:
 
     def wanted(self):
         return COMMANDS[self.name].split(" [")[0].split()
+
+    def option(self, name, default=None):
+        """What stands behind an option, or the default."""
+        found = [option for option in self.options if option.replace("=", " ", 1).split(" ")[0] == name]
+        return found[0].replace("=", " ", 1).partition(" ")[2] if found else default
 
 
 def about_words(words):
@@ -98,9 +112,13 @@ def about_rest(found):
     if len(found.words) != len(wanted):
         given = f"{len(found.words)} stand there" if found.words else "none stands there"
         yield f"`{found.name}` takes {len(wanted)} words, {' '.join(wanted)}, and {given}."
+    for option in ("--port", "--each") if found.name == "serve" else ():
+        if found.option(option) is None:
+            yield f"`{option}` is missing: `serve` wants it."
     for option in found.options:
-        if found.name == "run" and option.startswith("--workers"):
-            yield f"`{shown(option)}`: `--workers` stands once, and takes a whole number from 1 to 16. It may be left out."
+        takes, commands = OPTIONS.get(option.replace("=", " ", 1).split(" ")[0], (None, ()))
+        if found.name in commands:
+            yield f"`{shown(option)}`: `{option.replace('=', ' ', 1).split(' ')[0]}` stands once, and takes {takes}."
         else:
             yield (
                 f"`{shown(option)}` begins with a hyphen and is taken for an option, which `{found.name}` hasn't: a file of this name is written "
@@ -250,7 +268,7 @@ class Before:
     """The length of each journal, and how many of its first slots are open, as they are now."""
 
     def __init__(self, command):
-        self.found = {number: seen(number) for number in range(OWNERS)} if command in ("init", "run") else {}
+        self.found = {number: seen(number) for number in range(OWNERS)} if command in ("init", "run", "serve") else {}
 
     def length(self, number):
         return self.found.get(number, (0, 0))[0]
@@ -268,12 +286,19 @@ def seen(number):
         data = contents(path_of(number))
     except OSError:
         return 0, 0
-    return len(data), open_slots(data)
+    return len(data), len(open_slots(data))
 
 
 def open_slots(data):
-    gates = data[HEAD::SLOT]
-    return len(gates) - len(gates.lstrip(bytes([GATE])))
+    """The first slots of a journal that are open, by its own header; where that names no capacity, of those behind it."""
+    if len(data) < HEAD:
+        return []
+    return begun(data, capacity_in(data) or (len(data) - HEAD) // SLOT)
+
+
+def length_due(data, capacity):
+    """How long a journal is at least: by what its header says, or as an `init` makes it."""
+    return live_area(data, capacity).end if len(data) >= HEAD else Area(2, capacity, 0).end
 
 
 class Journals:
@@ -288,8 +313,10 @@ class Journals:
             self.bytes.append(kept)
             self.books.append(self.book(number, entry, kept or b""))
 
-    def head(self, number):
-        return header(self.house.data, number, self.house.key, contents)
+    def head(self, number, kept=b""):
+        """The header that a journal of these bytes would have, in the version that they name."""
+        version = version_of(kept) if len(kept) > VERSION_AT else 2
+        return header(self.house.data, number, self.house.key, contents, version)
 
     def book(self, number, entry, kept):
         try:
@@ -322,7 +349,7 @@ class Journals:
             yield f"There is no {path_of(number)}: {made}."
             yield from self.in_service()
         else:
-            due = HEAD + SLOT * self.entries[number]["capacity"]
+            due = length_due(kept, self.entries[number]["capacity"])
             yield f"{path_of(number)} has {len(kept)} bytes, of {due}, and is none that an `init` made and left: {self.half_made(number, kept)}"
             yield from [IN_SERVICE] if open_slots(kept) else self.in_service()
 
@@ -333,7 +360,7 @@ class Journals:
             yield f"Runs were over these journals: that of {used[0]} has records. {IN_SERVICE}"
 
     def half_made(self, number, kept):
-        open_now = open_slots(kept)
+        open_now = len(open_slots(kept))
         if open_now:
             said = f"its first byte is 0x{kept[0]:02X}, where 0x{GATE:02X} belongs, but {open_now} slots are open"
             return f"{said}: it was in service, and somebody wrote into it."
@@ -341,9 +368,9 @@ class Journals:
             return "it is empty. An `init` was stopped, or had no room, or somebody emptied it."
         if not any(kept):
             return "it has zeros alone. An `init` was stopped, or had no room."
-        if len(kept) < HEAD and kept == self.head(number)[: len(kept)]:
+        if len(kept) < HEAD and kept == self.head(number, kept)[: len(kept)]:
             return "it is the beginning of this owner's journal, which an `init` had made: all behind it was cut off."
-        if kept[1:HEAD] == self.head(number)[1:]:
+        if len(kept) >= HEAD and fields(kept)[1:] == fields(self.head(number, kept))[1:]:
             return "its header is there but for the first byte: an `init` was stopped at its last step."
         return "it has other bytes than an `init` leaves."
 
@@ -473,12 +500,12 @@ def was_made(number, entry):
         data = contents(path_of(number))
     except OSError:
         return False
-    return len(data) == HEAD + SLOT * entry["capacity"] and data[0] == GATE
+    return len(data) >= length_due(data, entry["capacity"]) and data[0] == GATE
 
 
 def about_making(number, entry):
     """Why a journal couldn't be made here."""
-    due = HEAD + SLOT * entry["capacity"]
+    due = Area(2, entry["capacity"], 0).end
     there = os.path.getsize(path_of(number)) if os.path.exists(path_of(number)) else 0
     folder = "journals" if os.path.isdir("journals") else "."
     system = os.statvfs(folder)
@@ -503,14 +530,15 @@ def about_making(number, entry):
 
 def about_asked(command, before):
     """Whether a run that ended early has left records, by what stood in the journals before it."""
-    more = {number: open_slots(data) - before.slots(number) for number, data in journals_now() if open_slots(data) > before.slots(number)}
+    counts = {number: len(open_slots(data)) - before.slots(number) for number, data in journals_now()}
+    more = {number: count for number, count in counts.items() if count > 0}
     if not more:
         yield "No journal has more records than before the run: nothing was asked, and nothing is charged."
         return
     names = names_of_owners(command)
     for number, data in journals_now():
         if number in more:
-            records = [decoded(data[HEAD + SLOT * slot : HEAD + SLOT * (slot + 1)]) for slot in range(open_slots(data))]
+            records = [decoded(slot) for slot in open_slots(data)]
             asked = [record.number for record in records[before.slots(number) :] if isinstance(record, Reservation)]
             settled = {record.number for record in records if record and not isinstance(record, Reservation)}
             lost = [str(one) for one in asked if one not in settled]
@@ -519,7 +547,8 @@ def about_asked(command, before):
                 f"{path_of(number)} has {more[number]} records more than before the run, {len(asked)} of them reservations{told}: these are charged, and "
                 f"`recall {names.get(number, 'OWNER')} N` tells their answers{', but for ' + ', '.join(lost) + ', which has none' if lost else ''}."
             )
-    yield "Don't run the script again, which would ask and pay once more; see 'After a stop' in docs/operators-guide.md."
+    if command.name == "run":
+        yield "Don't run the script again, which would ask and pay once more; see 'After a stop' in docs/operators-guide.md."
 
 
 def names_of_owners(command):
@@ -578,10 +607,27 @@ def about_failure(command, script, told):
             said.append(f"{name}: {fault}.")
         elif isinstance(fault, Unseen):
             said.append(f"{name}: {fault}.")
-    said += about_output()
+    said += about_output() if command.name != "serve" else about_doors(command)
     if command.name == "run":
         said += about_input(script)
-    yield from said or ["Nothing that fails is found now: neither a file that the words or the catalog name, nor standard input or output."]
+    where = "a port" if command.name == "serve" else "standard input or output"
+    yield from said or [f"Nothing that fails is found now: neither a file that the words or the catalog name, nor {where}."]
+
+
+def about_doors(command):
+    """The ports at which nobody can listen now."""
+    addr, first, workers = command.option("--addr", "127.0.0.1"), command.option("--port", ""), command.option("--workers", "1")
+    if not (first.isdigit() and workers.isdigit()):
+        return
+    for port in range(int(first), int(first) + min(int(workers), OWNERS)):
+        try:
+            family = socket.getaddrinfo(addr, port, type=socket.SOCK_STREAM)[0][0]
+            with socket.socket(family, socket.SOCK_STREAM) as door:
+                door.setsockopt(socket.SOL_SOCKET, socket.SO_REUSEADDR, 1)
+                door.bind((addr, port))
+                door.listen()
+        except OSError as fault:
+            yield f"Nobody can listen at {addr}, port {port}, now: {fault.strerror}."
 
 
 # Memory, and scripts.
@@ -627,12 +673,16 @@ def causes(status, words, before, script, told=lambda rows: None):
         yield from about_memory()
     else:
         yield from about_length(script)
-    if command.name == "run" and status in (5, 7, 8):
+    if command.name in ("run", "serve") and status in (5, 7, 8):
         yield from about_asked(command, before)
 
 
 def killed(signal_name, words, before):
     """Sentences about a command that a signal ended."""
-    yield f"{signal_name} ended it: it has written nothing, or a part of what was due."
-    if Command(words).name == "run":
-        yield from about_asked(Command(words), before)
+    command = Command(words)
+    if command.name == "serve":
+        yield f"{signal_name} ended it: what was being answered is `lost`, if it was reserved; it is charged, and `recall` tells so."
+    else:
+        yield f"{signal_name} ended it: it has written nothing, or a part of what was due."
+    if command.name in ("run", "serve"):
+        yield from about_asked(command, before)

@@ -3,6 +3,7 @@
 
     journal.py CATALOG KEY [FOLDER]     each owner's journal in FOLDER/journals (in ./journals): its records, and the line of an audit.
                                         A reservation's charge is r times e, rounded up; taken is by how much the owner's spent grew
+    journal.py --areas CATALOG KEY [FOLDER]  each journal's version, its areas and which of them is live, or in words why it is refused
     journal.py --compare COPY CATALOG KEY   whether each journal in ./journals begins with the records of its copy in the folder COPY: records
                                         are only ever added, so any other change was made by somebody, or by the disk. It ends with status 1
                                         where one is changed or gone
@@ -10,13 +11,15 @@
                                         old journal is put back. It ends with status 1 where one did
     journal.py --check                  the values that are known from outside
 
-It shares nothing with the server but the rules. A journal is the file N.bud of owner N: a header of 128 bytes and a slot of 64
-bytes for each record that there is room for, whole numbers highest byte first. A slot is open where its first byte is 0xA5.
+It shares nothing with the server but the rules (docs/journal-format.md). A journal is the file N.bud of owner N: a header of 128 bytes
+and slots of 64 bytes, in one area (version 1) or in areas of which one is live (version 2), whole numbers highest byte first. A slot is
+open where its first byte is 0xA5.
 A file that is no journal of this catalog, key and tables is refused in the server's words, and the end is with status 1. Where a file can't
 be read, or the catalog is none, that is said on standard error, and the end is with status 2: nothing is known of the journals then.
 """
 import hashlib
 import json
+import os
 import re
 import signal
 import sys
@@ -26,6 +29,9 @@ from catalog import BadCatalog, census, json_value, read
 
 GATE = 0xA5
 HEAD, SLOT = 128, 64
+VERSION_AT, GATES_AT, MOST_AREAS = 9, 96, 32
+VERSIONS = (1, 2)
+FIRST_SLOTS = 64
 WHOLE = (255, 0)
 OUTCOMES = {1: "answered", 2: "exhausted", 3: "lost"}
 MOST_TOLD = 10
@@ -125,41 +131,121 @@ def compact(value):
     return json.dumps(value, separators=(",", ":"), ensure_ascii=False, sort_keys=True).encode()
 
 
-def header(data, order, key, file):
-    """The header of an owner's journal, of a catalog's bytes, the owner's number and the key, FILE giving a file's bytes by its name."""
+def header(data, order, key, file, version=1):
+    """The header of an owner's journal of a version, of a catalog's bytes, the owner's number and the key, FILE giving a file's bytes by its name."""
     whole = json_value(data)
     owner = whole["owners"][order]
     tables = b"".join(hashlib.sha256(file(table["file"])).digest() for table in owner["tables"])
     digest = hashlib.sha256(key + compact(whole["analysts"]) + b"\n" + compact(owner) + b"\n" + tables).digest()
-    numbers = [(1, 1), (order, 4), (owner["budget"], 8), (owner["capacity"], 4)]
+    numbers = [(version, 1), (order, 4), (owner["budget"], 8), (owner["capacity"], 4)]
     head = bytes([GATE]) + b"FUZZBUDG" + b"".join(n.to_bytes(k, "big") for n, k in numbers) + bytes(38) + digest + bytes(32)
     assert len(head) == HEAD
     return head
 
 
-def length_fault(data, capacity):
-    """What is wrong with a journal's length, or nothing."""
-    due = HEAD + SLOT * capacity
-    if len(data) == due:
+class Area:
+    """The slots of one area: its number, where it begins, and how many slots it has."""
+
+    def __init__(self, version, capacity, number):
+        self.version, self.number = version, number
+        self.begin = HEAD + SLOT * sum(area_slots(version, capacity, earlier) for earlier in range(number))
+        self.slots = area_slots(version, capacity, number)
+        self.end = self.begin + SLOT * self.slots
+
+    def place(self, slot):
+        return self.begin + SLOT * slot
+
+    def slot(self, data, slot):
+        return data[self.place(slot) : self.place(slot + 1)]
+
+    def gates(self, data):
+        """The first bytes of its slots that are wholly there."""
+        whole = max(0, min(self.slots, (len(data) - self.begin) // SLOT))
+        return data[self.begin : self.place(whole) : SLOT]
+
+
+def area_slots(version, capacity, number):
+    """How many slots an area has: all in version 1; else 64 in area 0 and twice as many in each next one, up to the capacity."""
+    return capacity if version == 1 else min(FIRST_SLOTS << number, capacity)
+
+
+def areas(version, capacity):
+    """All areas of a journal that is full, in order."""
+    found = [Area(version, capacity, 0)]
+    while found[-1].slots < capacity:
+        found.append(Area(version, capacity, len(found)))
+    return found
+
+
+def version_of(data):
+    """The version that a header names; an unknown one is judged as the newest."""
+    return data[VERSION_AT] if data[VERSION_AT] in VERSIONS else VERSIONS[-1]
+
+
+def live_number(data):
+    """The greatest area whose gate is open and all before it, or 0."""
+    opened = [data[GATES_AT + number] == GATE for number in range(1, MOST_AREAS)]
+    return opened.index(False) if False in opened else len(opened)
+
+
+def stray_gate(data, capacity):
+    """What is wrong with the gates of areas in a header of version 2, in words, or nothing."""
+    live, last = live_number(data), len(areas(2, capacity)) - 1
+    later = [number for number in range(live + 1, MOST_AREAS) if data[GATES_AT + number] == GATE]
+    if live > last:
+        return f"byte {GATES_AT + last + 1} opens area {last + 1}, and with capacity {capacity} the last one is area {last}"
+    if later:
+        return f"byte {GATES_AT + later[0]} opens area {later[0]}, and area {live + 1} before it isn't open"
+    return None
+
+
+def capacity_in(data):
+    """The capacity that a header names."""
+    return int.from_bytes(data[22:26], "big")
+
+
+def live_area(data, capacity):
+    """The area of which a journal's records are read, by its header."""
+    version = version_of(data)
+    return Area(version, capacity, live_number(data) if version == 2 else 0)
+
+
+def check_header(data, head, capacity):
+    """Whether a journal's bytes begin with this header, by the rules of the version that is found there; refused where not."""
+    version = version_of(data)
+    due = head[:VERSION_AT] + bytes([version]) + head[VERSION_AT + 1 :]
+    if data[VERSION_AT] not in VERSIONS:
+        raise Refused("changed", f"its version (byte {VERSION_AT}) is {data[VERSION_AT]}, and 1 and 2 are known")
+    counts = HEAD if version == 1 else GATES_AT + 1
+    if data[:counts] != due[:counts]:
+        raise Refused("changed", "it is another entry's, key's or table's, or somebody has written into it")
+    stray = stray_gate(data, capacity) if version == 2 else None
+    if stray:
+        raise Refused("changed", f"a gate is out of order: {stray}")
+
+
+def length_fault(data, area):
+    """What is wrong with a journal's length, where this area is live, or nothing. In version 2 the file may go on behind it."""
+    if len(data) == area.end or (area.version == 2 and len(data) > area.end):
         return None
-    if len(data) > due:
-        return capacity, f"the file has {len(data)} bytes, and {due} are due: {len(data) - due} too many"
-    whole = (len(data) - HEAD) // SLOT
-    return whole, f"the file has {len(data)} bytes, and {due} are due: it ends in slot {whole}, and all behind that is gone"
+    if len(data) > area.end:
+        return area.slots, f"the file has {len(data)} bytes, and {area.end} are due: {len(data) - area.end} too many"
+    whole = max(0, (len(data) - area.begin) // SLOT)
+    return whole, f"the file has {len(data)} bytes, and {area.end} are due: it ends in slot {whole}, and all behind that is gone"
 
 
 def slots(data, capacity, first=0):
-    """The records of the slots before the first closed one, from slot `first` on. The least slot that isn't wholly there, is past the
-    capacity, or is open and no record or behind a closed one is damaged."""
-    found, length = [], length_fault(data, capacity)
+    """The records of the live area's slots before the first closed one, from slot `first` on. The least slot that isn't wholly there, is
+    past the last one in version 1, or is open and no record or behind a closed one is damaged."""
+    area = live_area(data, capacity)
+    found, length = [], length_fault(data, area)
     wrong = [length] if length else []
-    whole = min(capacity, (len(data) - HEAD) // SLOT)
-    gates = data[HEAD : HEAD + SLOT * whole : SLOT]
+    gates = area.gates(data)
     for k, gate in enumerate(gates[first:], first):
-        slot = data[HEAD + SLOT * k : HEAD + SLOT * (k + 1)]
+        slot = area.slot(data, k)
         if gate != GATE:
             behind = gates.find(GATE, k)
-            wrong += [(behind, behind_closed(data, k, behind))] if behind >= 0 else []
+            wrong += [(behind, behind_closed(slot, k))] if behind >= 0 else []
             break
         record = decoded(slot)
         if record is None:
@@ -172,9 +258,8 @@ def slots(data, capacity, first=0):
     return found
 
 
-def behind_closed(data, closed, opened):
-    """What is said of an open slot behind a closed one."""
-    slot = data[HEAD + SLOT * closed : HEAD + SLOT * (closed + 1)]
+def behind_closed(slot, closed):
+    """What is said of an open slot behind a closed one, whose bytes are these."""
     held = decoded(bytes([GATE]) + slot[1:])
     gate = f"its first byte is 0x{slot[0]:02X}, and 0x{GATE:02X} opens a slot"
     rest = "the rest of it is a whole record" if held else "all of it is zeros" if not any(slot) else "the rest of it is no record"
@@ -256,8 +341,7 @@ def book_of(data, head, entry, analysts):
     """The book of a journal's bytes, where these are a journal with this header."""
     if len(data) < HEAD or data[0] != GATE:
         raise Refused(f"uninitialised {len(data)}")
-    if data[:HEAD] != head:
-        raise Refused("changed")
+    check_header(data, head, entry["capacity"])
     book = Book(entry, analysts)
     for k, record in enumerate(slots(data, entry["capacity"])):
         why = book.why_not(record)
@@ -290,23 +374,29 @@ def books(catalog_name, key_name, folder=".", file=contents):
 # A copy beside what became of it.
 
 
-def begun(data):
-    """The header of a journal's bytes and its open slots, up to the first closed one."""
-    gates = data[HEAD::SLOT]
-    return data[: HEAD + SLOT * (len(gates) - len(gates.lstrip(bytes([GATE]))))]
+def begun(data, capacity):
+    """The open slots of a journal's bytes, up to the first closed one."""
+    area = live_area(data, capacity)
+    gates = area.gates(data)
+    return [area.slot(data, slot) for slot in range(len(gates) - len(gates.lstrip(bytes([GATE]))))]
 
 
-def changes_since(copy, now):
-    """The numbers of the slots that a copy has and that aren't so now; None where the header isn't."""
-    kept = begun(copy)
-    if now[:HEAD] != kept[:HEAD]:
+def fields(data):
+    """The bytes of a header that no growth changes."""
+    return data[:HEAD] if version_of(data) == 1 else data[: GATES_AT + 1]
+
+
+def changes_since(copy, now, capacity):
+    """The numbers of the slots that a copy has and that aren't so now; None where the header isn't, or fewer areas are open."""
+    if len(now) < HEAD or fields(now) != fields(copy) or live_number(now) < live_number(copy):
         return None
-    return [(at - HEAD) // SLOT for at in range(HEAD, len(kept), SLOT) if now[at : at + SLOT] != kept[at : at + SLOT]]
+    area = live_area(now, capacity)
+    return [slot for slot, kept in enumerate(begun(copy, capacity)) if area.slot(now, slot) != kept]
 
 
 def in_slot(data, slot, entry, analysts):
     """The record that a slot holds, in words, whatever may have become of it."""
-    bytes_of = data[HEAD + SLOT * slot : HEAD + SLOT * (slot + 1)]
+    bytes_of = live_area(data, entry["capacity"]).slot(data, slot)
     record = decoded(bytes_of) if len(bytes_of) == SLOT and bytes_of[0] == GATE else None
     try:
         return record.said(entry, analysts) if record else "no record"
@@ -324,23 +414,24 @@ def compared(folder, catalog_name, key_name):
             print(f"{entry['name']}: there is no {fault.filename}")
             same = False
             continue
-        changed = changes_since(copy, now)
+        changed = changes_since(copy, now, entry["capacity"])
         same = same and changed == []
         if changed is None:
             print(f"{entry['name']}: the header isn't that of the copy: it is another journal, or somebody has changed it")
-            changed = changes_since(copy, copy[:HEAD] + now[HEAD:])
-        total, kept = (max(len(begun(data)) - HEAD, 0) // SLOT for data in (now, copy))
+            now = copy[:HEAD] + now[HEAD:]
+            changed = changes_since(copy, now, entry["capacity"])
+        total, kept = (len(begun(data, entry["capacity"])) for data in (now, copy))
         print(f"{entry['name']}: records of the copy {kept}, changed {len(changed)}, now {total}")
-        for line in about_changed(copy, now, changed, lambda data, slot: in_slot(data, slot, entry, catalog["analysts"])):
+        for line in about_changed(copy, now, (kept, total), changed, lambda data, slot: in_slot(data, slot, entry, catalog["analysts"])):
             print(f"    {line}")
     return same
 
 
-def about_changed(copy, now, changed, said):
-    """What the first of the slots were and are that aren't as in a copy, and whether the last ones are gone."""
-    kept, left = ((len(begun(data)) - HEAD) // SLOT for data in (copy, now))
+def about_changed(copy, now, counts, changed, said):
+    """What the first of the slots were and are that aren't as in a copy, and whether the last ones are gone, by how many there were and are."""
+    kept, left = counts
     if left < kept:
-        yield f"the {kept - max(left, 0)} records from slot {max(left, 0)} on are gone: an older journal was put back, or its end was taken off"
+        yield f"the {kept - left} records from slot {left} on are gone: an older journal was put back, or its end was taken off"
     for slot in changed[:MOST_TOLD]:
         yield f"slot {slot} was: {said(copy, slot)}"
         yield f"slot {slot} is: {said(now, slot)}"
@@ -390,6 +481,7 @@ def check():
     data = census()
     files = {"people.csv": b"age\n20\n30\n40\n"}
     entry, head = read(data)["owners"][0], header(data, 0, bytes(32), files.__getitem__)
+    check_areas(entry, header(data, 0, bytes(32), files.__getitem__, 2), reservation, settlement)
     assert head[:26].hex() == "a546555a5a425544470100000000" + "0000000000989680" + "00000064"
     whole = head + bytes(SLOT * 100)
     assert len(whole) == 6528
@@ -417,15 +509,53 @@ def check():
     assert [line.split(":")[1] for line in fallen(audits)] == [" census lost fell from 1 to 0"] and not list(fallen(audits[:3] * 2))
     # A copy of a reservation alone, beside what it became, and beside changes of it and of the header.
     copy, grown = head + reservation.encoded() + bytes(64 * 99), head + reservation.encoded() + settlement.encoded() + bytes(64 * 98)
-    assert changes_since(copy, grown) == [] and changes_since(grown, copy) == [1] and changes_since(copy, head + bytes(6400)) == [0]
-    assert changes_since(copy, bytes(6528)) is None and changes_since(head + bytes(6400), grown) == [] and changes_since(copy, copy[:150]) == [0]
+    since = lambda one, other: changes_since(one, other, 100)
+    assert since(copy, grown) == [] and since(grown, copy) == [1] and since(copy, head + bytes(6400)) == [0]
+    assert since(copy, bytes(6528)) is None and since(head + bytes(6400), grown) == [] and since(copy, copy[:150]) == [0]
+    check_refusals(cases, head, entry)
+    print("all as known")
+
+
+def check_refusals(cases, head, entry):
     for bytes_of, said in cases:
         try:
             book_of(bytes_of, head, entry, 2)
             raise AssertionError(said)
         except Refused as refusal:
             assert str(refusal) == said, (str(refusal), said)
-    print("all as known")
+
+
+def with_bytes(data, changes):
+    changed = bytearray(data)
+    for place, byte in changes.items():
+        changed[place] = byte
+    return bytes(changed)
+
+
+def check_areas(entry, head, reservation, settlement):
+    """Version 2, for a hundred records: areas of 64 and of 100 slots, at bytes 128 and 4224, the file ending at 10,624."""
+    assert [(area.begin, area.slots, area.end) for area in areas(2, 100)] == [(128, 64, 4224), (4224, 100, 10624)]
+    assert [area.slots for area in areas(1, 100)] == [100] and areas(2, 64)[-1].end == 4224 and len(areas(2, 65)) == 2
+    assert len(areas(2, 262144)) == 13 and areas(2, 262144)[-1].end == 33550464
+    two = reservation.encoded() + settlement.encoded()
+    first = head + two + bytes(SLOT * 62)
+    grown = with_bytes(first, {97: GATE}) + two + bytes(SLOT * 98)
+    assert len(first) == 4224 and len(grown) == 10624
+    for data in (first, grown, first + b"\x07", with_bytes(grown, {97: 0x25}), with_bytes(grown, {127: 7, 200: 9})):
+        assert len(book_of(data, head, entry, 2).records) == 2
+    assert changes_since(first, grown, 100) == [] and changes_since(grown, first, 100) is None
+    check_refusals([
+        (first[:4223], "damaged 63"),
+        (grown[:10623], "damaged 99"),
+        (with_bytes(first, {97: GATE}), "damaged 0"),
+        (with_bytes(first, {98: GATE}), "changed"),
+        (with_bytes(grown, {98: GATE}), "changed"),
+        (with_bytes(first, {96: 1}), "changed"),
+        (with_bytes(first, {9: 3}), "changed"),
+        (with_bytes(first, {9: 1}), "damaged 64"),
+        (with_bytes(grown, {9: 1}), "changed"),
+        (with_bytes(first, {HEAD + SLOT * 5: GATE}), "damaged 5"),
+    ], head, entry)  # fmt: skip
 
 
 def check_sums(entry):
@@ -460,6 +590,35 @@ def show(words):
     return not refused
 
 
+def show_areas(words):
+    """Each journal's version and areas, or why it is refused; whether none is."""
+    catalog, key, folder = read(contents(words[0])), contents(words[1]), words[2] if len(words) == 3 else "."
+    refused = False
+    for order, (entry, book) in enumerate(zip(catalog["owners"], books(*words))):
+        data = contents(f"{folder}/journals/{order}.bud") if os.path.exists(f"{folder}/journals/{order}.bud") else b""
+        if len(data) >= HEAD:
+            live = live_area(data, entry["capacity"])
+            for area in areas(live.version, entry["capacity"]):
+                state = "live" if area.number == live.number else "earlier" if area.number < live.number else "to come"
+                print(f"{entry['name']} version {data[VERSION_AT]} area {area.number} {state}: {area.slots} slots, bytes {area.begin} to {area.end}")
+        if isinstance(book, str):
+            print(f"{book}: {why_refused(data, catalog, order, key, words[0])}")
+            refused = True
+        else:
+            print(f"{entry['name']} {len(data)} bytes, {len(book.records)} records of {entry['capacity']}")
+    return not refused
+
+
+def why_refused(data, catalog, order, key, catalog_name):
+    """Why a journal is refused, in words."""
+    entry = catalog["owners"][order]
+    try:
+        book_of(data, header(contents(catalog_name), order, key, contents), entry, len(catalog["analysts"]))
+    except Refused as refusal:
+        return refusal.how or "there is no header of 128 bytes whose first byte is 0xA5"
+    return "it isn't"
+
+
 def main():
     signal.signal(signal.SIGPIPE, signal.SIG_DFL)
     words = sys.argv[1:]
@@ -469,6 +628,8 @@ def main():
         print(__doc__.strip())
     elif words[:1] == ["--compare"] and len(words) == 4:
         sys.exit(0 if compared(*words[1:]) else 1)
+    elif words[:1] == ["--areas"] and len(words) in (3, 4):
+        sys.exit(0 if show_areas(words[1:]) else 1)
     elif words[:1] == ["--audits"] and len(words) == 2:
         sys.exit(0 if read_audits(words[1]) else 1)
     elif len(words) in (2, 3) and not words[0].startswith("--"):

@@ -13,9 +13,8 @@ import os
 from itertools import product
 
 from catalog import BadCatalog, read
-from journal import GATE, HEAD, compact, contents
+from journal import GATE, GATES_AT, HEAD, VERSIONS, compact, contents, stray_gate
 
-VERSION = 1
 MAGIC = b"FUZZBUDG"
 KEY_LENGTH = 32
 FILE_LIMIT = 2**26
@@ -47,19 +46,23 @@ class Header:
         number = lambda a, b: int.from_bytes(data[a:b], "big")
         self.gate, self.magic, self.version = data[0], data[1:9], data[9]
         self.order, self.budget, self.capacity = number(10, 14), number(14, 22), number(22, 26)
-        self.digest, self.rest = data[64:96], data[26:64] + data[96:HEAD]
+        self.digest, self.rest = data[64:96], data[26:64] + data[GATES_AT : HEAD if self.version == 1 else GATES_AT + 1]
+        self.stray = stray_gate(data, self.capacity) if self.version == 2 else None
 
     def is_one(self):
         """Whether these are the bytes of some header, whatever it is of."""
-        return self.gate == GATE and self.magic == MAGIC and self.version == VERSION and not any(self.rest)
+        return self.gate == GATE and self.magic == MAGIC and self.version in VERSIONS and not any(self.rest) and not self.stray
 
 
 def form_faults(found):
     if found.magic != MAGIC:
         return ["It is no journal: behind its first byte `FUZZBUDG` doesn't stand."]
-    if found.version != VERSION:
-        return [f"It is a journal of version {found.version}, and this program's are of version {VERSION}."]
-    return ["Bytes of its header that are always zeros (26 to 63 and 96 to 127) aren't: somebody has written into the file."]
+    if found.version not in VERSIONS:
+        return [f"It is a journal of version {found.version}, and this program reads versions 1 and 2."]
+    if any(found.rest):
+        end = HEAD - 1 if found.version == 1 else GATES_AT
+        return [f"Bytes of its header that are always zeros (26 to 63 and {GATES_AT} to {end}) aren't: somebody has written into the file."]
+    return [f"A gate of its areas is out of order: {found.stray}. Somebody has written into the file, or the disk has."]
 
 
 # Files that may be what was there.

@@ -8,7 +8,7 @@ import re
 
 COMMANDS = {
     "init": "CATALOG KEY", "run": "CATALOG KEY [--workers W] < SCRIPT",
-    "audit": "CATALOG KEY", "check": "CATALOG OWNER FILE",
+    "serve": "CATALOG KEY [--addr A] --port P [--workers W] --each N", "audit": "CATALOG KEY", "check": "CATALOG OWNER FILE",
     "gap": "CATALOG OWNER CATALOG2 FILE",
 }  # fmt: skip
 STATUSES = {
@@ -17,7 +17,7 @@ STATUSES = {
     2: "the words are no command",
     3: "a file that the words or a catalog names is absent, too long or not what it should be, or OWNER isn't in the catalog, or `gap`'s entries don't fit",
     4: "an owner's journal isn't the one that belongs there; nothing was read of the script",
-    5: "a file, standard input or standard output failed; what was written is a part of what was due, or nothing",
+    5: "a file, standard input or standard output failed; what was written is a part of what was due, or nothing; or a port of `serve` couldn't be listened at",
     6: "the disk, or the folder `journals`, failed while an owner's journal was made or opened, or another process has that journal; nothing was asked",
     7: "memory ran out before anything was answered",
     8: "the script has over 2^24 bytes, and nothing of it was answered",

@@ -1,10 +1,13 @@
 """The client: asks of one owner as one analyst, and what became of a run that was cut.
 
-    connect(PLACE, ANALYST, OWNER)      PLACE is a folder (transport.py); OWNER may be left out where there is one, and ANALYST where nothing is asked
+    connect(PLACE, ANALYST, OWNER)      PLACE is a folder, or `ssh://DESTINATION` (transport.py); OWNER may be left out where there is one, and ANALYST
+                                        where nothing is asked
+    connect(HOST, PORT, ANALYST, OWNER) the same at a port of a service
 
 **One client an analyst and owner at a time**: only so are an analyst's new reservations those of its client. The client never asks again by itself.
 """
 import time
+from contextlib import nullcontext
 from inspect import Parameter, signature
 
 from . import statistics
@@ -22,10 +25,13 @@ PLANS = {
 }  # fmt: skip
 
 
-def connect(place, analyst, owner=None, **words):
-    """WORDS of a folder: `program`, `catalog`, `key`, and `public`, a file that tools/public --json wrote."""
+def connect(place, *names, **words):
+    """WORDS of a folder: `program`, `catalog`, `key`; of a service `public`, a file that tools/public --json wrote; of ssh `words`, its own."""
+    if names and isinstance(names[0], int):
+        place, names = f"{place}:{names[0]}", names[1:]
+    named = {name: words.pop(name) for name in ("analyst", "owner") if name in words}
     transport = transport_of(place, **words)
-    return Client(transport, transport.public(), analyst, owner)
+    return Client(transport, transport.public(), *names, **named)
 
 
 def unasked(call):
@@ -77,8 +83,13 @@ class Client:
 
     def work(self, name, *words, **more):
         plan = self.plan(name, *words, **more)
-        self.afford(plan)
-        return plan.work(self.send)
+        with self.kept():
+            self.afford(plan)
+            return plan.work(self.send)
+
+    def kept(self):
+        """All that is asked in here goes over one connection, where there are any."""
+        return self.transport.kept() if hasattr(self.transport, "kept") else nullcontext()
 
     def plan(self, name, *words, **more):
         return PLANS[name](self.view, *words, **more)

@@ -11,19 +11,21 @@ from .answers import PERCENTS, Groups, units
 from .client import connect
 from .faults import Fault
 
-FOLDER = ("program", "catalog", "key")
+FOLDER = ("public", "program", "catalog", "key")
 WRITES = {"histogram": "tools/askparts --json", "budget": "tools/left --json"}
 
 
 def place_words(parser):
-    parser.add_argument("place", metavar="FOLDER", help="with the catalog, the key, the tables and the journals; the program is started there")
+    parser.add_argument("place", metavar="FOLDER", help="with the catalog, the key, the tables and the journals; the program is started there. "
+        "Or a service: ssh://DESTINATION, or HOST:PORT")
+    parser.add_argument("--public", metavar="FILE", help="what `tools/public --json CATALOG SPEC ..` wrote: wanted of a service; it says what columns mean")
     parser.add_argument("--program", metavar="FILE", help="else PROGRAM=FILE, `hitchseason` on the path, or tools/build's quick build")
     parser.add_argument("--catalog", default="catalog.json", metavar="NAME", help="of the catalog in the folder: catalog.json, unless said")
     parser.add_argument("--key", default="key", metavar="NAME", help="of the key in the folder: key, unless said")
 
 
-def client_of(given, analyst, owner, public=None):
-    return connect(given.place, analyst, owner, public=public, **{name: getattr(given, name) for name in FOLDER})
+def client_of(given, analyst, owner):
+    return connect(given.place, analyst, owner, **{name: getattr(given, name) for name in FOLDER})
 
 
 def text_of(name):

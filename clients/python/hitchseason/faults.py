@@ -64,6 +64,8 @@ def of_program(house, written, words, exception):
 def of_reply(reply, line, catalog, analyst, sensitivity):
     """What a refusal of a line that asks means, the program being one that the rules accept."""
     words = reply.split(" ")
+    if words[0] == "door":
+        return Refused(f"{reply}. The service didn't see it, and nothing is charged.", reply)
     code = words[1] if words[0] == "no" and len(words) > 1 else None
     said = meanings.meaning(reply)
     if said is None or code is None:

@@ -232,7 +232,7 @@ class Shell:
         self.unasked = False
         held = Held(client)
         try:
-            with held:
+            with held, client.kept():
                 return self.shown(plan.work(held.send))
         except (Refused, Failed, GivenUp):
             self.unasked = not held.answers
@@ -442,7 +442,6 @@ def shell(words, doc):
     parser.add_argument("analyst", metavar="ANALYST")
     parser.add_argument("owner", nargs="?", metavar="OWNER", help="may be left out where there is one")
     parser.add_argument("--json", action="store_true", help="answers, forecasts and the budget as lines of JSON")
-    parser.add_argument("--public", metavar="FILE", help="what `tools/public --json CATALOG SPEC ..` wrote: so \\d says what columns mean")
     given = parser.parse_intermixed_args(words)
     if not (sys.stdin and sys.stdout):
         return fail("standard input or output is closed")
@@ -450,7 +449,7 @@ def shell(words, doc):
     sys.stdout.reconfigure(errors="backslashreplace")
     is_terminal, prompt = sys.stdin.isatty() and sys.stdout.isatty(), None
     try:
-        prompt = Shell(lambda owner: client_of(given, given.analyst, owner, given.public), given.owner, None if is_terminal else Plain(), given.json)
+        prompt = Shell(lambda owner: client_of(given, given.analyst, owner), given.owner, None if is_terminal else Plain(), given.json)
         if is_terminal:
             prompt.say(f"{given.analyst} asks {prompt.client.view.name}: \\h says how, \\d what there is, and \\e EPS sets the epsilon first.")
         return prompt.run()

@@ -5,9 +5,7 @@ where replies are missing and lines may have been answered all the same, or Fail
 
     Folder(FOLDER, ..)      runs `hitchseason run` in a folder, as an owner or who tries out does: the folder has the catalog, the key, the
                             tables and the journals. Who may read the key and the tables needs no answers.
-    transport_of(PLACE)     the one that a place stands for
-
-A transport that talks to a server keeps one connection, or starts one process, and says `Stopped` where it ends too early.
+    transport_of(PLACE)     the one that a place stands for: a folder's, or a service's (server.py)
 """
 import fcntl
 import json
@@ -75,7 +73,7 @@ class Folder:
 
     @contextmanager
     def locked(self):
-        """One process at a time works on a folder of journals, by the lock of docs/operators-guide.md."""
+        """Clients on a folder wait for one another. The program itself doesn't wait: it ends where another process has the journals."""
         try:
             file = open(os.path.join(self.folder, "journals.lock"), "a", encoding="ascii")
         except OSError as fault:
@@ -108,10 +106,15 @@ def ended(status):
     return f"the run ended with status {status}, {meanings.STATUSES.get(status, 'which the program never ends with')}" if status else "replies are missing"
 
 
-def transport_of(place, **words):
-    """A folder's. `ssh://` and addresses are kept for what talks to a server."""
-    if "://" in place or (":" in place and not os.path.isdir(place)):
-        raise Failed(f"{place}: there is no server to talk to yet; a folder with a catalog, a key and journals is a place")
+def transport_of(place, public=None, ssh=("ssh",), words=(), **of_folder):
+    """A folder's; a service's behind `ssh://DESTINATION`, for which WORDS are ssh's own, or at `HOST:PORT`."""
+    from .server import Address, Login
+
+    if place.startswith("ssh://"):
+        return Login(place.removeprefix("ssh://"), public, ssh, words)
+    host, colon, port = place.rpartition(":")
+    if colon and port.isdigit() and not os.path.isdir(place):
+        return Address(host.strip("[]"), int(port), public)
     if not os.path.isdir(place):
-        raise Failed(f"{place} is no folder")
-    return Folder(place, **words)
+        raise Failed(f"{place} is no folder, no HOST:PORT and no ssh://DESTINATION")
+    return Folder(place, public=public, **of_folder)

@@ -73,7 +73,7 @@ class Commands(unittest.TestCase):
             (["askparts", self.folder, "mia", "labour", "areas", "0.5", "/nowhere"], 1, "/nowhere"),
             (["left", "/nowhere", "labour"], 1, "no folder"),
             (["left", self.folder], 2, "usage"),
-            (["forecast", "ssh://there", "labour", "1", self.file], 1, "no server"),
+            (["forecast", "ssh://there", "labour", "1", self.file], 1, "--public FILE"),
             (["plot", "histogram", self.file], 1, "tools/plot"),
         ):
             ran = tool(*words)

@@ -1,6 +1,13 @@
-mod Examples
+pub mod Geometry
+pub mod Next
+pub mod Gates
+pub mod Fills
 pub mod Filled
+pub mod Copied
+pub mod Added
+pub mod Room
 pub mod Made
-pub mod One
 pub mod Scans
-pub mod Slots
+pub mod One
+mod Examples
+mod ExamplesOfOne

@@ -1,15 +1,18 @@
-//! The slots of a journal, and what is done to them.
+//! A journal, and a record more.
 //!
-//! The file is a header of 128 bytes and then slots of 64 bytes. The header or a slot counts if its first byte, the gate,
-//! is `0xA5`. The gate is written by a write of its own, once what stands behind it is stable.
+//! The file is a header of 128 bytes and then areas of slots of 64 bytes. The header or a slot counts if its first byte, the
+//! gate, is `0xA5`. The gate is written by a write of its own, once what stands behind it is stable.
 
-ghost use Rattle.std.specs.Prelude.{◌≡◌, ◌+◌, ◌<◌, true, false, length, IsErr, OnOk, OnErr};
+ghost use Rattle.std.specs.Prelude.{◌≡◌, ◌+◌, ◌<◌, ◌^◌, true, false, IsErr, IfOk, OnOk, OnErr};
 ghost use Rattle.fz_outside.specs.Faults.{HasCause};
-ghost use Rattle.outside_disks.specs.Disks.{WhereTold, MayHaveWritten, noted};
-ghost use Rattle.outside_disks.specs.Disks.Step.{Wrote, Synced};
+ghost use Rattle.outside_disks.specs.Disks.{WhereTold};
 ghost use Rattle.journal_records.specs.Encoding.{IsValid};
-ghost use Rattle.budget_journal.specs.Journals.{disk_of, used, is_closed, capacity_of, Appended, AppendFailed};
+ghost use Rattle.budget_journal.specs.Areas.{version_byte};
+ghost use Rattle.budget_journal.specs.Growth.{SlotFilled, SlotFillFailed};
+ghost use Rattle.budget_journal.specs.Journals.{Appended, AppendFailed, mark_at, mark_of, disk_of, used, is_closed, capacity_of};
 
+use crate::area::Area;
+use crate::growing::{make_room, put_stable};
 use fz_outside::Failed;
 use journal_records::coding::{GATE, encode};
 use journal_records::records::Record;
@@ -29,42 +32,54 @@ impl From<Failed> for DiskFault {
 #[derive(Drop)]
 pub struct Journal<D: Disk> {
     pub(crate) disk: D,
-    /// How many slots are open.
+    /// The live area.
+    pub(crate) area: Area,
+    /// How many of its slots are open.
     pub(crate) used: u32,
-    /// How many slots there are.
-    pub(crate) capacity: u32,
     /// Whether an append has failed.
     pub(crate) closed: bool,
 }
 
-// Writes these bytes and makes them stable.
-pub(crate) fn put_stable<D: Disk>(disk: &mut D, place: u64, bytes: &[u8]) -> Result<(), Failed>
-    ensures stable { OnOk result (D.trace disk.new ≡ noted Synced (noted (Wrote place bytes.now) (D.trace disk.old))) }
-    ensures err { OnErr result (MayHaveWritten place (length bytes.now) (D.trace disk.old) (D.trace disk.new)) }
-    ensures cause { HasCause (D.faults disk.old) (D.faults disk.new) (IsErr result) }
-    ensures passed { OnOk result (D.faults disk.new ≡ D.faults disk.old) }
-{
-    disk.write_at(place, bytes)?;
-    disk.sync()
-}
-
-// Fills slot `used`: what stands behind its gate, and then the gate.
-fn fill_slot<D: Disk>(disk: &mut D, used: u32, record_in: &Record) -> Result<(), Failed>
-    requires { IsValid record_in.now }
-    ensures appended { OnOk result (WhereTold (Appended used record_in.now) (D.trace disk.old) (D.trace disk.new)) }
-    ensures refused { OnErr result (WhereTold (AppendFailed used record_in.now) (D.trace disk.old) (D.trace disk.new)) }
+// Fills the slot at this place: what stands behind its gate, and then the gate.
+fn fill_slot<D: Disk>(disk: &mut D, place: u64, record_in: &Record) -> Result<(), Failed>
+    requires valid { IsValid record_in.now }
+    requires low { place < 2 ^ 63 }
+    ensures filled { OnOk result (WhereTold (SlotFilled place record_in.now) (D.trace disk.old) (D.trace disk.new)) }
+    ensures refused { OnErr result (WhereTold (SlotFillFailed place record_in.now) (D.trace disk.old) (D.trace disk.new)) }
     ensures cause { HasCause (D.faults disk.old) (D.faults disk.new) (IsErr result) }
     ensures passed { OnOk result (D.faults disk.new ≡ D.faults disk.old) }
 {
     let mut slot = [0u8; 64];
     encode(record_in, &mut slot);
-    let place = 128 + 64 * u64::from(used);
     put_stable(disk, place + 1, &slot[1..])?;
     put_stable(disk, place, &[GATE])
 }
 
+// Adds a record behind so many, in this live area or in the next one. Gives the live area.
+fn add_record<D: Disk>(
+    disk: &mut D,
+    live: &Area,
+    used: u32,
+    record_in: &Record,
+) -> Result<Area, Failed>
+    requires valid { IsValid record_in.now }
+    requires room { used < live.now.capacity }
+    ensures added { IfOk result (λ area. WhereTold (Appended (mark_at live.now used) record_in.now (mark_at area (used + 1)))
+        (D.trace disk.old) (D.trace disk.new)) }
+    ensures refused { OnErr result (WhereTold (AppendFailed (mark_at live.now used) record_in.now) (D.trace disk.old) (D.trace disk.new)) }
+    ensures version { IfOk result (λ area. area.version ≡ live.now.version) }
+    ensures capacity { IfOk result (λ area. area.capacity ≡ live.now.capacity) }
+    ensures cause { HasCause (D.faults disk.old) (D.faults disk.new) (IsErr result) }
+    ensures passed { OnOk result (D.faults disk.new ≡ D.faults disk.old) }
+{
+    let area = make_room(disk, live, used)?;
+    fill_slot(disk, area.place(used), record_in)?;
+    Ok(area)
+}
+
 impl<D: Disk> Journal<D> {
-    /// Adds a record. Once it has answered Ok, a stop at any moment leaves a journal that has it.
+    /// Adds a record, to the next area where the live one is full. Once it has answered Ok, a stop at any moment leaves a
+    /// journal that has it.
     ///
     /// After a fault the journal is closed: open its disk again.
     pub fn append(&mut self, record_in: &Record) -> Result<(), DiskFault>
@@ -72,19 +87,23 @@ impl<D: Disk> Journal<D> {
         requires room { used self.old < capacity_of self.old }
         requires valid { IsValid record_in.now }
 
-        ensures appended { OnOk result (WhereTold (Appended (used self.old) record_in.now) (D.trace (disk_of self.old)) (D.trace (disk_of self.new))) }
-        ensures refused { OnErr result (WhereTold (AppendFailed (used self.old) record_in.now) (D.trace (disk_of self.old)) (D.trace (disk_of self.new))) }
+        ensures appended { OnOk result (WhereTold (Appended (mark_of self.old) record_in.now (mark_of self.new))
+            (D.trace (disk_of self.old)) (D.trace (disk_of self.new))) }
+        ensures refused { OnErr result (WhereTold (AppendFailed (mark_of self.old) record_in.now)
+            (D.trace (disk_of self.old)) (D.trace (disk_of self.new))) }
 
         ensures open { OnOk result (is_closed self.new ≡ false) }
         ensures closed { OnErr result (is_closed self.new ≡ true) }
         ensures counted { OnOk result (used self.new ≡ used self.old + 1) }
+        ensures version { (mark_of self.new).version ≡ (mark_of self.old).version }
         ensures room { capacity_of self.new ≡ capacity_of self.old }
 
         ensures cause { HasCause (D.faults (disk_of self.old)) (D.faults (disk_of self.new)) (IsErr result) }
         ensures passed { OnOk result (D.faults (disk_of self.new) ≡ D.faults (disk_of self.old)) }
     {
-        match fill_slot(&mut self.disk, self.used, record_in) {
-            Ok(()) => {
+        match add_record(&mut self.disk, &self.area, self.used, record_in) {
+            Ok(area) => {
+                self.area = area;
                 self.used += 1;
                 Ok(())
             }
@@ -100,6 +119,13 @@ impl<D: Disk> Journal<D> {
         ensures { result ≡ D.faults (disk_of self.now) }
     {
         self.disk.fault_count()
+    }
+
+    /// The version of its header.
+    pub fn version(&self) -> u8
+        ensures { result ≡ version_byte (mark_of self.now).version }
+    {
+        self.area.version.byte()
     }
 
     /// Gives the disk back.

@@ -1,17 +1,22 @@
 //! Opening a journal that a stop may have left.
 
-ghost use Rattle.std.specs.Prelude.{◌≡◌, ◌≢◌, ◌⊎◌, ℕ, ◌+◌, ◌*◌, ◌^◌, ◌<◌, ◌≤◌, Some, List, length, take, drop, IsErrOf, IfOk, IfErr, IfSome, OnOk, false};
+ghost use Rattle.std.specs.Prelude.{◌≡◌, ◌≢◌, ◌↔◌, ℕ, ◌+◌, ◌*◌, ◌^◌, ◌<◌, ◌≤◌, Some, List, length, take, drop, IsTrue, IsErrOf, IfOk, IfErr, IfSome, IfNone, OnOk, false};
 ghost use Rattle.std.specs.List.{All};
 ghost use Rattle.fz_outside.specs.Faults.{HasCause};
 ghost use Rattle.outside_disks.specs.Disks.{Trace, seen_of, noted, WhereTold};
 ghost use Rattle.outside_disks.specs.Disks.Step.{Synced};
 ghost use Rattle.journal_records.specs.Encoding.{IsValid};
-ghost use Rattle.budget_journal.specs.Journals.{one_area, slot_place, Scanned, IsSlotFault, SlotRead, SlotsRead, HeaderRead, JournalRead, Found, IsOpenFault, MayHaveSynced, disk_of, used, is_closed, capacity_of};
 ghost use Rattle.budget_journal.specs.declared.opening.OpenFault.TheVariants.{DiskFault, NoMemory};
+ghost use Rattle.budget_journal.specs.declared.version.Version.TheVariants.{Two};
+ghost use Rattle.budget_journal.specs.Areas.{area_in, HasGates, IsStray};
+ghost use Rattle.budget_journal.specs.Journals.{Layout, slot_place, Differ, Found, IsMarked, IsOpenFault, MayHaveSynced, disk_of, used, is_closed, capacity_of, mark_of};
+ghost use Rattle.budget_journal.specs.Opening.{AreAlike, HeaderRead, SlotRead, Scanned, IsSlotFault, SlotsRead, JournalRead};
 
+use crate::area::Area;
 use crate::journal::Journal;
+use crate::version::Version;
 use fz_outside::Failed;
-use journal_records::coding::{GATE, encode_header};
+use journal_records::coding::GATE;
 use journal_records::decoding::decode;
 use journal_records::records::{Header, Record};
 use outside_disks::disk::Disk;
@@ -26,9 +31,10 @@ pub enum OpenFault {
     NoMemory,
     /// The disk has under 128 bytes, or the header's gate is closed.
     NotInitialised { length: u64 },
-    /// The header on the disk isn't the entry's.
+    /// The header on the disk isn't the entry's in the version that is found there, or that version is unknown.
     Changed { kept: [u8; 128], found: [u8; 128] },
-    /// The least slot that isn't wholly there, or is past the capacity, or is open and no record, or is open behind a closed one.
+    /// The least slot that isn't wholly there, or is past the last one in version 1, or is open and no record, or is open behind a
+    /// closed one.
     Damaged { slot: u32 },
 }
 
@@ -56,28 +62,80 @@ impl<T: Drop> From<AllocFailed<T>> for OpenFault {
     }
 }
 
-// Whether a header is the wanted one, of a journal with so many bytes.
-fn judge_header(size: u64, kept: &[u8; 128], header: &Header) -> Result<u64, OpenFault>
+// The live area by the gates in a header, where these are in order.
+fn area_by_gates(kept: &[u8; 128], capacity: u32) -> Option<Area>
+    ensures live { IfSome result (λ area. (area.version ≡ Two) × (area.capacity ≡ capacity) × HasGates capacity area.number kept.now) }
+    ensures stray { IfNone result ((n : ℕ) × IsStray capacity kept.now n) }
+{
+    let mut live = Area::first(Version::Two, capacity);
+    let mut shut = false;
+    for number in 1..32 {
+        if kept[96 + number] != GATE {
+            shut = true;
+        } else if shut {
+            // behind one that isn't open
+            return None;
+        } else if live.slots == capacity {
+            // for no area
+            return None;
+        } else {
+            live = live.next();
+        }
+    }
+    Some(live)
+}
+
+// Whether two headers have the same fields.
+fn have_same_fields(kept: &[u8; 128], found: &[u8; 128]) -> bool
+    ensures { IsTrue result ↔ (take 97 kept.now ≡ take 97 found.now) }
+{
+    kept[..97] == found[..97]
+}
+
+// The live area of the header that is kept, if it is the one found, by the rules of this version.
+fn area_by_header(
+    version: Version,
+    capacity: u32,
+    kept: &[u8; 128],
+    found: &[u8; 128],
+) -> Option<Area>
+    ensures version { IfSome result (λ area. area.version ≡ version) }
+    ensures capacity { IfSome result (λ area. area.capacity ≡ capacity) }
+    ensures alike { IfSome result (λ area. AreAlike version capacity area.number kept.now found.now) }
+    ensures differ { IfNone result (Differ version capacity kept.now found.now) }
+{
+    match version {
+        Version::One if *kept == *found => Some(Area::first(version, capacity)),
+        Version::Two if have_same_fields(kept, found) => area_by_gates(kept, capacity),
+        _ => None,
+    }
+}
+
+// The length and the live area of a journal with so many bytes, if its header is the wanted one.
+fn judge_header(size: u64, kept: &[u8; 128], header: &Header) -> Result<(u64, Area), OpenFault>
     requires { 128 ≤ size }
     ensures judged { (bytes : List ℕ) → size ≡ length bytes → kept.now ≡ take 128 bytes → HeaderRead header.now bytes result }
-    ensures same { IfOk result (λ n. n ≡ size) }
+    ensures long { IfOk result (λ read. read.0 ≡ size) }
+    ensures same { IfOk result (λ read. read.1.capacity ≡ header.now.capacity) }
     ensures sound { IsErrOf result DiskFault → ⊥ }
 {
     if kept[0] != GATE {
         return Err(OpenFault::NotInitialised { length: size });
     }
+    let version = Version::of(kept[9]);
     let mut found = [0u8; 128];
-    encode_header(header, &mut found);
-    if *kept != found {
-        return Err(OpenFault::Changed { kept: *kept, found });
+    version.encode(header, &mut found);
+    match area_by_header(version, header.capacity, kept, &found) {
+        Some(live) => Ok((size, live)),
+        None => Err(OpenFault::Changed { kept: *kept, found }),
     }
-    Ok(size)
 }
 
-// Syncs, and reads the header. Gives the length.
-fn read_header<D: Disk>(disk: &mut D, header: &Header) -> Result<u64, OpenFault>
+// Syncs, and reads the header. Gives the length and the live area.
+fn read_header<D: Disk>(disk: &mut D, header: &Header) -> Result<(u64, Area), OpenFault>
     ensures judged { (t : Trace) → D.trace disk.old ≡ Some t → HeaderRead header.now (seen_of t) result }
-    ensures long { IfOk result (λ n. 128 ≤ n) }
+    ensures long { IfOk result (λ read. 128 ≤ read.0) }
+    ensures same { IfOk result (λ read. read.1.capacity ≡ header.now.capacity) }
     ensures synced { OnOk result (D.trace disk.new ≡ noted Synced (D.trace disk.old)) }
     ensures kept { MayHaveSynced (D.trace disk.old) (D.trace disk.new) }
     ensures cause { HasCause (D.faults disk.old) (D.faults disk.new) (IsErrOf result DiskFault) }
@@ -95,8 +153,8 @@ fn read_header<D: Disk>(disk: &mut D, header: &Header) -> Result<u64, OpenFault>
 
 // The record in a slot that was read, if it is open.
 fn judge_slot(slot: u32, bytes: &[u8; 64], closed: bool) -> Result<Option<Record>, OpenFault>
-    ensures judged { (file : List ℕ) (slots : ℕ) → slot_place (one_area slots) slot + 64 ≤ length file → bytes.now ≡ take 64 (drop (slot_place (one_area slots) slot) file)
-        → SlotRead (one_area slots) file slot closed result }
+    ensures judged { (file : List ℕ) (layout : Layout) → slot_place layout slot + 64 ≤ length file → bytes.now ≡ take 64 (drop (slot_place layout slot) file)
+        → SlotRead layout file slot closed result }
     ensures valid { IfOk result (λ found. IfSome found IsValid) }
     ensures sound { IsErrOf result DiskFault → ⊥ }
 {
@@ -113,88 +171,96 @@ fn judge_slot(slot: u32, bytes: &[u8; 64], closed: bool) -> Result<Option<Record
 }
 
 // Reads a slot that is wholly there.
-fn read_slot<D: Disk>(disk: &mut D, slot: u32, closed: bool) -> Result<Option<Record>, OpenFault>
-    ensures judged { (t : Trace) (slots : ℕ) → D.trace disk.old ≡ Some t → slot_place (one_area slots) slot + 64 ≤ length (seen_of t)
-        → SlotRead (one_area slots) (seen_of t) slot closed result }
+fn read_slot<D: Disk>(
+    disk: &mut D,
+    place: u64,
+    slot: u32,
+    closed: bool,
+) -> Result<Option<Record>, OpenFault>
+    ensures judged { (t : Trace) (layout : Layout) → D.trace disk.old ≡ Some t → place ≡ slot_place layout slot → place + 64 ≤ length (seen_of t)
+        → SlotRead layout (seen_of t) slot closed result }
     ensures valid { IfOk result (λ found. IfSome found IsValid) }
     ensures same { D.trace disk.new ≡ D.trace disk.old }
     ensures cause { HasCause (D.faults disk.old) (D.faults disk.new) (IsErrOf result DiskFault) }
     ensures passed { OnOk result (D.faults disk.new ≡ D.faults disk.old) }
 {
     let mut bytes = [0u8; 64];
-    disk.read_at(128 + 64 * u64::from(slot), &mut bytes)?;
+    disk.read_at(place, &mut bytes)?;
     judge_slot(slot, &bytes, closed)
 }
 
-// Adds the record of the next slot, if it is open.
+// Adds the record of the next slot of the live area, if it is open.
 fn add_slot<D: Disk>(
     disk: &mut D,
     size: u64,
+    live: &Area,
     slot: u32,
     records: &mut Vec<Record>,
 ) -> Result<(), OpenFault>
-    ensures judged { (t : Trace) (capacity : ℕ) → D.trace disk.old ≡ Some t → size ≡ length (seen_of t) → slot < capacity
-        → Scanned (one_area capacity) (seen_of t) slot records.old.items
-        → OnOk result (Scanned (one_area capacity) (seen_of t) (slot + 1) records.new.items) × IfErr result (IsSlotFault (one_area capacity) (seen_of t)) }
+    ensures judged { (t : Trace) (layout : Layout) → D.trace disk.old ≡ Some t → size ≡ length (seen_of t) → live.now.begin ≡ layout.begin → slot < layout.slots
+        → Scanned layout (seen_of t) slot records.old.items
+        → OnOk result (Scanned layout (seen_of t) (slot + 1) records.new.items) × IfErr result (IsSlotFault layout (seen_of t)) }
     ensures bounded { length records.new.items ≤ length records.old.items + 1 }
     ensures valid { All IsValid records.old.items → All IsValid records.new.items }
     ensures same { D.trace disk.new ≡ D.trace disk.old }
     ensures cause { HasCause (D.faults disk.old) (D.faults disk.new) (IsErrOf result DiskFault) }
     ensures passed { OnOk result (D.faults disk.new ≡ D.faults disk.old) }
 {
-    if size < 192 + 64 * u64::from(slot) {
+    let place = live.place(slot);
+    if size < place + 64 {
         return Err(OpenFault::Damaged { slot });
     }
     let closed = records.len() < slot as usize;
-    if let Some(found) = read_slot(disk, slot, closed)? {
+    if let Some(found) = read_slot(disk, place, slot, closed)? {
         records.push(found)?;
     }
     Ok(())
 }
 
-// Reads the slots of a journal with so many bytes, up to the least that is damaged.
+// Reads the live area's slots of a journal with so many bytes, up to the least that is damaged. Takes memory for these alone.
 fn read_slots<D: Disk>(
     alloc: Global,
     disk: &mut D,
     size: u64,
-    capacity: u32,
+    live: &Area,
 ) -> Result<Vec<Record>, OpenFault>
     requires { 128 ≤ size }
-    ensures judged { (t : Trace) → D.trace disk.old ≡ Some t → size ≡ length (seen_of t) → SlotsRead (one_area capacity) (seen_of t) result }
-    ensures bounded { IfOk result (λ records. length records.items ≤ capacity) }
-    ensures small { IfOk result (λ records. length records.items < 2 ^ 32) }
+    ensures judged { (t : Trace) → D.trace disk.old ≡ Some t → size ≡ length (seen_of t)
+        → SlotsRead (area_in live.now.version live.now.capacity live.now.number size) (seen_of t) result }
+    ensures bounded { IfOk result (λ records. length records.items ≤ live.now.slots) }
     ensures valid { IfOk result (λ records. All IsValid records.items) }
     ensures same { D.trace disk.new ≡ D.trace disk.old }
     ensures cause { HasCause (D.faults disk.old) (D.faults disk.new) (IsErrOf result DiskFault) }
     ensures passed { OnOk result (D.faults disk.new ≡ D.faults disk.old) }
 {
-    let mut records = Vec::with_capacity(alloc, capacity as usize)?;
-    for slot in 0..capacity {
-        add_slot(disk, size, slot, &mut records)?;
+    let mut records = Vec::with_capacity(alloc, live.slots as usize)?;
+    for slot in 0..live.slots {
+        add_slot(disk, size, live, slot, &mut records)?;
     }
-    if size > 128 + 64 * u64::from(capacity) {
-        return Err(OpenFault::Damaged { slot: capacity });
+    if size > live.file_size(size) {
+        return Err(OpenFault::Damaged { slot: live.slots });
     }
     Ok(records)
 }
 
-// Reads the records of a journal, or says why not.
+// Reads the live area and its records, or says why not.
 fn read_journal<D: Disk>(
     alloc: Global,
     disk: &mut D,
     header: &Header,
-) -> Result<Vec<Record>, OpenFault>
+) -> Result<(Area, Vec<Record>), OpenFault>
     ensures judged { (t : Trace) → D.trace disk.old ≡ Some t → JournalRead header.now (seen_of t) result }
-    ensures bounded { IfOk result (λ records. length records.items ≤ header.now.capacity) }
-    ensures small { IfOk result (λ records. length records.items < 2 ^ 32) }
-    ensures valid { IfOk result (λ records. All IsValid records.items) }
+    ensures capacity { IfOk result (λ read. read.0.capacity ≡ header.now.capacity) }
+    ensures bounded { IfOk result (λ read. length read.1.items ≤ read.0.slots) }
+    ensures valid { IfOk result (λ read. All IsValid read.1.items) }
     ensures synced { OnOk result (D.trace disk.new ≡ noted Synced (D.trace disk.old)) }
     ensures kept { MayHaveSynced (D.trace disk.old) (D.trace disk.new) }
     ensures cause { HasCause (D.faults disk.old) (D.faults disk.new) (IsErrOf result DiskFault) }
     ensures passed { OnOk result (D.faults disk.new ≡ D.faults disk.old) }
 {
-    let size = read_header(disk, header)?;
-    read_slots(alloc, disk, size, header.capacity)
+    let (size, live) = read_header(disk, header)?;
+    let records = read_slots(alloc, disk, size, &live)?;
+    Ok((live, records))
 }
 
 impl<D: Disk> Journal<D> {
@@ -205,6 +271,7 @@ impl<D: Disk> Journal<D> {
         header: &Header,
     ) -> Result<(Journal<D>, Vec<Record>), (D, OpenFault)>
         ensures found { IfOk result (λ opened. WhereTold (Found header.now opened.1.items) (D.trace disk) (D.trace (disk_of opened.0))) }
+        ensures marked { IfOk result (λ opened. IfSome (D.trace (disk_of opened.0)) (IsMarked (mark_of opened.0) header.now opened.1.items)) }
         ensures open { IfOk result (λ opened. is_closed opened.0 ≡ false) }
         ensures counted { IfOk result (λ opened. used opened.0 ≡ length opened.1.items) }
         ensures capacity { IfOk result (λ opened. capacity_of opened.0 ≡ header.now.capacity) }
@@ -218,11 +285,11 @@ impl<D: Disk> Journal<D> {
     {
         let mut disk = disk;
         match read_journal(alloc, &mut disk, header) {
-            Ok(records) => {
+            Ok((area, records)) => {
                 let journal = Journal {
                     disk,
+                    area,
                     used: records.len() as u32,
-                    capacity: header.capacity,
                     closed: false,
                 };
                 Ok((journal, records))

@@ -8,7 +8,7 @@ use Rattle.journal_records.specs.declared.records.Outcome.{Outcome}
 use Rattle.journal_records.specs.declared.records.Record.{Record}
 use Rattle.journal_records.specs.declared.records.Header.{Header}
 use Rattle.budget_journal.specs.declared.journal.Journal.{Journal}
-use Rattle.budget_journal.specs.Journals.{IsAtRest, IsBeforeOrAfter, Appended, AppendFailed, disk_of, used, capacity_of}
+use Rattle.budget_journal.specs.Journals.{IsAtRest, IsBeforeOrAfter, Mark, IsMarked, Appended, AppendFailed, disk_of, used, capacity_of, mark_of}
 use Rattle.budget_core.specs.Legal.{MayFollow}
 use Rattle.budget_core.specs.Ledger.{Ledger, start_of, IsUnsettled}
 use Rattle.budget_core.specs.Sound.{IsSound}
@@ -41,28 +41,30 @@ module _ (header : Header) (records : List Record) (next : Record) where
   failed_moment failed_at bytes (inr after) = inr (record { failed_at = failed_at; pending = next }, refl, after)
 
   -- an append that answered Ok
-  told_added : (slots : ℕ) (before after : Option Trace) → length records ≡ slots → slots < header.capacity → IfSome before (IsAtRest header records)
-      → WhereTold (Appended slots next) before after
+  told_added : (mark now : Mark) (before after : Option Trace) → mark.used < mark.capacity → IfSome before (IsAtRest header records)
+      → IfSome before (IsMarked mark header records) → WhereTold (Appended mark next now) before after
       → IfSome after (IsAtRest header (records ++ next ∷ [])) × WhereTold (HasPassed header records (records ++ next ∷ []) None) before after
-  told_added slots None None at room rest appended = (tt, tt)
-  told_added slots None (Some u) at room rest appended = absurd appended
-  told_added slots (Some t) None at room rest appended = absurd appended
-  told_added slots (Some t) (Some u) at room rest appended =
-      let both = appended header records rest at room in (
-        both.0,
+      × IfSome after (IsMarked now header (records ++ next ∷ []))
+  told_added mark now None None room rest at appended = (tt, tt, tt)
+  told_added mark now None (Some u) room rest at appended = absurd appended
+  told_added mark now (Some t) None room rest at appended = absurd appended
+  told_added mark now (Some t) (Some u) room rest at appended =
+      let all = appended header records rest at room in (
+        all.0,
         passes-weaker (IsBeforeOrAfter header records next) (λ bytes. IsImageOf t bytes ⊎ IsMoment header records (records ++ next ∷ []) None bytes) t u
-            (λ bytes some. inr (added_moment bytes some)) both.1,
+            (λ bytes some. inr (added_moment bytes some)) all.2,
+        all.1,
       )
 
   -- an append that failed
-  told_failed : (failed_at slots : ℕ) (before after : Option Trace) → length records ≡ slots → slots < header.capacity → IfSome before (IsAtRest header records)
-      → WhereTold (AppendFailed slots next) before after
+  told_failed : (failed_at : ℕ) (mark : Mark) (before after : Option Trace) → mark.used < mark.capacity → IfSome before (IsAtRest header records)
+      → IfSome before (IsMarked mark header records) → WhereTold (AppendFailed mark next) before after
       → IfSome after (IsKeptNow header records (Some (record { failed_at = failed_at; pending = next })))
       × WhereTold (HasPassed header records records (Some (record { failed_at = failed_at; pending = next }))) before after
-  told_failed failed_at slots None None at room rest refused = (tt, tt)
-  told_failed failed_at slots None (Some u) at room rest refused = absurd refused
-  told_failed failed_at slots (Some t) None at room rest refused = absurd refused
-  told_failed failed_at slots (Some t) (Some u) at room rest refused =
+  told_failed failed_at mark None None room rest at refused = (tt, tt)
+  told_failed failed_at mark None (Some u) room rest at refused = absurd refused
+  told_failed failed_at mark (Some t) None room rest at refused = absurd refused
+  told_failed failed_at mark (Some t) (Some u) room rest at refused =
       let passes = refused header records rest at room in (
         λ bytes image. passes.each bytes (now-was (moment t) u.start u.steps bytes image),
         passes-weaker (IsBeforeOrAfter header records next)
@@ -76,8 +78,8 @@ module _ {D : Type 0} (trace : D → Option Trace) (faults : D → ℕ) (ledger 
   rest_before : was ≡ None → IfSome (trace (disk_of old)) (IsAtRest header ledger.records)
   rest_before none = subst (λ (o : Option Failure). IfSome (trace (disk_of old)) (IsKeptNow header ledger.records o)) none holds.book.kept
 
-  slots_left : was ≡ None → used old < header.capacity
-  slots_left none = omega (arith, holds.counted none, room none, holds.book.capacity)
+  slots_left : was ≡ None → used old < capacity_of old
+  slots_left none = omega (arith, holds.counted none, room none, holds.book.capacity, holds.room)
 
   abbrev more : Ledger
   more = record ledger { records = ledger.records ++ next ∷ [] }
@@ -85,8 +87,9 @@ module _ {D : Type 0} (trace : D → Option Trace) (faults : D → ℕ) (ledger 
   module _ (written : HasWritten trace faults next old new was is) where
     told : IfSome (trace (disk_of new)) (IsAtRest header (ledger.records ++ next ∷ []))
         × WhereTold (HasPassed header ledger.records (ledger.records ++ next ∷ []) None) (trace (disk_of old)) (trace (disk_of new))
-    told = told_added header ledger.records next (used old) (trace (disk_of old)) (trace (disk_of new)) (sym (holds.counted written.open_before))
-        (slots_left written.open_before) (rest_before written.open_before) written.appended
+        × IfSome (trace (disk_of new)) (IsMarked (mark_of new) header (ledger.records ++ next ∷ []))
+    told = told_added header ledger.records next (mark_of old) (mark_of new) (trace (disk_of old)) (trace (disk_of new))
+        (slots_left written.open_before) (rest_before written.open_before) (holds.marked written.open_before) written.appended
 
     pub written_holds : (after : Ledger) → after ≡ record ledger { records = ledger.records ++ next ∷ [] } → IsSound after → HoldsBook trace faults after header new is
     written_holds after same sound = record {
@@ -107,6 +110,7 @@ module _ {D : Type 0} (trace : D → Option Trace) (faults : D → ℕ) (ledger 
         length-append ledger.records (next ∷ []),
         ap (λ (l : Ledger). length l.records) same,
       );
+      marked = λ none. subst (λ (l : Ledger). IfSome (trace (disk_of new)) (IsMarked (mark_of new) header l.records)) (sym same) told.2;
       ready = λ none. written.ready;
     }
 
@@ -131,8 +135,8 @@ module _ {D : Type 0} (trace : D → Option Trace) (faults : D → ℕ) (ledger 
     told_not : IfSome (trace (disk_of new)) (IsKeptNow header ledger.records (Some (record { failed_at = faults (disk_of new); pending = next })))
         × WhereTold (HasPassed header ledger.records ledger.records (Some (record { failed_at = faults (disk_of new); pending = next })))
         (trace (disk_of old)) (trace (disk_of new))
-    told_not = told_failed header ledger.records next (faults (disk_of new)) (used old) (trace (disk_of old)) (trace (disk_of new))
-        (sym (holds.counted failed.open_before)) (slots_left failed.open_before) (rest_before failed.open_before) failed.refused
+    told_not = told_failed header ledger.records next (faults (disk_of new)) (mark_of old) (trace (disk_of old)) (trace (disk_of new))
+        (slots_left failed.open_before) (rest_before failed.open_before) (holds.marked failed.open_before) failed.refused
 
     which : (failure : Failure) → is ≡ Some failure → record { failed_at = faults (disk_of new); pending = next } ≡ failure
     which failure closed = same_some (sym failed.closed ∙ closed)
@@ -152,6 +156,7 @@ module _ {D : Type 0} (trace : D → Option Trace) (faults : D → ℕ) (ledger 
       };
       room = capacity ∙ holds.room;
       counted = λ none. absurd (not_both is (record { failed_at = faults (disk_of new); pending = next }) none failed.closed);
+      marked = λ none. absurd (not_both is (record { failed_at = faults (disk_of new); pending = next }) none failed.closed);
       ready = λ none. absurd (not_both is (record { failed_at = faults (disk_of new); pending = next }) none failed.closed);
     }
 

@@ -18,9 +18,9 @@ use partition_charge::view::View;
 use std::alloc::{AllocError, Global};
 
 const LIMITS: Limits = Limits {
-    length: 8192,
-    calls: 4096,
-    written: 16_384,
+    length: 16_384,
+    calls: 65_536,
+    written: 65_536,
 };
 
 fn header_of(capacity: u32) -> Header
@@ -55,6 +55,21 @@ fn ask<D: Disk>(book: &mut Book<D>) -> Result<Grant, BookFault>
         view: View::Whole,
         e: 1_000_000,
         p: 1,
+        q: 1,
+        digest: [0; 32],
+    })
+}
+
+/// The same ask of a program that costs nothing.
+fn ask_freely<D: Disk>(book: &mut Book<D>) -> Result<Grant, BookFault>
+    ensures { IfOk result (λ grant. IsUnsettled book.new.ledger grant.number) }
+{
+    let _spent = book.spent();
+    book.reserve(&Ask {
+        analyst: 0,
+        view: View::Whole,
+        e: 1_000_000,
+        p: 0,
         q: 1,
         digest: [0; 32],
     })
@@ -194,7 +209,7 @@ fn is_closed_and_empty<D: Disk>(book: &Book<D>) -> bool {
 fn the_second_sync_fails(rt: HostRuntime) {
     let alloc = rt.alloc();
     let disk = made(alloc, 100).expect(&rt, "a journal");
-    let mut book = opened(alloc, BlipDisk::new(disk, 104), 100)
+    let mut book = opened(alloc, BlipDisk::new(disk, 68), 100)
         .ok()
         .expect(&rt, "a book");
     for fault in &SYNC_FAULTS {
@@ -205,14 +220,14 @@ fn the_second_sync_fails(rt: HostRuntime) {
 
 // A call, and what an analyst is told of the reservation after a fault or a stop there.
 const STANDINGS: [(u64, Recall); 8] = [
-    (103, Recall::Unknown { seen: 0 }),
-    (104, Recall::Unknown { seen: 0 }),
-    (105, Recall::Unknown { seen: 0 }),
-    (106, Recall::Lost { seen: 1 }),
-    (107, Recall::Lost { seen: 1 }),
-    (108, Recall::Lost { seen: 1 }),
-    (109, Recall::Lost { seen: 1 }),
-    (110, Recall::Answer { value: 5, seen: 2 }),
+    (67, Recall::Unknown { seen: 0 }),
+    (68, Recall::Unknown { seen: 0 }),
+    (69, Recall::Unknown { seen: 0 }),
+    (70, Recall::Lost { seen: 1 }),
+    (71, Recall::Lost { seen: 1 }),
+    (72, Recall::Lost { seen: 1 }),
+    (73, Recall::Lost { seen: 1 }),
+    (74, Recall::Answer { value: 5, seen: 2 }),
 ];
 
 /// The disk that a fault at this call leaves, where a stop there leaves the same bytes.
@@ -263,4 +278,45 @@ fn a_record_that_may_not_follow(rt: HostRuntime) {
     assert!(rt; disk.write_at(256, &slot) == Ok(()));
     let refused = opened(alloc, disk, 100).err().expect(&rt, "a fault");
     assert!(rt; refused.1 == OpenFault::Damaged { slot: 2 });
+}
+
+/// Asks for nothing, and settles the answer 1.
+fn answer_freely<D: Disk>(book: &mut Book<D>) -> bool {
+    match ask_freely(book) {
+        Ok(grant) => book.settle(grant.number, Outcome::Answered(1)).is_ok(),
+        Err(_) => false,
+    }
+}
+
+/// The disk of a book that has answered so often.
+fn answered(alloc: Global, times: u32) -> Option<MemDisk<'static>> {
+    let disk = made(alloc, 100)?;
+    let mut book = opened(alloc, disk, 100).ok()?;
+    for _ in 0..times {
+        if !answer_freely(&mut book) {
+            return None;
+        }
+    }
+    Some(book.into_disk())
+}
+
+// After 32 answers area 0 is full. The next reservation stands in area 1.
+#[test]
+fn a_growth(rt: HostRuntime) {
+    let alloc = rt.alloc();
+    let full = answered(alloc, 32).expect(&rt, "answers");
+    assert!(rt; full.bytes().len() == 4224);
+    let mut book = opened(alloc, full, 100).ok().expect(&rt, "a book");
+    assert!(rt; book.records().len() == 64);
+    let next = Grant {
+        number: 32,
+        taken: 0,
+        seen: 65,
+    };
+    assert!(rt; ask_freely(&mut book) == Ok(next));
+    let grown = book.into_disk();
+    assert!(rt; grown.bytes().len() == 10_624);
+    assert!(rt; grown.bytes().get(97) == Some(&0xA5));
+    assert!(rt; grown.bytes().get(8320) == Some(&0xA5));
+    assert!(rt; grown.bytes().get(8327) == Some(&32));
 }

@@ -6,7 +6,6 @@ ghost use Rattle.journal_records.specs.Encoding.{IsHeader, IsValid};
 use budget_journal::journal::{DiskFault, Journal};
 use budget_journal::making::InitFault;
 use budget_journal::opening::OpenFault;
-use growing_journal::journal::GrowingJournal;
 use journal_records::records::{Header, Outcome, Record, Settlement};
 use outside_disks::disk::Disk;
 use outside_disks::failing::{BlipDisk, FuseDisk};
@@ -42,7 +41,7 @@ fn settlement(number: u32) -> Record
 
 /// What an opening answers: how many records, or why none.
 fn opened<D: Disk + Drop>(alloc: Global, disk: D, header: &Header) -> Result<usize, OpenFault> {
-    match GrowingJournal::open(alloc, disk, header) {
+    match Journal::open(alloc, disk, header) {
         Ok((_journal, records)) => Ok(records.len()),
         Err((_disk, fault)) => Err(fault),
     }
@@ -50,7 +49,7 @@ fn opened<D: Disk + Drop>(alloc: Global, disk: D, header: &Header) -> Result<usi
 
 /// Opens the journal and appends a settlement.
 fn append_one<D: Disk>(alloc: Global, disk: D, number: u32) -> (D, Result<(), DiskFault>) {
-    match GrowingJournal::open(alloc, disk, &header_of(1)) {
+    match Journal::open(alloc, disk, &header_of(1)) {
         Ok((mut journal, records)) => {
             let answer = if records.len() < 100 {
                 journal.append(&settlement(number))
@@ -66,7 +65,7 @@ fn append_one<D: Disk>(alloc: Global, disk: D, number: u32) -> (D, Result<(), Di
 /// A disk with a journal of so many records.
 fn with_records(alloc: Global, count: u32) -> Option<MemDisk<'static>> {
     let mut disk = MemDisk::new(alloc, &[], LIMITS, &[]).ok()?;
-    GrowingJournal::init(&mut disk, &header_of(1)).ok()?;
+    Journal::init(&mut disk, &header_of(1)).ok()?;
     for number in 0..count {
         let (next, answer) = append_one(alloc, disk, number);
         answer.ok()?;
@@ -134,9 +133,9 @@ fn bytes(rt: HostRuntime) {
     }
 }
 
-// Another version; byte 96; a gate behind one that isn't, and for no area.
+// An unknown version; byte 96; a gate behind one that isn't, and for no area.
 #[rattlefmt::skip]
-const HEADERS: [&[(usize, u8)]; 4] = [&[(9, 1)], &[(96, 1)], &[(97, 0), (98, 0xA5)], &[(98, 0xA5)]];
+const HEADERS: [&[(usize, u8)]; 4] = [&[(9, 3)], &[(96, 1)], &[(97, 0), (98, 0xA5)], &[(98, 0xA5)]];
 
 #[test]
 fn headers(rt: HostRuntime) {
@@ -186,23 +185,72 @@ fn lengths(rt: HostRuntime) {
     }
 }
 
-// A journal of version 1 isn't taken for one, nor is one made twice.
+/// A journal of version 1 with the records of one in version 2 that fit area 0.
+fn in_version_one(alloc: Global, count: u32) -> Option<Vec<u8>> {
+    let mut bytes = bytes_with(alloc, count)?;
+    bytes.resize(6528, 0).ok()?;
+    if let Some(version) = bytes.get_mut(9) {
+        *version = 1;
+    }
+    Some(bytes)
+}
+
+// Of version 1: all bytes of the header count, and so does each byte behind the last slot; it has no areas.
+#[rattlefmt::skip]
+const OLDER: [(&[(usize, u8)], Result<usize, OpenFault>); 4] = [
+    (&[], Ok(64)),
+    (&[(4160, 0x25)], Ok(63)),
+    (&[(4224, 0xA5)], Err(OpenFault::Damaged { slot: 64 })),
+    (&[(6464, 0xA5)], Err(OpenFault::Damaged { slot: 99 })),
+];
+
 #[test]
-fn others(rt: HostRuntime) {
+fn older_bytes(rt: HostRuntime) {
     let alloc = rt.alloc();
-    let mut fixed = MemDisk::new(alloc, &[], LIMITS, &[])
-        .ok()
-        .expect(&rt, "a disk");
-    assert!(rt; Journal::init(&mut fixed, &header_of(1)) == Ok(()));
+    let bytes = in_version_one(alloc, 64).expect(&rt, "a journal");
+    for (changes, want) in &OLDER {
+        let disk = changed(alloc, &bytes, changes).expect(&rt, "a disk");
+        assert!(rt; opened(alloc, disk, &header_of(1)) == *want);
+    }
+    let gate = changed(alloc, &bytes, &[(97, 0xA5)]).expect(&rt, "a disk");
     assert!(rt;
         matches!(
-            opened(alloc, fixed, &header_of(1)),
+            opened(alloc, gate, &header_of(1)),
             Err(OpenFault::Changed { .. })
         )
     );
-    let mut disk = with_records(alloc, 0).expect(&rt, "a journal");
-    let again = GrowingJournal::init(&mut disk, &header_of(1));
-    assert!(rt; again == Err(InitFault::AlreadyThere { length: 4224 }));
+}
+
+// A journal of version 1 stays one: 65 records stand in one area, in a file of one length.
+#[test]
+fn an_older_journal(rt: HostRuntime) {
+    let alloc = rt.alloc();
+    let mut bytes = in_version_one(alloc, 64).expect(&rt, "a journal");
+    let disk = changed(alloc, &bytes, &[]).expect(&rt, "a disk");
+    let (more, answer) = append_one(alloc, disk, 64);
+    assert!(rt; answer == Ok(()));
+    assert!(rt; more.bytes().len() == 6528);
+    assert!(rt; more.bytes().get(4224) == Some(&0xA5));
+    assert!(rt; more.bytes().get(9) == Some(&1));
+    assert!(rt; opened(alloc, more, &header_of(1)) == Ok(65));
+    bytes.resize(6529, 0).ok().expect(&rt, "a byte");
+    let longer = changed(alloc, &bytes, &[]).expect(&rt, "a disk");
+    assert!(rt; opened(alloc, longer, &header_of(1)) == Err(OpenFault::Damaged { slot: 100 }));
+}
+
+// The version that is told: no journal changes it.
+#[test]
+fn versions(rt: HostRuntime) {
+    let alloc = rt.alloc();
+    let bytes = in_version_one(alloc, 64).expect(&rt, "a journal");
+    let older = changed(alloc, &bytes, &[]).expect(&rt, "a disk");
+    let newer = changed(alloc, &bytes, &[(9, 2)]).expect(&rt, "a disk");
+    for (disk, version) in [(older, 1), (newer, 2)] {
+        let (journal, _records) = Journal::open(alloc, disk, &header_of(1))
+            .ok()
+            .expect(&rt, "a journal");
+        assert!(rt; journal.version() == version);
+    }
 }
 
 // A call, and how many records an opening finds after a fault there. Opening has 67 calls, copying 164: a copy's read and write, and a
@@ -252,16 +300,15 @@ fn a_stop_before_the_gate(rt: HostRuntime) {
     assert!(rt; opened(alloc, grown, &header_of(1)) == Ok(65));
 }
 
-// All of them, and its version.
+// All of them.
 #[test]
 fn a_full_journal(rt: HostRuntime) {
     let alloc = rt.alloc();
     let disk = with_records(alloc, 100).expect(&rt, "a journal");
     assert!(rt; disk.bytes().len() == 10_624);
-    let (journal, records) = GrowingJournal::open(alloc, disk, &header_of(1))
+    let (journal, records) = Journal::open(alloc, disk, &header_of(1))
         .ok()
         .expect(&rt, "a journal");
     assert!(rt; records.len() == 100);
-    assert!(rt; journal.version() == 2);
     assert!(rt; journal.fault_count() == 0);
 }

@@ -105,7 +105,7 @@ const GATES: [(&[(usize, u8)], Result<usize, OpenFault>); 3] = [
 fn gates(rt: HostRuntime) {
     let alloc = rt.alloc();
     let bytes = with_one(alloc).expect(&rt, "a journal");
-    assert!(rt; bytes.len() == 6528);
+    assert!(rt; bytes.len() == 4224);
     for (changes, want) in &GATES {
         assert!(rt; opened_with(alloc, &bytes, changes, &header_of(1)) == Some(*want));
     }
@@ -127,11 +127,11 @@ fn refusals(rt: HostRuntime) {
 fn made_once(rt: HostRuntime) {
     let mut disk = made(rt.alloc()).expect(&rt, "a journal");
     let again = Journal::init(&mut disk, &header_of(1));
-    assert!(rt; again == Err(InitFault::AlreadyThere { length: 6528 }));
+    assert!(rt; again == Err(InitFault::AlreadyThere { length: 4224 }));
 }
 
 // A call, and how many records an opening finds after a fault there.
-const LEFT: [(u64, usize); 4] = [(103, 0), (104, 0), (105, 0), (106, 1)];
+const LEFT: [(u64, usize); 4] = [(67, 0), (68, 0), (69, 0), (70, 1)];
 
 /// How many records are found after a fault at this call of an append, which is refused.
 fn left_at(alloc: Global, call: u64) -> Option<Result<usize, OpenFault>> {

@@ -30,12 +30,12 @@ fn ran_failing<R: Threads + Wait + Sync>(
 
 // How long the file is where making a journal fails at this call.
 fn length_behind(call: u32) -> u32 {
-    64 * call.clamp(1, 103) - 64
+    64 * call.clamp(1, 67) - 64
 }
 
 // Whether making a journal ends so where this call fails.
 fn is_made(made: &Outcome, call: u32) -> bool {
-    let (status, out) = if call < 108 {
+    let (status, out) = if call < 72 {
         (Status::DiskFault, "disk census\n")
     } else {
         (Status::Done, "owner census budget 10000000 capacity 100\n")
@@ -47,7 +47,7 @@ fn is_made(made: &Outcome, call: u32) -> bool {
 
 // What a run writes on the file of a making that failed at this call: it is refused until its gate is there.
 fn asked_behind(alloc: Global, call: u32) -> Result<String, AllocError> {
-    if call < 107 {
+    if call < 71 {
         let length = length_behind(call);
         format!(in alloc; "journal census uninitialised {length}\n")
     } else {
@@ -69,11 +69,11 @@ fn making_fails<R: Threads + Wait + Sync>(
     Ok(is_made(&made, call) && asked.out.as_slice() == due.as_bytes())
 }
 
-// Making a journal takes 108 calls of its disk: its length, a write for each of 102 pieces of 64 bytes, a sync, and twice a write
+// Making a journal takes 72 calls of its disk: its length, a write for each of 66 pieces of 64 bytes, a sync, and twice a write
 // and a sync.
 #[test]
 fn failing_makings(rt: HostRuntime) -> Result<(), Fail> {
-    for call in 0..=108_u32 {
+    for call in 0..=72_u32 {
         let fault = making_fails(&rt, rt.alloc(), call, false)?;
         let stop = making_fails(&rt, rt.alloc(), call, true)?;
         assert!(rt; fault && stop, "{call}");
@@ -87,10 +87,10 @@ const THREE_ASKS: &[u8] =
 // How a run of three asks ends where this call fails, and what it writes. An answer is written once its settlement's gate is stable;
 // the fault is said once, and then that the owner is closed since the disk's first fault.
 fn ended_behind(call: u32) -> (Status, &'static str) {
-    if call < 103 {
+    if call < 67 {
         return (Status::DiskFault, "disk census\n");
     }
-    let out = match (call - 103) / 8 {
+    let out = match (call - 67) / 8 {
         0 => "hello ann\nno 52\nno 42 1\nno 42 1\n",
         1 => "hello ann\nanswer 0 5 1000000\nno 52\nno 42 1\n",
         2 => "hello ann\nanswer 0 5 1000000\nanswer 1 3 1000000\nno 52\n",
@@ -147,16 +147,16 @@ fn run_fails<R: Threads + Wait + Sync>(
 ) -> Result<bool, AllocError> {
     let (status, out) = ended_behind(call);
     let asked = ran_failing(rt, alloc, made, call, stop, RUN, THREE_ASKS)?;
-    let records = call.saturating_sub(102) as usize / 4;
+    let records = call.saturating_sub(66) as usize / 4;
     let found = are_found(rt, alloc, &asked.first, records)?;
     Ok(asked.status == status && asked.out.as_slice() == out.as_bytes() && found)
 }
 
-// Opening takes 103 calls, and then each record four: a write and a sync of all but the gate, and a write and a sync of the gate.
+// Opening takes 67 calls, and then each record four: a write and a sync of all but the gate, and a write and a sync of the gate.
 #[test]
 fn failing_runs(rt: HostRuntime) -> Result<(), Fail> {
     let made = ran_again(&rt, rt.alloc(), &[], INIT, b"")?;
-    for call in 0..=127_u32 {
+    for call in 0..=91_u32 {
         let fault = run_fails(&rt, rt.alloc(), &made.first, call, false)?;
         let stop = run_fails(&rt, rt.alloc(), &made.first, call, true)?;
         assert!(rt; fault && stop, "{call}");
@@ -192,7 +192,7 @@ static CASES: [Case<'static>; 8] = [
         left 1000000 1500000 1\nrecall 0 open 1\n",
         b"hello ann\nleft 1000000 1500000 1\nrecall 0 lost 1\nleft 2000000 10000000 4\nanswer 1 1 500000\n"),
     // the other owner's disk fails
-    (&[107], &[], &[], Status::Done,
+    (&[71], &[], &[], Status::Done,
         b"hello ann\nanswer 0 4 1000000\nno 52\nanswer 1 -1 0\nno 40 1000000 2000000 1500000 4\nno 42 1\n\
         left 1000000 1500000 4\nrecall 0 answer 4 4\n",
         b"hello ann\nleft 1000000 1500000 4\nrecall 0 answer 4 4\nleft 1000000 10000000 1\nno 41 4 0 4\n"),

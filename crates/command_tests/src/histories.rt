@@ -40,7 +40,7 @@ static ONE_OWNER: [Step<'static>; 18] = [
     (RUN, b"hello ann\nask census 1 x\nask census 8.000001 size people\nleft census\n", Status::Done,
         b"hello ann\nno 30 unbound 0 1\nno 40 2000000 10000001 10000000 6\nleft 2000000 10000000 6\n"),
     (AUDIT, b"", Status::Done, b"census reservations 3 answered 3 exhausted 0 lost 0 spent 2000000 budget 10000000\n"),
-    (INIT, b"", Status::JournalRefused, b"journal census exists 6528\n"),
+    (INIT, b"", Status::JournalRefused, b"journal census exists 4224\n"),
     // another key, budget, list of analysts, and table
     (&["run", "cat.json", "ones"], ASK, Status::JournalRefused, b"journal census changed\n"),
     (&["audit", "raised.json", "key"], b"", Status::JournalRefused, b"journal census changed\n"),
@@ -68,7 +68,7 @@ static THREE_RECORDS: [Step<'static>; 5] = [
 static TWO_OWNERS: [Step<'static>; 7] = [
     (INIT, b"", Status::Done, b"owner census budget 10000000 capacity 100\n"),
     (&["run", "two.json", "key"], ASK, Status::JournalRefused, b"journal wards uninitialised 0\n"),
-    (&["init", "two.json", "key"], b"", Status::JournalRefused, b"journal census exists 6528\n"),
+    (&["init", "two.json", "key"], b"", Status::JournalRefused, b"journal census exists 4224\n"),
     (&["audit", "two.json", "key"], b"", Status::JournalRefused, b"journal wards uninitialised 0\n"),
     (RUN, ASK, Status::Done, b"hello ann\nanswer 0 5 1000000\n"),
     (AUDIT, b"", Status::Done, b"census reservations 1 answered 1 exhausted 0 lost 0 spent 1000000 budget 10000000\n"),

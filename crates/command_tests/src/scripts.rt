@@ -6,6 +6,7 @@ use fz_outside::files::MemFiles;
 use fz_outside::flaky::{Flaky, Schedule};
 use fz_outside::sink::MemSink;
 use fz_outside::source::MemSource;
+use memory_runs::doors::idle_doors;
 use memory_runs::journals::{MemJournals, empty_journals};
 use memory_runs::{KEY, Piece, TABLE, census_files, ended, joined, words_of};
 use query_server::Status;
@@ -212,7 +213,16 @@ fn longest_script(rt: HostRuntime) -> Result<(), Fail> {
     let mut files = MemFiles::new(&held);
     let mut source = MemSource::new(&script);
     let mut sink = MemSink::<134_217_728>::new(alloc)?;
-    let status = made(&rt, alloc)?.ran_over(&rt, alloc, &words, &mut files, &mut source, &mut sink);
+    let mut doors = idle_doors(alloc)?;
+    let status = made(&rt, alloc)?.ran_over(
+        &rt,
+        alloc,
+        &words,
+        &mut files,
+        &mut source,
+        &mut sink,
+        &mut doors,
+    );
     let out = sink.bytes();
     assert!(rt; status == Status::Done && out.len() == 134_217_728);
     assert!(rt; out.ends_with(b"no 10 0\nno 10 0\n"));
@@ -236,7 +246,16 @@ fn ran_failing<R: Threads + Wait + Sync>(
     let mut files = on_schedule(MemFiles::new(&held), &failing[..1]);
     let mut source = on_schedule(MemSource::new(script), &failing[1..2]);
     let mut sink = on_schedule(MemSink::<64>::new(alloc)?, &failing[2..]);
-    let status = made(rt, alloc)?.ran_over(rt, alloc, &words, &mut files, &mut source, &mut sink);
+    let mut doors = idle_doors(alloc)?;
+    let status = made(rt, alloc)?.ran_over(
+        rt,
+        alloc,
+        &words,
+        &mut files,
+        &mut source,
+        &mut sink,
+        &mut doors,
+    );
     Ok((status, sink.inner.bytes().to_vec(alloc)?))
 }
 

@@ -1,10 +1,11 @@
 -- Words without a fault are a command, and its workers are in range.
-use Rattle.std.proofs.Common.{◌≡◌, ◌≤◌, ℕ, Bool, cond, true, false, refl, sym, ap, subst, List, [], ◌∷◌, ◌++◌, ◌∙◌, length, Option, Some, None, is_some, arith, codes}
-use Rattle.std.specs.Prelude.{◌||◌, ◌&&◌, ⊤, not, pos, slice_get, option_and_then, option_map}
+use Rattle.std.proofs.Common.{◌≡◌, ◌≤◌, ◌<◌, ℕ, Bool, cond, true, false, refl, sym, ap, subst, List, [], ◌∷◌, ◌++◌, ◌∙◌, length, Option, Some, None, is_some, arith, codes}
+use Rattle.std.specs.Prelude.{◌||◌, ◌&&◌, ◌^◌, ⊤, if◌then◌else◌, not, slice_get, option_and_then, option_map}
 use Rattle.std.specs.List.{find}
 use Rattle.std.specs.Option.{option_map_or}
 use Rattle.std.specs.Str.{bytes_eq}
 use Rattle.std.specs.Str.Parse.{ParsesUnsigned}
+use Rattle.std.proofs.lemmas.Slice.Eq.{bytes_eq-Decides}
 use Rattle.clap.specs.Lexer.{without_minus}
 use Rattle.clap.specs.Values.{reading_of}
 use Rattle.clap.specs.ValueTests.{accepts}
@@ -14,14 +15,16 @@ use Rattle.clap.specs.Takes.{is_given}
 use Rattle.clap.specs.Faults.{check_fault, defaults_fault, entered_fault, fault_of, level_fault, repeat_fault, settle_fault, walk_fault}
 use Rattle.clap.specs.Facts.{explicit_source}
 use Rattle.clap.specs.Kinds.{Kinds, range_kinds, value_kinds}
+use Rattle.clap.specs.declared.builder.value_parser.Reading.{Reading}
 use Rattle.clap.specs.declared.builder.value_parser.ValueParser.{ValueParser}
 use Rattle.clap.specs.declared.builder.value_parser.ValueParser.TheVariants as parser
 use Rattle.clap.specs.declared.parser.matches.ValueSource.TheVariants.{CommandLine, DefaultValue}
+use Rattle.clap.specs.declared.error.kind.ErrorKind.{ErrorKind}
 use Rattle.clap.specs.declared.error.kind.ErrorKind.TheVariants as kind
 use Rattle.clap.proofs.CallerReads.{signed_reads}
 use Rattle.clap.proofs.ValueTestLemmas.{accepts-Accepts}
-use Rattle.command_words.specs.Program.{audit_app, check_app, gap_app, greatest_workers, init_app, program_app, run_app, required_word, workers_option}
-use Rattle.command_words.specs.Command.{Command, check, init, run, audit, gap, audit_found_in, audit_of, check_found_in, check_of, command_met, command_of, gap_found_in, gap_of, init_found_in, init_of, number_written, run_found_in, run_of}
+use Rattle.command_words.specs.Program.{address_option, from_to, audit_app, check_app, gap_app, gen_app, greatest_asks, greatest_each, greatest_port, greatest_seed, greatest_workers, init_app, number_rule, program_app, run_app, required_word, serve_app}
+use Rattle.command_words.specs.Command.{Command, check, init, run, audit, gap, serve, gen, audit_found_in, audit_of, check_found_in, check_of, command_met, command_of, gap_found_in, gap_of, gen_found_in, gen_of, init_found_in, init_of, number_in, number_written, run_found_in, run_of, serve_found_in, serve_of}
 use Rattle.command_words.proofs.Kept.{both_empty, holds_of_found, AllFine, DefaultKeeps, UseKeeps, level_keeps}
 use Rattle.command_words.proofs.Numbers.{number_reads}
 use Rattle.command_words.proofs.Parses.{command_refused, command_taken}
@@ -31,8 +34,13 @@ use Rattle.command_words.proofs.Parses.{command_refused, command_taken}
 abbrev word_at : ℕ → Text → Rule
 word_at i name = with_index i (filled (required_word name))
 
-abbrev workers_at : ℕ → Rule
-workers_at i = with_index i (filled workers_option)
+-- a number as a word, or behind an option
+abbrev number_at : ℕ → Text → (long : Option Text) → ValueParser → (required : Bool) → (defaults : List Text) → Rule
+number_at i name long range required defaults =
+    with_index i (filled (record (number_rule name range) { long = long; required = required; defaults = defaults }))
+
+abbrev address_at : ℕ → Rule
+address_at i = with_index i (filled address_option)
 
 abbrev subs : List Shape
 subs = (built program_app).subs
@@ -41,14 +49,36 @@ abbrev pub WORKERS : Text
 WORKERS = codes "workers"
 
 abbrev pub workers_parser : ValueParser
-workers_parser = parser.Signed (pos 1) (pos greatest_workers)
+workers_parser = from_to 1 greatest_workers
+
+abbrev pub port_parser : ValueParser
+port_parser = from_to 1 greatest_port
+
+abbrev pub each_parser : ValueParser
+each_parser = from_to 1 greatest_each
+
+abbrev pub seed_parser : ValueParser
+seed_parser = from_to 0 greatest_seed
+
+abbrev pub asks_parser : ValueParser
+asks_parser = from_to 1 greatest_asks
+
+-- the parser of the number of this name
+abbrev parser_named : Text → Option ValueParser
+parser_named name =
+    if bytes_eq name WORKERS then Some workers_parser
+    else if bytes_eq name (codes "port") then Some port_parser
+    else if bytes_eq name (codes "each") then Some each_parser
+    else if bytes_eq name (codes "seed") then Some seed_parser
+    else if bytes_eq name (codes "asks") then Some asks_parser
+    else None
 
 -- ---- rows with a value
 
--- the row has a first value, and that of the workers was accepted
+-- the row has a first value, and that of a number was accepted
 abbrev Fine : Row → Type 0
 Fine r = (text : Text) × (slice_get r.values 0 ≡ Some text)
-    × (bytes_eq r.id WORKERS ≡ true → (accepts false workers_parser text ≡ true) × (r.reading ≡ reading_of workers_parser))
+    × ((p : ValueParser) → parser_named r.id ≡ Some p → (accepts false p text ≡ true) × (r.reading ≡ reading_of p))
 
 or_false : (a b : Bool) → (a || b) ≡ false → (a ≡ false) × (b ≡ false)
 or_false true b e = cc e
@@ -86,49 +116,97 @@ unrepeated : (b : Bool) → cond (b && true) (kind.ArgumentConflict ∷ []) [] �
 unrepeated true e = cc e
 unrepeated false e = refl
 
-passed : (b : Bool) → cond b [] (kind.ValueValidation ∷ []) ≡ [] → b ≡ true
-passed true e = refl
-passed false e = cc e
+passed : (b : Bool) (k : ErrorKind) → cond b [] (k ∷ []) ≡ [] → b ≡ true
+passed true k e = refl
+passed false k e = cc e
 
-word_use : (i : ℕ) (name : Text) → bytes_eq name WORKERS ≡ false → UseKeeps Fine false (word_at i name)
+-- a row of another name, and one of a number that was accepted
+unnamed : (name : Text) → parser_named name ≡ None → (p : ValueParser) (text : Text) (how : Reading) → parser_named name ≡ Some p
+    → (accepts false p text ≡ true) × (how ≡ reading_of p)
+unnamed name other p text how is = cc (other, is)
+
+numbered : (name : Text) (range : ValueParser) → parser_named name ≡ Some range → (text : Text) → accepts false range text ≡ true
+    → (p : ValueParser) → parser_named name ≡ Some p → (accepts false p text ≡ true) × (reading_of range ≡ reading_of p)
+numbered name range named text ok p is =
+    let same : range ≡ p = cc (named, is) in
+    (subst (λ (q : ValueParser). accepts false q text ≡ true) same ok, ap reading_of same)
+
+word_use : (i : ℕ) (name : Text) → parser_named name ≡ None → UseKeeps Fine false (word_at i name)
 word_use i name other [] rows fine e = cc e
 word_use i name other (v ∷ vs) rows fine e =
     let counted = both_empty (range_kinds 1 1 (length (v ∷ vs))) _ e in
     let free = both_empty (repeat_fault false name rows) _ counted.1 in
-    added_keeps name (more_values CommandLine (v ∷ vs)) _ rows (unrepeated (has_row name rows) free.0) fine (v, refl, λ is. cc (other, is))
+    added_keeps name (more_values CommandLine (v ∷ vs)) _ rows (unrepeated (has_row name rows) free.0) fine (v, refl, λ p is. unnamed name other p v _ is)
 
-workers_use : (i : ℕ) → UseKeeps Fine false (workers_at i)
-workers_use i [] rows fine e = cc e
-workers_use i (v ∷ vs) rows fine e =
+address_use : (i : ℕ) → UseKeeps Fine false (address_at i)
+address_use i [] rows fine e = cc e
+address_use i (v ∷ vs) rows fine e =
     let counted = both_empty (range_kinds 1 1 (length (v ∷ vs))) _ e in
-    let free = both_empty (repeat_fault false WORKERS rows) _ counted.1 in
-    let fits = both_empty (value_kinds false workers_parser v) _ free.1 in
-    added_keeps WORKERS (more_values CommandLine (v ∷ vs)) _ rows (unrepeated (has_row WORKERS rows) free.0) fine (v, refl, λ is. (passed _ fits.0, refl))
+    let free = both_empty (repeat_fault false (codes "addr") rows) _ counted.1 in
+    added_keeps (codes "addr") (more_values CommandLine (v ∷ vs)) _ rows (unrepeated (has_row (codes "addr") rows) free.0) fine
+    (v, refl, λ p is. unnamed (codes "addr") refl p v _ is)
+
+number_use : (i : ℕ) (name : Text) (long : Option Text) (range : ValueParser) (required : Bool) (defaults : List Text)
+    → parser_named name ≡ Some range → UseKeeps Fine false (number_at i name long range required defaults)
+number_use i name None range required defaults named [] rows fine e = cc e
+number_use i name (Some long) range required defaults named [] rows fine e = cc e
+number_use i name None range required defaults named (v ∷ vs) rows fine e =
+    let counted = both_empty (range_kinds 1 1 (length (v ∷ vs))) _ e in
+    let free = both_empty (repeat_fault false name rows) _ counted.1 in
+    let fits = both_empty (value_kinds false range v) _ free.1 in
+    added_keeps name (more_values CommandLine (v ∷ vs)) _ rows (unrepeated (has_row name rows) free.0) fine
+    (v, refl, numbered name range named v (passed (accepts false range v) _ fits.0))
+number_use i name (Some long) range required defaults named (v ∷ vs) rows fine e =
+    let counted = both_empty (range_kinds 1 1 (length (v ∷ vs))) _ e in
+    let free = both_empty (repeat_fault false name rows) _ counted.1 in
+    let fits = both_empty (value_kinds false range v) _ free.1 in
+    added_keeps name (more_values CommandLine (v ∷ vs)) _ rows (unrepeated (has_row name rows) free.0) fine
+    (v, refl, numbered name range named v (passed (accepts false range v) _ fits.0))
+
+same_either : (b : Bool) (rows : List Row) → AllFine Fine rows → AllFine Fine (cond b rows rows)
+same_either true rows fine = fine
+same_either false rows fine = fine
 
 word_default : (i : ℕ) (name : Text) → DefaultKeeps Fine (word_at i name)
-word_default i name rows fine = go (has_row name rows)
-  where
-    go : (b : Bool) → AllFine Fine (cond b rows rows)
-    go true = fine
-    go false = fine
+word_default i name rows fine = same_either (has_row name rows) rows fine
 
--- the row of the default
-abbrev default_row : Row
-default_row = record {
-  id = WORKERS;
-  values = codes "1" ∷ [];
+number_default : (i : ℕ) (name : Text) (long : Option Text) (range : ValueParser) → DefaultKeeps Fine (number_at i name long range true [])
+number_default i name None range rows fine = same_either (has_row name rows) rows fine
+number_default i name (Some long) range rows fine = same_either (has_row name rows) rows fine
+
+-- the row of a default
+abbrev default_row : (name : Text) → ValueParser → (text : Text) → Row
+default_row name parser text = record {
+  id = name;
+  values = text ∷ [];
   count = None;
   source = Some DefaultValue;
-  reading = reading_of workers_parser;
+  reading = reading_of parser;
 }
 
-workers_default : (i : ℕ) → DefaultKeeps Fine (workers_at i)
-workers_default i rows fine = go (has_row WORKERS rows) refl
+abbrev with_row : (name : Text) → ValueParser → (text : Text) → List Row → List Row
+with_row name parser text rows =
+    cond (has_row name rows) rows (at_row name (more_values DefaultValue (text ∷ [])) (default_row name parser text ∷ []) rows)
+
+with_row_keeps : (name : Text) (parser : ValueParser) (text : Text) (rows : List Row) → AllFine Fine rows → Fine (default_row name parser text)
+    → AllFine Fine (with_row name parser text rows)
+with_row_keeps name parser text rows fine new = go (has_row name rows) refl
   where
-    go : (b : Bool) → has_row WORKERS rows ≡ b
-        → AllFine Fine (cond b rows (default_rows WORKERS (reading_by (workers_at i)) (codes "1" ∷ []) rows))
+    go : (b : Bool) → has_row name rows ≡ b
+        → AllFine Fine (cond b rows (at_row name (more_values DefaultValue (text ∷ [])) (default_row name parser text ∷ []) rows))
     go true is = fine
-    go false is = at_keeps WORKERS (more_values DefaultValue (codes "1" ∷ [])) default_row rows is fine (codes "1", refl, λ w. (refl, refl))
+    go false is = at_keeps name (more_values DefaultValue (text ∷ [])) (default_row name parser text) rows is fine new
+
+workers_fine : Fine (default_row WORKERS workers_parser (codes "1"))
+workers_fine = (codes "1", refl, numbered WORKERS workers_parser refl (codes "1") refl)
+
+workers_default : (i : ℕ) (long : Option Text) → DefaultKeeps Fine (number_at i WORKERS long workers_parser false (codes "1" ∷ []))
+workers_default i None rows fine = with_row_keeps WORKERS workers_parser (codes "1") rows fine workers_fine
+workers_default i (Some long) rows fine = with_row_keeps WORKERS workers_parser (codes "1") rows fine workers_fine
+
+address_default : (i : ℕ) → DefaultKeeps Fine (address_at i)
+address_default i rows fine = with_row_keeps (codes "addr") parser.String (codes "127.0.0.1") rows fine
+    (codes "127.0.0.1", refl, λ p is. unnamed (codes "addr") refl p (codes "127.0.0.1") _ is)
 
 -- ---- what is found
 
@@ -148,6 +226,15 @@ given_has id rows fine given = go (find (λ r. bytes_eq r.id id) rows) refl give
     go None is e = cc e
     go (Some r) is e = let f = holds_of_found Fine _ rows r fine is in (f.0, rw is f.1)
 
+given_there : (id : Text) (rows : List Row) → is_given id rows ≡ true → has_row id rows ≡ true
+given_there id [] e = cc e
+given_there id (r ∷ rs) e = go (bytes_eq r.id id) (given_there id rs) e
+  where
+    go : (b : Bool) → (is_given id rs ≡ true → has_row id rs ≡ true)
+        → option_map_or (λ r. explicit_source r.source) (cond b (Some r) (find (λ r. bytes_eq r.id id) rs)) false ≡ true → (b || has_row id rs) ≡ true
+    go true later e = refl
+    go false later e = later e
+
 abbrev FoundFine : Text → Option Row → Type 0
 FoundFine id o = (x : Row) × (o ≡ Some x) × Fine x × (bytes_eq x.id id ≡ true)
 
@@ -159,6 +246,11 @@ found_row id (r ∷ rs) fine e = go (bytes_eq r.id id) refl e (found_row id rs f
         → FoundFine id (cond b (Some r) (find (λ r. bytes_eq r.id id) rs))
     go true is e later = (r, refl, fine.0, is)
     go false is e later = later e
+
+there_has : (id : Text) (rows : List Row) → AllFine Fine rows → has_row id rows ≡ true → (text : Text) × (first_of id rows ≡ Some text)
+there_has id rows fine there =
+    let found = found_row id rows fine there in
+    (found.2.0, rw found.1 found.2.1)
 
 or_true : (b : Bool) → (b || true) ≡ true
 or_true true = refl
@@ -177,35 +269,71 @@ added_there id change row (r ∷ rs) named free =
     go true e later = cc e
     go false e later = rw later (or_true (bytes_eq r.id id))
 
-workers_there : (i : ℕ) (rows : List Row) → has_row WORKERS (with_default rows (workers_at i)) ≡ true
-workers_there i rows = go (has_row WORKERS rows) refl
+-- and the others stay
+stays_there : (id other : Text) (change : Row → List Row) (row : Row) (rows : List Row) → has_row other rows ≡ false → has_row id rows ≡ true
+    → has_row id (at_row other change (row ∷ []) rows) ≡ true
+stays_there id other change row [] free there = cc there
+stays_there id other change row (r ∷ rs) free there =
+    let parts = or_false (bytes_eq r.id other) (has_row other rs) free in
+    go (bytes_eq r.id other) parts.0 (kept (bytes_eq r.id id) there (stays_there id other change row rs parts.1))
   where
-    go : (b : Bool) → has_row WORKERS rows ≡ b → has_row WORKERS (cond b rows (default_rows WORKERS (reading_by (workers_at i)) (codes "1" ∷ []) rows)) ≡ true
+    kept : (d : Bool) → (d || has_row id rs) ≡ true → (has_row id rs ≡ true → has_row id (at_row other change (row ∷ []) rs) ≡ true)
+        → (d || has_row id (at_row other change (row ∷ []) rs)) ≡ true
+    kept true there later = refl
+    kept false there later = later there
+
+    go : (b : Bool) → b ≡ false → has_row id (r ∷ at_row other change (row ∷ []) rs) ≡ true
+        → has_row id (cond b (change r ++ rs) (r ∷ at_row other change (row ∷ []) rs)) ≡ true
+    go true e there = cc e
+    go false e there = there
+
+with_row_there : (name : Text) (parser : ValueParser) (text : Text) (rows : List Row) → bytes_eq name name ≡ true → has_row name (with_row name parser text rows) ≡ true
+with_row_there name parser text rows same = go (has_row name rows) refl
+  where
+    go : (b : Bool) → has_row name rows ≡ b
+        → has_row name (cond b rows (at_row name (more_values DefaultValue (text ∷ [])) (default_row name parser text ∷ []) rows)) ≡ true
     go true is = is
-    go false is = added_there WORKERS (more_values DefaultValue (codes "1" ∷ [])) default_row rows refl is
+    go false is = added_there name (more_values DefaultValue (text ∷ [])) (default_row name parser text) rows same is
 
-abbrev pub IsCount : ℕ → Type 0
-IsCount n = (1 ≤ n) × (n ≤ greatest_workers)
+with_row_stays : (id name : Text) (parser : ValueParser) (text : Text) (rows : List Row) → has_row id rows ≡ true → has_row id (with_row name parser text rows) ≡ true
+with_row_stays id name parser text rows there = go (has_row name rows) refl
+  where
+    go : (b : Bool) → has_row name rows ≡ b
+        → has_row id (cond b rows (at_row name (more_values DefaultValue (text ∷ [])) (default_row name parser text ∷ []) rows)) ≡ true
+    go true is = there
+    go false is = stays_there id name (more_values DefaultValue (text ∷ [])) (default_row name parser text) rows is there
 
-pub count_read : (text : Text) → accepts false workers_parser text ≡ true → (n : ℕ) × (number_written (without_minus text) ≡ Some n) × IsCount n
-count_read text ok =
-    let read = signed_reads ⊤ (ParsesUnsigned 32 10) 32 1 greatest_workers text (number_written (without_minus text)) (number_reads (without_minus text))
-    (λ u x given. given) (omega arith) (accepts-Accepts false workers_parser text ok) in
+either_there : (id : Text) (b : Bool) (rows : List Row) → has_row id rows ≡ true → has_row id (cond b rows rows) ≡ true
+either_there id true rows there = there
+either_there id false rows there = there
+
+abbrev pub IsBetween : (low high n : ℕ) → Type 0
+IsBetween low high n = (low ≤ n) × (n ≤ high)
+
+pub count_read : (low high : ℕ) → high < 2 ^ 32 → (text : Text) → accepts false (from_to low high) text ≡ true
+    → (n : ℕ) × (number_written (without_minus text) ≡ Some n) × IsBetween low high n
+count_read low high small text ok =
+    let read = signed_reads ⊤ (ParsesUnsigned 32 10) 32 low high text (number_written (without_minus text)) (number_reads (without_minus text))
+    (λ u x given. given) small (accepts-Accepts false (from_to low high) text ok) in
     (read.0, read.1, (read.2, read.3))
 
-workers_read : (rows : List Row) → AllFine Fine rows → has_row WORKERS rows ≡ true
-    → (n : ℕ) × (option_and_then number_written (one_of WORKERS rows) ≡ Some n) × IsCount n
-workers_read rows fine there =
-    let found = found_row WORKERS rows fine there in
-    let accepted = found.2.2 found.3 in
-    let count = count_read found.2.0 accepted.0 in
+number_there : (name : Text) (low high : ℕ) → high < 2 ^ 32 → parser_named name ≡ Some (from_to low high)
+    → (rows : List Row) → AllFine Fine rows → has_row name rows ≡ true → (n : ℕ) × (number_in name rows ≡ Some n) × IsBetween low high n
+number_there name low high small named rows fine there =
+    let found = found_row name rows fine there in
+    let same : found.0.id ≡ name = (bytes_eq-Decides found.0.id name).0 found.3 in
+    let accepted = found.2.2 (from_to low high) (ap parser_named same ∙ named) in
+    let count = count_read low high small found.2.0 accepted.0 in
     (count.0, rw (found.1, found.2.1, accepted.1) count.1, count.2)
 
 -- ---- each command
 
 -- a command, with workers in range
-abbrev InRange : Command → Type 0
-InRange (run catalog key workers) = IsCount workers
+abbrev pub InRange : Command → Type 0
+InRange (run catalog key workers) = IsBetween 1 greatest_workers workers
+InRange (serve catalog key address port workers each) =
+    IsBetween 1 greatest_port port × IsBetween 1 greatest_workers workers × IsBetween 1 greatest_each each
+InRange (gen seed asks workers) = IsBetween 0 greatest_seed seed × IsBetween 1 greatest_asks asks × IsBetween 1 greatest_workers workers
 InRange _ = ⊤
 
 abbrev IsMet : Option Command → Type 0
@@ -220,11 +348,19 @@ init_met a b x y e f = (init x y, rw (e, f) refl, tt)
 audit_met : (a b : Option Text) (x y : Text) → a ≡ Some x → b ≡ Some y → IsMet (audit_of a b)
 audit_met a b x y e f = (audit x y, rw (e, f) refl, tt)
 
-run_met : (a b : Option Text) (c : Option ℕ) (x y : Text) (z : ℕ) → a ≡ Some x → b ≡ Some y → c ≡ Some z → IsCount z → IsMet (run_of a b c)
+run_met : (a b : Option Text) (c : Option ℕ) (x y : Text) (z : ℕ) → a ≡ Some x → b ≡ Some y → c ≡ Some z → IsBetween 1 greatest_workers z → IsMet (run_of a b c)
 run_met a b c x y z e f g count = (run x y z, rw (e, f, g) refl, count)
 
 gap_met : (a b c d : Option Text) (x y z w : Text) → a ≡ Some x → b ≡ Some y → c ≡ Some z → d ≡ Some w → IsMet (gap_of a b c d)
 gap_met a b c d x y z w e f g h = (gap x y z w, rw (e, f, g, h) refl, tt)
+
+serve_met : (a b c : Option Text) (d e f : Option ℕ) (x y z : Text) (u v w : ℕ) → a ≡ Some x → b ≡ Some y → c ≡ Some z → d ≡ Some u → e ≡ Some v → f ≡ Some w
+    → IsBetween 1 greatest_port u × IsBetween 1 greatest_workers v × IsBetween 1 greatest_each w → IsMet (serve_of a b c d e f)
+serve_met a b c d e f x y z u v w i j k l m n within = (serve x y z u v w, rw (i, j, k, l, m, n) refl, within)
+
+gen_met : (a b c : Option ℕ) (x y z : ℕ) → a ≡ Some x → b ≡ Some y → c ≡ Some z
+    → IsBetween 0 greatest_seed x × IsBetween 1 greatest_asks y × IsBetween 1 greatest_workers z → IsMet (gen_of a b c)
+gen_met a b c x y z e f g within = (gen x y z, rw (e, f, g) refl, within)
 
 -- the last check of a level has no fault
 checked : (s : Shape) (words : List Text) → level_fault s [] nothing_held words false [] ≡ [] → check_fault s (rows_after s.rules [] words) false ≡ []
@@ -248,6 +384,12 @@ audit_shape = built_leaf (inherited program_app.top audit_app.top)
 
 abbrev pub gap_shape : Shape
 gap_shape = built_leaf (inherited program_app.top gap_app.top)
+
+abbrev pub serve_shape : Shape
+serve_shape = built_leaf (inherited program_app.top serve_app.top)
+
+abbrev pub gen_shape : Shape
+gen_shape = built_leaf (inherited program_app.top gen_app.top)
 
 check_accepted : (words : List Text) → level_fault check_shape [] nothing_held words false [] ≡ [] → IsMet (check_found_in (rows_after check_shape.rules [] words))
 check_accepted words e =
@@ -276,14 +418,14 @@ init_accepted words e =
 run_accepted : (words : List Text) → level_fault run_shape [] nothing_held words false [] ≡ [] → IsMet (run_found_in (rows_after run_shape.rules [] words))
 run_accepted words e =
     let rows = rows_after run_shape.rules [] words in
-    let fine = level_keeps Fine run_shape [] (word_use 1 (codes "catalog") refl, (word_use 2 (codes "key") refl, (workers_use 3, tt))) (λ x. refl)
-    words false [] (word_default 1 (codes "catalog"), (word_default 2 (codes "key"), (workers_default 3, tt))) e in
+    let fine = level_keeps Fine run_shape [] (word_use 1 (codes "catalog") refl, (word_use 2 (codes "key") refl, (number_use 3 WORKERS (Some WORKERS) workers_parser false (codes "1" ∷ []) refl, tt))) (λ x. refl)
+    words false [] (word_default 1 (codes "catalog"), (word_default 2 (codes "key"), (workers_default 3 (Some WORKERS), tt))) e in
     let first = given_first (is_given (codes "catalog") rows) _ (none_missing _ (checked run_shape words e)) in
     let second = given_first (is_given (codes "key") rows) _ first.1 in
     let catalog = given_has (codes "catalog") rows fine first.0 in
     let key = given_has (codes "key") rows fine second.0 in
     let named = with_default (with_default (settled run_shape.rules (walk run_shape.rules [] nothing_held words).held).rows (word_at 1 (codes "catalog"))) (word_at 2 (codes "key")) in
-    let workers = workers_read rows fine (workers_there 3 named) in
+    let workers = number_there WORKERS 1 greatest_workers (omega arith) refl rows fine (with_row_there WORKERS workers_parser (codes "1") named refl) in
     run_met _ _ _ catalog.0 key.0 workers.0 catalog.1 key.1 workers.1 workers.2
 
 audit_accepted : (words : List Text) → level_fault audit_shape [] nothing_held words false [] ≡ [] → IsMet (audit_found_in (rows_after audit_shape.rules [] words))
@@ -313,6 +455,84 @@ gap_accepted words e =
     let file = given_has (codes "file") rows fine fourth.0 in
     gap_met _ _ _ _ catalog.0 owner.0 other.0 file.0 catalog.1 owner.1 other.1 file.1
 
+serve_accepted : (words : List Text) → level_fault serve_shape [] nothing_held words false [] ≡ [] → IsMet (serve_found_in (rows_after serve_shape.rules [] words))
+serve_accepted words e =
+    let rows = rows_after serve_shape.rules [] words in
+    let fine = level_keeps Fine serve_shape [] (
+      word_use 1 (codes "catalog") refl,
+      (
+        word_use 2 (codes "key") refl,
+        (
+          address_use 3,
+          (
+            number_use 3 (codes "port") (Some (codes "port")) port_parser true [] refl,
+            (
+              number_use 3 WORKERS (Some WORKERS) workers_parser false (codes "1" ∷ []) refl,
+              (number_use 3 (codes "each") (Some (codes "each")) each_parser true [] refl, tt),
+            ),
+          ),
+        ),
+      ),
+    ) (λ x. refl)
+    words false [] (
+      word_default 1 (codes "catalog"),
+      (
+        word_default 2 (codes "key"),
+        (
+          address_default 3,
+          (
+            number_default 3 (codes "port") (Some (codes "port")) port_parser,
+            (
+              workers_default 3 (Some WORKERS),
+              (number_default 3 (codes "each") (Some (codes "each")) each_parser, tt),
+            ),
+          ),
+        ),
+      ),
+    ) e in
+    let first = given_first (is_given (codes "catalog") rows) _ (none_missing _ (checked serve_shape words e)) in
+    let second = given_first (is_given (codes "key") rows) _ first.1 in
+    let third = given_first (is_given (codes "port") rows) _ second.1 in
+    let fourth = given_first (is_given (codes "each") rows) _ third.1 in
+    let catalog = given_has (codes "catalog") rows fine first.0 in
+    let key = given_has (codes "key") rows fine second.0 in
+    let port = number_there (codes "port") 1 greatest_port (omega arith) refl rows fine (given_there (codes "port") rows third.0) in
+    let each = number_there (codes "each") 1 greatest_each (omega arith) refl rows fine (given_there (codes "each") rows fourth.0) in
+    let named = with_default (with_default (settled serve_shape.rules (walk serve_shape.rules [] nothing_held words).held).rows (word_at 1 (codes "catalog"))) (word_at 2 (codes "key")) in
+    let addressed = with_row (codes "addr") parser.String (codes "127.0.0.1") named in
+    let ported = cond (has_row (codes "port") addressed) addressed addressed in
+    let worked = with_row WORKERS workers_parser (codes "1") ported in
+    let address = there_has (codes "addr") rows fine
+    (either_there (codes "addr") (has_row (codes "each") worked) worked (with_row_stays (codes "addr") WORKERS workers_parser (codes "1") ported
+    (either_there (codes "addr") (has_row (codes "port") addressed) addressed (with_row_there (codes "addr") parser.String (codes "127.0.0.1") named refl)))) in
+    let workers = number_there WORKERS 1 greatest_workers (omega arith) refl rows fine
+    (either_there WORKERS (has_row (codes "each") worked) worked (with_row_there WORKERS workers_parser (codes "1") ported refl)) in
+    serve_met _ _ _ _ _ _ catalog.0 key.0 address.0 port.0 workers.0 each.0 catalog.1 key.1 address.1 port.1 workers.1 each.1 (port.2, workers.2, each.2)
+
+gen_accepted : (words : List Text) → level_fault gen_shape [] nothing_held words false [] ≡ [] → IsMet (gen_found_in (rows_after gen_shape.rules [] words))
+gen_accepted words e =
+    let rows = rows_after gen_shape.rules [] words in
+    let fine = level_keeps Fine gen_shape [] (
+      number_use 1 (codes "seed") None seed_parser true [] refl,
+      (
+        number_use 2 (codes "asks") None asks_parser true [] refl,
+        (number_use 3 WORKERS None workers_parser false (codes "1" ∷ []) refl, tt),
+      ),
+    ) (λ x. refl)
+    words false [] (
+      number_default 1 (codes "seed") None seed_parser,
+      (number_default 2 (codes "asks") None asks_parser, (workers_default 3 None, tt)),
+    ) e in
+    let first = given_first (is_given (codes "seed") rows) _ (none_missing _ (checked gen_shape words e)) in
+    let second = given_first (is_given (codes "asks") rows) _ first.1 in
+    let seed = number_there (codes "seed") 0 greatest_seed (omega arith) refl rows fine (given_there (codes "seed") rows first.0) in
+    let asks = number_there (codes "asks") 1 greatest_asks (omega arith) refl rows fine (given_there (codes "asks") rows second.0) in
+    let before = (settled gen_shape.rules (walk gen_shape.rules [] nothing_held words).held).rows in
+    let seeded = cond (has_row (codes "seed") before) before before in
+    let asked = cond (has_row (codes "asks") seeded) seeded seeded in
+    let workers = number_there WORKERS 1 greatest_workers (omega arith) refl rows fine (with_row_there WORKERS workers_parser (codes "1") asked refl) in
+    gen_met _ _ _ seed.0 asks.0 workers.0 seed.1 asks.1 workers.1 (seed.2, asks.2, workers.2)
+
 -- ---- the program
 
 stop_accepted : (rows : List Row) (stop : Option (Text × List Text)) → entered_fault (built program_app) stop ≡ []
@@ -320,21 +540,24 @@ stop_accepted : (rows : List Row) (stop : Option (Text × List Text)) → entere
 stop_accepted rows None below e = cc e
 stop_accepted rows (Some (name, words)) below e =
     go (answers_to name (codes "check", [])) (answers_to name (codes "init", [])) (answers_to name (codes "run", [])) (answers_to name (codes "audit", []))
-    (answers_to name (codes "gap", [])) below e
+    (answers_to name (codes "gap", [])) (answers_to name (codes "serve", [])) (answers_to name (codes "gen", [])) below e
   where
-    met : (a b c d g : Bool) → Option Shape
-    met a b c d g = cond a (Some check_shape) (cond b (Some init_shape) (cond c (Some run_shape) (cond d (Some audit_shape) (cond g (Some gap_shape) None))))
+    met : (a b c d g s n : Bool) → Option Shape
+    met a b c d g s n = cond a (Some check_shape) (cond b (Some init_shape) (cond c (Some run_shape) (cond d (Some audit_shape) (cond g (Some gap_shape)
+        (cond s (Some serve_shape) (cond n (Some gen_shape) None))))))
 
-    go : (a b c d g : Bool)
-        → option_map_or (λ s. level_fault s [] nothing_held words false []) (met a b c d g) [] ≡ []
-        → check_fault (built program_app).top rows (is_some (option_map (λ s. rows_at s words) (met a b c d g))) ≡ []
-        → IsMet (command_met (option_map (λ s. rows_at s words) (met a b c d g)))
-    go true b c d g below e = check_accepted words below
-    go false true c d g below e = init_accepted words below
-    go false false true d g below e = run_accepted words below
-    go false false false true g below e = audit_accepted words below
-    go false false false false true below e = gap_accepted words below
-    go false false false false false below e = cc e
+    go : (a b c d g s n : Bool)
+        → option_map_or (λ s. level_fault s [] nothing_held words false []) (met a b c d g s n) [] ≡ []
+        → check_fault (built program_app).top rows (is_some (option_map (λ s. rows_at s words) (met a b c d g s n))) ≡ []
+        → IsMet (command_met (option_map (λ s. rows_at s words) (met a b c d g s n)))
+    go true b c d g s n below e = check_accepted words below
+    go false true c d g s n below e = init_accepted words below
+    go false false true d g s n below e = run_accepted words below
+    go false false false true g s n below e = audit_accepted words below
+    go false false false false true s n below e = gap_accepted words below
+    go false false false false false true n below e = serve_accepted words below
+    go false false false false false false true below e = gen_accepted words below
+    go false false false false false false false below e = cc e
 
 pub accepted : (words : List Text) → fault_of program_app words ≡ [] → IsMet (command_of words)
 accepted words e =
@@ -356,8 +579,8 @@ unrefused words c is = go (fault_of program_app words) refl
     go [] e = refl
     go (x ∷ xs) e = let none = command_refused words (λ well. cc (e, well)) in cc (is, none)
 
-pub workers_counted : (words : List (List ℕ)) (catalog key : Text) (workers : ℕ) → command_of words ≡ Some (run catalog key workers) → IsCount workers
-workers_counted words catalog key workers is =
-    let met = accepted words (unrefused words (run catalog key workers) is) in
-    let same : met.0 ≡ run catalog key workers = cc (met.1, is) in
+pub in_range : (words : List (List ℕ)) (c : Command) → command_of words ≡ Some c → InRange c
+in_range words c is =
+    let met = accepted words (unrefused words c is) in
+    let same : met.0 ≡ c = cc (met.1, is) in
     subst InRange same met.2

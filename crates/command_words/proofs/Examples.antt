@@ -1,7 +1,7 @@
 -- worked examples of the command that words are, from the written rules
 use Rattle.std.proofs.Common.{◌≡◌, refl, [], ◌∷◌, Some, None, codes}
 use Rattle.clap.proofs.OnLiterals.{clap_on_literals}
-use Rattle.command_words.specs.Command.{check, init, run, audit, gap, command_of, number_written}
+use Rattle.command_words.specs.Command.{check, init, run, audit, gap, serve, gen, command_of, number_written}
 
 -- each command
 a_check : command_of (codes "check" ∷ codes "c" ∷ codes "o" ∷ codes "f" ∷ []) ≡ Some (check (codes "c") (codes "o") (codes "f"))
@@ -147,7 +147,7 @@ capital_audit : command_of (codes "Audit" ∷ codes "c" ∷ codes "k" ∷ []) �
 unfolding command_of clap_on_literals
 capital_audit = refl
 
-unknown_command : command_of (codes "serve" ∷ codes "c" ∷ codes "k" ∷ []) ≡ None
+unknown_command : command_of (codes "server" ∷ codes "c" ∷ codes "k" ∷ []) ≡ None
 unfolding command_of clap_on_literals
 unknown_command = refl
 
@@ -544,3 +544,115 @@ number_past_the_largest = refl
 
 number_two_pluses : number_written (codes "++1") ≡ None
 number_two_pluses = refl
+
+-- a service: its options in any order, what each is where it is left out, and numbers on both sides of their ranges
+
+a_service : command_of (codes "serve" ∷ codes "c" ∷ codes "k" ∷ codes "--port" ∷ codes "1" ∷ codes "--each" ∷ codes "1" ∷ []) ≡ Some (serve (codes "c") (codes "k") (codes "127.0.0.1") 1 1 1)
+unfolding command_of clap_on_literals
+a_service = refl
+
+all_options : command_of (codes "serve" ∷ codes "c" ∷ codes "--each" ∷ codes "1000000" ∷ codes "k" ∷ codes "--workers" ∷ codes "16" ∷ codes "--addr" ∷ codes "10.0.0.7" ∷ codes "--port=65520" ∷ []) ≡ Some (serve (codes "c") (codes "k") (codes "10.0.0.7") 65520 16 1000000)
+unfolding command_of clap_on_literals
+all_options = refl
+
+any_address : command_of (codes "serve" ∷ codes "c" ∷ codes "k" ∷ codes "--addr=" ∷ codes "--port" ∷ codes "7000" ∷ codes "--each" ∷ codes "2" ∷ []) ≡ Some (serve (codes "c") (codes "k") (codes "") 7000 1 2)
+unfolding command_of clap_on_literals
+any_address = refl
+
+port_zero : command_of (codes "serve" ∷ codes "c" ∷ codes "k" ∷ codes "--port" ∷ codes "0" ∷ codes "--each" ∷ codes "1" ∷ []) ≡ None
+unfolding command_of clap_on_literals
+port_zero = refl
+
+port_past_the_last : command_of (codes "serve" ∷ codes "c" ∷ codes "k" ∷ codes "--port" ∷ codes "65521" ∷ codes "--each" ∷ codes "1" ∷ []) ≡ None
+unfolding command_of clap_on_literals
+port_past_the_last = refl
+
+each_zero : command_of (codes "serve" ∷ codes "c" ∷ codes "k" ∷ codes "--port" ∷ codes "1" ∷ codes "--each" ∷ codes "0" ∷ []) ≡ None
+unfolding command_of clap_on_literals
+each_zero = refl
+
+each_past_the_most : command_of (codes "serve" ∷ codes "c" ∷ codes "k" ∷ codes "--port" ∷ codes "1" ∷ codes "--each" ∷ codes "1000001" ∷ []) ≡ None
+unfolding command_of clap_on_literals
+each_past_the_most = refl
+
+service_of_no_worker : command_of (codes "serve" ∷ codes "c" ∷ codes "k" ∷ codes "--port" ∷ codes "1" ∷ codes "--each" ∷ codes "1" ∷ codes "--workers" ∷ codes "0" ∷ []) ≡ None
+unfolding command_of clap_on_literals
+service_of_no_worker = refl
+
+service_of_too_many_workers : command_of (codes "serve" ∷ codes "c" ∷ codes "k" ∷ codes "--port" ∷ codes "1" ∷ codes "--each" ∷ codes "1" ∷ codes "--workers" ∷ codes "17" ∷ []) ≡ None
+unfolding command_of clap_on_literals
+service_of_too_many_workers = refl
+
+port_left_out : command_of (codes "serve" ∷ codes "c" ∷ codes "k" ∷ codes "--each" ∷ codes "1" ∷ []) ≡ None
+unfolding command_of clap_on_literals
+port_left_out = refl
+
+each_left_out : command_of (codes "serve" ∷ codes "c" ∷ codes "k" ∷ codes "--port" ∷ codes "1" ∷ []) ≡ None
+unfolding command_of clap_on_literals
+each_left_out = refl
+
+service_without_a_key : command_of (codes "serve" ∷ codes "c" ∷ codes "--port" ∷ codes "1" ∷ codes "--each" ∷ codes "1" ∷ []) ≡ None
+unfolding command_of clap_on_literals
+service_without_a_key = refl
+
+service_with_a_word_more : command_of (codes "serve" ∷ codes "c" ∷ codes "k" ∷ codes "l" ∷ codes "--port" ∷ codes "1" ∷ codes "--each" ∷ codes "1" ∷ []) ≡ None
+unfolding command_of clap_on_literals
+service_with_a_word_more = refl
+
+port_of_a_run : command_of (codes "run" ∷ codes "c" ∷ codes "k" ∷ codes "--port" ∷ codes "1" ∷ []) ≡ None
+unfolding command_of clap_on_literals
+port_of_a_run = refl
+
+port_twice : command_of (codes "serve" ∷ codes "c" ∷ codes "k" ∷ codes "--port" ∷ codes "1" ∷ codes "--port" ∷ codes "1" ∷ codes "--each" ∷ codes "1" ∷ []) ≡ None
+unfolding command_of clap_on_literals
+port_twice = refl
+
+-- a generated run: its numbers are words
+
+a_generated_run : command_of (codes "gen" ∷ codes "0" ∷ codes "1" ∷ []) ≡ Some (gen 0 1 1)
+unfolding command_of clap_on_literals
+a_generated_run = refl
+
+generated_by_many : command_of (codes "gen" ∷ codes "4294967295" ∷ codes "100000" ∷ codes "16" ∷ []) ≡ Some (gen 4294967295 100000 16)
+unfolding command_of clap_on_literals
+generated_by_many = refl
+
+generated_in_other_forms : command_of (codes "gen" ∷ codes "+7" ∷ codes "02000" ∷ codes "--" ∷ codes "4" ∷ []) ≡ Some (gen 7 2000 4)
+unfolding command_of clap_on_literals
+generated_in_other_forms = refl
+
+seed_past_the_last : command_of (codes "gen" ∷ codes "4294967296" ∷ codes "1" ∷ []) ≡ None
+unfolding command_of clap_on_literals
+seed_past_the_last = refl
+
+seed_that_is_none : command_of (codes "gen" ∷ codes "x" ∷ codes "1" ∷ []) ≡ None
+unfolding command_of clap_on_literals
+seed_that_is_none = refl
+
+no_asks : command_of (codes "gen" ∷ codes "0" ∷ codes "0" ∷ []) ≡ None
+unfolding command_of clap_on_literals
+no_asks = refl
+
+asks_past_the_most : command_of (codes "gen" ∷ codes "0" ∷ codes "100001" ∷ []) ≡ None
+unfolding command_of clap_on_literals
+asks_past_the_most = refl
+
+generated_by_none : command_of (codes "gen" ∷ codes "0" ∷ codes "1" ∷ codes "0" ∷ []) ≡ None
+unfolding command_of clap_on_literals
+generated_by_none = refl
+
+generated_by_too_many : command_of (codes "gen" ∷ codes "0" ∷ codes "1" ∷ codes "17" ∷ []) ≡ None
+unfolding command_of clap_on_literals
+generated_by_too_many = refl
+
+asks_left_out : command_of (codes "gen" ∷ codes "0" ∷ []) ≡ None
+unfolding command_of clap_on_literals
+asks_left_out = refl
+
+generated_with_a_word_more : command_of (codes "gen" ∷ codes "0" ∷ codes "1" ∷ codes "1" ∷ codes "1" ∷ []) ≡ None
+unfolding command_of clap_on_literals
+generated_with_a_word_more = refl
+
+generated_with_an_option : command_of (codes "gen" ∷ codes "0" ∷ codes "1" ∷ codes "--workers" ∷ codes "2" ∷ []) ≡ None
+unfolding command_of clap_on_literals
+generated_with_an_option = refl

@@ -2,6 +2,7 @@ pub mod Numbers
 pub mod Parses
 pub mod Kept
 pub mod Accepted
+pub mod Said
 pub mod Plain
 mod Examples
 pub mod Workers

@@ -1,24 +1,25 @@
 -- Words of which none begins with a hyphen are the commands of the table.
-use Rattle.std.proofs.Common.{◌≡◌, ℕ, Bool, cond, true, false, refl, sym, ap, ap₂, subst, List, [], ◌∷◌, ◌∙◌, ◌++◌, Option, Some, None, is_some, codes}
+use Rattle.std.proofs.Common.{◌≡◌, ◌<◌, ℕ, Bool, cond, true, false, refl, sym, ap, ap₂, subst, List, [], ◌∷◌, ◌∙◌, ◌++◌, Option, Some, None, is_some, arith, codes}
+use Rattle.std.specs.Prelude.{◌^◌, ◌&&◌}
 use Rattle.std.specs.List.{AllByRecursion, fold}
 use Rattle.std.specs.Option.{option_map_or}
 use Rattle.std.specs.Str.{bytes_eq}
 use Rattle.std.proofs.lemmas.Slice.Eq.{bytes_eq-Decides}
-use Rattle.clap.specs.Lexer.{long_of, short_of}
+use Rattle.clap.specs.Lexer.{long_of, short_of, without_minus}
+use Rattle.clap.specs.ValueTests.{accepts}
 use Rattle.clap.specs.Walk.{Held, Names, Rule, Step, Text, Waiting, Walk, after_step, arg_by_index, finished, idle, is_multiple, long_or_other, nothing_held, plain_word, rows_after, settled, short_or_plain, subcommand_met, subcommand_or_other, to_positional, trailing, value, walk_from, walked, word_met}
 use Rattle.clap.specs.Simple.{Shape, built, entered, names_of}
 use Rattle.clap.specs.Faults.{bundle_fault, check_fault, defaults_fault, entered_fault, flag_word_fault, level_fault, other_fault, settle_fault, step_fault, turn_fault, walk_fault, word_fault}
 use Rattle.clap.specs.Kinds.{Kinds, or_else}
+use Rattle.clap.specs.declared.error.kind.ErrorKind.TheVariants as kind
 use Rattle.clap.proofs.WalkLemmas.{walk_stopped}
-use Rattle.command_words.specs.Program.{program_app}
-use Rattle.command_words.specs.Command.{Command, command_met, command_named, command_of, unless_fault}
-use Rattle.command_words.specs.Table.{begins_with_hyphen, plain_command}
+use Rattle.command_words.specs.Program.{from_to, greatest_asks, greatest_seed, greatest_workers, program_app}
+use Rattle.command_words.specs.Command.{Command, command_met, command_named, command_of, gen_of, number_written, unless_fault}
+use Rattle.command_words.specs.Table.{begins_with_hyphen, number_said, plain_command}
 use Rattle.command_words.proofs.Kept.{both_empty, holds_of_found}
 use Rattle.command_words.proofs.Parses.{command_refused}
-use Rattle.command_words.proofs.Accepted.{audit_shape, check_shape, gap_shape, init_shape, run_shape}
-
-abbrev pub IsPlainWord : Text → Type 0
-IsPlainWord word = begins_with_hyphen word ≡ false
+use Rattle.command_words.proofs.Accepted.{asks_parser, audit_shape, check_shape, gap_shape, gen_shape, init_shape, run_shape, seed_parser, serve_shape, workers_parser}
+use Rattle.command_words.proofs.Said.{IsPlainWord, accepted_says, refused_says}
 
 abbrev pub ArePlain : List Text → Type 0
 ArePlain words = AllByRecursion IsPlainWord words
@@ -200,6 +201,94 @@ gap_leaf (catalog ∷ owner ∷ other ∷ []) = refl
 gap_leaf (catalog ∷ owner ∷ other ∷ file ∷ []) = refl
 gap_leaf (catalog ∷ owner ∷ other ∷ file ∷ more ∷ words) = refl
 
+serve_leaf : (words : List Text) → plain_leaf serve_shape words ≡ plain_command (codes "serve" ∷ words)
+unfolding defaults_fault
+serve_leaf [] = refl
+serve_leaf (catalog ∷ []) = refl
+serve_leaf (catalog ∷ key ∷ []) = refl
+serve_leaf (catalog ∷ key ∷ more ∷ []) = refl
+serve_leaf (catalog ∷ key ∷ more ∷ word ∷ []) = refl
+serve_leaf (catalog ∷ key ∷ more ∷ word ∷ next ∷ words) = refl
+
+-- the numbers of a `gen`, by whether each text is accepted
+abbrev number_by : Bool → Text → Option ℕ
+number_by accepted text = cond accepted (number_written (without_minus text)) None
+
+said_by : (low high : ℕ) → high < 2 ^ 32 → (text : Text) → IsPlainWord text → (b : Bool) → accepts false (from_to low high) text ≡ b
+    → number_by b text ≡ number_said low high text
+said_by low high small text plain true e = let says = accepted_says low high small text plain e in says.1 ∙ sym says.2
+said_by low high small text plain false e = sym (refused_says low high small text plain e)
+
+unsaid : (b : Bool) (text : Text) → b ≡ false → number_by b text ≡ None
+unsaid b text e = rw e refl
+
+gen_one : (a : Text) (x : Bool) → accepts false seed_parser a ≡ x → plain_leaf gen_shape (a ∷ []) ≡ None
+unfolding defaults_fault
+gen_one a true e = rw e refl
+gen_one a false e = rw e refl
+
+-- by whether the three are accepted
+abbrev gen_by : (x y z : Bool) (seed asks workers : Option ℕ) → Option Command
+gen_by x y z seed asks workers = unless_fault (cond (x && (y && z)) [] (kind.ValueValidation ∷ [])) (gen_of seed asks workers)
+
+gen_two : (a b : Text) (x y : Bool) → accepts false seed_parser a ≡ x → accepts false asks_parser b ≡ y
+    → plain_leaf gen_shape (a ∷ b ∷ []) ≡ gen_by x y true (number_by x a) (number_by y b) (Some 1)
+unfolding defaults_fault
+gen_two a b true true e f = rw (e, f) refl
+gen_two a b true false e f = rw (e, f) refl
+gen_two a b false y e f = rw e refl
+
+gen_three : (a b c : Text) (x y z : Bool) → accepts false seed_parser a ≡ x → accepts false asks_parser b ≡ y → accepts false workers_parser c ≡ z
+    → plain_leaf gen_shape (a ∷ b ∷ c ∷ []) ≡ gen_by x y z (number_by x a) (number_by y b) (number_by z c)
+unfolding defaults_fault
+gen_three a b c true true true e f g = rw (e, f, g) refl
+gen_three a b c true true false e f g = rw (e, f, g) refl
+gen_three a b c true false z e f g = rw (e, f) refl
+gen_three a b c false y z e f g = rw e refl
+
+-- no number, no command
+none_of : (x y z : Bool) (p q r : Option ℕ) → (x ≡ false → p ≡ None) → (y ≡ false → q ≡ None) → (z ≡ false → r ≡ None)
+    → gen_by x y z p q r ≡ gen_of p q r
+none_of true true true p q r a b c = refl
+none_of false y z p q r a b c = rw (a refl) refl
+none_of true false z None q r a b c = refl
+none_of true false z (Some n) q r a b c = rw (b refl) refl
+none_of true true false None q r a b c = refl
+none_of true true false (Some n) None r a b c = refl
+none_of true true false (Some n) (Some m) r a b c = rw (c refl) refl
+
+gen_four : (a b c more : Text) (words : List Text) (x y : Bool) → accepts false seed_parser a ≡ x → accepts false asks_parser b ≡ y
+    → plain_leaf gen_shape (a ∷ b ∷ c ∷ more ∷ words) ≡ None
+unfolding defaults_fault
+gen_four a b c more words true true e f = rw (e, f) refl
+gen_four a b c more words true false e f = rw (e, f) refl
+gen_four a b c more words false y e f = rw e refl
+
+gen_leaf : (words : List Text) → ArePlain words → plain_leaf gen_shape words ≡ plain_command (codes "gen" ∷ words)
+unfolding defaults_fault
+gen_leaf [] plain = refl
+gen_leaf (a ∷ []) plain = gen_one a (accepts false seed_parser a) refl
+gen_leaf (a ∷ b ∷ []) plain =
+    let x = accepts false seed_parser a in
+    let y = accepts false asks_parser b in
+    let seed = said_by 0 greatest_seed (omega arith) a plain.0 x refl in
+    let asks = said_by 1 greatest_asks (omega arith) b plain.1.0 y refl in
+    gen_two a b x y refl refl ∙ none_of x y true (number_by x a) (number_by y b) (Some 1) (unsaid x a) (unsaid y b) (λ e. cc e)
+    ∙ (λ j. gen_of (seed j) (asks j) (Some 1))
+gen_leaf (a ∷ b ∷ c ∷ []) plain =
+    let x = accepts false seed_parser a in
+    let y = accepts false asks_parser b in
+    let z = accepts false workers_parser c in
+    let seed = said_by 0 greatest_seed (omega arith) a plain.0 x refl in
+    let asks = said_by 1 greatest_asks (omega arith) b plain.1.0 y refl in
+    let workers = said_by 1 greatest_workers (omega arith) c plain.1.1.0 z refl in
+    gen_three a b c x y z refl refl refl
+    ∙ none_of x y z (number_by x a) (number_by y b) (number_by z c) (unsaid x a) (unsaid y b) (unsaid z c)
+    ∙ (λ j. gen_of (seed j) (asks j) (workers j))
+gen_leaf (a ∷ b ∷ c ∷ more ∷ []) plain = gen_four a b c more [] (accepts false seed_parser a) (accepts false asks_parser b) refl refl
+gen_leaf (a ∷ b ∷ c ∷ more ∷ word ∷ words) plain =
+    gen_four a b c more (word ∷ words) (accepts false seed_parser a) (accepts false asks_parser b) refl refl
+
 -- ---- the program
 
 abbrev top : Shape
@@ -273,6 +362,16 @@ unfolding walked defaults_fault
 gap_is words plain = named (codes "gap") words refl refl ∙ left_to gap_shape (level_fault gap_shape [] nothing_held words false []) words
     ∙ leaf_is gap_shape ((refl, refl), ((refl, refl), ((refl, refl), ((refl, refl), tt)))) words plain ∙ gap_leaf words
 
+serve_is : (words : List Text) → ArePlain words → command_of (codes "serve" ∷ words) ≡ plain_command (codes "serve" ∷ words)
+unfolding walked defaults_fault
+serve_is words plain = named (codes "serve") words refl refl ∙ left_to serve_shape (level_fault serve_shape [] nothing_held words false []) words
+    ∙ leaf_is serve_shape ((refl, refl), ((refl, refl), ((refl, refl), ((refl, refl), ((refl, refl), ((refl, refl), tt)))))) words plain ∙ serve_leaf words
+
+gen_is : (words : List Text) → ArePlain words → command_of (codes "gen" ∷ words) ≡ plain_command (codes "gen" ∷ words)
+unfolding walked defaults_fault
+gen_is words plain = named (codes "gen") words refl refl ∙ left_to gen_shape (level_fault gen_shape [] nothing_held words false []) words
+    ∙ leaf_is gen_shape ((refl, refl), ((refl, refl), ((refl, refl), tt))) words plain ∙ gen_leaf words plain
+
 -- ---- a first word that names none
 
 stray_is : (name : Text) (words : List Text) → IsPlainWord name → subcommand_met names idle name ≡ None → command_of (name ∷ words) ≡ None
@@ -285,6 +384,7 @@ stray_is name words plain unnamed = command_refused (name ∷ words) (λ well.
 -- the word is no command's name
 abbrev IsNone : (name : Text) → Type 0
 IsNone name = (bytes_eq (codes "check") name ≡ false) × (bytes_eq (codes "init") name ≡ false) × (bytes_eq (codes "run") name ≡ false) × (bytes_eq (codes "audit") name ≡ false) × (bytes_eq (codes "gap") name ≡ false)
+    × (bytes_eq (codes "serve") name ≡ false) × (bytes_eq (codes "gen") name ≡ false)
 
 flipped : (a b : Text) → bytes_eq a a ≡ true → bytes_eq a b ≡ false → bytes_eq b a ≡ false
 flipped a b same apart = go (bytes_eq b a) refl
@@ -300,13 +400,18 @@ untabled : (name : Text) (words : List Text) → IsNone name → plain_command (
 untabled name [] none = refl
 untabled name (x ∷ []) none = refl
 untabled name (x ∷ y ∷ []) none =
-    rw (flipped (codes "init") name refl none.1, flipped (codes "run") name refl none.2, flipped (codes "audit") name refl none.3) refl
-untabled name (x ∷ y ∷ z ∷ []) none = rw (flipped (codes "check") name refl none.0) refl
+    rw (
+      flipped (codes "init") name refl none.1,
+      flipped (codes "run") name refl none.2,
+      flipped (codes "audit") name refl none.3,
+      flipped (codes "gen") name refl none.6,
+    ) refl
+untabled name (x ∷ y ∷ z ∷ []) none = rw (flipped (codes "check") name refl none.0, flipped (codes "gen") name refl none.6) refl
 untabled name (x ∷ y ∷ z ∷ w ∷ []) none = rw (flipped (codes "gap") name refl none.4) refl
 untabled name (x ∷ y ∷ z ∷ w ∷ v ∷ words) none = refl
 
 unmet : (name : Text) → IsNone name → subcommand_met names idle name ≡ None
-unmet name none = rw (none.0, none.1, none.2, none.3, none.4) refl
+unmet name none = rw (none.0, none.1, none.2, none.3, none.4, none.5, none.6) refl
 
 abbrev IsTabled : List Text → Type 0
 IsTabled words = command_of words ≡ plain_command words
@@ -316,19 +421,22 @@ unfolding command_of walk_fault defaults_fault
 plain_is_tabled [] plain = refl
 plain_is_tabled (name ∷ words) plain =
     go (bytes_eq (codes "check") name) refl (bytes_eq (codes "init") name) refl (bytes_eq (codes "run") name) refl (bytes_eq (codes "audit") name) refl
-    (bytes_eq (codes "gap") name) refl
+    (bytes_eq (codes "gap") name) refl (bytes_eq (codes "serve") name) refl (bytes_eq (codes "gen") name) refl
   where
     -- the word is that name
     by : (other : Text) → bytes_eq other name ≡ true → IsTabled (other ∷ words) → IsTabled (name ∷ words)
     by other e tabled = subst (λ (n : Text). IsTabled (n ∷ words)) ((bytes_eq-Decides other name).0 e) tabled
 
     go : (a : Bool) → bytes_eq (codes "check") name ≡ a → (b : Bool) → bytes_eq (codes "init") name ≡ b → (c : Bool) → bytes_eq (codes "run") name ≡ c
-        → (d : Bool) → bytes_eq (codes "audit") name ≡ d → (g : Bool) → bytes_eq (codes "gap") name ≡ g → IsTabled (name ∷ words)
-    go true e b f c h d i g j = by (codes "check") e (check_is words plain.1)
-    go false e true f c h d i g j = by (codes "init") f (init_is words plain.1)
-    go false e false f true h d i g j = by (codes "run") h (run_is words plain.1)
-    go false e false f false h true i g j = by (codes "audit") i (audit_is words plain.1)
-    go false e false f false h false i true j = by (codes "gap") j (gap_is words plain.1)
-    go false e false f false h false i false j =
-        let none : IsNone name = (e, f, h, i, j) in
+        → (d : Bool) → bytes_eq (codes "audit") name ≡ d → (g : Bool) → bytes_eq (codes "gap") name ≡ g → (s : Bool) → bytes_eq (codes "serve") name ≡ s
+        → (n : Bool) → bytes_eq (codes "gen") name ≡ n → IsTabled (name ∷ words)
+    go true e b f c h d i g j s k n l = by (codes "check") e (check_is words plain.1)
+    go false e true f c h d i g j s k n l = by (codes "init") f (init_is words plain.1)
+    go false e false f true h d i g j s k n l = by (codes "run") h (run_is words plain.1)
+    go false e false f false h true i g j s k n l = by (codes "audit") i (audit_is words plain.1)
+    go false e false f false h false i true j s k n l = by (codes "gap") j (gap_is words plain.1)
+    go false e false f false h false i false j true k n l = by (codes "serve") k (serve_is words plain.1)
+    go false e false f false h false i false j false k true l = by (codes "gen") l (gen_is words plain.1)
+    go false e false f false h false i false j false k false l =
+        let none : IsNone name = (e, f, h, i, j, k, l) in
         stray_is name words plain.0 (unmet name none) ∙ sym (untabled name words none)

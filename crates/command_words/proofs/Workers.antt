@@ -1,29 +1,19 @@
 -- The option's text is accepted exactly where it is a number in range.
-use Rattle.std.proofs.Common.{◌≡◌, ◌≤◌, ℕ, Bool, cond, true, false, refl, sym, ap, ap₂, subst, [], ◌∷◌, ◌∙◌, Option, Some, None, arith, codes}
-use Rattle.std.specs.Prelude.{◌&&◌, ⊤, nat_le, option_and_then, option_map}
+use Rattle.std.proofs.Common.{◌≡◌, ℕ, Bool, true, false, refl, sym, ap, ap₂, [], ◌∷◌, ◌∙◌, Option, Some, None, arith, codes}
+use Rattle.std.specs.Prelude.{option_map}
 use Rattle.std.specs.List.{fold}
-use Rattle.std.specs.Str.Parse.{ParsesUnsigned, digits_value, starts_with_minus, without_leading_plus}
-use Rattle.std.proofs.lemmas.Bool.{le-leb, leb-true}
-use Rattle.std.proofs.lemmas.Int.{ints}
 use Rattle.clap.specs.Lexer.{without_minus}
-use Rattle.clap.specs.Words.{ReadsOne}
 use Rattle.clap.specs.ValueTests.{accepts}
 use Rattle.clap.specs.Walk.{Held, Step, Text, Walk, after_step, finished, nothing_held, option, plain_word, settled, walk_from, walked}
 use Rattle.clap.specs.Faults.{check_fault, defaults_fault, settle_fault, step_fault, turn_fault, walk_fault}
 use Rattle.clap.specs.Kinds.{Kinds, or_else}
 use Rattle.clap.specs.declared.error.kind.ErrorKind.TheVariants as kind
-use Rattle.clap.proofs.ValueTestLemmas.{Accepts-accepts}
-use Rattle.clap.proofs.WalkLemmas.{both}
 use Rattle.command_words.specs.Program.{greatest_workers}
 use Rattle.command_words.specs.Command.{Command, command_named, command_of, number_written, run, run_of, unless_fault}
 use Rattle.command_words.specs.Table.{workers_said}
-use Rattle.command_words.proofs.Numbers.{number_reads}
-use Rattle.command_words.proofs.Accepted.{IsCount, count_read, run_shape, workers_parser, WORKERS}
-use Rattle.command_words.proofs.Plain.{IsPlainWord, command_by, fault_is, next_walk, run_left, turn_plain, walked_plain, word_is}
-
-same_text : (text : Text) → IsPlainWord text → without_minus text ≡ text
-same_text [] plain = refl
-same_text (x ∷ xs) plain = rw plain refl
+use Rattle.command_words.proofs.Accepted.{run_shape, workers_parser, WORKERS}
+use Rattle.command_words.proofs.Said.{IsPlainWord, accepted_says, refused_says}
+use Rattle.command_words.proofs.Plain.{command_by, fault_is, next_walk, run_left, turn_plain, walked_plain, word_is}
 
 -- ---- the walk
 
@@ -112,19 +102,6 @@ said_is catalog key text = go (accepts false workers_parser text) refl
     go true e = ap from (settles catalog key text e)
     go false e = ap from (refuses catalog key text e)
 
--- ---- the text
-
-no_minus : (text : Text) → IsPlainWord text → starts_with_minus text ≡ false
-no_minus [] plain = refl
-no_minus (x ∷ xs) plain = plain
-
-in_range : (text : Text) (n : ℕ) → IsPlainWord text → number_written text ≡ Some n → (1 ≤ n) → (n ≤ greatest_workers) → accepts false workers_parser text ≡ true
-in_range text n plain is low high =
-    let read : ReadsOne {T = ℕ} {E = ⊤} (ParsesUnsigned 32 10) text (Some n) = subst (λ (o : Option ℕ). ReadsOne {T = ℕ} {E = ⊤} (ParsesUnsigned 32 10) text o) is (number_reads text) in
-    let value : n ≡ digits_value 10 (without_leading_plus text) = read.1 in
-    Accepts-accepts false workers_parser text
-    (rw (no_minus text plain) (read.0.0, record { sfits = omega (arith, value, high) }, omega (arith, ints, value, low), omega (arith, ints, value, high)))
-
 pub workers_are_said : (catalog key text : Text) → IsPlainWord catalog → IsPlainWord key → IsPlainWord text
     → command_of (codes "run" ∷ catalog ∷ key ∷ codes "--workers" ∷ text ∷ []) ≡ option_map (run catalog key) (workers_said text)
 workers_are_said catalog key text a b c =
@@ -132,28 +109,8 @@ workers_are_said catalog key text a b c =
     ∙ ap₂ (λ (k : Kinds) (w : Walk). command_by run_shape k w) (run_fault catalog key text a b c) (run_walk catalog key text a b c)
     ∙ said_is catalog key text ∙ go (accepts false workers_parser text) refl
   where
-    within : ℕ → Option ℕ
-    within n = cond (nat_le 1 n && nat_le n greatest_workers) (Some n) None
-
-    counted : (n : ℕ) → IsCount n → within n ≡ Some n
-    counted n count = rw (le-leb 1 n count.0, le-leb n greatest_workers count.1) refl
-
-    outside : (n : ℕ) → number_written text ≡ Some n → accepts false workers_parser text ≡ false → (r : Bool) → (nat_le 1 n && nat_le n greatest_workers) ≡ r
-        → None ≡ option_map (run catalog key) (cond r (Some n) None)
-    outside n is e false f = refl
-    outside n is e true f =
-        let parts = both _ _ f in
-        let yes = in_range text n c is (leb-true _ _ parts.0) (leb-true _ _ parts.1) in
-        cc (e, yes)
-
-    unread : (o : Option ℕ) → number_written text ≡ o → accepts false workers_parser text ≡ false → None ≡ option_map (run catalog key) (option_and_then within o)
-    unread None is e = refl
-    unread (Some n) is e = outside n is e (nat_le 1 n && nat_le n greatest_workers) refl
-
     go : (r : Bool) → accepts false workers_parser text ≡ r → said_by catalog key r (number_written (without_minus text)) ≡ option_map (run catalog key) (workers_said text)
     go true e =
-        let count = count_read text e in
-        let here : number_written text ≡ Some count.0 = ap number_written (sym (same_text text c)) ∙ count.1 in
-        ap (λ (o : Option ℕ). run_of (Some catalog) (Some key) o) count.1
-        ∙ sym (ap (λ (o : Option ℕ). option_map (run catalog key) (option_and_then within o)) here ∙ ap (λ (o : Option ℕ). option_map (run catalog key) o) (counted count.0 count.2))
-    go false e = unread (number_written text) refl e
+        let says = accepted_says 1 greatest_workers (omega arith) text c e in
+        ap (λ (o : Option ℕ). run_of (Some catalog) (Some key) o) says.1 ∙ sym (ap (λ (o : Option ℕ). option_map (run catalog key) o) says.2)
+    go false e = sym (ap (λ (o : Option ℕ). option_map (run catalog key) o) (refused_says 1 greatest_workers (omega arith) text c e))

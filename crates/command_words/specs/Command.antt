@@ -17,6 +17,10 @@ pub data Command : Type 0 where
   audit : (catalog key : List ℕ) → Command
   -- `gap CATALOG OWNER CATALOG2 FILE`: the names of a file, of an owner and of two other files
   gap : (catalog owner second_catalog file : List ℕ) → Command
+  -- `serve CATALOG KEY --addr A --port P --workers W --each N`: the names of two files, an address, and three numbers
+  serve : (catalog key address : List ℕ) (port workers each : ℕ) → Command
+  -- `gen SEED N WORKERS`: three numbers
+  gen : (seed asks workers : ℕ) → Command
 
 -- The number that a text is: digits, perhaps after a plus, below 2^32.
 abbrev pub number_written : Text → Option ℕ
@@ -44,6 +48,18 @@ abbrev pub gap_of : (catalog owner second_catalog file : Option Text) → Option
 gap_of (Some catalog) (Some owner) (Some second_catalog) (Some file) = Some (gap catalog owner second_catalog file)
 gap_of _ _ _ _ = None
 
+abbrev pub serve_of : (catalog key address : Option Text) (port workers each : Option ℕ) → Option Command
+serve_of (Some catalog) (Some key) (Some address) (Some port) (Some workers) (Some each) = Some (serve catalog key address port workers each)
+serve_of _ _ _ _ _ _ = None
+
+abbrev pub gen_of : (seed asks workers : Option ℕ) → Option Command
+gen_of (Some seed) (Some asks) (Some workers) = Some (gen seed asks workers)
+gen_of _ _ _ = None
+
+-- the number that clap found under this name
+abbrev pub number_in : Text → List Row → Option ℕ
+number_in name found = option_and_then number_written (one_of name found)
+
 -- each command, of what clap found for it
 abbrev pub check_found_in : List Row → Option Command
 check_found_in found = check_of (first_of (codes "catalog") found) (first_of (codes "owner") found) (first_of (codes "file") found)
@@ -52,8 +68,7 @@ abbrev pub init_found_in : List Row → Option Command
 init_found_in found = init_of (first_of (codes "catalog") found) (first_of (codes "key") found)
 
 abbrev pub run_found_in : List Row → Option Command
-run_found_in found = run_of (first_of (codes "catalog") found) (first_of (codes "key") found)
-    (option_and_then number_written (one_of (codes "workers") found))
+run_found_in found = run_of (first_of (codes "catalog") found) (first_of (codes "key") found) (number_in (codes "workers") found)
 
 abbrev pub audit_found_in : List Row → Option Command
 audit_found_in found = audit_of (first_of (codes "catalog") found) (first_of (codes "key") found)
@@ -61,6 +76,13 @@ audit_found_in found = audit_of (first_of (codes "catalog") found) (first_of (co
 abbrev pub gap_found_in : List Row → Option Command
 gap_found_in found = gap_of (first_of (codes "catalog") found) (first_of (codes "owner") found)
     (first_of (codes "second_catalog") found) (first_of (codes "file") found)
+
+abbrev pub serve_found_in : List Row → Option Command
+serve_found_in found = serve_of (first_of (codes "catalog") found) (first_of (codes "key") found) (first_of (codes "addr") found)
+    (number_in (codes "port") found) (number_in (codes "workers") found) (number_in (codes "each") found)
+
+abbrev pub gen_found_in : List Row → Option Command
+gen_found_in found = gen_of (number_in (codes "seed") found) (number_in (codes "asks") found) (number_in (codes "workers") found)
 
 -- the command of this name, of what clap found for it
 abbrev pub command_named : (name : Text) → (found : List Row) → Option Command
@@ -70,6 +92,8 @@ command_named name found =
     else if bytes_eq name (codes "run") then run_found_in found
     else if bytes_eq name (codes "audit") then audit_found_in found
     else if bytes_eq name (codes "gap") then gap_found_in found
+    else if bytes_eq name (codes "serve") then serve_found_in found
+    else if bytes_eq name (codes "gen") then gen_found_in found
     else None
 
 abbrev pub command_met : Option (Text × List Row) → Option Command

@@ -1,23 +1,60 @@
 -- The program's commands, as clap is told of them.
-use Rattle.std.specs.Prelude.{ℕ, [], ◌∷◌, true, Some, pos, codes}
+use Rattle.std.specs.Prelude.{ℕ, ◌-◌, ◌^◌, [], ◌∷◌, true, Some, pos, codes}
 use Rattle.clap.specs.Words.{App, Rule, Text, new_app, new_rule, with_rule, with_subcommand}
+use Rattle.clap.specs.declared.builder.value_parser.ValueParser.{ValueParser}
 use Rattle.clap.specs.declared.builder.value_parser.ValueParser.TheVariants as parser
 
--- the most workers of a run
+-- the most workers of a run, a service or a generated run
 abbrev pub greatest_workers : ℕ
 greatest_workers = 16
+
+-- The last port that a service's first worker may listen at: those of the others follow it, up to 65,535.
+abbrev pub greatest_port : ℕ
+greatest_port = 65520
+
+-- the most connections that each worker of a service serves
+abbrev pub greatest_each : ℕ
+greatest_each = 1000000
+
+-- the last seed of a generated run, and its most asks
+abbrev pub greatest_seed : ℕ
+greatest_seed = 2 ^ 32 - 1
+
+abbrev pub greatest_asks : ℕ
+greatest_asks = 100000
 
 -- a word that must be given
 abbrev pub required_word : Text → Rule
 required_word name = record (new_rule name) { required = true }
 
+-- a number in this range
+abbrev pub from_to : (low high : ℕ) → ValueParser
+from_to low high = parser.Signed (pos low) (pos high)
+
+abbrev pub number_rule : Text → ValueParser → Rule
+number_rule name range = record (new_rule name) { parser = Some range }
+
+-- said behind the option of its name
+abbrev pub as_option : Rule → Rule
+as_option rule = record rule { long = Some rule.id }
+
+-- a number that must be given, as a word or behind its option
+abbrev pub required_number : Text → ValueParser → Rule
+required_number name range = record (number_rule name range) { required = true }
+
+abbrev pub required_option : Text → ValueParser → Rule
+required_option name range = as_option (required_number name range)
+
+-- this where it isn't given
+abbrev pub or_else_is : Rule → Text → Rule
+or_else_is rule text = record rule { defaults = text ∷ [] }
+
 -- `--workers W`, a number from 1 to the most; 1 where it isn't given
+abbrev pub workers_rule : Rule
+workers_rule = number_rule (codes "workers") (from_to 1 greatest_workers)
+
 abbrev pub workers_option : Rule
-workers_option = record (new_rule (codes "workers")) {
-  long = Some (codes "workers");
-  parser = Some (parser.Signed (pos 1) (pos greatest_workers));
-  defaults = codes "1" ∷ [];
-}
+workers_option = or_else_is (as_option workers_rule) (codes "1")
 
 -- the command with one more word, in this order
 abbrev pub with_word : App → Text → App
@@ -43,6 +80,20 @@ abbrev pub gap_app : App
 gap_app = with_word (with_word (with_word (with_word (new_app (codes "gap")) (codes "catalog")) (codes "owner"))
     (codes "second_catalog")) (codes "file")
 
+-- `--addr A`, the address of this machine alone where it isn't given
+abbrev pub address_option : Rule
+address_option = or_else_is (as_option (new_rule (codes "addr"))) (codes "127.0.0.1")
+
+abbrev pub serve_app : App
+serve_app = with_rule (with_rule (with_rule (with_rule (files_app (codes "serve")) address_option)
+    (required_option (codes "port") (from_to 1 greatest_port))) workers_option)
+    (required_option (codes "each") (from_to 1 greatest_each))
+
+-- its numbers are words, the last one 1 where it isn't given
+abbrev pub gen_app : App
+gen_app = with_rule (with_rule (with_rule (new_app (codes "gen")) (required_number (codes "seed") (from_to 0 greatest_seed)))
+    (required_number (codes "asks") (from_to 1 greatest_asks))) (or_else_is workers_rule (codes "1"))
+
 -- The words leave out the program's own name, one of the commands is required, and help isn't one of them, nor a flag.
 abbrev pub bare_program : App
 bare_program = let app = new_app (codes "hitchseason") in record app {
@@ -55,5 +106,5 @@ bare_program = let app = new_app (codes "hitchseason") in record app {
 }
 
 abbrev pub program_app : App
-program_app = with_subcommand (with_subcommand (with_subcommand (with_subcommand (with_subcommand bare_program check_app.top)
-    init_app.top) run_app.top) audit_app.top) gap_app.top
+program_app = with_subcommand (with_subcommand (with_subcommand (with_subcommand (with_subcommand (with_subcommand (with_subcommand bare_program check_app.top)
+    init_app.top) run_app.top) audit_app.top) gap_app.top) serve_app.top) gen_app.top

@@ -1,13 +1,25 @@
 -- The commands of words without options, as a table.
 use Rattle.std.specs.Prelude.{◌==◌, ◌&&◌, ℕ, Bool, false, List, [], ◌∷◌, Option, Some, None, codes, bytes_eq, if◌then◌else◌, nat_le, option_and_then}
-use Rattle.command_words.specs.Command.{Command, check, init, run, audit, gap, number_written}
-use Rattle.command_words.specs.Program.{greatest_workers}
+use Rattle.command_words.specs.Command.{Command, check, init, run, audit, gap, gen_of, number_written}
+use Rattle.command_words.specs.Program.{greatest_asks, greatest_seed, greatest_workers}
 
 -- the word begins with `-` (45), as options do
 abbrev pub begins_with_hyphen : List ℕ → Bool
 begins_with_hyphen [] = false
 begins_with_hyphen (byte ∷ bytes) = byte == 45
 
+-- the number that a text says, where it is in this range
+abbrev pub number_said : (low high : ℕ) → List ℕ → Option ℕ
+number_said low high text = option_and_then (λ n. if nat_le low n && nat_le n high then Some n else None) (number_written text)
+
+abbrev pub workers_said : List ℕ → Option ℕ
+workers_said text = number_said 1 greatest_workers text
+
+-- a generated run, where each number is in its range
+abbrev pub gen_said : (seed asks workers : List ℕ) → Option Command
+gen_said seed asks workers = gen_of (number_said 0 greatest_seed seed) (number_said 1 greatest_asks asks) (workers_said workers)
+
+-- A `serve` has options that must be given, so it is none of these.
 abbrev pub plain_command : List (List ℕ) → Option Command
 plain_command [] = None
 plain_command (name ∷ []) = None
@@ -16,12 +28,12 @@ plain_command (name ∷ catalog ∷ key ∷ []) =
     if bytes_eq name (codes "init") then Some (init catalog key)
     else if bytes_eq name (codes "run") then Some (run catalog key 1)
     else if bytes_eq name (codes "audit") then Some (audit catalog key)
+    else if bytes_eq name (codes "gen") then gen_said catalog key (codes "1")
     else None
-plain_command (name ∷ catalog ∷ owner ∷ file ∷ []) = if bytes_eq name (codes "check") then Some (check catalog owner file) else None
+plain_command (name ∷ catalog ∷ owner ∷ file ∷ []) =
+    if bytes_eq name (codes "check") then Some (check catalog owner file)
+    else if bytes_eq name (codes "gen") then gen_said catalog owner file
+    else None
 plain_command (name ∷ catalog ∷ owner ∷ second_catalog ∷ file ∷ []) =
     if bytes_eq name (codes "gap") then Some (gap catalog owner second_catalog file) else None
 plain_command (name ∷ catalog ∷ owner ∷ second_catalog ∷ file ∷ more ∷ words) = None
-
--- the number of workers that a text says, where it is in range
-abbrev pub workers_said : List ℕ → Option ℕ
-workers_said text = option_and_then (λ n. if nat_le 1 n && nat_le n greatest_workers then Some n else None) (number_written text)

@@ -3,8 +3,8 @@
 ghost use Rattle.std.specs.Prelude.{◌≡◌, ◌≢◌, ◌↔◌, ◌≤◌, ℕ, List, [], ◌∷◌, None, Some, codes, false, option_map};
 ghost use Rattle.std.specs.List.{AllByRecursion};
 ghost use Rattle.clap.specs.Words.{fault_of};
-ghost use Rattle.command_words.specs.Command.{command_of, run};
-ghost use Rattle.command_words.specs.Program.{greatest_workers, program_app};
+ghost use Rattle.command_words.specs.Command.{command_of, gen, run, serve};
+ghost use Rattle.command_words.specs.Program.{greatest_asks, greatest_each, greatest_port, greatest_seed, greatest_workers, program_app};
 ghost use Rattle.command_words.specs.Table.{begins_with_hyphen, plain_command, workers_said};
 
 /// Words are no command exactly where clap's parse of them answers a fault.
@@ -16,6 +16,19 @@ pub fn faults_alone_are_no_command()
 pub fn workers_are_in_range()
     ensures { (words : List (List ℕ)) (catalog key : List ℕ) (workers : ℕ) → command_of words ≡ Some (run catalog key workers) →
         (1 ≤ workers) × (workers ≤ greatest_workers) }
+{}
+
+/// The numbers of a service are in range: its workers listen at ports below 2^16.
+pub fn services_are_in_range()
+    ensures { (words : List (List ℕ)) (catalog key address : List ℕ) (port workers each : ℕ) →
+        command_of words ≡ Some (serve catalog key address port workers each) →
+        ((1 ≤ port) × (port ≤ greatest_port)) × ((1 ≤ workers) × (workers ≤ greatest_workers)) × ((1 ≤ each) × (each ≤ greatest_each)) }
+{}
+
+/// The numbers of a generated run are in range.
+pub fn generated_runs_are_in_range()
+    ensures { (words : List (List ℕ)) (seed asks workers : ℕ) → command_of words ≡ Some (gen seed asks workers) →
+        (seed ≤ greatest_seed) × ((1 ≤ asks) × (asks ≤ greatest_asks)) × ((1 ≤ workers) × (workers ≤ greatest_workers)) }
 {}
 
 /// Words of which none begins with a hyphen are the commands of a table.

@@ -1,8 +1,8 @@
 //! Words to a command.
 
-ghost use Rattle.std.specs.Prelude.{◌≡◌, ◌≢◌, [], IfErr, IfOk, None, Some, map, option_and_then, option_map, string_bytes};
-ghost use Rattle.clap.specs.Words.{fault_of, first_of, found_of, one_of, rows_of, subcommand_of, subcommand_rows_of};
-ghost use Rattle.command_words.specs.Command.{audit_found_in, check_found_in, command_met, command_of, gap_found_in, init_found_in, number_written, run_found_in};
+ghost use Rattle.std.specs.Prelude.{◌≡◌, ◌≢◌, [], IfErr, IfOk, None, Some, map, option_map, string_bytes};
+ghost use Rattle.clap.specs.Words.{fault_of, first_of, found_of, rows_of, subcommand_of, subcommand_rows_of};
+ghost use Rattle.command_words.specs.Command.{audit_found_in, check_found_in, command_met, command_of, gap_found_in, gen_found_in, init_found_in, number_in, run_found_in, serve_found_in};
 ghost use Rattle.command_words.specs.Program.{program_app};
 ghost use Rattle.command_words.specs.Meant.{command_meant};
 
@@ -37,6 +37,19 @@ pub enum Command<'a> {
         owner: &'a str,
         second_catalog: &'a str,
         file: &'a str,
+    },
+    Serve {
+        catalog: &'a str,
+        key: &'a str,
+        address: &'a str,
+        port: u32,
+        workers: u32,
+        each: u32,
+    },
+    Gen {
+        seed: u32,
+        asks: u32,
+        workers: u32,
     },
 }
 
@@ -75,7 +88,7 @@ fn text_found<'a>(found: &ArgMatches<'a>, name: &str) -> Option<&'a str>
 
 /// The number that was found under this name.
 fn number_found(found: &ArgMatches, name: &str) -> Option<u32>
-    ensures { result ≡ option_and_then number_written (one_of name.now (rows_of (found_of found.now))) }
+    ensures { result ≡ number_in name.now (rows_of (found_of found.now)) }
 {
     found.get_one::<u32>(name)
 }
@@ -134,6 +147,31 @@ fn gap_found<'a>(found: &ArgMatches<'a>) -> Option<Command<'a>>
     })
 }
 
+/// `serve`, with what was found for it.
+fn serve_found<'a>(found: &ArgMatches<'a>) -> Option<Command<'a>>
+    ensures { option_map command_meant result ≡ serve_found_in (rows_of (found_of found.now)) }
+{
+    Some(Command::Serve {
+        catalog: text_found(found, "catalog")?,
+        key: text_found(found, "key")?,
+        address: text_found(found, "addr")?,
+        port: number_found(found, "port")?,
+        workers: number_found(found, "workers")?,
+        each: number_found(found, "each")?,
+    })
+}
+
+/// `gen`, with what was found for it.
+fn gen_found<'a>(found: &ArgMatches<'a>) -> Option<Command<'a>>
+    ensures { option_map command_meant result ≡ gen_found_in (rows_of (found_of found.now)) }
+{
+    Some(Command::Gen {
+        seed: number_found(found, "seed")?,
+        asks: number_found(found, "asks")?,
+        workers: number_found(found, "workers")?,
+    })
+}
+
 /// The command that was found.
 fn command_found<'a>(matches: &ArgMatches<'a>) -> Option<Command<'a>>
     ensures { option_map command_meant result ≡ command_met (subcommand_rows_of matches.now) }
@@ -144,6 +182,8 @@ fn command_found<'a>(matches: &ArgMatches<'a>) -> Option<Command<'a>>
         Some(("run", found)) => run_found(found),
         Some(("audit", found)) => audit_found(found),
         Some(("gap", found)) => gap_found(found),
+        Some(("serve", found)) => serve_found(found),
+        Some(("gen", found)) => gen_found(found),
         _ => None,
     }
 }
@@ -155,6 +195,9 @@ fn command_found<'a>(matches: &ArgMatches<'a>) -> Option<Command<'a>>
 /// - `run CATALOG KEY`, perhaps with `--workers W`: W is from 1 to 16, and 1 where it isn't given.
 /// - `audit CATALOG KEY`
 /// - `gap CATALOG OWNER CATALOG2 FILE`
+/// - `serve CATALOG KEY --port P --each N`, perhaps with `--addr A` and `--workers W`: P is from 1 to 65,520, N from 1 to 1,000,000,
+///   and A is 127.0.0.1 where it isn't given.
+/// - `gen SEED N`, perhaps with WORKERS behind them, 1 where they aren't given: SEED is below 2^32, and N from 1 to 100,000.
 ///
 /// `Usage` comes exactly where clap's parse of the words answers a fault, and `NoMemory` may come at any words.
 #[tactic(auto, using(crate::proofs::Parses::command_taken, crate::proofs::Parses::command_refused))]

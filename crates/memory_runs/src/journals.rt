@@ -1,7 +1,9 @@
 //! The disks of sixteen owners in memory, on which one command follows another.
 
+ghost use Rattle.std.specs.Prelude.{◌≤◌, length};
 ghost use Rattle.query_server.specs.Shelves.{AreAtHome};
 
+use crate::doors::idle_doors;
 use crate::{ROOM, words_of};
 use fz_outside::files::{Files, MemFile, MemFiles};
 use fz_outside::sink::{MemSink, Sink};
@@ -10,6 +12,7 @@ use outside_bays::bay::Bay;
 use outside_bays::memory::MemBay;
 use outside_disks::failing::{BlipDisk, FuseDisk};
 use outside_disks::memory::{Limits, MemDisk};
+use outside_doors::door::Doors;
 use outside_links::gate::FreeGate;
 use query_server::{Status, run_server};
 use std::alloc::{AllocError, Global};
@@ -18,7 +21,7 @@ use std::thread::Threads;
 
 /// How much a disk of a test takes: a journal of up to 126 records.
 pub const LARGE: Limits = Limits {
-    length: 8_192,
+    length: 16_384,
     calls: 4_096,
     written: 65_536,
 };
@@ -51,12 +54,21 @@ impl<B: Bay + Drop> Journals<B> {
         let mut files = MemFiles::new(held);
         let mut source = MemSource::new(script);
         let mut sink = MemSink::<ROOM>::new(alloc)?;
-        let status = self.ran_over(rt, alloc, &words, &mut files, &mut source, &mut sink);
+        let mut doors = idle_doors(alloc)?;
+        let status = self.ran_over(
+            rt,
+            alloc,
+            &words,
+            &mut files,
+            &mut source,
+            &mut sink,
+            &mut doors,
+        );
         Ok((status, sink.bytes().to_vec(alloc)?))
     }
 
-    /// How the command of these words ends over these files, this source and this sink.
-    pub fn ran_over<R: Threads + Wait + Sync, F: Files, S: Source, K: Sink>(
+    /// How the command of these words ends over these files, this source, this sink and these doors.
+    pub fn ran_over<R: Threads + Wait + Sync, F: Files, S: Source, K: Sink, O: Doors + Drop + Send>(
         &mut self,
         rt: &R,
         alloc: Global,
@@ -64,7 +76,12 @@ impl<B: Bay + Drop> Journals<B> {
         files: &mut F,
         source: &mut S,
         sink: &mut K,
-    ) -> Status {
+        doors: &mut Vec<O>,
+    ) -> Status
+    where
+        O::L: Send,
+        requires doors { 16 ≤ length doors.old.items }
+    {
         run_server(
             rt,
             alloc,
@@ -73,6 +90,7 @@ impl<B: Bay + Drop> Journals<B> {
             &mut self.bay,
             source,
             sink,
+            doors,
             &FreeGate,
         )
     }

@@ -1,6 +1,7 @@
-//! The top call over files, disks, source and sink in memory, for the crates of tests.
+//! The top call over files, disks, source, sink and doors in memory, for the crates of tests.
 #![tactic(auto)]
 
+pub mod doors;
 pub mod journals;
 
 use crate::journals::empty_journals;

@@ -3,6 +3,7 @@ mod ExamplesOfForms
 mod ExamplesOfLimits
 pub mod Laws
 pub mod Lists
+mod Made
 pub mod OnLiterals
 pub mod Partitions
 mod Pieces

@@ -8,3 +8,4 @@ pub mod Entries
 pub mod Lawful
 pub mod Catalog
 pub mod Digest
+pub mod Made

@@ -3,6 +3,7 @@
 use fz_outside::files::MemFiles;
 use fz_outside::sink::MemSink;
 use fz_outside::source::{MemSource, Source};
+use memory_runs::doors::idle_doors;
 use memory_runs::journals::empty_journals;
 use memory_runs::{AGE, CATALOG, TABLE, TableText, census_with, ended, file, owner_text, words_of};
 use query_server::Status;
@@ -112,7 +113,16 @@ fn leaves_source<R: Threads + Wait + Sync>(
     let mut source = MemSource::new(b"hello ann\n");
     let mut sink = MemSink::<64>::new(alloc)?;
     let mut journals = empty_journals(alloc)?;
-    let status = journals.ran_over(rt, alloc, &words, &mut files, &mut source, &mut sink);
+    let mut doors = idle_doors(alloc)?;
+    let status = journals.ran_over(
+        rt,
+        alloc,
+        &words,
+        &mut files,
+        &mut source,
+        &mut sink,
+        &mut doors,
+    );
     let mut left = [0; 16];
     Ok(status == Status::Done && source.read(&mut left) == Ok(10))
 }

@@ -34,6 +34,10 @@ pub one_line : (old name a n b m c k d l e s f t end : List ℕ)
     ≡ old ++ (name ++ a ++ n ++ b ++ m ++ c ++ k ++ d ++ l ++ e ++ s ++ f ++ t ++ end)
 one_line old name a n b m c k d l e s f t end = simp append_assoc refl
 
+pub one_tally : (old a n b m c k d l e s f t end : List ℕ)
+    → (((((((old ++ (a ++ n)) ++ (b ++ m)) ++ (c ++ k)) ++ (d ++ l)) ++ (e ++ s)) ++ f) ++ t) ++ end ≡ old ++ (a ++ n ++ b ++ m ++ c ++ k ++ d ++ l ++ e ++ s ++ f ++ t ++ end)
+one_tally old a n b m c k d l e s f t end = simp append_assoc refl
+
 -- what the last piece comes to
 pub last_piece : {T E : Type 0} (r : Result T E) (new before piece text : List ℕ) → new ≡ (if is_ok r then before ++ piece else before) → before ++ piece ≡ text
     → IfOk r (λ _. new ≡ text)

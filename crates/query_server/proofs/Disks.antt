@@ -1,10 +1,11 @@
 -- what may become of the owners' disks
 use Rattle.std.proofs.Common.{◌≡◌, ℕ, ◌+◌, ◌<◌, ◌≤◌, Some, refl, sym, ◌∙◌, ap, subst, arith}
-use mathlib.Core.Logic.{inl}
+use mathlib.Core.Logic.{◌⊎◌, inl, inr}
+use Rattle.std.proofs.lemmas.Bool.{cases_lt}
 use Rattle.fz_outside.specs.Faults.{HasRisen}
 use Rattle.outside_disks.specs.Disks.{Shown}
-use Rattle.query_server.specs.Work.{Work, to_answer, to_make, to_count}
-use Rattle.query_server.specs.Shelves.{Shelf, EachDisk, IsOnlySynced, StandsStill}
+use Rattle.query_server.specs.Work.{Work, to_answer, to_make, to_count, to_serve}
+use Rattle.query_server.specs.Shelves.{Shelf, EachDisk, IsOnlySynced, NothingWritten, StandsStill}
 use Rattle.query_server.specs.Due.{MayStop}
 
 pub synced_same : (shown : Shown) → IsOnlySynced shown shown
@@ -14,10 +15,22 @@ synced_same shown = record { synced = inl refl; counts = omega arith }
 pub became_same : (n : ℕ) (shelf : Shelf) → EachDisk n (λ _. IsOnlySynced) shelf shelf
 became_same n shelf = record { owned = λ o before less at. (before, at, synced_same before); others = λ o past. refl }
 
+-- so nothing was written
+pub nothing_same : (shelf : Shelf) → NothingWritten shelf shelf
+nothing_same shelf o before at = (before, at, synced_same before)
+
+pub nothing_written : (n : ℕ) (b a : Shelf) → EachDisk n (λ _. IsOnlySynced) b a → NothingWritten b a
+nothing_written n b a each o before at = here (cases_lt o n)
+  where
+    here : (o < n) ⊎ (n ≤ o) → (now : Shown) × (a o ≡ Some now) × IsOnlySynced before now
+    here (inl less) = each.owned o before less at
+    here (inr past) = (before, each.others o past ∙ at, synced_same before)
+
 pub may_stop_same : (ending : Work) (shelf : Shelf) → MayStop ending shelf shelf
 may_stop_same (to_answer workers loading key) shelf = became_same _ shelf
 may_stop_same (to_make loading key) shelf = inl (λ n. refl)
 may_stop_same (to_count loading key) shelf = became_same _ shelf
+may_stop_same (to_serve workers each loading key) shelf = inl (became_same _ shelf)
 may_stop_same work shelf = λ n. refl
 
 -- the count of a disk that is as it was, or of which it is known what it shows

@@ -4,19 +4,21 @@ use Rattle.std.specs.Prelude.{Result, Ok, Err}
 use Rattle.fz_ast.specs.Signature.{Signature}
 use Rattle.metric_values.specs.Tables.{Dataset}
 use Rattle.owner_catalog.specs.Catalog.{Catalog}
-use Rattle.command_words.specs.Command.{Command, init, run, audit, check, gap, command_of}
+use Rattle.command_words.specs.Command.{Command, init, run, audit, check, gap, serve, gen, command_of}
 use Rattle.catalog_loading.specs.Files.{ReadsToCome}
 use Rattle.catalog_loading.specs.Steps.{FileStep, ◌>>=◌, continued, done, file_read, from}
 use Rattle.catalog_loading.specs.Loaded.{Loading, IsKeyedHouse, catalog_read, house_read, key_read, keyed, loaded, entry_named, owner_loaded, with_house}
 use Rattle.catalog_loading.specs.Fit.{fitting}
-use Rattle.query_server.specs.Work.{Work, ended, usage, refused, to_answer, to_make, to_count, to_check, to_compare}
+use Rattle.query_server.specs.Work.{Work, ended, usage, refused, to_answer, to_make, to_count, to_check, to_compare, to_serve, to_generate}
 use Rattle.query_server.specs.Run.{run_steps}
 use Rattle.query_server.specs.Init.{init_steps}
 use Rattle.query_server.specs.Audit.{audit_steps}
 use Rattle.query_server.specs.Check.{check_steps}
 use Rattle.query_server.specs.Gap.{gap_steps}
+use Rattle.query_server.specs.Serve.{serve_steps}
 use Rattle.query_server.specs.Due.{work_of, command_steps}
 use Rattle.query_server.specs.Promise.{IsHouseOf}
+use Rattle.query_server.specs.Service.{IsHouseServed}
 use Rattle.catalog_loading.proofs.Pairs.{inverted}
 use Rattle.catalog_loading.proofs.Loaded.{catalog_lawful, loaded_register}
 
@@ -51,6 +53,9 @@ pub data ComesTo : Option Command → Work → Type 0 where
   checks : {catalog owner file : List ℕ} {tables : Signature} {program : List ℕ} → ComesTo (Some (check catalog owner file)) (to_check tables program)
   compares : {catalog owner second_catalog file : List ℕ} {tables : Signature} {X Y : Dataset} {program : List ℕ}
       → ComesTo (Some (gap catalog owner second_catalog file)) (to_compare tables X Y program)
+  serves : {catalog name address : List ℕ} {port workers each : ℕ} {loading : Loading} {key : List ℕ}
+      → ComesTo (Some (serve catalog name address port workers each)) (to_serve workers each loading key)
+  generates : {seed asks workers : ℕ} → ComesTo (Some (gen seed asks workers)) (to_generate seed asks)
 
 house_comes : (command : Command) (work : Loading → List ℕ → Work) → ((loading : Loading) (key : List ℕ) → ComesTo (Some command) (work loading key))
     → (catalog key : List ℕ) (reads : ReadsToCome) → ComesTo (Some command) (ended (with_house work catalog key reads).given)
@@ -87,6 +92,8 @@ comes_to (Some (init catalog key)) reads = house_comes _ to_make (λ loading byt
 comes_to (Some (audit catalog key)) reads = house_comes _ to_count (λ loading bytes. counts) catalog key reads
 comes_to (Some (check catalog owner file)) reads = check_comes catalog owner file reads
 comes_to (Some (gap catalog owner second_catalog file)) reads = gap_comes catalog owner second_catalog file reads
+comes_to (Some (serve catalog key address port workers each)) reads = house_comes _ (to_serve workers each) (λ loading bytes. serves) catalog key reads
+comes_to (Some (gen seed asks workers)) reads = generates
 
 pub work_comes : (words : List (List ℕ)) (reads : ReadsToCome) → ComesTo (command_of words) (work_of words reads)
 unfolding work_of
@@ -142,7 +149,7 @@ given_work : (given : Result Work (List ℕ)) (work : Work) → ((name : List �
 given_work (Ok ending) work other is = ap Ok is
 given_work (Err name) work other is = absurd (other name is)
 
--- a house is loaded by a `run`, an `init` or an `audit` alone
+-- a house is loaded by a `run`, a `serve`, an `init` or an `audit` alone
 run_asked : (command : Option Command) (workers : ℕ) (loading : Loading) (key : List ℕ) → ComesTo command (to_answer workers loading key)
     → (catalog : List ℕ) × (name : List ℕ) × (command ≡ Some (run catalog name workers))
 run_asked command workers loading key (answers {catalog = catalog} {name = name}) = (catalog, name, refl)
@@ -159,6 +166,18 @@ house_by words reads workers loading key is =
     let house = house_of_work (to_answer workers) asked.0 asked.1 reads loading key (λ other bytes same. (cc (same), cc (same)))
     (given_work (run_steps asked.0 asked.1 workers reads).given (to_answer workers loading key) (λ name wrong. cc) (sym (work_by words reads _ asked.2) ∙ is)) in
     record { catalog = asked.0; key_name = asked.1; commanded = asked.2; is_read = house.is_read; lawful = house.lawful }
+
+serve_asked : (command : Option Command) (workers each : ℕ) (loading : Loading) (key : List ℕ) → ComesTo command (to_serve workers each loading key)
+    → (catalog : List ℕ) × (name : List ℕ) × (address : List ℕ) × (port : ℕ) × (command ≡ Some (serve catalog name address port workers each))
+serve_asked command workers each loading key (serves {catalog = catalog} {name = name} {address = address} {port = port}) = (catalog, name, address, port, refl)
+
+pub house_served_by : (words : List (List ℕ)) (reads : ReadsToCome) (workers each : ℕ) (loading : Loading) (key : List ℕ) → work_of words reads ≡ to_serve workers each loading key
+    → IsHouseServed words reads workers each loading key
+house_served_by words reads workers each loading key is =
+    let asked = serve_asked (command_of words) workers each loading key (subst (ComesTo (command_of words)) is (work_comes words reads)) in
+    let house = house_of_work (to_serve workers each) asked.0 asked.1 reads loading key (λ other bytes same. (cc (same), cc (same)))
+    (given_work (serve_steps asked.0 asked.1 workers each reads).given (to_serve workers each loading key) (λ name wrong. cc) (sym (work_by words reads _ asked.4) ∙ is)) in
+    record { catalog = asked.0; key_name = asked.1; address = asked.2; port = asked.3; commanded = asked.4; is_read = house.is_read; lawful = house.lawful }
 
 pub made_lawful : (words : List (List ℕ)) (reads : ReadsToCome) (loading : Loading) (key : List ℕ) → work_of words reads ≡ to_make loading key → IsKeyedHouse (keyed loading key)
 made_lawful words reads loading key is =

@@ -15,6 +15,7 @@ use Rattle.journal_records.specs.declared.records.Header.{Header}
 use Rattle.budget_core.specs.Cost.{cost_of}
 use Rattle.budget_core.specs.Entries.{Entry}
 use Rattle.budget_journal.specs.Journals.{Stands}
+use Rattle.budget_journal.proofs.Fills.{journal-long}
 use Rattle.fz_ast.specs.Signature.{Signature}
 use Rattle.metric_values.specs.Tables.{Dataset}
 use Rattle.owner_house.specs.Owner.{Owner}
@@ -214,8 +215,8 @@ first_refused = record { known = omega arith; before = λ p lt. absurd (omega (a
 second_refused : IsRefusedAt loading key (shelf_with []) 1 (Damaged 7) → ⊥
 second_refused at =
     let opened = at.before 0 (omega arith) in
-    let whole : 0 ≡ 128 + 64 * 100 = opened.1.stands.fills.whole in
-    omega (arith, whole)
+    let long : 128 ≤ 0 = journal-long (header_of loading key 0) opened.0 [] opened.1.stands in
+    omega (arith, long)
 
 third_refused : (refusal : JournalRefusal) → IsRefusedAt loading key (shelf_with []) 2 refusal → ⊥
 third_refused refusal at = let known : 2 < 2 = at.known in omega (arith, known)
@@ -327,7 +328,8 @@ another_owners_disk (o, lt, is, opened, others) = first_disk o lt is others
 -- the first one's journal was not made, so the second one's disk isn't opened
 unmade_before : (o : ℕ) → o < 2 → codes "disk b\n" ≡ disk_text (owner_name_at loading o) → AreOpenedBefore loading key (shelf_with []) o → ⊥
 unmade_before zero lt is opened = let wrong : 10 ≡ 101 = ap (λ text. slice_index text 6) is in omega (arith, wrong)
-unmade_before (suc zero) lt is opened = let whole : 0 ≡ 128 + 64 * 100 = (opened 0 (omega arith)).1.stands.fills.whole in omega (arith, whole)
+unmade_before (suc zero) lt is opened = let first = opened 0 (omega arith) in
+    let long : 128 ≤ 0 = journal-long (header_of loading key 0) first.0 [] first.1.stands in omega (arith, long)
 unmade_before (suc (suc o)) lt is opened = omega (arith, lt)
 
 behind_an_unmade_journal : (new : Shelf) → IsDiskLine (to_answer 1 loading key) (shelf_with []) new (codes "disk b\n") → ⊥
@@ -427,7 +429,8 @@ valid_making : IsValidFor (to_make loading key) (λ o. telling [])
 valid_making o lt = refl
 
 no_journals : HoldJournals loading key (λ o. telling []) → ⊥
-no_journals (told, (found, opened)) = let whole = (opened 0 (omega arith)).stands.fills.whole in omega (arith, whole)
+no_journals (told, (found, opened)) =
+    let long : 128 ≤ 0 = journal-long (header_of loading key 0) (found 0) [] (opened 0 (omega arith)).stands in omega (arith, long)
 
 not_valid_run : IsValidFor (to_answer 1 loading key) (λ o. telling []) → ⊥
 not_valid_run = no_journals
@@ -443,9 +446,9 @@ module _ (bytes : ℕ → List ℕ) (made : (o : ℕ) → Stands (header_of load
   not_valid_making : IsValidFor (to_make loading key) (λ o. telling (bytes o)) → ⊥
   not_valid_making is =
       let none : bytes 0 ≡ [] = cc (is 0 (omega arith)) in
-      let whole : length (bytes 0) ≡ 6528 = (made 0).fills.whole in
+      let long : 128 ≤ length (bytes 0) = journal-long (header_of loading key 0) [] (bytes 0) (made 0) in
       let short : length (bytes 0) ≡ 0 = ap length none in
-      omega (arith, whole, short)
+      omega (arith, long, short)
 
 not_valid_untold : IsValidFor (to_answer 1 loading key) (λ o. Some (record { trace = None; faults = 0 })) → ⊥
 not_valid_untold (told, journals) = let wrong : false ≡ true = told 0 (omega arith) in true≢false (sym wrong)

@@ -20,12 +20,13 @@ use Rattle.owner_house.proofs.Owners.{entry_said, in_catalog, register_owners}
 use Rattle.owner_history.proofs.Sound.{lawful_found, lawful_owed, well_backed, well_found}
 use Rattle.catalog_loading.specs.Loaded.{Loading, IsLoading, header_of, owners_in}
 use Rattle.query_server.specs.Work.{Work, to_count}
-use Rattle.query_server.specs.Shelves.{EachDisk, IsOnlySynced, Shelf, bytes_on}
+use Rattle.query_server.specs.Shelves.{EachDisk, IsOnlySynced, NothingWritten, Shelf, bytes_on}
 use Rattle.query_server.specs.Due.{IsToWrite, IsWrittenAt, MayStop, work_of}
 use Rattle.query_server.specs.Found.{AreKept, KeepsFound}
-use Rattle.query_server.specs.Laws.{AuditsKeepWhatWasFound, RunsKeepWhatWasFound}
+use Rattle.query_server.specs.Laws.{AuditsKeepWhatWasFound, RunsKeepWhatWasFound, ServicesKeepWhatWasFound}
 use Rattle.query_server.specs.declared.end.Status.{Status}
-use Rattle.query_server.proofs.Endings.{counted_lawful, house_by}
+use Rattle.query_server.proofs.Disks.{nothing_written}
+use Rattle.query_server.proofs.Endings.{counted_lawful, house_by, house_served_by}
 use Rattle.query_server.proofs.Owed.{history_within}
 
 -- ---- the disk
@@ -76,10 +77,9 @@ keeps_found owner draws header found before now of history stands synced =
 told_at : (b : Shelf) (o : ℕ) (before : Shown) (P : List ℕ → Type 0) → b o ≡ Some before → IfSome (bytes_on b o) P → IfSome (option_map seen_of before.trace) P
 told_at b o before P at = subst (λ (s : Option Shown). IfSome (option_map seen_of (option_and_then (λ (shown : Shown). shown.trace) s)) P) at
 
-pub all_kept : (loading : Loading) (key : List ℕ) (b a : Shelf) → IsLoading loading → EachDisk (owners_in loading) (λ _. IsOnlySynced) b a → AreKept loading key b a
-all_kept loading key b a lawful disks = λ o owner found before there at opened.
-    let within : o < owners_in loading = in_catalog loading.register lawful.register o (slice_get_within (house_of loading.register).owners o owner there) in
-    let went = disks.owned o before within at in
+pub nothing_lost : (loading : Loading) (key : List ℕ) (b a : Shelf) → IsLoading loading → NothingWritten b a → AreKept loading key b a
+nothing_lost loading key b a lawful disks = λ o owner found before there at opened.
+    let went = disks o before at in
     let of = register_owners loading.register lawful.register o owner there in (
       went.0,
       went.1,
@@ -88,12 +88,20 @@ all_kept loading key b a lawful disks = λ o owner found before there at opened.
           (told_at b o before (Stands (header_of loading key o) found) at opened.stands) went.2,
     )
 
--- ---- a run, and an audit
+pub all_kept : (loading : Loading) (key : List ℕ) (b a : Shelf) → IsLoading loading → EachDisk (owners_in loading) (λ _. IsOnlySynced) b a → AreKept loading key b a
+all_kept loading key b a lawful disks = nothing_lost loading key b a lawful (nothing_written (owners_in loading) b a disks)
+
+-- ---- a run, a service and an audit
 
 pub runs_keep : RunsKeepWhatWasFound
 runs_keep words reads old new script status written workers loading key is (inl (due, answered, begins, same)) = inl (due, answered, begins)
 runs_keep words reads old new script status written workers loading key is (inr (isnt, may)) =
     inr (isnt, all_kept loading key old new (house_by words reads workers loading key is).lawful.lawful (subst (λ (w : Work). MayStop w old new) is may))
+
+pub services_keep : ServicesKeepWhatWasFound
+services_keep words reads old new before after status sink sunk workers each loading key is (inl done) = inl done
+services_keep words reads old new before after status sink sunk workers each loading key is (inr (isnt, unserved)) =
+    inr (isnt, nothing_lost loading key old new (house_served_by words reads workers each loading key is).lawful.lawful unserved.0)
 
 -- an audit writes nothing
 audit_synced : (loading : Loading) (key : List ℕ) (b a : Shelf) (script : List ℕ) (status : Status) (text : List ℕ) → IsToWrite (to_count loading key) b a script status text

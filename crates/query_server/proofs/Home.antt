@@ -13,7 +13,7 @@ use Rattle.query_server.specs.Shelves.{Shelf, AreAtHome, EachDisk}
 use Rattle.query_server.specs.Init.{AreMadeBefore, IsMade}
 use Rattle.query_server.specs.Due.{IsOfDisks, work_of}
 use Rattle.query_server.specs.Ends.{Ended, IsEndOf}
-use Rattle.query_server.proofs.Endings.{ComesTo, answers, counts, makes, refuses, work_comes}
+use Rattle.query_server.proofs.Endings.{ComesTo, answers, counts, makes, refuses, serves, work_comes}
 
 abbrev pub AreBack : (old new : Shelf) → Type 0
 AreBack old new = (o : ℕ) → IsSome (old o) → IsSome (new o)
@@ -63,6 +63,10 @@ work_back command work b a script end makes takes (inr (cut, inr (o, within, mad
 work_back command work b a script end counts takes (inl (inl refusal)) = became_back _ _ b a refusal.disks
 work_back command work b a script end counts takes (inl (inr (found, opened, done, text, disks))) = became_back _ _ b a disks
 work_back command work b a script end counts takes (inr (cut, disks)) = became_back _ _ b a disks
+work_back command work b a script end serves takes (inl (inl refusal)) = became_back _ _ b a refusal.disks
+work_back command work b a script end serves takes (inl (inr (found, opened, done, text, held))) = became_back _ _ b a held.over.disks
+work_back command work b a script end serves takes (inr (cut, inl disks)) = became_back _ _ b a disks
+work_back command work b a script end serves takes (inr (cut, inr (found, opened, held))) = became_back _ _ b a held.over.disks
 work_back command work b a script end other takes due = cc takes
 
 -- Every disk is at home again.

@@ -11,14 +11,17 @@ pub mod Bounded
 pub mod Endings
 pub mod Contents
 pub mod Disks
+pub mod Doors
 pub mod Ends
 pub mod Owed
 pub mod Ran
+pub mod Served
 pub mod Home
 pub mod Made
 pub mod Counted
 pub mod Diskless
 pub mod Outcomes
+pub mod Services
 pub mod Valid
 pub mod Found
 pub mod Lines
@@ -27,3 +30,4 @@ pub mod Compared
 pub mod Examples
 pub mod ExamplesOfOrder
 pub mod ExamplesOfDisks
+pub mod ExamplesOfService

@@ -18,8 +18,9 @@ use Rattle.word_streams.specs.Draws.{draws_of}
 use Rattle.owner_house.specs.House.{house_of}
 use Rattle.session_core.specs.Gathered.{IsGatheredScript}
 use Rattle.session_laws.proofs.Scripts.{transcript_of}
+use Rattle.query_server.proofs.Doors.{doors_stay, doors_stay_on}
 use Rattle.query_server.proofs.Contents.{at_held, at_told, for_contents}
-use Rattle.query_server.proofs.Endings.{counted_lawful, house_by, made_lawful, work_by, work_comes}
+use Rattle.query_server.proofs.Endings.{counted_lawful, house_by, house_served_by, made_lawful, work_by, work_comes}
 use Rattle.query_server.proofs.Outcomes.{Comes, comparison_by, disks_of, finished_due, finished_map, left_by_run, name_by, program_by, program_of, run_of, status_written, usage_of, verdict_by}
 
 pub lines_exact : LinesAreExact
@@ -82,7 +83,8 @@ sink_failed command before after none failed = here (subst (λ (c : Option Comma
     here : SomeFailed None before after → HasRisen before.sink.faults after.sink.faults
     here (inl (some, rose)) = cc some
     here (inr (inl (takes, rose))) = cc takes
-    here (inr (inr rose)) = rose
+    here (inr (inr (inl (listens, rose)))) = cc listens
+    here (inr (inr (inr rose))) = rose
 
 usage_end : (before after : Outside) (script : List ℕ) (status : Status) (text : List ℕ) → (status ≡ code.Fault → HasRisen before.sink.faults after.sink.faults)
     → IsWrittenAt usage before.bay.shelf after.bay.shelf script status text → IsFaultyWordsEnd status text (HasRisen before.sink.faults after.sink.faults)
@@ -137,16 +139,18 @@ runs_answered words reads old new script status written left = (λ takes done. w
 pub loaded_lawful : WhatIsLoadedIsLawful
 loaded_lawful words reads loading key (inl (workers, is)) = let house = (house_by words reads workers loading key is).lawful in (house.lawful, house.whole_key)
 loaded_lawful words reads loading key (inr (inl is)) = let house = made_lawful words reads loading key is in (house.lawful, house.whole_key)
-loaded_lawful words reads loading key (inr (inr is)) = let house = counted_lawful words reads loading key is in (house.lawful, house.whole_key)
+loaded_lawful words reads loading key (inr (inr (inr (workers, each, is)))) = let house = (house_served_by words reads workers each loading key is).lawful in (house.lawful, house.whole_key)
+loaded_lawful words reads loading key (inr (inr (inl is))) = let house = counted_lawful words reads loading key is in (house.lawful, house.whole_key)
 
 pub outside_stays : OutsideStays
 outside_stays = (
-  λ before. ((refl, omega arith), (refl, omega arith), omega arith, omega arith),
+  λ before. ((refl, omega arith), (refl, omega arith), omega arith, omega arith, doors_stay before.doors),
   λ before mid after first second. (
     (second.0.0 ∙ first.0.0, omega (arith, first.0.1, second.0.1)),
     (second.1.0 ∙ first.1.0, omega (arith, first.1.1, second.1.1)),
     omega (arith, first.2, second.2),
     omega (arith, first.3, second.3),
+    doors_stay_on before.doors mid.doors after.doors first.4 second.4,
   ),
 )
 

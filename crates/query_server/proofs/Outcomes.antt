@@ -11,8 +11,9 @@ use Rattle.answer_path.proofs.Readings.{one_reading}
 use Rattle.metric_values.specs.Tables.{Dataset}
 use Rattle.session_core.specs.Transcript.{Journals}
 use Rattle.command_words.specs.Command.{Command, command_of}
-use Rattle.query_server.specs.Work.{Work, usage, refused, to_answer, to_make, to_count, to_check, to_compare}
+use Rattle.query_server.specs.Work.{Work, usage, refused, to_answer, to_make, to_count, to_check, to_compare, to_serve, to_generate}
 use Rattle.catalog_loading.specs.Files.{Contents, ReadsToCome, always}
+use Rattle.catalog_loading.specs.Steps.{done}
 use Rattle.catalog_loading.specs.Loaded.{Loading}
 use Rattle.query_server.specs.Shelves.{Shelf}
 use Rattle.query_server.specs.Opened.{AreOpened}
@@ -31,7 +32,7 @@ use Rattle.query_server.proofs.Judged.{gap_status}
 use Rattle.query_server.proofs.Contents.{at_held, at_some, at_told, for_contents}
 use Rattle.query_server.proofs.Prefixes.{prefix_empty, prefix_of_prefix, prefix_whole}
 use Rattle.query_server.proofs.Ends.{took_passed}
-use Rattle.query_server.proofs.Endings.{ComesTo, answers, checks, compares, counts, makes, no_command, refuses, house_by, work_comes}
+use Rattle.query_server.proofs.Endings.{ComesTo, answers, checks, compares, counts, makes, no_command, refuses, serves, house_by, work_comes}
 use Rattle.query_server.proofs.Disks.{may_stop_same}
 use Rattle.query_server.proofs.Owed.{histories}
 use Rattle.session_laws.proofs.Scripts.{headline_of, owed_of}
@@ -108,6 +109,9 @@ due_status (to_make loading key) b a script status text (inl due) = inl due.0
 due_status (to_make loading key) b a script status text (inr due) = inr due.is_status
 due_status (to_count loading key) b a script status text (inl due) = inr due.is_status
 due_status (to_count loading key) b a script status text (inr (found, opened, is, due, disks)) = inl is
+due_status (to_serve workers each loading key) b a script status text (inl due) = inr due.is_status
+due_status (to_serve workers each loading key) b a script status text (inr (found, opened, is, none, held)) = inl is
+due_status (to_generate seed asks) b a script status text due = due.0
 due_status (to_check tables program) b a script status text due = no_verdict (judgement_of tables due.reading) status due.is_status
 due_status (to_compare tables X Y program) b a script status text due = gap_verdict tables X Y program status text due
 
@@ -188,6 +192,7 @@ pub disks_of : (command : Option Command) (work : Work) → ComesTo command work
 disks_of command work answers is = refl
 disks_of command work makes is = refl
 disks_of command work counts is = refl
+disks_of command work serves is = refl
 disks_of command work other is = absurd (grind (arith, is))
 
 -- a script that is answered
@@ -301,6 +306,12 @@ unread_end words held left old shelf =
     at_some held left (Ends words old old shelf shelf (Err NoMemory))
     (λ reads script. (inr (inr (inl refl), may_stop_same (work_of words reads) shelf), record { names = []; is = sym (append-nil old); some = (files_of words reads, refl); all = inr (inl refl) }))
 
+-- work that is done over no file
+pub fileless_end : (held : Option Contents) (left : Option (List ℕ)) (old : List (List ℕ)) (shelf : Shelf) (work : Work) (end : Ended) → ((script : List ℕ) → IsEndOf work shelf shelf script end)
+    → ForContents held left (IsStepEnd old old shelf shelf (done work) end)
+fileless_end held left old shelf work end due = at_some held left (IsStepEnd old old shelf shelf (done work) end)
+    (λ reads script. (due script, record { names = []; is = sym (append-nil old); some = ([], refl); all = inr (inr (inr refl)) }))
+
 -- Where memory ran out before anything was read, nothing was taken.
 pub unread_taken : (command : Option Command) (left : Option (List ℕ)) → IsTakenAt command left left code.NoMemory
 unread_taken command left = here (command_kind command).source
@@ -330,19 +341,20 @@ silent_by end text status before after Risen with written (inl is) = inr (nothin
 silent_by end text status before after Risen with written (inr risen) = inl risen
 
 -- what failed: at faulty words nothing but the sink
-pub failed_by : {Files OfRun Source Sink : Type 0} (command : Option Command) (end : Ended) → (end ≡ Err Fault) ⊎ Sink → (end ≡ Err Fault → Files ⊎ (OfRun × Source))
-    → (command ≡ None → (end ≡ Err Usage) ⊎ (end ≡ Err NoMemory)) → (IsSome command × Files) ⊎ (OfRun × Source) ⊎ Sink
-failed_by command end (inr rose) cause idle = inr (inr rose)
-failed_by {Files} {OfRun} {Source} {Sink} command end (inl is) cause idle = here command idle (cause is)
+pub failed_by : {Files OfRun Source Doors Sink : Type 0} (command : Option Command) (end : Ended) → (end ≡ Err Fault) ⊎ Sink → (end ≡ Err Fault → Files ⊎ (OfRun × Source) ⊎ Doors)
+    → (command ≡ None → (end ≡ Err Usage) ⊎ (end ≡ Err NoMemory)) → (IsSome command × Files) ⊎ (OfRun × Source) ⊎ Doors ⊎ Sink
+failed_by command end (inr rose) cause idle = inr (inr (inr rose))
+failed_by {Files} {OfRun} {Source} {Doors} {Sink} command end (inl is) cause idle = here command idle (cause is)
   where
     unfailed : {A : Type 0} → (end ≡ Err Usage) ⊎ (end ≡ Err NoMemory) → A
     unfailed (inl faulty) = absurd (cc (sym is ∙ faulty))
     unfailed (inr memory) = absurd (cc (sym is ∙ memory))
 
-    here : (command : Option Command) → (command ≡ None → (end ≡ Err Usage) ⊎ (end ≡ Err NoMemory)) → Files ⊎ (OfRun × Source) → (IsSome command × Files) ⊎ (OfRun × Source) ⊎ Sink
+    here : (command : Option Command) → (command ≡ None → (end ≡ Err Usage) ⊎ (end ≡ Err NoMemory)) → Files ⊎ (OfRun × Source) ⊎ Doors → (IsSome command × Files) ⊎ (OfRun × Source) ⊎ Doors ⊎ Sink
     here None idle failed = unfailed (idle refl)
     here (Some command) idle (inl rose) = inl (refl, rose)
-    here (Some command) idle (inr rose) = inr (inl rose)
+    here (Some command) idle (inr (inl rose)) = inr (inl rose)
+    here (Some command) idle (inr (inr rose)) = inr (inr (inl rose))
 
 -- what was taken, whether or not the end's text is written
 taken_at_fault : (takes : Bool) (before after : Option (List ℕ)) (s : Status) → MatchBool takes (IsTaken before after s) (after ≡ before) → MatchBool takes (IsTaken before after code.Fault) (after ≡ before)

@@ -79,7 +79,7 @@ module _ (loading : Loading) (key : List ℕ) (lawful : IsLoading loading) where
   count_owners : length house.owners ≡ owners_in loading
   count_owners = owners_length loading.register lawful.register
 
-  there : (o : ℕ) → o < owners_in loading → slice_get house.owners o ≡ Some (owner_at house o)
+  pub there : (o : ℕ) → o < owners_in loading → slice_get house.owners o ≡ Some (owner_at house o)
   there o within = owner_there loading.register o (omega (arith, within, count_owners))
 
   -- the passes that were opened are of the house's owners, and fresh
@@ -93,14 +93,14 @@ module _ (loading : Loading) (key : List ℕ) (lawful : IsLoading loading) where
   pub opened_fresh : (old mid : Shelf) (passes : List Pass) → ArePassesOn (entry_at loading) (header_of loading key) (owners_in loading) old mid passes → AreFresh (house_of loading.register) passes
   opened_fresh old mid passes on = λ o owner at. (on.each o (in_catalog loading.register lawful.register o (slice_get_within house.owners o owner at))).fresh
 
-  passes_opened : (old mid : Shelf) (passes : List Pass) → ArePassesOn (entry_at loading) (header_of loading key) (owners_in loading) old mid passes → AreOpened loading key old (found_by passes)
+  pub passes_opened : (old mid : Shelf) (passes : List Pass) → ArePassesOn (entry_at loading) (header_of loading key) (owners_in loading) old mid passes → AreOpened loading key old (found_by passes)
   passes_opened old mid passes on = λ o within. pass_opened (entry_at loading o) (header_of loading key o) (old o) (pass_at passes o) (on.each o within)
 
   -- the records and the closings of the owners' books
-  abbrev records_of : (ℕ → Account) → Journals
+  abbrev pub records_of : (ℕ → Account) → Journals
   records_of books o = (books o).ledger.records
 
-  abbrev closings_of : (ℕ → Account) → ℕ → Option Failure
+  abbrev pub closings_of : (ℕ → Account) → ℕ → Option Failure
   closings_of books o = (books o).storage.closed
 
   -- there are as many passes as owners, also after the script
@@ -109,12 +109,12 @@ module _ (loading : Loading) (key : List ℕ) (lawful : IsLoading loading) where
   many_opened register passes bundle is same are =
       sym (many_known passes) ∙ ap (λ (b : Bundle). length b.knows) is ∙ (subst (λ (r : Register). ArePasses (house_of r) bundle.knows) same are).each_has ∙ count_owners
 
-  books_closed : (mid new : Shelf) (after : List Pass) (books : ℕ → Account) → ArePutBack (owners_in loading) after books mid new
+  pub books_closed : (mid new : Shelf) (after : List Pass) (books : ℕ → Account) → ArePutBack (owners_in loading) after books mid new
       → AreClosed (house_of loading.register) after (records_of books) (closings_of books)
   books_closed mid new after books back = λ o owner at. (back.gave o (in_catalog loading.register lawful.register o (slice_get_within house.owners o owner at))).closed
 
   -- an owner's disk, by its pass before the script and the book that the pass after it gave
-  owner_went : (o : ℕ) (old : Shelf) (before : Shown) (p q : Pass) (book : Account) → old o ≡ Some before → IsNewPass (entry_at loading o) (header_of loading key o) (old o) p → q.opened ≡ p.opened → GaveBook q book
+  pub owner_went : (o : ℕ) (old : Shelf) (before : Shown) (p q : Pass) (book : Account) → old o ≡ Some before → IsNewPass (entry_at loading o) (header_of loading key o) (old o) p → q.opened ≡ p.opened → GaveBook q book
       → WentOn (entry_at loading o) (header_of loading key o) p.opened.ledger.found book.ledger.records book.storage.closed before (shown_by book)
   owner_went o old before p q book at new same gave =
       let found = p.opened.ledger.found in
@@ -150,7 +150,7 @@ module _ (loading : Loading) (key : List ℕ) (lawful : IsLoading loading) where
       }
 
   -- passes that added nothing give the disks back with nothing written
-  unserved_back : (old mid new : Shelf) (passes after : List Pass) (books : ℕ → Account) → ArePassesOn (entry_at loading) (header_of loading key) (owners_in loading) old mid passes
+  pub unserved_back : (old mid new : Shelf) (passes after : List Pass) (books : ℕ → Account) → ArePassesOn (entry_at loading) (header_of loading key) (owners_in loading) old mid passes
       → HaveAddedNone (house_of loading.register) passes after → ArePutBack (owners_in loading) after books mid new → EachDisk (owners_in loading) (λ _. IsOnlySynced) old new
   unserved_back old mid new passes after books on none back =
       all_back (entry_at loading) (header_of loading key) (owners_in loading) old mid new passes after books on (λ o within. none o (owner_at house o) (there o within)) back

@@ -8,7 +8,7 @@ use Rattle.budget_core.specs.Entries.{Entry}
 use Rattle.command_words.specs.Command.{Command, command_of}
 use Rattle.catalog_loading.specs.Files.{ReadsToCome}
 use Rattle.catalog_loading.specs.Loaded.{Loading, header_of, entry_at, owners_in}
-use Rattle.query_server.specs.Work.{Work, usage, refused, to_answer, to_make, to_count, to_check, to_compare}
+use Rattle.query_server.specs.Work.{Work, usage, refused, to_answer, to_make, to_count, to_check, to_compare, to_serve, to_generate}
 use Rattle.query_server.specs.Shelves.{Shelf, bytes_on}
 use Rattle.query_server.specs.Outside.{NoCallFailed, Outside}
 use Rattle.query_server.specs.Opened.{IsOpened, IsRefusedAt, IsUnopened}
@@ -53,6 +53,9 @@ ends_well (to_make loading key) b a script status text valid (inr r) = absurd (n
 ends_well (to_count loading key) b a script status text valid (inl r) = absurd (never_refused loading key b r.o r.refusal valid r.at)
 ends_well (to_count loading key) b a script status text valid (inr (found, opened, done, is, disks)) = done
 ends_well (to_check tables program) b a script status text valid due = due_status (to_check tables program) b a script status text due
+ends_well (to_serve workers each loading key) b a script status text valid (inl r) = absurd (never_refused loading key b r.o r.refusal valid r.at)
+ends_well (to_serve workers each loading key) b a script status text valid (inr (found, opened, done, none, held)) = done
+ends_well (to_generate seed asks) b a script status text valid due = due.0
 ends_well (to_compare tables X Y program) b a script status text valid due = due_status (to_compare tables X Y program) b a script status text due
 
 pub complete_by : (work : Work) (b a : Shelf) (script : List ℕ) (status : Status) (text : List ℕ) → IsValidFor work b → (status ≡ code.Fault → ⊥) → (status ≡ code.DiskFault → ⊥)
@@ -66,13 +69,15 @@ complete_by work b a script status text valid fault disk written = here (finishe
     here (inr (inr (inr due))) = inl (ends_well work b a script status text valid due)
 
 -- no cause, no failure
-pub no_cause : {OfRun Files Source Sink : Type 0} (end : Ended) → (Files → ⊥) → (Source → ⊥) → (Sink → ⊥) → (end ≡ Err Fault) ⊎ Sink → (end ≡ Err Fault → Files ⊎ (OfRun × Source)) → ⊥
-no_cause {OfRun} {Files} {Source} {Sink} end file source sink (inl is) cause = here (cause is)
+pub no_cause : {OfRun OfDoors Files Source Doors Sink : Type 0} (end : Ended) → (Files → ⊥) → (Source → ⊥) → (Doors → ⊥) → (Sink → ⊥) → (end ≡ Err Fault) ⊎ Sink
+    → (end ≡ Err Fault → Files ⊎ (OfRun × Source) ⊎ (OfDoors × Doors)) → ⊥
+no_cause {OfRun} {OfDoors} {Files} {Source} {Doors} {Sink} end file source door sink (inl is) cause = here (cause is)
   where
-    here : Files ⊎ (OfRun × Source) → ⊥
+    here : Files ⊎ (OfRun × Source) ⊎ (OfDoors × Doors) → ⊥
     here (inl rose) = file rose
-    here (inr (of, rose)) = source rose
-no_cause end file source sink (inr rose) cause = sink rose
+    here (inr (inl (of, rose))) = source rose
+    here (inr (inr (of, rose))) = door rose
+no_cause end file source door sink (inr rose) cause = sink rose
 
 pub no_disk_cause : {Bay Disk : Type 0} → (Bay → ⊥) → (Disk → ⊥) → Bay ⊎ Disk → ⊥
 no_disk_cause bay disk (inl rose) = bay rose
@@ -80,9 +85,10 @@ no_disk_cause bay disk (inr rose) = disk rose
 
 -- the same of what is seen of the outside
 none_failed : (command : Option Command) (before after : Outside) → NoCallFailed before after → SomeFailed command before after → ⊥
-none_failed command before after (files, source, sink, disks) (inl (some, rose)) = files rose
-none_failed command before after (files, source, sink, disks) (inr (inl (takes, rose))) = source rose
-none_failed command before after (files, source, sink, disks) (inr (inr rose)) = sink rose
+none_failed command before after (files, source, sink, disks, doors) (inl (some, rose)) = files rose
+none_failed command before after (files, source, sink, disks, doors) (inr (inl (takes, rose))) = source rose
+none_failed command before after (files, source, sink, disks, doors) (inr (inr (inl (listens, rose)))) = doors rose
+none_failed command before after (files, source, sink, disks, doors) (inr (inr (inr rose))) = sink rose
 
 pub valid_end_well : ValidCommandsEndWell
 valid_end_well words before after status text line cause failed nothing =

@@ -21,7 +21,7 @@ abbrev pub audit_steps : (catalog key : List ℕ) → FileStep Work
 audit_steps catalog key = with_house to_count catalog key
 
 abbrev pub audit_kind : (catalog key : List ℕ) → Kind
-audit_kind catalog key = record { steps = audit_steps catalog key; source = false; disks = true; program = false }
+audit_kind catalog key = record { steps = audit_steps catalog key; source = false; disks = true; doors = false; program = false }
 
 -- the line of an owner with this budget's entry and these records
 abbrev pub counted_line : Entry → OwnerEntry → List Record → List ℕ

@@ -24,7 +24,7 @@ check_steps catalog owner file = do
   done (to_check holding.tables program)
 
 abbrev pub check_kind : (catalog owner file : List ℕ) → Kind
-check_kind catalog owner file = record { steps = check_steps catalog owner file; source = false; disks = false; program = true }
+check_kind catalog owner file = record { steps = check_steps catalog owner file; source = false; disks = false; doors = false; program = true }
 
 -- the line of an accepted program with this sensitivity
 abbrev pub accepted_text : Distance → List ℕ

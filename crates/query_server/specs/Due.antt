@@ -3,18 +3,20 @@ use Rattle.std.specs.Prelude.{◌≡◌, ◌⊎◌, ℕ, List, ◌++◌, Option,
 use Rattle.std.specs.Io.KnownBytes.{append_known}
 use Rattle.fz_outside.specs.Faults.{HasRisen}
 use Rattle.fz_ast.specs.Signature.{Signature}
-use Rattle.command_words.specs.Command.{Command, init, run, audit, check, gap, command_of}
+use Rattle.command_words.specs.Command.{Command, init, run, audit, check, gap, serve, gen, command_of}
 use Rattle.catalog_loading.specs.Files.{Contents, ReadsToCome, AreTold}
 use Rattle.catalog_loading.specs.Steps.{FileStep}
-use Rattle.query_server.specs.Work.{Work, ended, usage, refused, to_answer, to_make, to_count, to_check, to_compare}
+use Rattle.query_server.specs.Work.{Work, ended, usage, refused, to_answer, to_make, to_count, to_check, to_compare, to_serve, to_generate}
 use Rattle.query_server.specs.Duty.{Duty, Kind, line_duty, no_kind}
 use Rattle.query_server.specs.Shelves.{Shelf}
-use Rattle.query_server.specs.Outside.{Outside}
+use Rattle.query_server.specs.Outside.{Outside, SomeDoorRose}
 use Rattle.query_server.specs.Init.{init_duty, init_kind}
 use Rattle.query_server.specs.Run.{run_duty, run_kind}
 use Rattle.query_server.specs.Audit.{audit_duty, audit_kind}
 use Rattle.query_server.specs.Check.{check_duty, check_kind}
 use Rattle.query_server.specs.Gap.{gap_duty, gap_kind}
+use Rattle.query_server.specs.Serve.{serve_duty, serve_kind}
+use Rattle.query_server.specs.Gen.{gen_duty, gen_kind}
 use Rattle.query_server.specs.Status.{usage_text, refused_text, memory_text}
 use Rattle.query_server.specs.declared.end.Status.{Status}
 use Rattle.query_server.specs.declared.end.Status.TheVariants.{Usage, Refused, Fault, DiskFault, NoMemory}
@@ -27,6 +29,8 @@ command_kind (Some (run catalog key workers)) = run_kind catalog key workers
 command_kind (Some (audit catalog key)) = audit_kind catalog key
 command_kind (Some (check catalog owner file)) = check_kind catalog owner file
 command_kind (Some (gap catalog owner second_catalog file)) = gap_kind catalog owner second_catalog file
+command_kind (Some (serve catalog key address port workers each)) = serve_kind catalog key workers each
+command_kind (Some (gen seed asks workers)) = gen_kind seed asks
 
 -- The work that they come to.
 abbrev pub duty_of : Work → Duty
@@ -37,17 +41,23 @@ duty_of (to_answer workers loading key) = run_duty loading key workers
 duty_of (to_count loading key) = audit_duty loading key
 duty_of (to_check tables program) = check_duty tables program
 duty_of (to_compare tables X Y program) = gap_duty tables X Y program
+duty_of (to_serve workers each loading key) = serve_duty loading key workers each
+duty_of (to_generate seed asks) = gen_duty seed asks
 
 -- the steps of a command: the words decide first
 abbrev pub command_steps : Option Command → FileStep Work
 command_steps command = (command_kind command).steps
 
--- a command that takes the source's bytes, as a `run` does; one that takes the owners' disks; and one that reads a program
+-- a command that takes the source's bytes, as a `run` does; one that takes the owners' disks; one that listens at the doors, as a
+-- `serve` does; and one that reads a program
 abbrev pub IsOfRun : Option Command → Type 0
 IsOfRun command = IsTrue (command_kind command).source
 
 abbrev pub IsOfDisks : Option Command → Type 0
 IsOfDisks command = IsTrue (command_kind command).disks
+
+abbrev pub IsOfDoors : Option Command → Type 0
+IsOfDoors command = IsTrue (command_kind command).doors
 
 abbrev pub IsOfProgram : Option Command → Type 0
 IsOfProgram command = IsTrue (command_kind command).program
@@ -65,7 +75,8 @@ abbrev pub IsDue : Work → (old new : Shelf) → (script : List ℕ) → (statu
 IsDue work = (duty_of work).due
 
 -- What may become of the owners' disks where a failure or want of memory ends the work: nothing is written to any, but that an
--- `init` may have made the first owners' journals, and that the next one's disk may have failed.
+-- `init` may have made the first owners' journals, and that the next one's disk may have failed; and that a `serve` may have held
+-- sessions before.
 abbrev pub MayStop : Work → (old new : Shelf) → Type 0
 MayStop work = (duty_of work).may_stop
 
@@ -93,7 +104,7 @@ IfFinished status P = (status ≡ Fault) ⊎ (status ≡ NoMemory) ⊎ (status �
 abbrev pub IsBeginning : (prefix text : List ℕ) → Type 0
 IsBeginning prefix text = (rest : List ℕ) × (text ≡ prefix ++ rest)
 
--- What is written with the status; where files, source or sink failed, a prefix of what was to be written.
+-- What is written with the status; where files, source, doors or sink failed, a prefix of what was to be written.
 abbrev pub IsWrittenAt : Work → (old new : Shelf) → (script : List ℕ) → (status : Status) → (text : List ℕ) → Type 0
 IsWrittenAt work old new script status text =
     IsToWrite work old new script status text
@@ -131,9 +142,10 @@ IsLine words before after status text =
     (λ reads script. IsWrittenAt (work_of words reads) before.bay.shelf after.bay.shelf script status text
     × AreRead status (files_of words reads) before.files.names after.files.names)
 
--- What failed where the status is Fault: files, at words that are a command; the source, in a run; or the sink.
+-- What failed where the status is Fault: files, at words that are a command; the source, in a run; a door, in a service; or the sink.
 abbrev pub SomeFailed : Option Command → (before after : Outside) → Type 0
 SomeFailed command before after =
     (IsSome command × HasRisen before.files.faults after.files.faults)
     ⊎ (IsOfRun command × HasRisen before.source.faults after.source.faults)
+    ⊎ (IsOfDoors command × SomeDoorRose before.doors after.doors)
     ⊎ HasRisen before.sink.faults after.sink.faults

@@ -14,12 +14,14 @@ pub record Kind : Type 0 where
   pub source : Bool
   -- it takes the owners' disks
   pub disks : Bool
+  -- it listens at the doors
+  pub doors : Bool
   -- it reads a program
   pub program : Bool
 
 -- words that are no command
 abbrev pub no_kind : Kind
-no_kind = record { steps = done usage; source = false; disks = false; program = false }
+no_kind = record { steps = done usage; source = false; disks = false; doors = false; program = false }
 
 -- Of some work: what is due, and what there may be where it is stopped.
 pub record Duty : Type 1 where

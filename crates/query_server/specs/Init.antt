@@ -22,7 +22,7 @@ abbrev pub init_steps : (catalog key : List ℕ) → FileStep Work
 init_steps catalog key = with_house to_make catalog key
 
 abbrev pub init_kind : (catalog key : List ℕ) → Kind
-init_kind catalog key = record { steps = init_steps catalog key; source = false; disks = true; program = false }
+init_kind catalog key = record { steps = init_steps catalog key; source = false; disks = true; doors = false; program = false }
 
 -- A journal was made on an empty disk: now a stop leaves a file of no records under this header, and no other.
 pub record IsMade (header : Header) (before after : Shown) : Type 0 where

@@ -10,6 +10,7 @@ use Rattle.wire_lines.specs.Refusal.{by_disk}
 use Rattle.wire_lines.specs.declared.refusal.DiskRefusal.{DiskRefusal}
 use Rattle.wire_lines.specs.declared.refusal.DiskRefusal.TheVariants.{Fault as DiskFault}
 use Rattle.owner_house.specs.Owner.{Owner}
+use Rattle.service_workers.specs.Services.{Door}
 use Rattle.answer_path.specs.Query.{Query}
 use Rattle.answer_path.specs.Reading.{Reading, IsReading}
 use Rattle.answer_path.specs.Judgement.{judgement_of}
@@ -24,7 +25,7 @@ use Rattle.session_core.specs.Transcript.{IsScriptRun, Journals}
 use Rattle.command_words.specs.Command.{command_of}
 use Rattle.catalog_loading.specs.Files.{Contents, ReadsToCome, always}
 use Rattle.catalog_loading.specs.Loaded.{IsLoading, Loading, owners_in}
-use Rattle.query_server.specs.Work.{Work, refused, to_answer, to_check, to_compare, to_count, to_make}
+use Rattle.query_server.specs.Work.{Work, refused, to_answer, to_check, to_compare, to_count, to_make, to_serve}
 use Rattle.query_server.specs.Shelves.{EachDisk, IsOnlySynced, Shelf}
 use Rattle.query_server.specs.Outside.{DisksFailed, NoCallFailed, Outside, Stays}
 use Rattle.query_server.specs.Run.{IsScriptAnswered}
@@ -33,6 +34,7 @@ use Rattle.query_server.specs.Status.{refused_text}
 use Rattle.query_server.specs.Due.{IsOfDisks, IsOfProgram, IsOfRun, SomeFailed, files_of, work_of}
 use Rattle.query_server.specs.Due.{AreRead, ForContents, IfFinished, IsBeginning, IsDue, IsFaultyWordsEnd, IsForProgram, IsLine, IsWrittenAt}
 use Rattle.query_server.specs.Promise.{IsAnsweredScript, IsRunLeft}
+use Rattle.query_server.specs.Service.{IsServiceDone, IsServiceLeft}
 use Rattle.query_server.specs.Valid.{IsValidFor, MayEndWell}
 use Rattle.query_server.specs.Found.{AreKept}
 use Rattle.query_server.specs.declared.end.Status.{Status}
@@ -120,6 +122,13 @@ AuditsKeepWhatWasFound = (words : List (List ℕ)) (reads : ReadsToCome) (old ne
     → (loading : Loading) (key : List ℕ) → work_of words reads ≡ to_count loading key
     → IsWrittenAt (work_of words reads) old new script status text → AreKept loading key old new
 
+-- So it is where a service held no session.
+abbrev pub ServicesKeepWhatWasFound : Type 0
+ServicesKeepWhatWasFound = (words : List (List ℕ)) (reads : ReadsToCome) (old new : Shelf) (before after : List Door) (status : Status) (sink sunk : ℕ)
+    → (workers each : ℕ) (loading : Loading) (key : List ℕ) → work_of words reads ≡ to_serve workers each loading key
+    → IsServiceLeft words reads old new before after status sink sunk
+    → IsServiceDone words reads old new before after status sink sunk ⊎ ((status ≡ Done → ⊥) × AreKept loading key old new)
+
 -- Where all is valid and nothing fails, each command ends well, or memory runs out: from `line` and the causes of Fault and DiskFault,
 -- whatever files and source tell.
 abbrev pub ValidCommandsEndWell : Type 0
@@ -135,6 +144,7 @@ ValidCommandsEndWell = (words : List (List ℕ)) (before after : Outside) (statu
 abbrev pub IsOfHouse : Loading → (key : List ℕ) → Work → Type 0
 IsOfHouse loading key work =
     ((workers : ℕ) × (work ≡ to_answer workers loading key)) ⊎ (work ≡ to_make loading key) ⊎ (work ≡ to_count loading key)
+    ⊎ ((workers each : ℕ) × (work ≡ to_serve workers each loading key))
 
 -- What a command loads is lawful, and its key has 32 bytes.
 abbrev pub WhatIsLoadedIsLawful : Type 0

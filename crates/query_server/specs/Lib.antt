@@ -9,11 +9,14 @@ pub mod Init
 pub mod Audit
 pub mod Check
 pub mod Gap
+pub mod Serve
+pub mod Gen
 pub mod Due
 pub mod Promise
 pub mod Valid
 pub mod Found
 pub mod Ends
+pub mod Service
 pub mod Books
 pub mod Making
 pub mod Taken

@@ -1,7 +1,9 @@
 -- What is seen of the outside, and what stays of it through any work.
-use Rattle.std.specs.Prelude.{◌≡◌, ◌⊎◌, ℕ, ◌≤◌, List, Option, Result, Err, Vec}
+use Rattle.std.specs.Prelude.{◌≡◌, ◌⊎◌, ℕ, ◌<◌, ◌≤◌, List, length, map, Option, Result, Err, Vec}
 use Rattle.std.specs.declared.alloc.Global.{Global}
 use Rattle.fz_outside.specs.Faults.{HasRisen}
+use Rattle.outside_links.specs.Links.{Connection}
+use Rattle.service_workers.specs.Services.{Door, door_at, door_of}
 use Rattle.catalog_loading.specs.Files.{Contents}
 use Rattle.catalog_loading.specs.declared.stops.Stop.{Stop}
 use Rattle.catalog_loading.specs.declared.stops.Stop.TheVariants.{Disk}
@@ -34,17 +36,29 @@ pub record Outside : Type 0 where
   pub bay : BaySeen
   pub source : SourceSeen
   pub sink : SinkSeen
+  -- of the doors, in order: the connections that are to come and those that were handed back, where they are told, and how many calls
+  -- have failed
+  pub doors : List Door
 
--- What stays through any work: files hold what they held, a bay has its owners, and no count of faults falls.
+-- What stays through any work: files hold what they held, a bay has its owners, there are as many doors, and no count of faults falls.
 abbrev pub FilesStay : (before after : FilesSeen) → Type 0
 FilesStay before after = (after.held ≡ before.held) × (before.faults ≤ after.faults)
 
 abbrev pub BayStays : (before after : BaySeen) → Type 0
 BayStays before after = (after.owners ≡ before.owners) × (before.faults ≤ after.faults)
 
+abbrev pub DoorsStay : (before after : List Door) → Type 0
+DoorsStay before after =
+    (length after ≡ length before) × ((i : ℕ) → i < length before → (door_at before i).faults ≤ (door_at after i).faults)
+
+-- some door's count of faults rose
+abbrev pub SomeDoorRose : (before after : List Door) → Type 0
+SomeDoorRose before after = (i : ℕ) × (i < length before) × HasRisen (door_at before i).faults (door_at after i).faults
+
 abbrev pub Stays : (before after : Outside) → Type 0
 Stays before after =
     FilesStay before.files after.files × BayStays before.bay after.bay × (before.source.faults ≤ after.source.faults) × (before.sink.faults ≤ after.sink.faults)
+    × DoorsStay before.doors after.doors
 
 -- the same of what the traits tell
 abbrev pub files_in : {F : Type 0} → (F → Option Contents) → (F → List (List ℕ)) → (F → ℕ) → F → FilesSeen
@@ -59,15 +73,19 @@ KeepsFiles held names faults old new = FilesStay (files_in held names faults old
 abbrev pub KeepsBay : {B : Type 0} → (B → Shelf) → (owners faults : B → ℕ) → (old new : B) → Type 0
 KeepsBay shelf owners faults old new = BayStays (bay_in shelf owners faults old) (bay_in shelf owners faults new)
 
+abbrev pub doors_in : {O : Type 0} → (O → Option (List Connection)) → (O → Option (List Connection)) → (O → ℕ) → List O → List Door
+doors_in coming served faults doors = map (λ d. door_of (coming d) (served d) (faults d)) doors
+
 -- the bay's count of faults rose, or that of an owner's disk
 abbrev pub DisksFailed : (before after : BaySeen) → Type 0
 DisksFailed before after = HasRisen before.faults after.faults ⊎ SomeRose before.shelf after.shelf
 
--- No call failed: no count of faults rose, of files, source, sink, the bay or an owner's disk.
+-- No call failed: no count of faults rose, of files, source, sink, the bay, an owner's disk or a door.
 abbrev pub NoCallFailed : (before after : Outside) → Type 0
 NoCallFailed before after =
     (HasRisen before.files.faults after.files.faults → ⊥) × (HasRisen before.source.faults after.source.faults → ⊥)
     × (HasRisen before.sink.faults after.sink.faults → ⊥) × (DisksFailed before.bay after.bay → ⊥)
+    × (SomeDoorRose before.doors after.doors → ⊥)
 
 -- The line of a disk comes only where the bay or an owner's disk failed.
 abbrev pub HasDiskCause : {B T : Type 0} → (B → Shelf) → (owners faults : B → ℕ) → (old new : B) → Result T Stop → Type 0

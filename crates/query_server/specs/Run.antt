@@ -38,7 +38,7 @@ abbrev pub run_steps : (catalog key : List ℕ) → (workers : ℕ) → FileStep
 run_steps catalog key workers = with_house (to_answer workers) catalog key
 
 abbrev pub run_kind : (catalog key : List ℕ) → (workers : ℕ) → Kind
-run_kind catalog key workers = record { steps = run_steps catalog key workers; source = true; disks = true; program = false }
+run_kind catalog key workers = record { steps = run_steps catalog key workers; source = true; disks = true; doors = false; program = false }
 
 -- An owner's disk through a run. Each file that a stop may have left since its journal was opened, which synced the disk, stands
 -- for the first of these records, among them those found; where an append failed, it may have that one's record too. What a stop

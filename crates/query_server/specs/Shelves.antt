@@ -34,6 +34,10 @@ pub record IsOnlySynced (before after : Shown) : Type 0 where
   pub synced : MayHaveSynced before.trace after.trace
   pub counts : before.faults ≤ after.faults
 
+-- Nothing was written to any owner's disk.
+abbrev pub NothingWritten : (old new : Shelf) → Type 0
+NothingWritten old new = (o : ℕ) (before : Shown) → old o ≡ Some before → (after : Shown) × (new o ≡ Some after) × IsOnlySynced before after
+
 -- the count of faults of an owner's disk stands still
 abbrev pub StandsStill : (o : ℕ) → (old new : Shelf) → Type 0
 StandsStill o old new = (before after : Shown) → old o ≡ Some before → new o ≡ Some after → after.faults ≡ before.faults

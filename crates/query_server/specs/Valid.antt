@@ -2,7 +2,7 @@
 use Rattle.std.specs.Prelude.{◌≡◌, ◌⊎◌, ℕ, ◌<◌, List, [], Some, ⊤}
 use Rattle.session_core.specs.Transcript.{Journals}
 use Rattle.catalog_loading.specs.Loaded.{Loading, owners_in}
-use Rattle.query_server.specs.Work.{Work, usage, refused, to_answer, to_make, to_count, to_check, to_compare}
+use Rattle.query_server.specs.Work.{Work, usage, refused, to_answer, to_make, to_count, to_check, to_compare, to_serve, to_generate}
 use Rattle.query_server.specs.Shelves.{Shelf, TellBytes, bytes_on}
 use Rattle.query_server.specs.Opened.{AreOpened}
 use Rattle.query_server.specs.declared.end.Status.{Status}
@@ -27,6 +27,8 @@ IsValidFor (to_answer workers loading key) shelf = HoldJournals loading key shel
 IsValidFor (to_count loading key) shelf = HoldJournals loading key shelf
 IsValidFor (to_check tables program) shelf = ⊤
 IsValidFor (to_compare tables X Y program) shelf = ⊤
+IsValidFor (to_serve workers each loading key) shelf = HoldJournals loading key shelf
+IsValidFor (to_generate seed asks) shelf = ⊤
 
 -- The statuses of some work then, where nothing fails and memory suffices: a script may be too long, and a program refused.
 abbrev pub EndsWell : Work → Status → Type 0
@@ -37,6 +39,8 @@ EndsWell (to_answer workers loading key) status = (status ≡ Done) ⊎ (status 
 EndsWell (to_count loading key) status = status ≡ Done
 EndsWell (to_check tables program) status = (status ≡ Done) ⊎ (status ≡ ProgramRefused)
 EndsWell (to_compare tables X Y program) status = (status ≡ Done) ⊎ (status ≡ ProgramRefused)
+EndsWell (to_serve workers each loading key) status = status ≡ Done
+EndsWell (to_generate seed asks) status = status ≡ Done
 
 -- Memory may run out at any time.
 abbrev pub MayEndWell : Work → Status → Type 0

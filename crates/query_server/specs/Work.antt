@@ -14,6 +14,10 @@ pub data Work : Type 0 where
   to_make : Loading → (key : List ℕ) → Work
   -- by `audit`: the records in these owners' journals are to be counted
   to_count : Loading → (key : List ℕ) → Work
+  -- by `serve`: so many workers are to serve so many connections each, in the house of a catalog and under this key
+  to_serve : (workers each : ℕ) → Loading → (key : List ℕ) → Work
+  -- by `gen`: so many asks are to be answered in memory, in a house and under a key that follow from this seed
+  to_generate : (seed asks : ℕ) → Work
   -- by `check`: a program is to be checked over these tables
   to_check : (tables : Signature) (program : List ℕ) → Work
   -- by `gap`: a program is to be run over two datasets of these tables

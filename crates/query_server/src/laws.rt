@@ -4,7 +4,7 @@ ghost use Rattle.query_server.specs.Gap.{GapsAreBounded};
 ghost use Rattle.query_server.specs.Laws.{DiskRefusalsHaveCauses, GapsAreOfDatasets, OneWorkerTranscribes, OutsideStays, RunsAreAnswered};
 ghost use Rattle.query_server.specs.Laws.{LinesAreExact, ProgramsAreExact, RefusalsAreExact, VerdictsAreExact};
 ghost use Rattle.query_server.specs.Laws.{FaultyWordsAreTold, StatusesAreOfCommands};
-ghost use Rattle.query_server.specs.Laws.{AuditsKeepWhatWasFound, LinesAreHeadlines, RunsKeepWhatWasFound, ValidCommandsEndWell};
+ghost use Rattle.query_server.specs.Laws.{AuditsKeepWhatWasFound, LinesAreHeadlines, RunsKeepWhatWasFound, ServicesKeepWhatWasFound, ValidCommandsEndWell};
 ghost use Rattle.query_server.specs.Laws.{WhatIsLoadedIsLawful};
 
 /// Where files, source and sink tell what they hold, what the top call writes and reads is exactly what is due.
@@ -47,11 +47,12 @@ pub fn runs_are_answered()
     ensures { RunsAreAnswered }
 {}
 
-/// Where a run has answered no script, and after each audit, every owner that was opened keeps what was found: legal records within
+/// Where a run has answered no script, or a service has held no session, and after each audit, every owner that was opened keeps what was found: legal records within
 /// the budget, explained by the same programs, with a bounded displacement, for which each file stands that a stop may have left.
 pub fn other_ends_keep_what_was_found()
     ensures runs { RunsKeepWhatWasFound }
     ensures audits { AuditsKeepWhatWasFound }
+    ensures services { ServicesKeepWhatWasFound }
 {}
 
 /// Where all is valid and nothing fails, each command ends well, or memory runs out.

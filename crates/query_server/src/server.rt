@@ -1,14 +1,16 @@
 //! The top call.
 
-ghost use Rattle.std.specs.Prelude.{◌≡◌, ◌⊎◌, ◌<◌, ◌≤◌, ◌++◌, ℕ, List, Err, Some, None, IsSome, Vec, map, string_bytes};
+ghost use Rattle.std.specs.Prelude.{◌≡◌, ◌⊎◌, ◌<◌, ◌≤◌, ◌++◌, ℕ, List, length, Err, Some, None, IsSome, Vec, map, string_bytes};
 ghost use Rattle.fz_outside.specs.Faults.{HasRisen};
 ghost use Rattle.command_words.specs.Command.{command_of};
+ghost use Rattle.command_words.specs.Program.{greatest_workers};
 ghost use Rattle.std.specs.Io.KnownBytes.{append_known};
 ghost use Rattle.catalog_loading.specs.Files.{Contents, always};
 ghost use Rattle.query_server.specs.Shelves.{AreAtHome, SomeRose};
-ghost use Rattle.query_server.specs.Outside.{DisksFailed, KeepsBay, KeepsFiles, bay_in};
-ghost use Rattle.query_server.specs.Due.{AreRead, ForContents, IfFinished, IsDue, IsOfDisks, IsOfRun, IsWrittenAt, work_of, files_of};
+ghost use Rattle.query_server.specs.Outside.{DisksFailed, DoorsStay, KeepsBay, KeepsFiles, SomeDoorRose, bay_in, doors_in};
+ghost use Rattle.query_server.specs.Due.{AreRead, ForContents, IfFinished, IsDue, IsOfDisks, IsOfDoors, IsOfRun, IsWrittenAt, work_of, files_of};
 ghost use Rattle.query_server.specs.Promise.{IsRunLeft};
+ghost use Rattle.query_server.specs.Service.{IsServiceAt, IsServiceLeft};
 ghost use Rattle.query_server.specs.Valid.{IsValidFor, MayEndWell};
 ghost use Rattle.query_server.specs.Ends.{IsEndOf, status_at};
 ghost use Rattle.query_server.specs.Taken.{IsTakenAt};
@@ -17,8 +19,10 @@ ghost use Rattle.std.specs.declared.alloc.Global.{Global as Heap};
 use crate::check::check_file;
 use crate::end::{End, Status};
 use crate::gap::compare_files;
+use crate::generated::generate;
 use crate::listing::{Listing, list_owners};
 use crate::run::run_script;
+use crate::serve::{Post, serve_doors};
 use crate::writing::finish;
 use catalog_loading::Stop;
 use command_words::{Command, WordsFault, read_words};
@@ -26,30 +30,48 @@ use fz_outside::files::Files;
 use fz_outside::sink::Sink;
 use fz_outside::source::Source;
 use outside_bays::bay::Bay;
+use outside_doors::door::Doors;
 use outside_links::gate::Gate;
 use std::alloc::Global;
 use std::sync::Wait;
 use std::thread::Threads;
 
 /// Does a command, up to what is written at its end.
-fn run_command<R: Threads + Wait + Sync, F: Files, B: Bay, S: Source, G: Gate + Sync>(
+fn run_command<
+    R: Threads + Wait + Sync,
+    F: Files,
+    B: Bay,
+    S: Source,
+    O: Doors + Drop + Send,
+    G: Gate + Sync,
+>(
     rt: &R,
     alloc: Global,
     words: &[String],
     files: &mut F,
     bay: &mut B,
     source: &mut S,
+    doors: &mut Vec<O>,
     gate: &G,
 ) -> Result<End, Stop>
+where
+    O::L: Send,
     requires home { AreAtHome (B.owners bay.old) (B.shelf bay.old) }
+    requires doors { greatest_workers ≤ length doors.old.items }
     ensures end { let given = map string_bytes words.now in ForContents (F.held files.old) (S.left source.old)
         (λ reads script. IsEndOf (work_of given reads) (B.shelf bay.old) (B.shelf bay.new) script result
         × AreRead (status_at result) (files_of given reads) (F.names files.old) (F.names files.new)) }
+    ensures service { let given = map string_bytes words.now in IsOfDoors (command_of given) →
+        ForContents (F.held files.old) (S.left source.old) (λ reads script. IsServiceAt (work_of given reads) (B.shelf bay.old) (B.shelf bay.new)
+        (doors_in O.coming O.served O.faults doors.old.items) (doors_in O.coming O.served O.faults doors.new.items) result) }
     ensures taken { IsTakenAt (command_of (map string_bytes words.now)) (S.left source.old) (S.left source.new) (status_at result) }
     ensures unread { IsOfRun (command_of (map string_bytes words.now)) ⊎ (source.new ≡ source.old) }
     ensures untaken { F.faults files.old < F.faults files.new → source.new ≡ source.old }
     ensures still { IsOfDisks (command_of (map string_bytes words.now)) ⊎ (bay.new ≡ bay.old) }
     ensures unmoved { F.faults files.old < F.faults files.new → bay.new ≡ bay.old }
+    ensures doors { (doors.new ≡ doors.old) ⊎ (IsOfDoors (command_of (map string_bytes words.now))
+        × DoorsStay (doors_in O.coming O.served O.faults doors.old.items) (doors_in O.coming O.served O.faults doors.new.items)) }
+    ensures unposted { F.faults files.old < F.faults files.new → doors.new ≡ doors.old }
     ensures files { KeepsFiles F.held F.names F.faults files.old files.new }
     ensures bay { KeepsBay B.shelf B.owners B.faults bay.old bay.new }
     ensures source { S.faults source.old ≤ S.faults source.new }
@@ -59,7 +81,9 @@ fn run_command<R: Threads + Wait + Sync, F: Files, B: Bay, S: Source, G: Gate + 
         × ((result ≡ Err Stop.Usage) ⊎ (result ≡ Err Stop.NoMemory)) }
     ensures cause { result ≡ Err Stop.Fault →
         HasRisen (F.faults files.old) (F.faults files.new)
-        ⊎ (IsOfRun (command_of (map string_bytes words.now)) × HasRisen (S.faults source.old) (S.faults source.new)) }
+        ⊎ (IsOfRun (command_of (map string_bytes words.now)) × HasRisen (S.faults source.old) (S.faults source.new))
+        ⊎ (IsOfDoors (command_of (map string_bytes words.now))
+        × SomeDoorRose (doors_in O.coming O.served O.faults doors.old.items) (doors_in O.coming O.served O.faults doors.new.items)) }
 {
     match read_words(alloc, words) {
         Err(WordsFault::Usage) => Err(Stop::Usage),
@@ -92,10 +116,30 @@ fn run_command<R: Threads + Wait + Sync, F: Files, B: Bay, S: Source, G: Gate + 
                 file,
             },
         ) => compare_files(alloc, files, catalog, owner, second_catalog, file),
+        Ok(
+            Command::Serve {
+                catalog,
+                key,
+                address,
+                port,
+                workers,
+                each,
+            },
+        ) => {
+            let post = Post::new(address, port, workers, each);
+            serve_doors(rt, alloc, files, bay, doors, gate, catalog, key, &post)
+        }
+        Ok(
+            Command::Gen {
+                seed,
+                asks,
+                workers,
+            },
+        ) => generate(rt, alloc, gate, seed, asks, workers),
     }
 }
 
-/// Does one of five commands. Each owner's budget is kept in a journal on its own disk of the bay.
+/// Does one of seven commands. Each owner's budget is kept in a journal on its own disk of the bay.
 ///
 /// - `init CATALOG KEY`: CATALOG is a catalog, KEY a file of 32 bytes. Each owner's journal is made on its disk, which has to be
 ///   empty, and a line for each goes to the sink.
@@ -109,13 +153,27 @@ fn run_command<R: Threads + Wait + Sync, F: Files, B: Bay, S: Source, G: Gate + 
 /// - `gap CATALOG OWNER CATALOG2 FILE`: CATALOG2 is a catalog too, whose owner of that name has the same tables. How far the two
 ///   datasets are apart, the program's sensitivity, its values on both without noise and their difference go to the sink, or the
 ///   line that refuses the program. Nothing is taken of the source, and no disk.
+/// - `serve CATALOG KEY --port P --each N`, perhaps with `--addr A` and `--workers W`: the owners' journals are opened, and worker i
+///   listens at port P + i of A by the door at its place, where it serves N connections, one after another. What a line adds is kept before
+///   it is answered. A door's fault, or want of memory for a session, ends its worker, and is answered once all have ended. Nothing goes to
+///   the sink.
+/// - `gen SEED N`, perhaps with WORKERS: in memory, and over no file, one analyst asks one owner N times. What that comes to follows from
+///   SEED and N, and goes to the sink.
 ///
-/// Each reads the tables of all owners of its catalogs, in order. At another status than Done the status's line goes to the sink.
+/// Each but `gen` reads the tables of all owners of its catalogs, in order. At another status than Done the status's line goes to the sink.
 /// Files, source, sink and disks tell what they hold, or don't; what is said of their contents holds where they do. Want of memory
-/// (`NoMemory`) may be answered at any time, at faulty words too; in a script that is answered it may be the reply to a line that
-/// asks: 90 before a reservation, and 51 after it. The runtime is for the workers of a `run`: each has a thread, and waits for the owners'
+/// (`NoMemory`) may be answered at any time, at faulty words too; in a script that is answered, and in a session, it may be the reply to a
+/// line that asks: 90 before a reservation, and 51 after it. The runtime is for workers: each has a thread, and waits for the owners'
 /// locks. The gate is told of each line when it begins and when it has been answered.
-pub fn run_server<R: Threads + Wait + Sync, F: Files, B: Bay, S: Source, K: Sink, G: Gate + Sync>(
+pub fn run_server<
+    R: Threads + Wait + Sync,
+    F: Files,
+    B: Bay,
+    S: Source,
+    K: Sink,
+    O: Doors + Drop + Send,
+    G: Gate + Sync,
+>(
     rt: &R,
     alloc: Global,
     words: &[String],
@@ -123,9 +181,13 @@ pub fn run_server<R: Threads + Wait + Sync, F: Files, B: Bay, S: Source, K: Sink
     bay: &mut B,
     source: &mut S,
     sink: &mut K,
+    doors: &mut Vec<O>,
     gate: &G,
 ) -> Status
+where
+    O::L: Send,
     requires home { AreAtHome (B.owners bay.old) (B.shelf bay.old) }
+    requires doors { 16 ≤ length doors.old.items }
     // What is written, whatever files and source hold or tell: it is due for some contents of the files, at each read, and of the
     // source, and for the ones that are told. Where something failed it is a prefix of that. And only files are read that the
     // words name, or the catalogs of these, in the order of work.
@@ -140,18 +202,26 @@ pub fn run_server<R: Threads + Wait + Sync, F: Files, B: Bay, S: Source, K: Sink
         (text : List ℕ) × (K.contents sink.new ≡ append_known (K.contents sink.old) text)
         × ForContents (F.held files.old) (S.left source.old)
         (λ reads script. IsRunLeft given reads (B.shelf bay.old) (B.shelf bay.new) script result text) }
+    // What a service leaves, at whatever status it ends: the workers held sessions, each over the connections of its door, with the
+    // promises to every owner; or nothing was written to any owner's disk, and the doors are as they were.
+    ensures service { let given = map string_bytes words.now in IsOfDoors (command_of given) →
+        ForContents (F.held files.old) (S.left source.old) (λ reads script. IsServiceLeft given reads (B.shelf bay.old) (B.shelf bay.new)
+        (doors_in O.coming O.served O.faults doors.old.items) (doors_in O.coming O.served O.faults doors.new.items)
+        result (K.faults sink.old) (K.faults sink.new)) }
     // Each status but Fault, DiskFault and NoMemory comes exactly where the words, the files, the disks and the script give it, in
     // this order.
     ensures status { (held : Contents) (script : List ℕ) → F.held files.old ≡ Some held → S.left source.old ≡ Some script →
         IfFinished result ((text : List ℕ)
         × IsDue (work_of (map string_bytes words.now) (always held)) (B.shelf bay.old) (B.shelf bay.new) script result text) }
     // Where all that a command takes is valid and no count of faults rises, it ends well, or memory runs out: `init` and `audit` with
-    // Done, `run` with Done or with ScriptTooLong, `check` and `gap` with Done or ProgramRefused.
+    // Done, `run` with Done or with ScriptTooLong, `check` and `gap` with Done or ProgramRefused, `serve` and `gen` with Done.
     ensures complete { let given = map string_bytes words.now in (held : Contents) → F.held files.old ≡ Some held →
         IsValidFor (work_of given (always held)) (B.shelf bay.old) →
         (HasRisen (F.faults files.old) (F.faults files.new) → ⊥) → (HasRisen (S.faults source.old) (S.faults source.new) → ⊥) →
         (HasRisen (K.faults sink.old) (K.faults sink.new) → ⊥) → (HasRisen (B.faults bay.old) (B.faults bay.new) → ⊥) →
-        (SomeRose (B.shelf bay.old) (B.shelf bay.new) → ⊥) → MayEndWell (work_of given (always held)) result }
+        (SomeRose (B.shelf bay.old) (B.shelf bay.new) → ⊥) →
+        (SomeDoorRose (doors_in O.coming O.served O.faults doors.old.items) (doors_in O.coming O.served O.faults doors.new.items) → ⊥) →
+        MayEndWell (work_of given (always held)) result }
     // Of the source a run alone takes anything, at most 2^24 + 1 bytes; and it doesn't where files failed.
     ensures taken { IsTakenAt (command_of (map string_bytes words.now)) (S.left source.old) (S.left source.new) result
         × (IsOfRun (command_of (map string_bytes words.now)) ⊎ (source.new ≡ source.old))
@@ -159,24 +229,30 @@ pub fn run_server<R: Threads + Wait + Sync, F: Files, B: Bay, S: Source, K: Sink
     // Files hold what they held; the bay has its owners, and every disk is at home again.
     ensures kept { (F.held files.new ≡ F.held files.old) × (B.owners bay.new ≡ B.owners bay.old)
         × AreAtHome (B.owners bay.new) (B.shelf bay.new) × ((o : ℕ) → IsSome (B.shelf bay.old o) → IsSome (B.shelf bay.new o)) }
-    // A command that takes no disk leaves the bay as it was, and so does one whose files failed. At faulty words no file is read.
+    // A command that takes no disk leaves the bay as it was, and so does one whose files failed; and another than `serve` leaves the doors
+    // as they were. At faulty words no file is read.
     ensures untouched { (IsOfDisks (command_of (map string_bytes words.now)) ⊎ (bay.new ≡ bay.old))
         × (F.faults files.old < F.faults files.new → bay.new ≡ bay.old)
+        × (IsOfDoors (command_of (map string_bytes words.now)) ⊎ (doors.new ≡ doors.old))
+        × (F.faults files.old < F.faults files.new → doors.new ≡ doors.old)
         × (command_of (map string_bytes words.now) ≡ None → files.new ≡ files.old) }
-    // Counts of faults never fall.
+    // There are as many doors as before, and counts of faults never fall.
     ensures counts { (F.faults files.old ≤ F.faults files.new) × (B.faults bay.old ≤ B.faults bay.new)
-        × (S.faults source.old ≤ S.faults source.new) × (K.faults sink.old ≤ K.faults sink.new) }
-    // Fault comes only where a count rose: of files, for a command; of the source, in a run; or of the sink. Nothing was written then,
-    // unless the sink failed.
+        × (S.faults source.old ≤ S.faults source.new) × (K.faults sink.old ≤ K.faults sink.new)
+        × DoorsStay (doors_in O.coming O.served O.faults doors.old.items) (doors_in O.coming O.served O.faults doors.new.items) }
+    // Fault comes only where a count rose: of files, for a command; of the source, in a run; of a door, in a service; or of the sink.
+    // Nothing was written then, unless the sink failed.
     ensures fault { result ≡ Status.Fault →
         ((IsSome (command_of (map string_bytes words.now)) × HasRisen (F.faults files.old) (F.faults files.new))
         ⊎ (IsOfRun (command_of (map string_bytes words.now)) × HasRisen (S.faults source.old) (S.faults source.new))
+        ⊎ (IsOfDoors (command_of (map string_bytes words.now))
+        × SomeDoorRose (doors_in O.coming O.served O.faults doors.old.items) (doors_in O.coming O.served O.faults doors.new.items))
         ⊎ HasRisen (K.faults sink.old) (K.faults sink.new))
         × (HasRisen (K.faults sink.old) (K.faults sink.new) ⊎ (K.contents sink.new ≡ K.contents sink.old)) }
     // DiskFault comes only where the bay's or a disk's count rose, of a command that takes the disks.
     ensures disk { result ≡ Status.DiskFault → IsOfDisks (command_of (map string_bytes words.now))
         × (HasRisen (B.faults bay.old) (B.faults bay.new) ⊎ SomeRose (B.shelf bay.old) (B.shelf bay.new)) }
 {
-    let end = run_command(rt, alloc, words, files, bay, source, gate);
+    let end = run_command(rt, alloc, words, files, bay, source, doors, gate);
     finish(sink, &end)
 }

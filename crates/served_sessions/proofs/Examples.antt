@@ -39,8 +39,8 @@ use Rattle.session_laws.specs.Lines.{AreKnown}
 use Rattle.session_serve.specs.Session.{IsSession}
 use Rattle.session_serve.specs.declared.serve.SessionEnd.TheVariants.{Bye, WriteFault}
 use Rattle.successive_runs.specs.Life.{Run, IsRun, AreRuns}
-use Rattle.served_sessions.specs.Sittings.{Sitting, FollowOn, all_exchanges, is_sent, whole_count}
-use Rattle.served_sessions.specs.Kept.{AreHeld, IsKept, IsShift, AreShifts}
+use Rattle.held_sessions.specs.Sittings.{Sitting, FollowOn, all_exchanges, is_sent, whole_count}
+use Rattle.held_sessions.specs.Kept.{AreHeld, IsKept, IsShift, AreShifts}
 use Rattle.served_sessions.specs.Runs.{IsStoppedBehind, AreStopped, MayAllFollow, run_of, IsServiceRun, AreServiceRuns}
 use Rattle.served_sessions.proofs.Runs.{ended_run, stopped_run, crew_run}
 

@@ -1,7 +1,3 @@
-mod Lists
 mod Splits
-mod Rows
-mod Promises
-mod Written
 mod Runs
 mod Examples

@@ -36,13 +36,13 @@ use Rattle.successive_runs.specs.Left.{IsLeft}
 use Rattle.successive_runs.specs.Life.{Run, IsRun, AreRuns}
 use Rattle.successive_runs.proofs.Files.{moment_stands}
 use Rattle.successive_runs.proofs.Fronts.{prefix_front}
-use Rattle.served_sessions.specs.Sittings.{Sitting, all_exchanges, is_sent}
-use Rattle.served_sessions.specs.Kept.{AreHeld, AreShifts}
+use Rattle.held_sessions.specs.Sittings.{Sitting, all_exchanges, is_sent}
+use Rattle.held_sessions.specs.Kept.{AreHeld, AreShifts}
 use Rattle.served_sessions.specs.Runs.{MayAllFollow, records_upto, IsStoppedBehind, AreStopped, run_of, IsServiceRun, AreServiceRuns}
-use Rattle.served_sessions.proofs.Lists.{prefix_map, prefix_behind}
+use Rattle.held_sessions.proofs.Lists.{prefix_map, prefix_behind}
 use Rattle.served_sessions.proofs.Splits.{lead_split}
-use Rattle.served_sessions.proofs.Written.{sent_within}
-use Rattle.served_sessions.proofs.Promises.{row_speaker, crew_speaker, row_gathered}
+use Rattle.held_sessions.proofs.Written.{sent_within}
+use Rattle.held_sessions.proofs.Promises.{row_speaker, crew_speaker, row_gathered}
 
 module _ (house : House) (draws : ℕ → ℕ → ℕ → ℕ) (o : ℕ) (found : List Record) (xs : List Exchange) (records : List Record) (all : AreGathered house draws 1 one_worker o found xs records) where
   abbrev start : ℕ

@@ -14,8 +14,8 @@ use Rattle.session_core.specs.Transcript.{Journals, first_new}
 use Rattle.session_core.specs.Code.{found_by}
 use Rattle.successive_runs.specs.Left.{IsLeft}
 use Rattle.successive_runs.specs.Life.{Run}
-use Rattle.served_sessions.specs.Sittings.{Sitting, all_exchanges}
-use Rattle.served_sessions.specs.Kept.{AreHeld}
+use Rattle.held_sessions.specs.Sittings.{Sitting, all_exchanges}
+use Rattle.held_sessions.specs.Kept.{AreHeld}
 
 -- A record that couldn't be appended to an owner's journal may follow those that are there.
 abbrev pub MayAllFollow : House → (records : Journals) → (closed : ℕ → Option Failure) → Type 0

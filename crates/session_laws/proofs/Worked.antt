@@ -67,22 +67,25 @@ module _ (house : House) (draws : ℕ → ℕ → ℕ → ℕ) (count : ℕ) (cr
     );
   }
 
+-- What workers made of any lines, each at its own places.
+pub crew_gathered : (house : House) (draws : ℕ → ℕ → ℕ → ℕ) (count : ℕ) (crew : ℕ → ℕ) (xs : List Exchange) (before after : List Pass) (records : Journals) (closed : ℕ → Option Failure) → ((at : ℕ) → crew at < count)
+    → AreFresh house before → ((o : ℕ) (owner : Owner) → slice_get house.owners o ≡ Some owner → IsBroughtIn house draws count crew o xs (pass_at before o) (pass_at after o)) → AreClosed house after records closed
+    → (o : ℕ) (owner : Owner) → slice_get house.owners o ≡ Some owner → AreGathered house draws count crew o (found_by before o) xs (records o) × AreShut house draws count crew o xs (closed o)
+crew_gathered house draws count crew xs before after records closed crews fresh each shut o owner here =
+    let b = each o owner here in (
+      joined_gathered house draws count crew (λ i. part_of crew i 0 xs) xs o owner (found_by before o) (records o) here crews (λ i lt. refl)
+          (worked_joined house draws count crew o xs (pass_at before o) (pass_at after o) (records o) (closed o) crews (fresh o owner here) b (shut o owner here)),
+      worked_shut house draws count crew o xs (pass_at before o) (pass_at after o) (records o) (closed o) crews (fresh o owner here) b (shut o owner here),
+    )
+
 -- What the workers of a script's blocks made of it.
 pub script_gathered : (house : House) (draws : ℕ → ℕ → ℕ → ℕ) (count : ℕ) (script text : List ℕ) (before after : List Pass) (records : Journals) (closed : ℕ → Option Failure) → 0 < count
     → AreFresh house before → (h : HasWorked house draws count script text before after) → AreClosed house after records closed
     → IsGatheredScript house draws count (crew_of count 0 (script_blocks script)) (found_by before) script h.exchanges records
     × ((o : ℕ) (owner : Owner) → slice_get house.owners o ≡ Some owner → AreShut house draws count (crew_of count 0 (script_blocks script)) o h.exchanges (closed o))
-script_gathered house draws count script text before after records closed some fresh h shut = (
-  record { crews = dealt.crews; turns = h.turns_are; plain = h.plain; owners = gathered },
-  λ o owner here. worked_shut house draws count crew o h.exchanges (pass_at before o) (pass_at after o) (records o) (closed o) dealt.crews (fresh o owner here) (h.owners o owner here) (shut o owner here),
-)
-  where
-    crew : ℕ → ℕ
-    crew = crew_of count 0 (script_blocks script)
-
-    dealt : AreDealt house script count
-    dealt = are_dealt house script count some
-
-    gathered : (o : ℕ) (owner : Owner) → slice_get house.owners o ≡ Some owner → AreGathered house draws count crew o (found_by before o) h.exchanges (records o)
-    gathered o owner here = joined_gathered house draws count crew (λ i. part_of crew i 0 h.exchanges) h.exchanges o owner (found_by before o) (records o) here dealt.crews (λ i lt. refl)
-        (worked_joined house draws count crew o h.exchanges (pass_at before o) (pass_at after o) (records o) (closed o) dealt.crews (fresh o owner here) (h.owners o owner here) (shut o owner here))
+script_gathered house draws count script text before after records closed some fresh h shut =
+    let dealt : AreDealt house script count = are_dealt house script count some in
+    let all = crew_gathered house draws count (crew_of count 0 (script_blocks script)) h.exchanges before after records closed dealt.crews fresh h.owners shut in (
+      record { crews = dealt.crews; turns = h.turns_are; plain = h.plain; owners = λ o owner here. (all o owner here).0 },
+      λ o owner here. (all o owner here).1,
+    )

@@ -24,8 +24,8 @@ ghost use Rattle.session_core.specs.Gathered.{AreGathered, AreOfScript, AreShut,
 ghost use Rattle.session_core.specs.Headline.{Programs, AreAccountedFor, AreFound, AreHistories, AreOwed, Headline, IsHonoured};
 ghost use Rattle.session_core.specs.Said.{NothingFailed};
 ghost use Rattle.session_core.specs.Blocks.{AreDealt, crew_of, script_blocks};
-ghost use Rattle.session_core.specs.Worked.{HasWorked};
-ghost use Rattle.session_core.specs.Code.{AreFresh, AreClosed, AreServed, found_by};
+ghost use Rattle.session_core.specs.Worked.{HasWorked, IsBroughtIn};
+ghost use Rattle.session_core.specs.Code.{AreFresh, AreClosed, AreServed, found_by, pass_at};
 ghost use Rattle.session_laws.specs.CameBy.{CameAboutIsExplained, AllCameBy};
 ghost use Rattle.session_laws.specs.ToldOnce.{AreToldOnce};
 ghost use Rattle.session_laws.specs.Growing.{AreGrowing, AreGrowingFrom};
@@ -83,13 +83,20 @@ pub fn found_records_are_owed()
         AreOwners house → AreFound house draws earlier found → AreAccountedFor house draws found earlier script found }
 {}
 
-/// Lines that were served by passes on books just opened, and a script that so many workers answered by halves of such passes, where the
-/// books were closed then: all records behind those found are the lines' own, and what shut a book is a line's own append that failed.
+/// Lines that were served by passes on books just opened, and lines that so many workers answered by halves of such passes, each at its own
+/// places, as those of a script's blocks, where the books were closed then: all records behind those found are the lines' own, and what
+/// shut a book is a line's own append that failed.
 pub fn served_lines_are_gathered()
     ensures lines { (house : House) (draws : ℕ → ℕ → ℕ → ℕ) (xs : List Exchange) (before after : List Pass) (records : Journals) →
         (closed : ℕ → Option Failure) → AreFresh house before → AreServed house draws xs before after → AreClosed house after records closed →
         (o : ℕ) (owner : Owner) → slice_get house.owners o ≡ Some owner →
         AreGathered house draws 1 one_worker o (found_by before o) xs (records o) × AreShut house draws 1 one_worker o xs (closed o) }
+    ensures crew { (house : House) (draws : ℕ → ℕ → ℕ → ℕ) (count : ℕ) (crew : ℕ → ℕ) (xs : List Exchange) (before after : List Pass) →
+        (records : Journals) (closed : ℕ → Option Failure) → ((at : ℕ) → crew at < count) → AreFresh house before →
+        ((o : ℕ) (owner : Owner) → slice_get house.owners o ≡ Some owner →
+        IsBroughtIn house draws count crew o xs (pass_at before o) (pass_at after o)) → AreClosed house after records closed →
+        (o : ℕ) (owner : Owner) → slice_get house.owners o ≡ Some owner →
+        AreGathered house draws count crew o (found_by before o) xs (records o) × AreShut house draws count crew o xs (closed o) }
     ensures script { (house : House) (draws : ℕ → ℕ → ℕ → ℕ) (count : ℕ) (script text : List ℕ) (before after : List Pass) (records : Journals) →
         (closed : ℕ → Option Failure) → 0 < count → AreFresh house before → (h : HasWorked house draws count script text before after) →
         AreClosed house after records closed →

@@ -28,9 +28,9 @@ use std::thread::{Threads, join};
 const ASKS: u32 = 25;
 
 const LIMITS: Limits = Limits {
-    length: 32_768,
-    calls: 4096,
-    written: 65_536,
+    length: 65_536,
+    calls: 16_384,
+    written: 131_072,
 };
 
 // Asks so often, and settles each grant with an answer of its own.

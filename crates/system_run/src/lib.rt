@@ -1,8 +1,8 @@
 //! The top call over the system: the words of the process, the files of the system, the journals in a folder of it, standard
-//! input and standard output.
+//! input and standard output, and the ports of an address.
 #![tactic(auto)]
 
-ghost use Rattle.std.specs.Prelude.{◌≡◌};
+ghost use Rattle.std.specs.Prelude.{◌≡◌, length, IfOk};
 ghost use Rattle.std.specs.Process.{exit_status};
 ghost use Rattle.query_server.specs.Status.{status_code};
 ghost use Rattle.query_server.specs.declared.end.Status.{Status as Ended};
@@ -10,6 +10,7 @@ ghost use Rattle.query_server.specs.declared.end.Status.{Status as Ended};
 use fz_outside::real::{RealFiles, RealSink, RealSource};
 use fz_outside::sink::{Sink, put};
 use outside_bays::real::RealBay;
+use outside_doors::real::RealDoors;
 use outside_links::gate::FreeGate;
 use query_server::{Status, run_server};
 use std::alloc::{AllocError, Global};
@@ -22,6 +23,9 @@ use std::{env, fs, io};
 /// The most owners of a catalog. The journal of owner N is `journals/N.bud`.
 const OWNERS: u32 = 16;
 
+/// The most workers of a service, of which each has a door.
+const DOORS: usize = 16;
+
 // The words behind the program's own name. A word that isn't UTF-8 is no command, so then no words are.
 fn words_of(rt: &HostRuntime, alloc: Global) -> Result<Vec<String>, AllocError> {
     match env::args(rt) {
@@ -31,12 +35,24 @@ fn words_of(rt: &HostRuntime, alloc: Global) -> Result<Vec<String>, AllocError> 
     }
 }
 
-// What is left to say where there is no memory for the words or for the places of the journals.
+// What is left to say where there is no memory for the words or for the places.
 fn without_memory<K: Sink>(sink: &mut K) -> Status {
     match put(sink, b"memory\n") {
         Ok(()) => Status::NoMemory,
         Err(_) => Status::Fault,
     }
+}
+
+// A door for each worker that there may be.
+fn doors_of<'a>(
+    rt: &'a HostRuntime,
+    alloc: Global,
+) -> Result<Vec<RealDoors<'a, HostRuntime>>, AllocError>
+    ensures { IfOk result (λ doors. length doors.items ≡ DOORS) }
+{
+    let mut doors = Vec::with_capacity(alloc, DOORS)?;
+    doors.resize_with(DOORS, || RealDoors::new(rt))?;
+    Ok(doors)
 }
 
 // Opens a folder, which takes a number of the process that is free. Reading and writing a folder fail: where standard input or
@@ -45,30 +61,40 @@ fn hold_number(rt: &HostRuntime) -> Option<fs::File> {
     fs::open(rt, "/").ok()
 }
 
-/// Does the command of the process's words; the workers of a `run` are threads of `threads`. The process is to end with the number of the
-/// command's status.
+// How the command of the process's words ends, where there is memory for the words and for the places of journals and doors.
+fn do_command<R: Threads + Wait + Sync, K: Sink>(
+    rt: &HostRuntime,
+    threads: &R,
+    alloc: Global,
+    sink: &mut K,
+) -> Result<Status, AllocError> {
+    let words = words_of(rt, alloc)?;
+    let mut bay = RealBay::new(alloc, rt, "journals", OWNERS)?;
+    let mut doors = doors_of(rt, alloc)?;
+    let mut files = RealFiles::new(rt);
+    let mut source = RealSource::new(rt.reader());
+    Ok(run_server(
+        threads,
+        alloc,
+        &words,
+        &mut files,
+        &mut bay,
+        &mut source,
+        sink,
+        &mut doors,
+        &FreeGate,
+    ))
+}
+
+/// Does the command of the process's words; workers are threads of `threads`. The process is to end with the number of the command's
+/// status.
 pub fn run_process<R: Threads + Wait + Sync>(rt: &HostRuntime, threads: &R) -> ExitCode
     ensures { (status : Ended) × (exit_status result ≡ status_code status) }
 {
     let _held = (hold_number(rt), hold_number(rt), hold_number(rt));
-    let alloc = rt.alloc();
-    let mut files = RealFiles::new(rt);
-    let mut source = RealSource::new(rt.reader());
     let mut sink = RealSink::new(io::writer(rt));
-    let status = match words_of(rt, alloc) {
-        Ok(words) => match RealBay::new(alloc, rt, "journals", OWNERS) {
-            Ok(mut bay) => run_server(
-                threads,
-                alloc,
-                &words,
-                &mut files,
-                &mut bay,
-                &mut source,
-                &mut sink,
-                &FreeGate,
-            ),
-            Err(_) => without_memory(&mut sink),
-        },
+    let status = match do_command(rt, threads, rt.alloc(), &mut sink) {
+        Ok(status) => status,
         Err(_) => without_memory(&mut sink),
     };
     ExitCode::from(status.code())

@@ -1,8 +1,8 @@
 -- What the command comes to over files that hold the catalog, its table and the key of zeros.
-use Rattle.std.proofs.Common.{◌≡◌, ℕ, List, [], ◌∷◌, Option, Some, refl, ◌∙◌, ap, codes}
+use Rattle.std.proofs.Common.{◌≡◌, ℕ, List, [], ◌∷◌, Option, Some, refl, ◌∙◌, ap, subst, codes}
 use Rattle.command_words.specs.Command.{Command, command_of, run}
 use Rattle.command_words.proofs.Plain.{plain_is_tabled}
-use Rattle.query_server.specs.Due.{work_of, command_steps}
+use Rattle.query_server.specs.Due.{IsOfDoors, work_of, command_steps}
 use Rattle.query_server.specs.Work.{Work, ended, to_answer}
 use Rattle.catalog_loading.specs.Files.{Contents, always}
 use Rattle.catalog_loading.specs.Steps.{StepOutcome}
@@ -15,6 +15,12 @@ words = codes "run" ∷ codes "cat.json" ∷ codes "key" ∷ []
 
 is_run : command_of words ≡ Some (run (codes "cat.json") (codes "key") 1)
 is_run = plain_is_tabled words (refl, (refl, (refl, tt)))
+
+-- it listens at no door
+pub row_doorless : (given : List (List ℕ)) → given ≡ words → IsOfDoors (command_of given) → ⊥
+row_doorless given are_words listens =
+    let no : IsOfDoors (Some (run (codes "cat.json") (codes "key") 1)) = subst IsOfDoors (ap command_of are_words ∙ is_run) listens in
+    cc no
 
 -- A script is to be answered over the three rows, whatever else the files hold.
 pub row_ending : (given : List (List ℕ)) (held : Contents) → given ≡ words → held (codes "cat.json") ≡ Some catalog_text → held (codes "key") ≡ Some zeros

@@ -133,7 +133,8 @@ finished ending old new status text written made due is whole sound = here (fini
     here (inr (inr (complete, same))) = inr (inr (complete, written_row text written whole same))
 
 -- counts that are 0 haven't risen
-pub none_risen : {Q P : Type 0} → (before now : ℕ) → before ≡ 0 → now ≡ 0 → (Q × HasRisen 0 0) ⊎ (P × HasRisen 0 0) ⊎ HasRisen before now → ⊥
-none_risen before now zero none (inl risen) = let h : 0 < 0 = risen.1 (omega arith) in omega arith
-none_risen before now zero none (inr (inl risen)) = let h : 0 < 0 = risen.1 (omega arith) in omega arith
-none_risen before now zero none (inr (inr risen)) = let h : before < now = risen (omega arith) in omega arith
+pub none_risen : {Q P D R : Type 0} → (before now : ℕ) → before ≡ 0 → now ≡ 0 → (D → ⊥) → (Q × HasRisen 0 0) ⊎ (P × HasRisen 0 0) ⊎ (D × R) ⊎ HasRisen before now → ⊥
+none_risen before now zero none doorless (inl risen) = let h : 0 < 0 = risen.1 (omega arith) in omega arith
+none_risen before now zero none doorless (inr (inl risen)) = let h : 0 < 0 = risen.1 (omega arith) in omega arith
+none_risen before now zero none doorless (inr (inr (inl listens))) = doorless listens.0
+none_risen before now zero none doorless (inr (inr (inr risen))) = let h : before < now = risen (omega arith) in omega arith

@@ -1,7 +1,7 @@
 //! A run over memory whose replies are known. They are derived from the top call's contract alone.
 #![tactic(auto)]
 
-ghost use Rattle.std.specs.Prelude.{◌≡◌, ◌⊎◌, Some, [], ◌∷◌, codes, map, string_bytes, replicate, IfOk};
+ghost use Rattle.std.specs.Prelude.{◌≡◌, ◌⊎◌, ◌≤◌, length, Some, [], ◌∷◌, codes, map, string_bytes, replicate, IfOk};
 ghost use Rattle.fz_outside.specs.Files.{bytes_of};
 ghost use Rattle.query_server.specs.Shelves.{AreAtHome};
 ghost use Rattle.worked_row.specs.Held.{IsJournalMade};
@@ -11,6 +11,7 @@ use fz_outside::files::{MemFile, MemFiles};
 use fz_outside::sink::{MemSink, Sink};
 use fz_outside::source::MemSource;
 use outside_bays::bay::Bay;
+use outside_doors::door::Doors;
 use outside_links::gate::FreeGate;
 use query_server::{Status, run_server};
 use std::alloc::{AllocError, Global};
@@ -63,12 +64,16 @@ fn files_of_row() -> [MemFile<'static>; 3]
 /// An analyst asks for the size of a table of three rows, over a journal that was made and has no records. Under a key of zeros
 /// the noise is 2, so the answer is 5. These replies are written; or memory is wanting, for the whole, for the one program, or
 /// after its reservation; or the owner's disk failed, as its journal was opened or as a record was appended; nothing else can come.
-pub fn row_one<R: Threads + Wait + Sync, B: Bay>(
+pub fn row_one<R: Threads + Wait + Sync, B: Bay, O: Doors + Drop + Send>(
     rt: &R,
     alloc: Global,
     bay: &mut B,
+    doors: &mut Vec<O>,
 ) -> Result<Ran, AllocError>
+where
+    O::L: Send,
     requires home { AreAtHome (B.owners bay.old) (B.shelf bay.old) }
+    requires doors { 16 ≤ length doors.old.items }
     requires made { IsJournalMade (B.shelf bay.old) }
     ensures { IfOk result (λ ran. (ran.status ≡ Status.NoMemory) ⊎ (ran.status ≡ Status.DiskFault)
         ⊎ ((ran.status ≡ Status.Done)
@@ -90,6 +95,7 @@ pub fn row_one<R: Threads + Wait + Sync, B: Bay>(
         bay,
         &mut source,
         &mut sink,
+        doors,
         &FreeGate,
     );
     // The sink isn't full, so it hasn't failed.

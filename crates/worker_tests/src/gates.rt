@@ -3,6 +3,7 @@
 use fz_outside::files::{MemFile, MemFiles};
 use fz_outside::sink::MemSink;
 use fz_outside::source::MemSource;
+use memory_runs::doors::idle_doors;
 use memory_runs::journals::empty_journals;
 use memory_runs::{KEY, ROOM, TABLE, census_files, words_of};
 use outside_links::gate::Gate;
@@ -60,6 +61,7 @@ fn ran<R: Threads + Wait + Sync>(
     let mut files = MemFiles::new(held);
     let mut source = MemSource::new(b"hello ann\nbye\nhello bob\nbye\n");
     let mut sink = MemSink::<ROOM>::new(alloc)?;
+    let mut doors = idle_doors(alloc)?;
     let status = run_server(
         rt,
         alloc,
@@ -68,6 +70,7 @@ fn ran<R: Threads + Wait + Sync>(
         &mut bay,
         &mut source,
         &mut sink,
+        &mut doors,
         gate,
     );
     Ok((status, sink.bytes().to_vec(alloc)?))

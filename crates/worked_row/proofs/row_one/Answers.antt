@@ -3,7 +3,7 @@ use Rattle.fz_outside.specs.Files.{bytes_of}
 use Rattle.query_server.specs.declared.end.Status.TheVariants.{Fault}
 use Rattle.query_server.proofs.Lines.{line_told}
 use Rattle.worked_row.specs.Row.{script}
-use Rattle.worked_row.proofs.RowEnding.{row_ending}
+use Rattle.worked_row.proofs.RowEnding.{row_doorless, row_ending}
 use Rattle.worked_row.proofs.RowStatus.{none_failed, finished, none_risen}
 use Rattle.worked_row.proofs.row_one.Goals as goal
 
@@ -26,5 +26,5 @@ returns g c =
     let line = c.run_server-status.ensures.line in
     let exact = line_told (map string_bytes c.deref.result.now) held script [] _ _ _ _ _ _ _ _ _ line.0 line.1 line.2 c.new-files.ensures.held c.new-source.ensures c.in_ok-sink.ensures.contents in
     let zero : c.run_server-status.new.sink.faults ≡ 0 = sym c.faults-faults.ensures.count ∙ c.if-prove.false in
-    let sound = λ (is : c.run_server-status.result ≡ Fault). none_risen _ _ c.in_ok-sink.ensures.faults zero (c.run_server-status.ensures.fault is).0 in
+    let sound = λ (is : c.run_server-status.result ≡ Fault). none_risen _ _ c.in_ok-sink.ensures.faults zero (row_doorless (map string_bytes c.deref.result.now) named) (c.run_server-status.ensures.fault is).0 in
     finished _ _ _ _ line.0 c.run_server-status.new.sink.bytes.items c.requires.made due exact.1 exact.0 sound

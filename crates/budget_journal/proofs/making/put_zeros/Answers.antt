@@ -1,6 +1,6 @@
 use Rattle.std.proofs.Common.{◌+◌, ◌*◌, ◌∙◌, replicate, refl, arith}
 use Rattle.outside_disks.specs.Disks.Step.{Wrote}
-use Rattle.budget_journal.specs.Journals.{AreZeros, BeginsSome}
+use Rattle.budget_journal.specs.Making.{AreZeros, BeginsSome}
 use Rattle.budget_journal.proofs.Made.{on_err, zeros-begun, zeros-tried, adds-step, adds-tried}
 use Rattle.budget_journal.proofs.making.put_zeros.Goals as goal
 

@@ -1,6 +1,6 @@
 use Rattle.std.proofs.Common.{◌≡◌, ◌*◌}
 use Rattle.outside_disks.specs.Disks.{WhereTold}
-use Rattle.budget_journal.specs.Journals.{AreZeros, AddsSteps}
+use Rattle.budget_journal.specs.Making.{AreZeros, AddsSteps}
 use Rattle.budget_journal.proofs.making.put_zeros.Given as goal
 
 abbrev pub invariant-loop-piece : goal.invariant-loop-piece

@@ -5,8 +5,8 @@ use Rattle.command_words.proofs.commands.run_command.Goals as goal
 
 pub returns : goal.returns
 returns c = record {
-  shape = IfOk-weaker c.arg.result _ _ (λ r h. h.shape c.workers.ensures.local
-      ∙ ap₂ with_rule c.in_ok-files_command.ensures.shape c.workers.ensures.rule) c.arg.ensures;
+  shape = IfOk-weaker c.arg.result _ _ (λ r h. h.shape c.workers_option.ensures.local
+      ∙ ap₂ with_rule c.in_ok-files_command.ensures.shape c.workers_option.ensures.rule) c.arg.ensures;
   local = IfOk-weaker c.arg.result _ _ (λ r h. h.globals
-      ∙ ap₂ ◌||◌ c.in_ok-files_command.ensures.local c.workers.ensures.local) c.arg.ensures;
+      ∙ ap₂ ◌||◌ c.in_ok-files_command.ensures.local c.workers_option.ensures.local) c.arg.ensures;
 }

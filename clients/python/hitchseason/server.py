@@ -1,0 +1,235 @@
+"""Lines to a service and replies back, over a connection, or by a login over ssh.
+
+    Address(HOST, PORT, PUBLIC)        a connection to a worker's port, as on the machine of the service
+    Login(DESTINATION, PUBLIC, ..)     `ssh DESTINATION`, where a door says the analyst's name (docs/serving.md)
+
+Both are transports (transport.py). A worker serves one connection at a time, so one is kept only for as long as a call asks (`kept`), and ends with
+`bye`. The first line of each connection goes alone, and asks nothing: where it isn't answered nothing was asked, and another connection is tried for
+a while, as the service may be started anew. Where replies to later lines are missing that is said (`Stopped`), and nothing is sent again.
+"""
+import json
+import signal
+import socket
+import subprocess
+import time
+from collections import deque
+from contextlib import contextmanager, suppress
+
+from .faults import Failed, Refused
+from .transport import Stopped, Waited
+
+# How long a service that isn't there is tried again; lines that are sent ahead of their replies.
+PATIENCE, PAUSE = 20, 0.5
+AHEAD = 16
+CLOSED = "door closed"
+
+
+class Ended(Exception):
+    """The connection ended before a reply was whole, and why."""
+
+
+class Server:
+    def __init__(self, given):
+        self.given, self.link, self.depth, self.waiting = given, None, 0, False
+
+    def public(self):
+        if self.given is None:
+            raise Failed("what the owner made with `tools/public --json CATALOG` is wanted: public=FILE, or --public FILE")
+        with open(self.given, encoding="utf-8") as file:
+            return json.load(file)
+
+    @contextmanager
+    def kept(self):
+        """One connection for all that is asked in here, if it isn't cut."""
+        self.depth += 1
+        try:
+            yield
+        finally:
+            self.depth -= 1
+            if self.depth == 0:
+                self.leave()
+
+    def replies(self, lines):
+        with self.kept():
+            try:
+                return self.heard(lines)
+            except BaseException:
+                self.drop()
+                raise
+
+    def heard(self, lines):
+        """The first line alone, and then so many ahead of their replies."""
+        if self.link is not None and self.link.is_over():
+            self.drop()
+        found = [self.first(lines[0]) if self.link is None else self.one(lines[0])]
+        if lines[0].startswith("hello ") and found[0] != lines[0]:
+            raise Refused(f"{found[0]}: nothing was asked.", found[0])
+        sent, rest = deque(), iter(lines[1:])
+        try:
+            while len(found) < len(lines):
+                while len(sent) < AHEAD and (line := next(rest, None)) is not None:
+                    self.link.say(line)
+                    sent.append(line)
+                found.append(self.link.hear())
+                sent.popleft()
+        except (OSError, Ended) as fault:
+            raise Stopped(f"the connection ended: {fault}") from None
+        return found
+
+    def one(self, line):
+        """A line on a connection that is there. It asks nothing, so another connection may take it."""
+        try:
+            self.link.say(line)
+            return self.link.hear()
+        except (OSError, Ended):
+            self.drop()
+            return self.first(line)
+
+    def first(self, line):
+        """The reply to the first line of a new connection."""
+        until = time.monotonic() + PATIENCE
+        while True:
+            try:
+                self.waiting = True
+                self.link = self.opened()
+                self.link.say(line)
+                return self.link.hear()
+            except KeyboardInterrupt:
+                raise Waited() from None
+            except (OSError, Ended) as fault:
+                self.drop()
+                if time.monotonic() > until or isinstance(fault, Refusal):
+                    raise Failed(f"{self.name} can't be reached: {fault}. Nothing was asked.") from None
+                self.pause()
+            finally:
+                self.waiting = False
+
+    @staticmethod
+    def pause():
+        try:
+            time.sleep(PAUSE)
+        except KeyboardInterrupt:
+            raise Waited() from None
+
+    def leave(self):
+        """Says bye, so that the worker serves others."""
+        link, self.link = self.link, None
+        if link is not None:
+            with suppress(OSError, Ended):
+                link.say("bye")
+                link.hear()
+            link.close()
+
+    def drop(self):
+        link, self.link = self.link, None
+        if link is not None:
+            link.close()
+
+
+class Refusal(Ended):
+    """What another try can't mend."""
+
+
+class Link:
+    """Lines out and replies in. `read` gives some bytes, or none at the end."""
+
+    told = b""
+
+    def hear(self):
+        while b"\n" not in self.told:
+            data = self.read()
+            if not data:
+                raise self.end()
+            self.told += data
+        line, _, self.told = self.told.partition(b"\n")
+        reply = line.decode(errors="backslashreplace")
+        if reply.startswith(CLOSED):
+            raise (Refusal if "refuses" in reply else Ended)(reply)
+        return reply
+
+    def end(self):
+        return Ended("no reply came")
+
+    def is_over(self):
+        """Whether it ended while nobody asked."""
+        return False
+
+
+class Address(Server):
+    def __init__(self, host, port, public=None):
+        super().__init__(public)
+        self.host, self.port, self.name = host, port, f"{host}, port {port},"
+
+    def opened(self):
+        return Connection(self.host, self.port)
+
+
+class Connection(Link):
+    def __init__(self, host, port):
+        self.socket = socket.create_connection((host, port))
+        self.socket.setsockopt(socket.IPPROTO_TCP, socket.TCP_NODELAY, 1)
+
+    def say(self, line):
+        self.socket.sendall(f"{line}\n".encode())
+
+    def read(self):
+        return self.socket.recv(65_536)
+
+    def is_over(self):
+        try:
+            self.socket.setblocking(False)
+            return self.socket.recv(1, socket.MSG_PEEK) == b""
+        except BlockingIOError:
+            return False
+        except OSError:
+            return True
+        finally:
+            self.socket.setblocking(True)
+
+    def close(self):
+        self.socket.close()
+
+
+class Login(Server):
+    """WORDS stand before the destination, as ("-i", "FILE")."""
+
+    def __init__(self, destination, public=None, ssh=("ssh",), words=()):
+        super().__init__(public)
+        self.name, self.command = destination, [*ssh, "-T", *words, "--", destination]
+
+    def opened(self):
+        return Process(self.command)
+
+
+class Process(Link):
+    """Ctrl-C at a terminal doesn't reach it, so that what is asked isn't cut by it; its own words, as of a passphrase, go to the terminal."""
+
+    def __init__(self, command):
+        quiet = {"preexec_fn": lambda: signal.signal(signal.SIGINT, signal.SIG_IGN)}
+        self.process = subprocess.Popen(command, stdin=subprocess.PIPE, stdout=subprocess.PIPE, bufsize=0, **quiet)
+
+    def say(self, line):
+        data = f"{line}\n".encode()
+        while data:
+            data = data[self.process.stdin.write(data) :]
+
+    def read(self):
+        return self.process.stdout.read(65_536)
+
+    def end(self):
+        """Where ssh itself failed, as for want of a key, another try can't mend it."""
+        status = self.process.wait()
+        return Refusal("ssh failed") if status == 255 and not self.told else Ended(f"ssh ended with status {status}")
+
+    def is_over(self):
+        return self.process.poll() is not None
+
+    def close(self):
+        for file in (self.process.stdin, self.process.stdout):
+            with suppress(OSError):
+                file.close()
+        try:
+            self.process.wait(5)
+        except subprocess.TimeoutExpired:
+            self.process.kill()
+            self.process.wait()

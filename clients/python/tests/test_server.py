@@ -1,0 +1,187 @@
+"""The client over connections: answers, refusals of a door, connections that are cut, and what is found by `recall`. Where the program has no `serve` it is
+skipped."""
+import json
+import os
+import socket
+import subprocess
+import sys
+import threading
+import time
+import unittest
+
+from common import PROGRAM, TOP, often, survey
+from hitchseason import Cut, Failed, Refused, connect
+
+sys.path.insert(0, f"{TOP}/bench")
+from served import free_ports, is_listened_at  # noqa: E402
+
+WORKERS = 2
+
+
+def has_serve():
+    said = subprocess.run([PROGRAM, "serve", "no catalog", "no key", "--port", "7000", "--each", "1"], stdin=subprocess.DEVNULL, capture_output=True, timeout=60)
+    return said.returncode == 3
+
+
+class Proxy:
+    """Hands bytes through, and cuts a connection where it is told: before a line that asks, behind it, or behind its reply."""
+
+    def __init__(self, port):
+        self.to, self.door, self.cut, self.connections = port, socket.create_server(("127.0.0.1", 0)), None, 0
+        self.port = self.door.getsockname()[1]
+        threading.Thread(target=self.run, daemon=True).start()
+
+    def run(self):
+        while True:
+            try:
+                link, _ = self.door.accept()
+            except OSError:
+                return
+            self.connections += 1
+            threading.Thread(target=self.serve, args=(link,), daemon=True).start()
+
+    def serve(self, link):
+        try:
+            self.pass_on(link)
+        except OSError:
+            link.close()
+
+    def pass_on(self, link):
+        with link, socket.create_connection(("127.0.0.1", self.to)) as to, link.makefile("rb") as lines, to.makefile("rb") as replies:
+            for line in lines:
+                mode = self.cut if line.startswith(b"ask") else None
+                self.cut = None if mode else self.cut
+                if mode == "before":
+                    return
+                to.sendall(line)
+                if mode == "behind":
+                    return
+                reply = replies.readline()
+                if mode == "answered":
+                    return
+                link.sendall(reply)
+
+    def close(self):
+        self.door.close()
+
+
+@unittest.skipUnless(has_serve(), "the program has no serve")
+class Served(unittest.TestCase):
+    def setUp(self):
+        self.place = survey(capacity=4000)
+        ran = subprocess.run([f"{TOP}/tools/public", "--json", "catalog.json"], cwd=self.place.folder, check=True, stdout=subprocess.PIPE)
+        self.public = f"{self.place.folder}/public.json"
+        with open(self.public, "wb") as file:
+            file.write(ran.stdout)
+        self.port = free_ports(WORKERS)
+        self.start()
+        self.proxy = Proxy(self.port)
+
+    def start(self):
+        words = ["serve", "catalog.json", "key", "--port", str(self.port), "--workers", str(WORKERS), "--each", "1000000"]
+        self.service = subprocess.Popen([PROGRAM, *words], cwd=self.place.folder, stdin=subprocess.DEVNULL)
+        until = time.monotonic() + 60
+        while not is_listened_at(self.port) and time.monotonic() < until:
+            time.sleep(0.02)
+
+    def tearDown(self):
+        self.proxy.close()
+        self.service.kill()
+        self.service.wait()
+        self.place.__exit__()
+
+    def client(self, analyst="mia", port=None):
+        return connect("127.0.0.1", port or self.proxy.port, analyst, "labour", public=self.public)
+
+    def test_answers(self):
+        """The same calls as over a folder, each over one connection."""
+        client = self.client()
+        answer = client.count("persons", "p.age <= 30", eps=1)
+        self.assertEqual((answer.number, answer.taken, answer.left.spent), (0, 10**6, 10**6))
+        self.assertEqual(client.recall(0), answer.value)
+        before = self.proxy.connections
+        self.assertEqual(client.median("persons", "income", 0, 5000, charge=1).numbers[0], 1)
+        self.assertEqual(self.proxy.connections, before + 1)
+        groups = client.histogram("areas", eps=1)
+        self.assertEqual(len(groups), 5)
+        self.assertIn("number", str(client.mean("persons", "income", 0, 5000, charge=1)))
+        other = connect(f"127.0.0.1:{self.port + 1}", "tom", "labour", public=self.public)
+        self.assertEqual(other.left().spent, client.left().spent)
+        with self.assertRaises(Refused):
+            other.recall(0)
+
+    def test_words(self):
+        with self.assertRaises(Failed) as caught:
+            connect("127.0.0.1", self.port, "mia", "labour")
+        self.assertIn("public", str(caught.exception))
+        with self.assertRaises(Refused):
+            self.client("nobody")
+        with self.assertRaises(Failed):
+            connect("no/folder", "mia", "labour")
+
+    def test_cut(self):
+        """An ask is answered, found by `recall`, or known to be none; it is never sent twice."""
+        client, expected = self.client(), 0
+        for mode in ("before", "behind", "answered", None):
+            self.proxy.cut = mode
+            try:
+                answer = client.count("persons", eps=1)
+            except Failed as fault:
+                self.assertEqual(mode, "before")
+                self.assertIn("nothing is charged", str(fault))
+                continue
+            self.assertEqual((answer.number, answer.recalled), (expected, mode is not None))
+            self.assertEqual(client.recall(expected), answer.value)
+            expected += 1
+        self.assertEqual(client.left().records, 2 * expected)
+        self.proxy.cut = "answered"
+        with self.assertRaises(Cut) as caught:
+            client.histogram("areas", eps=1)
+        self.assertEqual(len(caught.exception.numbers), 1)
+
+    def test_kill(self):
+        """A service that is killed and started anew while the client waits for it."""
+        client = self.client()
+        for number in range(often(2, 20)):
+            self.assertEqual(client.count("persons", eps=1).number, number)
+            self.service.kill()
+            self.service.wait()
+            late = threading.Timer(1, self.start)
+            late.start()
+            self.assertEqual(client.left().records, 2 * number + 2)
+            late.join()
+
+    def test_door(self):
+        """By a login, ssh being a program that runs a door: a key that isn't mia's, a refusal of the door, and an ask."""
+        ssh = f"{self.place.folder}/ssh"
+        with open(ssh, "w") as file:
+            file.write(f"#!/bin/sh\nexec {TOP}/tools/door tom {self.port} {WORKERS} --catalog {self.place.folder}/catalog.json --deepest 0\n")
+        os.chmod(ssh, 0o755)
+        login = lambda analyst: connect("ssh://tom@there", analyst, "labour", public=self.public, ssh=(ssh,))
+        with self.assertRaises(Refused) as caught:
+            login("mia").count("persons", eps=1)
+        self.assertEqual(caught.exception.reply, "door hello: this key speaks for tom alone")
+        client = login("tom")
+        self.assertEqual(client.count("persons", eps=1).number, 0)
+        with self.assertRaises(Refused) as caught:
+            client.count("persons", "p.age <= 30", eps=1)
+        self.assertTrue(caught.exception.reply.startswith("door deep 1: "))
+        self.assertEqual(client.left().records, 2)
+
+    def test_no_way(self):
+        failing = f"{self.place.folder}/ssh"
+        with open(failing, "w") as file:
+            file.write("#!/bin/sh\nexit 255\n")
+        os.chmod(failing, 0o755)
+        with self.assertRaises(Failed) as caught:
+            connect("ssh://nowhere", "tom", "labour", public=self.public, ssh=(failing,)).left()
+        self.assertIn("ssh failed", str(caught.exception))
+
+    def test_commands(self):
+        """tools/left and tools/askparts over an address."""
+        ran = subprocess.run([f"{TOP}/tools/left", f"127.0.0.1:{self.port}", "labour", "--public", self.public, "--json"], check=True, stdout=subprocess.PIPE)
+        self.assertEqual(json.loads(ran.stdout)["records"], 0)
+
+
+if __name__ == "__main__":
+    unittest.main()

@@ -1,0 +1,62 @@
+-- What the parts of an opening read.
+use Rattle.std.specs.Prelude.{◌≡◌, ◌≢◌, ◌⊎◌, ℕ, ◌+◌, ◌<◌, ◌≤◌, Bool, true, false, List, length, take, slice_get, Option, None, Some, Result, Ok, Err, Vec, ⊤}
+use Rattle.std.specs.declared.alloc.Global.{Global}
+use Rattle.journal_records.specs.Encoding.{gate}
+use Rattle.journal_records.specs.declared.records.Record.{Record}
+use Rattle.journal_records.specs.declared.records.Header.{Header}
+use Rattle.budget_journal.specs.declared.area.Area.{Area}
+use Rattle.budget_journal.specs.declared.opening.OpenFault.{OpenFault}
+use Rattle.budget_journal.specs.declared.opening.OpenFault.TheVariants.{NotInitialised, Changed, Damaged}
+use Rattle.budget_journal.specs.declared.version.Version.{Version}
+use Rattle.budget_journal.specs.declared.version.Version.TheVariants.{One, Two}
+use Rattle.budget_journal.specs.Areas.{version_in, live_area, HasGates}
+use Rattle.budget_journal.specs.Journals.{Layout, slot_place, slot, gate_of, Holds, FillsSlots, IsFirstDamaged, HasHeader, Stands, IsHeaderFault, IsOpenFault}
+
+-- ---- the header
+
+-- The header that was found is this one, with this live area.
+abbrev pub AreAlike : Version → (capacity area : ℕ) → (kept found : List ℕ) → Type 0
+AreAlike One capacity area kept found = (kept ≡ found) × (area ≡ 0)
+AreAlike Two capacity area kept found = (take 97 kept ≡ take 97 found) × HasGates capacity area kept
+
+-- the header was judged: the length, and the live area
+abbrev pub HeaderRead : Header → List ℕ → Result (ℕ × Area) OpenFault → Type 0
+HeaderRead header bytes (Ok read) = (read.0 ≡ length bytes) × (128 ≤ length bytes) × HasHeader header bytes
+    × (read.1.version ≡ version_in bytes) × (read.1.capacity ≡ header.capacity) × (read.1.number ≡ live_area bytes)
+HeaderRead header bytes (Err fault) = IsHeaderFault header bytes fault
+
+-- ---- the slots
+
+-- why these slots weren't read
+abbrev pub IsSlotFault : Layout → List ℕ → OpenFault → Type 0
+IsSlotFault layout bytes (Damaged k) = IsFirstDamaged layout bytes k
+IsSlotFault layout bytes (NotInitialised n) = ⊥
+IsSlotFault layout bytes (Changed kept found) = ⊥
+IsSlotFault layout bytes _ = ⊤
+
+-- what one slot's read gives, where it is wholly there
+abbrev pub SlotRead : Layout → List ℕ → ℕ → Bool → Result (Option Record) OpenFault → Type 0
+SlotRead layout bytes k closed (Ok (Some r)) = Holds (slot layout bytes k) r × (closed ≡ false)
+SlotRead layout bytes k closed (Ok None) = gate_of layout bytes k ≢ gate
+SlotRead layout bytes k closed (Err (Damaged s)) = (s ≡ k) × (gate_of layout bytes k ≡ gate) × ((closed ≡ true) ⊎ ((r : Record) → Holds (slot layout bytes k) r → ⊥))
+SlotRead layout bytes k closed (Err (NotInitialised n)) = ⊥
+SlotRead layout bytes k closed (Err (Changed kept found)) = ⊥
+SlotRead layout bytes k closed (Err _) = ⊤
+
+-- The slots below k were read: each is wholly there, and they are records in turn and behind them closed slots.
+pub record Scanned (layout : Layout) (bytes : List ℕ) (k : ℕ) (records : List Record) : Type 0 where
+  pub within : (j : ℕ) → j < k → slot_place layout j + 64 ≤ length bytes
+  pub counted : length records ≤ k
+  pub kept : (j : ℕ) (r : Record) → slice_get records j ≡ Some r → Holds (slot layout bytes j) r
+  pub shut : (j : ℕ) → length records ≤ j → j < k → gate_of layout bytes j ≢ gate
+
+abbrev pub SlotsRead : Layout → List ℕ → Result (Vec Record Global) OpenFault → Type 0
+SlotsRead layout bytes (Ok records) = FillsSlots layout bytes records.items
+SlotsRead layout bytes (Err fault) = IsSlotFault layout bytes fault
+
+-- ---- the whole
+
+-- the live area and its records, or why these weren't read
+abbrev pub JournalRead : Header → List ℕ → Result (Area × Vec Record Global) OpenFault → Type 0
+JournalRead header bytes (Ok read) = Stands header read.1.items bytes × (read.0.version ≡ version_in bytes) × (read.0.number ≡ live_area bytes)
+JournalRead header bytes (Err fault) = IsOpenFault header bytes fault

@@ -1,0 +1,99 @@
+//! An area more.
+
+ghost use Rattle.std.specs.Prelude.{◌≡◌, ◌+◌, ◌*◌, ◌<◌, ◌≤◌, suc, length, replicate, IsErr, IfOk, IfSome, OnOk, OnErr};
+ghost use Rattle.fz_outside.specs.Faults.{HasCause};
+ghost use Rattle.outside_disks.specs.Disks.{seen_of, noted, Gives, WhereTold, MayHaveWritten};
+ghost use Rattle.outside_disks.specs.Disks.Step.{Wrote, Synced};
+ghost use Rattle.budget_journal.specs.Growth.{SlotCopied, AreaCopied, AreaCopyFailed, AreaAdded, AreaAddFailed, RoomMade, RoomNotMade};
+ghost use Rattle.budget_journal.specs.Journals.{mark_at};
+ghost use Rattle.budget_journal.specs.declared.version.Version.TheVariants.{Two};
+
+use crate::area::Area;
+use fz_outside::Failed;
+use journal_records::coding::GATE;
+use outside_disks::disk::Disk;
+
+// Writes these bytes and makes them stable.
+pub(crate) fn put_stable<D: Disk>(disk: &mut D, place: u64, bytes: &[u8]) -> Result<(), Failed>
+    ensures stable { OnOk result (D.trace disk.new ≡ noted Synced (noted (Wrote place bytes.now) (D.trace disk.old))) }
+    ensures err { OnErr result (MayHaveWritten place (length bytes.now) (D.trace disk.old) (D.trace disk.new)) }
+    ensures cause { HasCause (D.faults disk.old) (D.faults disk.new) (IsErr result) }
+    ensures passed { OnOk result (D.faults disk.new ≡ D.faults disk.old) }
+{
+    disk.write_at(place, bytes)?;
+    disk.sync()
+}
+
+// What goes into a slot of the next area: what this one has there, and behind its slots zeros.
+fn slot_bytes<D: Disk>(disk: &mut D, from: &Area, slot: u32) -> Result<[u8; 64], Failed>
+    ensures copied { IfOk result (λ bytes. IfSome (D.trace disk.old) (λ t. slot < from.now.slots → Gives (seen_of t) (from.now.begin + 64 * slot) bytes)) }
+    ensures zeros { IfOk result (λ bytes. from.now.slots ≤ slot → bytes ≡ replicate 64 0) }
+    ensures same { D.trace disk.new ≡ D.trace disk.old }
+    ensures cause { HasCause (D.faults disk.old) (D.faults disk.new) (IsErr result) }
+    ensures passed { OnOk result (D.faults disk.new ≡ D.faults disk.old) }
+{
+    let mut bytes = [0u8; 64];
+    if slot < from.slots {
+        disk.read_at(from.place(slot), &mut bytes)?;
+    }
+    Ok(bytes)
+}
+
+// Writes one slot of the next area.
+fn copy_slot<D: Disk>(disk: &mut D, from: &Area, to: &Area, slot: u32) -> Result<(), Failed>
+    requires { to.now.begin ≡ from.now.begin + 64 * from.now.slots }
+    ensures copied { OnOk result (WhereTold (SlotCopied from.now.begin from.now.slots slot) (D.trace disk.old) (D.trace disk.new)) }
+    ensures err { OnErr result (MayHaveWritten (to.now.begin + 64 * slot) 64 (D.trace disk.old) (D.trace disk.new)) }
+    ensures cause { HasCause (D.faults disk.old) (D.faults disk.new) (IsErr result) }
+    ensures passed { OnOk result (D.faults disk.new ≡ D.faults disk.old) }
+{
+    let bytes = slot_bytes(disk, from, slot)?;
+    disk.write_at(to.place(slot), &bytes)
+}
+
+// Writes the next area behind this one: its slots as they are, and then zeros.
+fn copy_area<D: Disk>(disk: &mut D, from: &Area, to: &Area) -> Result<(), Failed>
+    requires { to.now.begin ≡ from.now.begin + 64 * from.now.slots }
+    ensures copied { OnOk result (WhereTold (AreaCopied from.now.begin from.now.slots to.now.slots) (D.trace disk.old) (D.trace disk.new)) }
+    ensures begun { OnErr result (WhereTold (AreaCopyFailed from.now.begin from.now.slots) (D.trace disk.old) (D.trace disk.new)) }
+    ensures cause { HasCause (D.faults disk.old) (D.faults disk.new) (IsErr result) }
+    ensures passed { OnOk result (D.faults disk.new ≡ D.faults disk.old) }
+{
+    for slot in 0..to.slots {
+        copy_slot(disk, from, to, slot)?;
+    }
+    Ok(())
+}
+
+// Makes the next area live. Its gate is written once the area is stable.
+fn add_area<D: Disk>(disk: &mut D, full: &Area) -> Result<Area, Failed>
+    requires { full.now.slots < full.now.capacity }
+    ensures added { OnOk result (WhereTold (AreaAdded full.now.capacity full.now.number) (D.trace disk.old) (D.trace disk.new)) }
+    ensures refused { OnErr result (WhereTold (AreaAddFailed full.now.capacity full.now.number) (D.trace disk.old) (D.trace disk.new)) }
+    ensures next { IfOk result (λ area. (area.version ≡ full.now.version) × (area.capacity ≡ full.now.capacity) × (area.number ≡ full.now.number + 1)) }
+    ensures cause { HasCause (D.faults disk.old) (D.faults disk.new) (IsErr result) }
+    ensures passed { OnOk result (D.faults disk.new ≡ D.faults disk.old) }
+{
+    let next = full.next();
+    copy_area(disk, full, &next)?;
+    disk.sync()?;
+    put_stable(disk, 96 + u64::from(next.number), &[GATE])?;
+    Ok(next)
+}
+
+// The live area, once it has a free slot: the next one, where this one is full.
+pub(crate) fn make_room<D: Disk>(disk: &mut D, live: &Area, used: u32) -> Result<Area, Failed>
+    requires { used < live.now.capacity }
+    ensures made { IfOk result (λ area. WhereTold (RoomMade (mark_at live.now used) area.number) (D.trace disk.old) (D.trace disk.new)) }
+    ensures refused { OnErr result (WhereTold (RoomNotMade (mark_at live.now used)) (D.trace disk.old) (D.trace disk.new)) }
+    ensures version { IfOk result (λ area. area.version ≡ live.now.version) }
+    ensures capacity { IfOk result (λ area. area.capacity ≡ live.now.capacity) }
+    ensures cause { HasCause (D.faults disk.old) (D.faults disk.new) (IsErr result) }
+    ensures passed { OnOk result (D.faults disk.new ≡ D.faults disk.old) }
+{
+    if used < live.slots {
+        Ok(*live)
+    } else {
+        add_area(disk, live)
+    }
+}

@@ -1,0 +1,55 @@
+-- What the house is made of is what was to be made.
+use Rattle.std.proofs.Common.{◌≡◌, ℕ, zero, suc, ◌≤◌, List, [], ◌∷◌, slice_get, Option, Some, refl, sym, ◌∙◌, ap, subst, arith}
+use Rattle.std.proofs.lemmas.Option.{slice_get_within}
+use Rattle.metric_values.specs.Tables.{Dataset, IsDataset}
+use Rattle.owner_catalog.specs.Entries.{Catalog, OwnerEntry, owner_entry_at, owner_signature}
+use Rattle.part_views.specs.Holding.{Holding, IsHolding}
+use Rattle.owner_house.specs.House.{IsHeldBy, IsRegister, register_with}
+use Rattle.generated_house.specs.Sizes.{most_asks}
+use Rattle.generated_house.specs.House.{catalog_for, owner_for, register_for, rows_of_seed}
+use Rattle.generated_house.proofs.Houses.{lawful, rows_typed}
+
+-- what the first owner of a catalog holds with these rows
+abbrev pub first_holding : Catalog → Dataset → Holding
+first_holding catalog tables = record {
+  tables = owner_signature (owner_entry_at catalog 0);
+  rows = tables;
+  partitions = (owner_entry_at catalog 0).partitions;
+}
+
+pub typed : (seed asks : ℕ) (catalog : Catalog) (tables : Dataset) → catalog ≡ catalog_for asks → tables ≡ rows_of_seed seed ∷ [] → IsDataset (owner_signature (owner_entry_at catalog 0)) tables
+typed seed asks catalog tables catalog_is tables_are =
+    subst (λ (t : Dataset). IsDataset (owner_signature (owner_entry_at catalog 0)) t) (sym tables_are)
+    (subst (λ (c : Catalog). IsDataset (owner_signature (owner_entry_at c 0)) (rows_of_seed seed ∷ [])) (sym catalog_is) (rows_typed seed asks))
+
+made : (asks : ℕ) (tables : Dataset) → 1 ≤ asks → asks ≤ most_asks → IsHolding (first_holding (catalog_for asks) tables)
+    → IsRegister (register_with (catalog_for asks) (first_holding (catalog_for asks) tables ∷ []))
+made asks tables some few held = record { catalog = lawful asks some few; each_has = refl; holds = each }
+  where
+    first : Holding
+    first = first_holding (catalog_for asks) tables
+
+    each : (o : ℕ) (owner : OwnerEntry) (holding : Holding) → slice_get (owner_for asks ∷ []) o ≡ Some owner → slice_get (first ∷ []) o ≡ Some holding → IsHeldBy owner holding
+    each zero owner holding here there =
+        let owner_is : Some (owner_for asks) ≡ Some owner = here in
+        let holding_is : Some first ≡ Some holding = there in
+        let one : owner_for asks ≡ owner = cc (owner_is) in
+        let other : first ≡ holding = cc (holding_is) in
+        let whole : IsHeldBy (owner_for asks) first = record { tables = refl; partitions = refl; rows = held } in
+        subst (λ (w : OwnerEntry). IsHeldBy w holding) one (subst (λ (h : Holding). IsHeldBy (owner_for asks) h) other whole)
+    each (suc o) owner holding here there = absurd (omega (arith, slice_get_within (owner_for asks ∷ []) (suc o) owner here))
+
+module _ (catalog : Catalog) (tables : Dataset) (held : Holding) (holdings : List Holding) where
+  pub registered : (asks : ℕ) → 1 ≤ asks → asks ≤ most_asks → catalog ≡ catalog_for asks → held ≡ first_holding catalog tables → holdings ≡ held ∷ [] → IsHolding held
+      → IsRegister (register_with catalog holdings)
+  registered asks some few catalog_is held_is holdings_are holding =
+      let same : held ≡ first_holding (catalog_for asks) tables = held_is ∙ ap (λ (c : Catalog). first_holding c tables) catalog_is in
+      let whole : IsRegister (register_with (catalog_for asks) (held ∷ []))
+      = subst (λ (h : Holding). IsRegister (register_with (catalog_for asks) (h ∷ []))) (sym same) (made asks tables some few (subst IsHolding same holding)) in
+      subst (λ (c : Catalog). IsRegister (register_with c holdings)) (sym catalog_is) (subst (λ (hs : List Holding). IsRegister (register_with (catalog_for asks) hs)) (sym holdings_are) whole)
+
+  pub register_is : (seed asks : ℕ) → catalog ≡ catalog_for asks → tables ≡ rows_of_seed seed ∷ [] → held ≡ first_holding catalog tables → holdings ≡ held ∷ []
+      → register_with catalog holdings ≡ register_for seed asks
+  register_is seed asks catalog_is tables_are held_is holdings_are =
+      ap (register_with catalog) (holdings_are ∙ ap (λ (h : Holding). h ∷ []) (held_is ∙ ap (first_holding catalog) tables_are))
+      ∙ ap (λ (c : Catalog). register_with c (first_holding c (rows_of_seed seed ∷ []) ∷ [])) catalog_is

@@ -1,0 +1,4 @@
+pub mod Sizes
+pub mod Key
+pub mod House
+pub mod Script

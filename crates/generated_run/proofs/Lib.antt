@@ -1,0 +1,5 @@
+pub mod Closing
+pub mod Settling
+pub mod Counts
+pub mod Recalls
+mod Examples

@@ -1,0 +1,9 @@
+//! A run in memory that is generated from a seed: one analyst asks one owner the same question again and again, until its budget is
+//! spent and as often again.
+#![tactic(auto)]
+
+mod counting;
+mod run;
+
+pub use counting::Tally;
+pub use run::run_generated;

@@ -1,5 +1,0 @@
-use Rattle.growing_journal.proofs.Geometry.{begins}
-use Rattle.growing_journal.proofs.laws.areas_begin_there.Goals as goal
-
-pub returns : goal.returns
-returns c = λ capacity area is. begins capacity area is

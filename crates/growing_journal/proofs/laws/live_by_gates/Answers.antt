@@ -1,5 +1,0 @@
-use Rattle.growing_journal.proofs.Gates.{live-is, no-stray}
-use Rattle.growing_journal.proofs.laws.live_by_gates.Goals as goal
-
-pub returns : goal.returns
-returns c = λ capacity area n bytes small gates. (live-is capacity area bytes small gates, no-stray capacity area n bytes gates)

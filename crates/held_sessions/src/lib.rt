@@ -1,0 +1,4 @@
+//! Sessions that were held one after another, by one worker or by several, and what holds of them.
+#![tactic(auto)]
+
+pub mod laws;

@@ -1,0 +1,7 @@
+//! Tests of `serve` and `gen`, through the top call over files, disks, sink and doors in memory.
+#![tactic(auto)]
+
+#[cfg(test)]
+mod generated;
+#[cfg(test)]
+mod services;

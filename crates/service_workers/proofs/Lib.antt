@@ -1,0 +1,4 @@
+pub mod Attending
+pub mod Posted
+pub mod Joined
+mod Examples

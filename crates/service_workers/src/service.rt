@@ -1,0 +1,80 @@
+//! A service, from its doors to the last connection.
+
+ghost use Rattle.std.specs.Prelude.{◌≡◌, ◌+◌, ◌^◌, ◌<◌, ◌≤◌, length, map, All, IfErr, IfOk};
+ghost use Rattle.owner_lock.specs.Known.{whole_share};
+ghost use Rattle.owner_house.specs.House.{house_of};
+ghost use Rattle.session_core.specs.Code.{AreFresh, ArePasses};
+ghost use Rattle.session_core.specs.Worked.{HaveAddedNone};
+ghost use Rattle.service_workers.specs.Services.{IsService, door_of};
+
+use crate::crew::{bring_in, hire_all, work};
+use crate::posting::{Posting, Service};
+use answer_path::Desk;
+use fz_outside::words::Streams;
+use outside_disks::disk::Disk;
+use outside_doors::door::Doors;
+use outside_links::gate::Gate;
+use owner_house::house::House;
+use session_core::passes::Passes;
+use std::alloc::{AllocError, Global};
+use std::sync::Wait;
+use std::thread::Threads;
+
+/// So many workers serve connections, each those of the door at its place. All memory but that of the sessions themselves is taken before
+/// they begin.
+///
+/// A worker ends behind a fault of its door, and behind a session that had no memory; it goes on behind a connection that failed, or
+/// that gave too many bytes.
+pub fn serve_all<
+    R: Threads + Wait + Sync,
+    D: Disk + Send,
+    S: Streams + Sync,
+    G: Gate + Sync,
+    O: Doors + Drop + Send,
+>(
+    rt: &R,
+    alloc: Global,
+    house: &House,
+    desks: &[Desk<D>],
+    passes: &mut Passes<D>,
+    streams: &S,
+    gate: &G,
+    doors: &mut Vec<O>,
+    posting: &Posting<'_>,
+    workers: usize,
+) -> Result<Service, AllocError>
+where
+    S::W: Send,
+    O::L: Send,
+    requires workers { (0 < workers) × (workers ≤ 16) }
+    requires doors { workers ≤ length doors.old.items }
+    requires ports { posting.now.port + workers ≤ 2 ^ 16 }
+    requires some { 0 < posting.now.each }
+    requires here { passes.old.locks ≡ desks.now }
+    requires passes { ArePasses (house_of house.now) passes.old.knows }
+    requires fresh { AreFresh (house_of house.now) passes.old.knows }
+    requires shares { All (λ s. s ≡ whole_share) passes.old.shares }
+    // Each worker's sessions, at its door and by its passes; what all of them added is the passes' own.
+    ensures service { IfOk result (λ end. IsService (house_of house.now) (S.given streams.now) workers posting.now.each end
+        (map (λ d. door_of (O.coming d) (O.served d) (O.faults d)) doors.old.items) (map (λ d. door_of (O.coming d) (O.served d) (O.faults d)) doors.new.items)
+        passes.old.knows passes.new.knows) }
+    ensures refused { IfErr result (λ _. HaveAddedNone (house_of house.now) passes.old.knows passes.new.knows) }
+    ensures untouched { IfErr result (λ _. doors.new.items ≡ doors.old.items) }
+    ensures passes { ArePasses (house_of house.now) passes.new.knows }
+    // All shares are back.
+    ensures back { (passes.new.locks ≡ passes.old.locks) × All (λ s. s ≡ whole_share) passes.new.shares }
+{
+    let owners = passes.len();
+    prove!(owners == desks.len());
+    let mut crew = Vec::with_capacity(alloc, workers)?;
+    match hire_all(alloc, desks, passes, doors, workers, &mut crew) {
+        Ok(()) => {
+            work(rt, alloc, house, desks, streams, gate, posting, &mut crew);
+            Ok(bring_in(desks, passes, doors, crew))
+        }
+        Err(refusal) => {
+            bring_in(desks, passes, doors, crew);
+            Err(refusal)
+        }
+    }
+}
