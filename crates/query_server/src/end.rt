@@ -20,7 +20,7 @@ pub enum Status {
     Refused,
     /// 4: an owner's journal is refused.
     JournalRefused,
-    /// 5: files, source or sink have failed.
+    /// 5: files, source, sink or a door have failed.
     Fault,
     /// 6: the bay has failed, or an owner's disk as its journal was opened or made.
     DiskFault,

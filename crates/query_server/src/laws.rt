@@ -60,7 +60,7 @@ pub fn valid_commands_end_well()
     ensures { ValidCommandsEndWell }
 {}
 
-/// What is loaded for a run, an init or an audit is lawful, and its key has 32 bytes.
+/// What is loaded for a run, a service, an init or an audit is lawful, and its key has 32 bytes.
 pub fn what_is_loaded_is_lawful()
     ensures { WhatIsLoadedIsLawful }
 {}
