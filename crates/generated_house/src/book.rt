@@ -13,14 +13,15 @@ use journal_records::records::Header;
 use outside_disks::memory::{Limits, MemDisk};
 use std::alloc::{AllocError, Global};
 
-// More than it takes to write a journal of such a capacity and to read it: zeros, a header, and four calls for each record.
+// As much as it takes to make a journal of such a capacity and to fill it. Its areas have fewer than three times the capacity's slots in
+// all, each of which is written once, and read once where it is copied; a record is two writes and two syncs.
 fn limits_of(capacity: u32) -> Limits
     requires { capacity ≤ 200000 }
 {
     Limits {
-        length: 64 * capacity + 128,
-        calls: 6 * capacity + 32,
-        written: 128 * capacity + 1024,
+        length: 192 * capacity + 128,
+        calls: 10 * capacity + 512,
+        written: 256 * capacity + 8192,
     }
 }
 
