@@ -1,6 +1,8 @@
 -- A journal that was just made has no records, so the book has the entry and nothing else.
-use Rattle.std.proofs.Common.{◌≡◌, ℕ, ◌≤◌, List, [], Option, Some, None, refl, sym, ◌∙◌, ap, subst}
+use Rattle.std.proofs.Common.{◌≡◌, ℕ, zero, suc, ◌^◌, ◌<◌, ◌≤◌, List, [], slice_index, Option, Some, None, refl, sym, ◌∙◌, ap, subst, arith}
+use Rattle.std.specs.Prelude.{replicate}
 use Rattle.outside_disks.specs.Disks.{Trace, WhereTold, seen_of}
+use Rattle.journal_records.specs.Encoding.{IsHeader}
 use Rattle.journal_records.specs.declared.records.Header.{Header}
 use Rattle.journal_records.specs.declared.records.Record.{Record}
 use Rattle.budget_core.specs.Entries.{Entry, IsEntry}
@@ -16,6 +18,23 @@ none_found header found None u rest told = absurd rest
 none_found header found (Some t) None rest told = absurd told
 none_found header found (Some t) (Some u) rest (is, at) =
     stands-one header found [] (seen_of u) at.stands (subst (λ (w : Trace). Stands header [] (seen_of w)) (sym is) rest.stands)
+
+all_zero : (n i : ℕ) → slice_index (replicate n 0) i < 256
+all_zero zero i = omega arith
+all_zero (suc n) zero = omega arith
+all_zero (suc n) (suc i) = all_zero n i
+
+-- a header of owner 0, without a digest
+abbrev pub header_with : (budget capacity : ℕ) → Header
+header_with budget capacity = record { owner = 0; budget = budget; capacity = capacity; digest = replicate 32 0 }
+
+pub header_lawful : (budget capacity : ℕ) → budget < 2 ^ 64 → capacity < 2 ^ 32 → IsHeader (header_with budget capacity)
+header_lawful budget capacity budget_fits capacity_fits = record {
+  owner = omega arith;
+  budget = budget_fits;
+  capacity = capacity_fits;
+  digest = (refl, all_zero 32);
+}
 
 -- the entry, by whatever names its parts have
 abbrev pub entry_with : (budget capacity : ℕ) (keys : List ℕ) → Entry

@@ -26,7 +26,7 @@ fn limits_of(capacity: u32) -> Limits
 }
 
 /// The book of so many asks, which has no records yet.
-#[tactic(auto, using(crate::proofs::Books::opened, crate::proofs::Books::entry_lawful_with))]
+#[tactic(auto, using(crate::proofs::Books::entry_lawful_with))]
 pub fn generated_book(alloc: Global, asks: u32) -> Result<Book<MemDisk<'static>>, AllocError>
     requires asks { (1 ≤ asks) × (asks ≤ most_asks) }
     ensures ledger { IfOk result (λ book. book.ledger ≡ record { entry = entry_for asks; found = []; records = [] }) }
@@ -47,9 +47,9 @@ pub fn generated_book(alloc: Global, asks: u32) -> Result<Book<MemDisk<'static>>
     };
     let mut disk = MemDisk::new(alloc, &[], limits_of(header.capacity), &[])?;
     // The disk is empty and has room for all of this, so it doesn't fail.
-    if Journal::init(&mut disk, &header).is_err() {
+    let Ok(()) = Journal::init(&mut disk, &header) else {
         return Err(AllocError);
-    }
+    };
     match Book::open(alloc, disk, entry, &header) {
         Ok(book) => Ok(book),
         Err(_) => Err(AllocError),
