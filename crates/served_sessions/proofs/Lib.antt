@@ -1,3 +1,4 @@
 mod Splits
 mod Runs
+mod Services
 mod Examples

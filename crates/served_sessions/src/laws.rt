@@ -1,7 +1,10 @@
 //! The laws. Each function does nothing: its contract is the law.
 
-ghost use Rattle.std.specs.Prelude.{◌≡◌, ℕ, ◌<◌, ◌≤◌, true, Bool, List, [], ◌∷◌, ◌++◌, length, take, slice_get, Option, Some};
+ghost use Rattle.std.specs.Prelude.{◌≡◌, ℕ, ◌<◌, ◌≤◌, true, Bool, List, [], ◌∷◌, ◌++◌, length, take, slice_get, Option, Some, IfSome};
 ghost use mathlib.Core.List.{IsPrefix};
+ghost use Rattle.word_streams.specs.Draws.{draws_of};
+ghost use Rattle.outside_disks.specs.Disks.{Leaves, Passes, Shown, WhereTold, noted};
+ghost use Rattle.outside_disks.specs.Disks.Step.{Synced};
 ghost use Rattle.journal_records.specs.declared.records.Header.{Header};
 ghost use Rattle.journal_records.specs.declared.records.Record.{Record};
 ghost use Rattle.budget_journal.specs.Journals.{Stands};
@@ -10,18 +13,32 @@ ghost use Rattle.budget_core.specs.Legal.{MayFollow};
 ghost use Rattle.budget_ledger.specs.declared.failure.Failure.{Failure};
 ghost use Rattle.owner_desk.specs.Passes.{Pass, records_told};
 ghost use Rattle.owner_house.specs.Owner.{Owner};
-ghost use Rattle.owner_house.specs.House.{AreOwners, House};
+ghost use Rattle.wire_lines.specs.Reply.{refused as refused_reply};
+ghost use Rattle.wire_lines.specs.Refusal.{by_disk};
+ghost use Rattle.wire_lines.specs.declared.refusal.DiskRefusal.{DiskRefusal};
+ghost use Rattle.wire_lines.specs.declared.refusal.DiskRefusal.TheVariants.{Fault as DiskFault};
+ghost use Rattle.owner_house.specs.House.{AreOwners, House, house_of};
+ghost use Rattle.answer_path.specs.Demand.{asks};
+ghost use Rattle.answer_path.specs.Query.{Query};
+ghost use Rattle.answer_path.specs.Shut.{IsPendingOf};
+ghost use Rattle.session_core.specs.Headline.{AreFound, Programs};
+ghost use Rattle.session_core.specs.Meant.{wants};
+ghost use Rattle.session_core.specs.Turns.{meant_at};
+ghost use Rattle.catalog_loading.specs.Loaded.{IsLoading, Loading, header_of, owners_in};
+ghost use Rattle.query_server.specs.Shelves.{Shelf};
+ghost use Rattle.query_server.specs.Serve.{WereHeld};
 ghost use Rattle.owner_history.specs.Sound.{IsFound};
 ghost use Rattle.session_core.specs.Exchanges.{Exchange, told_of};
 ghost use Rattle.session_core.specs.Transcript.{Journals};
 ghost use Rattle.session_core.specs.Gathered.{AreGathered, AreShut, one_worker};
 ghost use Rattle.session_core.specs.Code.{found_by};
 ghost use Rattle.successive_runs.specs.Left.{IsLeft};
-ghost use Rattle.successive_runs.specs.Kept.{KeepThePromise};
-ghost use Rattle.successive_runs.specs.Life.{Run, IsRun};
+ghost use Rattle.successive_runs.specs.Kept.{KeepThePromise, MayBeGoneOnFrom};
+ghost use Rattle.successive_runs.specs.Life.{Run, IsRun, none_sent};
 ghost use Rattle.held_sessions.specs.Sittings.{Sitting, all_exchanges, is_sent};
 ghost use Rattle.held_sessions.specs.Kept.{AreHeld, AreShifts};
 ghost use Rattle.served_sessions.specs.Runs.{AreServiceRuns, AreStopped, IsStoppedBehind, MayAllFollow, records_upto, run_of};
+ghost use Rattle.served_sessions.specs.Services.{IsLeftOfService, ItsDiskFailed};
 
 /// What a stop leaves behind so many of one worker's lines: the records up to there with some of those that are told next, whatever part
 /// of a line's they are; all records with one whose append failed; and of a file that has gone on since then, what it stands for.
@@ -75,4 +92,31 @@ pub fn served_runs_keep_the_promise()
     ensures later { (house : House) (draws : ℕ → ℕ → ℕ → ℕ) (o : ℕ) (owner : Owner) (found : List Record) (earlier : List (List ℕ)) →
         (runs : List Run) (last : List Record) → AreOwners house → slice_get house.owners o ≡ Some owner → IsFound owner (draws o) earlier found →
         AreServiceRuns house draws o found runs last → KeepThePromise house draws o owner found earlier runs last }
+{}
+
+/// A service is a run of each owner's, by however many workers, and however it ended: each file that a stop may have left since an owner's
+/// journal was opened stands for records that the run leaves, and each that a stop leaves now for such as it leaves whichever replies were
+/// sent by then. Where programs explain what it found, each such file stands for records that programs explain which begin with these.
+/// A query is refused for its owner's disk (42 or 52) only where that disk's count of faults rose meanwhile; of a line that is told 52 it
+/// is its own record that may stand in the journal behind the others.
+pub fn services_are_runs()
+    ensures runs { (loading : Loading) (key : List ℕ) (workers : ℕ) (old new : Shelf) (found : Journals) → IsLoading loading →
+        (were : WereHeld loading key workers old new found) → (o : ℕ) (owner : Owner) (before after : Shown) →
+        slice_get (house_of loading.register).owners o ≡ Some owner → old o ≡ Some before → new o ≡ Some after →
+        WhereTold (Passes (λ bytes. IsLeftOfService loading key workers old new found were o owner none_sent bytes))
+        (noted Synced before.trace) after.trace
+        × IfSome after.trace (Leaves (λ bytes. (sent : ℕ → Bool) → IsLeftOfService loading key workers old new found were o owner sent bytes)) }
+    ensures go_on { (loading : Loading) (key : List ℕ) (workers : ℕ) (old new : Shelf) (found : Journals) (earlier : Programs) → IsLoading loading →
+        AreFound (house_of loading.register) (draws_of key) earlier found → WereHeld loading key workers old new found →
+        (o : ℕ) (owner : Owner) (before after : Shown) → slice_get (house_of loading.register).owners o ≡ Some owner →
+        old o ≡ Some before → new o ≡ Some after →
+        WhereTold (Passes (λ bytes. MayBeGoneOnFrom owner (draws_of key o) (header_of loading key o) (earlier o) bytes)) (noted Synced before.trace) after.trace
+        × IfSome after.trace (Leaves (λ bytes. MayBeGoneOnFrom owner (draws_of key o) (header_of loading key o) (earlier o) bytes)) }
+    ensures causes { (loading : Loading) (key : List ℕ) (workers : ℕ) (old new : Shelf) (found : Journals) → IsLoading loading →
+        (were : WereHeld loading key workers old new found) → (k o : ℕ) (x : Exchange) (owner : Owner) (query : Query) (refusal : DiskRefusal) →
+        o < owners_in loading → slice_get were.held.exchanges k ≡ Some x →
+        meant_at (house_of loading.register) x.turn ≡ wants o owner (asks query) → x.reply ≡ refused_reply (by_disk refusal) →
+        ItsDiskFailed loading key workers old new found were o
+        × (refusal ≡ DiskFault → (failure : Failure) × (were.over.closed o ≡ Some failure)
+        × IsPendingOf owner (draws_of key o) query x.told failure.pending) }
 {}

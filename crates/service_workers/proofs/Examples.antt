@@ -56,7 +56,7 @@ no_worker : worst_of [] ≡ Served
 no_worker = refl
 
 -- the first worker's door failed, the second served all
-ends : ℕ → Service
+abbrev ends : ℕ → Service
 ends zero = DoorFault
 ends (suc i) = Served
 

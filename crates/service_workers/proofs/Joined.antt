@@ -85,6 +85,7 @@ module _ {A : Type 0} (pass : A → Bundle) (end : A → Service) (house : House
   pub all_served : (result : Service) → result ≡ worst_of (map end crew) → length after.knows ≡ length main.knows → length new ≡ length old → drop count new ≡ drop count old
       → ((o : ℕ) (owner : Owner) → slice_get house.owners o ≡ Some owner → ((pass_at main.knows o).own ≡ []) × HasTakenAll (pass_at main.knows o) (map (λ w. pass_at (pass w).knows o) crew) (pass_at after.knows o))
       → IsService house draws count each result old new main.knows after.knows
+  unfolding brought_in
   all_served result worst long as_many left taken = record {
     sittings = picks.0;
     lasts = lasts;

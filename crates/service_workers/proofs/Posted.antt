@@ -1,10 +1,11 @@
 -- Doors given to workers, and put back in front of those that are left; and what the workers' ends come to.
-use Rattle.std.proofs.Common.{◌≡◌, ◌≢◌, ℕ, zero, suc, ◌+◌, ◌<◌, ◌≤◌, List, [], ◌∷◌, ◌++◌, length, get_or, take, drop, map, refl, sym, ap, ◌∙◌, arith, append_assoc, length-append}
+use Rattle.std.proofs.Common.{◌≡◌, ◌≢◌, ℕ, zero, suc, ◌+◌, ◌<◌, ◌≤◌, List, [], ◌∷◌, ◌++◌, length, get_or, take, drop, map, Option, refl, sym, ap, ◌∙◌, arith, append_assoc, length-append}
 use Rattle.std.proofs.lemmas.List.{length-map, map-append}
 use Rattle.std.proofs.Math.Seq.{drop-append_seam}
 use Rattle.service_workers.specs.declared.posting.Service.{Service}
 use Rattle.service_workers.specs.declared.posting.Service.TheVariants.{Served, DoorFault, NoMemory}
-use Rattle.service_workers.specs.Services.{Door, ComesTo, door_at}
+use Rattle.outside_links.specs.Links.{Connection}
+use Rattle.service_workers.specs.Services.{Door, ComesTo, door_at, door_of}
 use Rattle.service_workers.specs.Code.{worse_of, worst_of}
 
 -- the first of some doors is taken
@@ -24,6 +25,10 @@ doors_back door first now after taken more last is put before = put ∙ ap (λ d
 
 pub worst_step : {A : Type 0} (end : A → Service) (now after : Service) (taken more : List A) (last : A) → more ≡ last ∷ taken → after ≡ worse_of now (end last) → now ≡ worst_of (map end taken) → after ≡ worst_of (map end more)
 worst_step end now after taken more last is one before = one ∙ ap (λ w. worse_of w (end last)) before ∙ ap (λ ws. worst_of (map end ws)) (sym is)
+
+-- what a door shows, by what its calls say
+abbrev pub shown_by : {B : Type 0} → (coming back : B → Option (List Connection)) → (faults : B → ℕ) → B → Door
+shown_by coming back faults one = door_of (coming one) (back one) (faults one)
 
 module _ {A B : Type 0} (door : A → B) (show : B → Door) where
   -- a worker's door is the one at its place
@@ -58,19 +63,19 @@ comes_step Served Served n ends is all = here
 comes_step Served DoorFault n ends is all = (here, 0, omega arith, is)
   where
     here : (i : ℕ) → i < suc n → ends i ≢ NoMemory
-    here zero lt no = cc (is, no)
-    here (suc i) lt no = cc (all i (omega (arith, lt)), no)
+    here zero lt wrong = cc (is, wrong)
+    here (suc i) lt wrong = cc (all i (omega (arith, lt)), wrong)
 comes_step Served NoMemory n ends is all = (0, omega arith, is)
 comes_step DoorFault Served n ends is some = (here, suc some.1, omega (arith, some.2), some.3)
   where
     here : (i : ℕ) → i < suc n → ends i ≢ NoMemory
-    here zero lt no = cc (is, no)
-    here (suc i) lt no = some.0 i (omega (arith, lt)) no
+    here zero lt wrong = cc (is, wrong)
+    here (suc i) lt wrong = some.0 i (omega (arith, lt)) wrong
 comes_step DoorFault DoorFault n ends is some = (here, suc some.1, omega (arith, some.2), some.3)
   where
     here : (i : ℕ) → i < suc n → ends i ≢ NoMemory
-    here zero lt no = cc (is, no)
-    here (suc i) lt no = some.0 i (omega (arith, lt)) no
+    here zero lt wrong = cc (is, wrong)
+    here (suc i) lt wrong = some.0 i (omega (arith, lt)) wrong
 comes_step DoorFault NoMemory n ends is some = (0, omega arith, is)
 comes_step NoMemory next n ends is some = (suc some.0, omega (arith, some.1), some.2)
 

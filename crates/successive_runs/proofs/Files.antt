@@ -13,7 +13,6 @@ use Rattle.journal_records.specs.declared.records.Record.{Record}
 use Rattle.budget_journal.specs.Journals.{Stands}
 use Rattle.budget_journal.proofs.One.{stands-one}
 use Rattle.budget_core.specs.Entries.{Entry}
-use Rattle.budget_core.specs.Legal.{MayFollow}
 use Rattle.budget_ledger.specs.Account.{IsMoment, IsKeptNow}
 use Rattle.budget_ledger.specs.declared.failure.Failure.{Failure}
 use Rattle.owner_house.specs.Owner.{Owner}
@@ -26,20 +25,20 @@ use Rattle.session_core.specs.Code.{IsAnalyst}
 use Rattle.session_core.specs.Meant.{wants}
 use Rattle.session_core.specs.Turns.{Turn, meant_at, turns_of}
 use Rattle.session_core.specs.Exchanges.{Exchange}
-use Rattle.session_core.specs.Gathered.{part_of, AreGathered}
+use Rattle.session_core.specs.Gathered.{part_of, AreGathered, AreShut}
 use Rattle.session_core.specs.Transcript.{Journals, first_new}
 use Rattle.session_core.proofs.Turns.{turns_known}
 use Rattle.session_laws.specs.Growing.{IsMetOn}
 use Rattle.session_laws.proofs.Growing.{growing}
 use Rattle.session_laws.proofs.Listed.{mapped_at, place_of_all}
 use Rattle.session_laws.proofs.Locals.{part_has}
-use Rattle.catalog_loading.specs.Loaded.{IsLoading, Loading, entry_at, header_of}
-use Rattle.query_server.specs.Shelves.{Shelf}
+use Rattle.catalog_loading.specs.Loaded.{IsLoading, Loading, entry_at, header_of, owners_in}
+use Rattle.query_server.specs.Shelves.{Shelf, EachDisk}
 use Rattle.query_server.specs.Run.{IsScriptAnswered, WentOn}
 use Rattle.successive_runs.specs.Left.{IsLeft}
-use Rattle.successive_runs.specs.Life.{IsRun, none_sent}
+use Rattle.successive_runs.specs.Life.{Run, IsRun, none_sent}
 use Rattle.successive_runs.specs.Kept.{MayBeGoneOnFrom}
-use Rattle.successive_runs.specs.Script.{run_of, IsLeftOf}
+use Rattle.successive_runs.specs.Script.{IsLeftOf}
 use Rattle.successive_runs.proofs.Ran.{gone_on}
 
 pub moment_stands : (header : Header) (found records : List Record) (closed : Option Failure) (bytes : List ℕ) → IsMoment header found records closed bytes
@@ -88,63 +87,91 @@ kept_has_all header found records (Some failure) begins (Some t) kept = λ bytes
     either bytes (inl stands) = record { left = records; stands = stands; leaves = inl (begins, prefix_self records); all = prefix_self records }
     either bytes (inr stands) = record { left = records ++ failure.pending ∷ []; stands = stands; leaves = inr (failure, refl, refl); all = prefix_by records (failure.pending ∷ []) }
 
+-- ---- lines that were answered over an owner's disk, as a run
+
+module _ (house : House) (draws : ℕ → ℕ → ℕ → ℕ) (count : ℕ) (crew : ℕ → ℕ) (o : ℕ) (owner : Owner) (found : List Record) (xs : List Exchange) (records : List Record) (closed : Option Failure) (header : Header)
+    (before after : Shown) (speaks : (place : ℕ) (x : Exchange) → slice_get xs place ≡ Some x → IsAnalyst house x.turn.who) (all : AreGathered house draws count crew o found xs records)
+    (shut : AreShut house draws count crew o xs closed) (went : WentOn owner.entry header found records closed before after) where
+  abbrev the_run : (sent : ℕ → Bool) (left : List Record) → Run
+  the_run sent left = record { count = count; crew = crew; exchanges = xs; records = records; closed = closed; sent = sent; left = left }
+
+  abbrev Left : (sent : ℕ → Bool) → (bytes : List ℕ) → Type 0
+  Left sent bytes = (left : List Record) × Stands header left bytes × IsRun house draws o owner found (the_run sent left)
+
+  is_run : (sent : ℕ → Bool) (left : List Record) → IsLeft found records closed left → ((place : ℕ) → sent place ≡ true → IsPrefix records left) → IsRun house draws o owner found (the_run sent left)
+  is_run sent left leaves kept = record {
+    speakers = speaks;
+    gathered = all;
+    shut = shut;
+    follows = went.follows;
+    leaves = leaves;
+    kept = λ place x asked demand sends there meant. met_on_all house draws count crew o found xs records left all (kept place sends) place x asked demand there meant;
+  }
+
+  moment_left : (bytes : List ℕ) → IsMoment header found records closed bytes → Left none_sent bytes
+  moment_left bytes moment =
+      let m = moment_stands header found records closed bytes moment in
+      (m.0, m.1, is_run none_sent m.0 m.2 (λ place sends. absurd (cc (sends))))
+
+  end_left : (bytes : List ℕ) → HasAll header found records closed bytes → (sent : ℕ → Bool) → Left sent bytes
+  end_left bytes h sent = (h.left, h.stands, is_run sent h.left h.leaves (λ place sends. h.all))
+
+  pub lines_are_runs : WhereTold (Passes (Left none_sent)) (noted Synced before.trace) after.trace × IfSome after.trace (Leaves (λ bytes. (sent : ℕ → Bool) → Left sent bytes))
+  lines_are_runs = (
+    told_weaker (IsMoment header found records closed) (Left none_sent) moment_left (noted Synced before.trace) after.trace went.moments,
+    leaves_weaker (HasAll header found records closed) (λ bytes. (sent : ℕ → Bool) → Left sent bytes) end_left after.trace (kept_has_all header found records closed went.begins after.trace went.kept),
+  )
+
+  module _ (at : slice_get house.owners o ≡ Some owner) (inside : IsOwnerIn house owner) (earlier : List (List ℕ)) (f : IsFound owner (draws o) earlier found) where
+    left_may : (bytes : List ℕ) → Left none_sent bytes → MayBeGoneOnFrom owner (draws o) header earlier bytes
+    left_may bytes (left, stands, r) =
+        let g = gone_on house draws o owner found earlier (the_run none_sent left) at inside f r left r.leaves in
+        (left, g.programs, stands, g.goes_on, g.explained)
+
+    pub lines_may_be_gone_on : WhereTold (Passes (MayBeGoneOnFrom owner (draws o) header earlier)) (noted Synced before.trace) after.trace × IfSome after.trace (Leaves (MayBeGoneOnFrom owner (draws o) header earlier))
+    lines_may_be_gone_on = (
+      told_weaker (Left none_sent) (MayBeGoneOnFrom owner (draws o) header earlier) left_may (noted Synced before.trace) after.trace lines_are_runs.0,
+      leaves_weaker (λ bytes. (sent : ℕ → Bool) → Left sent bytes) (MayBeGoneOnFrom owner (draws o) header earlier) (λ bytes l. left_may bytes (l none_sent)) after.trace lines_are_runs.1,
+    )
+
+-- An owner's disk is as it was shown, and its entry is the owner's.
+pub its_disk : (loading : Loading) (key : List ℕ) (old new : Shelf) (found records : Journals) (closed : ℕ → Option Failure) → IsLoading loading
+    → EachDisk (owners_in loading) (λ o. WentOn (entry_at loading o) (header_of loading key o) (found o) (records o) (closed o)) old new
+    → (o : ℕ) (owner : Owner) (before after : Shown) → slice_get (house_of loading.register).owners o ≡ Some owner → old o ≡ Some before → new o ≡ Some after
+    → WentOn owner.entry (header_of loading key o) (found o) (records o) (closed o) before after
+its_disk loading key old new found records closed lawful disks o owner before after at was is =
+    let within = in_catalog loading.register lawful.register o (slice_get_within (house_of loading.register).owners o owner at) in
+    let w = disks.owned o before within was in
+    let both : Some w.0 ≡ Some after = sym w.1 ∙ is in
+    let same : w.0 ≡ after = cc (both) in
+    subst (λ (e : Entry). WentOn e (header_of loading key o) (found o) (records o) (closed o) before after) (entry_said loading.register o owner at)
+    (subst (λ (s : Shown). WentOn (entry_at loading o) (header_of loading key o) (found o) (records o) (closed o) before s) same w.2)
+
+-- ---- an answered script
+
 module _ (loading : Loading) (key : List ℕ) (workers : ℕ) (old new : Shelf) (found : Journals) (script text : List ℕ) (lawful : IsLoading loading)
     (done : IsScriptAnswered loading key workers old new found script text) (o : ℕ) (owner : Owner) (before after : Shown)
     (at : slice_get (house_of loading.register).owners o ≡ Some owner) (was : old o ≡ Some before) (is : new o ≡ Some after) where
-  abbrev house : House
-  house = house_of loading.register
+  abbrev script_house : House
+  script_house = house_of loading.register
 
-  abbrev header : Header
-  header = header_of loading key o
+  abbrev ScriptLeft : (sent : ℕ → Bool) → (bytes : List ℕ) → Type 0
+  ScriptLeft sent bytes = IsLeftOf loading key workers old new found script text done o owner sent bytes
 
-  abbrev Left : (sent : ℕ → Bool) → (bytes : List ℕ) → Type 0
-  Left sent bytes = IsLeftOf loading key workers old new found script text done o owner sent bytes
+  speaker : (place : ℕ) (x : Exchange) → slice_get done.exchanges place ≡ Some x → IsAnalyst script_house x.turn.who
+  speaker place x there = place_of_all (λ (t : Turn). IsAnalyst script_house t.who) (turns_of script_house script) (turns_known script_house script) place x.turn
+      (ap (λ (w : List Turn). slice_get w place) (sym done.gathered.turns) ∙ mapped_at (λ (y : Exchange). y.turn) done.exchanges place x there)
 
-  went : WentOn (entry_at loading o) header (found o) (done.records o) (done.closed o) before after
-  went =
-      let within = in_catalog loading.register lawful.register o (slice_get_within house.owners o owner at) in
-      let w = done.disks.owned o before within was in
-      let both : Some w.0 ≡ Some after = sym w.1 ∙ is in
-      let same : w.0 ≡ after = cc (both) in
-      subst (λ (s : Shown). WentOn (entry_at loading o) header (found o) (done.records o) (done.closed o) before s) same w.2
+  disk : WentOn owner.entry (header_of loading key o) (found o) (done.records o) (done.closed o) before after
+  disk = its_disk loading key old new found done.records done.closed lawful done.disks o owner before after at was is
 
-  is_run : (sent : ℕ → Bool) (left : List Record) → IsLeft (found o) (done.records o) (done.closed o) left → ((place : ℕ) → sent place ≡ true → IsPrefix (done.records o) left)
-      → IsRun house (draws_of key) o owner (found o) (run_of loading key workers old new found script text done o sent left)
-  is_run sent left leaves all = record {
-    speakers = λ place x there. place_of_all (λ (t : Turn). IsAnalyst house t.who) (turns_of house script) (turns_known house script) place x.turn
-        (ap (λ (w : List Turn). slice_get w place) (sym done.gathered.turns) ∙ mapped_at (λ (y : Exchange). y.turn) done.exchanges place x there);
-    gathered = done.gathered.owners o owner at;
-    shut = done.shut o owner at;
-    follows = λ failure closes. subst (λ (e : Entry). MayFollow e (done.records o) failure.pending) (entry_said loading.register o owner at) (went.follows failure closes);
-    leaves = leaves;
-    kept = λ place x asked demand sends there meant.
-        met_on_all house (draws_of key) workers done.crew o (found o) done.exchanges (done.records o) left (done.gathered.owners o owner at) (all place sends) place x asked demand there meant;
-  }
+  pub runs_of : WhereTold (Passes (ScriptLeft none_sent)) (noted Synced before.trace) after.trace × IfSome after.trace (Leaves (λ bytes. (sent : ℕ → Bool) → ScriptLeft sent bytes))
+  runs_of =
+      lines_are_runs script_house (draws_of key) workers done.crew o owner (found o) done.exchanges (done.records o) (done.closed o) (header_of loading key o) before after speaker (done.gathered.owners o owner at) (done.shut o owner at) disk
 
-  moment_left : (bytes : List ℕ) → IsMoment header (found o) (done.records o) (done.closed o) bytes → Left none_sent bytes
-  moment_left bytes moment =
-      let m = moment_stands header (found o) (done.records o) (done.closed o) bytes moment in
-      (m.0, m.1, is_run none_sent m.0 m.2 (λ place sends. absurd (cc (sends))))
-
-  end_left : (bytes : List ℕ) → HasAll header (found o) (done.records o) (done.closed o) bytes → (sent : ℕ → Bool) → Left sent bytes
-  end_left bytes h sent = (h.left, h.stands, is_run sent h.left h.leaves (λ place sends. h.all))
-
-  pub runs_of : WhereTold (Passes (Left none_sent)) (noted Synced before.trace) after.trace × IfSome after.trace (Leaves (λ bytes. (sent : ℕ → Bool) → Left sent bytes))
-  runs_of = (
-    told_weaker (IsMoment header (found o) (done.records o) (done.closed o)) (Left none_sent) moment_left (noted Synced before.trace) after.trace went.moments,
-    leaves_weaker (HasAll header (found o) (done.records o) (done.closed o)) (λ bytes. (sent : ℕ → Bool) → Left sent bytes) end_left after.trace
-        (kept_has_all header (found o) (done.records o) (done.closed o) went.begins after.trace went.kept),
-  )
-
-  module _ (earlier : List (List ℕ)) (f : IsFound owner (draws_of key o) earlier (found o)) where
-    left_may : (bytes : List ℕ) → Left none_sent bytes → MayBeGoneOnFrom owner (draws_of key o) header earlier bytes
-    left_may bytes (left, stands, r) =
-        let inside : IsOwnerIn house owner = register_owners loading.register lawful.register o owner at in
-        let g = gone_on house (draws_of key) o owner (found o) earlier (run_of loading key workers old new found script text done o none_sent left) at inside f r left r.leaves in
-        (left, g.programs, stands, g.goes_on, g.explained)
-
-    pub may_be_gone_on : WhereTold (Passes (MayBeGoneOnFrom owner (draws_of key o) header earlier)) (noted Synced before.trace) after.trace × IfSome after.trace (Leaves (MayBeGoneOnFrom owner (draws_of key o) header earlier))
-    may_be_gone_on = (
-      told_weaker (Left none_sent) (MayBeGoneOnFrom owner (draws_of key o) header earlier) left_may (noted Synced before.trace) after.trace runs_of.0,
-      leaves_weaker (λ bytes. (sent : ℕ → Bool) → Left sent bytes) (MayBeGoneOnFrom owner (draws_of key o) header earlier) (λ bytes l. left_may bytes (l none_sent)) after.trace runs_of.1,
-    )
+  pub may_be_gone_on : (earlier : List (List ℕ)) → IsFound owner (draws_of key o) earlier (found o)
+      → WhereTold (Passes (MayBeGoneOnFrom owner (draws_of key o) (header_of loading key o) earlier)) (noted Synced before.trace) after.trace
+      × IfSome after.trace (Leaves (MayBeGoneOnFrom owner (draws_of key o) (header_of loading key o) earlier))
+  may_be_gone_on earlier f =
+      lines_may_be_gone_on script_house (draws_of key) workers done.crew o owner (found o) done.exchanges (done.records o) (done.closed o) (header_of loading key o) before after speaker (done.gathered.owners o owner at) (done.shut o owner at) disk
+      at (register_owners loading.register lawful.register o owner at) earlier f

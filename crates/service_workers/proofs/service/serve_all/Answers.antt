@@ -7,9 +7,8 @@ use Rattle.session_core.specs.Code.{pass_at}
 use Rattle.script_workers.specs.Crews.{HasTakenAll}
 use Rattle.script_workers.proofs.Brought.{sum_same}
 use Rattle.script_workers.proofs.Back.{all_back, handed_passes, none_brought, owner_within, passes_back, same_locks, some_of, whole_enough}
-use Rattle.service_workers.specs.Services.{door_of}
 use Rattle.service_workers.specs.Code.{worst_of}
-use Rattle.service_workers.proofs.Posted.{as_many, others_left, room_for}
+use Rattle.service_workers.proofs.Posted.{as_many, others_left, room_for, shown_by}
 use Rattle.service_workers.proofs.Joined.{all_served, attended_at}
 use Rattle.service_workers.proofs.service.serve_all.Goals as goal
 
@@ -43,16 +42,16 @@ bring_in-requires-clause-room g c =
       ap length written,
       c.work.ensures.len,
       ap length c.deref_mut.ensures.value,
-      room_for (λ w. w.door) (λ d. door_of (g.O.Doors.coming d) (g.O.Doors.served d) (g.O.Doors.faults d)) _ _ c.hire_all.new.crew.items c.args.doors.now.cap c.in-Ok.ensures.doors
+      room_for (λ w. w.door) (shown_by g.O.Doors.coming g.O.Doors.served g.O.Doors.faults) _ _ c.hire_all.new.crew.items c.args.doors.now.cap c.in-Ok.ensures.doors
           (omega (arith, c.args.doors.now.ok.0, c.args.doors.now.ok.1)),
       c.in-Ok.ensures.capacity,
     )
 
-pub bring_in-in-Err-requires-clause-room : goal.bring_in-in-Err-requires-clause-room
-bring_in-in-Err-requires-clause-room g c =
+pub bring_in-requires-in-Err-clause-room : goal.bring_in-requires-in-Err-clause-room
+bring_in-requires-in-Err-clause-room g c =
     omega (
       arith,
-      room_for (λ w. w.door) (λ d. door_of (g.O.Doors.coming d) (g.O.Doors.served d) (g.O.Doors.faults d)) _ _ c.hire_all.new.crew.items c.args.doors.now.cap c.in-Err.ensures.doors
+      room_for (λ w. w.door) (shown_by g.O.Doors.coming g.O.Doors.served g.O.Doors.faults) _ _ c.hire_all.new.crew.items c.args.doors.now.cap c.in-Err.ensures.doors
           (omega (arith, c.args.doors.now.ok.0, c.args.doors.now.ok.1)),
       c.in-Err.ensures.capacity,
     )
@@ -73,7 +72,7 @@ returns-in-Ok-clause-service g c =
     let all : length first ≡ count = ap length value ∙ c.in-Ok.ensures.len in
     let many : length crew ≡ count = c.work.ensures.len ∙ all in
     let d = some_of crew (omega (arith, many, c.requires.workers.0)) in
-    let show = λ o. door_of (g.O.Doors.coming o) (g.O.Doors.served o) (g.O.Doors.faults o) in
+    let show = shown_by g.O.Doors.coming g.O.Doors.served g.O.Doors.faults in
     let before = c.in-Ok.ensures.doors ∙ ap (λ ws. map (λ w. w.door) ws ++ rest) (sym value) in
     let after = c.bring_in.ensures.doors ∙ ap (λ ws. map (λ w. w.door) ws ++ rest) written in
     let long : length main.knows ≡ length c.args.desks.now = c.len-owners.ensures.each_has.1 ∙ ap length c.requires.here in

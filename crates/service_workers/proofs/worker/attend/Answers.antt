@@ -1,3 +1,4 @@
+use Rattle.std.proofs.Common.{refl}
 use Rattle.service_workers.proofs.Attending.{attended_from, unattended}
 use Rattle.service_workers.proofs.worker.attend.Goals as goal
 
@@ -7,4 +8,4 @@ returns-in-Ok-clause-attended g c =
 
 pub returns-in-Err-clause-attended : goal.returns-in-Err-clause-attended
 returns-in-Err-clause-attended g c =
-    unattended _ _ _ _ _ _ _ _ _ _ c.requires.some c.in-Err.ensures.coming c.in-Err.ensures.served c.in-Err.ensures.cause.later (c.in-Err.ensures.cause.failed tt)
+    unattended _ _ _ _ _ _ _ _ _ _ c.requires.some c.in-Err.ensures.coming c.in-Err.ensures.served c.in-Err.ensures.cause.later (c.in-Err.ensures.cause.failed refl)

@@ -11,7 +11,7 @@ pub returns-in-Err-clause-attended : goal.returns-in-Err-clause-attended
 returns-in-Err-clause-attended g c =
     let failed = c.in-Err.ensures.failed in
     attended_failing _ _ _ c.loop-number.number _ _ _ _ _ _ c.loop-number.invariant.so_far (omega (arith, c.loop-number-test.true)) failed.0 failed.1
-    c.in-Err.ensures.cause.later (c.in-Err.ensures.cause.failed tt) (ap (λ (b : Bundle). b.knows) failed.2)
+    c.in-Err.ensures.cause.later (c.in-Err.ensures.cause.failed refl) (ap (λ (b : Bundle). b.knows) failed.2)
 
 pub returns-then-wanted-clause-attended : goal.returns-then-wanted-clause-attended
 returns-then-wanted-clause-attended g c =
