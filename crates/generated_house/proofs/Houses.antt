@@ -1,5 +1,5 @@
 -- The generated catalog is lawful, and the rows are those of its table.
-use Rattle.std.proofs.Common.{◌≡◌, ℕ, zero, suc, ◌+◌, ◌*◌, ◌%◌, ◌<◌, ◌≤◌, List, [], ◌∷◌, ◌++◌, length, map, refl, sym, ◌∙◌, ap, subst, arith, codes, length-append}
+use Rattle.std.proofs.Common.{◌≡◌, ℕ, zero, suc, ◌+◌, ◌*◌, ◌%◌, ◌≤◌, [], ◌∷◌, ◌++◌, length, map, refl, sym, ◌∙◌, ap, subst, arith, codes, length-append}
 use Rattle.std.specs.Prelude.{ℤ, pos}
 use Rattle.std.specs.List.{All, IsDistinct}
 use Rattle.std.proofs.lemmas.List.{length-map, map-append}
@@ -11,8 +11,7 @@ use Rattle.fz_lexer.specs.Bytes.{is_digit, is_letter, is_name_byte}
 use Rattle.fz_lexer.specs.Words.{spelling}
 use Rattle.metric_values.specs.Tables.{IsDataset}
 use Rattle.metric_values.specs.Typed.{TypedFlat}
-use Rattle.metric_values.specs.Values.{Flat, NumF}
-use Rattle.table_store.specs.Schema.{IsSchema}
+use Rattle.metric_values.specs.Values.{NumF}
 use Rattle.budget_core.specs.Entries.{IsEntry}
 use Rattle.owner_catalog.specs.Entries.{Catalog, owner_signature}
 use Rattle.owner_catalog.specs.Forms.{is_catalog_name, is_file_byte, is_file_name, is_reserved, is_table_name}

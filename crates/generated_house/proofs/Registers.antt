@@ -1,5 +1,5 @@
 -- What the house is made of is what was to be made.
-use Rattle.std.proofs.Common.{◌≡◌, ℕ, zero, suc, ◌≤◌, List, [], ◌∷◌, slice_get, Option, Some, refl, sym, ◌∙◌, ap, subst, arith}
+use Rattle.std.proofs.Common.{◌≡◌, ℕ, zero, suc, ◌≤◌, List, [], ◌∷◌, slice_get, Some, refl, sym, ◌∙◌, ap, subst, arith}
 use Rattle.std.proofs.lemmas.Option.{slice_get_within}
 use Rattle.metric_values.specs.Tables.{Dataset, IsDataset}
 use Rattle.owner_catalog.specs.Entries.{Catalog, OwnerEntry, owner_entry_at, owner_signature}
