@@ -3,7 +3,6 @@ use Rattle.std.proofs.Common.{◌≡◌, ℕ, suc, ◌+◌, List, Option, Some, 
 use Rattle.std.specs.Prelude.{ℤ, pos, ◌+ℤ◌, is_some, is_none}
 use Rattle.std.proofs.lemmas.Int.{ints}
 use mathlib.Core.Logic.{inl, inr}
-use Rattle.journal_records.specs.declared.records.Outcome.{Outcome}
 use Rattle.journal_records.specs.declared.records.Outcome.TheVariants.{Answered, Exhausted}
 use Rattle.journal_records.specs.declared.records.Record.{Record}
 use Rattle.budget_core.specs.Counts.{outcome_of}
@@ -75,6 +74,19 @@ pub one_exhausted : (records : List Record) (n answered exhausted : ℕ) (sum : 
     → CountFor records (n + 1) answered (exhausted + 1) sum
 one_exhausted records n answered exhausted sum so_far told noises settled =
     counted_none noises n answered exhausted sum (so_far noises settled) (exhausted_with (noises n) (settled n Exhausted told))
+
+-- the same by whatever names the new counts have
+pub answered_more : (records : List Record) (n answered exhausted : ℕ) (sum : ℤ) (told : Option ℤ) (answer : ℤ) (a e : ℕ) (s : ℤ) → CountFor records n answered exhausted sum
+    → TellsOutcome told (outcome_of records n) → told ≡ Some answer → a ≡ answered + 1 → e ≡ exhausted → s ≡ sum +ℤ answer → CountFor records (n + 1) a e s
+answered_more records n answered exhausted sum told answer a e s so_far tells is a_is e_is s_is noises settled =
+    let k = one_answered records n answered exhausted sum answer so_far (subst (λ (t : Option ℤ). TellsOutcome t (outcome_of records n)) is tells) noises settled in
+    record { answered_are = a_is ∙ k.answered_are; exhausted_are = e_is ∙ k.exhausted_are; sum_is = s_is ∙ k.sum_is }
+
+pub exhausted_more : (records : List Record) (n answered exhausted : ℕ) (sum : ℤ) (told : Option ℤ) (a e : ℕ) (s : ℤ) → CountFor records n answered exhausted sum
+    → TellsOutcome told (outcome_of records n) → told ≡ None → a ≡ answered → e ≡ exhausted + 1 → s ≡ sum → CountFor records (n + 1) a e s
+exhausted_more records n answered exhausted sum told a e s so_far tells is a_is e_is s_is noises settled =
+    let k = one_exhausted records n answered exhausted sum so_far (subst (λ (t : Option ℤ). TellsOutcome t (outcome_of records n)) is tells) noises settled in
+    record { answered_are = a_is ∙ k.answered_are; exhausted_are = e_is ∙ k.exhausted_are; sum_is = s_is ∙ k.sum_is }
 
 -- none yet
 pub none_counted : (records : List Record) → CountFor records 0 0 0 (pos 0)

@@ -5,7 +5,7 @@ use Rattle.generated_house.specs.Sizes.{row_count}
 use Rattle.generated_run.specs.Tally.{tally_by}
 
 -- number 0 has the noise 2, number 1 has none, and each number behind them -1
-noises : ℕ → Option ℤ
+abbrev noises : ℕ → Option ℤ
 noises zero = Some (pos 2)
 noises (suc zero) = None
 noises (suc (suc n)) = Some (negsuc 0)

@@ -2,22 +2,24 @@
 use Rattle.std.proofs.Common.{◌≡◌, ℕ, zero, suc, ◌==◌, Bool, true, false, List, [], ◌∷◌, length, map, slice_get, Option, Some, None, if◌then◌else◌, refl, sym, ◌∙◌, ap, subst, arith, codes, eqb-true}
 use Rattle.std.specs.Prelude.{ℤ, pos, ◌+ℤ◌}
 use Rattle.std.specs.List.{AllByRecursion}
-use mathlib.Core.Logic.{◌⊎◌, inl, inr}
+use mathlib.Core.Logic.{inl, inr}
 use Rattle.word_streams.specs.Draws.{draws_of}
 use Rattle.journal_records.specs.declared.records.Outcome.{Outcome}
 use Rattle.journal_records.specs.declared.records.Outcome.TheVariants.{Answered}
 use Rattle.journal_records.specs.declared.records.Record.{Record}
+use Rattle.journal_records.specs.declared.records.Settlement.{Settlement}
 use Rattle.journal_records.specs.declared.records.Record.TheVariants.{Reserve, Settle}
-use Rattle.journal_records.specs.Records.{settling}
+use Rattle.journal_records.specs.Records.{number_or_zero, outcome_in, settlement_in, settling}
 use Rattle.partition_charge.specs.declared.view.View.TheVariants.{Whole}
 use Rattle.budget_core.specs.Counts.{outcome_of}
 use Rattle.budget_core.specs.Entries.{Entry}
+use Rattle.metric_values.specs.Numbers.{clamp}
 use Rattle.metric_values.specs.Tables.{Dataset}
+use Rattle.metric_values.specs.Values.{NumV}
 use Rattle.part_views.specs.Views.{rows_in, signature_in}
 use Rattle.owner_catalog.specs.Entries.{owner_signature}
 use Rattle.owner_house.specs.Owner.{Owner}
 use Rattle.owner_house.specs.House.{House, Register, house_of}
-use Rattle.wire_lines.specs.Lines.{lines_of}
 use Rattle.wire_lines.specs.Refusal.{by_line}
 use Rattle.wire_lines.specs.declared.refusal.LineRefusal.TheVariants.{NoHello}
 use Rattle.wire_lines.specs.Reply.{Replied, ended, greeted, refused}
@@ -95,13 +97,15 @@ module _ (seed many : ℕ) where
   abbrev dataset : Dataset
   dataset = rows_of_seed seed ∷ []
 
-  has_size : HasValue (owner_signature (owner_for many)) dataset size_people (pos (length (rows_of_seed seed)))
-  unfolding HasValue
-  has_size = (size_term, size_reads, (2, (rows_of_seed seed, refl, refl)))
+  has_size : HasValue (owner_signature (owner_for many)) dataset size_people (pos row_count)
+  unfolding HasValue row_count
+  has_size =
+      let long : NumV (pos row_count) ≡ NumV (clamp (pos (length (rows_of_seed seed)))) = sym (ap (λ (n : ℕ). NumV (clamp (pos n))) (rows_long seed)) in
+      (size_term, size_reads, (2, (rows_of_seed seed, refl, long)))
 
   worth : (analyst : ℕ) (value : ℤ) → HasWorthIn owner (the_query analyst) value → value ≡ pos row_count
   unfolding rows_in signature_in
-  worth analyst value has = one_value (owner_signature (owner_for many)) dataset size_people value (pos (length (rows_of_seed seed))) has has_size ∙ ap pos (rows_long seed)
+  worth analyst value has = one_value (owner_signature (owner_for many)) dataset size_people value (pos row_count) has has_size
 
   settled_with : (analyst : ℕ) (noise : Option ℤ) (outcome : Outcome) → IsSettledAt (HasWorthIn owner (the_query analyst)) noise outcome → IsOutcomeOf noise outcome
   settled_with analyst None outcome is = is
@@ -112,14 +116,15 @@ module _ (seed many : ℕ) where
 settled_at : (records : List Record) (n : ℕ) (outcome : Outcome) → outcome_of records n ≡ Some outcome → (p : ℕ) × (slice_get records p ≡ Some (settling n outcome))
 settled_at [] n outcome is = absurd (cc (is))
 settled_at (Reserve r ∷ records) n outcome is = let rest = settled_at records n outcome is in (suc rest.0, rest.1)
-settled_at (Settle s ∷ records) n outcome is = either (n == s.number) refl is
+settled_at (Settle s ∷ records) n outcome is = either (n == s.number) refl (settled_at records n outcome) is
   where
-    either : (b : Bool) → (n == s.number) ≡ b → (if b then Some s.outcome else outcome_of records n) ≡ Some outcome → (p : ℕ) × (slice_get (Settle s ∷ records) p ≡ Some (settling n outcome))
-    either true same is =
+    either : (b : Bool) → (n == s.number) ≡ b → (outcome_of records n ≡ Some outcome → (p : ℕ) × (slice_get records p ≡ Some (settling n outcome)))
+        → (if b then Some s.outcome else outcome_of records n) ≡ Some outcome → (p : ℕ) × (slice_get (Settle s ∷ records) p ≡ Some (settling n outcome))
+    either true same rest is =
         let number : n ≡ s.number = eqb-true n s.number same in
         let so : s.outcome ≡ outcome = cc (is) in
         (0, ap (λ (k : ℕ). Some (settling k s.outcome)) (sym number) ∙ ap (λ (o : Outcome). Some (settling n o)) so)
-    either false same is = let rest = settled_at records n outcome is in (suc rest.0, rest.1)
+    either false same rest is = let later = rest is in (suc later.0, later.1)
 
 -- the line of an exchange is one of the script's
 line_at : (xs : List Exchange) (j : ℕ) (x : Exchange) → AllByRecursion IsLine (map (λ (t : Turn). t.line) (map (λ (y : Exchange). y.turn) xs)) → slice_get xs j ≡ Some x → IsLine x.turn.line
@@ -141,8 +146,9 @@ module _ (seed many workers : ℕ) (records : List Record) (a : IsAnsweredOver (
   told : (query : Query) (analyst : ℕ) (x : Exchange) (p n : ℕ) (outcome : Outcome) → the_query analyst ≡ query → (by : IsReservedBy (draws 0) (the_owner seed many) [] records query x)
       → Settles (draws 0) (the_owner seed many) [] records query x by p n outcome → IsOutcomeOf (noise_of_seed seed n) outcome
   told query analyst x p n outcome of by s =
-      let number : by.grant.number ≡ n = cc (s.is) in
-      let so : s.done.outcome ≡ outcome = cc (s.is) in
+      let number : by.grant.number ≡ n = sym (ap (λ (r : Record). number_or_zero (λ (t : Settlement). t.number) (settlement_in r)) s.is) in
+      let outcomes : Some outcome ≡ Some s.done.outcome = ap outcome_in s.is in
+      let so : s.done.outcome ≡ outcome = cc (outcomes) in
       let settles : IsSettledBy (the_owner seed many) (draws 0) (the_query analyst) n outcome
       = subst (λ (q : Query). IsSettledBy (the_owner seed many) (draws 0) q n outcome) (sym of)
       (subst (λ (k : ℕ). IsSettledBy (the_owner seed many) (draws 0) query k outcome) number

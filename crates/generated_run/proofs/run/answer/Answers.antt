@@ -1,4 +1,4 @@
-use Rattle.std.proofs.Common.{◌≡◌, ◌∙◌, List, [], length, ap, sym, subst, arith}
+use Rattle.std.proofs.Common.{◌≡◌, ◌∙◌, ap, sym, subst, arith}
 use Rattle.word_streams.specs.Draws.{draws_of}
 use Rattle.std.specs.List.{All}
 use Rattle.owner_lock.specs.Known.{whole_share}

@@ -1,4 +1,4 @@
-use Rattle.std.proofs.Common.{◌≡◌, sym, subst, arith}
+use Rattle.std.proofs.Common.{sym, subst, arith}
 use Rattle.owner_desk.specs.Passes.{Pass}
 use Rattle.session_core.specs.Code.{IsClosedWith}
 use Rattle.generated_run.proofs.Closing.{many_passes, only_pass, own_desk, own_knows, own_share}
@@ -7,8 +7,8 @@ use Rattle.generated_run.proofs.run.close.Goals as goal
 pub unreachable-requires : goal.unreachable-requires
 unreachable-requires g c = omega (arith, c.requires.one, c.in_default.ensures.cases)
 
-pub unreachable-requires-2 : goal.unreachable-requires-2
-unreachable-requires-2 g c =
+pub unreachable-requires-in_default-pop : goal.unreachable-requires-in_default-pop
+unreachable-requires-in_default-pop g c =
     omega (arith, many_passes c.into_vec-each.result.items c.args.passes c.args.desks.items c.into_vec-each.ensures c.requires.here c.requires.one, c.in_default-pop.ensures.cases)
 
 pub close-requires-clause-here : goal.close-requires-clause-here

@@ -1,4 +1,4 @@
-use Rattle.std.proofs.Common.{◌≡◌, ◌∙◌, ap}
+use Rattle.std.proofs.Common.{◌∙◌, ap}
 use Rattle.budget_core.specs.Ledger.{Ledger}
 use Rattle.generated_run.specs.Tally.{noise_of_seed}
 use Rattle.generated_run.proofs.Settling.{entry_is, one_owner, settled_as}
