@@ -13,15 +13,16 @@ use journal_records::records::Header;
 use outside_disks::memory::{Limits, MemDisk};
 use std::alloc::{AllocError, Global};
 
-// As much as it takes to make a journal of such a capacity and to fill it. Its areas have fewer than three times the capacity's slots in
-// all, each of which is written once, and read once where it is copied; a record is two writes and two syncs.
+// More than it takes to make a journal of such a capacity, to read it and to fill it. Its areas have less than three times as many slots
+// together: the last one no more, and those before it less than twice as many, since each is half of the next. A slot is written once,
+// read at most once where it is copied, and filled by four calls.
 fn limits_of(capacity: u32) -> Limits
     requires { capacity ≤ 200000 }
 {
     Limits {
         length: 192 * capacity + 128,
         calls: 10 * capacity + 512,
-        written: 256 * capacity + 8192,
+        written: 256 * capacity + 1024,
     }
 }
 
