@@ -1,6 +1,7 @@
 //! The crew of workers: hired, at work, and brought in.
 
 ghost use Rattle.std.specs.Prelude.{◌≡◌, ◌+◌, ◌++◌, ◌^◌, ◌<◌, ◌≤◌, [], ◌∷◌, ℕ, length, map, sum_by, All, IfErr, IfOk, OnOk, get_or, slice_index_or, vec_capacity};
+ghost use Rattle.word_streams.specs.Draws.{draws_of};
 ghost use Rattle.owner_house.specs.House.{house_of};
 ghost use Rattle.session_core.specs.Bundles.{given_halves, handed_on, kept_halves};
 ghost use Rattle.session_core.specs.Code.{ArePasses, pass_at};
@@ -11,7 +12,6 @@ ghost use Rattle.service_workers.specs.Code.{HasAttended, worse_of, worst_of};
 use crate::posting::{Posting, Service};
 use crate::worker::{Place, Worker, attend_own};
 use answer_path::Desk;
-use fz_outside::words::Streams;
 use outside_disks::disk::Disk;
 use outside_doors::door::Doors;
 use outside_links::gate::Gate;
@@ -21,6 +21,7 @@ use session_core::server::Server;
 use std::alloc::{AllocError, Global};
 use std::sync::Wait;
 use std::thread::{self, Threads};
+use word_streams::KeyStreams;
 
 /// The most workers.
 pub(crate) const MOST_WORKERS: usize = 16;
@@ -80,11 +81,11 @@ pub(crate) fn hire_all<D: Disk, O: Drop>(
     Ok(())
 }
 
-/// Each worker attends its door, in a thread of its own.
+/// Each worker attends its door, in a thread of its own. The words of noise are of one type: a check that values may go to a thread is
+/// found for one type with a type of its own, and not yet for two.
 pub(crate) fn work<
     R: Threads + Wait + Sync,
     D: Disk + Send,
-    S: Streams + Sync,
     G: Gate + Sync,
     O: Doors + Drop + Send,
 >(
@@ -92,13 +93,12 @@ pub(crate) fn work<
     alloc: Global,
     house: &House,
     desks: &[Desk<D>],
-    streams: &S,
+    streams: &KeyStreams,
     gate: &G,
     posting: &Posting<'_>,
     crew: &mut [Worker<Token<D>, O>],
 )
 where
-    S::W: Send,
     O::L: Send,
     requires some { (0 < length crew.old) × (length crew.old ≤ 16) }
     requires ports { posting.now.port + length crew.old ≤ 2 ^ 16 }
@@ -107,7 +107,7 @@ where
     requires passes { (i : ℕ) (d : _) → i < length crew.old → ArePasses (house_of house.now) (slice_index_or crew.old i d).passes.knows }
     ensures len { length crew.new ≡ length crew.old }
     ensures attended { (i : ℕ) (d : _) → i < length crew.old →
-        HasAttended (house_of house.now) (S.given streams.now) posting.now.each (slice_index_or crew.new i d).end
+        HasAttended (house_of house.now) (draws_of streams.now) posting.now.each (slice_index_or crew.new i d).end
         (door_of (O.coming (slice_index_or crew.old i d).door) (O.served (slice_index_or crew.old i d).door) (O.faults (slice_index_or crew.old i d).door))
         (door_of (O.coming (slice_index_or crew.new i d).door) (O.served (slice_index_or crew.new i d).door) (O.faults (slice_index_or crew.new i d).door))
         (slice_index_or crew.old i d).passes.knows (slice_index_or crew.new i d).passes.knows }
@@ -118,7 +118,7 @@ where
     let job = |index: usize, worker: &mut Worker<Token<D>, O>|
         requires { (index < count) × (count ≤ 16) × (posting.now.port + count ≤ 2 ^ 16) × (0 < posting.now.each)
             × (worker.old.passes.locks ≡ desks.now) × ArePasses (house_of house.now) worker.old.passes.knows }
-        ensures { HasAttended (house_of house.entry.now) (S.given streams.entry.now) posting.entry.now.each worker.new.end
+        ensures { HasAttended (house_of house.entry.now) (draws_of streams.entry.now) posting.entry.now.each worker.new.end
             (door_of (O.coming worker.old.door) (O.served worker.old.door) (O.faults worker.old.door))
             (door_of (O.coming worker.new.door) (O.served worker.new.door) (O.faults worker.new.door))
             worker.old.passes.knows worker.new.passes.knows

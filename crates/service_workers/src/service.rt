@@ -2,6 +2,7 @@
 
 ghost use Rattle.std.specs.Prelude.{◌≡◌, ◌+◌, ◌^◌, ◌<◌, ◌≤◌, length, map, All, IfErr, IfOk};
 ghost use Rattle.owner_lock.specs.Known.{whole_share};
+ghost use Rattle.word_streams.specs.Draws.{draws_of};
 ghost use Rattle.owner_house.specs.House.{house_of};
 ghost use Rattle.session_core.specs.Code.{AreFresh, ArePasses};
 ghost use Rattle.session_core.specs.Worked.{HaveAddedNone};
@@ -10,7 +11,6 @@ ghost use Rattle.service_workers.specs.Services.{IsService, door_of};
 use crate::crew::{bring_in, hire_all, work};
 use crate::posting::{Posting, Service};
 use answer_path::Desk;
-use fz_outside::words::Streams;
 use outside_disks::disk::Disk;
 use outside_doors::door::Doors;
 use outside_links::gate::Gate;
@@ -19,32 +19,26 @@ use session_core::passes::Passes;
 use std::alloc::{AllocError, Global};
 use std::sync::Wait;
 use std::thread::Threads;
+use word_streams::KeyStreams;
 
 /// So many workers serve connections, each those of the door at its place. All memory but that of the sessions themselves is taken before
 /// they begin.
 ///
 /// A worker ends behind a fault of its door, and behind a session that had no memory; it goes on behind a connection that failed, or
 /// that gave too many bytes.
-pub fn serve_all<
-    R: Threads + Wait + Sync,
-    D: Disk + Send,
-    S: Streams + Sync,
-    G: Gate + Sync,
-    O: Doors + Drop + Send,
->(
+pub fn serve_all<R: Threads + Wait + Sync, D: Disk + Send, G: Gate + Sync, O: Doors + Drop + Send>(
     rt: &R,
     alloc: Global,
     house: &House,
     desks: &[Desk<D>],
     passes: &mut Passes<D>,
-    streams: &S,
+    streams: &KeyStreams,
     gate: &G,
     doors: &mut Vec<O>,
     posting: &Posting<'_>,
     workers: usize,
 ) -> Result<Service, AllocError>
 where
-    S::W: Send,
     O::L: Send,
     requires workers { (0 < workers) × (workers ≤ 16) }
     requires doors { workers ≤ length doors.old.items }
@@ -55,7 +49,7 @@ where
     requires fresh { AreFresh (house_of house.now) passes.old.knows }
     requires shares { All (λ s. s ≡ whole_share) passes.old.shares }
     // Each worker's sessions, at its door and by its passes; what all of them added is the passes' own.
-    ensures service { IfOk result (λ end. IsService (house_of house.now) (S.given streams.now) workers posting.now.each end
+    ensures service { IfOk result (λ end. IsService (house_of house.now) (draws_of streams.now) workers posting.now.each end
         (map (λ d. door_of (O.coming d) (O.served d) (O.faults d)) doors.old.items) (map (λ d. door_of (O.coming d) (O.served d) (O.faults d)) doors.new.items)
         passes.old.knows passes.new.knows) }
     ensures refused { IfErr result (λ _. HaveAddedNone (house_of house.now) passes.old.knows passes.new.knows) }

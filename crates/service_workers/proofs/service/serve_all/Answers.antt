@@ -1,5 +1,6 @@
 use Rattle.std.proofs.Common.{rules, ◌≡◌, ◌+◌, ◌++◌, ◌<◌, List, length, get_or, map, take, drop, take_at, sym, refl, ap, ◌∙◌, subst, arith}
 use Rattle.std.specs.Prelude.{sum_by}
+use Rattle.word_streams.specs.Draws.{draws_of}
 use Rattle.owner_house.specs.House.{house_of}
 use Rattle.owner_desk.specs.Passes.{Pass}
 use Rattle.session_core.specs.Bundles.{Bundle}
@@ -59,7 +60,7 @@ bring_in-requires-in-Err-clause-room g c =
 pub returns-in-Ok-clause-service : goal.returns-in-Ok-clause-service
 returns-in-Ok-clause-service g c =
     let house = house_of c.args.house.now in
-    let draws = g.S.Streams.given c.args.streams.now in
+    let draws = draws_of c.args.streams.now in
     let count = c.args.workers in
     let each = c.args.posting.now.each in
     let main = c.args.passes.now in
