@@ -44,6 +44,13 @@ pub last_piece : {T E : Type 0} (r : Result T E) (new before piece text : List �
 last_piece (Ok x) new before piece text is whole = is ∙ whole
 last_piece (Err x) new before piece text is whole = tt
 
+-- an owner's line, by whatever names its parts have
+pub counted_as : (old new : List ℕ) (entry e : Entry) (owner one : OwnerEntry) (found records : List Record) → e ≡ entry → one ≡ owner → records ≡ found → new ≡ old ++ counted_line e one records
+    → new ≡ old ++ counted_line entry owner found
+counted_as old new entry e owner one found records entry_is owner_is records_are is =
+    is ∙ ap (λ (x : Entry). old ++ counted_line x one records) entry_is ∙ ap (λ (x : OwnerEntry). old ++ counted_line entry x records) owner_is
+    ∙ ap (λ (x : List Record). old ++ counted_line entry owner x) records_are
+
 abbrev pub line_by : (ℕ → Entry) → Journals → ℕ × OwnerEntry → List ℕ
 line_by entries found numbered = counted_line (entries numbered.0) numbered.1 (found numbered.0)
 

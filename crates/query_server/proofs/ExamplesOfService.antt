@@ -1,4 +1,5 @@
 -- worked examples of services and of generated runs
+use Rattle.std.specs.Fmt.{digits}
 use Rattle.std.proofs.Common.{◌≡◌, ℕ, ◌<◌, ◌≤◌, List, [], ◌∷◌, refl, subst, Some, None, arith, codes, pos}
 use Rattle.std.specs.Prelude.{ℤ, negsuc}
 use Rattle.fz_outside.specs.Faults.{HasRisen, last_count}
@@ -57,9 +58,11 @@ abbrev tally : (over : ℕ) → (sum : ℤ) → Tally
 tally over sum = record { asks = 2; answered = 1; exhausted = 0; over = over; spent = 1000000; sum = sum }
 
 a_line : tally_text (tally 1 (pos 1002)) ≡ codes "asks 2 answered 1 exhausted 0 over 1 spent 1000000 sum 1002\n"
+unfolding digits
 a_line = refl
 
 a_negative_sum : tally_text (tally 0 (negsuc 4)) ≡ codes "asks 2 answered 1 exhausted 0 over 0 spent 1000000 sum -5\n"
+unfolding digits
 a_negative_sum = refl
 
 -- a door's count that rose, the second one's, and none that did

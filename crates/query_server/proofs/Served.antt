@@ -85,7 +85,7 @@ pub on_stays : (loading : Loading) (key : List ℕ) (workers each : ℕ) (old ne
     → IsServiceOn loading key workers each old new before after result → DoorsStay before after
 on_stays loading key workers each old new before after result (inl (service, over, ended)) =
     service_stays (house_of loading.register) (draws_of key) workers each service before after over.first over.last over.service
-on_stays loading key workers each old new before after result (inr (undone, written, same)) = doors_same before after same
+on_stays loading key workers each old new before after result (inr (undone, unserved)) = doors_same before after unserved.1
 
 -- what words come to
 pub on_work : (held : Option Contents) (left : Option (List ℕ)) (old new : List (List ℕ)) (steps : FileStep Work) (loading : Loading) (key : List ℕ) (workers each : ℕ) (b a : Shelf) (before after : List Door)

@@ -22,7 +22,8 @@ use Rattle.query_server.specs.Work.{Work, ended, to_serve}
 use Rattle.query_server.specs.Due.{ForContents, IsOfDoors, command_steps, work_of}
 use Rattle.query_server.specs.Shelves.{Shelf}
 use Rattle.query_server.specs.Service.{IsServedEnd, IsServiceAt, IsServiceLeft, IsServiceOver, service_status}
-use Rattle.query_server.specs.Ends.{Ended, IsEndingWith, status_at, text_at}
+use Rattle.query_server.specs.Ends.{Ended, IsEndingWith, IsStepEnd, status_at, text_at}
+use Rattle.query_server.specs.Serve.{serve_steps}
 use Rattle.query_server.specs.declared.end.Status.{Status}
 use Rattle.query_server.specs.declared.end.Status.TheVariants as code
 use Rattle.catalog_loading.specs.declared.stops.Stop.TheVariants.{Fault}
@@ -120,3 +121,18 @@ pub services_left : (words : List (List ℕ)) (held : Option Contents) (left : O
 services_left words held left b a doors now end status text sink sunk with cause =
     for_contents held left (λ reads script. IsServiceAt (work_of words reads) b a doors now end) (λ reads script. IsServiceLeft words reads b a doors now status sink sunk)
     (λ reads script at. service_left words reads b a doors now end status text sink sunk with cause at)
+
+-- ---- numbers that were handed on as a post
+
+pub posted_end : (held : Option Contents) (left : Option (List ℕ)) (old new : List (List ℕ)) (b a : Shelf) (catalog key : List ℕ) (workers n each m : ℕ) (result : Ended) → n ≡ workers → m ≡ each
+    → ForContents held left (IsStepEnd old new b a (serve_steps catalog key n m) result) → ForContents held left (IsStepEnd old new b a (serve_steps catalog key workers each) result)
+posted_end held left old new b a catalog key workers n each m result workers_are each_is h =
+    subst (λ (w : ℕ). ForContents held left (IsStepEnd old new b a (serve_steps catalog key w each) result)) workers_are
+    (subst (λ (e : ℕ). ForContents held left (IsStepEnd old new b a (serve_steps catalog key n e) result)) each_is h)
+
+pub posted_service : (held : Option Contents) (left : Option (List ℕ)) (catalog key : List ℕ) (workers n each m : ℕ) (b a : Shelf) (doors now : List Door) (result : Ended) → n ≡ workers → m ≡ each
+    → ForContents held left (λ reads script. IsServiceAt (ended (serve_steps catalog key n m reads).given) b a doors now result)
+    → ForContents held left (λ reads script. IsServiceAt (ended (serve_steps catalog key workers each reads).given) b a doors now result)
+posted_service held left catalog key workers n each m b a doors now result workers_are each_is h =
+    subst (λ (w : ℕ). ForContents held left (λ reads script. IsServiceAt (ended (serve_steps catalog key w each reads).given) b a doors now result)) workers_are
+    (subst (λ (e : ℕ). ForContents held left (λ reads script. IsServiceAt (ended (serve_steps catalog key n e reads).given) b a doors now result)) each_is h)

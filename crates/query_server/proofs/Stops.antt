@@ -45,11 +45,12 @@ stands_shown : (header : Header) (found : List Record) (now : Option Trace) (sho
 stands_shown header found now None faults on = tt
 stands_shown header found now (Some b) faults on = stands_told header found b.trace now on.0
 
+pub book_opened : (entry : Entry) (header : Header) (shown : Option Shown) (book : Account) → IsNewBook entry header shown book → IsOpened entry header (bytes_shown shown) book.ledger.found
+book_opened entry header shown book new =
+    record { stands = stands_shown header book.ledger.found book.storage.trace shown book.storage.faults new.on; history = new.history }
+
 pub pass_opened : (entry : Entry) (header : Header) (shown : Option Shown) (pass : Pass) → IsNewPass entry header shown pass → IsOpened entry header (bytes_shown shown) pass.opened.ledger.found
-pass_opened entry header shown pass new = record {
-  stands = stands_shown header pass.opened.ledger.found pass.opened.storage.trace shown pass.opened.storage.faults new.book.on;
-  history = new.book.history;
-}
+pass_opened entry header shown pass new = book_opened entry header shown pass.opened new.book
 
 pub opened_before : (loading : Loading) (key : List ℕ) (k : ℕ) (old mid : Shelf) (passes : List Pass) → ArePassesOn (entry_at loading) (header_of loading key) k old mid passes → AreOpenedBefore loading key old k
 opened_before loading key k old mid passes on p less =

@@ -1,5 +1,6 @@
 //! Asks that follow from a seed are answered in memory.
 
+ghost use Rattle.std.specs.Fmt.{signed_decimal};
 ghost use Rattle.std.specs.Prelude.{◌≡◌, ◌++◌, ◌≤◌, ℕ, List, IfOk, IsErrOf};
 ghost use Rattle.command_words.specs.Program.{greatest_asks, greatest_workers};
 ghost use Rattle.query_server.specs.Gen.{tally_text};
@@ -8,27 +9,43 @@ ghost use Rattle.query_server.specs.Shelves.{Shelf};
 ghost use Rattle.query_server.specs.Ends.{IsEndOf};
 
 use crate::end::End;
-use crate::numbers::{put_field, put_sum};
+use crate::numbers::put_field;
 use catalog_loading::Stop;
 use generated_run::{Tally, run_generated};
+use itoa::Buffer;
 use outside_links::gate::Gate;
 use std::alloc::{AllocError, Global};
 use std::sync::Wait;
 use std::thread::Threads;
+
+/// Puts the sum of the answers behind a text.
+fn put_sum(lines: &mut Vec<u8>, tally: &Tally) -> Result<(), AllocError>
+    ensures { IfOk result (λ _. lines.new.items ≡ lines.old.items ++ signed_decimal tally.now.sum) }
+{
+    let mut buffer = Buffer::new();
+    lines.extend_from_slice(buffer.format(tally.sum).as_bytes())
+}
+
+/// Puts what a generated run came to behind a text.
+fn put_tally(lines: &mut Vec<u8>, tally: &Tally) -> Result<(), AllocError>
+    ensures { IfOk result (λ _. lines.new.items ≡ lines.old.items ++ tally_text tally.now) }
+{
+    put_field(lines, b"asks ", u64::from(tally.asks))?;
+    put_field(lines, b" answered ", u64::from(tally.answered))?;
+    put_field(lines, b" exhausted ", u64::from(tally.exhausted))?;
+    put_field(lines, b" over ", u64::from(tally.over))?;
+    put_field(lines, b" spent ", tally.spent)?;
+    lines.extend_from_slice(b" sum ")?;
+    put_sum(lines, tally)?;
+    lines.extend_from_slice(b"\n")
+}
 
 /// The line of what a generated run came to.
 fn tally_line(alloc: Global, tally: &Tally) -> Result<Vec<u8>, AllocError>
     ensures { IfOk result (λ line. line.items ≡ tally_text tally.now) }
 {
     let mut line = Vec::new(alloc);
-    put_field(&mut line, b"asks ", u64::from(tally.asks))?;
-    put_field(&mut line, b" answered ", u64::from(tally.answered))?;
-    put_field(&mut line, b" exhausted ", u64::from(tally.exhausted))?;
-    put_field(&mut line, b" over ", u64::from(tally.over))?;
-    put_field(&mut line, b" spent ", tally.spent)?;
-    line.extend_from_slice(b" sum ")?;
-    put_sum(&mut line, tally.sum)?;
-    line.extend_from_slice(b"\n")?;
+    put_tally(&mut line, tally)?;
     Ok(line)
 }
 

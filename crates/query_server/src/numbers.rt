@@ -26,14 +26,6 @@ pub(crate) fn put_signed(lines: &mut Vec<u8>, n: i64) -> Result<(), AllocError>
     lines.extend_from_slice(buffer.format(n).as_bytes())
 }
 
-/// Puts a sum that may be negative behind some lines.
-pub(crate) fn put_sum(lines: &mut Vec<u8>, n: i128) -> Result<(), AllocError>
-    ensures { IfOk result (λ _. lines.new.items ≡ lines.old.items ++ signed_decimal n) }
-{
-    let mut buffer = Buffer::new();
-    lines.extend_from_slice(buffer.format(n).as_bytes())
-}
-
 /// Puts a sensitivity behind some lines.
 pub(crate) fn put_sensitivity(lines: &mut Vec<u8>, sens: Sens) -> Result<(), AllocError>
     ensures { IfOk result (λ _. lines.new.items ≡ lines.old.items ++ sensitivity_text (distance_of sens)) }

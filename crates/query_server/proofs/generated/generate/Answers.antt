@@ -12,4 +12,4 @@ pub returns-in_err-line-clause-end : goal.returns-in_err-line-clause-end
 returns-in_err-line-clause-end g c = λ shelf script. inr (inr (inl (end_passed NoMemory c.from_residual-in_err-line.result c.from_residual-in_err-line.ensures.1)), λ n. refl)
 
 pub returns-clause-end : goal.returns-clause-end
-returns-clause-end g c = λ shelf script. inl (refl, c.in_ok-line.ensures ∙ ap tally_text c.in_ok-tally.ensures, λ n. refl)
+returns-clause-end g c = λ shelf script. inl (refl, c.in_ok-line.ensures ∙ ap tally_text c.in_ok-tally.ensures.tally, λ n. refl)

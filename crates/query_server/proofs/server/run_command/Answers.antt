@@ -6,13 +6,9 @@ use Rattle.query_server.proofs.Diskless.{command_no_disk}
 use Rattle.std.specs.Prelude.{None, Err}
 use mathlib.Core.Logic.{inr}
 use Rattle.catalog_loading.specs.declared.stops.Stop.TheVariants.{NoMemory}
-use Rattle.query_server.specs.Work.{ended, to_generate}
-use Rattle.query_server.specs.Due.{ForContents}
-use Rattle.query_server.specs.Ends.{IsStepEnd}
-use Rattle.query_server.specs.Serve.{serve_steps}
-use Rattle.query_server.specs.Service.{IsServiceAt}
+use Rattle.query_server.specs.Work.{to_generate}
 use Rattle.query_server.proofs.Outcomes.{command_end, faulty_end, fileless_end, unread_end, unread_taken}
-use Rattle.query_server.proofs.Services.{doorless, listens, serve_cause, served_words, unserved_words}
+use Rattle.query_server.proofs.Services.{doorless, listens, posted_end, posted_service, serve_cause, served_words, unserved_words}
 use Rattle.query_server.proofs.server.run_command.Goals as goal
 
 pub returns-in-Err-Usage-clause-end : goal.returns-in-Err-Usage-clause-end
@@ -42,7 +38,7 @@ run_script-requires-clause-workers g c κs _ =
     in_range (map string_bytes c.args.words.now) (run r.catalog.now r.key.now r.workers) (r.ensures.read ∙ ap (λ command. Some (command_meant command)) r.field-0-is)
 
 pub new-post-requires : goal.new-post-requires
-new-post-requires g c κs _ =
+new-post-requires g c =
     let r = c.in-Ok-Serve in
     let within = in_range (map string_bytes c.args.words.now) (serve r.catalog.now r.key.now r.address.now r.port r.workers r.each) (r.ensures.read ∙ ap (λ command. Some (command_meant command)) r.field-0-is) in
     omega (arith, within.0.1)
@@ -78,9 +74,8 @@ generate-requires-clause-workers g c κs _ =
 pub returns-in-Ok-Serve-clause-end : goal.returns-in-Ok-Serve-clause-end
 returns-in-Ok-Serve-clause-end g c =
     let r = c.in-Ok-Serve in command_end _ (Some (serve r.catalog.now r.key.now r.address.now r.port r.workers r.each)) _ _ _ _ _ _ _ (r.ensures.read ∙ ap (λ command. Some (command_meant command)) r.field-0-is)
-    (subst (λ (n : ℕ). ForContents _ (g.S.Source.left c.args.source.now) (IsStepEnd _ _ _ _ (serve_steps r.catalog.now r.key.now n r.each) c.serve_doors.result)) c.new-post.ensures.workers
-    (subst (λ (n : ℕ). ForContents _ (g.S.Source.left c.args.source.now) (IsStepEnd _ _ _ _ (serve_steps r.catalog.now r.key.now c.new-post.result.workers n) c.serve_doors.result)) c.new-post.ensures.each
-    (c.serve_doors.ensures.end (g.S.Source.left c.args.source.now))))
+    (posted_end _ (g.S.Source.left c.args.source.now) _ _ _ _ r.catalog.now r.key.now _ _ _ _ c.serve_doors.result c.new-post.ensures.workers c.new-post.ensures.each
+    (c.serve_doors.ensures.end (g.S.Source.left c.args.source.now)))
 
 pub returns-in-Ok-Gen-clause-end : goal.returns-in-Ok-Gen-clause-end
 returns-in-Ok-Gen-clause-end g c =
@@ -124,11 +119,8 @@ returns-in-Ok-Serve-clause-service g c = λ listens.
     let r = c.in-Ok-Serve in
     served_words (map string_bytes c.args.words.now) (Some (serve r.catalog.now r.key.now r.address.now r.port r.workers r.each)) _ (g.S.Source.left c.args.source.now) _ _ _ _ c.serve_doors.result
     (r.ensures.read ∙ ap (λ command. Some (command_meant command)) r.field-0-is)
-    (subst (λ (n : ℕ). ForContents _ (g.S.Source.left c.args.source.now) (λ reads script. IsServiceAt (ended (serve_steps r.catalog.now r.key.now n r.each reads).given) _ _ _ _ c.serve_doors.result))
-    c.new-post.ensures.workers
-    (subst (λ (n : ℕ). ForContents _ (g.S.Source.left c.args.source.now)
-    (λ reads script. IsServiceAt (ended (serve_steps r.catalog.now r.key.now c.new-post.result.workers n reads).given) _ _ _ _ c.serve_doors.result)) c.new-post.ensures.each
-    (c.serve_doors.ensures.service (g.S.Source.left c.args.source.now))))
+    (posted_service _ (g.S.Source.left c.args.source.now) r.catalog.now r.key.now _ _ _ _ _ _ _ _ c.serve_doors.result c.new-post.ensures.workers c.new-post.ensures.each
+    (c.serve_doors.ensures.service (g.S.Source.left c.args.source.now)))
 
 pub returns-in-Ok-Check-clause-end : goal.returns-in-Ok-Check-clause-end
 returns-in-Ok-Check-clause-end g c =
