@@ -41,12 +41,22 @@ impl Gate for CountGate {
     }
 }
 
+// A door to which two connections come.
+fn greeted(alloc: Global) -> Result<MemDoors<'static>, AllocError> {
+    door_with(
+        alloc,
+        &[b"hello ann\nbye\n", b"hello bob\nleft census\n"],
+        &[],
+        &[],
+    )
+}
+
 // Three workers of two connections each, behind a gate.
-fn served<'a, R: Threads + Wait + Sync>(
+fn served<R: Threads + Wait + Sync>(
     rt: &R,
     alloc: Global,
     gate: &CountGate,
-) -> Result<(Status, Vec<MemDoors<'a>>), AllocError> {
+) -> Result<(Status, Vec<MemDoors<'static>>), AllocError> {
     let held = census_files(TABLE, "key", &KEY);
     let mut journals = empty_journals(alloc)?;
     journals.ran(rt, alloc, &["init", "cat.json", "key"], &held, b"")?;
@@ -65,15 +75,7 @@ fn served<'a, R: Threads + Wait + Sync>(
             "2",
         ],
     )?;
-    let mut first = Vec::new(alloc);
-    for _ in 0..3 {
-        first.push(door_with(
-            alloc,
-            &[b"hello ann\nbye\n", b"hello bob\nleft census\n"],
-            &[],
-            &[],
-        )?)?;
-    }
+    let first = vec![in alloc; greeted(alloc)?, greeted(alloc)?, greeted(alloc)?]?;
     let mut files = MemFiles::new(&held);
     let mut source = MemSource::new(b"");
     let mut sink = MemSink::<64>::new(alloc)?;

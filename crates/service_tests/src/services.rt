@@ -196,7 +196,7 @@ fn connections_fail(rt: HostRuntime) -> Result<(), Fail> {
         let written = outcome.written(0, 0).unwrap_or(b"none".as_slice());
         assert!(rt; REPLIES[0].starts_with(written));
         if written.len() == REPLIES[0].len() {
-            whole += 1;
+            whole = whole.saturating_add(1);
         }
     }
     assert!(rt; 0 < whole && whole < CALLS);
