@@ -129,6 +129,10 @@ MADE = [
     (nothing, "check catalog.json census", "", 2, ["`check` takes 3 words, CATALOG OWNER FILE, and 2 stand there"]),
     (nothing, f"{RUN} --workers 0", "", 2, ["`--workers 0`: `--workers` stands once, and takes a whole number from 1 to 16"]),
     (nothing, f"{RUN} --workers 17", "", 2, ["`--workers 17`: `--workers` stands once, and takes a whole number from 1 to 16"]),
+    (nothing, "gen 7", "", 2, ["`gen` takes 2 or 3 words, SEED N [WORKERS], and 1 stand there", "hitchseason gen SEED N [WORKERS]"]),
+    (nothing, "gen 4294967296 100001 17", "", 2, ["`4294967296`: SEED is a whole number from 0 to 4294967295", "`100001`: N is a whole number from 1 to "
+        "100000", "`17`: WORKERS is a whole number from 1 to 16"]),
+    (nothing, "gen -1 2", "", 2, ["`-1` begins with a hyphen and is taken for an option, which `gen` hasn't", "!a file of this name"]),
     (nothing, "audit -x key", "", 2, ["`-x` begins with a hyphen", "`audit` takes 2 words, CATALOG KEY, and 1 stand there"]),
     (nothing, "audit catalog.json $'k\\xffy'", "", 2, ["Word 2 isn't UTF-8"]),
     (nothing, "audit catalogue.json key", "", 3, ["refused catalogue.json: there is no such file in /", "Is `catalog.json` meant?"]),
@@ -224,6 +228,7 @@ MADE = [
     (nothing, RUN, "< script > /dev/full", 5, ["Standard output is /dev/full", "journals/0.bud has 4 records more than before the run, 2 of them "
         "reservations, numbers 2 to 3: these are charged, and `recall census N` tells their answers."]),
     (nothing, AUDIT, ">&-", 5, ["Standard output is closed"]),
+    (nothing, "gen 0 1", ">&-", 5, ["Standard output is closed", "!can't be read"]),
     (lambda: write("long", b"bye\n" * 10**6), RUN, "< long | head -n 1; exit ${PIPESTATUS[0]}", 5, ["Whoever reads standard output has gone", "nothing was "
         "asked"]),
     (made_file, AUDIT, "", 6, ["disk census", "`journals` is a file, where a folder belongs"]),
@@ -235,6 +240,7 @@ MADE = [
     (lambda: os.system("truncate -s 16777217 long"), RUN, "< long", 8, ["It has 16777217 bytes, and 16777216 are allowed", "nothing was asked"]),
     (nothing, RUN, "< script", 0, []),
     (nothing, CHECK, "", 0, []),
+    (nothing, "gen 0 2 2", "", 0, []),
     (lambda: write("program", b"size"), CHECK, "", 1, []),
     (nothing, f"{AUDIT} | cat", "", 0, []),
     (nothing, "check <(cat catalog.json) census <(cat program)", "", 0, []),

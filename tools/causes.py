@@ -11,6 +11,7 @@ import difflib
 import errno
 import fcntl
 import os
+import re
 import resource
 import select
 import socket
@@ -42,6 +43,8 @@ OPTIONS = {
     "--each": ("a whole number from 1 to 1000000, the connections that each worker serves", ("serve",)),
     "--addr": ("an address of this machine. It may be left out", ("serve",)),
 }
+# The words of `gen`: the least and the greatest number of each.
+GENERATED = {"SEED": (0, 2**32 - 1), "N": (1, 100_000), "WORKERS": (1, 16)}
 
 
 class Command:
@@ -107,11 +110,21 @@ def about_name(name):
         yield f"`{shown(name)}` is no command{f': is `{likely[0]}` meant?' if likely else '.'}"
 
 
+def about_numbers(found):
+    """Of `gen`: which word isn't a number of its range."""
+    for word, (name, (least, most)) in zip(found.words, GENERATED.items()):
+        if not re.fullmatch("[+]?[0-9]+", word) or not least <= int(word) <= most:
+            yield f"`{shown(word)}`: {name} is a whole number from {least} to {most}."
+
+
 def about_rest(found):
-    wanted = found.wanted()
-    if len(found.words) != len(wanted):
+    wanted, most = found.wanted(), len(COMMANDS[found.name].split()) if found.name == "gen" else 0
+    if not len(wanted) <= len(found.words) <= max(len(wanted), most):
         given = f"{len(found.words)} stand there" if found.words else "none stands there"
-        yield f"`{found.name}` takes {len(wanted)} words, {' '.join(wanted)}, and {given}."
+        takes = f"{len(wanted)} or {most} words, {COMMANDS[found.name]}" if most else f"{len(wanted)} words, {' '.join(wanted)}"
+        yield f"`{found.name}` takes {takes}, and {given}."
+    if found.name == "gen":
+        yield from about_numbers(found)
     for option in ("--port", "--each") if found.name == "serve" else ():
         if found.option(option) is None:
             yield f"`{option}` is missing: `serve` wants it."
@@ -120,10 +133,8 @@ def about_rest(found):
         if found.name in commands:
             yield f"`{shown(option)}`: `{option.replace('=', ' ', 1).split(' ')[0]}` stands once, and takes {takes}."
         else:
-            yield (
-                f"`{shown(option)}` begins with a hyphen and is taken for an option, which `{found.name}` hasn't: a file of this name is written "
-                f"`./{shown(option)}`."
-            )
+            file = "" if found.name == "gen" else f": a file of this name is written `./{shown(option)}`"
+            yield f"`{shown(option)}` begins with a hyphen and is taken for an option, which `{found.name}` hasn't{file}."
 
 
 # Files, in the program's order.
@@ -187,8 +198,10 @@ class Files:
             raise Fault(f"its entries in the two catalogs don't fit: {differing}")
 
     def all(self):
-        """A catalog that can't be read hides what is behind it."""
+        """A catalog that can't be read hides what is behind it. `gen` names no file."""
         words, name = self.command.words, self.command.name
+        if name == "gen":
+            return
         yield self.catalog(words[0])
         if not self.catalogs:
             return

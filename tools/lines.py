@@ -14,7 +14,7 @@ SCRIPT_LIMIT = 2**24
 FORMS = {
     "hello": "ANALYST", "ask": "OWNER EPS PROGRAM", "askpart": "OWNER PARTITION KEY EPS PROGRAM", "recall": "OWNER N", "left": "OWNER", "bye": "",
 }  # fmt: skip
-COMMANDS = (b"init", b"run", b"serve", b"audit", b"check", b"gap")
+COMMANDS = (b"init", b"run", b"serve", b"audit", b"check", b"gap", b"gen")
 WORDS = b"size sum fst snd least greatest let if case in then else map filter split union".split()
 
 

@@ -9,7 +9,7 @@ import re
 COMMANDS = {
     "init": "CATALOG KEY", "run": "CATALOG KEY [--workers W] < SCRIPT",
     "serve": "CATALOG KEY [--addr A] --port P [--workers W] --each N", "audit": "CATALOG KEY", "check": "CATALOG OWNER FILE",
-    "gap": "CATALOG OWNER CATALOG2 FILE",
+    "gap": "CATALOG OWNER CATALOG2 FILE", "gen": "SEED N [WORKERS]",
 }  # fmt: skip
 STATUSES = {
     0: "all was done; replies of a run may still be refusals, which are the analyst's, but for `no 42` and `no 52`",
@@ -19,7 +19,7 @@ STATUSES = {
     4: "an owner's journal isn't the one that belongs there; nothing was read of the script",
     5: "a file, standard input or standard output failed; what was written is a part of what was due, or nothing; or a port of `serve` couldn't be listened at",
     6: "the disk, or the folder `journals`, failed while an owner's journal was made or opened, or another process has that journal; nothing was asked",
-    7: "memory ran out before anything was answered",
+    7: "memory ran out before anything was answered; of `serve` and `gen` it may be later",
     8: "the script has over 2^24 bytes, and nothing of it was answered",
 }
 ENDINGS = {
@@ -86,6 +86,8 @@ LINES = {
     "recall N open N": "reservation {0} is of this very run and has no answer yet; ask again in the next run",
     "left N N N": "{0} of {1} millionths are spent",
     "ok R": "the program is accepted, at a sensitivity of {0}",
+    "asks N answered N exhausted N over N spent N sum V": "of {0} generated asks {1} were answered, {2} have no answer, since their noise took over 4096 draws, "
+        "and the budget didn't allow {3}; {4} millionths are spent, and the answers' sum is {5}",
     **REFUSALS,
 }  # fmt: skip
 PARTS = {"N": NUMBER, "W": NAME, "V": "(-?[0-9]+)", "R": "([0-9]+(?:/[0-9]+)?|inf)"}

@@ -4,6 +4,7 @@
     reference.py [--key FILE] [--catalog FILE] < SCRIPT          the transcript of a script
     reference.py --key FILE --catalog FILE --found FOLDER        the same, behind the records of the journals in FOLDER/journals
     reference.py --program [--catalog FILE] [OWNER] < PROGRAM    what is said of a program
+    reference.py --gen SEED N                                    the line of `gen SEED N`, whatever the number of its workers
     reference.py --check                                         the values that are known from outside
 
 The house is that of a catalog and its tables. Unless one is named it has the analysts ann and bob and the owner census with a
@@ -324,6 +325,53 @@ def transcript(script, house=with_rows(ROWS), draws=key_words(bytes(32)), found=
     return "".join(server.reply(line) + "\n" for line in lines_of(script))
 
 
+# Runs that are generated.
+
+GENERATED_ROWS = 1000
+GENERATED_BLOCK = 10
+ONE_EPSILON = 10**6
+GENERATED_ASK = "ask gen 1 size people\n"
+
+
+def generated_key(seed):
+    return seed.to_bytes(4, "big") * 8
+
+
+def granted(asks):
+    """How many asks the budget pays for: half of them, rounded up."""
+    return -(-asks // 2)
+
+
+def generated_line(asks, answers, exhausted):
+    """The line of a generated run, by its answers and how many asks have none."""
+    spent = granted(asks) * ONE_EPSILON
+    return f"asks {asks} answered {len(answers)} exhausted {exhausted} over {asks - granted(asks)} spent {spent} sum {sum(answers)}"
+
+
+def generated(seed, asks):
+    """The line of `gen`: whichever worker asks first, the numbers that the budget pays for are answered, each with its own noise."""
+    answers, exhausted = [], 0
+    for number in range(granted(asks)):
+        try:
+            answers.append(GENERATED_ROWS + noise(ONE_EPSILON, key_draws(generated_key(seed), 0, number)))
+        except Exhausted:
+            exhausted += 1
+    return generated_line(asks, answers, exhausted)
+
+
+def generated_by_lines(seed, asks):
+    """The same, by a server that answers each line of the script that `gen` makes: blocks of ten asks."""
+    made = read(catalog(owner("gen", budget=granted(asks) * ONE_EPSILON, capacity=max(2, 2 * asks)), analysts=("ann",)))
+    rows = [(seed + 31 * row) % 100 for row in range(GENERATED_ROWS)]
+    blocks = [min(GENERATED_BLOCK, asks - first) for first in range(0, asks, GENERATED_BLOCK)]
+    script = "".join(f"hello ann\n{GENERATED_ASK * many}bye\n" for many in blocks)
+    told = transcript(script.encode(), House(made, [{"people": rows}]), key_words(generated_key(seed))).splitlines()
+    answers = [int(line.split()[2]) for line in told if line.startswith("answer ")]
+    over = sum(line.startswith("no 40 ") for line in told)
+    assert len(answers) + over + 2 * len(blocks) == len(told) and over == asks - granted(asks)
+    return generated_line(asks, answers, 0)
+
+
 KNOWN_DRAWS = """
 903df1a0ade0b876 28bd8653e56a5d40 1aed8da0b819d2bd c70d778bccef36a8 8d4857517c5941da 374ad8b83fe02477 1ca11815f4b8436a
 8665eeb269b687c3 7a385155bee7079f 0d082d737c97ba98 6965e348a0290fcb ed7aee323e53c612 434ee69c7621b729
@@ -448,6 +496,7 @@ def check():
     ]:
         assert transcript(line.encode() + b"\n", house) == said + "\n", line
     check_found(hello, one)
+    check_generated()
     # Programs worked by hand.
     for program, said in KNOWN_PROGRAMS:
         assert judgement(program) == said, (program, judgement(program), said)
@@ -485,6 +534,15 @@ def check_found(hello, one):
     assert [record.encoded() for record in server.owners[b"census"].added] == [reservation.encoded(), Settlement(0, 1, 5).encoded()]
 
 
+def check_generated():
+    """At a key of zeros the first number's noise is 2, and of two asks the budget pays for one."""
+    assert generated(0, 1) == "asks 1 answered 1 exhausted 0 over 0 spent 1000000 sum 1002"
+    assert generated(0, 2) == "asks 2 answered 1 exhausted 0 over 1 spent 1000000 sum 1002"
+    assert generated(7, 2000).startswith("asks 2000 answered 1000 exhausted 0 over 1000 spent 1000000000 sum ")
+    for seed, asks in [(0, 1), (0, 2), (7, 9), (7, 10), (2**32 - 1, 11), (258, 41)]:
+        assert generated(seed, asks) == generated_by_lines(seed, asks), (seed, asks)
+
+
 def contents(name):
     with open(name, "rb") as file:
         return file.read()
@@ -496,11 +554,15 @@ def main():
     words.add_argument("--catalog")
     words.add_argument("--found")
     words.add_argument("--program", action="store_true")
+    words.add_argument("--gen", nargs=2, type=int)
     words.add_argument("--check", action="store_true")
     words.add_argument("owner", nargs="?", default="census")
     given = words.parse_args()
     if given.check:
         check()
+        return
+    if given.gen:
+        print(generated(*given.gen))
         return
     house = house_of(contents(given.catalog), contents) if given.catalog else with_rows(ROWS)
     if given.program:
