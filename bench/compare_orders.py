@@ -20,7 +20,7 @@ import sys
 from collections import Counter
 
 from compare_scripts import TOP, WANTED, Case, Differs, is_same
-from journal import HEAD, SLOT, Refused, Reservation, Settlement, book_of, contents
+from journal import Refused, Reservation, Settlement, appended, book_of, contents
 from orders import Wrong, blocks_of, check, judged
 from programs import deep
 from random_scripts import blocks_at_random
@@ -48,6 +48,7 @@ class Orders(Case):
         kept, said = self.kept, self.ran("run", script, words)
         self.file("found", said)
         self.kept = [contents(f"journals/{order}.bud") for order in range(len(kept))]
+        self.came["an area that was opened"] += sum(len(data) > len(before) for before, data in zip(kept, self.kept))
         self.came.update(self.judged(kept, books, script, said, self.kept, workers))
         self.counted(books, script, said.decode().splitlines(), turn)
         if self.plants:
@@ -58,9 +59,7 @@ class Orders(Case):
         analysts = len(self.house.catalog["analysts"])
         after = [book_of(data, head, entry, analysts) for data, head, entry in zip(now, self.heads, self.entries)]
         for before, data, book, new in zip(kept, now, books, after):
-            begin = HEAD + SLOT * len(book.records)
-            added = b"".join(record.encoded() for record in new.records[len(book.records) :])
-            if data != before[:begin] + added + before[begin + len(added) :]:
+            if data != appended(before, book.entry["capacity"], new.records[len(book.records) :]):
                 raise Wrong(f"the journal of {book.entry['name']} holds something else, too")
         return judged(self.house, key_words(self.key), books, after, script, said, workers, STEPS)
 
@@ -73,7 +72,7 @@ class Plants:
     """Wrong copies of what a run said and left."""
 
     def __init__(self, case, kept, books, script, said, workers):
-        self.case, self.given, self.workers, self.rng = case, (kept, books, script), workers, case.rng
+        self.case, self.given, self.workers, self.rng, self.kept = case, (kept, books, script), workers, case.rng, kept
         self.lines, self.replies, self.now = lines_of(script), said.decode().splitlines(), case.kept
         self.books, self.blocks = books, blocks_of(self.lines)
         self.answers = [at for at, reply in enumerate(self.replies) if reply.startswith("answer ")]
@@ -103,10 +102,9 @@ class Plants:
         return book.records
 
     def with_records(self, order, records):
-        """The journals with these records of one owner, and zeros behind them."""
-        kept = self.now[order]
-        written = kept[:HEAD] + b"".join(record.encoded() for record in records)
-        return [*self.now[:order], written + bytes(len(kept) - len(written)), *self.now[order + 1 :]]
+        """The journals with these records of one owner, as a run would leave them that had found its first ones."""
+        found, capacity = len(self.books[order].records), self.case.entries[order]["capacity"]
+        return [*self.now[:order], appended(self.kept[order], capacity, records[found:]), *self.now[order + 1 :]]
 
     def all(self):
         if self.answers:

@@ -4,8 +4,9 @@
 usage: bench/compare_scripts.py [COUNT [SEED [FIRST]]]     (PROGRAM=FILE compares another build than tools/build's)
 COUNT random houses (1,000 where none is said), from case FIRST (0) of SEED (1) on. Each is a catalog of 1 to 4 owners with their tables, a
 key, and 1 to 3 scripts by good and hostile analysts (random_scripts.py): `init`, then a run a script over the same journals, and `audit`.
-Before the first run a journal may be given records that runs could have left. Between runs one may be left as a stop leaves it, with its
-last record behind no gate, or a settlement be made an exhausted or a lost one. The next run finds them. Compared are, byte by byte:
+Before the first run a journal may be made an older one, of version 1, and be given records that runs could have left. Between runs one may be left
+as a stop leaves it, with its last record, or its next area, behind no gate, or a settlement be made an exhausted or a lost one. The next run finds
+them. Compared are, byte by byte:
 
 - what each of these commands writes, the second server going on behind the records that it finds in the journals;
 - each owner's journal after `init` and after each run, whole, with the records that the second server adds.
@@ -27,7 +28,7 @@ TOP = os.path.dirname(os.path.dirname(os.path.abspath(__file__)))
 PROGRAM = os.path.abspath(os.environ.get("PROGRAM", f"{TOP}/out/hitchseason"))
 KEPT = f"{TOP}/out/compare_scripts"
 sys.path.insert(0, f"{TOP}/tools")
-from journal import GATE, HEAD, SLOT, Settlement, book_of, contents, header  # noqa: E402
+from journal import GATE, SLOT, VERSION_AT, Area, Settlement, appended, area_slots, book_of, contents, header, live_area, made  # noqa: E402
 from random_scripts import house_at_random, lay_records, script_of  # noqa: E402
 from programs import deep  # noqa: E402
 from reference import Server, house_of, key_words, lines_of  # noqa: E402
@@ -42,7 +43,7 @@ WANTED = (
     + [f"no 10 {word}" for word in range(6)] + ["no 12 1", "no 12 2", "no 12 3"]
     + [f"no 30 {kind}" for kind in ("unbound", "mismatch", "notground", "notflat")]
     + [f"no {code}" for code in (11, 13, 14, 20, 21, 22, 31, 32, 33, 34, 35, 36, 37, 40, 41, 60, 61)]
-    + ["a run that goes on", "a record without its gate", "recall of an earlier run's"]
+    + ["a run that goes on", "a record without its gate", "recall of an earlier run's", "journals of version 1", "an area that was opened"]
 )  # fmt: skip
 
 
@@ -80,10 +81,10 @@ class Case:
             self.file(name, data)
         self.house = house_of(catalog, files.__getitem__)
         self.entries = self.house.catalog["owners"]
-        self.heads = [header(catalog, order, self.key, files.__getitem__) for order in range(len(self.entries))]
+        self.heads = [header(catalog, order, self.key, files.__getitem__, 2) for order in range(len(self.entries))]
         said = "".join(f"owner {entry['name']} budget {entry['budget']} capacity {entry['capacity']}\n" for entry in self.entries)
         self.same("init", self.ran("init"), said.encode())
-        self.kept = [head + bytes(SLOT * entry["capacity"]) for head, entry in zip(self.heads, self.entries)]
+        self.kept = [made(head, entry["capacity"]) for head, entry in zip(self.heads, self.entries)]
         self.same_journals()
 
     @staticmethod
@@ -132,10 +133,8 @@ class Case:
         server, lines = Server(self.house, key_words(self.key), books, STEPS), lines_of(script)
         replies = [server.reply(line) for line in lines]
         self.same(f"run {turn}", self.ran("run", script, words), "".join(reply + "\n" for reply in replies).encode())
-        for order, (book, owner) in enumerate(zip(books, server.owners.values())):
-            begin = HEAD + SLOT * len(book.records)
-            added = b"".join(record.encoded() for record in owner.added)
-            self.kept[order] = self.kept[order][:begin] + added + self.kept[order][begin + len(added) :]
+        for order, owner in enumerate(server.owners.values()):
+            self.kept[order] = self.with_records(order, owner.added)
         self.same_journals()
         self.count(server, lines, replies, turn)
 
@@ -149,31 +148,55 @@ class Case:
         self.came["runs"] += 1
         self.came["a run that goes on"] += any(owner.start for owner in server.owners.values())
 
+    def with_records(self, order, records):
+        """An owner's journal with these records behind its own."""
+        kept = self.kept[order]
+        more = appended(kept, self.entries[order]["capacity"], records)
+        self.came["an area that was opened"] += len(more) > len(kept)
+        return more
+
+    def leave(self, order, kept):
+        """A journal is this one now."""
+        self.kept[order] = bytes(kept)
+        self.file(f"journals/{order}.bud", kept)
+
     def lay(self):
-        """Some journals are given records that were there before."""
+        """Some journals are older ones, and some are given records that were there before."""
         for order, book in enumerate(self.books()):
+            capacity = self.entries[order]["capacity"]
             if self.rng.random() < 0.25:
+                head = self.heads[order]
+                self.leave(order, made(head[:VERSION_AT] + b"\1" + head[VERSION_AT + 1 :], capacity))
+                self.came["journals of version 1"] += 1
+            if self.rng.random() < (0.6 if capacity > 64 else 0.25):
                 lay_records(self.rng, book)
-                laid = b"".join(record.encoded() for record in book.records)
-                self.kept[order] = self.kept[order][:HEAD] + laid + self.kept[order][HEAD + len(laid) :]
-                self.file(f"journals/{order}.bud", self.kept[order])
+                self.leave(order, self.with_records(order, book.records))
                 self.came["journals with records that were laid"] += 1
 
     def stop(self):
         """Some journals are left as a stop leaves them, and some settlements are others."""
         for order, book in enumerate(self.books()):
-            kept, records = bytearray(self.kept[order]), len(book.records)
+            kept, records, capacity = bytearray(self.kept[order]), len(book.records), self.entries[order]["capacity"]
+            area = live_area(kept, capacity)
             settled = [k for k, record in enumerate(book.records) if isinstance(record, Settlement)]
             for k in settled:
                 if self.rng.random() < 0.25:
-                    kept[HEAD + SLOT * k : HEAD + SLOT * (k + 1)] = Settlement(book.records[k].number, self.rng.choice([2, 3])).encoded()
+                    kept[area.place(k) : area.place(k + 1)] = Settlement(book.records[k].number, self.rng.choice([2, 3])).encoded()
             if records and self.rng.random() < 0.3:
-                kept[HEAD + SLOT * (records - 1)] = self.rng.choice([0, 0, GATE ^ 0x80, 0xFF])
+                kept[area.place(records - 1)] = self.rng.choice([0, 0, GATE ^ 0x80, 0xFF])
                 self.came["a record without its gate"] += 1
-            elif records < self.entries[order]["capacity"] and self.rng.random() < 0.1:
-                kept[HEAD + SLOT * records + 1 : HEAD + SLOT * (records + 1)] = self.rng.randbytes(SLOT - 1)
-            self.kept[order] = bytes(kept)
-            self.file(f"journals/{order}.bud", kept)
+            elif records < area.slots and self.rng.random() < 0.1:
+                kept[area.place(records) + 1 : area.place(records + 1)] = self.rng.randbytes(SLOT - 1)
+            elif area.slots == records < capacity:
+                self.begin_area(kept, area, capacity)
+            self.leave(order, kept)
+
+    def begin_area(self, kept, live, capacity):
+        """Behind a full area a part of the next one, in which a stop leaves any bytes."""
+        following = Area(live.version, capacity, live.number + 1)
+        assert following.slots == area_slots(live.version, capacity, following.number) > live.slots
+        kept[live.end :] = self.rng.choice([bytes, self.rng.randbytes, lambda many: bytes([GATE] * many)])(self.rng.randint(1, SLOT * following.slots))
+        self.came["an area without its gate"] += 1
 
     def compared(self):
         runs = self.rng.choice([1, 2, 2, 3])

@@ -24,7 +24,7 @@ MOST_ANALYSTS = [f"a{number}" for number in range(62)] + ["bob", "ann"]
 MOST_KEYS = [f"k{number}" for number in range(248)] + ["B", "A"]
 CELLS = [key.encode() for key in KEYS] + [b"", b"A B", b"\xff", b"t" * 64, b"line\nend", b"\r\x00", b"it is"]
 BUDGETS = [1, 10, 1000, 10**6, 3 * 10**6, 10**7, 10**7, 10**8, 10**10, 10**18]
-CAPACITIES = [2, 3, 5, 8, 12, 16, 30, 60, 100, 200]
+CAPACITIES = [2, 3, 5, 8, 12, 16, 30, 60, 65, 100, 100, 130, 200]
 COLUMNS = ["age", "town", "nights", "num", "c_4"]
 
 
@@ -78,22 +78,24 @@ def house_at_random(rng):
 # Records.
 
 
-def reservation_at_random(rng, book):
-    """It takes the rise of the cost, and is over the budget, perhaps."""
+def reservation_at_random(rng, book, parts=(2, 10, 50)):
+    """It takes the rise of the cost, and is over the budget, perhaps; its epsilon is at most one of so many parts of the budget."""
     partitions, budget, r = book.entry["partitions"], book.entry["budget"], Fraction(rng.randint(0, 9), rng.choice([1, 1, 2, 3]))
     view = WHOLE
     if partitions and rng.random() < 0.5:
         partition = rng.randrange(len(partitions))
         view = (partition, rng.randrange(len(partitions[partition]["keys"])))
-    e = rng.randint(1, max(1, min(10**9, budget // rng.choice([2, 10, 50]))))
+    e = rng.randint(1, max(1, min(10**9, budget // rng.choice(parts))))
     made = Reservation(len(book.reserved), view, e, r.numerator, r.denominator, 0, rng.randrange(book.analysts), rng.randbytes(32))
     made.taken = book.spent_with(made) - book.spent
     return made
 
 
 def lay_records(rng, book):
-    """Reservations and settlements in any order that is allowed, some never settled."""
-    many = rng.randint(1, min(book.entry["capacity"], rng.choice([4, 20, 200])))
+    """Reservations and settlements in any order that is allowed, some never settled; of a large journal often as many as fill an area, or nearly."""
+    many, capacity = rng.choice([4, 20, 200]), book.entry["capacity"]
+    fills = capacity > 64 and rng.random() < 0.7
+    many = min(capacity, rng.choice([60, 62, 63, 64, 124, 126, 128])) if fills else rng.randint(1, min(capacity, many))
     for _ in range(2 * many):
         unsettled = [number for number in range(len(book.reserved)) if number not in book.settled]
         if unsettled and rng.random() < 0.45:
@@ -101,7 +103,7 @@ def lay_records(rng, book):
             answer = rng.choice([0, 7, -1, 2**63 - 1, -(2**63), rng.randint(-(2**50), 2**50)])
             book.add(Settlement(rng.choice(unsettled), outcome, answer if outcome == 1 else 0))
         elif len(book.records) < many:
-            book.add(reservation_at_random(rng, book))
+            book.add(reservation_at_random(rng, book, [1000] if fills else [2, 10, 50]))
         if len(book.records) == many:
             return
 

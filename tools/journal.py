@@ -266,6 +266,34 @@ def behind_closed(slot, closed):
     return f"it is open behind slot {closed}, which is closed: {gate}; {rest}"
 
 
+# Journals as the server writes them.
+
+
+def made(head, capacity):
+    """A journal with this header and no records: in version 2, as an `init` leaves it, its first area alone."""
+    return head + bytes(SLOT * area_slots(version_of(head), capacity, 0))
+
+
+def put(data, place, more):
+    """Writes bytes at a place, behind zeros where that is behind the end."""
+    data += bytes(max(0, place - len(data)))
+    data[place : place + len(more)] = more
+
+
+def appended(data, capacity, records):
+    """A journal's bytes with these records behind its own. Where all slots of the live area are taken in version 2, the next one is written first."""
+    data, area = bytearray(data), live_area(data, capacity)
+    gates = area.gates(data)
+    slot = len(gates) - len(gates.lstrip(bytes([GATE])))
+    for slot, record in enumerate(records, slot):
+        if slot == area.slots:
+            area, before = Area(area.version, capacity, area.number + 1), area
+            put(data, area.begin, data[before.begin : before.end] + bytes(SLOT * (area.slots - before.slots)))
+            data[GATES_AT + area.number] = GATE
+        put(data, area.place(slot), record.encoded())
+    return bytes(data)
+
+
 def cost(sums):
     """The whole view's charges, and for each partition its dearest part's, by the sum of each view's charges."""
     parts = {partition: max(sums[view] for view in sums if view[0] == partition) for partition, _ in sums if partition != 255}
@@ -544,6 +572,15 @@ def check_areas(entry, head, reservation, settlement):
     for data in (first, grown, first + b"\x07", with_bytes(grown, {97: 0x25}), with_bytes(grown, {127: 7, 200: 9})):
         assert len(book_of(data, head, entry, 2).records) == 2
     assert changes_since(first, grown, 100) == [] and changes_since(grown, first, 100) is None
+    # The 65th record is put in area 1, at byte 8320; what a stop left behind area 0 is written over.
+    records = [Reservation(number, WHOLE, 1, 1, 1, 1, 0, ONE) for number in range(66)]
+    full = appended(made(head, 100), 100, records[:64])
+    more = appended(full + bytes([7] * 100), 100, records[64:])
+    assert (len(full), len(more), more[97], more[8320:8384]) == (4224, 10624, GATE, records[64].encoded())
+    assert full[:97] + full[98:] == more[:97] + more[98:4224] and not any(more[8448:])
+    assert [one.encoded() for one in slots(more, 100)] == [one.encoded() for one in records]
+    old = appended(made(with_bytes(head, {9: 1}), 100), 100, records)
+    assert len(old) == 6528 and old[HEAD : HEAD + 66 * SLOT] == b"".join(one.encoded() for one in records)
     check_refusals([
         (first[:4223], "damaged 63"),
         (grown[:10623], "damaged 99"),
