@@ -2,9 +2,10 @@
 """Each call on a real journal file fails in turn, alone and with all later ones, and each is the one at which the program is killed.
 
 usage: bench/failing_disk.py     (PROGRAM=FILE tries another build than tools/build's). Needs cc.
-It counts the calls of `init`, and of a run of three asks that goes on behind one earlier answer, and then runs each again with one call
-that fails, with all from that one on, and with a kill in the place of the call (a write has then put half of its bytes). Judged by
-a second reader (tools/journal.py) and the second implementation of lines (tools/reference.py):
+It counts the calls of `init`, and of a run of three asks that goes on behind one earlier answer, of one that goes on behind 31 and so opens the
+journal's next area, and of one over a journal of version 1; and then runs each again with one call that fails, with all from that one on, and with a
+kill in the place of the call (a write has then put half of its bytes). Judged by a second reader (tools/journal.py) and the second implementation of
+lines (tools/reference.py):
 
 - `init` ends with 6 and its line, or is killed; what is left is no journal, or an empty one;
 - an opening that fails ends with 6 and its line, and leaves the file as it was;
@@ -14,7 +15,7 @@ a second reader (tools/journal.py) and the second implementation of lines (tools
 - an answer that was printed stands settled with its value.
 
 And writes that put half of their bytes change nothing that is said or left; the folder of a new journal and the one that this is in are
-synced before its first write, and each part of a journal or record before the next part is written.
+synced before its first write, and each part of a journal, an area or a record before the next part is written.
 
 It ends with status 1 at the first difference, and where one of the ends was never met.
 """
@@ -28,11 +29,21 @@ TOP = os.path.dirname(os.path.dirname(os.path.abspath(__file__)))
 PROGRAM = os.path.abspath(os.environ.get("PROGRAM", f"{TOP}/out/hitchseason"))
 sys.path.insert(0, f"{TOP}/tools")
 from catalog import census, read  # noqa: E402
-from journal import Refused, book_of, contents, header  # noqa: E402
+from journal import VERSION_AT, Refused, appended, book_of, contents, header, made  # noqa: E402
 from reference import ROWS, Server, key_words, with_rows  # noqa: E402
 
-ASK = "ask census 1 size people"
-ASKED = ["hello ann", *[ASK] * 3, "left census", *[f"recall census {number}" for number in range(5)]]
+E = 100_000
+ASK = "ask census 0.1 size people"
+# How many earlier answers there are: a few, and so many that the second ask finds the first area full.
+FEW, MANY = 1, 31
+CAPACITY = 100
+
+
+def asked(first):
+    """The lines of a run behind so many answers."""
+    return ["hello ann", *[ASK] * 3, "left census", *[f"recall census {number}" for number in range(first - 1, first + 4)]]
+
+
 DISK = (6, "disk census\n")
 
 
@@ -48,7 +59,7 @@ class Room:
             with open(name, "wb") as file:
                 file.write(data)
         subprocess.run(["cc", "-O1", "-shared", "-fPIC", "-o", "fail.so", f"{TOP}/bench/fail_disk.c", "-ldl"], check=True)
-        self.head, self.entry = header(census(), 0, bytes(32), contents), read(census())["owners"][0]
+        self.head, self.entry = header(census(), 0, bytes(32), contents, 2), read(census())["owners"][0]
 
     def ran(self, command, script="", **faults):
         given = {**os.environ, **faults}
@@ -56,12 +67,26 @@ class Room:
             given["LD_PRELOAD"] = os.path.abspath("fail.so")
         return subprocess.run([PROGRAM, command, "cat.json", "key"], input=script, capture_output=True, text=True, env=given)
 
-    def anew(self):
-        """One journal with an earlier answer."""
+    def made(self, first, version=2):
+        """One journal with so many earlier answers."""
         subprocess.run(["rm", "-rf", "journals"], check=True)
         self.ran("init")
-        self.ran("run", f"hello ann\n{ASK}\n")
-        self.before = contents("journals/0.bud")
+        if version == 1:
+            self.write(made(self.head[:VERSION_AT] + b"\1" + self.head[VERSION_AT + 1 :], CAPACITY))
+        self.ran("run", "hello ann\n" + f"{ASK}\n" * first)
+        self.first, self.before = first, contents("journals/0.bud")
+        if len(self.book().records) != 2 * first or self.before[VERSION_AT] != version:
+            raise Wrong("the journal isn't what it should be")
+
+    def anew(self):
+        """That journal again."""
+        os.makedirs("journals", exist_ok=True)
+        self.write(self.before)
+
+    @staticmethod
+    def write(data):
+        with open("journals/0.bud", "wb") as file:
+            file.write(data)
 
     def book(self):
         return book_of(contents("journals/0.bud"), self.head, self.entry, 2)
@@ -106,42 +131,63 @@ def due(first, failed):
         elif failed >= 2 * at:
             replies.append("no 52")
             if failed % 2:
-                owner.charges, owner.records = owner.with_charge(None, 10**6), owner.records + 1
+                owner.charges, owner.records = owner.with_charge(None, E), owner.records + 1
                 owner.reservations.append((b"ann", None))
         else:
             replies.append("no 42 1")
-    replies += [server.reply(line.encode()) for line in ASKED[4:]]
+    replies += [server.reply(line.encode()) for line in asked(first)[4:]]
     return replies, owner.records
 
 
 def judge_run(room, ran):
-    acknowledged = 2
+    first, before = room.first, book_of(room.before, room.head, room.entry, 2).records
+    acknowledged = 2 * first
     if ran.returncode == 6:
         if (ran.returncode, ran.stdout) != DISK or contents("journals/0.bud") != room.before:
             raise Wrong(f"{ran.stdout!r}, or the file isn't as it was")
         room.came["run: not opened"] += 1
     elif ran.returncode == 0:
         told = ran.stdout.splitlines()
-        found = [failed for failed in range(6) if told == due(1, failed)[0]]
+        found = [failed for failed in range(6) if told == due(first, failed)[0]]
         if not found:
             raise Wrong(f"told {told}")
-        acknowledged = due(1, found[0])[1]
+        acknowledged = due(first, found[0])[1]
         room.came["run: 52 of a reservation" if found[0] % 2 == 0 else "run: 52 of a settlement"] += 1
     elif ran.returncode != -9 or ran.stdout:
         raise Wrong(f"status {ran.returncode} and {ran.stdout!r}")
-    book = room.counted()
+    now, book = contents("journals/0.bud"), room.counted()
     more = len(book.records) - acknowledged
-    if contents("journals/0.bud")[: 128 + 64 * 2] != room.before[: 128 + 64 * 2] or (ran.returncode != -9 and more not in (0, 1)):
+    if [one.encoded() for one in book.records[: 2 * first]] != [one.encoded() for one in before] or (ran.returncode != -9 and more not in (0, 1)):
         raise Wrong(f"{len(book.records)} records")
+    if room.before[VERSION_AT] != now[VERSION_AT]:
+        raise Wrong("its version is another")
+    told_of_areas(room, now, book, 2 * first)
     room.came["one record more" if ran.returncode == 0 and more else "killed" if ran.returncode == -9 else "no record more"] += 1
     for line in ran.stdout.splitlines():
         words = line.split()
         if words[0] == "answer" and (int(words[1]) not in book.settled or book.settled[int(words[1])].answer != int(words[2])):
             raise Wrong(f"{line} isn't settled so")
-    # The next run goes on with a new number.
+    goes_on(room, now, book)
+
+
+def told_of_areas(room, now, book, first):
+    """What there is of a next area: it, its gate, and records in it, or a part of it without the gate."""
+    if room.before[VERSION_AT] == 1:
+        room.came["version 1"] += 1
+    elif now[: len(room.before)][97] != room.before[97]:
+        room.came["an area that was opened, with no record more" if len(book.records) == 64 else "an area that was opened, with records"] += 1
+    elif len(now) > len(room.before):
+        room.came["an area, or a part of one, without its gate"] += 1
+
+
+def goes_on(room, now, book):
+    """The next run goes on with a new number, and adds its two records alone."""
     said = room.ran("run", f"hello ann\n{ASK}\n").stdout.splitlines()[-1]
     if said.split()[:2] != ["answer", str(len(book.reserved))]:
         raise Wrong(f"the next run said {said}")
+    after = room.book().records[len(book.records) :]
+    if contents("journals/0.bud") != appended(now, CAPACITY, after) or len(after) != 2:
+        raise Wrong("the next run left something else")
 
 
 def turns(room, command, script, prepare, judge):
@@ -159,29 +205,45 @@ def turns(room, command, script, prepare, judge):
     return count
 
 
+def left_by(room, first, version, **faults):
+    """What is said and left by a run behind so many answers, and by an `init`."""
+    subprocess.run(["rm", "-rf", "journals"], check=True)
+    ran = [room.ran("init", **faults)]
+    left = contents("journals/0.bud")
+    room.made(first, version)
+    ran.append(room.ran("run", "".join(f"{line}\n" for line in asked(first)), **faults))
+    return [(one.returncode, one.stdout) for one in ran], left, contents("journals/0.bud")
+
+
 def short_writes(room):
     """Writes that put half of their bytes, and what is said and left then."""
-    left = []
-    for faults in ({}, {"SHORT": "1"}):
-        subprocess.run(["rm", "-rf", "journals"], check=True)
-        ran = [room.ran("init", **faults), room.ran("run", "".join(f"{line}\n" for line in ASKED), **faults)]
-        left.append(([(one.returncode, one.stdout) for one in ran], contents("journals/0.bud")))
-    if left[0] != left[1]:
-        print(f"short writes: {left[1][0]}, and without {left[0][0]}; the journal is {'the same' if left[0][1] == left[1][1] else 'another'}")
-        sys.exit(1)
+    for first, version in ((FEW, 2), (MANY, 2), (FEW, 1)):
+        whole, short = left_by(room, first, version), left_by(room, first, version, SHORT="1")
+        if whole != short:
+            print(f"short writes: {short[0]}, and without {whole[0]}; the journal is {'the same' if whole[1:] == short[1:] else 'another'}")
+            sys.exit(1)
 
 
 def order_of_syncs(room):
-    """What is written and synced in turn, by an `init` and by a run of one ask. Writes in a row are one."""
+    """What is written and synced in turn, by an `init` and by a run of one ask, and by one that opens an area. Writes in a row are one."""
     subprocess.run(["rm", "-rf", "journals", "log"], check=True)
+    folder = os.getcwd()
+    file = f"{folder}/journals/0.bud"
+    part = [f"write {file}", f"sync {file}"]
     room.ran("init", LOG="log")
     room.ran("run", f"hello ann\n{ASK}\n", LOG="log")
-    folder, lines = os.getcwd(), contents("log").decode().splitlines()
-    file = f"{folder}/journals/0.bud"
-    told = [line for before, line in zip([""] + lines, lines) if line != before]
-    part = [f"write {file}", f"sync {file}"]
     # Zeros, the header and its gate; opened; a reservation and its gate, a settlement and its gate.
-    wanted = ["mkdir journals", f"sync {folder}", f"sync {folder}/journals", *part * 3, f"sync {file}", *part * 4]
+    in_order("log", ["mkdir journals", f"sync {folder}", f"sync {folder}/journals", *part * 3, f"sync {file}", *part * 4])
+    room.made(32)
+    os.remove("log")
+    room.ran("run", f"hello ann\n{ASK}\n", LOG="log")
+    # Opened; an area and its gate; and the same.
+    in_order("log", [f"sync {file}", *part * 2, *part * 4])
+
+
+def in_order(log, wanted):
+    lines = contents(log).decode().splitlines()
+    told = [line for before, line in zip([""] + lines, lines) if line != before]
     # The sync of an opening stands behind the last one of the `init`.
     wanted = [line for before, line in zip([""] + wanted, wanted) if line != before]
     if told != wanted:
@@ -189,22 +251,26 @@ def order_of_syncs(room):
         sys.exit(1)
 
 
-ENDS = ["init: no file", "init: a file to be removed", "run: not opened", "run: 52 of a reservation", "run: 52 of a settlement", "killed", "one record more"]
+ENDS = ["init: no file", "init: a file to be removed", "run: not opened", "run: 52 of a reservation", "run: 52 of a settlement", "killed", "one record more",
+    "version 1", "an area that was opened, with no record more", "an area that was opened, with records", "an area, or a part of one, without its gate"]  # fmt: skip
 
 
 def main():
     if "PROGRAM" not in os.environ:
         subprocess.run([f"{TOP}/tools/build"], check=True)
-    os.makedirs(f"{TOP}/out", exist_ok=True)
-    with tempfile.TemporaryDirectory(dir=f"{TOP}/out") as folder:
+    # In memory, where there is a folder of it: the calls are the same, and a busy disk takes its time for each sync.
+    with tempfile.TemporaryDirectory(dir="/dev/shm" if os.access("/dev/shm", os.W_OK) else None) as folder:
         room = Room(folder)
-        made = turns(room, "init", "", lambda: subprocess.run(["rm", "-rf", "journals"], check=True), judge_init)
-        asked = turns(room, "run", "".join(f"{line}\n" for line in ASKED), room.anew, judge_run)
+        calls = [turns(room, "init", "", lambda: subprocess.run(["rm", "-rf", "journals"], check=True), judge_init)]
+        for first, version in ((FEW, 2), (MANY, 2), (FEW, 1)):
+            room.made(first, version)
+            calls.append(turns(room, "run", "".join(f"{line}\n" for line in asked(first)), room.anew, judge_run))
         short_writes(room)
         order_of_syncs(room)
         os.chdir(TOP)
     print("short writes, and the order of syncs: as wanted")
-    print(f"{made} calls of init and {asked} of a run, each failing, failing with all later ones, and killed: as wanted")
+    said = f"{calls[0]} calls of init, {calls[1]} of a run, {calls[2]} of one that opens an area, {calls[3]} of one over a journal of version 1"
+    print(f"{said}, each failing, failing with all later ones, and killed: as wanted")
     print(", ".join(f"{end} {many}" for end, many in sorted(room.came.items())))
     lacking = [end for end in ENDS if not room.came[end]]
     if lacking:
