@@ -30,6 +30,19 @@ anew() {
     renew "${1:-cat.json}" key
     "$program" run "${1:-cat.json}" key <script >/dev/null
 }
+# older [CATALOG]: the same, but the journal of census is one of version 1.
+older() {
+    anew "$@"
+    python3 - "$top/tools" <<'END'
+import sys
+sys.path.insert(0, sys.argv[1])
+from journal import HEAD, VERSION_AT, appended, capacity_in, contents, made, slots
+data = contents("journals/0.bud")
+head, capacity = data[:VERSION_AT] + b"\1" + data[VERSION_AT + 1 : HEAD], capacity_in(data)
+with open("journals/0.bud", "wb") as file:
+    file.write(appended(made(head, capacity), capacity, slots(data, capacity)))
+END
+}
 # sums: what stands in journals.
 sums() { find journals -type f -exec sha256sum {} + 2>/dev/null | sort; ls -ld journals journals/* 2>/dev/null | cut -c1-10; }
 # refused NAME STATUS OUTPUT [CATALOG [KEY]]: `run` and `audit` refuse what is there, and leave it as it is.
@@ -51,7 +64,7 @@ rm -rf journals
 refused "no journal" 4 'journal census uninitialised 0/'
 [ ! -e journals ] || { echo "run or audit made the folder"; passed=1; }
 over_journals "init" 0 'owner census budget 10000000 capacity 100/' init cat.json key
-over_journals "init twice" 4 'journal census exists 6528/' init cat.json key
+over_journals "init twice" 4 'journal census exists 4224/' init cat.json key
 over_journals "the first run" 0 "$replies" run cat.json key
 over_journals "audit" 0 'census reservations 1 answered 1 exhausted 0 lost 0 spent 1000000 budget 10000000/' audit cat.json key
 over_journals "the second run" 0 "$again" run cat.json key
@@ -61,15 +74,27 @@ anew && truncate -s 127 journals/0.bud && refused "127 bytes" 4 'journal census 
 anew && truncate -s 128 journals/0.bud && refused "a header alone" 4 'journal census damaged 0/'
 anew && truncate -s 191 journals/0.bud && refused "the first slot torn off" 4 'journal census damaged 0/'
 anew && truncate -s 192 journals/0.bud && refused "the second slot torn off" 4 'journal census damaged 1/'
-anew && truncate -s 6527 journals/0.bud && refused "a byte too short" 4 'journal census damaged 99/'
-anew && truncate -s 6529 journals/0.bud && refused "a byte too long" 4 'journal census damaged 100/'
-anew && truncate -s 12928 journals/0.bud && refused "twice as many slots" 4 'journal census damaged 100/'
+anew && truncate -s 4223 journals/0.bud && refused "a byte too short" 4 'journal census damaged 63/'
+anew && truncate -s 4225 journals/0.bud && over_journals "a byte behind the live area" 0 "$again" run cat.json key
+anew && truncate -s 12928 journals/0.bud && over_journals "many bytes behind it" 0 "$again" run cat.json key
+older && truncate -s 6527 journals/0.bud && refused "version 1: a byte too short" 4 'journal census damaged 99/'
+older && truncate -s 6529 journals/0.bud && refused "version 1: a byte too long" 4 'journal census damaged 100/'
+older && truncate -s 12928 journals/0.bud && refused "version 1: twice as many slots" 4 'journal census damaged 100/'
+older && over_journals "version 1" 0 "$again" run cat.json key && [ "$(stat -c %s journals/0.bud)" = 6528 ] || { echo "WRONG: its length"; passed=1; }
 anew && head -c 6528 /dev/zero >journals/0.bud && refused "zeros" 4 'journal census uninitialised 6528/'
 anew && tr '\0' '\377' </dev/zero | head -c 6528 >journals/0.bud && refused "bytes 0xFF" 4 'journal census uninitialised 6528/'
 anew && head -c 6528 /dev/urandom >journals/0.bud && put 0 '\245' && refused "random bytes behind a gate" 4 'journal census changed/'
-anew && put 0 '\045' && refused "the header's gate torn" 4 'journal census uninitialised 6528/'
-anew && put 9 '\002' && refused "another version" 4 'journal census changed/'
-anew && put 127 '\001' && refused "a byte of the header's end" 4 'journal census changed/'
+anew && put 0 '\045' && refused "the header's gate torn" 4 'journal census uninitialised 4224/'
+older && put 0 '\045' && refused "version 1: the header's gate torn" 4 'journal census uninitialised 6528/'
+anew && put 9 '\003' && refused "another version" 4 'journal census changed/'
+anew && put 9 '\001' && refused "version 2 called version 1" 4 'journal census damaged 64/'
+older && put 9 '\002' && over_journals "version 1 called version 2" 0 "$again" run cat.json key
+anew && put 96 '\001' && refused "a byte of the header's end" 4 'journal census changed/'
+anew && put 127 '\001' && over_journals "a gate of an area that isn't open" 0 "$again" run cat.json key
+anew && put 97 '\245' && refused "an area opened that isn't there" 4 'journal census damaged 0/'
+anew && put 98 '\245' && refused "an area opened before the one before it" 4 'journal census changed/'
+anew && put 97 '\245\245' && refused "an area opened that the capacity hasn't" 4 'journal census changed/'
+older && put 127 '\001' && refused "version 1: a byte of the header's end" 4 'journal census changed/'
 anew && put 128 '\045' && refused "the first gate torn, behind it a slot" 4 'journal census damaged 1/'
 anew && put 192 '\045' && over_journals "the last gate torn" 0 "$again" run cat.json key
 anew && put 193 '\003' && refused "no such kind of record" 4 'journal census damaged 1/'
@@ -81,14 +106,16 @@ anew && put 147 '\002' && refused "another sensitivity" 4 'journal census damage
 anew && copy 1 2 && refused "a settlement twice" 4 'journal census damaged 2/'
 anew && copy 0 2 && refused "a reservation twice" 4 'journal census damaged 2/'
 anew && copy 1 0 && refused "a settlement first" 4 'journal census damaged 0/'
-anew && copy 1 99 && refused "the last slot open" 4 'journal census damaged 99/'
+anew && copy 1 63 && refused "the last slot open" 4 'journal census damaged 63/'
+anew && copy 1 64 && over_journals "a record behind the live area" 0 "$again" run cat.json key
+older && copy 1 99 && refused "version 1: the last slot open" 4 'journal census damaged 99/'
 anew && copy 0 3 && refused "a slot open behind a closed one" 4 'journal census damaged 3/'
 
 anew two.json && cp journals/1.bud journals/0.bud && refused "another owner's" 4 'journal census changed/' two.json
 anew two.json && rm journals/1.bud && refused "no journal of the second owner" 4 'journal second uninitialised 0/' two.json
 anew two.json && truncate -s 700 journals/1.bud && refused "the second owner's torn off" 4 'journal second damaged 8/' two.json
 renew two.json key && rm journals/0.bud && over_journals "init: the second owner's is there" 4 'journal second exists 768/' init two.json key
-over_journals "    and the first owner's was made" 4 'journal census exists 6528/' init two.json key
+over_journals "    and the first owner's was made" 4 'journal census exists 4224/' init two.json key
 sed 's/10000000/10000001/' cat.json >richer.json
 anew && refused "a catalog of another budget" 4 'journal census changed/' richer.json
 sed 's/"capacity": 100/"capacity": 99/' cat.json >less.json
@@ -137,17 +164,27 @@ if [ "$(id -u)" = 0 ] && command -v setpriv unshare >/dev/null; then
     as_nobody "a folder that can't be made" 6 'disk census/' init cat.json key
     mkdir small
     sed 's/"capacity": 100/"capacity": 262144/' cat.json >large.json
-    # A disk of 1 MiB, on which the 16 MiB of a journal have no room.
+    # A disk that is full but for a page, on which the first area has no room; and one on which the second one has none.
     unshare -m bash -s "$program" >small.said 2>&1 <<'END' || { cat small.said; passed=1; }
-mount -t tmpfs -o size=1m none small && cp large.json people.csv key small && cd small || exit 1
+mount -t tmpfs -o size=1m none small && cp large.json people.csv key small && cd small && mkdir journals || exit 1
+head -c 2m /dev/zero >filler 2>/dev/null
+truncate -s -4096 filler
 for command in init run init; do
     "$1" "$command" large.json key </dev/null
     echo "status $?"
 done
+rm filler && rm -r journals && "$1" init large.json key
+{ echo hello ann && yes "ask census 0.01 size people" | head -n 34 && echo left census; } >script
+head -c 2m /dev/zero >filler 2>/dev/null
+"$1" run large.json key <script | tail -n 3
+"$1" audit large.json key
+rm filler && printf 'hello ann\nask census 0.01 size people\n' | "$1" run large.json key | cut -d' ' -f1-2
 END
     said=$(sed 's/\(uninitialised\|exists\) [0-9]*/\1 SOME/' small.said | tr '\n' '/')
-    [ "$said" = "disk census/status 6/journal census uninitialised SOME/status 4/journal census exists SOME/status 4/" ] || { echo "WRONG on a full disk:"; passed=1; }
-    printf '%-40s      %s\n' "a disk that is full" "$said"
+    wanted="disk census/status 6/journal census uninitialised SOME/status 4/journal census exists SOME/status 4/owner census budget 10000000 capacity 262144/"
+    wanted+="no 52/no 42 1/left 320000 10000000 64/census reservations 32 answered 32 exhausted 0 lost 0 spent 320000 budget 10000000/hello ann/answer 32/"
+    [ "$said" = "$wanted" ] || { echo "WRONG on a full disk, wanted $wanted:"; passed=1; }
+    printf '%-40s      %s\n' "disks that are full" "$said"
 else
     echo "not tried, for want of rights: a file that can't be written, a full disk"
 fi

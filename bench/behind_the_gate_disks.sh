@@ -28,7 +28,7 @@ with open("two.json", "w") as file:
 END
 mkdir journals && printf x >journals/1.bud
 over_journals "init: a journal that is there" 4 'journal wards exists 1/' init two.json key
-[ "$(stat -c %s journals/0.bud journals/1.bud | tr '\n' ' ')" = "6528 1 " ] || { echo "WRONG: the files' lengths"; passed=1; }
+[ "$(stat -c %s journals/0.bud journals/1.bud | tr '\n' ' ')" = "4224 1 " ] || { echo "WRONG: the files' lengths"; passed=1; }
 
 # ---- standard input and output are closed: no journal is opened in their place
 

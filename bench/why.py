@@ -21,7 +21,7 @@ PROGRAM = os.path.abspath(os.environ.get("PROGRAM", f"{TOP}/out/hitchseason"))
 sys.path.insert(0, f"{TOP}/tools")
 from catalog import catalog, owner  # noqa: E402
 from causes import Command, Journals  # noqa: E402
-from journal import HEAD, SLOT, Refused  # noqa: E402
+from journal import GATE, HEAD, SLOT, VERSION_AT, Refused, appended, capacity_in, contents, made, slots  # noqa: E402
 
 TABLES = (("people", "people.csv", (("town", "text"), ("age", "num"))),)
 SECOND = (("stays", "stays.csv", (("ward", "text"), ("nights", "num"))),)
@@ -60,6 +60,14 @@ def copy_slot(source, target):
     with open("journals/0.bud", "rb") as file:
         file.seek(HEAD + SLOT * source)
         put_in_slot(target, 0, file.read(SLOT))
+
+
+def older(number=0):
+    """Makes a journal one of version 1, with the same records."""
+    name = f"journals/{number}.bud"
+    data = contents(name)
+    head, capacity = data[:VERSION_AT] + b"\1" + data[VERSION_AT + 1 : HEAD], capacity_in(data)
+    write(name, appended(made(head, capacity), capacity, slots(data, capacity)))
 
 
 def with_catalog(change):
@@ -197,13 +205,22 @@ MADE = [
     (swap_journals, AUDIT, "", 4, ["It is the journal of the owner health, made with the key, analysts and tables of now"]),
     (lambda: with_catalog(swap_owners), AUDIT, "", 4, ["It is the journal of the owner census"]),
     (lambda: put(0, 1, b"x"), AUDIT, "", 4, ["It is no journal: behind its first byte `FUZZBUDG` doesn't stand"]),
-    (lambda: put(0, 9, b"\2"), AUDIT, "", 4, ["It is a journal of version 2, and this program's are of version 1"]),
-    (lambda: put(0, 127, b"\1"), AUDIT, "", 4, ["that are always zeros (26 to 63 and 96 to 127) aren't"]),
-    (nothing, INIT, "", 4, ["journal census exists 6528", "It is the journal that belongs here: census reservations 2 answered 2"]),
+    (lambda: put(0, 9, b"\3"), AUDIT, "", 4, ["It is a journal of version 3, and this program reads versions 1 and 2"]),
+    (lambda: put(0, 96, b"\1"), AUDIT, "", 4, ["that are always zeros (26 to 63, and 96) aren't"]),
+    (lambda: put(0, 98, bytes([GATE])), AUDIT, "", 4, ["A gate of its areas is out of order: byte 98 opens area 2, and area 1 before it isn't open"]),
+    (lambda: put(0, 97, bytes([GATE] * 2)), AUDIT, "", 4, ["byte 98 opens area 2, and with capacity 100 the last one is area 1"]),
+    (lambda: put(0, 97, bytes([GATE])), AUDIT, "", 4, ["journal census damaged 0", "the file has 4224 bytes, and 10624 are due: it ends in slot 0"]),
+    (both(older, lambda: put(0, 127, b"\1")), AUDIT, "", 4, ["that are always zeros (26 to 63 and 96 to 127) aren't"]),
+    (both(older, lambda: put(0, 20, b"\1")), AUDIT, "", 4, ["Its header says number 0 (from 0), budget 9961856", "has written into the header"]),
+    (both(older, lambda: write("key", bytes([1] * 32)), lambda: write("kept", FILES["key"])), AUDIT, "", 4, ["At init the key was that of kept; with that"]),
+    (older, INIT, "", 4, ["journal census exists 6528", "It is the journal that belongs here: census reservations 2 answered 2"]),
+    (nothing, INIT, "", 4, ["journal census exists 4224", "It is the journal that belongs here: census reservations 2 answered 2"]),
     (lambda: os.remove("journals/0.bud"), INIT, "", 4, ["The journal of census wasn't there, and was made by this `init`", "journal health exists 768"]),
-    (lambda: write("key", bytes([1] * 32)), INIT, "", 4, ["journal census exists 6528", "It doesn't open: changed"]),
-    (lambda: os.truncate("journals/0.bud", 1000), AUDIT, "", 4, ["slot 13 (from 0): the file has 1000 bytes, and 6528 are due: it ends in slot 13"]),
-    (lambda: os.truncate("journals/0.bud", 6529), AUDIT, "", 4, ["slot 100 (from 0): the file has 6529 bytes, and 6528 are due: 1 too many"]),
+    (lambda: write("key", bytes([1] * 32)), INIT, "", 4, ["journal census exists 4224", "It doesn't open: changed"]),
+    (lambda: os.truncate("journals/0.bud", 1000), AUDIT, "", 4, ["slot 13 (from 0): the file has 1000 bytes, and 4224 are due: it ends in slot 13"]),
+    (both(older, lambda: os.truncate("journals/0.bud", 1000)), AUDIT, "", 4, ["slot 13 (from 0): the file has 1000 bytes, and 6528 are due: it ends in slot 13"]),
+    (both(older, lambda: os.truncate("journals/0.bud", 6529)), AUDIT, "", 4, ["slot 100 (from 0): the file has 6529 bytes, and 6528 are due: 1 too many"]),
+    (lambda: os.truncate("journals/0.bud", 4225), AUDIT, "", 0, []),
     (lambda: put_in_slot(0, 0, b"\x25"), AUDIT, "", 4, ["slot 1 (from 0): it is open behind slot 0, which is closed: its first byte is 0x25", "the rest of "
         "it is a whole record"]),
     (lambda: copy_slot(1, 9), AUDIT, "", 4, ["slot 9 (from 0): it is open behind slot 4, which is closed", "all of it is zeros"]),
@@ -255,7 +272,7 @@ RIGHTS = [
     (emptied, INIT, 6, ["disk census", "nobody may not make files in `.`: `.` is drwxr-xr-x"]),
 ]
 DISKS = [
-    ("size=8m", "", f"{INIT}", 6, ["disk census", "The disk is full: journals/0.bud takes 16777344 bytes"]),
+    ("size=1m", "{{ head -c 2m /dev/zero >filler 2>/dev/null; true; }}", INIT, 6, ["disk census", "The disk is full: journals/0.bud takes 4224 bytes"]),
     ("size=40m", "{program} init catalog.json key >/dev/null && mount -o remount,ro .", AUDIT, 6, ["journals/0.bud lies on a file system that is read-only"]),
     ("size=40m", "mount -o remount,ro .", INIT, 6, ["is read-only"]),
 ]
@@ -338,20 +355,21 @@ class Trial:
             os.chdir(self.room)
             self.tried += 1
             self.came[status] += 1
-            if ran.returncode != status or not all(part in ran.stderr.decode() for part in said):
+            if ran.returncode != status or not all(part in ran.stderr.decode() for part in said) or "Traceback" in ran.stderr.decode():
                 self.differ(line, f"{ran.returncode} {ran.stdout} {ran.stderr.decode()}", said)
 
     def at_random(self, count):
-        """A journal with asks of the whole and of parts, whose bytes are changed at random."""
+        """A journal of each version with asks of the whole and of parts, whose bytes are changed at random."""
         chance, folder = random.Random(2026), self.ready(nothing)
         asks = "".join(f"ask{part} 0.1 {program}\n" for program in ("size people", "2 * size people") for part in (" census", "part census areas A", "part "
             "census areas B"))
         subprocess.run([PROGRAM, *RUN.split()], input=f"hello ann\n{asks}hello bob\n{asks}".encode(), cwd=folder, capture_output=True, check=True)
-        with open("journals/0.bud", "rb") as file:
-            whole = file.read()
+        whole = [contents("journals/0.bud")]
+        older()
+        whole.append(contents("journals/0.bud"))
         kinds = Counter()
-        for _ in range(count):
-            write("journals/0.bud", damaged(chance, whole))
+        for number in range(count):
+            write("journals/0.bud", damaged(chance, whole[number % 2]))
             ran = subprocess.run([PROGRAM, *AUDIT.split()], cwd=folder, capture_output=True, text=True)
             found = Journals(Command(AUDIT.split()))
             refused = [(number, book) for number, book in enumerate(found.books) if isinstance(book, Refused)]

@@ -60,8 +60,8 @@ def form_faults(found):
     if found.version not in VERSIONS:
         return [f"It is a journal of version {found.version}, and this program reads versions 1 and 2."]
     if any(found.rest):
-        end = HEAD - 1 if found.version == 1 else GATES_AT
-        return [f"Bytes of its header that are always zeros (26 to 63 and {GATES_AT} to {end}) aren't: somebody has written into the file."]
+        zeros = f"26 to 63 and {GATES_AT} to {HEAD - 1}" if found.version == 1 else f"26 to 63, and {GATES_AT}"
+        return [f"Bytes of its header that are always zeros ({zeros}) aren't: somebody has written into the file."]
     return [f"A gate of its areas is out of order: {found.stray}. Somebody has written into the file, or the disk has."]
 
 
