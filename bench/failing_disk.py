@@ -1,7 +1,8 @@
 #!/usr/bin/env python3
 """Each call on a real journal file fails in turn, alone and with all later ones, and each is the one at which the program is killed.
 
-usage: bench/failing_disk.py     (PROGRAM=FILE tries another build than tools/build's). Needs cc.
+usage: bench/failing_disk.py [--quick]    (PROGRAM=FILE tries another build than tools/build's). Needs cc. --quick tries every fourth call of the last
+two runs.
 It counts the calls of `init`, and of a run of three asks that goes on behind one earlier answer, of one that goes on behind 31 and so opens the
 journal's next area, and of one over a journal of version 1; and then runs each again with one call that fails, with all from that one on, and with a
 kill in the place of the call (a write has then put half of its bytes). Judged by a second reader (tools/journal.py) and the second implementation of
@@ -190,12 +191,12 @@ def goes_on(room, now, book):
         raise Wrong("the next run left something else")
 
 
-def turns(room, command, script, prepare, judge):
+def turns(room, command, script, prepare, judge, step=1):
     prepare()
     ran = room.ran(command, script, TELL="1")
     count = int(ran.stderr)
     for faults in ({"FAIL": ""}, {"FAIL": "", "FAIL_ALL": "1"}, {"STOP": ""}):
-        for number in range(1, count + 1):
+        for number in range(1, count + 1, step):
             prepare()
             try:
                 judge(room, room.ran(command, script, **{name: value or str(number) for name, value in faults.items()}))
@@ -256,15 +257,16 @@ ENDS = ["init: no file", "init: a file to be removed", "run: not opened", "run: 
 
 
 def main():
+    step = 4 if sys.argv[1:] == ["--quick"] else 1
     if "PROGRAM" not in os.environ:
         subprocess.run([f"{TOP}/tools/build"], check=True)
     # In memory, where there is a folder of it: the calls are the same, and a busy disk takes its time for each sync.
     with tempfile.TemporaryDirectory(dir="/dev/shm" if os.access("/dev/shm", os.W_OK) else None) as folder:
         room = Room(folder)
         calls = [turns(room, "init", "", lambda: subprocess.run(["rm", "-rf", "journals"], check=True), judge_init)]
-        for first, version in ((FEW, 2), (MANY, 2), (FEW, 1)):
+        for first, version, every in ((FEW, 2, 1), (MANY, 2, step), (FEW, 1, step)):
             room.made(first, version)
-            calls.append(turns(room, "run", "".join(f"{line}\n" for line in asked(first)), room.anew, judge_run))
+            calls.append(turns(room, "run", "".join(f"{line}\n" for line in asked(first)), room.anew, judge_run, every))
         short_writes(room)
         order_of_syncs(room)
         os.chdir(TOP)

@@ -4,8 +4,9 @@
 usage: bench/torn_writes.py [MORE [SEED [FOLDER]]]     (PROGRAM=FILE tries another build than tools/build's). Needs cc. MORE files torn at
 random for each prefix, 4 unless said, beside the four of `MemDisk::after_stop`.
 The writes and syncs of the program on its own journal are recorded (bench/fail_disk.c): those of an `init`, and of three runs, one behind
-the other, with asks of the whole and of parts, of several analysts, refused and granted, the last by two workers. What was synced stays. Of each later write up to
-the prefix's end any bytes may be there, and the file may end anywhere between its old end and its new one:
+the other, with asks of the whole and of parts, of several analysts, refused and granted, the last by two workers; of one that opens the journal's next
+area; and of one over a journal of version 1. What was synced stays. Of each later write up to the prefix's end any bytes may be there, and the file
+may end anywhere between its old end and its new one:
 
 - the old bytes and the old end; the new ones; 0xFF or 0xA5 in each place;
 - at random: each write there or not; pieces of 16 bytes there or not; any bytes; a cut anywhere.
@@ -31,7 +32,7 @@ TOP = os.path.dirname(os.path.dirname(os.path.abspath(__file__)))
 PROGRAM = os.path.abspath(os.environ.get("PROGRAM", f"{TOP}/out/hitchseason"))
 sys.path.insert(0, f"{TOP}/tools")
 from catalog import catalog, owner, read  # noqa: E402
-from journal import Refused, book_of, contents, header  # noqa: E402
+from journal import FIRST_SLOTS, VERSION_AT, Refused, Reservation, Settlement, appended, book_of, contents, header, made  # noqa: E402
 
 JOURNAL = "journals/0.bud"
 ANALYSTS = ("ann", "bob")
@@ -43,6 +44,9 @@ RUNS = (
     ("1", ["hello bob", "recall census 2", PART.format("A"), "hello ann", "ask census 1 0 * size people", ASK]),
     ("2", ["hello ann", ASK, PART.format("A"), "bye", "hello bob", PART.format("B"), ASK, "bye"]),
 )
+CAPACITY = 80
+# So many records stand before a run that opens the next area.
+FULL = FIRST_SLOTS - 2
 
 
 class Wrong(Exception):
@@ -139,12 +143,12 @@ class Room:
         os.mkdir("journals")
         self.came, self.tried = Counter(), set()
         tables = (("people", "people.csv", (("town", "text"), ("age", "num"))),)
-        made = catalog(owner(tables=tables, budget=10_000_000, capacity=40, partitions=(("area", "people", "town", ("A", "B")),)))
-        for name, data in (("key", bytes(32)), ("cat.json", made), ("people.csv", b"town,age\nA,20\nB,30\nA,40\n")):
+        whole = catalog(owner(tables=tables, budget=10_000_000, capacity=CAPACITY, partitions=(("area", "people", "town", ("A", "B")),)))
+        for name, data in (("key", bytes(32)), ("cat.json", whole), ("people.csv", b"town,age\nA,20\nB,30\nA,40\n")):
             with open(name, "wb") as file:
                 file.write(data)
         subprocess.run(["cc", "-O1", "-shared", "-fPIC", "-o", "fail.so", f"{TOP}/bench/fail_disk.c", "-ldl"], check=True)
-        self.head, self.entry = header(made, 0, bytes(32), contents), read(made)["owners"][0]
+        self.head, self.entry = header(whole, 0, bytes(32), contents, 2), read(whole)["owners"][0]
 
     def ran(self, command, lines=(), workers=None, **given):
         if given:
@@ -168,6 +172,12 @@ class Room:
         if after != contents(JOURNAL):
             raise Wrong(f"{command}: its recorded writes don't make the journal")
         return before, calls
+
+    def lay(self, records, version):
+        """The journal in the program's place is one of this version, with these records."""
+        head = self.head[:VERSION_AT] + bytes([version]) + self.head[VERSION_AT + 1 :]
+        with open(JOURNAL, "wb") as file:
+            file.write(appended(made(head, CAPACITY), CAPACITY, records))
 
     def book(self, file):
         return book_of(file, self.head, self.entry, len(ANALYSTS))
@@ -213,12 +223,17 @@ def goes_on(room, book):
         raise Wrong(f"a run is told {told}, wanted {due} and number {len(book.reserved)}")
 
 
+def synced_records(pairs, known, records, version):
+    """How many records stand behind so many pairs of syncs. A record is its body and its gate, each of them synced, and so is an area."""
+    opens = version == 2 and known <= FIRST_SLOTS < len(records) and known + pairs > FIRST_SLOTS
+    return known + pairs - opens
+
+
 def tried(room, name, before, calls, records, known, more, rng):
     """Each prefix of the calls of a command, torn; `known` records were there before it. How many files there were."""
-    made, count = name != "init", 0
+    there, count, version = name != "init", 0, before[VERSION_AT] if before else 2
     for end in range(len(calls) + 1):
-        # A record is its body and its gate, each of them synced.
-        synced = known + calls[:end].count(None) // 2 if made else 0
+        synced = synced_records(calls[:end].count(None) // 2, known, records, version) if there else 0
         for kind, file in files_after(before, calls[:end], more, rng):
             mark = (hashlib.sha256(file).digest(), synced)
             if mark in room.tried:
@@ -227,13 +242,27 @@ def tried(room, name, before, calls, records, known, more, rng):
             count += 1
             room.came[kind] += 1
             try:
-                judge(room, file, synced, records, made or end == len(calls))
+                judge(room, file, synced, records, there or end == len(calls))
             except Wrong as fault:
                 raise Wrong(f"{name}, {end} of {len(calls)} calls, {kind}: {fault}") from None
+            room.came["an area without its gate"] += there and version == 2 and len(file) > len(before) and file[97] == 0
+            room.came["an area that was opened"] += there and version == 2 and file[97] != before[97]
     return count
 
 
-MET = [*STOPS, "at random", "no journal yet", "the synced records", "one record more"]
+def steps(room):
+    """The commands: each with the journal before it, its calls, and the records that there are in the end."""
+    found = [("init", *room.recorded("init"))] + [(f"run {k}", *room.recorded("run", lines, workers)) for k, (workers, lines) in enumerate(RUNS, 1)]
+    whole = room.book(contents(JOURNAL)).records
+    yield from ((*step, whole) for step in found)
+    many = whole + [one for number in range(len(whole) // 2, FULL // 2) for one in (Reservation(number, (255, 0), 1, 1, 1, 1, 0, bytes(32)), Settlement(number, 3))]
+    for name, laid, version in (("a run that opens an area", many[:FULL], 2), ("a run over version 1", whole, 1)):
+        room.lay(laid, version)
+        step = room.recorded("run", ["hello ann", ASK, ASK])
+        yield name, *step, room.book(contents(JOURNAL)).records
+
+
+MET = [*STOPS, "at random", "no journal yet", "the synced records", "one record more", "an area without its gate", "an area that was opened"]
 
 
 def main():
@@ -245,15 +274,11 @@ def main():
     with tempfile.TemporaryDirectory(dir=sys.argv[3] if len(sys.argv) > 3 else f"{TOP}/out") as folder:
         room = Room(folder)
         try:
-            steps = [("init", *room.recorded("init"))] + [
-                (f"run {k}", *room.recorded("run", lines, workers)) for k, (workers, lines) in enumerate(RUNS, 1)
-            ]
-            whole = [record.encoded() for record in room.book(contents(JOURNAL)).records]
-            for name, before, calls in steps:
+            for name, before, calls, records in list(steps(room)):
                 # The first sync of a run is its opening's.
                 calls = calls if name == "init" else calls[calls.index(None) + 1 :]
-                known = 0 if name == "init" else len(room.book(before).records)
-                print(f"{name}: {len(calls)} calls, {tried(room, name, before, calls, whole, known, more, rng)} files", flush=True)
+                known, records = 0 if name == "init" else len(room.book(before).records), [record.encoded() for record in records]
+                print(f"{name}: {len(calls)} calls, {tried(room, name, before, calls, records, known, more, rng)} files", flush=True)
         except Wrong as fault:
             sys.exit(f"WRONG: {fault}")
         os.chdir(TOP)
