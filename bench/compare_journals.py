@@ -287,7 +287,7 @@ class Case:
             missing = [line for line in due.splitlines() if not words and line not in lines]
             if missing or (words and refused and not any(line.startswith(f"journal {refused[0][0]} {refused[0][1]}: ") for line in lines)):
                 raise Differs(f"tools/journal.py {words} said {ran.stdout[-300:]}")
-            if words and any("it isn't" in line for line in lines):
+            if words and any(line.endswith(": it isn't") for line in lines):
                 raise Differs(f"tools/journal.py has no words for {refused[0][1]}")
         self.came["tools/journal.py by its words"] += 1
 

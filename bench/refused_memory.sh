@@ -8,6 +8,7 @@
 #        bench/refused_memory.sh --gaps       the same of `gap`: two tables, several programs, and each refusal. A row a run's kind.
 #        bench/refused_memory.sh --runs       the same of asks whose programs run over bags, with what they are charged: refused_runs.py.
 #        bench/refused_memory.sh --sessions   the same of a session, by a test of session_tests: refused_sessions.py.
+#        bench/refused_memory.sh --services   the same of `init`, of a service with a connection, and of a generated run: refused_services.py.
 #        bench/refused_memory.sh --try [FIRST [LAST]]     the kit's own refusals, in a build of its own that
 #                                             isn't proved: 15 to 30 s a run. Ends after five right runs in a row.
 . "$(dirname "$0")/common.sh"
@@ -222,6 +223,7 @@ case "$1" in
     --gaps) by_malloc_gaps ;;
     --runs) python3 "$top/bench/refused_runs.py" || passed=1 ;;
     --sessions) python3 "$top/bench/refused_sessions.py" || passed=1 ;;
+    --services) PROGRAM=$program python3 "$top/bench/refused_services.py" || passed=1 ;;
     *) head_of_rows && by_malloc ;;
 esac
 exit $passed

@@ -151,4 +151,5 @@ def main():
         sys.exit(1 if wrong + sum(turns(room, program, OF_PARTS) for program in OF_PEOPLE) else 0)
 
 
-main()
+if __name__ == "__main__":
+    main()
