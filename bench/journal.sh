@@ -1,11 +1,11 @@
 #!/usr/bin/env bash
-# What the journal costs: asks of `size people` beside a plain C loop with the same writes and syncs, in turn; `audit` of a full journal;
-# asks behind many records and behind few.
+# What the journal costs: asks of `size people` beside a plain C loop with the same writes and syncs, in turn; `audit` of a full journal, of both
+# versions; asks behind many records and behind few; an ask that opens the last area.
 # usage: bench/journal.sh [ROUNDS [FOLDER]]    (PROGRAM=FILE measures another build). FOLDER lies on a real disk: out/ here, unless said
 # Bars: a run of 2,000 asks takes at most 1.25 times the loop's wall time on the disk, and on tmpfs, less the run of no ask, at most 10
 # microseconds an answer above the loop; `audit` of 131,072 reservations with their settlements under 2 seconds; at most 128 bytes of
-# memory a record; an ask behind 100,000 records at most 1.2 times as long as one behind 100. Each time is the least of the rounds. It
-# ends with status 1 where one isn't met.
+# memory a record; an ask behind 100,000 records at most 1.2 times as long as one behind 4,100, where as few areas are opened, namely none. Each time is
+# the least of the rounds. It ends with status 1 where one isn't met.
 . "$(dirname "$0")/common.sh"
 rounds=${1:-7}
 disk=${2:-$top/out}
@@ -30,18 +30,16 @@ asks() { echo "hello ann" && yes "ask census 1 size people" | head -n "$1"; }
 asks "$answers" >many
 asks "$behind" >some
 asks 0 >none
-# filled RECORDS FILE: a journal of full.json with so many records, each reservation with its settlement.
+# filled RECORDS FILE [VERSION]: a journal of full.json with so many records, each reservation with its settlement; of version 2, unless said.
 filled() {
-    python3 - "$top/tools" "$1" "$2" <<'END'
+    python3 - "$top/tools" "$1" "$2" "${3:-2}" <<'END'
 import sys
 sys.path.insert(0, sys.argv[1])
-from journal import ONE, SLOT, WHOLE, Reservation, Settlement, contents, header
-head = header(contents("full.json"), 0, contents("key"), contents)
+from journal import ONE, WHOLE, Reservation, Settlement, appended, contents, header, made
+head = header(contents("full.json"), 0, contents("key"), contents, int(sys.argv[4]))
+pairs = ((Reservation(number, WHOLE, 10**6, 1, 1, 10**6, 0, ONE), Settlement(number, 1, 3)) for number in range(int(sys.argv[2]) // 2))
 with open(sys.argv[3], "wb") as file:
-    file.write(head)
-    for number in range(int(sys.argv[2]) // 2):
-        file.write(Reservation(number, WHOLE, 10**6, 1, 1, 10**6, 0, ONE).encoded() + Settlement(number, 1, 3).encoded())
-    file.write(bytes(SLOT * (262144 - int(sys.argv[2]))))
+    file.write(appended(made(head, 262144), 262144, (record for pair in pairs for record in pair)))
 END
 }
 # bar NAME FIGURE BAR MET: a row; MET is a formula of awk.
@@ -82,7 +80,7 @@ beside() {
     rm -rf "$here"
 }
 
-# one_behind RECORDS: the microseconds of an ask behind so many records, on tmpfs.
+# one_behind RECORDS: the microseconds of an ask behind so many records, on tmpfs, one after another.
 one_behind() {
     local round
     filled "$1" filled.bud
@@ -114,14 +112,27 @@ if [ -d /dev/shm ]; then
     cp full.json least.json people.csv key none some "$memory"
     cd "$memory" || exit 2
 fi
-few=$(one_behind 100)
+few=$(one_behind 4100)
 many=$(one_behind 100000)
 bar "an ask behind 100,000 records" "$many us" "1.2 * $few us" "$many <= 1.2 * $few"
-filled 262144 journals/0.bud
+echo "    behind 100, where five areas are opened, $(one_behind 100) us"
+filled 131072 filled.bud
+echo "hello ann
+ask census 1 size people" >one
 rm -f ./*.times
-for ((round = 0; round < rounds; round++)); do seconds audit.times "$program" audit full.json key; done
-[ "$(cat output)" = "census reservations 131072 answered 131072 exhausted 0 lost 0 spent 131072000000 budget 1000000000000000000" ] || { cat output; passed=1; }
-bar "audit of 131,072 reservations" "$(least audit.times) s" "2 s" "$(least audit.times) < 2"
+for ((round = 0; round < rounds; round++)); do
+    cp filled.bud journals/0.bud
+    seconds empty.times run full.json none
+    seconds ours.times run full.json one
+done
+echo "    one that opens the area of 262,144 slots: $(awk -v ours="$(least ours.times)" -v empty="$(least empty.times)" 'BEGIN { printf "%.1f", (ours - empty) * 1000 }') ms"
+for version in 1 2; do
+    filled 262144 journals/0.bud "$version"
+    rm -f ./*.times
+    for ((round = 0; round < rounds; round++)); do seconds audit.times "$program" audit full.json key; done
+    [ "$(cat output)" = "census reservations 131072 answered 131072 exhausted 0 lost 0 spent 131072000000 budget 1000000000000000000" ] || { cat output; passed=1; }
+    bar "audit of 131,072 reservations, version $version" "$(least audit.times) s" "2 s" "$(least audit.times) < 2"
+done
 full=$(peak full.json)
 renew least.json key
 most=$(awk "BEGIN { printf \"%.1f\", ($full - $(peak least.json)) * 1024 / 262144 }")

@@ -1,5 +1,5 @@
 // The writes and syncs of so many answers in a journal, and nothing else: what any program takes that keeps its promises.
-// usage: journal_loop FILE ANSWERS    prints the seconds of wall that they took
+// usage: journal_loop FILE ANSWERS    prints the seconds of wall that they took, on a journal of version 2 with room for just these
 #define _GNU_SOURCE
 #include <fcntl.h>
 #include <stdio.h>
@@ -23,21 +23,41 @@ static void append(int file, off_t slot, const char *record) {
     must(fdatasync(file) == 0, "fdatasync");
 }
 
+// The next area: the slots of the one before and zeros, a sync, its gate, a sync.
+static void open_area(int file, off_t before, size_t used, off_t begin, size_t size, int number) {
+    char *slots = calloc(1, size);
+    must(slots != 0, "calloc");
+    must(pread(file, slots, used, before) == (ssize_t)used, "pread");
+    must(pwrite(file, slots, size, begin) == (ssize_t)size, "pwrite");
+    must(fdatasync(file) == 0, "fdatasync");
+    must(pwrite(file, "\xA5", 1, 96 + number) == 1, "pwrite");
+    must(fdatasync(file) == 0, "fdatasync");
+    free(slots);
+}
+
 int main(int count, char **words) {
     must(count == 3, "usage: journal_loop FILE ANSWERS");
-    long answers = atol(words[2]);
-    int file = open(words[1], O_RDWR | O_CREAT | O_TRUNC, 0644);
+    long records = 2 * atol(words[2]), room = records < 64 ? records : 64;
+    int file = open(words[1], O_RDWR | O_CREAT | O_TRUNC, 0644), number = 0;
     must(file >= 0, words[1]);
     char record[64];
     memset(record, 0, sizeof record);
-    for (long slot = 0; slot < 2 * answers + 2; slot++)
+    for (long slot = 0; slot < room + 2; slot++)
         must(write(file, record, 64) == 64, "write");
     must(fsync(file) == 0, "fsync");
     struct timespec begun, ended;
     clock_gettime(CLOCK_MONOTONIC, &begun);
     memset(record, 0xA5, sizeof record);
-    for (long at = 0; at < 2 * answers; at++)
-        append(file, 128 + 64 * at, record);
+    off_t area = 128;
+    for (long at = 0; at < records; at++) {
+        if (at == room) {
+            long more = records < 2 * room ? records : 2 * room;
+            open_area(file, area, 64 * room, area + 64 * room, 64 * more, ++number);
+            area += 64 * room;
+            room = more;
+        }
+        append(file, area + 64 * at, record);
+    }
     clock_gettime(CLOCK_MONOTONIC, &ended);
     printf("%.6f\n", (ended.tv_sec - begun.tv_sec) + (ended.tv_nsec - begun.tv_nsec) / 1e9);
     return 0;
