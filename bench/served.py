@@ -67,9 +67,11 @@ class Room:
             raise Wrong(f"{command} ended with {ran.returncode} and {ran.stdout[:200]!r}")
         return ran.stdout.decode()
 
+    def journal(self, order, folder=None):
+        return contents(f"{folder or self.folder + '/journals'}/{order}.bud")
+
     def book(self, order, folder=None):
-        entry = self.catalog["owners"][order]
-        return book_of(contents(f"{folder or self.folder + '/journals'}/{order}.bud"), self.heads[order], entry, len(self.analysts))
+        return book_of(self.journal(order, folder), self.heads[order], self.catalog["owners"][order], len(self.analysts))
 
     def books(self, folder=None):
         return [self.book(order, folder) for order in range(len(self.names))]

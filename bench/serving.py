@@ -6,7 +6,8 @@ usage: bench/serving.py cut [N]                    100 connections to 16 ports, 
        bench/serving.py hostile [N]                5,000 hostile lines
        bench/serving.py kills [N]                  20 kills of the service among connections
        bench/serving.py soak [SECONDS]             20 s of all kinds of connections
-       bench/serving.py                            all of these, so short. --seed S with any of them (PROGRAM=FILE tries another build than tools/build's)
+       bench/serving.py [--quick]                  all of these, so short, or shorter, in less than a minute
+--seed S with any of them (PROGRAM=FILE tries another build than tools/build's)
 
 - cut: each answer that came is settled so in its owner's journal, with its epsilon, program and analyst, and no reservation is anything but one
   line that was sent. Each number that is charged is told by `recall`, by the service and by the one that is started behind it.
@@ -15,7 +16,8 @@ usage: bench/serving.py cut [N]                    100 connections to 16 ports, 
 - hostile: each line has a reply that is a named one, and where the line is refused for itself by the second reader (tools/lines.py), that very one.
   Peers that reset, half-close, send over 2^24 bytes or stop in the middle of a line take nothing from those behind them. (Whole: 1,000,000.)
 - kills: the journals are journals, begin with what was there before, have each answer that came, and `audit` counts them. (Whole: 1,000.)
-- soak: the greatest memory at the end is at most 1.1 times that after a tenth of the time. (Whole: 600.)
+- soak: the greatest memory at the end is at most 1.1 times that after a tenth of the time, or after 4 s, less 128 bytes for each record that came
+  meanwhile, whose room is asked for at the start and used as it comes. (Whole: 600.)
 It ends with status 1 at the first difference.
 """
 import argparse
@@ -33,11 +35,13 @@ from served import ANALYSTS, Caller, Room, Service, Wrong, need_program, place
 from journal import Refused
 from lines import LINE_LIMIT, Line
 from meanings import meaning
+from reference import KNOWN_PROGRAMS
 
 WORKERS = 16
 # No beginning of these that is shorter is a program.
 PROGRAMS = ("size people", "size (union people people)", "let !x = ![1/3] (size people) in x")
-HOSTILE = ("size", "", "0 * size people", "size people $", "(" * 65 + "1" + ")" * 65, "size people <= 3", "\0", "é", "1 + " * 4000 + "1")
+HOSTILE = ("size", "", "0 * size people", "size people $", "(" * 65 + "1" + ")" * 65, "size people <= 3", "\0", "é", "1 + " * 4000 + "1",
+    *(program.decode() for program, _ in KNOWN_PROGRAMS))  # fmt: skip
 
 
 # Asks, each with an epsilon of its own, by which its record is known.
@@ -354,7 +358,7 @@ def one_kill(room, asks, heard, rng, seed):
 
 def kills(rng, count):
     with tempfile.TemporaryDirectory(dir=place()) as folder:
-        room, heard = Room(folder, capacity=2**15), Heard()
+        room, heard, times = Room(folder, capacity=2**15), Heard(), 0
         asks, kept, alone, answers = Asks(room, rng), [b""] * 4, 0, 0
         for number in range(count):
             one_kill(room, asks, heard, rng, number)
@@ -365,15 +369,16 @@ def kills(rng, count):
                 if not now.startswith(kept[order]):
                     raise Wrong(f"kill {number + 1}: an earlier record of owner {order} isn't what it was")
                 kept[order] = now
-            alone = sum(len(book.reserved) - len(book.settled) for book in books)
-            if max(len(book.records) for book in books) > 2**14 and number < count - 1:
+            alone += sum(len(book.reserved) - len(book.settled) for book in books)
+            # Every eighth time the journals get long, since each kill is judged by all of their records.
+            if max(len(book.records) for book in books) > (2**14 if times % 8 == 7 else 2**11) and number < count - 1:
                 shutil.rmtree(f"{folder}/journals")
                 room.ran("init")
-                answers += len(heard.answers)
+                times, answers = times + 1, answers + len(heard.answers)
                 asks, heard, kept = Asks(room, rng), Heard(), [b""] * 4
         with Service(room) as service:
             judge_recalls(service, room, books, "lost")
-        print(f"kills: {count}, {answers + len(heard.answers)} answers came, {alone} reservations of the last journals have none: no difference")
+        print(f"kills: {count}, {answers + len(heard.answers)} answers came, {alone} reservations were found without one: no difference")
 
 
 # Hours.
@@ -383,6 +388,8 @@ def soak(rng, seconds):
     with tempfile.TemporaryDirectory(dir=place()) as folder:
         room, heard = Room(folder, capacity=2**18), Heard()
         asks, first, begun, number = Asks(room, rng), None, time.monotonic(), 0
+        # The greatest memory until now, in KiB, and how many records there are.
+        measured = lambda: (service.peak(), sum(len(book.records) for book in room.books()))
         with Service(room, 4) as service, concurrent.futures.ThreadPoolExecutor(8) as pool:
             while time.monotonic() < begun + seconds:
                 jobs = [pool.submit(one_connection, service, asks, heard, number + more) for more in range(24)]
@@ -390,15 +397,21 @@ def soak(rng, seconds):
                 for job in jobs:
                     job.result()
                 number += 24
-                if first is None and time.monotonic() > begun + seconds / 10:
-                    first = service.peak()
-            last = service.peak()
-        print(f"soak: {seconds} s, {number} connections, memory at most {first} KiB after a tenth, {last} KiB at the end")
-        if last > 1.1 * first:
+                if first is None and time.monotonic() > begun + max(4, seconds / 10):
+                    first = measured()
+            last = measured()
+        (before, few), (after, many) = first or last, last
+        said = f"{before} KiB at most at first, behind {few} records, and {after} KiB at the end, behind {many}"
+        print(f"soak: {seconds} s, {number} connections and {number // 6} hostile ones; memory {said}")
+        if after - 128 * (many - few) / 1024 > 1.1 * before:
             raise Wrong("memory grew by over a tenth")
 
 
-KINDS = {"cut": (cuts, [100]), "silent": (silent, [2, 2]), "hostile": (hostile, [5000]), "kills": (kills, [20]), "soak": (soak, [20])}
+# Each with its usual numbers, and those of the quick form.
+KINDS = {
+    "cut": (cuts, [100], [40]), "silent": (silent, [2, 2], [1, 1]), "hostile": (hostile, [5000], [3000]), "kills": (kills, [20], [4]),
+    "soak": (soak, [20], [8]),
+}  # fmt: skip
 
 
 def main():
@@ -406,15 +419,19 @@ def main():
     words.add_argument("kind", nargs="?", choices=[*KINDS, "all"], default="all")
     words.add_argument("numbers", nargs="*", type=int)
     words.add_argument("--seed", type=int, default=1)
+    words.add_argument("--quick", action="store_true")
     given = words.parse_args()
     need_program()
+    begun = time.monotonic()
     for name in KINDS if given.kind == "all" else [given.kind]:
-        kind, usual = KINDS[name]
+        kind, usual, quick = KINDS[name]
+        usual = quick if given.quick else usual
         try:
             kind(random.Random(f"{name} {given.seed}"), *given.numbers, *usual[len(given.numbers) :])
         except (Wrong, Refused) as fault:
             print(f"{name}, seed {given.seed}: {fault}")
             sys.exit(1)
+    print(f"connections: all as they should be, in {time.monotonic() - begun:.0f} s")
 
 
 if __name__ == "__main__":

@@ -9,8 +9,8 @@ Four connections ask four owners without a pause, and copies are made meanwhile.
 - each answer that came before it was begun is in it;
 - tools/watch says the same of it, in text, JSON and for Prometheus.
 
-Copies that were read in another order are damaged now and then: a plain one, from the first byte to the last by a byte at a time, is tried beside, and how
-many of these don't open is said. Then journals that no `init` ended, that are damaged, and copies that are there already. It ends with status 1 at the
+Copies that were read in another order are damaged now and then: beside every tenth a plain one is tried, from the first byte to the last by a slot at a
+time, and how many of these don't open is said. Then journals that no `init` ended, that are damaged, and copies that are there already. It ends with status 1 at the
 first difference.
 """
 import json
@@ -24,7 +24,7 @@ import threading
 import time
 
 from served import TOP, Caller, Room, Service, Wrong, contents, need_program, place
-from journal import HEAD, SLOT, Refused, book_of
+from journal import HEAD, SLOT, Book, Refused, book_of, check_header, live_area, slots
 
 ANALYST = "ann"
 SNAPSHOT, WATCH = f"{TOP}/tools/snapshot", f"{TOP}/tools/watch"
@@ -94,24 +94,37 @@ def judge_watch(room, copy, books):
             raise Wrong(f"tools/watch said {text}")
 
 
-def records_of(book):
-    """The bytes of a book's records, wherever in the file they stand."""
-    return b"".join(record.encoded() for record in book.records)
+class Copies:
+    """What the copies until now held: each owner's book, whose records each later copy begins with, and their bytes."""
 
+    def __init__(self, room):
+        self.room, self.entries = room, room.catalog["owners"]
+        self.books = [Book(entry, len(room.analysts)) for entry in self.entries]
+        self.bytes = [bytearray() for _ in self.entries]
 
-def judge(room, copy, before, told):
-    """One copy: what it holds, as its records and their bytes; BEFORE are the bytes of the one before, TOLD the last numbers that were told by then."""
-    books = room.books(f"{room.folder}/{copy}")
-    said, due = audited(room, copy), "".join(f"{book.counts()}\n" for book in books)
-    if said != due:
-        raise Wrong(f"audit said {said}, and by the second reader it is {due}")
-    now = [records_of(book) for book in books]
-    for order, book in enumerate(books):
-        if not now[order].startswith(before[order]):
+    def goes_on(self, order, data):
+        """A copy, or the journal in the end, of one owner: the records that were there before, byte for byte, and more of them."""
+        book, capacity = self.books[order], self.entries[order]["capacity"]
+        if len(data) < HEAD or data[0] != 0xA5:
+            raise Refused(f"uninitialised {len(data)}")
+        check_header(data, self.room.heads[order], capacity)
+        area, known = live_area(data, capacity), len(book.records)
+        if data[area.begin : area.place(known)] != self.bytes[order]:
             raise Wrong(f"owner {order}: a record of the copy before isn't in this one")
-        if told[order] >= 0 and told[order] not in book.settled:
-            raise Wrong(f"owner {order}: number {told[order]} was told before the copy, and isn't settled in it")
-    return books, now
+        for record in slots(data, capacity, known):
+            if not book.add(record):
+                raise Wrong(f"owner {order}: record {len(book.records)} may not follow")
+        self.bytes[order] += data[area.place(known) : area.place(len(book.records))]
+
+    def judge(self, copy, told):
+        """One copy; TOLD are the last numbers that were told before it was begun."""
+        for order in range(len(self.entries)):
+            self.goes_on(order, contents(f"{self.room.folder}/{copy}/{order}.bud"))
+            if told[order] >= 0 and told[order] not in self.books[order].settled:
+                raise Wrong(f"owner {order}: number {told[order]} was told before the copy, and isn't settled in it")
+        said, due = audited(self.room, copy), "".join(f"{book.counts()}\n" for book in self.books)
+        if said != due:
+            raise Wrong(f"audit said {said}, and by the second reader it is {due}")
 
 
 def plain(room, rng):
@@ -130,7 +143,7 @@ def beside_a_service(rng, count):
     with tempfile.TemporaryDirectory(dir=place()) as folder:
         capacity = min(2**18, 300 * count + 200)
         room = Room(folder, capacity=capacity)
-        before, plain_ones = [b""] * len(room.names), 0
+        copies, plain_ones = Copies(room), 0
         with Service(room, len(room.names)) as service:
             loads = [Load(service, room, order) for order in range(len(room.names))]
             for number in range(count):
@@ -139,19 +152,19 @@ def beside_a_service(rng, count):
                     load.most = (number + 1) * (capacity // 2 - 10) // count
                 told, copy = [load.answered for load in loads], f"copy{number}"
                 copied(room, copy)
-                books, before = judge(room, copy, before, told)
+                copies.judge(copy, told)
                 if number % 10 == 0:
-                    judge_watch(room, copy, books)
-                plain_ones += not plain(room, rng)
+                    judge_watch(room, copy, copies.books)
+                    plain_ones += not plain(room, rng)
                 shutil.rmtree(f"{folder}/{copy}")
             for load in loads:
                 load.end()
-        books = room.audited()
         for order in range(len(room.names)):
-            if not records_of(books[order]).startswith(before[order]):
-                raise Wrong(f"owner {order}: a record of the last copy isn't in the journal")
-        total = sum(len(book.records) for book in books)
-        print(f"{count} copies beside {total} records that were written meanwhile: all open; of {count} plain ones {plain_ones} didn't")
+            copies.goes_on(order, room.journal(order))
+        if room.ran("audit") != "".join(f"{book.counts()}\n" for book in copies.books):
+            raise Wrong("audit counts other records in the end")
+        total = sum(len(book.records) for book in copies.books)
+        print(f"{count} copies beside {total} records that were written meanwhile: all open; of {-(-count // 10)} plain ones {plain_ones} didn't")
 
 
 def said_by(copy, room, order):
