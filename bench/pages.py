@@ -4,7 +4,7 @@
 usage: bench/pages.py    (PROGRAM=FILE tries another build than tools/build's)
 A word in capitals is put in the place of a file or a name: WORDS says which, and REPO is the repository's copy. Before each page there are
 the files that it speaks of as the reader's own (OWN, with the catalog's tables beside it), and before each block of a page of MADE journals
-that somebody else has made. `rt`, which proves, is the gate's and is left out. A block must end with status 0, and print what stands in the
+that somebody else has made. `rt`, which proves, is the gate's and is left out, and so is `hitchseason serve`, which goes on. A block must end with status 0, and print what stands in the
 next block where only `prints` or `says` is between them, or behind `#` on its line where that begins with `ok` or `no`. Programs are
 bench/first_programs.py's and bench/language.py's. It ends with status 1 where one differs.
 """
@@ -20,7 +20,7 @@ TOP = os.path.dirname(os.path.dirname(os.path.abspath(__file__)))
 PROGRAM = os.path.abspath(os.environ.get("PROGRAM", f"{TOP}/out/hitchseason"))
 SURVEY = "examples/survey"
 WORDS = {
-    "CATALOG2": "catalog.json", "CATALOG": "catalog.json", "KEY": "key", "SCRIPT": f"{SURVEY}/first",
+    "SEED N WORKERS": "7 20 2", "CATALOG2": "catalog.json", "CATALOG": "catalog.json", "KEY": "key", "SCRIPT": f"{SURVEY}/first",
     "REPLIES": "replies", "OWNER": "labour", "FILE": f"{SURVEY}/programs/everyone", "ANALYST": "mia", "EPS": "0.5", "SERVICE": "service",
 }  # fmt: skip
 OWN = {
@@ -60,7 +60,7 @@ def make_journals(room):
 
 def commands_of(block, room):
     words = {**WORDS, "REPO": room}
-    lines = [line for line in block.splitlines() if not re.search(r"(^|&& )rt ", line.strip())]
+    lines = [line for line in block.splitlines() if not re.search(r"(^|&& )(rt|\S*hitchseason serve) ", line.strip())]
     return re.sub(rf"\b({'|'.join(words)})\b", lambda found: words[found[1]], "\n".join(lines))
 
 

@@ -5,7 +5,7 @@ usage: bench/serving.py cut [N]                    100 connections to 16 ports, 
        bench/serving.py silent [PEERS [WORKERS]]   2 silent peers and 2 ports: each peer takes up to 30 s
        bench/serving.py hostile [N]                5,000 hostile lines
        bench/serving.py kills [N]                  20 kills of the service among connections
-       bench/serving.py soak [SECONDS]             20 s of all kinds of connections
+       bench/serving.py soak [SECONDS [BUDGET]]    20 s of all kinds of connections; with a budget of so many millionths, which ends soon, of all owners
        bench/serving.py [--quick]                  all of these, so short, or shorter, in less than a minute
 --seed S with any of them (PROGRAM=FILE tries another build than tools/build's)
 
@@ -17,7 +17,7 @@ usage: bench/serving.py cut [N]                    100 connections to 16 ports, 
   Peers that reset, half-close, send over 2^24 bytes or stop in the middle of a line take nothing from those behind them. (Whole: 1,000,000.)
 - kills: the journals are journals, begin with what was there before, have each answer that came, and `audit` counts them. (Whole: 1,000.)
 - soak: the greatest memory at the end is at most 1.1 times that after a tenth of the time, or after 4 s, less 128 bytes for each record that came
-  meanwhile, whose room is asked for at the start and used as it comes. (Whole: 600.)
+  meanwhile, whose room is asked for at the start and used as they come: none where the budget has ended. (Whole: 600.)
 It ends with status 1 at the first difference.
 """
 import argparse
@@ -31,17 +31,19 @@ import threading
 import time
 from collections import Counter
 
-from served import ANALYSTS, Caller, Room, Service, Wrong, need_program, place
+from served import AMPLE, ANALYSTS, Caller, Room, Service, Wrong, need_program, place
 from journal import Refused
 from lines import LINE_LIMIT, Line
 from meanings import meaning
-from reference import KNOWN_PROGRAMS
+from runs import chain, unions
 
 WORKERS = 16
 # No beginning of these that is shorter is a program.
 PROGRAMS = ("size people", "size (union people people)", "let !x = ![1/3] (size people) in x")
 HOSTILE = ("size", "", "0 * size people", "size people $", "(" * 65 + "1" + ")" * 65, "size people <= 3", "\0", "é", "1 + " * 4000 + "1",
-    *(program.decode() for program, _ in KNOWN_PROGRAMS))  # fmt: skip
+    "(fun (x : num) => x + x) (size people)", "1125899906842624 * size people", " + ".join(["1"] * 65), '"a text"', "size nobody", "inl[num -o num] 1",
+    chain(43, "0 + x", "0 + @ x", 1).decode(), chain(16, "x", "@ (@ x)", 1).decode(), unions(7).decode(), unions(6).decode(), "(" * 4096,
+    "(" * 2047 + "1" + ")" * 2047)  # fmt: skip
 
 
 # Asks, each with an epsilon of its own, by which its record is known.
@@ -384,9 +386,9 @@ def kills(rng, count):
 # Hours.
 
 
-def soak(rng, seconds):
+def soak(rng, seconds, budget):
     with tempfile.TemporaryDirectory(dir=place()) as folder:
-        room, heard = Room(folder, capacity=2**18), Heard()
+        room, heard = Room(folder, capacity=2**18, budget=budget), Heard()
         asks, first, begun, number = Asks(room, rng), None, time.monotonic(), 0
         # The greatest memory until now, in KiB, and how many records there are.
         measured = lambda: (service.peak(), sum(len(book.records) for book in room.books()))
@@ -410,7 +412,7 @@ def soak(rng, seconds):
 # Each with its usual numbers, and those of the quick form.
 KINDS = {
     "cut": (cuts, [100], [40]), "silent": (silent, [2, 2], [1, 1]), "hostile": (hostile, [5000], [3000]), "kills": (kills, [20], [4]),
-    "soak": (soak, [20], [8]),
+    "soak": (soak, [20, AMPLE], [8, AMPLE]),
 }  # fmt: skip
 
 

@@ -1,5 +1,5 @@
 #!/usr/bin/env python3
-"""Two processes on one folder at once, in all pairs of the commands init, run and audit.
+"""Two processes on one folder at once, in all pairs of the commands init, run and audit, and each of these, and a second `serve`, beside a `serve`.
 
 usage: bench/two_processes.py [COUNT [SEED]]     (PROGRAM=FILE tries another build than tools/build's); 20 times each pair, unless said.
 A journal is one process's at a time. Whatever the other one does:
@@ -8,6 +8,7 @@ A journal is one process's at a time. Whatever the other one does:
 - one of the two ends with 0, save where a journal was just being made;
 - no number is told twice, each answer that was told is settled with its value (by a second reader, tools/journal.py), and what is spent is
   the sum of what the answers say that they took;
+- beside a `serve` that listens every other one ends with 6, the connection's asks are answered, and at its end, or behind a kill, the folder is free;
 - `audit` then counts what is there, in the very words: a process that has ended, or was killed, has left no lock.
 
 The files are for their owner alone to read and write, and the folder for nobody else to look into. It ends with status 1 at the first
@@ -16,6 +17,7 @@ difference, and where no process was ever refused.
 import os
 import random
 import shutil
+import socket
 import stat
 import subprocess
 import sys
@@ -29,6 +31,7 @@ PROGRAM = os.path.abspath(os.environ.get("PROGRAM", f"{TOP}/out/hitchseason"))
 sys.path.insert(0, f"{TOP}/tools")
 from catalog import catalog, owner, read  # noqa: E402
 from journal import Refused, book_of, contents, header  # noqa: E402
+from served import free_ports, is_listened_at  # noqa: E402
 
 COMMANDS = ("init", "run", "audit")
 ASKS = 40
@@ -58,7 +61,8 @@ class Trial:
 
     def begin(self, command):
         script = open("script") if command == "run" else subprocess.DEVNULL
-        return subprocess.Popen([PROGRAM, command, "cat.json", "key"], stdin=script, stdout=subprocess.PIPE, stderr=subprocess.STDOUT, text=True)
+        more = ["--port", str(free_ports(1)), "--each", "1"] if command == "serve" else []
+        return subprocess.Popen([PROGRAM, command, "cat.json", "key", *more], stdin=script, stdout=subprocess.PIPE, stderr=subprocess.STDOUT, text=True)
 
     def ended(self, command, process):
         """How a command ended; the answers that it told are kept."""
@@ -124,6 +128,33 @@ class Trial:
                     check(modes == [0o700, 0o600], f"the modes are {[oct(mode) for mode in modes]}")
                 self.pair(*self.rng.sample((one, other), 2))
 
+    def beside_a_service(self, count):
+        """A service that listens has the journals until its connection has ended, or until it is killed."""
+        check(self.ended("init", self.begin("init")) == "done", "init wasn't done")
+        for turn in range(count):
+            service = self.begin("serve")
+            port = int(service.args[service.args.index("--port") + 1])
+            while not is_listened_at(port):
+                check(service.poll() is None, "a service ended")
+                time.sleep(0.005)
+            for command in self.rng.sample((*COMMANDS, "serve"), 3):
+                end = self.ended(command, self.begin(command))
+                check(end == "refused", f"{command} beside a service: {end}")
+                self.came[command, "refused beside a service"] += 1
+            with socket.create_connection(("127.0.0.1", port), timeout=60) as link:
+                link.sendall(b"hello ann\n" + b"ask census 1 size people\n" * ASKS + (b"" if turn % 2 else b"bye\n"))
+                told = b""
+                while told.count(b"\n") < ASKS + 1 + (turn + 1) % 2:
+                    piece = link.recv(65_536)
+                    check(piece, f"the connection ended behind {told[-50:]}")
+                    told += piece
+                self.keep(told.decode())
+                if turn % 2:
+                    service.kill()
+            said = service.communicate(timeout=60)[0]
+            check((service.returncode, said) == ((-9, "") if turn % 2 else (0, "")), f"the service ended with {service.returncode} and {said}")
+            self.look()
+
     def kills(self, count):
         """A killed process leaves no lock."""
         for _ in range(count):
@@ -145,11 +176,13 @@ def main():
         try:
             trial.pairs(count)
             trial.kills(count)
+            trial.afresh()
+            trial.beside_a_service(count)
         except (Wrong, Refused) as fault:
             sys.exit(f"seed {seed}: {fault}")
         finally:
             os.chdir(TOP)
-    print(f"{count} times each pair, and {count} kills, seed {seed}: no difference")
+    print(f"{count} times each pair, {count} kills, and {count} services, seed {seed}: no difference")
     for what, times in sorted(trial.came.items(), key=str):
         print(f"  {what if isinstance(what, str) else ' '.join(what)}: {times}")
     if not any(end == "refused" for _, end in (what for what in trial.came if not isinstance(what, str))):
