@@ -341,12 +341,12 @@ def main():
     came, begun = Counter(), time.monotonic()
     if not all(compare(seed, number, came) for number in range(first, first + count)):
         sys.exit(1)
-    print(f"{count} cases of seed {seed} in {time.monotonic() - begun:.0f} s: no difference")
     print(", ".join(f"{what} {came[what]}" for what in sorted(came)))
     lacking = [what for what in WANTED if not came[what]]
     if lacking and count >= 2000:
         print("never met: " + ", ".join(lacking))
         sys.exit(1)
+    print(f"{count} cases of seed {seed} in {time.monotonic() - begun:.0f} s: no difference")
 
 
 if __name__ == "__main__":

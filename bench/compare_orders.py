@@ -207,13 +207,14 @@ def told(seed, came):
     """Prints what came, and says whether all that should come did often enough."""
     runs = came["runs"]
     planted = {name: came.pop(name) for name in sorted(came) if name.startswith("planted ")}
-    print(f"seed {seed}: {runs} runs of {came.pop('cases')} cases and {came.pop('cut short', 0)} that were cut short: no difference")
+    said = f"seed {seed}: {runs} runs of {came.pop('cases')} cases and {came.pop('cut short', 0)} that were cut short: no difference"
     print(", ".join(f"{name} {came[name]}" for name in sorted(came)))
     if planted:
         print("all found wrong: " + ", ".join(f"{name.removeprefix('planted ')} {many}" for name, many in planted.items()))
     lacking = [name for name in ARE_RUNS if came[name] * SHARE < runs] + [name for name in MEETINGS if not came[name] and runs >= 1000]
     if lacking:
         print("too few of: " + ", ".join(lacking))
+    print(said)
     return not lacking
 
 

@@ -247,7 +247,6 @@ def compare(seed, number, came):
 def told(seed, came):
     """Prints what came, and says whether all that should come did often enough."""
     cases = came["cases"]
-    print(f"seed {seed}: {cases} cases and {came['cut short']} that were cut short, {came['runs']} runs: no difference")
     lines = {name for name in came if name.startswith("line ")}
     replies = {name for name in came if name.split()[0] in REPLIES}
     for names in (lines, replies, came.keys() - lines - replies - {"cases", "cut short", "runs"}):
@@ -255,6 +254,7 @@ def told(seed, came):
     lacking = [name for name in WANTED if came[name] * SHARE < cases]
     if lacking:
         print("too few of: " + ", ".join(lacking))
+    print(f"seed {seed}: {cases} cases and {came['cut short']} that were cut short, {came['runs']} runs: no difference")
     return not lacking
 
 

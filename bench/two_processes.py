@@ -182,11 +182,11 @@ def main():
             sys.exit(f"seed {seed}: {fault}")
         finally:
             os.chdir(TOP)
-    print(f"{count} times each pair, {count} kills, and {count} services, seed {seed}: no difference")
     for what, times in sorted(trial.came.items(), key=str):
         print(f"  {what if isinstance(what, str) else ' '.join(what)}: {times}")
     if not any(end == "refused" for _, end in (what for what in trial.came if not isinstance(what, str))):
         sys.exit("no process was refused")
+    print(f"{count} times each pair, {count} kills, and {count} services, seed {seed}: no difference")
 
 
 main()
