@@ -53,19 +53,19 @@ class Wrong(Exception):
 
 
 class Room:
-    def __init__(self, folder):
+    def __init__(self, folder, library):
         os.chdir(folder)
-        self.came = Counter()
+        self.came, self.library = Counter(), f"{library}/fail.so"
         for name, data in (("key", bytes(32)), ("cat.json", census()), ("people.csv", b"age\n20\n30\n40\n")):
             with open(name, "wb") as file:
                 file.write(data)
-        subprocess.run(["cc", "-O1", "-shared", "-fPIC", "-o", "fail.so", f"{TOP}/bench/fail_disk.c", "-ldl"], check=True)
+        subprocess.run(["cc", "-O1", "-shared", "-fPIC", "-o", self.library, f"{TOP}/bench/fail_disk.c", "-ldl"], check=True)
         self.head, self.entry = header(census(), 0, bytes(32), contents, 2), read(census())["owners"][0]
 
     def ran(self, command, script="", **faults):
         given = {**os.environ, **faults}
         if faults:
-            given["LD_PRELOAD"] = os.path.abspath("fail.so")
+            given["LD_PRELOAD"] = self.library
         return subprocess.run([PROGRAM, command, "cat.json", "key"], input=script, capture_output=True, text=True, env=given)
 
     def made(self, first, version=2):
@@ -261,8 +261,9 @@ def main():
     if "PROGRAM" not in os.environ:
         subprocess.run([f"{TOP}/tools/build"], check=True)
     # In memory, where there is a folder of it: the calls are the same, and a busy disk takes its time for each sync.
-    with tempfile.TemporaryDirectory(dir="/dev/shm" if os.access("/dev/shm", os.W_OK) else None) as folder:
-        room = Room(folder)
+    # No library is loaded from there in some places.
+    with tempfile.TemporaryDirectory(dir="/dev/shm" if os.access("/dev/shm", os.W_OK) else None) as folder, tempfile.TemporaryDirectory() as library:
+        room = Room(folder, library)
         calls = [turns(room, "init", "", lambda: subprocess.run(["rm", "-rf", "journals"], check=True), judge_init)]
         for first, version, every in ((FEW, 2, 1), (MANY, 2, step), (FEW, 1, step)):
             room.made(first, version)

@@ -35,12 +35,13 @@ SEED, ASKS = 7, 12
 
 
 class Room:
-    def __init__(self, folder):
+    def __init__(self, folder, library):
         os.chdir(folder)
+        self.library = f"{library}/refuse.so"
         for name, data in (("key", bytes(32)), ("cat.json", HOUSE), ("people.csv", PEOPLE)):
             with open(name, "wb") as file:
                 file.write(data)
-        subprocess.run(["cc", "-O1", "-shared", "-fPIC", "-o", "refuse.so", f"{TOP}/bench/refuse_allocation.c", "-ldl"], check=True)
+        subprocess.run(["cc", "-O1", "-shared", "-fPIC", "-o", self.library, f"{TOP}/bench/refuse_allocation.c", "-ldl"], check=True)
         self.house, self.entries = house_of(HOUSE, {"people.csv": PEOPLE}.__getitem__), read(HOUSE)["owners"]
         self.heads = [header(HOUSE, order, bytes(32), contents) for order in range(len(self.entries))]
         self.port = free_ports(1)
@@ -61,9 +62,8 @@ class Room:
             with open(f"journals/{name}", "wb") as file:
                 file.write(data)
 
-    @staticmethod
-    def given(refusals):
-        return {**os.environ, "LD_PRELOAD": os.path.abspath("refuse.so"), **refusals} if refusals else os.environ
+    def given(self, refusals):
+        return {**os.environ, "LD_PRELOAD": self.library, **refusals} if refusals else os.environ
 
     def ran(self, command, *words, script="", **refusals):
         words = words or ("cat.json", "key")
@@ -187,8 +187,9 @@ def main():
     if not os.access(PROGRAM, os.X_OK):
         print(f"there is no {PROGRAM}: run 'rt run' in crates/hitchseason first, which proves and builds it")
         sys.exit(2)
-    with tempfile.TemporaryDirectory(dir=place()) as folder:
-        room = Room(folder)
+    # No library is loaded from memory in some places.
+    with tempfile.TemporaryDirectory(dir=place()) as folder, tempfile.TemporaryDirectory() as library:
+        room = Room(folder, library)
         wrong = turns(room, "init", making, ["memory", "right"])
         wrong += turns(room, "serve", serving, ["memory", "unread", "no 90", "no 51", "right"])
         wrong += turns(room, "gen", generating, ["memory", "right"])

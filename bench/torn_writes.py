@@ -2,7 +2,8 @@
 """Each prefix of what commands write to a journal, torn in many ways: files that a loss of power may leave, and what is found on them.
 
 usage: bench/torn_writes.py [MORE [SEED [FOLDER]]]     (PROGRAM=FILE tries another build than tools/build's). Needs cc. MORE files torn at
-random for each prefix, 4 unless said, beside the four of `MemDisk::after_stop`.
+random for each prefix, 4 unless said, beside the four of `MemDisk::after_stop`. FOLDER lies in memory, where there is such a place, unless said: what a
+disk would lose is made here.
 The writes and syncs of the program on its own journal are recorded (bench/fail_disk.c): those of an `init`, and of three runs, one behind
 the other, with asks of the whole and of parts, of several analysts, refused and granted, the last by two workers; of one that opens the journal's next
 area; and of one over a journal of version 1. What was synced stays. Of each later write up to the prefix's end any bytes may be there, and the file
@@ -138,21 +139,21 @@ def files_after(before, calls, more, rng):
 
 
 class Room:
-    def __init__(self, folder):
+    def __init__(self, folder, library):
         os.chdir(folder)
         os.mkdir("journals")
-        self.came, self.tried = Counter(), set()
+        self.came, self.tried, self.library = Counter(), set(), f"{library}/fail.so"
         tables = (("people", "people.csv", (("town", "text"), ("age", "num"))),)
         whole = catalog(owner(tables=tables, budget=10_000_000, capacity=CAPACITY, partitions=(("area", "people", "town", ("A", "B")),)))
         for name, data in (("key", bytes(32)), ("cat.json", whole), ("people.csv", b"town,age\nA,20\nB,30\nA,40\n")):
             with open(name, "wb") as file:
                 file.write(data)
-        subprocess.run(["cc", "-O1", "-shared", "-fPIC", "-o", "fail.so", f"{TOP}/bench/fail_disk.c", "-ldl"], check=True)
+        subprocess.run(["cc", "-O1", "-shared", "-fPIC", "-o", self.library, f"{TOP}/bench/fail_disk.c", "-ldl"], check=True)
         self.head, self.entry = header(whole, 0, bytes(32), contents, 2), read(whole)["owners"][0]
 
     def ran(self, command, lines=(), workers=None, **given):
         if given:
-            given["LD_PRELOAD"] = os.path.abspath("fail.so")
+            given["LD_PRELOAD"] = self.library
         script = "".join(f"{line}\n" for line in lines)
         words = [PROGRAM, command, *(["--workers", workers] if workers else []), "cat.json", "key"]
         return subprocess.run(words, input=script, capture_output=True, text=True, env={**os.environ, **given})
@@ -270,9 +271,9 @@ def main():
         subprocess.run([f"{TOP}/tools/build"], check=True)
     more = int(sys.argv[1]) if len(sys.argv) > 1 else 4
     rng = random.Random(int(sys.argv[2]) if len(sys.argv) > 2 else 1)
-    os.makedirs(f"{TOP}/out", exist_ok=True)
-    with tempfile.TemporaryDirectory(dir=sys.argv[3] if len(sys.argv) > 3 else f"{TOP}/out") as folder:
-        room = Room(folder)
+    place = sys.argv[3] if len(sys.argv) > 3 else "/dev/shm" if os.access("/dev/shm", os.W_OK) else None
+    with tempfile.TemporaryDirectory(dir=place) as folder, tempfile.TemporaryDirectory() as library:
+        room = Room(folder, library)
         try:
             for name, before, calls, records in list(steps(room)):
                 # The first sync of a run is its opening's.

@@ -384,20 +384,20 @@ def kills(rng, count, plants, came):
 
 
 class Faults:
-    def __init__(self, room, rng, came):
-        self.room, self.rng, self.came = room, rng, came
-        subprocess.run(["cc", "-O1", "-shared", "-fPIC", "-o", "fail.so", f"{TOP}/bench/fail_disk.c", "-ldl"], check=True)
+    def __init__(self, room, rng, came, library):
+        self.room, self.rng, self.came, self.library = room, rng, came, f"{library}/fail.so"
+        subprocess.run(["cc", "-O1", "-shared", "-fPIC", "-o", self.library, f"{TOP}/bench/fail_disk.c", "-ldl"], check=True)
         first = Script(room, rng, 4, 3, 10**6)
         ended(room.ran("run", first.bytes), 0)
         shutil.copytree("journals", "before")
         self.kept, self.found = room.journals(), room.books()
-        calls = lambda order: int(room.ran("audit", LD_PRELOAD=os.path.abspath("fail.so"), ONLY=f"/{order}.bud", TELL="1").stderr)
+        calls = lambda order: int(room.ran("audit", LD_PRELOAD=self.library, ONLY=f"/{order}.bud", TELL="1").stderr)
         self.opening = [calls(order) for order in range(len(room.names))]
 
     def ran(self, script, order, **faults):
         shutil.rmtree("journals")
         shutil.copytree("before", "journals")
-        return self.room.ran("run", script.bytes, WORKERS, LD_PRELOAD=os.path.abspath("fail.so"), ONLY=f"/{order}.bud", **faults)
+        return self.room.ran("run", script.bytes, WORKERS, LD_PRELOAD=self.library, ONLY=f"/{order}.bud", **faults)
 
     def turn(self, plants):
         room, rng = self.room, self.rng
@@ -465,12 +465,14 @@ ENDS = ["not opened", "no 52", "no 42", "a settlement more", "a reservation alon
 
 
 def faults(rng, count, plants, came):
-    trial = Faults(Room(rng, NAMES, AMPLE, 200), rng, came)
-    for number in range(count):
-        try:
-            trial.turn(plants)
-        except (Wrong, Refused) as fault:
-            raise Wrong(f"fault {number + 1}: {fault}") from None
+    # No library is loaded from memory in some places.
+    with tempfile.TemporaryDirectory() as library:
+        trial = Faults(Room(rng, NAMES, AMPLE, 200), rng, came, library)
+        for number in range(count):
+            try:
+                trial.turn(plants)
+            except (Wrong, Refused) as fault:
+                raise Wrong(f"fault {number + 1}: {fault}") from None
 
 
 # Plants.
