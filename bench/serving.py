@@ -372,16 +372,16 @@ def kills(rng, count):
                 if not now.startswith(kept[order]):
                     raise Wrong(f"kill {number + 1}: an earlier record of owner {order} isn't what it was")
                 kept[order] = now
-            alone += sum(len(book.reserved) - len(book.settled) for book in books)
+            now_alone = sum(len(book.reserved) - len(book.settled) for book in books)
             # Every eighth time the journals get long, since each kill is judged by all of their records.
             if max(len(book.records) for book in books) > (2**14 if times % 8 == 7 else 2**11) and number < count - 1:
                 shutil.rmtree(f"{folder}/journals")
                 room.ran("init")
-                times, answers = times + 1, answers + len(heard.answers)
+                times, answers, alone = times + 1, answers + len(heard.answers), alone + now_alone
                 asks, heard, kept = Asks(room, rng), Heard(), [b""] * 4
         with Service(room) as service:
             judge_recalls(service, room, books, "lost")
-        print(f"kills: {count}, {answers + len(heard.answers)} answers came, {alone} reservations were found without one: no difference")
+        print(f"kills: {count}, {answers + len(heard.answers)} answers came, {alone + now_alone} reservations were found without one: no difference")
 
 
 # Hours.
