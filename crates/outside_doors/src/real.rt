@@ -4,7 +4,7 @@ ghost use Rattle.std.specs.Prelude.{◌≡◌, ⊤, ◌≤◌, length, None, IfO
 ghost use Rattle.outside_doors.specs.Waits.{AreOfService};
 
 use crate::door::Doors;
-use crate::waits::{DRAIN, Limits, PAUSE, TRIES, Waits};
+use crate::waits::{DRAIN, Limits, PAUSE, SPELL, TRIES, Waits};
 use fz_outside::Failed;
 use outside_links::fault;
 use outside_links::link::Link;
@@ -45,12 +45,21 @@ fn micros_since<R: Clock>(clock: &R, start: Instant) -> io::Result<u64> {
     Ok(u64::try_from(micros).unwrap_or(u64::MAX).saturating_add(1))
 }
 
-// How long may be waited, or the error that says that it was long enough.
+// How long may be waited at once, or the error that says that it was long enough. A system may end a long wait later by some hundredths
+// of it, so it is waited for a second at a time.
 fn within(left: u64) -> io::Result<Option<Duration>> {
     if left == 0 {
         return Err(ErrorKind::TimedOut.into());
     }
-    Ok(Some(Duration::from_micros(left)))
+    Ok(Some(Duration::from_micros(left.min(SPELL))))
+}
+
+// Whether a call is made again after such an error: it was interrupted, or nothing came in the time that is waited at once.
+fn goes_on(kind: ErrorKind) -> bool {
+    matches!(
+        kind,
+        ErrorKind::Interrupted | ErrorKind::WouldBlock | ErrorKind::TimedOut
+    )
 }
 
 // Reads what comes within the limits.
@@ -68,7 +77,7 @@ fn read_within<R: Clock, S: Read + OpenStream>(
         let answer = stream.read(buf);
         waits.read(micros_since(clock, start)?);
         match answer {
-            Err(e) if e.kind() == ErrorKind::Interrupted => {}
+            Err(e) if goes_on(e.kind()) => {}
             answer => return answer,
         }
     }
@@ -91,7 +100,7 @@ fn write_within<R: Clock, S: Write + OpenStream>(
         let took = micros_since(clock, start)?;
         waits.wrote(took, matches!(&answer, Ok(n) if *n == piece.len()));
         match answer {
-            Err(e) if e.kind() == ErrorKind::Interrupted => {}
+            Err(e) if goes_on(e.kind()) => {}
             answer => return answer,
         }
     }

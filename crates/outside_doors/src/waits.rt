@@ -22,6 +22,9 @@ const SECOND: u64 = 1_000_000;
 /// How long it is drained at most what a peer has sent behind what was answered.
 pub(crate) const DRAIN: u64 = SECOND;
 
+/// How long a peer is waited for at once.
+pub(crate) const SPELL: u64 = SECOND;
+
 /// How long a door waits before it tries again to let somebody in, and how often it tries.
 pub(crate) const PAUSE: u64 = SECOND / 10;
 
