@@ -242,7 +242,11 @@ impl<'a, R: Net<Listener = TcpListener, Stream = TcpStream> + Clock> Doors for R
     }
 
     fn done(&mut self, link: RealLink<'a, R, TcpStream>) {
+        let failed = link.faults > 0;
         let mut stream = link.stream;
-        let _ = hang_up(self.rt, &mut stream);
+        // Nothing that is on its way is waited for over a connection that has failed, since then its peer was waited for long enough.
+        if !failed {
+            let _ = hang_up(self.rt, &mut stream);
+        }
     }
 }
