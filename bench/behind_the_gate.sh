@@ -1,6 +1,8 @@
 #!/usr/bin/env bash
-# The Python tests that go behind a passed `rt ci`: tools, pages and connections beside the real program, in some three minutes.
-# usage: bench/behind_the_gate.sh    (PROGRAM=FILE tries another build)
+# The Python tests that go behind a passed `rt ci`: tools and pages beside the real program, in some two minutes.
+# usage: bench/behind_the_gate.sh [--services]    (PROGRAM=FILE tries another build)
+# With --services those of connections, copies and the second implementation, in short forms: they wait for clocks and ports, so no gate
+# hangs on them.
 # It tries the proved program where `rt run` has built it, else tools/build's quick build, which takes its minutes first where something has
 # changed. Where there is no Python 3.9 or later it says so and ends well: nothing of what is proved hangs on it. Two scripts run at a time.
 # It ends with status 1 where one fails, and shows what that one said.
@@ -9,16 +11,18 @@ cd "$(dirname "${BASH_SOURCE[0]}")/.." || exit 2
 # Seconds for one script: many times what it takes, since machines may be slow and busy.
 LIMIT=900
 # Each with its words. A script that isn't there is passed over, so that a line may be put in before its script is.
-SCRIPTS=(client.py "serving.py --quick" prepare.py find_fault.py explain.py walks.py why.py pages.py first_programs.py language.py keeping.py "snapshots.py 8"
-    "two_processes.py 3")
-# The second implementation takes its ChaCha20 from there.
-if python3 -c 'import cryptography' 2>/dev/null; then
-    SCRIPTS+=(compare_gen.py "compare_journals.py 500" "compare_scripts.py 60" "compare_orders.py 40")
-else
-    echo "the second implementation is skipped: there is no Python package cryptography"
+SCRIPTS=(client.py prepare.py find_fault.py explain.py walks.py why.py pages.py first_programs.py language.py)
+if [ "${1:-}" = --services ]; then
+    SCRIPTS=("serving.py --quick" keeping.py "snapshots.py 8" "two_processes.py 3")
+    # The second implementation takes its ChaCha20 from there.
+    if python3 -c 'import cryptography' 2>/dev/null; then
+        SCRIPTS+=(compare_gen.py "compare_journals.py 500" "compare_scripts.py 60" "compare_orders.py 40")
+    else
+        echo "the second implementation is skipped: there is no Python package cryptography"
+    fi
+    # It runs an sshd of its own.
+    if PATH=$PATH:/usr/sbin:/sbin command -v sshd ssh ssh-keygen >/dev/null; then SCRIPTS+=("door.py 20"); else echo "bench/door.py is skipped: there is no sshd"; fi
 fi
-# It runs an sshd of its own.
-if PATH=$PATH:/usr/sbin:/sbin command -v sshd ssh ssh-keygen >/dev/null; then SCRIPTS+=("door.py 20"); else echo "bench/door.py is skipped: there is no sshd"; fi
 
 if ! python3 -c 'import sys; sys.exit(sys.version_info < (3, 9))' 2>/dev/null; then
     echo "the tests of tools and pages are skipped: there is no Python 3.9 or later"
