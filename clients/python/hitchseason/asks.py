@@ -57,8 +57,8 @@ def divided(charge, shares):
 
 
 class Ask:
-    def __init__(self, owner, written, sensitivity, e, part=None):
-        self.owner, self.written, self.sensitivity, self.e, self.part = owner, written, sensitivity, e, part
+    def __init__(self, owner, written, sensitivity, e, part=None, closed=False):
+        self.owner, self.written, self.sensitivity, self.e, self.part, self.closed = owner, written, sensitivity, e, part, closed
 
     @property
     def sent(self):
@@ -72,12 +72,14 @@ class Ask:
 
     def line(self):
         of = f"askpart {self.owner} {' '.join(self.part)}" if self.part else f"ask {self.owner}"
-        return f"{of} {explain.in_units(self.e)} {self.sent}"
+        return f"{of} {explain.in_units(self.e)} {f'({self.sent})' if self.closed else self.sent}"
 
 
 class View:
-    def __init__(self, catalog, owner):
-        self.catalog, self.entry, self.known = catalog, owner, {}
+    """CLOSED: a line may be cut, and what came of it count as a line. So programs go in parentheses, of which no beginning is a program."""
+
+    def __init__(self, catalog, owner, closed=False):
+        self.catalog, self.entry, self.closed, self.known = catalog, owner, closed, {}
 
     @property
     def name(self):
@@ -114,13 +116,15 @@ class View:
             words, said = explain.refused(house, found.sent)
             if words:
                 raise faults.of_program(house, found, words, said)
+            if self.closed and (words := explain.refused(house, b"(" + found.sent + b")")[0]):
+                raise faults.Refused(f"no {' '.join(words)}: over a connection the program goes in parentheses, and with these it's beyond a limit.")
             self.known[program, partition] = found, said
         return self.known[program, partition]
 
     def ask(self, program, eps=None, charge=None, part=None):
         part = self.part(*part) if part else None
         found, sensitivity = self.checked(program, part[0] if part else None)
-        ask = Ask(self.name, found, sensitivity, price(sensitivity, eps, charge), part)
+        ask = Ask(self.name, found, sensitivity, price(sensitivity, eps, charge), part, self.closed)
         if len(ask.line().encode()) > lines.LINE_LIMIT:
             raise faults.Refused(f"the line that asks it has over {lines.LINE_LIMIT} bytes.")
         return ask

@@ -72,7 +72,7 @@ class Client:
             if name not in all_names:
                 raise Refused(f"there is no {what} `{name}`: {known(name, [one for one in all_names if one], 'there is')}")
         self.transport, self.catalog, self.analyst = transport, catalog, analyst
-        self.view = View(catalog, catalog["owners"][names.index(owner)])
+        self.view = View(catalog, catalog["owners"][names.index(owner)], getattr(transport, "closed", False))
         self.next = self.pending = None
 
     # What is asked. Each takes `eps` or `charge`, and `part=(PARTITION, KEY)`, as statistics.py says.

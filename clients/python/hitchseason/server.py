@@ -6,6 +6,7 @@
 Both are transports (transport.py). A worker serves one connection at a time, so one is kept only for as long as a call asks (`kept`), and ends with
 `bye`. The first line of each connection goes alone, and asks nothing: where it isn't answered nothing was asked, and another connection is tried for
 a while, as the service may be started anew. Where replies to later lines are missing that is said (`Stopped`), and nothing is sent again.
+Where a connection ends within a line, what came of the line is a line to the service. So programs are `closed`: they go in parentheses (asks.py).
 """
 import json
 import signal
@@ -29,6 +30,8 @@ class Ended(Exception):
 
 
 class Server:
+    closed = True
+
     def __init__(self, given):
         self.given, self.link, self.depth, self.waiting = given, None, 0, False
 

@@ -24,7 +24,7 @@ def has_serve():
 
 
 class Proxy:
-    """Hands bytes through, and cuts a connection where it is told: before a line that asks, behind it, or behind its reply."""
+    """Hands bytes through, and cuts a connection where it is told: before a line that asks, behind it, within it, or behind its reply."""
 
     def __init__(self, port):
         self.to, self.door, self.cut, self.connections = port, socket.create_server(("127.0.0.1", 0)), None, 0
@@ -52,6 +52,9 @@ class Proxy:
                 mode = self.cut if line.startswith(b"ask") else None
                 self.cut = None if mode else self.cut
                 if mode == "before":
+                    return
+                if mode == "within":
+                    to.sendall(line.rpartition(b" + ")[0])
                     return
                 to.sendall(line)
                 if mode == "behind":
@@ -133,6 +136,11 @@ class Served(unittest.TestCase):
             self.assertEqual((answer.number, answer.recalled), (expected, mode is not None))
             self.assertEqual(client.recall(expected), answer.value)
             expected += 1
+        self.assertEqual(client.left().records, 2 * expected)
+        # What came of a line that was cut isn't another program: nothing is asked.
+        self.proxy.cut = "within"
+        with self.assertRaises(Failed):
+            client.ask("size persons + 7", eps=1)
         self.assertEqual(client.left().records, 2 * expected)
         self.proxy.cut = "answered"
         with self.assertRaises(Cut) as caught:
