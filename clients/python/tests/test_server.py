@@ -121,6 +121,12 @@ class Served(unittest.TestCase):
             self.client("nobody")
         with self.assertRaises(Failed):
             connect("no/folder", "mia", "labour")
+        # With its parentheses the longest program is too long.
+        longest = "1" + 15_999 * " "
+        self.place.client().forecast("ask", longest, eps=1)
+        with self.assertRaises(Refused) as caught:
+            self.client().forecast("ask", longest, eps=1)
+        self.assertIn("parentheses", str(caught.exception))
 
     def test_cut(self):
         """An ask is answered, found by `recall`, or known to be none; it is never sent twice."""
