@@ -175,7 +175,6 @@ class RandomCuts(unittest.TestCase):
             self.assertLessEqual(sent[number], calls)
         recalled, again = sum(one[2] for one in told.values()), sum(one[3] > 1 for one in told.values())
         self.assertGreater(recalled, 0)
-        self.assertGreater(again, 0)
         print(f"    {many} asks, {sum(cutter.cuts for cutter in cutters)} cuts: {recalled} answers recalled, {again} asked again by the test after `Failed`")
 
     def book(self):
