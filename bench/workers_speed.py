@@ -29,7 +29,8 @@ from catalog import catalog, owner  # noqa: E402
 
 OWNERS = ("o1", "o2", "o3", "o4")
 SHORT = "size people"
-LONG = "sum[0,100] (map (fn (x : num) => x + 1) (filter (fn (x : num) => x <= 50) people))"
+# some 0.14 ms over 2^14 rows, seven times
+LONG = " + ".join(["sum[0,100] (map (fn (x : num) => x + 1) (filter (fn (x : num) => x <= 50) people))"] * 7)
 MEMORY = "/dev/shm"
 
 
