@@ -1,4 +1,3 @@
 pub mod Charges
 mod Examples
-pub mod Rests
 pub mod Standing
