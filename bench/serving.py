@@ -5,7 +5,8 @@ usage: bench/serving.py cut [N]                    100 connections to 16 ports, 
        bench/serving.py silent [PEERS [WORKERS]]   2 silent peers and 2 ports: each peer takes up to 30 s
        bench/serving.py hostile [N]                5,000 hostile lines
        bench/serving.py kills [N]                  20 kills of the service among connections
-       bench/serving.py soak [SECONDS [BUDGET]]    20 s of all kinds of connections; with a budget of so many millionths, which ends soon, of all owners
+       bench/serving.py soak [SECONDS [BUDGET [RECORDS]]]   20 s of all kinds of connections; with a budget of so many millionths, which ends soon, of
+                                                   all owners, and room for so many records of each, which is full soon
        bench/serving.py [--quick]                  all of these, so short, or shorter, in less than a minute
 --seed S with any of them (PROGRAM=FILE tries another build than tools/build's)
 
@@ -387,9 +388,9 @@ def kills(rng, count):
 # Hours.
 
 
-def soak(rng, seconds, budget):
+def soak(rng, seconds, budget, capacity):
     with tempfile.TemporaryDirectory(dir=place()) as folder:
-        room, heard = Room(folder, capacity=2**18, budget=budget), Heard()
+        room, heard = Room(folder, capacity=capacity, budget=budget), Heard()
         asks, first, begun, number = Asks(room, rng), None, time.monotonic(), 0
         # The greatest memory until now, in KiB, and how many records there are.
         measured = lambda: (service.peak(), sum(len(book.records) for book in room.books()))
@@ -413,7 +414,7 @@ def soak(rng, seconds, budget):
 # Each with its usual numbers, and those of the quick form.
 KINDS = {
     "cut": (cuts, [100], [40]), "silent": (silent, [2, 2], [1, 1]), "hostile": (hostile, [5000], [3000]), "kills": (kills, [20], [4]),
-    "soak": (soak, [20, AMPLE], [8, AMPLE]),
+    "soak": (soak, [20, AMPLE, 2**18], [8, AMPLE, 2**18]),
 }  # fmt: skip
 
 
