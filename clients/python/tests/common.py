@@ -6,9 +6,11 @@ import csv
 import hashlib
 import json
 import os
+import socket
 import subprocess
 import sys
 import tempfile
+import threading
 from math import sqrt
 
 TOP = os.path.dirname(os.path.dirname(os.path.dirname(os.path.dirname(os.path.abspath(__file__)))))
@@ -21,6 +23,26 @@ BUDGET, CAPACITY = 10**15, 2**18
 
 def often(short, long):
     return long if LONG else short
+
+
+class Between:
+    """Takes connections at a port of its own, and has `serve` serve each with what `taken` says of it, in a thread of its own."""
+
+    def __init__(self, to):
+        self.to, self.door = to, socket.create_server(("127.0.0.1", 0))
+        self.port = self.door.getsockname()[1]
+        threading.Thread(target=self.run, daemon=True).start()
+
+    def run(self):
+        while True:
+            try:
+                link, _ = self.door.accept()
+            except OSError:
+                return
+            threading.Thread(target=self.serve, args=(link, *self.taken()), daemon=True).start()
+
+    def close(self):
+        self.door.close()
 
 
 class Place:

@@ -12,7 +12,7 @@ import unittest
 from collections import Counter
 
 import test_server
-from common import PROGRAM, TOP, often, survey
+from common import PROGRAM, TOP, Between, often, survey
 from hitchseason import Cut, Failed, connect, server
 
 sys.path.insert(0, f"{TOP}/tools")
@@ -25,29 +25,21 @@ EPS = 1000
 ASKED = re.compile(rb"^ask labour 1000 \(size persons \+ (\d+)\)$", re.M)
 
 
-class Cutter:
+class Cutter(Between):
     """Hands bytes through, and cuts so many of its connections: where so many bytes went to the service, or to the client, by a reset or an end. It
     keeps what clients sent."""
 
     def __init__(self, port, seed, share=0.7, most=300):
-        self.to, self.rng, self.share, self.most, self.cuts = port, random.Random(seed), share, most, 0
+        self.rng, self.share, self.most, self.cuts = random.Random(seed), share, most, 0
         self.sent, self.lock = [], threading.Lock()
-        self.door = socket.create_server(("127.0.0.1", 0))
-        self.port = self.door.getsockname()[1]
-        threading.Thread(target=self.run, daemon=True).start()
+        super().__init__(port)
 
-    def run(self):
-        while True:
-            try:
-                link, _ = self.door.accept()
-            except OSError:
-                return
-            with self.lock:
-                cut = self.rng.random() < self.share
-                limits = [self.rng.randrange(self.most), 10**9] if cut else [10**9, 10**9]
-                self.rng.shuffle(limits)
-                reset = self.rng.random() < 0.5
-            threading.Thread(target=self.serve, args=(link, limits, reset), daemon=True).start()
+    def taken(self):
+        with self.lock:
+            cut = self.rng.random() < self.share
+            limits = [self.rng.randrange(self.most), 10**9] if cut else [10**9, 10**9]
+            self.rng.shuffle(limits)
+            return limits, self.rng.random() < 0.5
 
     def serve(self, link, limits, reset):
         sent = bytearray()
@@ -84,9 +76,6 @@ class Cutter:
                 return True
             if (link in ready and not data) or (to in ready and not said):
                 return False
-
-    def close(self):
-        self.door.close()
 
 
 @unittest.skipUnless(test_server.has_serve(), "the program has no serve")

@@ -9,7 +9,7 @@ import threading
 import time
 import unittest
 
-from common import PROGRAM, TOP, often, survey
+from common import PROGRAM, TOP, Between, often, survey
 from hitchseason import Cut, Failed, Refused, connect
 
 sys.path.insert(0, f"{TOP}/bench")
@@ -23,22 +23,16 @@ def has_serve():
     return said.returncode == 3
 
 
-class Proxy:
+class Proxy(Between):
     """Hands bytes through, and cuts a connection where it is told: before a line that asks, behind it, within it, or behind its reply."""
 
     def __init__(self, port):
-        self.to, self.door, self.cut, self.connections = port, socket.create_server(("127.0.0.1", 0)), None, 0
-        self.port = self.door.getsockname()[1]
-        threading.Thread(target=self.run, daemon=True).start()
+        self.cut, self.connections = None, 0
+        super().__init__(port)
 
-    def run(self):
-        while True:
-            try:
-                link, _ = self.door.accept()
-            except OSError:
-                return
-            self.connections += 1
-            threading.Thread(target=self.serve, args=(link,), daemon=True).start()
+    def taken(self):
+        self.connections += 1
+        return ()
 
     def serve(self, link):
         try:
@@ -63,9 +57,6 @@ class Proxy:
                 if mode == "answered":
                     return
                 link.sendall(reply)
-
-    def close(self):
-        self.door.close()
 
 
 @unittest.skipUnless(has_serve(), "the program has no serve")
