@@ -180,8 +180,10 @@ class Case:
             area = live_area(kept, capacity)
             settled = [k for k, record in enumerate(book.records) if isinstance(record, Settlement)]
             for k in settled:
-                if self.rng.random() < 0.25:
-                    kept[area.place(k) : area.place(k + 1)] = Settlement(book.records[k].number, self.rng.choice([2, 3])).encoded()
+                # From version 3 on what an exhausted number takes comes back, and later reservations go by that: it stays exhausted.
+                if self.rng.random() < 0.25 and (book.version < 3 or book.records[k].outcome != 2):
+                    outcome = self.rng.choice([2, 3]) if book.version < 3 else 3
+                    kept[area.place(k) : area.place(k + 1)] = Settlement(book.records[k].number, outcome).encoded()
             if records and self.rng.random() < 0.3:
                 kept[area.place(records - 1)] = self.rng.choice([0, 0, GATE ^ 0x80, 0xFF])
                 self.came["a record without its gate"] += 1

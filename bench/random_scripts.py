@@ -10,7 +10,7 @@
 import math
 from fractions import Fraction
 
-from journal import WHOLE, Reservation, Settlement
+from journal import WHOLE, Reservation
 from random_programs import NUM, Writer, candidate, catalog, mutated, near_limit, owner, program_of, scratched, spaced
 from reference import KNOWN_PROGRAMS, LINE_LIMIT
 from tables import signature
@@ -101,7 +101,7 @@ def lay_records(rng, book):
         if unsettled and rng.random() < 0.45:
             outcome = rng.choice([1, 1, 2, 3])
             answer = rng.choice([0, 7, -1, 2**63 - 1, -(2**63), rng.randint(-(2**50), 2**50)])
-            book.add(Settlement(rng.choice(unsettled), outcome, answer if outcome == 1 else 0))
+            book.add(book.settlement(rng.choice(unsettled), outcome, answer if outcome == 1 else 0))
         elif len(book.records) < many:
             book.add(reservation_at_random(rng, book, [1000] if fills else [2, 10, 50]))
         if len(book.records) == many:

@@ -8,11 +8,12 @@
                                         are only ever added, so any other change was made by somebody, or by the disk. It ends with status 1
                                         where one is changed or gone
     journal.py --audits FILE            whether a figure ever fell in FILE, in which audits were kept one behind the other, as it does where an
-                                        old journal is put back. It ends with status 1 where one did
+                                        old journal is put back; only what is spent may fall, where there are more exhausted numbers. It
+                                        ends with status 1 where one did
     journal.py --check                  the values that are known from outside
 
 It shares nothing with the server but the rules (docs/journal-format.md). A journal is the file N.bud of owner N: a header of 128 bytes
-and slots of 64 bytes, in one area (version 1) or in areas of which one is live (version 2), whole numbers highest byte first. A slot is
+and slots of 64 bytes, in one area (version 1) or in areas of which one is live (versions 2 and 3), whole numbers highest byte first. A slot is
 open where its first byte is 0xA5.
 A file that is no journal of this catalog, key and tables is refused in the server's words, and the end is with status 1. Where a file can't
 be read, or the catalog is none, that is said on standard error, and the end is with status 2: nothing is known of the journals then.
@@ -30,7 +31,7 @@ from catalog import BadCatalog, census, json_value, read
 GATE = 0xA5
 HEAD, SLOT = 128, 64
 VERSION_AT, GATES_AT, MOST_AREAS = 9, 96, 32
-VERSIONS = (1, 2)
+VERSIONS = (1, 2, 3)
 FIRST_SLOTS = 64
 WHOLE = (255, 0)
 OUTCOMES = {1: "answered", 2: "exhausted", 3: "lost"}
@@ -68,18 +69,20 @@ class Reservation:
 
 
 class Settlement:
-    def __init__(self, number, outcome, answer=0):
-        self.number, self.outcome, self.answer = number, outcome, answer
+    def __init__(self, number, outcome, answer=0, returned=0):
+        self.number, self.outcome, self.answer, self.returned = number, outcome, answer, returned
 
     def encoded(self):
-        return bytes([GATE, 2, self.outcome, 0]) + self.number.to_bytes(4, "big") + self.answer.to_bytes(8, "big", signed=True) + bytes(48)
+        numbers = self.number.to_bytes(4, "big") + self.answer.to_bytes(8, "big", signed=True) + self.returned.to_bytes(8, "big")
+        return bytes([GATE, 2, self.outcome, 0]) + numbers + bytes(40)
 
     def standing(self):
         """What a `recall` says of it."""
         return f"answer {self.answer}" if self.outcome == 1 else OUTCOMES[self.outcome]
 
     def said(self, entry, analysts):
-        return f"settlement {self.number} {self.standing()}"
+        back = f" returned {self.returned}" if self.returned else ""
+        return f"settlement {self.number} {self.standing()}{back}"
 
 
 def decoded(slot):
@@ -93,8 +96,8 @@ def decoded(slot):
         if not seen or not 1 <= found.e <= 10**9 or found.q == 0 or gcd(found.p, found.q) != 1:
             return None
     elif kind == 2 and slot[2] in OUTCOMES:
-        found = Settlement(number, slot[2], int.from_bytes(slot[8:16], "big", signed=True))
-        if found.outcome != 1 and found.answer != 0:
+        found = Settlement(number, slot[2], int.from_bytes(slot[8:16], "big", signed=True), int.from_bytes(slot[16:24], "big"))
+        if (found.outcome != 1 and found.answer != 0) or (found.outcome != 2 and found.returned != 0):
             return None
     else:
         return None
@@ -107,11 +110,11 @@ def no_record(slot):
     if slot[1] not in (1, 2):
         return [f"its kind (byte 1) is {slot[1]}, and a record is 1, a reservation, or 2, a settlement"]
     if slot[1] == 2:
-        tail = slot[16:] if slot[2] == 1 else slot[8:]
+        tail = slot[16:] if slot[2] == 1 else slot[8:16] + slot[24:] if slot[2] == 2 else slot[8:]
         wrong = {
             f"the outcome of a settlement (byte 2) is {slot[2]}, and 1 to 3 are known": slot[2] not in OUTCOMES,
             f"byte 3 of a settlement is {slot[3]}, where 0 belongs": slot[3] != 0,
-            "a settlement has bytes behind its end, where zeros belong": any(tail),
+            "a settlement has other bytes than its own, where zeros belong": any(tail),
         }
         return [said for said, holds in wrong.items() if holds]
     whole = (slot[2], slot[3]) == WHOLE
@@ -189,7 +192,7 @@ def live_number(data):
 
 
 def stray_gate(data, capacity):
-    """What is wrong with the gates of areas in a header of version 2, in words, or nothing."""
+    """What is wrong with the gates of areas in a header of version 2 or 3, in words, or nothing."""
     live, last = live_number(data), len(areas(2, capacity)) - 1
     later = [number for number in range(live + 1, MOST_AREAS) if data[GATES_AT + number] == GATE]
     if live > last:
@@ -207,7 +210,7 @@ def capacity_in(data):
 def live_area(data, capacity):
     """The area of which a journal's records are read, by its header."""
     version = version_of(data)
-    return Area(version, capacity, live_number(data) if version == 2 else 0)
+    return Area(version, capacity, live_number(data) if version > 1 else 0)
 
 
 def check_header(data, head, capacity):
@@ -215,18 +218,18 @@ def check_header(data, head, capacity):
     version = version_of(data)
     due = head[:VERSION_AT] + bytes([version]) + head[VERSION_AT + 1 :]
     if data[VERSION_AT] not in VERSIONS:
-        raise Refused("changed", f"its version (byte {VERSION_AT}) is {data[VERSION_AT]}, and 1 and 2 are known")
+        raise Refused("changed", f"its version (byte {VERSION_AT}) is {data[VERSION_AT]}, and 1, 2 and 3 are known")
     counts = HEAD if version == 1 else GATES_AT + 1
     if data[:counts] != due[:counts]:
         raise Refused("changed", "it is another entry's, key's or table's, or somebody has written into it")
-    stray = stray_gate(data, capacity) if version == 2 else None
+    stray = stray_gate(data, capacity) if version > 1 else None
     if stray:
         raise Refused("changed", f"a gate is out of order: {stray}")
 
 
 def length_fault(data, area):
-    """What is wrong with a journal's length, where this area is live, or nothing. In version 2 the file may go on behind it."""
-    if len(data) == area.end or (area.version == 2 and len(data) > area.end):
+    """What is wrong with a journal's length, where this area is live, or nothing. From version 2 on the file may go on behind it."""
+    if len(data) == area.end or (area.version > 1 and len(data) > area.end):
         return None
     if len(data) > area.end:
         return area.slots, f"the file has {len(data)} bytes, and {area.end} are due: {len(data) - area.end} too many"
@@ -294,17 +297,21 @@ def appended(data, capacity, records):
     return bytes(data)
 
 
+def dearest(sums):
+    """What the dearest part of each partition costs, by the sum of each view's charges."""
+    return {partition: max(sums[view] for view in sums if view[0] == partition) for partition, _ in sums if partition != 255}
+
+
 def cost(sums):
-    """The whole view's charges, and for each partition its dearest part's, by the sum of each view's charges."""
-    parts = {partition: max(sums[view] for view in sums if view[0] == partition) for partition, _ in sums if partition != 255}
-    return sums.get(WHOLE, 0) + sum(parts.values())
+    """The whole view's charges, and for each partition its dearest part's."""
+    return sums.get(WHOLE, 0) + sum(dearest(sums).values())
 
 
 class Book:
-    """Records as they may follow one another, by an owner's entry and the number of analysts."""
+    """Records as they may follow one another, by an owner's entry, the number of analysts and the journal's version."""
 
-    def __init__(self, entry, analysts):
-        self.entry, self.analysts, self.records = entry, analysts, []
+    def __init__(self, entry, analysts, version=VERSIONS[-1]):
+        self.entry, self.analysts, self.version, self.records = entry, analysts, version, []
         self.sums, self.dearest, self.spent, self.reserved, self.settled = {}, {}, 0, [], {}
 
     def sum_with(self, one):
@@ -316,6 +323,18 @@ class Book:
             return self.spent + one.charge()
         return self.spent + max(0, self.sum_with(one) - self.dearest.get(one.view[0], 0))
 
+    def sums_with(self, settled):
+        """The sum of each view's charges with one settlement more: from version 3 on those of exhausted numbers don't count."""
+        if self.version < 3 or settled.outcome != 2:
+            return self.sums
+        one = self.reserved[settled.number]
+        return {**self.sums, one.view: self.sums[one.view] - one.charge()}
+
+    def settlement(self, number, outcome, answer=0):
+        """The settlement of a number that isn't settled, which says by how much the cost falls."""
+        sums = self.sums_with(Settlement(number, outcome))
+        return Settlement(number, outcome, answer, 0 if sums is self.sums else self.spent - cost(sums))
+
     def has_view(self, view):
         partitions = self.entry["partitions"]
         return view == WHOLE or (view[0] < len(partitions) and view[1] < len(partitions[view[0]]["keys"]))
@@ -325,7 +344,10 @@ class Book:
         if isinstance(one, Settlement):
             if one.number >= len(self.reserved):
                 return f"it settles number {one.number}, which no record before it reserves"
-            return f"it settles number {one.number}, which is settled already" if one.number in self.settled else None
+            if one.number in self.settled:
+                return f"it settles number {one.number}, which is settled already"
+            back = self.settlement(one.number, one.outcome).returned
+            return f"its settlement gives back {one.returned}, and the cost falls by {back}" if one.returned != back else None
         after = self.spent_with(one)
         if one.number != len(self.reserved):
             return f"it reserves number {one.number}, and {len(self.reserved)} is the next one"
@@ -347,7 +369,9 @@ class Book:
     def keep(self, one):
         """Adds a record that may follow."""
         if isinstance(one, Settlement):
-            self.settled[one.number] = one
+            self.settled[one.number], self.sums = one, self.sums_with(one)
+            if one.returned:
+                self.spent, self.dearest = self.spent - one.returned, dearest(self.sums)
         else:
             self.spent, self.sums[one.view] = self.spent_with(one), self.sum_with(one)
             self.dearest[one.view[0]] = max(self.dearest.get(one.view[0], 0), self.sums[one.view])
@@ -370,7 +394,7 @@ def book_of(data, head, entry, analysts):
     if len(data) < HEAD or data[0] != GATE:
         raise Refused(f"uninitialised {len(data)}")
     check_header(data, head, entry["capacity"])
-    book = Book(entry, analysts)
+    book = Book(entry, analysts, version_of(data))
     for k, record in enumerate(slots(data, entry["capacity"])):
         why = book.why_not(record)
         if why:
@@ -474,7 +498,8 @@ AUDIT = re.compile(r"(\w+) " + " ".join(f"{name} ([0-9]+)" for name in FIGURES) 
 
 
 def fallen(lines):
-    """A sentence for each figure of an owner that is less than in the audit before; no figure falls."""
+    """A sentence for each figure of an owner that is less than in the audit before. What is spent may fall where there are more exhausted
+    numbers, and no other figure does."""
     last = {}
     for number, line in enumerate(lines, 1):
         found = AUDIT.fullmatch(line.strip())
@@ -482,7 +507,8 @@ def fallen(lines):
             continue
         figures = dict(zip(FIGURES, map(int, found.groups()[1:])))
         for name, before in last.get(found[1], {}).items():
-            if figures[name] < before:
+            back = name == "spent" and figures["exhausted"] > last[found[1]]["exhausted"]
+            if figures[name] < before and not back:
                 yield f"line {number}: {found[1]} {name} fell from {before} to {figures[name]}: an old journal was put back, or somebody has changed it"
         last[found[1]] = figures
 
@@ -498,7 +524,7 @@ def check():
     assert reservation.encoded().hex().startswith("a501ff0000000000000f4240000000010000000100000000000f424000000000")
     assert settlement.encoded().hex() == "a5020100000000000000000000000005" + "00" * 48
     assert len(reservation.encoded()) == len(settlement.encoded()) == SLOT
-    for record in (reservation, settlement, Settlement(7, 1, -(2**50)), Settlement(2**32 - 1, 3), Reservation(9, (7, 249), 10**9, 0, 1, 0, 63, ONE)):
+    for record in (reservation, settlement, Settlement(7, 1, -(2**50)), Settlement(2**32 - 1, 3), Settlement(5, 2, 0, 7), Reservation(9, (7, 249), 10**9, 0, 1, 0, 63, ONE)):
         assert decoded(record.encoded()).encoded() == record.encoded()
     for change in [(1, 3), (2, 8), (3, 1), (19, 0), (15, 2), (30, 1)]:
         slot = bytearray(reservation.encoded())
@@ -534,6 +560,8 @@ def check():
     check_sums(entry)
     audits = ["census reservations 2 answered 1 exhausted 0 lost 1 spent 9 budget 10", "a day", "health reservations 1 answered 1 exhausted 0 lost 0 spent 3 "
         "budget 9", "census reservations 2 answered 2 exhausted 0 lost 0 spent 9 budget 10"]  # fmt: skip
+    back = ["a reservations 1 answered 0 exhausted 0 lost 1 spent 5 budget 9", "a reservations 1 answered 0 exhausted 1 lost 0 spent 0 budget 9"]
+    assert len(list(fallen(back))) == 1 and " lost fell" in list(fallen(back))[0]
     assert [line.split(":")[1] for line in fallen(audits)] == [" census lost fell from 1 to 0"] and not list(fallen(audits[:3] * 2))
     # A copy of a reservation alone, beside what it became, and beside changes of it and of the header.
     copy, grown = head + reservation.encoded() + bytes(64 * 99), head + reservation.encoded() + settlement.encoded() + bytes(64 * 98)
@@ -588,7 +616,7 @@ def check_areas(entry, head, reservation, settlement):
         (with_bytes(first, {98: GATE}), "changed"),
         (with_bytes(grown, {98: GATE}), "changed"),
         (with_bytes(first, {96: 1}), "changed"),
-        (with_bytes(first, {9: 3}), "changed"),
+        (with_bytes(first, {9: 4}), "changed"),
         (with_bytes(first, {9: 1}), "damaged 64"),
         (with_bytes(grown, {9: 1}), "changed"),
         (with_bytes(first, {HEAD + SLOT * 5: GATE}), "damaged 5"),
@@ -604,6 +632,12 @@ def check_sums(entry):
         one = Reservation(number, view, e, 1, 1, cost(held) - book.spent, 0, ONE)
         assert book.add(one) and book.spent == cost(held), (number, book.spent, cost(held))
     assert book.spent == 6 + 13 + 2
+    # Part a takes 6 of 10, b under it 4; when a's number is exhausted, 2 comes back from version 3 on.
+    for version, (back, spent) in {1: (0, 6), 2: (0, 6), 3: (2, 4)}.items():
+        book = Book({**parts, "budget": 10}, 1, version)
+        assert book.add(Reservation(0, (0, 0), 6, 1, 1, 6, 0, ONE)) and book.add(Reservation(1, (0, 1), 4, 1, 1, 0, 0, ONE))
+        assert book.settlement(0, 2).returned == back and book.settlement(1, 2).returned == book.settlement(0, 3).returned == 0
+        assert not book.add(Settlement(0, 2, 0, 1)) and book.add(book.settlement(0, 2)) and book.spent == spent
 
 
 def read_audits(name):

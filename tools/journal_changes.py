@@ -47,7 +47,7 @@ class Header:
         self.gate, self.magic, self.version = data[0], data[1:9], data[9]
         self.order, self.budget, self.capacity = number(10, 14), number(14, 22), number(22, 26)
         self.digest, self.rest = data[64:96], data[26:64] + data[GATES_AT : HEAD if self.version == 1 else GATES_AT + 1]
-        self.stray = stray_gate(data, self.capacity) if self.version == 2 else None
+        self.stray = stray_gate(data, self.capacity) if self.version > 1 else None
 
     def is_one(self):
         """Whether these are the bytes of some header, whatever it is of."""
@@ -58,7 +58,7 @@ def form_faults(found):
     if found.magic != MAGIC:
         return ["It is no journal: behind its first byte `FUZZBUDG` doesn't stand."]
     if found.version not in VERSIONS:
-        return [f"It is a journal of version {found.version}, and this program reads versions 1 and 2."]
+        return [f"It is a journal of version {found.version}, and this program reads versions 1 to 3."]
     if any(found.rest):
         zeros = f"26 to 63 and {GATES_AT} to {HEAD - 1}" if found.version == 1 else f"26 to 63, and {GATES_AT}"
         return [f"Bytes of its header that are always zeros ({zeros}) aren't: somebody has written into the file."]

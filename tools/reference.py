@@ -24,12 +24,13 @@ import argparse
 import hashlib
 import sys
 from fractions import Fraction
+from itertools import repeat
 from math import ceil
 
 from cryptography.hazmat.primitives.ciphers import Cipher, algorithms
 
 from catalog import catalog, census, owner, read
-from journal import WHOLE, Book, Reservation, Settlement, books
+from journal import VERSIONS, WHOLE, Book, Reservation, Settlement, books
 from lines import LINE_LIMIT, SCRIPT_LIMIT, lines_of, millionths, whole_number
 from programs import Refused
 from runs import Run, asked, chain, judgement, unions, value
@@ -112,12 +113,13 @@ def cost_of(charges):
 class Owner:
     """An owner's entry, tables and rows, and what was charged and recorded: of each reservation who made it, and what became of it.
 
+    From version 3 of its journal on an exhausted number's charge comes back.
     A view is None for the whole, else a partition's number and a key's. `added` has the records that its journal got in this run, and
     `unsettled` says how many reservations of this run have no settlement yet: none where one line is answered after another."""
 
     def __init__(self, entry, rows):
         self.entry, self.rows, self.tables = entry, rows, signature(entry)
-        self.charges, self.records, self.start = {}, 0, 0
+        self.version, self.charges, self.records, self.start = VERSIONS[-1], {}, 0, 0
         self.reservations, self.added, self.unsettled = [], [], 0
 
     def goes_on(self, charges, records, reservations):
@@ -128,10 +130,8 @@ class Owner:
 
     def found(self, book, analysts):
         """From here on a run is answered behind the records of a journal (journal.py)."""
-        charges = {}
-        for one in book.reserved:
-            view = None if one.view == WHOLE else one.view
-            charges[view] = charges.get(view, 0) + one.charge()
+        self.version = book.version
+        charges = {None if view == WHOLE else view: amount for view, amount in book.sums.items()}
         standings = [book.settled[number].standing() if number in book.settled else None for number in range(len(book.reserved))]
         self.goes_on(charges, len(book.records), [(analysts[one.analyst], said) for one, said in zip(book.reserved, standings)])
 
@@ -303,14 +303,16 @@ class Server:
         if owner.records + owner.unsettled + 2 > capacity:
             return f"no 41 {owner.records} {owner.unsettled} {capacity}"
         number, order = len(owner.reservations), list(self.owners.values()).index(owner)
-        owner.charges = charges
+        before, owner.charges = owner.charges, charges
         owner.records += 2
         exact = Run(self.steps).value(term, dict(owner.shown(view)[1]))
         try:
             answer = exact + noise(e, self.draws(order, number))
             settlement, reply = Settlement(number, 1, answer), f"answer {number} {answer} {after - spent}"
         except Exhausted:
-            settlement, reply = Settlement(number, 2), f"no 50 {number}"
+            back = after - spent if owner.version >= 3 else 0
+            settlement, reply = Settlement(number, 2, 0, back), f"no 50 {number}"
+            owner.charges = before if owner.version >= 3 else charges
         fraction, digest = (sensitivity.numerator, sensitivity.denominator), hashlib.sha256(program).digest()
         reservation = Reservation(number, view or WHOLE, e, *fraction, after - spent, self.analysts.index(self.who), digest)
         owner.added += [reservation, settlement]
@@ -516,7 +518,8 @@ def check_found(hello, one):
         ([], hello + one + b"left census\n", "left 2000000 10000000 3"),
         ([], hello + b"ask census 9.000001 size people\n", "no 40 1000000 10000001 10000000 1"),
         ([Settlement(0, 1, 5)], hello + b"recall census 0\n", "recall 0 answer 5 2"),
-        ([Settlement(0, 2)], hello + b"recall census 0\n", "recall 0 exhausted 2"),
+        ([Settlement(0, 2, 0, 10**6)], hello + b"recall census 0\n", "recall 0 exhausted 2"),
+        ([Settlement(0, 2, 0, 10**6)], b"left census\n", "left 0 10000000 2"),
         ([Settlement(0, 3)], hello + b"recall census 0\n", "recall 0 lost 2"),
         ([Settlement(0, 1, 5)], b"hello bob\nrecall census 0\n", "no 61 0 2"),
         ([Settlement(0, 1, 5)], hello + b"recall census 1\n", "no 60 1 2"),
@@ -525,6 +528,10 @@ def check_found(hello, one):
         book = Book(house.catalog["owners"][0], 2)
         assert all(book.add(record) for record in [reservation, *settled])
         assert transcript(script, house, found=[book]).splitlines()[-1] == said, (script, said)
+    # Draws that are zeros for ever: the charge comes back, and in version 2 it doesn't.
+    for version, spent in {1: 10**6, 2: 10**6, 3: 0}.items():
+        said = transcript(hello + one + b"left census\n", house, lambda order, number: repeat(0), [Book(house.catalog["owners"][0], 2, version)])
+        assert said.splitlines()[1:] == ["no 50 0", f"left {spent} 10000000 2"], said
     book = Book(house.catalog["owners"][0], 2)
     book.add(reservation)
     assert transcript(hello + one, house, found=[book]).startswith("hello ann\nanswer 1 ")

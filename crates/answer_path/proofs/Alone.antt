@@ -2,7 +2,7 @@
 use Rattle.std.proofs.Common.{◌≡◌, ◌⊎◌, ℕ, ◌+◌, List, [], ◌∷◌, ◌++◌, length, refl, sym, ◌∙◌, ap, subst, arith, append-nil, append_assoc, length-append, inl, inr}
 use Rattle.std.specs.List.{enumerate_from}
 use Rattle.journal_records.specs.declared.records.Record.{Record}
-use Rattle.journal_records.specs.Records.{settling}
+use Rattle.budget_core.specs.Ledger.{settlement_for}
 use Rattle.budget_core.specs.Answers.{recalled_from, left_by}
 use Rattle.wire_lines.specs.Refusal.{no_memory}
 use Rattle.wire_lines.specs.Reply.{Replied}
@@ -34,6 +34,18 @@ tight seen w v g u after r s first second third whole =
     )) in
     sym first ∙ ap (λ ws. seen ++ ws) none ∙ append-nil seen
 
+tight_two : (seen w v g u after : List Record) (r s : Record) → seen ++ w ≡ g → (g ++ r ∷ []) ++ v ≡ u → after ≡ u ++ s ∷ [] → after ≡ seen ++ r ∷ s ∷ [] → u ≡ seen ++ r ∷ []
+tight_two seen w v g u after r s first second third whole =
+    let none : v ≡ [] = none_left v (omega (
+      arith,
+      sym (ap length first) ∙ length-append seen w,
+      sym (ap length second) ∙ length-append (g ++ r ∷ []) v,
+      length-append g (r ∷ []),
+      ap length third ∙ length-append u (s ∷ []),
+      ap length whole ∙ length-append seen (r ∷ s ∷ []),
+    )) in
+    sym second ∙ ap (λ ws. (g ++ r ∷ []) ++ ws) none ∙ append-nil (g ++ r ∷ []) ∙ ap (λ rs. rs ++ r ∷ []) (tight seen w v g u after r s first second third whole)
+
 -- and one that ends with one record more
 tight_one : (seen w v g after : List Record) (r : Record) → seen ++ w ≡ g → (g ++ r ∷ []) ++ v ≡ after → after ≡ seen ++ r ∷ [] → g ≡ seen
 tight_one seen w v g after r first second whole =
@@ -55,9 +67,21 @@ alone_is_answered owner draws start query seen reply told after (g, begins, inl 
     let same : g ≡ seen = sym rest ∙ whole ∙ ap (λ ts. seen ++ records_told ts) none ∙ append-nil seen in
     inl (money_refused refusal, subst (λ rs. IsVerdict owner.entry (signature_of_view owner query.view) start rs query (money_refused refusal)) same is, (said, ap records_told none))
 alone_is_answered owner draws start query seen reply told after (g, begins, inl (granted asking grant, is, inl two)) whole =
-    let same : g ≡ seen = tight seen begins.0 two.reserved.0 g two.u after (granted_record asking grant) (settling grant.number two.outcome) begins.1 two.reserved.1 two.after_is
-    (whole ∙ ap (λ ts. seen ++ records_told ts) two.told_is) in
-    inl (granted asking grant, subst (λ rs. IsVerdict owner.entry (signature_of_view owner query.view) start rs query (granted asking grant)) same is, inl (two.outcome, two.settled, two.reply_is, ap records_told two.told_is))
+    let last : Record = settlement_for owner.entry two.u grant.number two.outcome in
+    let all = whole ∙ ap (λ ts. seen ++ records_told ts) two.told_is in
+    let same : g ≡ seen = tight seen begins.0 two.reserved.0 g two.u after (granted_record asking grant) last begins.1 two.reserved.1 two.after_is all in
+    let between : two.u ≡ seen ++ granted_record asking grant ∷ []
+    = tight_two seen begins.0 two.reserved.0 g two.u after (granted_record asking grant) last begins.1 two.reserved.1 two.after_is all in
+    inl (
+      granted asking grant,
+      subst (λ rs. IsVerdict owner.entry (signature_of_view owner query.view) start rs query (granted asking grant)) same is,
+      inl (
+        two.outcome,
+        two.settled,
+        two.reply_is,
+        ap records_told two.told_is ∙ ap (λ us. granted_record asking grant ∷ settlement_for owner.entry us grant.number two.outcome ∷ []) between,
+      ),
+    )
 alone_is_answered owner draws start query seen reply told after (g, begins, inl (granted asking grant, is, inr (refusal, said, inl (none, rest)))) whole =
     let same : g ≡ seen = sym rest ∙ whole ∙ ap (λ ts. seen ++ records_told ts) none ∙ append-nil seen in
     inl (granted asking grant, subst (λ rs. IsVerdict owner.entry (signature_of_view owner query.view) start rs query (granted asking grant)) same is, inr (refusal, said, inl (ap records_told none)))
@@ -74,7 +98,7 @@ placed owner draws start query seen reply told after (g, begins, inl (program_re
 placed owner draws start query seen reply told after (g, begins, inl (money_refused refusal, is, (said, none, rest))) whole = none ∙ sym (ap (λ ts. enumerate_from (length seen) (records_told ts)) none)
 placed owner draws start query seen reply told after (g, begins, inl (granted asking grant, is, inl two)) whole =
     let r : Record = granted_record asking grant in
-    let s : Record = settling grant.number two.outcome in
+    let s : Record = settlement_for owner.entry two.u grant.number two.outcome in
     let all : after ≡ seen ++ r ∷ s ∷ [] = whole ∙ ap (λ ts. seen ++ records_told ts) two.told_is in
     let first : length g ≡ length seen = ap length (tight seen begins.0 two.reserved.0 g two.u after r s begins.1 two.reserved.1 two.after_is all) in
     let second : length two.u ≡ length seen + 1 = omega (arith, ap length two.after_is ∙ length-append two.u (s ∷ []), ap length all ∙ length-append seen (r ∷ s ∷ [])) in
@@ -117,7 +141,7 @@ asked_exactly owner draws start query seen reply told after added answered place
     by (inl (money_refused refusal, is, (said, none))) = inl (money_refused refusal, is, (said, none_told none, none_after none))
     by (inl (granted asking grant, is, inl (outcome, settles, said, two))) =
         let r : Record = granted_record asking grant in
-        let s : Record = settling grant.number outcome in
+        let s : Record = settlement_for owner.entry (seen ++ r ∷ []) grant.number outcome in
         let next : length seen + 1 ≡ length (seen ++ r ∷ []) = omega (arith, length-append seen (r ∷ [])) in
         inl (
           granted asking grant,

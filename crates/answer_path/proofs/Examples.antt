@@ -5,12 +5,13 @@ use Rattle.partition_charge.specs.declared.view.View.TheVariants.{Whole}
 use Rattle.journal_records.specs.declared.records.Outcome.TheVariants.{Answered, Exhausted, Lost}
 use Rattle.journal_records.specs.declared.records.Record.{Record}
 use Rattle.journal_records.specs.declared.records.Record.TheVariants.{Reserve}
-use Rattle.journal_records.specs.Records.{settling}
+use Rattle.journal_records.specs.Records.{settling_back, settling}
 use Rattle.sha2.specs.Sha256.{sha256}
 use Rattle.budget_core.specs.declared.entry.Ask.{Ask}
 use Rattle.budget_core.specs.declared.entry.Grant.{Grant}
 use Rattle.budget_core.specs.declared.entry.ReserveFault.TheVariants.{OverBudget, Full}
 use Rattle.budget_core.specs.Cost.{cost_of}
+use Rattle.budget_core.specs.Entries.{Entry}
 use Rattle.partition_charge.specs.Cost.{cost_of_charges, partition_cost}
 use Rattle.fz_frac.specs.Distance.{Fin, Inf}
 use Rattle.fz_frac.specs.Lowest.{gcd, gcd_in}
@@ -246,8 +247,21 @@ ask_is = refl
 abbrev pub reserved : ℕ → Record
 reserved number = Reserve (record { number = number; view = Whole; e = 1000000; p = 1; q = 1; taken = 1000000; analyst = 5; digest = sha256 size_people })
 
-records_are : grant_records an_ask (a_grant 4 1000000 9) Exhausted ≡ reserved 4 ∷ settling 4 Exhausted ∷ []
+abbrev entry_in : (version : ℕ) → Entry
+entry_in version = record { budget = 9000000; capacity = 100; analysts = 6; keys = []; version = version }
+
+records_are : grant_records (entry_in 2) [] an_ask (a_grant 4 1000000 9) Exhausted ≡ reserved 4 ∷ settling 4 Exhausted ∷ []
+unfolding cost_of cost_of_charges partition_cost
 records_are = refl
+
+-- In version 3 what an exhausted number was charged comes back, and of no other.
+comes_back : grant_records (entry_in 3) [] an_ask (a_grant 4 1000000 9) Exhausted ≡ reserved 4 ∷ settling_back 4 Exhausted 1000000 ∷ []
+unfolding cost_of cost_of_charges partition_cost
+comes_back = refl
+
+lost_stays : grant_records (entry_in 3) [] an_ask (a_grant 4 1000000 9) Lost ≡ reserved 4 ∷ settling 4 Lost ∷ []
+unfolding cost_of cost_of_charges partition_cost
+lost_stays = refl
 
 -- Verdicts: the budget is asked after the program, and then the journal's room.
 over_is : money_refusal (OverBudget 1 2 3 4) ≡ NoBudget 1 2 3 4
@@ -259,7 +273,7 @@ full_is = refl
 abbrev pub owner : (budget capacity : ℕ) → Owner
 owner budget capacity = record {
   name = codes "census";
-  entry = record { budget = budget; capacity = capacity; analysts = 6; keys = [] };
+  entry = record { budget = budget; capacity = capacity; analysts = 6; keys = []; version = 2 };
   tables = people ∷ [];
   rows = rows ∷ [];
   partitions = [];

@@ -121,7 +121,8 @@ fault_alone draws = (
 
 closed_at_settlement :
     Closes (owner 9000000 100) (λ number. draws_of_minus_one) query (refused (by_disk Fault)) ((2, reserved 1) ∷ []) None (Some (failed (settling 1 (Answered (pos 2)))))
-closed_at_settlement = (failed (settling 1 (Answered (pos 2))), refl, refl, (Answered (pos 2), settled_by_three minus_one, refl))
+unfolding cost_of cost_of_charges partition_cost
+closed_at_settlement = (failed (settling 1 (Answered (pos 2))), refl, refl, (Answered (pos 2), before ++ reserved 1 ∷ [], settled_by_three minus_one, refl))
 
 -- 42 after it: the count of then is said, and nothing changes.
 closed_before : (draws : ℕ → ℕ → ℕ) (next : Record) → Closes (owner 9000000 100) draws query (refused (by_disk (Closed 3))) [] (Some (failed next)) (Some (failed next))
@@ -138,7 +139,7 @@ not_open_after_a_fault : (draws : ℕ → ℕ → ℕ) → Closes (owner 9000000
 not_open_after_a_fault draws (failure, was, shut, rest) = absurd (cc shut)
 
 not_of_another_number : (draws : ℕ → ℕ → ℕ) → Closes (owner 9000000 100) draws query (refused (by_disk Fault)) ((2, reserved 1) ∷ []) None (Some (failed (settling 2 Lost))) → ⊥
-not_of_another_number draws (failure, was, shut, (outcome, settles, is)) =
+not_of_another_number draws (failure, was, shut, (outcome, u, settles, is)) =
     let here : failed (settling 2 Lost) ≡ failure = cc (shut) in
     let two : 2 ≡ 1 = ap settled_number (ap (λ (f : Failure). f.pending) here ∙ is) in
     omega (arith, two)

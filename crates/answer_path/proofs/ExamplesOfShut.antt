@@ -69,7 +69,8 @@ unfolding signature_in
 fault_of_a_reservation = (failed (reserved 1), refl, refl, (1, 1, charged, a_grant 1 1000000 3, refl), refl)
 
 fault_of_a_settlement : FailsBy one_owner draws query (Some None) ((2, reserved 1) ∷ []) unshut (shut_here (settling 1 (Answered (pos 2))))
-fault_of_a_settlement = (failed (settling 1 (Answered (pos 2))), refl, refl, (Answered (pos 2), settled_by_three minus_one, refl), refl)
+unfolding cost_of cost_of_charges partition_cost
+fault_of_a_settlement = (failed (settling 1 (Answered (pos 2))), refl, refl, (Answered (pos 2), before ++ reserved 1 ∷ [], settled_by_three minus_one, refl), refl)
 
 -- it isn't another pass's, nor told where the book was seen shut, nor where it stays open, nor of another number
 not_anothers_fault : (next : Record) → FailsBy one_owner draws query (Some None) [] unshut (shut_elsewhere next) → ⊥
@@ -82,7 +83,7 @@ not_a_fault_that_leaves_open : FailsBy one_owner draws query (Some None) [] unsh
 not_a_fault_that_leaves_open (failure, none, shut, pending, own) = absurd (cc shut)
 
 not_of_another_number : FailsBy one_owner draws query (Some None) ((2, reserved 1) ∷ []) unshut (shut_here (settling 2 Lost)) → ⊥
-not_of_another_number (failure, none, shut, (outcome, settles, is), own) =
+not_of_another_number (failure, none, shut, (outcome, u, settles, is), own) =
     let here : failed (settling 2 Lost) ≡ failure = cc (shut) in
     let two : 2 ≡ 1 = ap settled_number (ap (λ (f : Failure). f.pending) here ∙ is) in
     omega (arith, two)

@@ -6,10 +6,10 @@ use mathlib.Core.List.{IsPrefix}
 use Rattle.journal_records.specs.declared.records.Outcome.{Outcome}
 use Rattle.journal_records.specs.declared.records.Outcome.TheVariants.{Answered, Exhausted, Lost}
 use Rattle.journal_records.specs.declared.records.Record.{Record}
-use Rattle.journal_records.specs.Records.{settling}
 use Rattle.budget_core.specs.declared.entry.Ask.{Ask}
 use Rattle.budget_core.specs.declared.entry.Grant.{Grant}
-use Rattle.budget_core.specs.Ledger.{reservation_for}
+use Rattle.budget_core.specs.Ledger.{reservation_for, settlement_for}
+use Rattle.budget_ledger.specs.Account.{Account}
 use Rattle.budget_ledger.specs.declared.failure.Failure.{Failure}
 use Rattle.budget_ledger.specs.declared.book.AppendFault.{AppendFault}
 use Rattle.budget_ledger.specs.declared.book.AppendFault.TheVariants.{Closed, DiskFault}
@@ -146,7 +146,8 @@ nothing_due owner start query grant Lost told after failure = tt
 module _ (name : List ℕ) (holding : Holding) (draws : ℕ → ℕ → ℕ) (query : Query) (before mid after : Pass) (p q : ℕ) (grant : Grant) (outcome : Outcome) (g u : List Record)
     (c : IsCharged (signature_in holding.tables holding.partitions query.view) query.program p q) (begins : IsPrefix before.seen g)
     (verdict : verdict_on before g (ask_for query p q) ≡ Ok grant) (adds : AddsRecord before g (reservation_for g (ask_for query p q) grant.taken) mid)
-    (settles : IsSettledBy (owner_with name before.opened.ledger.entry holding) draws query grant.number outcome) (between : IsPrefix mid.seen u) where
+    (settles : IsSettledBy (owner_with name before.opened.ledger.entry holding) draws query grant.number outcome) (between : IsPrefix mid.seen u)
+    (stays_opened : mid.opened ≡ before.opened) where
   abbrev owner : Owner
   owner = owner_with name before.opened.ledger.entry holding
 
@@ -157,7 +158,10 @@ module _ (name : List ℕ) (holding : Holding) (draws : ℕ → ℕ → ℕ) (qu
   next = granted_record asking grant
 
   abbrev last : Record
-  last = settling grant.number outcome
+  last = settlement_for before.opened.ledger.entry u grant.number outcome
+
+  last_is : settlement_for mid.opened.ledger.entry u grant.number outcome ≡ last
+  last_is = ap (λ (o : Account). settlement_for o.ledger.entry u grant.number outcome) stays_opened
 
   is : reservation_for g asking grant.taken ≡ next
   is = record_of before g asking grant verdict
@@ -181,10 +185,10 @@ module _ (name : List ℕ) (holding : Holding) (draws : ℕ → ℕ → ℕ) (qu
       inl (
         granted asking grant,
         says,
-        inl (record { outcome = outcome; u = u; settled = settles; reserved = reserved; reply_is = refl; told_is = refl; after_is = added.seen }),
+        inl (record { outcome = outcome; u = u; settled = settles; reserved = reserved; reply_is = refl; told_is = refl; after_is = added.seen ∙ ap (λ (r : Record). u ++ r ∷ []) last_is }),
       ),
     );
-    own = added.own ∙ ap (λ (told : List Told). told ++ (length u, last) ∷ []) own ∙ append_assoc before.own ((length g, next) ∷ []) ((length u, last) ∷ []);
+    own = added.own ∙ ap (λ (r : Record). mid.own ++ (length u, r) ∷ []) last_is ∙ ap (λ (told : List Told). told ++ (length u, last) ∷ []) own ∙ append_assoc before.own ((length g, next) ∷ []) ((length u, last) ∷ []);
     shuts = subst (λ (word : Option (Option ℕ)). FailsBy owner draws query word ((length g, next) ∷ (length u, last) ∷ []) (shut_of before) (shut_of after)) (sym (unsaid grant outcome))
         (opened ((length g, next) ∷ (length u, last) ∷ []) before.failure after.failure adds.open_before, added.faults ∙ adds.faults);
     due = nothing_due owner (first_of_run before) query grant outcome ((length g, next) ∷ (length u, last) ∷ []) after.seen after.failure;
@@ -212,7 +216,7 @@ module _ (name : List ℕ) (holding : Holding) (draws : ℕ → ℕ → ℕ) (qu
       fails.failure,
       adds.open_before,
       fails.closed,
-      (outcome, settles, fails.pending),
+      (outcome, u, settles, fails.pending ∙ last_is),
       fails.faults ∙ ap (λ (faults : List Failure). faults ++ fails.failure ∷ []) adds.faults,
     );
     due = tt;
@@ -221,9 +225,9 @@ module _ (name : List ℕ) (holding : Holding) (draws : ℕ → ℕ → ℕ) (qu
 pub settled_turn : (name : List ℕ) (holding : Holding) (draws : ℕ → ℕ → ℕ) (query : Query) (before mid after : Pass) (p q : ℕ) (grant : Grant) (outcome : Outcome) (written : Result ℕ AppendFault)
     → IsCharged (signature_in holding.tables holding.partitions query.view) query.program p q → HasReserved before (ask_for query p q) (Ok grant) mid
     → IsSettledBy (owner_with name before.opened.ledger.entry holding) draws query grant.number outcome → HasSettled mid grant.number outcome written after
-    → IsTurn (owner_with name before.opened.ledger.entry holding) draws query before (settled_reply grant outcome written) after
-settled_turn name holding draws query before mid after p q grant outcome written c (g, begins, (verdict, adds)) settles (u, between, second) =
-    two_holds name holding draws query before mid after p q grant outcome g u c begins verdict adds settles between written second
+    → mid.opened ≡ before.opened → IsTurn (owner_with name before.opened.ledger.entry holding) draws query before (settled_reply grant outcome written) after
+settled_turn name holding draws query before mid after p q grant outcome written c (g, begins, (verdict, adds)) settles (u, between, second) stays_opened =
+    two_holds name holding draws query before mid after p q grant outcome g u c begins verdict adds settles between stays_opened written second
 
 pub settled_small : (grant : Grant) (outcome : Outcome) (written : Result ℕ AppendFault) → ((grant : Grant) → HasSmallAnswer (outcome_reply grant outcome)) → HasSmallAnswer (settled_reply grant outcome written)
 settled_small grant outcome (Ok seen) small = small grant

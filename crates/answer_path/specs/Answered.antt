@@ -6,10 +6,10 @@ use Rattle.journal_records.specs.declared.records.Outcome.{Outcome}
 use Rattle.journal_records.specs.declared.records.Outcome.TheVariants.{Answered, Exhausted, Lost}
 use Rattle.journal_records.specs.declared.records.Record.{Record}
 use Rattle.journal_records.specs.declared.records.Record.TheVariants.{Reserve}
-use Rattle.journal_records.specs.Records.{settling}
 use Rattle.budget_core.specs.declared.entry.Ask.{Ask}
 use Rattle.budget_core.specs.declared.entry.Grant.{Grant}
-use Rattle.budget_core.specs.Ledger.{reservation_numbered}
+use Rattle.budget_core.specs.Entries.{Entry}
+use Rattle.budget_core.specs.Ledger.{reservation_numbered, settlement_for}
 use Rattle.wire_lines.specs.Reply.{Replied, answered, refused}
 use Rattle.wire_lines.specs.Refusal.{Refusal, by_line, by_program, by_money, by_number, by_disk, no_memory}
 use Rattle.wire_lines.specs.declared.refusal.DiskRefusal.{DiskRefusal}
@@ -60,33 +60,34 @@ IsUnasked reply = ⊥
 abbrev pub granted_record : Ask → Grant → Record
 granted_record asking grant = Reserve (reservation_numbered grant.number asking grant.taken)
 
--- A grant adds its reservation and its settlement.
-abbrev pub grant_records : Ask → Grant → Outcome → List Record
-grant_records asking grant outcome = granted_record asking grant ∷ settling grant.number outcome ∷ []
+-- A grant adds its reservation and, right behind it, its settlement, which says by how much the cost falls.
+abbrev pub grant_records : Entry → List Record → Ask → Grant → Outcome → List Record
+grant_records entry records asking grant outcome =
+    granted_record asking grant ∷ settlement_for entry (records ++ granted_record asking grant ∷ []) grant.number outcome ∷ []
 
--- A grant is settled and told so.
-abbrev pub IsSettledAndTold : Owner → (ℕ → ℕ → ℕ) → Query → Ask → Grant → Replied → (added : List Record) → Type 0
-IsSettledAndTold owner draws query asking grant reply added =
+-- A grant on these records is settled and told so.
+abbrev pub IsSettledAndTold : Owner → (ℕ → ℕ → ℕ) → List Record → Query → Ask → Grant → Replied → (added : List Record) → Type 0
+IsSettledAndTold owner draws records query asking grant reply added =
     (outcome : Outcome) × IsSettledBy owner draws query grant.number outcome
-    × (reply ≡ outcome_reply grant outcome) × (added ≡ grant_records asking grant outcome)
+    × (reply ≡ outcome_reply grant outcome) × (added ≡ grant_records owner.entry records asking grant outcome)
 
 -- What was granted isn't written to the owner's journal: neither record, or the reservation alone.
 abbrev pub IsUnrecorded : Ask → Grant → Replied → (added : List Record) → Type 0
 IsUnrecorded asking grant reply added =
     (refusal : DiskRefusal) × (reply ≡ refused (by_disk refusal)) × ((added ≡ []) ⊎ (added ≡ granted_record asking grant ∷ []))
 
-abbrev pub IsAnsweredBy : Owner → (ℕ → ℕ → ℕ) → Query → Verdict → Replied → (added : List Record) → Type 0
-IsAnsweredBy owner draws query (program_refused refusal) reply added = (reply ≡ refused (by_program refusal)) × (added ≡ [])
-IsAnsweredBy owner draws query (money_refused refusal) reply added = (reply ≡ refused (by_money refusal)) × (added ≡ [])
-IsAnsweredBy owner draws query (granted asking grant) reply added =
-    IsSettledAndTold owner draws query asking grant reply added ⊎ IsUnrecorded asking grant reply added
+abbrev pub IsAnsweredBy : Owner → (ℕ → ℕ → ℕ) → List Record → Query → Verdict → Replied → (added : List Record) → Type 0
+IsAnsweredBy owner draws records query (program_refused refusal) reply added = (reply ≡ refused (by_program refusal)) × (added ≡ [])
+IsAnsweredBy owner draws records query (money_refused refusal) reply added = (reply ≡ refused (by_money refusal)) × (added ≡ [])
+IsAnsweredBy owner draws records query (granted asking grant) reply added =
+    IsSettledAndTold owner draws records query asking grant reply added ⊎ IsUnrecorded asking grant reply added
 
 -- What is said to a query of an owner, and the records that it adds where no other line adds any, where the owner has
 -- these records and those before start were found.
 unfoldable pub IsAnswered : Owner → (ℕ → ℕ → ℕ) → (start : ℕ) → List Record → Query → Replied → (added : List Record) → Type 0
 IsAnswered owner draws start records query reply added =
     (verdict : Verdict) × IsVerdict owner.entry (signature_of_view owner query.view) start records query verdict
-    × IsAnsweredBy owner draws query verdict reply added
+    × IsAnsweredBy owner draws records query verdict reply added
 
 -- memory ran out before a reservation
 abbrev pub IsUnanswered : Replied → (added : List Record) → Type 0
@@ -104,8 +105,8 @@ pub record AddsTwo (owner : Owner) (draws : ℕ → ℕ → ℕ) (query : Query)
   pub settled : IsSettledBy owner draws query grant.number outcome
   pub reserved : IsPrefix (g ++ granted_record asking grant ∷ []) u
   pub reply_is : reply ≡ outcome_reply grant outcome
-  pub told_is : told ≡ (length g, granted_record asking grant) ∷ (length u, settling grant.number outcome) ∷ []
-  pub after_is : after ≡ u ++ settling grant.number outcome ∷ []
+  pub told_is : told ≡ (length g, granted_record asking grant) ∷ (length u, settlement_for owner.entry u grant.number outcome) ∷ []
+  pub after_is : after ≡ u ++ settlement_for owner.entry u grant.number outcome ∷ []
 
 -- What was granted isn't kept: it adds neither record to the records g, or its reservation alone.
 abbrev pub IsUnkept : Ask → Grant → List Record → Replied → (told : List Told) → (after : List Record) → Type 0

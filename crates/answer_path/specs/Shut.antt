@@ -3,9 +3,9 @@ use Rattle.std.specs.Prelude.{◌≡◌, ℕ, List, [], ◌∷◌, ◌++◌, Opt
 use Rattle.journal_records.specs.declared.records.Outcome.{Outcome}
 use Rattle.journal_records.specs.declared.records.Record.{Record}
 use Rattle.journal_records.specs.declared.records.Record.TheVariants.{Reserve}
-use Rattle.journal_records.specs.Records.{settling}
 use Rattle.budget_core.specs.declared.entry.Ask.{Ask}
 use Rattle.budget_core.specs.declared.entry.Grant.{Grant}
+use Rattle.budget_core.specs.Ledger.{settlement_for}
 use Rattle.budget_ledger.specs.declared.failure.Failure.{Failure}
 use Rattle.wire_lines.specs.Reply.{Replied, refused}
 use Rattle.wire_lines.specs.Refusal.{by_disk}
@@ -19,13 +19,14 @@ use Rattle.answer_path.specs.Verdict.{granted, ask_for, IsVerdict}
 use Rattle.answer_path.specs.Answered.{IsSettledBy, granted_record}
 
 -- The record that a line couldn't append, which may stand in the journal all the same: a reservation of its query, charged
--- by the program, where the line added nothing; else the settlement of the reservation that it added.
+-- by the program, where the line added nothing; else the settlement of the reservation that it added, behind some records u.
 abbrev pub IsPendingOf : Owner → (ℕ → ℕ → ℕ) → Query → (told : List Told) → (pending : Record) → Type 0
 IsPendingOf owner draws query [] pending =
     (p q : ℕ) × IsCharged (signature_of_view owner query.view) query.program p q
     × (grant : Grant) × (pending ≡ granted_record (ask_for query p q) grant)
 IsPendingOf owner draws query ((place, Reserve reserved) ∷ []) pending =
-    (outcome : Outcome) × IsSettledBy owner draws query reserved.number outcome × (pending ≡ settling reserved.number outcome)
+    (outcome : Outcome) × (u : List Record) × IsSettledBy owner draws query reserved.number outcome
+    × (pending ≡ settlement_for owner.entry u reserved.number outcome)
 IsPendingOf owner draws query told pending = ⊥
 
 -- why a book is shut, as far as a pass has seen, and the pass's own appends that failed

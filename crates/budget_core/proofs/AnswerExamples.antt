@@ -23,7 +23,7 @@ abbrev records : List Record
 records = found ++ made 2 1 ∷ settling 2 (Answered (negsuc 6)) ∷ made 3 0 ∷ settling 3 Exhausted ∷ made 4 0 ∷ settling 4 Lost ∷ made 5 0 ∷ []
 
 abbrev ledger : Ledger
-ledger = record { entry = record { budget = 10; capacity = 100; analysts = 2; keys = [] }; found = found; records = records }
+ledger = record { entry = record { budget = 10; capacity = 100; analysts = 2; keys = []; version = 2 }; found = found; records = records }
 
 answered_before : recalled ledger 0 0 ≡ Answer (pos 5) 10
 answered_before = refl
@@ -62,6 +62,11 @@ unknown_then = refl
 left_over : left_of ledger ≡ record { spent = 6; budget = 10; seen = 10 }
 unfolding cost_of cost_of_charges partition_cost
 left_over = refl
+
+-- In version 3 what the exhausted number was charged is left as well.
+left_over_in_three : left_of (record ledger { entry = record ledger.entry { version = 3 } }) ≡ record { spent = 5; budget = 10; seen = 10 }
+unfolding cost_of cost_of_charges partition_cost
+left_over_in_three = refl
 
 -- Of six reservations two are answered and one is exhausted; three are lost or open.
 counted : counts_of records ≡ record { reservations = 6; answered = 2; exhausted = 1; lost = 3 }

@@ -2,37 +2,53 @@
 use Rattle.std.proofs.Common.{◌≡◌, ℕ, Bool, true, false, cond, not, ◌&&◌, ◌==◌, nat_le, List, [], ◌∷◌, ◌++◌, length, map, sum_by, Option, Some, is_some, refl, sym, ◌∙◌, ap, arith}
 use Rattle.std.proofs.lemmas.List.Sums.{sum_by-cons}
 use Rattle.std.proofs.Math.ListN.{length-map}
-use Rattle.partition_charge.specs.Cost.{Charge, cost_of_charges}
+use Rattle.std.proofs.lemmas.List.{map-append}
+use Rattle.journal_records.specs.declared.records.Outcome.{Outcome}
+use Rattle.journal_records.specs.declared.records.Outcome.TheVariants.{Answered, Exhausted, Lost}
 use Rattle.journal_records.specs.declared.records.Reservation.{Reservation}
 use Rattle.journal_records.specs.declared.records.Record.{Record}
 use Rattle.journal_records.specs.declared.records.Record.TheVariants.{Reserve, Settle}
 use Rattle.budget_core.specs.declared.entry.Ask.{Ask}
 use Rattle.budget_core.specs.Bare.{bare_outcome, bare_record, without_answers}
-use Rattle.budget_core.specs.Cost.{charge_by, charges_in, cost_of}
-use Rattle.budget_core.specs.Counts.{reservations_of, outcome_of, is_open_in, open_from}
+use Rattle.budget_core.specs.Cost.{cost_of}
+use Rattle.budget_core.specs.Counts.{reservations_of, outcome_of, is_exhaustion, is_open_in, open_from}
 use Rattle.budget_core.specs.Entries.{Entry}
 use Rattle.budget_core.specs.Ledger.{next_number, reservation_numbered, cost_with, money_verdict}
 use Rattle.budget_core.proofs.Numbers.{one_if}
-use Rattle.budget_core.proofs.Costs.{cost_of-same, cost_of-append-Reserve}
+use Rattle.budget_core.proofs.Costs.{charges_in-same, cost_of-same}
 
 sum_by-mapped : {X : Type 0} → (f g : X → ℕ) (h : X → X) → ((x : X) → f (h x) ≡ g x) → (xs : List X) → sum_by f (map h xs) ≡ sum_by g xs
 sum_by-mapped f g h same [] = refl
 sum_by-mapped f g h same (x ∷ xs) = omega (arith, sum_by-mapped f g h same xs, same x, sum_by-cons f (h x) (map h xs), sum_by-cons g x xs)
 
-charges_in-without_answers : (records : List Record) → charges_in (without_answers records) ≡ charges_in records
-charges_in-without_answers [] = refl
-charges_in-without_answers (Reserve reservation ∷ records) = ap (λ (rest : List Charge). charge_by reservation ∷ rest) (charges_in-without_answers records)
-charges_in-without_answers (Settle settlement ∷ records) = charges_in-without_answers records
+same-reservations : (records : List Record) → reservations_of (without_answers records) ≡ reservations_of records
+same-reservations [] = refl
+same-reservations (Reserve reservation ∷ records) = ap (λ (rest : List Reservation). reservation ∷ rest) (same-reservations records)
+same-reservations (Settle settlement ∷ records) = same-reservations records
+
+bare-exhaustion : (outcome : Outcome) → is_exhaustion (Some (bare_outcome outcome)) ≡ is_exhaustion (Some outcome)
+bare-exhaustion (Answered value) = refl
+bare-exhaustion Exhausted = refl
+bare-exhaustion Lost = refl
+
+same-exhausted : (records : List Record) (n : ℕ) → is_exhaustion (outcome_of (without_answers records) n) ≡ is_exhaustion (outcome_of records n)
+same-exhausted [] n = refl
+same-exhausted (Reserve reservation ∷ records) n = same-exhausted records n
+same-exhausted (Settle settlement ∷ records) n = by (same-exhausted records n) (n == settlement.number)
+  where
+    by : is_exhaustion (outcome_of (without_answers records) n) ≡ is_exhaustion (outcome_of records n) → (hit : Bool) → is_exhaustion (cond hit (Some (bare_outcome settlement.outcome)) (outcome_of (without_answers records) n)) ≡ is_exhaustion (cond hit (Some settlement.outcome) (outcome_of records n))
+    by rest true = bare-exhaustion settlement.outcome
+    by rest false = rest
 
 pub cost_of-without_answers : (entry : Entry) (records : List Record) → cost_of entry (without_answers records) ≡ cost_of entry records
-cost_of-without_answers entry records = cost_of-same entry (without_answers records) records (charges_in-without_answers records)
+cost_of-without_answers entry records = cost_of-same entry (without_answers records) records
+    (charges_in-same entry (without_answers records) records (same-reservations records) (λ n. ap (λ (b : Bool). (entry.version == 3) && b) (same-exhausted records n)))
 
 pub cost_with-without_answers : (entry : Entry) (records : List Record) (ask : Ask) → cost_with entry (without_answers records) ask ≡ cost_with entry records ask
 cost_with-without_answers entry records ask =
-    let before : Reservation = reservation_numbered (next_number (without_answers records)) ask 0 in
-    let after : Reservation = reservation_numbered (next_number records) ask 0 in
-    cost_of-append-Reserve entry (without_answers records) before ∙ ap (λ (charges : List Charge). cost_of_charges (charges ++ charge_by after ∷ [])) (charges_in-without_answers records)
-    ∙ sym (cost_of-append-Reserve entry records after)
+    (λ i. cost_of entry (without_answers records ++ Reserve (reservation_numbered (length (same-reservations records i)) ask 0) ∷ []))
+    ∙ ap (cost_of entry) (sym (map-append bare_record records (Reserve (reservation_numbered (next_number records) ask 0) ∷ [])))
+    ∙ cost_of-without_answers entry (records ++ Reserve (reservation_numbered (next_number records) ask 0) ∷ [])
 
 pub reservations_of-without_answers : (records : List Record) → length (reservations_of (without_answers records)) ≡ length (reservations_of records)
 reservations_of-without_answers [] = refl

@@ -1,20 +1,30 @@
 -- what one more record costs
-use Rattle.std.proofs.Common.{◌≡◌, ℕ, zero, suc, ◌+◌, ◌-◌, ◌*◌, ◌/◌, ◌%◌, ◌≤◌, ◌<◌, min, List, [], ◌∷◌, ◌++◌, sum_by, refl, sym, ◌∙◌, ap, arith, add-zero}
+use Rattle.std.proofs.Common.{◌≡◌, ℕ, zero, suc, ◌+◌, ◌-◌, ◌*◌, ◌/◌, ◌%◌, ◌≤◌, ◌<◌, ◌==◌, ◌&&◌, Bool, true, false, not, cond, min, List, [], ◌∷◌, ◌++◌, map, sum_by, Option, Some, None, refl, sym, ◌∙◌, ap, subst, arith, add-zero, append-nil}
 use Rattle.std.specs.Int.{div_ceil}
-use Rattle.std.proofs.lemmas.List.Sums.{sum_by_push}
+use Rattle.std.specs.List.{filter}
+use Rattle.std.specs.Option.{option_or}
+use Rattle.std.proofs.lemmas.List.{map-append}
+use Rattle.std.proofs.lemmas.List.Elements.{filter-append}
+use Rattle.std.proofs.lemmas.List.Sums.{sum_by_push, sum_by-cons}
 use Rattle.std.proofs.lemmas.Nat.{div-mul-add, div-add-mod', mod_below}
-use Rattle.partition_charge.specs.Cost.{Charge, cost_of_charges}
-use Rattle.partition_charge.proofs.Charges.{never-falls, cost-nil}
+use Rattle.partition_charge.specs.declared.view.View.{View}
+use Rattle.partition_charge.specs.Cost.{Charge, charged_to, charges_of, cost_of_charges}
+use Rattle.partition_charge.proofs.Charges.{cost-le, never-falls, cost-nil}
 use Rattle.journal_records.specs.declared.records.Outcome.{Outcome}
+use Rattle.journal_records.specs.declared.records.Outcome.TheVariants.{Answered, Exhausted, Lost}
 use Rattle.journal_records.specs.declared.records.Reservation.{Reservation}
+use Rattle.journal_records.specs.declared.records.Settlement.{Settlement}
 use Rattle.journal_records.specs.declared.records.Record.{Record}
 use Rattle.journal_records.specs.declared.records.Record.TheVariants.{Reserve, Settle}
-use Rattle.journal_records.specs.Records.{settling}
-use Rattle.budget_core.specs.Counts.{taken_of}
+use Rattle.journal_records.specs.Encoding.{MayReturn}
+use Rattle.journal_records.specs.Records.{settling_back}
+use Rattle.budget_core.specs.Counts.{reservations_of, outcome_of, is_exhaustion, taken_of, returned_of}
 use Rattle.budget_core.specs.Entries.{Entry}
-use Rattle.budget_core.specs.Legal.{MayFollow, IsHistory}
+use Rattle.budget_core.specs.Legal.{MayFollow, IsSettlementAfter, IsHistory}
+use Rattle.budget_core.specs.Ledger.{returned_by, settlement_for}
 use Rattle.budget_core.proofs.Histories.{history-induction}
-use Rattle.budget_core.specs.Cost.{ceil_div, charge_by, charges_in, cost_of}
+use Rattle.budget_core.proofs.Numbers.{sum_by-le, reservations-with, reservations-settled, outcome_of-append-Reserve, outcome_of-append-Settle}
+use Rattle.budget_core.specs.Cost.{ceil_div, charge_by, comes_back, counts_in, charges_in, cost_of}
 
 -- division that rounds up, in std's words
 ceil_div_parts : (q b r : ℕ) → r < b → ceil_div (q * b + r) b ≡ q + min 1 r
@@ -29,57 +39,214 @@ ceil_div_parts q b (suc r) h =
 pub ceil_div-div_ceil : (a b : ℕ) → 1 ≤ b → div_ceil a b ≡ ceil_div a b
 ceil_div-div_ceil a b h = sym (ceil_div_parts (a / b) b (a % b) (mod_below a b h)) ∙ ap (λ n. ceil_div n b) (div-add-mod' a b)
 
--- what one more record charges
-pub charges_in-append-Reserve : (records : List Record) (reservation : Reservation) → charges_in (records ++ Reserve reservation ∷ []) ≡ charges_in records ++ charge_by reservation ∷ []
-charges_in-append-Reserve [] reservation = refl
-charges_in-append-Reserve (Reserve other ∷ records) reservation = ap (λ (rest : List Charge). charge_by other ∷ rest) (charges_in-append-Reserve records reservation)
-charges_in-append-Reserve (Settle settlement ∷ records) reservation = charges_in-append-Reserve records reservation
+-- Lists with the same reservations, settled alike, charge the same.
+pub charges_in-same : (entry : Entry) (xs ys : List Record) → reservations_of xs ≡ reservations_of ys
+    → ((n : ℕ) → comes_back entry (outcome_of xs n) ≡ comes_back entry (outcome_of ys n)) → charges_in entry xs ≡ charges_in entry ys
+charges_in-same entry xs ys made ended = λ i. map charge_by (filter (λ (reservation : Reservation). not (ended reservation.number i)) (made i))
 
-pub charges_in-append-Settle : (records : List Record) (number : ℕ) (outcome : Outcome) → charges_in (records ++ settling number outcome ∷ []) ≡ charges_in records
-charges_in-append-Settle [] number outcome = refl
-charges_in-append-Settle (Reserve other ∷ records) number outcome = ap (λ (rest : List Charge). charge_by other ∷ rest) (charges_in-append-Settle records number outcome)
-charges_in-append-Settle (Settle settlement ∷ records) number outcome = charges_in-append-Settle records number outcome
+-- ---- one reservation more
 
-pub cost_of-append-Reserve : (entry : Entry) (records : List Record) (reservation : Reservation) → cost_of entry (records ++ Reserve reservation ∷ []) ≡ cost_of_charges (charges_in records ++ charge_by reservation ∷ [])
+-- A number that isn't settled counts.
+pub counts-unsettled : (entry : Entry) (records : List Record) (reservation : Reservation) → outcome_of records reservation.number ≡ None → counts_in entry records reservation ≡ true
+counts-unsettled entry records reservation fresh = ap (λ (o : Option Outcome). not (comes_back entry o)) fresh ∙ by (entry.version == 3)
+  where
+    by : (b : Bool) → not (b && false) ≡ true
+    by true = refl
+    by false = refl
+
+charges_in-with : (entry : Entry) (records : List Record) (reservation : Reservation)
+    → charges_in entry (records ++ Reserve reservation ∷ []) ≡ charges_in entry records ++ map charge_by (filter (counts_in entry records) (reservation ∷ []))
+charges_in-with entry records reservation =
+    (λ i. map charge_by (filter (λ (other : Reservation). not (comes_back entry (outcome_of-append-Reserve records reservation other.number i))) (reservations-with records reservation i)))
+    ∙ ap (map charge_by) (filter-append (counts_in entry records) (reservations_of records) (reservation ∷ []))
+    ∙ map-append charge_by (filter (counts_in entry records) (reservations_of records)) (filter (counts_in entry records) (reservation ∷ []))
+
+pub charges_in-append-Reserve : (entry : Entry) (records : List Record) (reservation : Reservation) → counts_in entry records reservation ≡ true
+    → charges_in entry (records ++ Reserve reservation ∷ []) ≡ charges_in entry records ++ charge_by reservation ∷ []
+charges_in-append-Reserve entry records reservation counts =
+    charges_in-with entry records reservation
+    ∙ ap (λ (b : Bool). charges_in entry records ++ map charge_by (cond b (reservation ∷ []) [])) counts
+
+charges_in-skipped : (entry : Entry) (records : List Record) (reservation : Reservation) → counts_in entry records reservation ≡ false
+    → charges_in entry (records ++ Reserve reservation ∷ []) ≡ charges_in entry records
+charges_in-skipped entry records reservation skips =
+    charges_in-with entry records reservation
+    ∙ ap (λ (b : Bool). charges_in entry records ++ map charge_by (cond b (reservation ∷ []) [])) skips ∙ append-nil (charges_in entry records)
+
+pub cost_of-append-Reserve : (entry : Entry) (records : List Record) (reservation : Reservation) → counts_in entry records reservation ≡ true
+    → cost_of entry (records ++ Reserve reservation ∷ []) ≡ cost_of_charges (charges_in entry records ++ charge_by reservation ∷ [])
 unfolding cost_of
-cost_of-append-Reserve entry records reservation = ap cost_of_charges (charges_in-append-Reserve records reservation)
+cost_of-append-Reserve entry records reservation counts = ap cost_of_charges (charges_in-append-Reserve entry records reservation counts)
 
 -- the cost of the charges
-pub cost_of-charges : (entry : Entry) (records : List Record) → cost_of entry records ≡ cost_of_charges (charges_in records)
+pub cost_of-charges : (entry : Entry) (records : List Record) → cost_of entry records ≡ cost_of_charges (charges_in entry records)
 unfolding cost_of
 cost_of-charges entry records = refl
 
 -- Lists that charge the same cost the same.
-pub cost_of-same : (entry : Entry) (xs ys : List Record) → charges_in xs ≡ charges_in ys → cost_of entry xs ≡ cost_of entry ys
+pub cost_of-same : (entry : Entry) (xs ys : List Record) → charges_in entry xs ≡ charges_in entry ys → cost_of entry xs ≡ cost_of entry ys
 unfolding cost_of
 cost_of-same entry xs ys same = ap cost_of_charges same
-
--- A settlement costs nothing.
-pub cost_of-append-Settle : (entry : Entry) (records : List Record) (number : ℕ) (outcome : Outcome) → cost_of entry (records ++ settling number outcome ∷ []) ≡ cost_of entry records
-cost_of-append-Settle entry records number outcome = cost_of-same entry (records ++ settling number outcome ∷ []) records (charges_in-append-Settle records number outcome)
 
 -- By how much it says that the cost rose doesn't change what a reservation costs.
 pub cost_of-append-taken : (entry : Entry) (records : List Record) (reservation : Reservation) (other : ℕ)
     → cost_of entry (records ++ Reserve reservation ∷ []) ≡ cost_of entry (records ++ Reserve (record reservation { taken = other }) ∷ [])
-cost_of-append-taken entry records reservation other =
-    cost_of-append-Reserve entry records reservation ∙ sym (cost_of-append-Reserve entry records (record reservation { taken = other }))
+cost_of-append-taken entry records reservation other = by (counts_in entry records reservation) refl
+  where
+    by : (b : Bool) → counts_in entry records reservation ≡ b
+        → cost_of entry (records ++ Reserve reservation ∷ []) ≡ cost_of entry (records ++ Reserve (record reservation { taken = other }) ∷ [])
+    by true counts = cost_of-append-Reserve entry records reservation counts ∙ sym (cost_of-append-Reserve entry records (record reservation { taken = other }) counts)
+    by false skips = cost_of-same entry (records ++ Reserve reservation ∷ []) (records ++ Reserve (record reservation { taken = other }) ∷ [])
+        (charges_in-skipped entry records reservation skips ∙ sym (charges_in-skipped entry records (record reservation { taken = other }) skips))
 
--- The cost never falls.
-pub cost_of-le-append : (entry : Entry) (records : List Record) (next : Record) → cost_of entry records ≤ cost_of entry (records ++ next ∷ [])
-cost_of-le-append entry records (Reserve reservation) =
-    omega (arith, cost_of-append-Reserve entry records reservation, cost_of-charges entry records, never-falls (charges_in records) (charge_by reservation))
-cost_of-le-append entry records (Settle settlement) = omega (arith, cost_of-append-Settle entry records settlement.number settlement.outcome)
+-- A reservation never lowers the cost.
+pub cost_of-le-append : (entry : Entry) (records : List Record) (reservation : Reservation) → cost_of entry records ≤ cost_of entry (records ++ Reserve reservation ∷ [])
+cost_of-le-append entry records reservation = by (counts_in entry records reservation) refl
+  where
+    by : (b : Bool) → counts_in entry records reservation ≡ b → cost_of entry records ≤ cost_of entry (records ++ Reserve reservation ∷ [])
+    by true counts = omega (
+      arith,
+      cost_of-append-Reserve entry records reservation counts,
+      cost_of-charges entry records,
+      never-falls (charges_in entry records) (charge_by reservation),
+    )
+    by false skips = omega (arith, cost_of-same entry (records ++ Reserve reservation ∷ []) records (charges_in-skipped entry records reservation skips))
+
+-- ---- one settlement more
+
+-- What is open or settled otherwise doesn't come back.
+pub nothing-back : (entry : Entry) → comes_back entry None ≡ false
+nothing-back entry = by (entry.version == 3)
+  where
+    by : (b : Bool) → (b && false) ≡ false
+    by true = refl
+    by false = refl
+
+-- A settlement whose charge doesn't come back changes no charge.
+pub charges_in-append-Settle : (entry : Entry) (records : List Record) (number : ℕ) (outcome : Outcome) (returned : ℕ) → comes_back entry (Some outcome) ≡ false
+    → charges_in entry (records ++ settling_back number outcome returned ∷ []) ≡ charges_in entry records
+charges_in-append-Settle entry records number outcome returned kept =
+    charges_in-same entry (records ++ settling_back number outcome returned ∷ []) records (reservations-settled records (record { number = number; outcome = outcome; returned = returned }))
+    (λ n. ap (comes_back entry) (outcome_of-append-Settle records number outcome returned n) ∙ by (outcome_of records n) (n == number))
+  where
+    by : (old : Option Outcome) (hit : Bool) → comes_back entry (option_or old (cond hit (Some outcome) None)) ≡ comes_back entry old
+    by (Some o) hit = refl
+    by None true = kept ∙ sym (nothing-back entry)
+    by None false = refl
+
+pub cost_of-append-Settle : (entry : Entry) (records : List Record) (number : ℕ) (outcome : Outcome) (returned : ℕ) → comes_back entry (Some outcome) ≡ false
+    → cost_of entry (records ++ settling_back number outcome returned ∷ []) ≡ cost_of entry records
+cost_of-append-Settle entry records number outcome returned kept =
+    cost_of-same entry (records ++ settling_back number outcome returned ∷ []) records (charges_in-append-Settle entry records number outcome returned kept)
+
+-- By how much it says that the cost falls doesn't change what it costs.
+pub cost_of-append-returned : (entry : Entry) (records : List Record) (number : ℕ) (outcome : Outcome) (one other : ℕ)
+    → cost_of entry (records ++ settling_back number outcome one ∷ []) ≡ cost_of entry (records ++ settling_back number outcome other ∷ [])
+cost_of-append-returned entry records number outcome one other =
+    cost_of-same entry (records ++ settling_back number outcome one ∷ []) (records ++ settling_back number outcome other ∷ [])
+    (charges_in-same entry (records ++ settling_back number outcome one ∷ []) (records ++ settling_back number outcome other ∷ [])
+    (reservations-settled records (record { number = number; outcome = outcome; returned = one })
+    ∙ sym (reservations-settled records (record { number = number; outcome = outcome; returned = other })))
+    (λ n. ap (comes_back entry) (outcome_of-append-Settle records number outcome one n ∙ sym (outcome_of-append-Settle records number outcome other n))))
+
+-- what a view is charged by the reservations that count, one by one
+pub sum-filtered : (f : Charge → ℕ) (counts : Reservation → Bool) (xs : List Reservation)
+    → sum_by f (map charge_by (filter counts xs)) ≡ sum_by (λ (r : Reservation). cond (counts r) (f (charge_by r)) 0) xs
+sum-filtered f counts [] = refl
+sum-filtered f counts (x ∷ xs) = by (sum-filtered f counts xs) (counts x) refl
+  where
+    by : sum_by f (map charge_by (filter counts xs)) ≡ sum_by (λ (r : Reservation). cond (counts r) (f (charge_by r)) 0) xs → (b : Bool) → counts x ≡ b → sum_by f (map charge_by (cond b (x ∷ filter counts xs) (filter counts xs))) ≡ sum_by (λ (r : Reservation). cond (counts r) (f (charge_by r)) 0) (x ∷ xs)
+    by rest true is = omega (
+      arith,
+      rest,
+      sum_by-cons f (charge_by x) (map charge_by (filter counts xs)),
+      sum_by-cons (λ (r : Reservation). cond (counts r) (f (charge_by r)) 0) x xs,
+      ap (λ (b : Bool). cond b (f (charge_by x)) 0) is,
+    )
+    by rest false is = omega (
+      arith,
+      rest,
+      sum_by-cons (λ (r : Reservation). cond (counts r) (f (charge_by r)) 0) x xs,
+      ap (λ (b : Bool). cond b (f (charge_by x)) 0) is,
+    )
+
+-- A settlement never raises the cost.
+pub cost_of-le-Settle : (entry : Entry) (records : List Record) (number : ℕ) (outcome : Outcome) (returned : ℕ)
+    → cost_of entry (records ++ settling_back number outcome returned ∷ []) ≤ cost_of entry records
+cost_of-le-Settle entry records number outcome returned = omega (
+  arith,
+  cost_of-charges entry (records ++ settling_back number outcome returned ∷ []),
+  cost_of-charges entry records,
+  cost-le (charges_in entry (records ++ settling_back number outcome returned ∷ [])) (charges_in entry records) below,
+)
+  where
+    still : (old : Option Outcome) (hit : Bool) (a : ℕ) → cond (not (comes_back entry (option_or old (cond hit (Some outcome) None)))) a 0 ≤ cond (not (comes_back entry old)) a 0
+    still (Some o) hit a = omega arith
+    still None hit a =
+        subst (λ (b : Bool). cond (not (comes_back entry (cond hit (Some outcome) None))) a 0 ≤ cond (not b) a 0) (sym (nothing-back entry)) (at_most (not (comes_back entry (cond hit (Some outcome) None))))
+      where
+        at_most : (b : Bool) → cond b a 0 ≤ a
+        at_most true = omega arith
+        at_most false = omega arith
+
+    fewer : (view : View) (r : Reservation) → cond (counts_in entry (records ++ settling_back number outcome returned ∷ []) r) (charged_to view (charge_by r)) 0
+        ≤ cond (counts_in entry records r) (charged_to view (charge_by r)) 0
+    fewer view r =
+        subst (λ (o : Option Outcome). cond (not (comes_back entry o)) (charged_to view (charge_by r)) 0 ≤ cond (counts_in entry records r) (charged_to view (charge_by r)) 0)
+        (sym (outcome_of-append-Settle records number outcome returned r.number)) (still (outcome_of records r.number) (r.number == number) (charged_to view (charge_by r)))
+
+    below : (view : View) → charges_of view (charges_in entry (records ++ settling_back number outcome returned ∷ [])) ≤ charges_of view (charges_in entry records)
+    below view = omega (
+      arith,
+      sum-filtered (charged_to view) (counts_in entry (records ++ settling_back number outcome returned ∷ [])) (reservations_of (records ++ settling_back number outcome returned ∷ [])),
+      ap (sum_by (λ (r : Reservation). cond (counts_in entry (records ++ settling_back number outcome returned ∷ []) r) (charged_to view (charge_by r)) 0))
+          (reservations-settled records (record { number = number; outcome = outcome; returned = returned })),
+      sum-filtered (charged_to view) (counts_in entry records) (reservations_of records),
+      sum_by-le (λ (r : Reservation). cond (counts_in entry (records ++ settling_back number outcome returned ∷ []) r) (charged_to view (charge_by r)) 0)
+          (λ (r : Reservation). cond (counts_in entry records r) (charged_to view (charge_by r)) 0) (fewer view) (reservations_of records),
+    )
+
+-- What settling a number gives back is by how much the cost falls.
+pub returned-falls : (entry : Entry) (records : List Record) (number : ℕ) (outcome : Outcome)
+    → cost_of entry (records ++ settlement_for entry records number outcome ∷ []) + returned_by entry records number outcome ≡ cost_of entry records
+returned-falls entry records number outcome = omega (
+  arith,
+  cost_of-le-Settle entry records number outcome 0,
+  cost_of-append-returned entry records number outcome (returned_by entry records number outcome) 0,
+)
+
+-- Nothing is given back where the charge doesn't come back.
+pub returned-nothing : (entry : Entry) (records : List Record) (number : ℕ) (outcome : Outcome) → comes_back entry (Some outcome) ≡ false → returned_by entry records number outcome ≡ 0
+returned-nothing entry records number outcome kept = omega (arith, cost_of-append-Settle entry records number outcome 0 kept)
+
+pub kept-unexhausted : (entry : Entry) (outcome : Outcome) → is_exhaustion (Some outcome) ≡ false → comes_back entry (Some outcome) ≡ false
+kept-unexhausted entry outcome other = ap (λ (b : Bool). (entry.version == 3) && b) other ∙ by (entry.version == 3)
+  where
+    by : (b : Bool) → (b && false) ≡ false
+    by true = refl
+    by false = refl
+
+pub returned-may : (entry : Entry) (records : List Record) (number : ℕ) (outcome : Outcome) → MayReturn outcome (returned_by entry records number outcome)
+returned-may entry records number (Answered z) = returned-nothing entry records number (Answered z) (kept-unexhausted entry (Answered z) refl)
+returned-may entry records number Exhausted = tt
+returned-may entry records number Lost = returned-nothing entry records number Lost (kept-unexhausted entry Lost refl)
+
+-- What a settlement gives back is told by where it may follow.
+pub returned-is : (entry : Entry) (records : List Record) (settlement : Settlement) → IsSettlementAfter entry records settlement
+    → returned_by entry records settlement.number settlement.outcome ≡ settlement.returned
+returned-is entry records settlement may = omega (arith, may.fall, cost_of-append-returned entry records settlement.number settlement.outcome settlement.returned 0)
 
 -- No records cost nothing.
 pub cost_of-nil : (entry : Entry) → cost_of entry [] ≡ 0
 cost_of-nil entry = cost_of-charges entry [] ∙ cost-nil
 
--- What each reservation of a history took adds up to its cost.
-pub adds_up : (entry : Entry) (records : List Record) → IsHistory entry records → sum_by taken_of records ≡ cost_of entry records
-adds_up entry = history-induction entry (λ records. sum_by taken_of records ≡ cost_of entry records) (sym (cost_of-nil entry)) step
+-- What each reservation of a history took adds up to its cost and to what was given back.
+pub adds_up : (entry : Entry) (records : List Record) → IsHistory entry records → sum_by taken_of records ≡ cost_of entry records + sum_by returned_of records
+adds_up entry = history-induction entry (λ records. sum_by taken_of records ≡ cost_of entry records + sum_by returned_of records) (omega (arith, cost_of-nil entry)) step
   where
-    step : (xs : List Record) (x : Record) → IsHistory entry xs → MayFollow entry xs x → sum_by taken_of xs ≡ cost_of entry xs → sum_by taken_of (xs ++ x ∷ []) ≡ cost_of entry (xs ++ x ∷ [])
+    step : (xs : List Record) (x : Record) → IsHistory entry xs → MayFollow entry xs x → sum_by taken_of xs ≡ cost_of entry xs + sum_by returned_of xs
+        → sum_by taken_of (xs ++ x ∷ []) ≡ cost_of entry (xs ++ x ∷ []) + sum_by returned_of (xs ++ x ∷ [])
     step xs (Reserve reservation) h may before =
-        sum_by_push taken_of xs (Reserve reservation) ∙ ap (λ k. k + reservation.taken) before ∙ sym may.rise
+        omega (arith, before, may.rise, sum_by_push taken_of xs (Reserve reservation), sum_by_push returned_of xs (Reserve reservation))
     step xs (Settle settlement) h may before =
-        sum_by_push taken_of xs (Settle settlement) ∙ add-zero (sum_by taken_of xs) ∙ before ∙ sym (cost_of-append-Settle entry xs settlement.number settlement.outcome)
+        omega (arith, before, may.fall, sum_by_push taken_of xs (Settle settlement), sum_by_push returned_of xs (Settle settlement))

@@ -6,15 +6,16 @@ use Rattle.partition_charge.specs.Cost.{cost_of_charges, partition_cost}
 use Rattle.journal_records.specs.declared.records.Outcome.TheVariants.{Answered, Exhausted, Lost}
 use Rattle.journal_records.specs.declared.records.Record.{Record}
 use Rattle.journal_records.specs.declared.records.Record.TheVariants.{Reserve}
-use Rattle.journal_records.specs.Records.{settling}
+use Rattle.journal_records.specs.Records.{settling_back, settling}
 use Rattle.budget_core.specs.declared.entry.Ask.{Ask}
+use Rattle.budget_core.specs.declared.events.Event.{Event}
 use Rattle.budget_core.specs.declared.events.Event.TheVariants.{Reserve as ToReserve, Settle as ToSettle, Send, Stop, Open}
 use Rattle.budget_core.specs.Cost.{cost_of}
 use Rattle.budget_core.specs.Entries.{Entry}
 use Rattle.budget_core.specs.Events.{World, is_ask_of, is_lowest, is_epsilon, is_digest, has_view, stepped, ran}
 
 abbrev entry_of : ℕ → ℕ → Entry
-entry_of budget capacity = record { budget = budget; capacity = capacity; analysts = 2; keys = 2 ∷ [] }
+entry_of budget capacity = record { budget = budget; capacity = capacity; analysts = 2; keys = 2 ∷ []; version = 2 }
 
 abbrev digest : List ℕ
 digest = replicate 32 9
@@ -45,6 +46,51 @@ goes_on : ran (entry_of 10 100) (ToReserve (ask_of Whole 4) ∷ Stop ∷ Open �
     ≡ record { records = made 0 Whole 4 4 ∷ made 1 Whole 6 6 ∷ settling 1 Exhausted ∷ []; start = 1; running = true; sent = [] }
 unfolding cost_of cost_of_charges partition_cost
 goes_on = refl
+
+-- ---- what comes back
+
+abbrev newest_of : ℕ → ℕ → Entry
+newest_of budget capacity = record (entry_of budget capacity) { version = 3 }
+
+-- a dearer part and a cheaper one of the same partition, and the dearer one's sampler runs out of draws
+abbrev dearer_exhausted : List Event
+dearer_exhausted = ToReserve (ask_of (Part 0 0) 6) ∷ ToReserve (ask_of (Part 0 1) 4) ∷ ToSettle 0 Exhausted ∷ []
+
+abbrev dearer_returned : List Record
+dearer_returned = made 0 (Part 0 0) 6 6 ∷ made 1 (Part 0 1) 4 0 ∷ settling_back 0 Exhausted 2 ∷ []
+
+-- In version 3 it gives 2 back, and the cost is the cheaper one's.
+comes_back : ran (newest_of 10 100) dearer_exhausted ≡ record { records = dearer_returned; start = 0; running = true; sent = [] }
+unfolding cost_of cost_of_charges partition_cost
+comes_back = refl
+
+cost_then : cost_of (newest_of 10 100) dearer_returned ≡ 4
+unfolding cost_of cost_of_charges partition_cost
+cost_then = refl
+
+-- In version 2 it gives nothing back.
+stays_spent : ran (entry_of 10 100) dearer_exhausted
+    ≡ record { records = made 0 (Part 0 0) 6 6 ∷ made 1 (Part 0 1) 4 0 ∷ settling 0 Exhausted ∷ []; start = 0; running = true; sent = [] }
+unfolding cost_of cost_of_charges partition_cost
+stays_spent = refl
+
+-- The cheaper one gives nothing back, and doesn't count from then on.
+cheaper_back : ran (newest_of 10 100) (ToReserve (ask_of (Part 0 0) 6) ∷ ToReserve (ask_of (Part 0 1) 4) ∷ ToSettle 1 Exhausted ∷ ToReserve (ask_of (Part 0 1) 6) ∷ [])
+    ≡ record { records = made 0 (Part 0 0) 6 6 ∷ made 1 (Part 0 1) 4 0 ∷ settling 1 Exhausted ∷ made 2 (Part 0 1) 6 0 ∷ []; start = 0; running = true; sent = [] }
+unfolding cost_of cost_of_charges partition_cost
+cheaper_back = refl
+
+-- What is lost stays spent.
+lost_stays : ran (newest_of 10 100) (ToReserve (ask_of Whole 10) ∷ ToSettle 0 Lost ∷ ToReserve (ask_of Whole 1) ∷ [])
+    ≡ record { records = made 0 Whole 10 10 ∷ settling 0 Lost ∷ []; start = 0; running = true; sent = [] }
+unfolding cost_of cost_of_charges partition_cost
+lost_stays = refl
+
+-- What comes back is there for the next ask.
+spent_again : ran (newest_of 10 100) (ToReserve (ask_of Whole 10) ∷ ToSettle 0 Exhausted ∷ ToReserve (ask_of Whole 10) ∷ [])
+    ≡ record { records = made 0 Whole 10 10 ∷ settling_back 0 Exhausted 10 ∷ made 1 Whole 10 10 ∷ []; start = 0; running = true; sent = [] }
+unfolding cost_of cost_of_charges partition_cost
+spent_again = refl
 
 -- ---- one event
 
@@ -89,6 +135,7 @@ no_such_analyst = refl
 
 -- A number of this run that is reserved and unsettled is settled; another isn't.
 settles_it : stepped (entry_of 10 100) one_open (ToSettle 0 (Answered (pos 5))) ≡ one_answered
+unfolding cost_of cost_of_charges partition_cost
 settles_it = refl
 
 settles_again : stepped (entry_of 10 100) one_answered (ToSettle 0 Lost) ≡ one_answered

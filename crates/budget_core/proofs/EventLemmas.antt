@@ -5,7 +5,6 @@ use Rattle.std.proofs.lemmas.Bool.{leb-true}
 use Rattle.std.specs.List.{list_any}
 use Rattle.journal_records.specs.declared.records.Outcome.{Outcome}
 use Rattle.journal_records.specs.declared.records.Record.{Record}
-use Rattle.journal_records.specs.Records.{settling}
 use Rattle.budget_core.specs.declared.entry.Ask.{Ask}
 use Rattle.budget_core.specs.declared.entry.Grant.{Grant}
 use Rattle.budget_core.specs.declared.entry.ReserveFault.{ReserveFault}
@@ -14,12 +13,13 @@ use Rattle.budget_core.specs.declared.events.Event.TheVariants.{Reserve as ToRes
 use Rattle.budget_core.specs.Counts.{reservations_of, reservation_of, outcome_of, open_from}
 use Rattle.budget_core.specs.Entries.{Entry, IsEntry}
 use Rattle.budget_core.specs.Events.{World, first_world, is_ask_of, is_unsettled, is_answer, stepped, ran}
-use Rattle.budget_core.specs.Ledger.{Ledger, start_of, reservation_for, money_verdict, records_after, IsAskOf, IsUnsettled}
+use Rattle.budget_core.specs.Ledger.{Ledger, start_of, reservation_for, money_verdict, records_after, settlement_of, settlement_for, IsAskOf, IsUnsettled}
 use Rattle.budget_core.specs.Safe.{IsSafe}
 use Rattle.budget_core.specs.Sound.{IsSound}
 use Rattle.budget_core.proofs.Histories.{history-nil}
 use Rattle.budget_core.proofs.Numbers.{numbered_in_order, settled_once, outcome_of-append-old}
 use Rattle.budget_core.proofs.SoundLemmas.{sound-history, sound-Reserve, sound-Settle, sound-found}
+use Rattle.budget_core.proofs.LegalLemmas.{settlement-may}
 use Rattle.budget_core.proofs.Costs.{cost_of-nil}
 use Rattle.budget_core.proofs.Asks.{ask-from}
 
@@ -92,14 +92,15 @@ good-reserve entry world ask good asked (Ok grant) is =
     }
 
 good-settle : (entry : Entry) (world : World) (number : ℕ) (outcome : Outcome) → IsGood entry world → is_unsettled world.start world.records number ≡ true
-    → IsGood entry (record world { records = world.records ++ settling number outcome ∷ [] })
+    → IsGood entry (record world { records = world.records ++ settlement_for entry world.records number outcome ∷ [] })
 good-settle entry world number outcome good holds =
     let ledger : Ledger = record { entry = entry; found = good.found; records = world.records } in
     record {
       found = good.found;
-      sound = sound-Settle ledger number outcome good.sound (unsettled-from ledger world.start number good.start holds);
+      sound = sound-Settle ledger (settlement_of entry world.records number outcome) good.sound
+          (settlement-may ledger number outcome (unsettled-from ledger world.start number good.start holds));
       start = good.start;
-      answered = answers-stay world.records (settling number outcome) world.sent good.answered;
+      answered = answers-stay world.records (settlement_for entry world.records number outcome) world.sent good.answered;
     }
 
 -- a world that changes where a test holds
@@ -112,7 +113,7 @@ good-stepped entry world (ToReserve ask) good =
     good-if entry world (record world { records = records_after world.records ask (money_verdict entry world.start world.records ask) }) (world.running && is_ask_of entry ask) good
     (λ holds. good-reserve entry world ask good (ask-from entry ask (test-both world.running (is_ask_of entry ask) holds).1) (money_verdict entry world.start world.records ask) refl)
 good-stepped entry world (ToSettle number outcome) good =
-    good-if entry world (record world { records = world.records ++ settling number outcome ∷ [] }) (world.running && is_unsettled world.start world.records number) good
+    good-if entry world (record world { records = world.records ++ settlement_for entry world.records number outcome ∷ [] }) (world.running && is_unsettled world.start world.records number) good
     (λ holds. good-settle entry world number outcome good (test-both world.running (is_unsettled world.start world.records number) holds).1)
 good-stepped entry world (Send number) good =
     good-if entry world (record world { sent = world.sent ++ number ∷ [] })

@@ -5,13 +5,13 @@ use Rattle.partition_charge.specs.declared.view.View.TheVariants.{Whole, Part}
 use Rattle.journal_records.specs.declared.records.Outcome.TheVariants.{Answered, Exhausted, Lost}
 use Rattle.journal_records.specs.declared.records.Record.{Record}
 use Rattle.journal_records.specs.declared.records.Record.TheVariants.{Reserve}
-use Rattle.journal_records.specs.Records.{reservation_in, settling}
+use Rattle.journal_records.specs.Records.{reservation_in, settling_back, settling}
 use Rattle.budget_core.specs.declared.entry.Ask.{Ask}
 use Rattle.budget_core.specs.declared.entry.ReserveFault.TheVariants.{OverBudget, Full}
 use Rattle.partition_charge.specs.Cost.{cost_of_charges, partition_cost}
 use Rattle.budget_core.specs.Cost.{charge_of, charges_in, cost_of}
 use Rattle.budget_core.specs.Bare.{without_answers}
-use Rattle.budget_core.specs.Counts.{reservations_of, reservation_of, outcome_of, asker_of, settles, reservation_number, taken_of, open_from}
+use Rattle.budget_core.specs.Counts.{reservations_of, reservation_of, outcome_of, asker_of, settles, reservation_number, taken_of, returned_of, open_from}
 use Rattle.budget_core.specs.Entries.{Entry}
 use Rattle.budget_core.specs.Ledger.{start_of, money_verdict, records_after}
 
@@ -41,7 +41,7 @@ greatest : charge_of 1000000000 4294967295 1 ≡ 4294967295000000000
 greatest = refl
 
 abbrev entry_of : ℕ → ℕ → Entry
-entry_of budget capacity = record { budget = budget; capacity = capacity; analysts = 2; keys = 2 ∷ [] }
+entry_of budget capacity = record { budget = budget; capacity = capacity; analysts = 2; keys = 2 ∷ []; version = 2 }
 
 abbrev digest : List ℕ
 digest = replicate 32 9
@@ -163,7 +163,7 @@ unfolding cost_of cost_of_charges partition_cost
 over_before_full = refl
 
 -- Each reservation charges its view, and a settlement nothing.
-charged : charges_in parts_ab ≡ record { view = Part 0 0; amount = 6 } ∷ record { view = Part 0 1; amount = 6 } ∷ []
+charged : charges_in (entry_of 10 100) parts_ab ≡ record { view = Part 0 0; amount = 6 } ∷ record { view = Part 0 1; amount = 6 } ∷ []
 charged = refl
 
 -- a reservation that was left open
@@ -227,9 +227,31 @@ settlements = refl
 starts_after_the_found : start_of (record { entry = entry_of 10 100; found = part_a ++ made 1 Whole 4 4 ∷ []; records = records }) ≡ 2
 starts_after_the_found = refl
 
+-- what settlements gave back
+gave_back : map returned_of (left_open ++ settling_back 0 Exhausted 4 ∷ settling 1 Lost ∷ []) ≡ 0 ∷ 4 ∷ 0 ∷ []
+gave_back = refl
+
+-- In version 3 a number whose sampler ran out of draws doesn't count, and in version 2 it does.
+abbrev exhausted : List Record
+exhausted = left_open ++ settling_back 0 Exhausted 4 ∷ made 1 (Part 0 1) 3 3 ∷ []
+
+charged_in_three : charges_in (record (entry_of 10 100) { version = 3 }) exhausted ≡ record { view = Part 0 1; amount = 3 } ∷ []
+charged_in_three = refl
+
+charged_in_two : charges_in (entry_of 10 100) exhausted ≡ record { view = Whole; amount = 4 } ∷ record { view = Part 0 1; amount = 3 } ∷ []
+charged_in_two = refl
+
+cost_in_three : cost_of (record (entry_of 10 100) { version = 3 }) exhausted ≡ 3
+unfolding cost_of cost_of_charges partition_cost
+cost_in_three = refl
+
+cost_in_one : cost_of (record (entry_of 10 100) { version = 1 }) exhausted ≡ 7
+unfolding cost_of cost_of_charges partition_cost
+cost_in_one = refl
+
 -- Only answers are set to 0.
-answers_are_gone : without_answers (made 0 Whole 4 4 ∷ settling 0 (Answered (negsuc 6)) ∷ settling 1 Exhausted ∷ settling 2 Lost ∷ [])
-    ≡ made 0 Whole 4 4 ∷ settling 0 (Answered (pos 0)) ∷ settling 1 Exhausted ∷ settling 2 Lost ∷ []
+answers_are_gone : without_answers (made 0 Whole 4 4 ∷ settling 0 (Answered (negsuc 6)) ∷ settling_back 1 Exhausted 5 ∷ settling 2 Lost ∷ [])
+    ≡ made 0 Whole 4 4 ∷ settling 0 (Answered (pos 0)) ∷ settling_back 1 Exhausted 5 ∷ settling 2 Lost ∷ []
 answers_are_gone = refl
 
 -- A reservation that an earlier run left open keeps its cost, and no room.

@@ -1,29 +1,33 @@
 -- what a history keeps
-use Rattle.std.proofs.Common.{◌≡◌, ℕ, ◌+◌, ◌-◌, ◌≤◌, ◌<◌, ◌^◌, ◌∙◌, List, [], ◌∷◌, ◌++◌, length, length-append, add-zero, count_by, Vec, Global, vec_capacity, IsTrue, nat_eq, ◌↔◌, sym, ap, subst, arith}
+use Rattle.std.proofs.Common.{◌≡◌, ℕ, get_or, Bool, true, false, Some, refl, ◌+◌, ◌-◌, ◌≤◌, ◌<◌, ◌^◌, ◌∙◌, List, [], ◌∷◌, ◌++◌, length, length-append, add-zero, count_by, Vec, Global, vec_capacity, IsTrue, nat_eq, ◌↔◌, sym, ap, subst, arith}
 use Rattle.partition_charge.specs.declared.costs.Costs.{Costs}
 use Rattle.partition_charge.specs.declared.view.View.{View}
 use Rattle.partition_charge.specs.Cost.{Charge, cost_of_charges}
-use Rattle.partition_charge.specs.Totals.{AreTotalsOf, HasRoom}
+use Rattle.partition_charge.specs.Totals.{AreTotalsOf, HasRoom, IsRest}
 use Rattle.partition_charge.proofs.Charges.{never-falls}
 use Rattle.std.proofs.lemmas.Bool.{eqb-true, eq-eqb, ltb-true}
+use Rattle.std.proofs.lemmas.Option.{slice_get-get_or}
 use Rattle.std.proofs.lemmas.List.Sums.{sum_by_push, count_by-le-length}
 use Rattle.journal_records.specs.declared.records.Outcome.{Outcome}
 use Rattle.journal_records.specs.declared.records.Reservation.{Reservation}
+use Rattle.journal_records.specs.declared.records.Settlement.{Settlement}
 use Rattle.journal_records.specs.declared.records.Record.{Record}
-use Rattle.journal_records.specs.declared.records.Record.TheVariants.{Reserve}
-use Rattle.journal_records.specs.Records.{settling}
+use Rattle.journal_records.specs.declared.records.Record.TheVariants.{Reserve, Settle}
+use Rattle.journal_records.specs.Records.{settling_back}
 use Rattle.budget_core.specs.declared.totals.Row.{Row}
 use Rattle.budget_core.specs.declared.totals.Totals.{Totals}
-use Rattle.budget_core.specs.Cost.{charge_of, charges_in, cost_of}
-use Rattle.budget_core.specs.Legal.{IsReservationAfter, IsSettlementAfter}
+use Rattle.budget_core.specs.Cost.{charge_of, comes_back, counts_in, charges_in, cost_of}
+use Rattle.budget_core.specs.Ledger.{returned_by}
+use Rattle.budget_core.specs.Legal.{IsReservationAfter, IsOpen, IsSettlementAfter, IsHistory}
 use Rattle.budget_core.specs.Answers.{is_answered, is_exhausted}
 use Rattle.budget_core.specs.Counts.{reservations_of}
 use Rattle.budget_core.specs.Entries.{Entry, HasView}
-use Rattle.budget_core.specs.Kept.{HasRows, IsTotalOf}
+use Rattle.budget_core.specs.Kept.{IsRowOf, HasRows, IsTotalOf}
 use Rattle.budget_core.proofs.Charging.{rises, view-valid}
-use Rattle.budget_core.proofs.Costs.{cost_of-charges, cost_of-append-Reserve, cost_of-append-Settle, charges_in-append-Reserve, charges_in-append-Settle}
+use Rattle.budget_core.proofs.Costs.{counts-unsettled, cost_of-charges, cost_of-append-Reserve, cost_of-append-returned, cost_of-le-Settle, charges_in-append-Reserve, charges_in-append-Settle, returned-is}
+use Rattle.budget_core.proofs.Backs.{back-rest}
 use Rattle.budget_core.proofs.Histories.{history-append}
-use Rattle.budget_core.proofs.Numbers.{one_if, reserved_below}
+use Rattle.budget_core.proofs.Numbers.{one_if, outcome_past, reserved_below}
 use Rattle.budget_core.proofs.Standings.{reservations-within, new-row, rows-Reserve}
 
 -- There are fewer rows than a u32 has numbers.
@@ -33,18 +37,29 @@ kept-count entry records totals k = omega (arith, k.rows.count, reservations-wit
 -- The totals have room for one charge more.
 pub kept-charging : (entry : Entry) (records : List Record) (totals : Totals) (view : View) (amount : ℕ) → IsTotalOf entry records totals → HasView entry view → amount ≤ 2 ^ 62 → HasRoom totals.costs view amount
 kept-charging entry records totals view amount k has bounded =
-    let charges : List Charge = charges_in records in
+    let charges : List Charge = charges_in entry records in
     (charges, k.costs, omega (arith, rises charges view amount (view-valid entry view k.valid has), cost_of-charges entry records, k.within, k.valid.budget))
 
-pub kept-grows : (entry : Entry) (records : List Record) (view : View) (amount : ℕ) → cost_of entry records ≤ cost_of_charges (charges_in records ++ record { view = view; amount = amount } ∷ [])
-kept-grows entry records view amount = omega (arith, cost_of-charges entry records, never-falls (charges_in records) (record { view = view; amount = amount }))
+pub kept-grows : (entry : Entry) (records : List Record) (view : View) (amount : ℕ) → cost_of entry records ≤ cost_of_charges (charges_in entry records ++ record { view = view; amount = amount } ∷ [])
+kept-grows entry records view amount = omega (arith, cost_of-charges entry records, never-falls (charges_in entry records) (record { view = view; amount = amount }))
+
+-- A reservation with the next number counts.
+pub next-counts : (entry : Entry) (records : List Record) (r : Reservation) → IsHistory entry records → r.number ≡ length (reservations_of records) → counts_in entry records r ≡ true
+next-counts entry records r h numbered = counts-unsettled entry records r (outcome_past entry records h r.number (omega (arith, numbered)))
+
+-- what the records cost with a reservation more
+with-one : (entry : Entry) (records : List Record) (r : Reservation) (charge after : ℕ) → IsHistory entry records → r.number ≡ length (reservations_of records) → charge ≡ charge_of r.e r.p r.q
+    → after ≡ cost_of_charges (charges_in entry records ++ record { view = r.view; amount = charge } ∷ []) → cost_of entry (records ++ Reserve r ∷ []) ≡ after
+with-one entry records r charge after h numbered is cost =
+    cost_of-append-Reserve entry records r (next-counts entry records r h numbered)
+    ∙ ap (λ (n : ℕ). cost_of_charges (charges_in entry records ++ record { view = r.view; amount = n } ∷ [])) (sym is) ∙ sym cost
 
 -- Whether a reservation within its budget may follow goes by what it says of the cost.
-pub may-reserve : (entry : Entry) (records : List Record) (r : Reservation) (charge after spent : ℕ) → r.number ≡ length (reservations_of records) → r.analyst < entry.analysts → HasView entry r.view
-    → charge ≡ charge_of r.e r.p r.q → after ≡ cost_of_charges (charges_in records ++ record { view = r.view; amount = charge } ∷ [])
+pub may-reserve : (entry : Entry) (records : List Record) (r : Reservation) (charge after spent : ℕ) → IsHistory entry records → r.number ≡ length (reservations_of records) → r.analyst < entry.analysts → HasView entry r.view
+    → charge ≡ charge_of r.e r.p r.q → after ≡ cost_of_charges (charges_in entry records ++ record { view = r.view; amount = charge } ∷ [])
     → cost_of entry records ≤ after → spent ≡ cost_of entry records → after ≤ entry.budget → IsTrue (nat_eq (after - spent) r.taken) ↔ IsReservationAfter entry records r
-may-reserve entry records r charge after spent numbered asked viewed is cost grows was within =
-    let now : cost_of entry (records ++ Reserve r ∷ []) ≡ after = with-one records r charge after is cost in (
+may-reserve entry records r charge after spent h numbered asked viewed is cost grows was within =
+    let now : cost_of entry (records ++ Reserve r ∷ []) ≡ after = with-one entry records r charge after h numbered is cost in (
       λ yes. record {
         numbered = numbered;
         asked_by = asked;
@@ -54,29 +69,23 @@ may-reserve entry records r charge after spent numbered asked viewed is cost gro
       },
       λ may. eq-eqb (after - spent) r.taken (omega (arith, now, may.rise)),
     )
-  where
-    with-one : (records : List Record) (r : Reservation) (charge after : ℕ) → charge ≡ charge_of r.e r.p r.q
-        → after ≡ cost_of_charges (charges_in records ++ record { view = r.view; amount = charge } ∷ []) → cost_of entry (records ++ Reserve r ∷ []) ≡ after
-    with-one records r charge after is cost =
-        cost_of-append-Reserve entry records r ∙ ap (λ (n : ℕ). cost_of_charges (charges_in records ++ record { view = r.view; amount = n } ∷ [])) (sym is) ∙ sym cost
 
--- History the budget none may.
-pub may-not-reserve : (entry : Entry) (records : List Record) (r : Reservation) (charge after : ℕ) → charge ≡ charge_of r.e r.p r.q
-    → after ≡ cost_of_charges (charges_in records ++ record { view = r.view; amount = charge } ∷ []) → entry.budget < after → IsReservationAfter entry records r → ⊥
-may-not-reserve entry records r charge after is cost over may =
-    let now : cost_of entry (records ++ Reserve r ∷ []) ≡ after
-    = cost_of-append-Reserve entry records r ∙ ap (λ (n : ℕ). cost_of_charges (charges_in records ++ record { view = r.view; amount = n } ∷ [])) (sym is) ∙ sym cost in
-    omega (arith, now, may.within)
+-- Above the budget none may.
+pub may-not-reserve : (entry : Entry) (records : List Record) (r : Reservation) (charge after : ℕ) → IsHistory entry records → charge ≡ charge_of r.e r.p r.q
+    → after ≡ cost_of_charges (charges_in entry records ++ record { view = r.view; amount = charge } ∷ []) → entry.budget < after → IsReservationAfter entry records r → ⊥
+may-not-reserve entry records r charge after h is cost over may =
+    omega (arith, with-one entry records r charge after h may.numbered is cost, may.within)
 
 -- after a reservation
 pub kept-Reserve : (entry : Entry) (records : List Record) (totals : Totals) (r : Reservation) (charge : ℕ) (costs : Costs) (rows : Vec Row Global) → IsTotalOf entry records totals
-    → IsReservationAfter entry records r → charge ≡ charge_of r.e r.p r.q → length records < entry.capacity → AreTotalsOf costs (charges_in records ++ record { view = r.view; amount = charge } ∷ [])
+    → IsReservationAfter entry records r → charge ≡ charge_of r.e r.p r.q → length records < entry.capacity → AreTotalsOf costs (charges_in entry records ++ record { view = r.view; amount = charge } ∷ [])
     → rows.items ≡ totals.rows.items ++ new-row r ∷ [] → vec_capacity rows ≡ vec_capacity totals.rows
     → IsTotalOf entry (records ++ Reserve r ∷ []) (record totals { costs = costs; rows = rows })
 kept-Reserve entry records totals r charge costs rows k may is short stand lines broad =
     let all : List Record = records ++ Reserve r ∷ [] in
-    let charged : charges_in records ++ record { view = r.view; amount = charge } ∷ [] ≡ charges_in all
-    = ap (λ (n : ℕ). charges_in records ++ record { view = r.view; amount = n } ∷ []) is ∙ sym (charges_in-append-Reserve records r) in
+    let charged : charges_in entry records ++ record { view = r.view; amount = charge } ∷ [] ≡ charges_in entry all
+    = ap (λ (n : ℕ). charges_in entry records ++ record { view = r.view; amount = n } ∷ []) is
+    ∙ sym (charges_in-append-Reserve entry records r (next-counts entry records r k.history may.numbered)) in
     record {
       valid = k.valid;
       history = history-append entry records (Reserve r) k.history may;
@@ -90,29 +99,66 @@ kept-Reserve entry records totals r charge costs rows k may is short stand lines
     }
 
 -- after a settlement
-pub kept-Settle : (entry : Entry) (records : List Record) (totals : Totals) (number : ℕ) (outcome : Outcome) (rows : Vec Row Global) (one other : ℕ) → IsTotalOf entry records totals
-    → IsSettlementAfter records number → length records < entry.capacity
-    → HasRows rows.items (records ++ settling number outcome ∷ []) → vec_capacity rows ≡ vec_capacity totals.rows
-    → one ≡ one_if (is_answered (settling number outcome)) → other ≡ one_if (is_exhausted (settling number outcome))
-    → IsTotalOf entry (records ++ settling number outcome ∷ []) (record totals { rows = rows; answered = totals.answered + one; exhausted = totals.exhausted + other })
-kept-Settle entry records totals number outcome rows one other k may short has broad answers exhausts = record {
+pub kept-Settle : (entry : Entry) (records : List Record) (totals : Totals) (settlement : Settlement) (costs : Costs) (rows : Vec Row Global) (one other : ℕ) → IsTotalOf entry records totals
+    → IsSettlementAfter entry records settlement → length records < entry.capacity → AreTotalsOf costs (charges_in entry (records ++ Settle settlement ∷ []))
+    → HasRows rows.items (records ++ Settle settlement ∷ []) → vec_capacity rows ≡ vec_capacity totals.rows
+    → one ≡ one_if (is_answered (Settle settlement)) → other ≡ one_if (is_exhausted (Settle settlement))
+    → IsTotalOf entry (records ++ Settle settlement ∷ []) (record totals { costs = costs; rows = rows; answered = totals.answered + one; exhausted = totals.exhausted + other })
+kept-Settle entry records totals settlement costs rows one other k may short stand has broad answers exhausts = record {
   valid = k.valid;
-  history = history-append entry records (settling number outcome) k.history may;
-  within = omega (arith, k.within, cost_of-append-Settle entry records number outcome);
-  costs = subst (AreTotalsOf totals.costs) (sym (charges_in-append-Settle records number outcome)) k.costs;
+  history = history-append entry records (Settle settlement) k.history may;
+  within = omega (arith, k.within, may.fall);
+  costs = stand;
   rows = has;
-  answered = omega (arith, k.answered, answers, sum_by_push (λ x. one_if (is_answered x)) records (settling number outcome));
-  exhausted = omega (arith, k.exhausted, exhausts, sum_by_push (λ x. one_if (is_exhausted x)) records (settling number outcome));
-  fits = omega (arith, length-append records (settling number outcome ∷ []), short);
+  answered = omega (arith, k.answered, answers, sum_by_push (λ x. one_if (is_answered x)) records (Settle settlement));
+  exhausted = omega (arith, k.exhausted, exhausts, sum_by_push (λ x. one_if (is_exhausted x)) records (Settle settlement));
+  fits = omega (arith, length-append records (Settle settlement ∷ []), short);
   row_room = omega (arith, k.row_room, broad);
 }
 
--- A number that may be settled has a row.
-pub kept-row : (entry : Entry) (records : List Record) (totals : Totals) (number : ℕ) → IsTotalOf entry records totals → IsSettlementAfter records number → number < length totals.rows.items
-kept-row entry records totals number k may =
+-- the totals of what is charged after a settlement
+pub settled-costs : (entry : Entry) (records : List Record) (totals : Totals) (number : ℕ) (outcome : Outcome) (returned : ℕ) (row : Row) (costs : Costs) → IsTotalOf entry records totals
+    → IsOpen records number → IsRowOf records number row
+    → ((charges rest : List Charge) → AreTotalsOf totals.costs charges → comes_back entry (Some outcome) ≡ true → IsRest charges row.view row.charge rest → AreTotalsOf costs rest)
+    → ((charges : List Charge) → AreTotalsOf totals.costs charges → comes_back entry (Some outcome) ≡ false → AreTotalsOf costs charges)
+    → AreTotalsOf costs (charges_in entry (records ++ settling_back number outcome returned ∷ []))
+settled-costs entry records totals number outcome returned row costs k open_before is given kept = by (comes_back entry (Some outcome)) refl
+  where
+    by : (b : Bool) → comes_back entry (Some outcome) ≡ b → AreTotalsOf costs (charges_in entry (records ++ settling_back number outcome returned ∷ []))
+    by true back = given (charges_in entry records) (charges_in entry (records ++ settling_back number outcome returned ∷ [])) k.costs back
+        (back-rest entry records number returned outcome back k.history open_before (record { view = row.view; amount = row.charge }) is.charge)
+    by false none = subst (AreTotalsOf costs) (sym (charges_in-append-Settle entry records number outcome returned none)) (kept (charges_in entry records) k.costs none)
+
+-- Whether a settlement of what is open may follow goes by what it says of the cost.
+pub may-settle-by : (entry : Entry) (records : List Record) (settlement : Settlement) (returned : ℕ) → IsOpen records settlement.number
+    → returned ≡ returned_by entry records settlement.number settlement.outcome → IsTrue (nat_eq returned settlement.returned) ↔ IsSettlementAfter entry records settlement
+may-settle-by entry records settlement returned open_before is = (
+  λ yes. record {
+    reserved = open_before.reserved;
+    unsettled = open_before.unsettled;
+    fall = omega (
+      arith,
+      is,
+      eqb-true returned settlement.returned yes,
+      cost_of-le-Settle entry records settlement.number settlement.outcome 0,
+      cost_of-append-returned entry records settlement.number settlement.outcome settlement.returned 0,
+    );
+  },
+  λ may. eq-eqb returned settlement.returned (is ∙ returned-is entry records settlement may),
+)
+
+-- A number that is open has a row that isn't settled.
+pub open-row : (entry : Entry) (records : List Record) (totals : Totals) (number : ℕ) → IsTotalOf entry records totals → IsOpen records number → number < length totals.rows.items
+open-row entry records totals number k may =
     let below : number < length (reservations_of records)
     = ltb-true number (length (reservations_of records)) (sym (reserved_below entry records k.history number) ∙ may.reserved) in
     omega (arith, below, k.rows.count)
+
+-- What stands in that row is of the number.
+pub row-of : (entry : Entry) (records : List Record) (totals : Totals) (number : ℕ) (row : Row) → IsTotalOf entry records totals → IsOpen records number
+    → row ≡ get_or totals.rows.items number row → IsRowOf records number row
+row-of entry records totals number row k may is =
+    k.rows.each number row (slice_get-get_or totals.rows.items number row (open-row entry records totals number k may) ∙ ap Some (sym is))
 
 -- There are no more answers than records, nor exhausted ones.
 pub kept-ends : (entry : Entry) (records : List Record) (totals : Totals) → IsTotalOf entry records totals → (totals.answered ≤ 262144) × (totals.exhausted ≤ 262144)

@@ -6,7 +6,7 @@ use Rattle.partition_charge.specs.declared.view.View.TheVariants.{Whole, Part}
 use Rattle.journal_records.specs.declared.records.Outcome.TheVariants.{Answered, Exhausted, Lost}
 use Rattle.journal_records.specs.declared.records.Record.{Record}
 use Rattle.journal_records.specs.declared.records.Record.TheVariants.{Reserve}
-use Rattle.journal_records.specs.Records.{settling}
+use Rattle.journal_records.specs.Records.{settling_back, settling}
 use Rattle.budget_core.specs.declared.entry.Ask.{Ask}
 use Rattle.partition_charge.specs.Cost.{cost_of_charges, partition_cost}
 use Rattle.budget_core.specs.Cost.{cost_of}
@@ -18,7 +18,7 @@ use Rattle.budget_core.proofs.LegalLemmas.{legal-nil, legal-append}
 
 -- An entry at the least and at the greatest of its numbers, and just past each of them.
 abbrev entry_of : ℕ → ℕ → ℕ → List ℕ → Entry
-entry_of budget capacity analysts keys = record { budget = budget; capacity = capacity; analysts = analysts; keys = keys }
+entry_of budget capacity analysts keys = record { budget = budget; capacity = capacity; analysts = analysts; keys = keys; version = 2 }
 
 abbrev IsKeyCount : ℕ → Type 0
 IsKeyCount n = (1 ≤ n) × (n ≤ 250)
@@ -159,7 +159,28 @@ over_budget may = let within : 11 ≤ 10 = may.within in omega (arith, within)
 
 -- An open reservation may be settled; one that isn't there, or is settled, may not.
 settles_open : MayFollow small left_open (settling 0 (Answered (pos 5)))
-settles_open = record { reserved = refl; unsettled = refl }
+unfolding cost_of cost_of_charges partition_cost
+settles_open = record { reserved = refl; unsettled = refl; fall = refl }
+
+-- It says by how much the cost falls: in version 3 where the sampler ran out of draws.
+abbrev newest : Entry
+newest = record small { version = 3 }
+
+gives_back : MayFollow newest left_open (settling_back 0 Exhausted 6)
+unfolding cost_of cost_of_charges partition_cost
+gives_back = record { reserved = refl; unsettled = refl; fall = refl }
+
+gives_too_little : MayFollow newest left_open (settling 0 Exhausted) → ⊥
+unfolding cost_of cost_of_charges partition_cost
+gives_too_little may = let fall : 0 ≡ 6 = may.fall in omega (arith, fall)
+
+gives_for_a_loss : MayFollow newest left_open (settling_back 0 Lost 6) → ⊥
+unfolding cost_of cost_of_charges partition_cost
+gives_for_a_loss may = let fall : 12 ≡ 6 = may.fall in omega (arith, fall)
+
+gives_in_two : MayFollow small left_open (settling_back 0 Exhausted 6) → ⊥
+unfolding cost_of cost_of_charges partition_cost
+gives_in_two may = let fall : 12 ≡ 6 = may.fall in omega (arith, fall)
 
 settles_unknown : MayFollow small left_open (settling 1 Lost) → ⊥
 settles_unknown may = let no : false ≡ true = may.reserved in cc
@@ -177,7 +198,7 @@ unfolding cost_of cost_of_charges partition_cost
 fits = legal-append (entry_of 10 2 2 (2 ∷ [])) [] [] (made 0 (Part 0 0) 6 6 0) (legal-nil (entry_of 10 2 2 (2 ∷ [])))
     (record { numbered = refl; asked_by = omega arith; looks_at = omega arith; rise = refl; within = omega arith })
     (ask-from (entry_of 10 2 2 (2 ∷ [])) (record { analyst = 0; view = Whole; e = 6; p = 1; q = 1; digest = digest }) refl).terms
-    (λ number outcome other. cc) (λ within. omega arith)
+    (λ settlement other. cc) (λ within. omega arith)
 
 no_room : IsLegal (entry_of 10 1 2 (2 ∷ [])) [] left_open → ⊥
 no_room legal = let room : 2 ≤ 1 = legal.room (omega arith) 1 (omega arith) (omega arith) in omega (arith, room)
@@ -187,7 +208,7 @@ found_is_gone : IsLegal small left_open [] → ⊥
 found_is_gone legal = let none : [] ≡ left_open = legal.begins in cc
 
 found_is_settled : IsLegal small left_open settled → ⊥
-found_is_settled legal = omega (arith, legal.settles 1 0 Exhausted (omega arith) refl)
+found_is_settled legal = omega (arith, legal.settles 1 (record { number = 0; outcome = Exhausted; returned = 0 }) (omega arith) refl)
 
 -- An ask is of the entry by its analyst, view, epsilon and sensitivity.
 abbrev ask_of : ℕ → View → ℕ → Ask

@@ -11,16 +11,16 @@ use Rattle.journal_records.specs.declared.records.Reservation.{Reservation}
 use Rattle.journal_records.specs.declared.records.Record.{Record}
 use Rattle.journal_records.specs.declared.records.Record.TheVariants.{Reserve, Settle}
 use Rattle.journal_records.specs.declared.records.Settlement.{Settlement}
-use Rattle.journal_records.specs.Records.{reservation_in, settlement_in, settling, number_or_zero}
+use Rattle.journal_records.specs.Records.{reservation_in, settlement_in, settling_back, number_or_zero}
 use Rattle.budget_core.specs.declared.entry.Ask.{Ask}
 use Rattle.budget_core.specs.declared.entry.Grant.{Grant}
 use Rattle.budget_core.specs.declared.entry.ReserveFault.TheVariants.{OverBudget, Full}
 use Rattle.budget_core.specs.Cost.{cost_of}
 use Rattle.budget_core.specs.Counts.{reservations_of, open_from}
 use Rattle.budget_core.specs.Entries.{Entry}
-use Rattle.budget_core.specs.Legal.{MayFollow, HasTerms, IsHistory, IsLegal}
-use Rattle.budget_core.specs.Ledger.{Ledger, start_of, next_number, reservation_numbered, reservation_for, cost_with, rise_of, money_verdict, IsAskOf, MayReserve, IsUnsettled}
-use Rattle.budget_core.proofs.Costs.{cost_of-append-Settle, cost_of-append-taken, cost_of-le-append}
+use Rattle.budget_core.specs.Legal.{MayFollow, IsSettlementAfter, HasTerms, IsHistory, IsLegal}
+use Rattle.budget_core.specs.Ledger.{Ledger, start_of, next_number, reservation_numbered, reservation_for, cost_with, rise_of, money_verdict, settlement_of, IsAskOf, MayReserve, MaySettle, IsUnsettled}
+use Rattle.budget_core.proofs.Costs.{cost_of-append-taken, cost_of-le-append, returned-falls}
 use Rattle.budget_core.proofs.Histories.{push_cases, follows-push, prefix_split, legal-induction}
 use Rattle.budget_core.proofs.Numbers.{reserved_below, outcome_past, outcome_of-append-Reserve, outcome_of-append-Settle, reserved-append, reservation_of-next, open_from-append-Reserve, open_from-Settle}
 
@@ -30,7 +30,7 @@ legal-cost entry found records base l = legal-induction entry found (λ xs. cost
   where
     step : (xs : List Record) (x : Record) → MayFollow entry xs x → cost_of entry xs ≤ entry.budget → cost_of entry (xs ++ x ∷ []) ≤ entry.budget
     step xs (Reserve reservation) may known = may.within
-    step xs (Settle settlement) may known = omega (arith, cost_of-append-Settle entry xs settlement.number settlement.outcome)
+    step xs (Settle settlement) may known = omega (arith, known, may.fall)
 
 -- what was found is no longer than the records
 found_within : (found records : List Record) → take (length found) records ≡ found → length found ≤ length records
@@ -44,13 +44,13 @@ reservations_within found records begins =
 
 -- One record more is legal where it may follow, has terms, settles nothing that was found, and leaves room.
 pub legal-append : (entry : Entry) (found records : List Record) (next : Record) → IsLegal entry found records → MayFollow entry records next → HasTerms next
-    → ((number : ℕ) (outcome : Outcome) → next ≡ settling number outcome → length (reservations_of found) ≤ number)
+    → ((settlement : Settlement) → next ≡ Settle settlement → length (reservations_of found) ≤ settlement.number)
     → (length found ≤ entry.capacity → length records + 1 + open_from (length (reservations_of found)) (records ++ next ∷ []) ≤ entry.capacity)
     → IsLegal entry found (records ++ next ∷ [])
 legal-append entry found records next l may terms ours room = record {
   begins = take-append-le (length found) records (next ∷ []) (found_within found records l.begins) ∙ l.begins;
   follows = λ k other past at. follows-push entry records next k other may (l.follows k other past) at;
-  settles = λ k number outcome past at. elim (push_cases records next k (settling number outcome) at) [ inl before ↦ l.settles k number outcome past before.1 | inr seam ↦ ours number outcome seam.1 ];
+  settles = λ k settlement past at. elim (push_cases records next k (Settle settlement) at) [ inl before ↦ l.settles k settlement past before.1 | inr seam ↦ ours settlement seam.1 ];
   room = λ fits k more upto. elim (cases_lt (length records) k) [
     | inl beyond ↦
         let all : k ≡ length (records ++ next ∷ []) = omega (arith, length-append records (next ∷ [])) in
@@ -92,7 +92,7 @@ pub may-grant : (ledger : Ledger) (ask : Ask) (grant : Grant) → IsAskOf ledger
 may-grant ledger ask grant asked is =
     let g : IsGranted ledger ask grant = granted ledger ask grant is in
     let cost = cost-granted ledger ask grant.taken in
-    let grows : cost_of ledger.entry ledger.records ≤ cost_with ledger.entry ledger.records ask = cost_of-le-append ledger.entry ledger.records (reservation_for ledger.records ask 0) in
+    let grows : cost_of ledger.entry ledger.records ≤ cost_with ledger.entry ledger.records ask = cost_of-le-append ledger.entry ledger.records (reservation_numbered (next_number ledger.records) ask 0) in
     let taken : grant.taken ≡ rise_of ledger.entry ledger.records ask = ap (λ (x : Grant). x.taken) g.is in
     record {
       follows = record { numbered = refl; asked_by = asked.analyst; looks_at = asked.view; rise = omega arith; within = omega (arith, g.within) };
@@ -112,7 +112,7 @@ pub legal-reserved : (ledger : Ledger) (reservation : Reservation) → IsHistory
     → IsLegal ledger.entry ledger.found (ledger.records ++ Reserve reservation ∷ [])
 legal-reserved ledger reservation h l may =
     legal-append ledger.entry ledger.found ledger.records (Reserve reservation) l may.follows may.terms
-    (λ number outcome other. cc) (λ fits. omega (arith, open-reserved ledger reservation h l may.follows.numbered, may.room))
+    (λ settlement other. cc) (λ fits. omega (arith, open-reserved ledger reservation h l may.follows.numbered, may.room))
 
 -- A granted reservation is legal.
 pub legal-Reserve : (ledger : Ledger) (ask : Ask) (grant : Grant) → IsHistory ledger.entry ledger.records → IsLegal ledger.entry ledger.found ledger.records → IsAskOf ledger.entry ask
@@ -142,23 +142,39 @@ unsettled-append-Reserve ledger n reservation u = record {
   unsettled = outcome_of-append-Reserve ledger.records reservation n ∙ u.unsettled;
 }
 
-pub unsettled-append-Settle : (ledger : Ledger) (n number : ℕ) (outcome : Outcome) → n ≢ number → IsUnsettled ledger n
-    → IsUnsettled (record ledger { records = ledger.records ++ settling number outcome ∷ [] }) n
-unsettled-append-Settle ledger n number outcome other u = record {
+pub unsettled-append-Settle : (ledger : Ledger) (n number : ℕ) (outcome : Outcome) (returned : ℕ) → n ≢ number → IsUnsettled ledger n
+    → IsUnsettled (record ledger { records = ledger.records ++ settling_back number outcome returned ∷ [] }) n
+unsettled-append-Settle ledger n number outcome returned other u = record {
   ours = u.ours;
-  reserved = reserved-append ledger.records (settling number outcome) n u.reserved;
-  unsettled = outcome_of-append-Settle ledger.records number outcome n ∙ ap (λ o. option_or o (cond (n == number) (Some outcome) None)) u.unsettled ∙ cond-false (n == number) (Some outcome) None (ne_eqb n number other);
+  reserved = reserved-append ledger.records (settling_back number outcome returned) n u.reserved;
+  unsettled = outcome_of-append-Settle ledger.records number outcome returned n ∙ ap (λ o. option_or o (cond (n == number) (Some outcome) None)) u.unsettled ∙ cond-false (n == number) (Some outcome) None (ne_eqb n number other);
 }
 
+-- A settlement that may be added may follow.
+pub may-settle : (ledger : Ledger) (settlement : Settlement) → MaySettle ledger settlement → IsSettlementAfter ledger.entry ledger.records settlement
+may-settle ledger settlement may = record {
+  reserved = may.unsettled.reserved;
+  unsettled = may.unsettled.unsettled;
+  fall = subst (λ (s : Settlement). cost_of ledger.entry (ledger.records ++ Settle s ∷ []) + s.returned ≡ cost_of ledger.entry ledger.records) (sym may.is)
+      (returned-falls ledger.entry ledger.records settlement.number settlement.outcome);
+}
+
+-- The settlement of what is unsettled may be added.
+pub settlement-may : (ledger : Ledger) (number : ℕ) (outcome : Outcome) → IsUnsettled ledger number
+    → MaySettle ledger (settlement_of ledger.entry ledger.records number outcome)
+settlement-may ledger number outcome u = record { unsettled = u; is = refl }
+
 -- A settlement is legal.
-pub legal-Settle : (ledger : Ledger) (number : ℕ) (outcome : Outcome) → IsHistory ledger.entry ledger.records → IsLegal ledger.entry ledger.found ledger.records → IsUnsettled ledger number
-    → IsLegal ledger.entry ledger.found (ledger.records ++ settling number outcome ∷ [])
-legal-Settle ledger number outcome h l u =
+pub legal-Settle : (ledger : Ledger) (settlement : Settlement) → IsHistory ledger.entry ledger.records → IsLegal ledger.entry ledger.found ledger.records → MaySettle ledger settlement
+    → IsLegal ledger.entry ledger.found (ledger.records ++ Settle settlement ∷ [])
+legal-Settle ledger settlement h l may =
+    let u = may.unsettled in
+    let number : ℕ = settlement.number in
     let records : List Record = ledger.records in
-    let next : Record = settling number outcome in
+    let next : Record = Settle settlement in
     let below : number < length (reservations_of records) = ltb-true number (length (reservations_of records)) (sym (reserved_below ledger.entry records h number) ∙ u.reserved) in
     let closed : open_from (start_of ledger) (records ++ next ∷ []) + 1 ≡ open_from (start_of ledger) records
-    = open_from-Settle ledger.entry (start_of ledger) records number outcome h u.ours u.reserved u.unsettled in
+    = open_from-Settle ledger.entry (start_of ledger) records number settlement.outcome settlement.returned h u.ours u.reserved u.unsettled in
     let longer : length ledger.found < length records = elim (cases_lt (length ledger.found) (length records)) [
       | inl h ↦ h
       | inr short ↦
@@ -167,8 +183,8 @@ legal-Settle ledger number outcome h l u =
     ] in
     let upto : length ledger.found ≤ ledger.entry.capacity → length records + open_from (start_of ledger) records ≤ ledger.entry.capacity
     = λ fits. subst (λ (all : List Record). length records + open_from (start_of ledger) all ≤ ledger.entry.capacity) (take-length records) (l.room fits (length records) longer (omega arith)) in
-    legal-append ledger.entry ledger.found records next l (record { reserved = u.reserved; unsettled = u.unsettled }) tt
-    (λ n other same. let hit : number ≡ n = ap (λ (x : Record). number_or_zero (λ (s : Settlement). s.number) (settlement_in x)) same in omega (arith, u.ours)) (λ fits. omega (arith, closed, upto fits))
+    legal-append ledger.entry ledger.found records next l (may-settle ledger settlement may) tt
+    (λ other same. let hit : number ≡ other.number = ap (λ (x : Record). number_or_zero (λ (s : Settlement). s.number) (settlement_in x)) same in omega (arith, u.ours)) (λ fits. omega (arith, closed, upto fits))
 
 -- The records and a settlement for each open reservation fit into the capacity.
 pub legal-room : (entry : Entry) (records : List Record) → IsLegal entry [] records → length records + open_from 0 records ≤ entry.capacity
@@ -182,7 +198,7 @@ pub legal-nil : (entry : Entry) → IsLegal entry [] []
 legal-nil entry = record {
   begins = refl;
   follows = λ k next past at. cc;
-  settles = λ k number outcome past at. cc;
+  settles = λ k settlement past at. cc;
   room = λ fits k more upto. absurd (omega arith);
   terms = λ k next past at. cc;
 }

@@ -3,6 +3,7 @@ pub mod Charging
 pub mod Histories
 pub mod Numbers
 pub mod Standings
+pub mod Backs
 pub mod BareLemmas
 pub mod LegalLemmas
 pub mod KeptLemmas

@@ -10,16 +10,17 @@ use Rattle.std.proofs.lemmas.List.Sums.{sum_by_push, sum_by-cons}
 use Rattle.std.proofs.lemmas.List.{map-append}
 use Rattle.journal_records.specs.declared.records.Outcome.{Outcome}
 use Rattle.journal_records.specs.declared.records.Reservation.{Reservation}
+use Rattle.journal_records.specs.declared.records.Settlement.{Settlement}
 use Rattle.journal_records.specs.declared.records.Record.{Record}
 use Rattle.journal_records.specs.declared.records.Record.TheVariants.{Reserve, Settle}
-use Rattle.journal_records.specs.Records.{reservation_in, settling, is_some_and}
+use Rattle.journal_records.specs.Records.{reservation_in, settling_back, is_some_and}
 use Rattle.budget_core.specs.Counts.{reservations_of, reservation_number, is_numbered, reservation_of, outcome_of, settles, is_open_in, open_from}
 use Rattle.budget_core.specs.Entries.{Entry}
 use Rattle.budget_core.specs.Legal.{MayFollow, IsHistory}
 use Rattle.budget_core.proofs.Histories.{history-induction}
 
 -- two functions that add up to a third at each element add up so over a list
-sum_by-parts : {X : Type 0} → (f g h : X → ℕ) → ((x : X) → f x + g x ≡ h x) → (xs : List X) → sum_by f xs + sum_by g xs ≡ sum_by h xs
+pub sum_by-parts : {X : Type 0} → (f g h : X → ℕ) → ((x : X) → f x + g x ≡ h x) → (xs : List X) → sum_by f xs + sum_by g xs ≡ sum_by h xs
 sum_by-parts f g h parts [] = refl
 sum_by-parts f g h parts (x ∷ xs) = omega (arith, sum_by-parts f g h parts xs, parts x, sum_by-cons f x xs, sum_by-cons g x xs, sum_by-cons h x xs)
 
@@ -36,9 +37,16 @@ reservations_of-append-Reserve records reservation =
     let next : Record = Reserve reservation in
     ap length (filter_map-append reservation_in records (next ∷ [])) ∙ length-append (reservations_of records) (reservation ∷ [])
 
-pub reservations_of-append-Settle : (records : List Record) (number : ℕ) (outcome : Outcome) → length (reservations_of (records ++ settling number outcome ∷ [])) ≡ length (reservations_of records)
-reservations_of-append-Settle records number outcome =
-    ap length (filter_map-append reservation_in records (settling number outcome ∷ [])) ∙ length-append (reservations_of records) [] ∙ add-zero (length (reservations_of records))
+pub reservations_of-append-Settle : (records : List Record) (number : ℕ) (outcome : Outcome) (returned : ℕ) → length (reservations_of (records ++ settling_back number outcome returned ∷ [])) ≡ length (reservations_of records)
+reservations_of-append-Settle records number outcome returned =
+    ap length (filter_map-append reservation_in records (settling_back number outcome returned ∷ [])) ∙ length-append (reservations_of records) [] ∙ add-zero (length (reservations_of records))
+
+-- the reservations themselves
+pub reservations-with : (records : List Record) (reservation : Reservation) → reservations_of (records ++ Reserve reservation ∷ []) ≡ reservations_of records ++ reservation ∷ []
+reservations-with records reservation = filter_map-append reservation_in records (Reserve reservation ∷ [])
+
+pub reservations-settled : (records : List Record) (settlement : Settlement) → reservations_of (records ++ Settle settlement ∷ []) ≡ reservations_of records
+reservations-settled records settlement = filter_map-append reservation_in records (Settle settlement ∷ []) ∙ append-nil (reservations_of records)
 
 -- the reservation of a number with one record more
 pub reservation_of-append : (records more : List Record) (n : ℕ) → reservation_of (records ++ more) n ≡ option_or (reservation_of records n) (reservation_of more n)
@@ -55,13 +63,13 @@ option_or-cond true x y z v = refl
 option_or-cond false x y z v = refl
 
 -- A settlement settles its number, where nothing settled it before.
-pub outcome_of-append-Settle : (records : List Record) (number : ℕ) (outcome : Outcome) (n : ℕ) → outcome_of (records ++ settling number outcome ∷ []) n ≡ option_or (outcome_of records n) (cond (n == number) (Some outcome) None)
-outcome_of-append-Settle [] number outcome n = refl
-outcome_of-append-Settle (Reserve reservation ∷ records) number outcome n = outcome_of-append-Settle records number outcome n
-outcome_of-append-Settle (Settle settlement ∷ records) number outcome n =
-    ap (cond (n == settlement.number) (Some settlement.outcome)) (outcome_of-append-Settle records number outcome n) ∙ sym (option_or-cond (n == settlement.number) None (outcome_of records n) (cond (n == number) (Some outcome) None) settlement.outcome)
+pub outcome_of-append-Settle : (records : List Record) (number : ℕ) (outcome : Outcome) (returned : ℕ) (n : ℕ) → outcome_of (records ++ settling_back number outcome returned ∷ []) n ≡ option_or (outcome_of records n) (cond (n == number) (Some outcome) None)
+outcome_of-append-Settle [] number outcome returned n = refl
+outcome_of-append-Settle (Reserve reservation ∷ records) number outcome returned n = outcome_of-append-Settle records number outcome returned n
+outcome_of-append-Settle (Settle settlement ∷ records) number outcome returned n =
+    ap (cond (n == settlement.number) (Some settlement.outcome)) (outcome_of-append-Settle records number outcome returned n) ∙ sym (option_or-cond (n == settlement.number) None (outcome_of records n) (cond (n == number) (Some outcome) None) settlement.outcome)
 
-is_some-option_or : {X : Type 0} → (a : Option X) (b : Bool) (x : X) → is_some (option_or a (cond b (Some x) None)) ≡ (is_some a || b)
+pub is_some-option_or : {X : Type 0} → (a : Option X) (b : Bool) (x : X) → is_some (option_or a (cond b (Some x) None)) ≡ (is_some a || b)
 is_some-option_or None true x = refl
 is_some-option_or None false x = refl
 is_some-option_or (Some y) b x = refl
@@ -90,7 +98,7 @@ reserved_below entry = history-induction entry (λ records. (n : ℕ) → is_som
         ∙ ap (λ b. b || (n == reservation.number)) (before n) ∙ ap (λ m. nat_lt n count || (n == m)) may.numbered ∙ lt_or_eq n count ∙ ap (nat_lt n) (sym more)
     step xs (Settle settlement) h may before n =
         ap is_some (reservation_of-append xs (Settle settlement ∷ []) n) ∙ ap is_some (option_or-None (reservation_of xs n)) ∙ before n
-        ∙ ap (nat_lt n) (sym (reservations_of-append-Settle xs settlement.number settlement.outcome))
+        ∙ ap (nat_lt n) (sym (reservations_of-append-Settle xs settlement.number settlement.outcome settlement.returned))
 
 none_from : {X : Type 0} → (o : Option X) → is_some o ≡ false → o ≡ None
 none_from None is = refl
@@ -118,12 +126,12 @@ reserved-append records next n is = ap is_some (reservation_of-append records (n
 
 pub outcome_of-append-old : (records : List Record) (next : Record) (n : ℕ) (old : Outcome) → outcome_of records n ≡ Some old → outcome_of (records ++ next ∷ []) n ≡ Some old
 outcome_of-append-old records (Reserve reservation) n old is = outcome_of-append-Reserve records reservation n ∙ is
-outcome_of-append-old records (Settle settlement) n old is = outcome_of-append-Settle records settlement.number settlement.outcome n ∙ ap (λ o. option_or o (cond (n == settlement.number) (Some settlement.outcome) None)) is
+outcome_of-append-old records (Settle settlement) n old is = outcome_of-append-Settle records settlement.number settlement.outcome settlement.returned n ∙ ap (λ o. option_or o (cond (n == settlement.number) (Some settlement.outcome) None)) is
 
 -- how a number was settled just now
-pub outcome_of-append-new : (records : List Record) (number : ℕ) (outcome : Outcome) → outcome_of records number ≡ None → outcome_of (records ++ settling number outcome ∷ []) number ≡ Some outcome
-outcome_of-append-new records number outcome fresh =
-    outcome_of-append-Settle records number outcome number ∙ ap (λ o. option_or o (cond (number == number) (Some outcome) None)) fresh ∙ cond-true (number == number) (Some outcome) None (eq-eqb number number refl)
+pub outcome_of-append-new : (records : List Record) (number : ℕ) (outcome : Outcome) (returned : ℕ) → outcome_of records number ≡ None → outcome_of (records ++ settling_back number outcome returned ∷ []) number ≡ Some outcome
+outcome_of-append-new records number outcome returned fresh =
+    outcome_of-append-Settle records number outcome returned number ∙ ap (λ o. option_or o (cond (number == number) (Some outcome) None)) fresh ∙ cond-true (number == number) (Some outcome) None (eq-eqb number number refl)
 
 -- What isn't reserved isn't settled.
 pub outcome_past : (entry : Entry) (records : List Record) → IsHistory entry records → (n : ℕ) → length (reservations_of records) ≤ n → outcome_of records n ≡ None
@@ -135,10 +143,10 @@ outcome_past entry = history-induction entry (λ records. (n : ℕ) → length (
         outcome_of-append-Reserve xs reservation n ∙ before n (omega (arith, reservations_of-append-Reserve xs reservation))
     step xs (Settle settlement) h may before n past =
         let count : ℕ = length (reservations_of xs) in
-        let beyond : count ≤ n = omega (arith, reservations_of-append-Settle xs settlement.number settlement.outcome) in
+        let beyond : count ≤ n = omega (arith, reservations_of-append-Settle xs settlement.number settlement.outcome settlement.returned) in
         let below : settlement.number < count = ltb-true settlement.number count (sym (reserved_below entry xs h settlement.number) ∙ may.reserved) in
         let other : (n == settlement.number) ≡ false = ne_eqb n settlement.number (λ same. omega arith) in
-        outcome_of-append-Settle xs settlement.number settlement.outcome n ∙ ap (λ o. option_or o (cond (n == settlement.number) (Some settlement.outcome) None)) (before n beyond) ∙ cond-false (n == settlement.number) (Some settlement.outcome) None other
+        outcome_of-append-Settle xs settlement.number settlement.outcome settlement.returned n ∙ ap (λ o. option_or o (cond (n == settlement.number) (Some settlement.outcome) None)) (before n beyond) ∙ cond-false (n == settlement.number) (Some settlement.outcome) None other
 
 -- the record is the reservation of this number
 abbrev pub reserves : ℕ → Record → Bool
@@ -158,7 +166,7 @@ reserved_once entry = history-induction entry (λ records. (n : ℕ) → count_b
         ∙ one_more n count ∙ ap (λ m. one_if (nat_lt n m)) (sym more)
     step xs (Settle settlement) h may before n =
         sum_by_push (λ r. one_if (reserves n r)) xs (Settle settlement) ∙ add-zero (count_by (reserves n) xs) ∙ before n
-        ∙ ap (λ m. one_if (nat_lt n m)) (sym (reservations_of-append-Settle xs settlement.number settlement.outcome))
+        ∙ ap (λ m. one_if (nat_lt n m)) (sym (reservations_of-append-Settle xs settlement.number settlement.outcome settlement.returned))
 
 -- One reservation more is open where it is of this run and not settled.
 pub open_from-append-Reserve : (start : ℕ) (records : List Record) (reservation : Reservation) → start ≤ reservation.number → outcome_of records reservation.number ≡ None
@@ -190,14 +198,14 @@ open_from-early start records reservation early =
     same (Reserve other) = ap (λ o. one_if (nat_le start other.number && is_none o)) (outcome_of-append-Reserve records reservation other.number)
     same (Settle settlement) = refl
 
-sum_by-le : {X : Type 0} → (f g : X → ℕ) → ((x : X) → f x ≤ g x) → (xs : List X) → sum_by f xs ≤ sum_by g xs
+pub sum_by-le : {X : Type 0} → (f g : X → ℕ) → ((x : X) → f x ≤ g x) → (xs : List X) → sum_by f xs ≤ sum_by g xs
 sum_by-le f g below [] = omega arith
 sum_by-le f g below (x ∷ xs) = omega (arith, sum_by-le f g below xs, below x, sum_by-cons f x xs, sum_by-cons g x xs)
 
 -- A settlement opens none.
-pub open_from-le-Settle : (start : ℕ) (records : List Record) (number : ℕ) (outcome : Outcome) → open_from start (records ++ settling number outcome ∷ []) ≤ open_from start records
-open_from-le-Settle start records number outcome =
-    let next : Record = settling number outcome in
+pub open_from-le-Settle : (start : ℕ) (records : List Record) (number : ℕ) (outcome : Outcome) (returned : ℕ) → open_from start (records ++ settling_back number outcome returned ∷ []) ≤ open_from start records
+open_from-le-Settle start records number outcome returned =
+    let next : Record = settling_back number outcome returned in
     let all : List Record = records ++ next ∷ [] in
     omega (arith, sum_by_push (λ r. one_if (is_open_in all start r)) records next, sum_by-le (λ r. one_if (is_open_in all start r)) (λ r. one_if (is_open_in records start r)) fewer records)
   where
@@ -210,14 +218,14 @@ open_from-le-Settle start records number outcome =
     still true (Some x) more = omega arith
     still false old more = omega arith
 
-    fewer : (r : Record) → one_if (is_open_in (records ++ settling number outcome ∷ []) start r) ≤ one_if (is_open_in records start r)
+    fewer : (r : Record) → one_if (is_open_in (records ++ settling_back number outcome returned ∷ []) start r) ≤ one_if (is_open_in records start r)
     fewer (Reserve reservation) =
         subst (λ (o : Option Outcome). one_if (nat_le start reservation.number && is_none o) ≤ one_if (nat_le start reservation.number && is_none (outcome_of records reservation.number)))
-        (sym (outcome_of-append-Settle records number outcome reservation.number))
+        (sym (outcome_of-append-Settle records number outcome returned reservation.number))
         (still (nat_le start reservation.number) (outcome_of records reservation.number) (cond (reservation.number == number) (Some outcome) None))
     fewer (Settle settlement) = omega arith
 
-eqb_turned : (n m : ℕ) → (n == m) ≡ (m == n)
+pub eqb_turned : (n m : ℕ) → (n == m) ≡ (m == n)
 eqb_turned n m = grind (arith, nat_tests)
 
 -- what is of this run and not settled before a settlement hits it
@@ -231,30 +239,30 @@ closes false true old v ours fresh = let no : false ≡ true = ours refl in cc
 closes false false old v ours fresh = refl
 
 -- One settlement more closes the reservations of its number.
-pub open_from-append-Settle : (start : ℕ) (records : List Record) (number : ℕ) (outcome : Outcome) → start ≤ number → outcome_of records number ≡ None → open_from start (records ++ settling number outcome ∷ []) + count_by (reserves number) records ≡ open_from start records
-open_from-append-Settle start records number outcome ours fresh =
-    let next : Record = settling number outcome in
+pub open_from-append-Settle : (start : ℕ) (records : List Record) (number : ℕ) (outcome : Outcome) (returned : ℕ) → start ≤ number → outcome_of records number ≡ None → open_from start (records ++ settling_back number outcome returned ∷ []) + count_by (reserves number) records ≡ open_from start records
+open_from-append-Settle start records number outcome returned ours fresh =
+    let next : Record = settling_back number outcome returned in
     let all : List Record = records ++ next ∷ [] in
     ap (λ k. k + count_by (reserves number) records) (sum_by_push (λ r. one_if (is_open_in all start r)) records next ∙ add-zero (count_by (is_open_in all start) records))
     ∙ sum_by-parts (λ r. one_if (is_open_in all start r)) (λ r. one_if (reserves number r)) (λ r. one_if (is_open_in records start r)) parts records
   where
-    parts : (r : Record) → one_if (is_open_in (records ++ settling number outcome ∷ []) start r) + one_if (reserves number r) ≡ one_if (is_open_in records start r)
+    parts : (r : Record) → one_if (is_open_in (records ++ settling_back number outcome returned ∷ []) start r) + one_if (reserves number r) ≡ one_if (is_open_in records start r)
     parts (Reserve reservation) =
         let m : ℕ = reservation.number in
-        let settled : outcome_of (records ++ settling number outcome ∷ []) m ≡ option_or (outcome_of records m) (cond (number == m) (Some outcome) None)
-        = outcome_of-append-Settle records number outcome m ∙ ap (λ b. option_or (outcome_of records m) (cond b (Some outcome) None)) (eqb_turned m number) in
+        let settled : outcome_of (records ++ settling_back number outcome returned ∷ []) m ≡ option_or (outcome_of records m) (cond (number == m) (Some outcome) None)
+        = outcome_of-append-Settle records number outcome returned m ∙ ap (λ b. option_or (outcome_of records m) (cond b (Some outcome) None)) (eqb_turned m number) in
         ap (λ o. one_if (nat_le start m && is_none o) + one_if (number == m)) settled
         ∙ closes (nat_le start m) (number == m) (outcome_of records m) outcome (λ hit. le-leb start m (omega (arith, eqb-true number m hit))) (λ hit. ap (outcome_of records) (sym (eqb-true number m hit)) ∙ fresh)
     parts (Settle settlement) = refl
 
 -- In a history a settlement closes just one reservation.
-pub open_from-Settle : (entry : Entry) (start : ℕ) (records : List Record) (number : ℕ) (outcome : Outcome) → IsHistory entry records → start ≤ number
-    → IsSome (reservation_of records number) → outcome_of records number ≡ None → open_from start (records ++ settling number outcome ∷ []) + 1 ≡ open_from start records
-open_from-Settle entry start records number outcome h ours reserved fresh =
+pub open_from-Settle : (entry : Entry) (start : ℕ) (records : List Record) (number : ℕ) (outcome : Outcome) (returned : ℕ) → IsHistory entry records → start ≤ number
+    → IsSome (reservation_of records number) → outcome_of records number ≡ None → open_from start (records ++ settling_back number outcome returned ∷ []) + 1 ≡ open_from start records
+open_from-Settle entry start records number outcome returned h ours reserved fresh =
     let count : ℕ = length (reservations_of records) in
     let below : number < count = ltb-true number count (sym (reserved_below entry records h number) ∙ reserved) in
     let once : count_by (reserves number) records ≡ 1 = reserved_once entry records h number ∙ ap one_if (lt-ltb number count below) in
-    ap (λ k. open_from start (records ++ settling number outcome ∷ []) + k) (sym once) ∙ open_from-append-Settle start records number outcome ours fresh
+    ap (λ k. open_from start (records ++ settling_back number outcome returned ∷ []) + k) (sym once) ∙ open_from-append-Settle start records number outcome returned ours fresh
 
 range-push : (a n : ℕ) → range_with_len a (n + 1) ≡ range_with_len a n ++ (a + n) ∷ []
 range-push a zero = ap (λ x. x ∷ []) (sym (add-zero a))
@@ -277,7 +285,7 @@ numbered_in_order entry = history-induction entry (λ records. map reservation_n
         ∙ sym (range-push 0 count) ∙ ap (range_with_len 0) (sym (reservations_of-append-Reserve xs reservation))
     step xs (Settle settlement) h may before =
         let next : Record = Settle settlement in
-        ap (map reservation_number) (filter_map-append reservation_in xs (next ∷ []) ∙ append-nil (reservations_of xs)) ∙ before ∙ ap (range_with_len 0) (sym (reservations_of-append-Settle xs settlement.number settlement.outcome))
+        ap (map reservation_number) (filter_map-append reservation_in xs (next ∷ []) ∙ append-nil (reservations_of xs)) ∙ before ∙ ap (range_with_len 0) (sym (reservations_of-append-Settle xs settlement.number settlement.outcome settlement.returned))
 
 settles_more : {X : Type 0} → (old : Option X) (hit : Bool) (v : X) → (hit ≡ true → old ≡ None) → one_if (is_some old) + one_if hit ≡ one_if (is_some (option_or old (cond hit (Some v) None)))
 settles_more None true v fresh = refl
@@ -297,4 +305,4 @@ settled_once entry = history-induction entry (λ records. (n : ℕ) → count_by
     step xs (Settle settlement) h may before n =
         sum_by_push (λ r. one_if (settles n r)) xs (Settle settlement) ∙ ap (λ k. k + one_if (n == settlement.number)) (before n)
         ∙ settles_more (outcome_of xs n) (n == settlement.number) settlement.outcome (λ hit. ap (outcome_of xs) (eqb-true n settlement.number hit) ∙ may.unsettled)
-        ∙ ap (λ o. one_if (is_some o)) (sym (outcome_of-append-Settle xs settlement.number settlement.outcome n))
+        ∙ ap (λ o. one_if (is_some o)) (sym (outcome_of-append-Settle xs settlement.number settlement.outcome settlement.returned n))

@@ -2,14 +2,13 @@
 use Rattle.std.proofs.Common.{◌≡◌, ℕ, ◌+◌, ◌-◌, List, [], ◌∷◌, ◌++◌, length, length-append, take, sym, ◌∙◌, ap, subst, arith}
 use Rattle.std.proofs.lemmas.List.{take-append-le}
 use Rattle.std.proofs.Math.Seq.{take-length}
-use Rattle.journal_records.specs.declared.records.Outcome.{Outcome}
 use Rattle.journal_records.specs.declared.records.Reservation.{Reservation}
+use Rattle.journal_records.specs.declared.records.Settlement.{Settlement}
 use Rattle.journal_records.specs.declared.records.Record.{Record}
-use Rattle.journal_records.specs.declared.records.Record.TheVariants.{Reserve}
-use Rattle.journal_records.specs.Records.{settling}
+use Rattle.journal_records.specs.declared.records.Record.TheVariants.{Reserve, Settle}
 use Rattle.budget_core.specs.declared.ledger.Ledger.TheInside.{Inside}
 use Rattle.budget_core.specs.Counts.{reservations_of, open_from}
-use Rattle.budget_core.specs.Ledger.{Ledger, start_of, next_number, MayReserve, IsUnsettled}
+use Rattle.budget_core.specs.Ledger.{Ledger, start_of, next_number, MayReserve, MaySettle, IsUnsettled}
 use Rattle.budget_core.specs.History.{History}
 use Rattle.budget_core.specs.Run.{ledger_in, HoldsRun}
 use Rattle.budget_core.specs.Sound.{IsSound}
@@ -47,12 +46,12 @@ run-Reserve l history reservation k may grew =
     let kept = run-append l (Reserve reservation) (l.unsettled + 1) k sound (omega (arith, run-open l k, count)) in
     subst (λ (h : History). HoldsRun (record l { history = h; unsettled = l.unsettled + 1 })) (sym grew) kept
 
-pub run-Settle : (l : Inside) (history : History) (number : ℕ) (outcome : Outcome) → HoldsRun l → IsUnsettled (ledger_in l) number → Grew l.history history (settling number outcome)
+pub run-Settle : (l : Inside) (history : History) (settlement : Settlement) → HoldsRun l → MaySettle (ledger_in l) settlement → Grew l.history history (Settle settlement)
     → HoldsRun (record l { history = history; unsettled = l.unsettled - 1 })
-run-Settle l history number outcome k u grew =
-    let sound = sound-Settle (ledger_in l) number outcome k.sound u in
-    let count = open-settled (ledger_in l) number outcome k.sound u in
-    let kept = run-append l (settling number outcome) (l.unsettled - 1) k sound (omega (arith, run-open l k, count)) in
+run-Settle l history settlement k may grew =
+    let sound = sound-Settle (ledger_in l) settlement k.sound may in
+    let count = open-settled (ledger_in l) settlement.number settlement.outcome settlement.returned k.sound may.unsettled in
+    let kept = run-append l (Settle settlement) (l.unsettled - 1) k sound (omega (arith, run-open l k, count)) in
     subst (λ (h : History). HoldsRun (record l { history = h; unsettled = l.unsettled - 1 })) (sym grew) kept
 
 -- a ledger all of whose records were found

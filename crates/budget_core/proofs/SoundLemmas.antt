@@ -7,9 +7,10 @@ use Rattle.partition_charge.specs.Cost.{cost_of_charges}
 use Rattle.journal_records.specs.declared.records.Outcome.{Outcome}
 use Rattle.journal_records.specs.declared.records.Outcome.TheVariants.{Lost}
 use Rattle.journal_records.specs.declared.records.Reservation.{Reservation}
+use Rattle.journal_records.specs.declared.records.Settlement.{Settlement}
 use Rattle.journal_records.specs.declared.records.Record.{Record}
-use Rattle.journal_records.specs.declared.records.Record.TheVariants.{Reserve}
-use Rattle.journal_records.specs.Records.{settling}
+use Rattle.journal_records.specs.declared.records.Record.TheVariants.{Reserve, Settle}
+use Rattle.journal_records.specs.Records.{settling_back}
 use Rattle.budget_core.specs.declared.entry.Ask.{Ask}
 use Rattle.budget_core.specs.declared.entry.Grant.{Grant}
 use Rattle.budget_core.specs.declared.entry.ReserveFault.TheVariants.{OverBudget, Full}
@@ -17,12 +18,12 @@ use Rattle.budget_core.specs.Cost.{charge_of, charges_in, cost_of}
 use Rattle.budget_core.specs.Counts.{open_from}
 use Rattle.budget_core.specs.Entries.{Entry, IsEntry}
 use Rattle.budget_core.specs.Legal.{IsHistory, IsLegal}
-use Rattle.budget_core.specs.Ledger.{Ledger, start_of, next_number, reservation_numbered, reservation_for, cost_with, money_verdict, IsAskOf, MayReserve, IsUnsettled}
+use Rattle.budget_core.specs.Ledger.{Ledger, start_of, next_number, reservation_numbered, reservation_for, cost_with, money_verdict, IsAskOf, MayReserve, MaySettle, IsUnsettled}
 use Rattle.budget_core.specs.Sound.{IsSound}
-use Rattle.budget_core.proofs.Costs.{cost_of-append-Reserve, cost_of-append-Settle}
+use Rattle.budget_core.proofs.Costs.{cost_of-append-Reserve, counts-unsettled}
 use Rattle.budget_core.proofs.Histories.{legal-history}
-use Rattle.budget_core.proofs.Numbers.{open_from-Settle}
-use Rattle.budget_core.proofs.LegalLemmas.{may-grant, open-reserved, legal-reserved, legal-Settle}
+use Rattle.budget_core.proofs.Numbers.{open_from-Settle, outcome_past}
+use Rattle.budget_core.proofs.LegalLemmas.{may-grant, may-settle, open-reserved, legal-reserved, legal-Settle}
 use Rattle.budget_core.proofs.Standings.{open-past}
 
 pub sound-history : (ledger : Ledger) → IsSound ledger → IsHistory ledger.entry ledger.records
@@ -47,22 +48,22 @@ sound-Reserve ledger ask grant s asked is =
     sound-reserved ledger (reservation_numbered (next_number ledger.records) ask grant.taken) s (may-grant ledger ask grant asked is)
 
 -- A settlement closes one.
-pub open-settled : (ledger : Ledger) (number : ℕ) (outcome : Outcome) → IsSound ledger → IsUnsettled ledger number
-    → open_from (start_of ledger) (ledger.records ++ settling number outcome ∷ []) + 1 ≡ open_from (start_of ledger) ledger.records
-open-settled ledger number outcome s u = open_from-Settle ledger.entry (start_of ledger) ledger.records number outcome (sound-history ledger s) u.ours u.reserved u.unsettled
+pub open-settled : (ledger : Ledger) (number : ℕ) (outcome : Outcome) (returned : ℕ) → IsSound ledger → IsUnsettled ledger number
+    → open_from (start_of ledger) (ledger.records ++ settling_back number outcome returned ∷ []) + 1 ≡ open_from (start_of ledger) ledger.records
+open-settled ledger number outcome returned s u = open_from-Settle ledger.entry (start_of ledger) ledger.records number outcome returned (sound-history ledger s) u.ours u.reserved u.unsettled
 
 pub some-open : (ledger : Ledger) (number : ℕ) → IsSound ledger → IsUnsettled ledger number → 1 ≤ open_from (start_of ledger) ledger.records
-some-open ledger number s u = omega (arith, open-settled ledger number Lost s u)
+some-open ledger number s u = omega (arith, open-settled ledger number Lost 0 s u)
 
 -- one settlement more
-pub sound-Settle : (ledger : Ledger) (number : ℕ) (outcome : Outcome) → IsSound ledger → IsUnsettled ledger number
-    → IsSound (record ledger { records = ledger.records ++ settling number outcome ∷ [] })
-sound-Settle ledger number outcome s u = record {
+pub sound-Settle : (ledger : Ledger) (settlement : Settlement) → IsSound ledger → MaySettle ledger settlement
+    → IsSound (record ledger { records = ledger.records ++ Settle settlement ∷ [] })
+sound-Settle ledger settlement s may = record {
   entry = s.entry;
   found = s.found;
-  legal = legal-Settle ledger number outcome (sound-history ledger s) s.legal u;
-  within = omega (arith, s.within, cost_of-append-Settle ledger.entry ledger.records number outcome);
-  room = omega (arith, s.room, open-settled ledger number outcome s u, length-append ledger.records (settling number outcome ∷ []));
+  legal = legal-Settle ledger settlement (sound-history ledger s) s.legal may;
+  within = omega (arith, s.within, (may-settle ledger settlement may).fall);
+  room = omega (arith, s.room, open-settled ledger settlement.number settlement.outcome settlement.returned s may.unsettled, length-append ledger.records (Settle settlement ∷ []));
 }
 
 -- records that were all found
@@ -70,7 +71,7 @@ legal-found : (entry : Entry) (records : List Record) → IsLegal entry records 
 legal-found entry records = record {
   begins = take-length records;
   follows = λ k next past at. absurd (omega (arith, slice_get_within records k next at, past));
-  settles = λ k number outcome past at. absurd (omega (arith, slice_get_within records k (settling number outcome) at, past));
+  settles = λ k settlement past at. absurd (omega (arith, slice_get_within records k (Settle settlement) at, past));
   room = λ fits k more upto. absurd (omega (arith, more, upto));
   terms = λ k next past at. absurd (omega (arith, slice_get_within records k next at, past));
 }
@@ -87,11 +88,12 @@ sound-found entry records valid h within fits = record {
 
 -- ---- verdicts
 
-pub with-ask : (entry : Entry) (records : List Record) (ask : Ask) (charge after : ℕ) → charge ≡ charge_of ask.e ask.p ask.q
-    → after ≡ cost_of_charges (charges_in records ++ record { view = ask.view; amount = charge } ∷ []) → after ≡ cost_with entry records ask
-with-ask entry records ask charge after is cost =
-    cost ∙ ap (λ (n : ℕ). cost_of_charges (charges_in records ++ record { view = ask.view; amount = n } ∷ [])) is
-    ∙ sym (cost_of-append-Reserve entry records (reservation_numbered (next_number records) ask 0))
+pub with-ask : (entry : Entry) (records : List Record) (ask : Ask) (charge after : ℕ) → IsHistory entry records → charge ≡ charge_of ask.e ask.p ask.q
+    → after ≡ cost_of_charges (charges_in entry records ++ record { view = ask.view; amount = charge } ∷ []) → after ≡ cost_with entry records ask
+with-ask entry records ask charge after h is cost =
+    cost ∙ ap (λ (n : ℕ). cost_of_charges (charges_in entry records ++ record { view = ask.view; amount = n } ∷ [])) is
+    ∙ sym (cost_of-append-Reserve entry records (reservation_numbered (next_number records) ask 0)
+    (counts-unsettled entry records (reservation_numbered (next_number records) ask 0) (outcome_past entry records h (next_number records) (omega arith))))
 
 module _ (entry : Entry) (start : ℕ) (records : List Record) (ask : Ask) (spent after used open_now : ℕ)
     (is_spent : spent ≡ cost_of entry records) (is_after : after ≡ cost_with entry records ask) (is_used : used ≡ length records) (is_open : open_now ≡ open_from start records) where

@@ -11,13 +11,14 @@ use Rattle.journal_records.specs.declared.records.Outcome.TheVariants.{Answered,
 use Rattle.journal_records.specs.declared.records.Reservation.{Reservation}
 use Rattle.journal_records.specs.declared.records.Record.{Record}
 use Rattle.journal_records.specs.declared.records.Record.TheVariants.{Reserve, Settle}
-use Rattle.journal_records.specs.Records.{settling}
+use Rattle.journal_records.specs.Records.{settling_back}
 use Rattle.budget_core.specs.declared.totals.Row.{Row}
+use Rattle.budget_core.specs.Cost.{charge_of, charge_by}
 use Rattle.budget_core.specs.Kept.{IsRowOf, HasRows}
 use Rattle.budget_core.specs.Counts.{reservations_of, reservation_of, outcome_of, asker_of, open_from}
 use Rattle.budget_core.specs.Answers.{is_answered, is_exhausted}
 use Rattle.budget_core.specs.Entries.{Entry}
-use Rattle.budget_core.specs.Legal.{MayFollow, IsHistory, IsReservationAfter, IsSettlementAfter}
+use Rattle.budget_core.specs.Legal.{MayFollow, IsOpen, IsHistory, IsReservationAfter}
 use Rattle.budget_core.proofs.Histories.{push_cases, history-induction}
 use Rattle.budget_core.proofs.Numbers.{reserved_below, reservation_of-append-old, reservation_of-next, one_if, open_from-append-Reserve, open_from-Settle, open_from-early, open_from-le-Settle, reservations_of-append-Reserve, reservations_of-append-Settle, outcome_of-append-Reserve, outcome_of-append-Settle, outcome_of-append-new, outcome_past, option_or-None}
 
@@ -43,33 +44,44 @@ asker-past entry records h n past = none (asker_of records n) (reserved-asker re
     none (Some analyst) is = absurd cc
 
 -- A number from the number of reservations on may not be settled.
-pub not-past : (entry : Entry) (records : List Record) → IsHistory entry records → (n : ℕ) → length (reservations_of records) ≤ n → IsSettlementAfter records n → ⊥
+pub not-past : (entry : Entry) (records : List Record) → IsHistory entry records → (n : ℕ) → length (reservations_of records) ≤ n → IsOpen records n → ⊥
 not-past entry records h n past may =
     let below : n < length (reservations_of records) = ltb-true n (length (reservations_of records)) (sym (reserved_below entry records h n) ∙ may.reserved) in
     omega (arith, below, past)
 
+-- What is read off a number's reservation stays so.
+pub read-append : {X : Type 0} → (f : Reservation → X) (records : List Record) (next : Record) (n : ℕ) (a : X)
+    → option_map f (reservation_of records n) ≡ Some a → option_map f (reservation_of (records ++ next ∷ []) n) ≡ Some a
+read-append {X} f records next n a is = one (reservation_of records n) refl is
+  where
+    one : (found : Option Reservation) → reservation_of records n ≡ found → option_map f found ≡ Some a → option_map f (reservation_of (records ++ next ∷ []) n) ≡ Some a
+    one None at was = absurd cc
+    one (Some old) at was = ap (option_map f) (reservation_of-append-old records next n old at) ∙ was
+
 -- Who reserved a number stays so.
 pub asker-append : (records : List Record) (next : Record) (n a : ℕ) → asker_of records n ≡ Some a → asker_of (records ++ next ∷ []) n ≡ Some a
-asker-append records next n a is = one (reservation_of records n) refl is
-  where
-    one : (found : Option Reservation) → reservation_of records n ≡ found → option_map (λ (reservation : Reservation). reservation.analyst) found ≡ Some a → asker_of (records ++ next ∷ []) n ≡ Some a
-    one None at was = absurd cc
-    one (Some old) at was = ap (option_map (λ (reservation : Reservation). reservation.analyst)) (reservation_of-append-old records next n old at) ∙ was
+asker-append records next n a is = read-append (λ (reservation : Reservation). reservation.analyst) records next n a is
 
 -- another number's settlement
-pub outcome-other : (records : List Record) (number : ℕ) (outcome : Outcome) (n : ℕ) → (n ≡ number → ⊥) → outcome_of (records ++ settling number outcome ∷ []) n ≡ outcome_of records n
-outcome-other records number outcome n other =
-    outcome_of-append-Settle records number outcome n
+pub outcome-other : (records : List Record) (number : ℕ) (outcome : Outcome) (returned : ℕ) (n : ℕ) → (n ≡ number → ⊥) → outcome_of (records ++ settling_back number outcome returned ∷ []) n ≡ outcome_of records n
+outcome-other records number outcome returned n other =
+    outcome_of-append-Settle records number outcome returned n
     ∙ ap (option_or (outcome_of records n)) (cond-false (n == number) (Some outcome) None (ne_eqb n number other)) ∙ option_or-None (outcome_of records n)
 
 -- the row of a new reservation
 abbrev pub new-row : Reservation → Row
-new-row reservation = record { analyst = reservation.analyst; outcome = None }
+new-row reservation = record {
+  analyst = reservation.analyst;
+  view = reservation.view;
+  charge = charge_of reservation.e reservation.p reservation.q;
+  outcome = None;
+}
 
 first-row : (entry : Entry) (records : List Record) (reservation : Reservation) → IsHistory entry records → reservation.number ≡ length (reservations_of records)
     → IsRowOf (records ++ Reserve reservation ∷ []) reservation.number (new-row reservation)
 first-row entry records reservation h numbered = record {
   analyst = ap (option_map (λ (reservation : Reservation). reservation.analyst)) (reservation_of-next entry records reservation h numbered);
+  charge = ap (option_map charge_by) (reservation_of-next entry records reservation h numbered);
   outcome = outcome_of-append-Reserve records reservation reservation.number ∙ outcome_past entry records h reservation.number (omega (arith, numbered));
 }
 
@@ -81,7 +93,11 @@ rows-Reserve entry records rows reservation h may has = record {
   each = λ n row at. elim (push_cases rows (new-row reservation) n row at) [
     | inl before ↦
         let old = has.each n row before.1 in
-        record { analyst = asker-append records (Reserve reservation) n row.analyst old.analyst; outcome = outcome_of-append-Reserve records reservation n ∙ old.outcome }
+        record {
+          analyst = asker-append records (Reserve reservation) n row.analyst old.analyst;
+          charge = read-append charge_by records (Reserve reservation) n (record { view = row.view; amount = row.charge }) old.charge;
+          outcome = outcome_of-append-Reserve records reservation n ∙ old.outcome;
+        }
     | inr seam ↦
         let here : n ≡ reservation.number = seam.0 ∙ has.count ∙ sym may.numbered in
         subst (λ (x : Row). IsRowOf (records ++ Reserve reservation ∷ []) n x) seam.1
@@ -96,26 +112,31 @@ none-past (x ∷ xs) zero none = absurd cc
 none-past (x ∷ xs) (suc n) none = omega (arith, none-past xs n none)
 
 -- a settlement in the row of its number
-pub rows-Settle : (records : List Record) (old new : List Row) (number : ℕ) (outcome : Outcome) → IsSettlementAfter records number → HasRows old records → length new ≡ length old
+pub rows-Settle : (records : List Record) (old new : List Row) (number : ℕ) (outcome : Outcome) (returned : ℕ) → IsOpen records number → HasRows old records → length new ≡ length old
     → ((row : Row) → slice_get old number ≡ Some row → slice_get new number ≡ Some (record row { outcome = Some outcome }))
-    → ((k : ℕ) → (k ≡ number → ⊥) → slice_get new k ≡ slice_get old k) → HasRows new (records ++ settling number outcome ∷ [])
-rows-Settle records old new number outcome may has long settled others = record {
-  count = long ∙ has.count ∙ sym (reservations_of-append-Settle records number outcome);
+    → ((k : ℕ) → (k ≡ number → ⊥) → slice_get new k ≡ slice_get old k) → HasRows new (records ++ settling_back number outcome returned ∷ [])
+rows-Settle records old new number outcome returned may has long settled others = record {
+  count = long ∙ has.count ∙ sym (reservations_of-append-Settle records number outcome returned);
   each = λ n row at. elim (cases_eq n number) [
-    | inl same ↦ subst (λ (m : ℕ). IsRowOf (records ++ settling number outcome ∷ []) m row) (sym same) (here row (slice_get old number) refl (ap (slice_get new) (sym same) ∙ at))
+    | inl same ↦ subst (λ (m : ℕ). IsRowOf (records ++ settling_back number outcome returned ∷ []) m row) (sym same) (here row (slice_get old number) refl (ap (slice_get new) (sym same) ∙ at))
     | inr other ↦
         let was = has.each n row (sym (others n other) ∙ at) in
-        record { analyst = asker-append records (settling number outcome) n row.analyst was.analyst; outcome = outcome-other records number outcome n other ∙ was.outcome }
+        record {
+          analyst = asker-append records (settling_back number outcome returned) n row.analyst was.analyst;
+          charge = read-append charge_by records (settling_back number outcome returned) n (record { view = row.view; amount = row.charge }) was.charge;
+          outcome = outcome-other records number outcome returned n other ∙ was.outcome;
+        }
   ];
 }
   where
-    here : (row : Row) (before : Option Row) → slice_get old number ≡ before → slice_get new number ≡ Some row → IsRowOf (records ++ settling number outcome ∷ []) number row
+    here : (row : Row) (before : Option Row) → slice_get old number ≡ before → slice_get new number ≡ Some row → IsRowOf (records ++ settling_back number outcome returned ∷ []) number row
     here row None was now = absurd (omega (arith, slice_get_within new number row now, none-past old number was, long))
     here row (Some before) was now =
         let is : record before { outcome = Some outcome } ≡ row = cc (settled before was, now) in
-        subst (λ (x : Row). IsRowOf (records ++ settling number outcome ∷ []) number x) is (record {
-          analyst = asker-append records (settling number outcome) number before.analyst (has.each number before was).analyst;
-          outcome = outcome_of-append-new records number outcome may.unsettled;
+        subst (λ (x : Row). IsRowOf (records ++ settling_back number outcome returned ∷ []) number x) is (record {
+          analyst = asker-append records (settling_back number outcome returned) number before.analyst (has.each number before was).analyst;
+          charge = read-append charge_by records (settling_back number outcome returned) number (record { view = before.view; amount = before.charge }) (has.each number before was).charge;
+          outcome = outcome_of-append-new records number outcome returned may.unsettled;
         })
 
 -- Each settlement is of another reservation.
@@ -123,10 +144,10 @@ pub settled-within : (entry : Entry) (records : List Record) → IsHistory entry
     → count_by is_answered records + count_by is_exhausted records + open_from 0 records ≤ length (reservations_of records)
 settled-within entry = history-induction entry (λ records. count_by is_answered records + count_by is_exhausted records + open_from 0 records ≤ length (reservations_of records)) (omega arith) step
   where
-    one : (number : ℕ) (outcome : Outcome) → one_if (is_answered (settling number outcome)) + one_if (is_exhausted (settling number outcome)) ≤ 1
-    one number (Answered value) = omega arith
-    one number Exhausted = omega arith
-    one number Lost = omega arith
+    one : (number : ℕ) (outcome : Outcome) (returned : ℕ) → one_if (is_answered (settling_back number outcome returned)) + one_if (is_exhausted (settling_back number outcome returned)) ≤ 1
+    one number (Answered value) returned = omega arith
+    one number Exhausted returned = omega arith
+    one number Lost returned = omega arith
 
     step : (xs : List Record) (x : Record) → IsHistory entry xs → MayFollow entry xs x → count_by is_answered xs + count_by is_exhausted xs + open_from 0 xs ≤ length (reservations_of xs)
         → count_by is_answered (xs ++ x ∷ []) + count_by is_exhausted (xs ++ x ∷ []) + open_from 0 (xs ++ x ∷ []) ≤ length (reservations_of (xs ++ x ∷ []))
@@ -141,11 +162,11 @@ settled-within entry = history-induction entry (λ records. count_by is_answered
     step xs (Settle settlement) h may before = omega (
       arith,
       before,
-      one settlement.number settlement.outcome,
+      one settlement.number settlement.outcome settlement.returned,
       sum_by_push (λ r. one_if (is_answered r)) xs (Settle settlement),
       sum_by_push (λ r. one_if (is_exhausted r)) xs (Settle settlement),
-      reservations_of-append-Settle xs settlement.number settlement.outcome,
-      open_from-Settle entry 0 xs settlement.number settlement.outcome h (omega arith) may.reserved may.unsettled,
+      reservations_of-append-Settle xs settlement.number settlement.outcome settlement.returned,
+      open_from-Settle entry 0 xs settlement.number settlement.outcome settlement.returned h (omega arith) may.reserved may.unsettled,
     )
 
 -- Those numbered from the next number on are none.
@@ -157,5 +178,5 @@ open-past entry records h = history-induction entry (λ xs. (start : ℕ) → le
     step xs (Reserve reservation) h may before start past =
         open_from-early start xs reservation (omega (arith, may.numbered, reservations_of-append-Reserve xs reservation, past)) ∙ before start (omega (arith, reservations_of-append-Reserve xs reservation, past))
     step xs (Settle settlement) h may before start past =
-        let none : open_from start xs ≡ 0 = before start (omega (arith, reservations_of-append-Settle xs settlement.number settlement.outcome, past)) in
-        omega (arith, none, open_from-le-Settle start xs settlement.number settlement.outcome)
+        let none : open_from start xs ≡ 0 = before start (omega (arith, reservations_of-append-Settle xs settlement.number settlement.outcome settlement.returned, past)) in
+        omega (arith, none, open_from-le-Settle start xs settlement.number settlement.outcome settlement.returned)

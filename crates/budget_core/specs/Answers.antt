@@ -11,7 +11,7 @@ use Rattle.budget_core.specs.declared.answers.Counts.{Counts}
 use Rattle.budget_core.specs.declared.answers.FoundFault.{FoundFault}
 use Rattle.budget_core.specs.declared.answers.FoundFault.TheVariants.{NoMemory, Astray}
 use Rattle.budget_core.specs.Cost.{cost_of, budget_of}
-use Rattle.budget_core.specs.Counts.{reservations_of, outcome_of, asker_of}
+use Rattle.budget_core.specs.Counts.{reservations_of, outcome_of, is_exhaustion, asker_of}
 use Rattle.budget_core.specs.Entries.{Entry}
 use Rattle.budget_core.specs.Events.{is_answer}
 use Rattle.budget_core.specs.Ledger.{Ledger, start_of}
@@ -51,12 +51,6 @@ left_of ledger = left_by ledger.entry ledger.records
 -- the record settles a number with an answer
 abbrev pub is_answered : Record → Bool
 is_answered next = is_answer (outcome_in next)
-
-abbrev pub is_exhaustion : Option Outcome → Bool
-is_exhaustion (Some Exhausted) = true
-is_exhaustion (Some (Answered value)) = false
-is_exhaustion (Some Lost) = false
-is_exhaustion None = false
 
 -- the record settles a number whose sampler ran out of draws
 abbrev pub is_exhausted : Record → Bool

@@ -1,9 +1,10 @@
 -- What is counted and found in records.
-use Rattle.std.specs.Prelude.{ℕ, Bool, ◌==◌, ◌&&◌, nat_le, List, [], ◌∷◌, filter_map, find, count_by, Option, Some, None, is_none, option_map, if◌then◌else◌}
+use Rattle.std.specs.Prelude.{ℕ, Bool, true, false, ◌==◌, ◌&&◌, nat_le, List, [], ◌∷◌, filter_map, find, count_by, Option, Some, None, is_none, option_map, if◌then◌else◌}
 use Rattle.journal_records.specs.declared.records.Reservation.{Reservation}
 use Rattle.journal_records.specs.declared.records.Settlement.{Settlement}
 use Rattle.journal_records.specs.declared.records.Record.{Record}
 use Rattle.journal_records.specs.declared.records.Outcome.{Outcome}
+use Rattle.journal_records.specs.declared.records.Outcome.TheVariants.{Answered, Exhausted, Lost}
 use Rattle.journal_records.specs.Records.{reservation_in, settlement_in, is_some_and, number_or_zero}
 
 -- the reservations, in order
@@ -31,6 +32,13 @@ abbrev pub outcome_of : List Record → ℕ → Option Outcome
 outcome_of [] n = None
 outcome_of (next ∷ records) n = outcome_by n (settlement_in next) (outcome_of records n)
 
+-- a number's sampler ran out of draws
+abbrev pub is_exhaustion : Option Outcome → Bool
+is_exhaustion (Some Exhausted) = true
+is_exhaustion (Some (Answered value)) = false
+is_exhaustion (Some Lost) = false
+is_exhaustion None = false
+
 -- the record settles the reservation of this number
 abbrev pub settles : ℕ → Record → Bool
 settles n next = is_some_and (λ (settlement : Settlement). n == settlement.number) (settlement_in next)
@@ -42,6 +50,10 @@ asker_of records n = option_map (λ (reservation : Reservation). reservation.ana
 -- by how much a record says that the cost rose
 abbrev pub taken_of : Record → ℕ
 taken_of next = number_or_zero (λ (reservation : Reservation). reservation.taken) (reservation_in next)
+
+-- how much a record says that it gives back of the cost
+abbrev pub returned_of : Record → ℕ
+returned_of next = number_or_zero (λ (settlement : Settlement). settlement.returned) (settlement_in next)
 
 -- the reservation is numbered from start on, and isn't settled in these records
 abbrev pub is_unsettled_in : List Record → ℕ → Reservation → Bool

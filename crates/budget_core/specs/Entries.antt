@@ -6,12 +6,13 @@ use Rattle.partition_charge.specs.declared.view.View.{View}
 use Rattle.partition_charge.specs.declared.view.View.TheVariants.{Whole, Part}
 
 -- an owner's budget in millionths of epsilon, the greatest number of records, how many analysts may ask,
--- and how many keys each partition has
+-- how many keys each partition has, and the version of the owner's journal, whose rule of the cost its records keep
 pub record Entry : Type 0 where
   pub budget : ℕ
   pub capacity : ℕ
   pub analysts : ℕ
   pub keys : List ℕ
+  pub version : ℕ
 
 abbrev pub budget_limit : ℕ
 budget_limit = 10 ^ 18

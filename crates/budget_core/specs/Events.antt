@@ -7,13 +7,12 @@ use Rattle.journal_records.specs.Encoding.{epsilon_limit}
 use Rattle.journal_records.specs.declared.records.Outcome.{Outcome}
 use Rattle.journal_records.specs.declared.records.Outcome.TheVariants.{Answered, Exhausted, Lost}
 use Rattle.journal_records.specs.declared.records.Record.{Record}
-use Rattle.journal_records.specs.Records.{settling}
 use Rattle.budget_core.specs.declared.entry.Ask.{Ask}
 use Rattle.budget_core.specs.declared.events.Event.{Event}
 use Rattle.budget_core.specs.declared.events.Event.TheVariants.{Reserve as ToReserve, Settle as ToSettle, Send, Stop, Open}
 use Rattle.budget_core.specs.Counts.{reservation_of, outcome_of}
 use Rattle.budget_core.specs.Entries.{Entry}
-use Rattle.budget_core.specs.Ledger.{next_number, money_verdict, records_after}
+use Rattle.budget_core.specs.Ledger.{next_number, money_verdict, records_after, settlement_for}
 
 -- the records, the first number of this run, whether the machine runs, and the numbers whose answers were sent
 pub record World : Type 0 where
@@ -64,7 +63,7 @@ is_answer None = false
 -- What an event does. One that isn't enabled leaves the world as it was, and a machine that was stopped does nothing
 -- but open.
 -- Reserve: an ask of the entry that is neither over budget nor full adds its reservation.
--- Settle: a number of this run that is reserved and unsettled is settled.
+-- Settle: a number of this run that is reserved and unsettled is settled, and its record says by how much the cost falls.
 -- Send: a number that is settled with an answer is sent, once.
 -- Stop: the machine stops, and the records stay.
 -- Open: the machine runs, and what is reserved from here on is of a new run.
@@ -75,7 +74,7 @@ stepped entry world (ToReserve ask) =
     else world
 stepped entry world (ToSettle number outcome) =
     if world.running && is_unsettled world.start world.records number
-    then record world { records = world.records ++ settling number outcome ∷ [] }
+    then record world { records = world.records ++ settlement_for entry world.records number outcome ∷ [] }
     else world
 stepped entry world (Send number) =
     if world.running && is_answer (outcome_of world.records number) && not (list_any (λ sent. sent == number) world.sent)

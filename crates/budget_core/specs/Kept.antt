@@ -1,19 +1,20 @@
 -- What a history keeps beside its records.
-use Rattle.std.specs.Prelude.{◌≡◌, ℕ, ◌<◌, ◌≤◌, List, [], ◌∷◌, ◌++◌, length, count_by, slice_get, Some, vec_capacity}
+use Rattle.std.specs.Prelude.{◌≡◌, ℕ, ◌<◌, ◌≤◌, List, [], ◌∷◌, ◌++◌, length, count_by, slice_get, Some, option_map, vec_capacity}
 use Rattle.partition_charge.specs.Totals.{AreTotalsOf}
 use Rattle.journal_records.specs.declared.records.Record.{Record}
 use Rattle.budget_core.specs.declared.totals.Row.{Row}
 use Rattle.budget_core.specs.declared.totals.Totals.{Totals}
 use Rattle.budget_core.specs.declared.history.History.TheInside.{Inside}
 use Rattle.budget_core.specs.Answers.{is_answered, is_exhausted}
-use Rattle.budget_core.specs.Cost.{charges_in, cost_of, budget_of}
-use Rattle.budget_core.specs.Counts.{reservations_of, asker_of, outcome_of}
+use Rattle.budget_core.specs.Cost.{charge_by, charges_in, cost_of, budget_of}
+use Rattle.budget_core.specs.Counts.{reservations_of, reservation_of, asker_of, outcome_of}
 use Rattle.budget_core.specs.Entries.{Entry, IsEntry}
-use Rattle.budget_core.specs.Legal.{MayFollow, IsHistory}
+use Rattle.budget_core.specs.Legal.{MayFollow, IsOpen, IsHistory}
 
--- The row says who reserved the number, and how it was settled.
+-- The row says who reserved the number, what it charged which view, and how it was settled.
 pub record IsRowOf (records : List Record) (number : ℕ) (row : Row) : Type 0 where
   pub analyst : asker_of records number ≡ Some row.analyst
+  pub charge : option_map charge_by (reservation_of records number) ≡ Some (record { view = row.view; amount = row.charge })
   pub outcome : outcome_of records number ≡ row.outcome
 
 -- There is a row for each number.
@@ -26,24 +27,28 @@ pub record IsTotalOf (entry : Entry) (records : List Record) (totals : Totals) :
   pub valid : IsEntry entry
   pub history : IsHistory entry records
   pub within : cost_of entry records ≤ budget_of entry records
-  pub costs : AreTotalsOf totals.costs (charges_in records)
+  pub costs : AreTotalsOf totals.costs (charges_in entry records)
   pub rows : HasRows totals.rows.items records
   pub answered : totals.answered ≡ count_by is_answered records
   pub exhausted : totals.exhausted ≡ count_by is_exhausted records
   pub fits : length records ≤ entry.capacity
   pub row_room : entry.capacity ≤ vec_capacity totals.rows
 
+-- what is known of a number that is reserved and isn't settled, by these totals
+abbrev pub IsOpenIn : Entry → Totals → ℕ → Type 0
+IsOpenIn entry totals number = (records : List Record) × IsTotalOf entry records totals × IsOpen records number
+
 -- The totals are those of some records.
 abbrev pub IsTotal : Entry → Totals → Type 0
 IsTotal entry totals = (records : List Record) × IsTotalOf entry records totals
 
 -- The record may follow some records of which these are the totals, and there is room for it.
-abbrev pub MayCount : Totals → Record → Type 0
-MayCount totals next = (entry : Entry) × (records : List Record) × IsTotalOf entry records totals × MayFollow entry records next × (length records < entry.capacity)
+abbrev pub MayCount : Entry → Totals → Record → Type 0
+MayCount entry totals next = (records : List Record) × IsTotalOf entry records totals × MayFollow entry records next × (length records < entry.capacity)
 
 -- The record was counted behind all that may stand before it.
-abbrev pub HasCounted : Totals → Record → Totals → Type 0
-HasCounted old next new = (entry : Entry) (records : List Record) → IsTotalOf entry records old → MayFollow entry records next
+abbrev pub HasCounted : Entry → Totals → Record → Totals → Type 0
+HasCounted entry old next new = (records : List Record) → IsTotalOf entry records old → MayFollow entry records next
     → length records < entry.capacity → IsTotalOf entry (records ++ next ∷ []) new
 
 pub record HoldsTotals (h : Inside) : Type 0 where

@@ -1,20 +1,21 @@
 -- The laws of legal records.
-use Rattle.std.specs.Prelude.{◌≡◌, ℕ, ◌+◌, ◌≤◌, ◌<◌, List, [], length, map, count_by, sum_by, slice_get, Some, Ok, IsTrue, ◌↔◌}
+use Rattle.std.specs.Prelude.{◌≡◌, ℕ, ◌+◌, ◌≤◌, ◌<◌, List, [], ◌∷◌, ◌++◌, length, map, count_by, sum_by, slice_get, false, Some, Ok, IsTrue, ◌↔◌}
 use mathlib.Core.List.{IsPrefix}
 use Rattle.std.specs.List.{range_with_len}
 use Rattle.journal_records.specs.declared.records.Record.{Record}
 use Rattle.journal_records.specs.declared.records.Reservation.{Reservation}
-use Rattle.journal_records.specs.declared.records.Record.TheVariants.{Reserve}
+use Rattle.journal_records.specs.declared.records.Settlement.{Settlement}
+use Rattle.journal_records.specs.declared.records.Record.TheVariants.{Reserve, Settle}
 use Rattle.budget_core.specs.declared.entry.Ask.{Ask}
 use Rattle.budget_core.specs.declared.entry.Grant.{Grant}
 use Rattle.budget_core.specs.Bare.{without_answers}
-use Rattle.budget_core.specs.Cost.{cost_of, budget_of}
-use Rattle.budget_core.specs.Counts.{reservations_of, settles, reservation_number, taken_of, open_from}
+use Rattle.budget_core.specs.Cost.{comes_back, cost_of, budget_of}
+use Rattle.budget_core.specs.Counts.{reservations_of, settles, reservation_number, taken_of, returned_of, open_from}
 use Rattle.budget_core.specs.Entries.{Entry, IsEntry}
 use Rattle.budget_core.specs.declared.events.Event.{Event}
 use Rattle.budget_core.specs.Events.{is_ask_of, ran}
 use Rattle.budget_core.specs.Safe.{IsSafe}
-use Rattle.budget_core.specs.Legal.{IsHistory, IsLegal}
+use Rattle.budget_core.specs.Legal.{IsSettlementAfter, IsHistory, IsLegal}
 use Rattle.budget_core.specs.Ledger.{money_verdict, records_after, IsAskOf}
 
 -- Legal records cost at most the budget, where the found ones do.
@@ -48,9 +49,18 @@ abbrev pub SettlesOnce : Type 0
 SettlesOnce = (entry : Entry) (records : List Record) (number : ℕ) → IsHistory entry records
     → count_by (settles number) records ≤ 1
 
--- What each reservation of a history took adds up to its cost.
+-- What each reservation of a history took adds up to its cost and to what was given back.
 abbrev pub AddsUp : Type 0
-AddsUp = (entry : Entry) (records : List Record) → IsHistory entry records → sum_by taken_of records ≡ cost_of entry records
+AddsUp = (entry : Entry) (records : List Record) → IsHistory entry records → sum_by taken_of records ≡ cost_of entry records + sum_by returned_of records
+
+-- In versions 1 and 2 no settlement of a history gives anything back, and in version 3 only that of an exhausted number.
+abbrev pub OnlyExhaustedGiveBack : Type 0
+OnlyExhaustedGiveBack = (entry : Entry) (records : List Record) (settlement : Settlement) → IsSettlementAfter entry records settlement
+    → comes_back entry (Some settlement.outcome) ≡ false → settlement.returned ≡ 0
+
+-- A settlement never raises the cost.
+abbrev pub SettlementsNeverRaise : Type 0
+SettlementsNeverRaise = (entry : Entry) (records : List Record) (settlement : Settlement) → cost_of entry (records ++ Settle settlement ∷ []) ≤ cost_of entry records
 
 -- There is always room to settle what is open.
 abbrev pub KeepsRoom : Type 0

@@ -1,8 +1,11 @@
 -- What a book of records answers.
 use Rattle.std.specs.Prelude.{◌≡◌, ℕ, ◌+◌, ◌-◌, ◌<◌, ◌≤◌, nat_lt, List, [], ◌∷◌, ◌++◌, length, Result, Ok, Err, if◌then◌else◌, None, IsSome}
+use Rattle.journal_records.specs.declared.records.Outcome.{Outcome}
 use Rattle.journal_records.specs.declared.records.Reservation.{Reservation}
+use Rattle.journal_records.specs.declared.records.Settlement.{Settlement}
 use Rattle.journal_records.specs.declared.records.Record.{Record}
-use Rattle.journal_records.specs.declared.records.Record.TheVariants.{Reserve}
+use Rattle.journal_records.specs.declared.records.Record.TheVariants.{Reserve, Settle}
+use Rattle.journal_records.specs.Records.{settling}
 use Rattle.budget_core.specs.declared.entry.Ask.{Ask}
 use Rattle.budget_core.specs.declared.entry.Grant.{Grant}
 use Rattle.budget_core.specs.declared.entry.ReserveFault.{ReserveFault}
@@ -54,6 +57,18 @@ money_verdict entry start records ask =
     then Err (Full (length records) (open_from start records) entry.capacity)
     else Ok (record { number = next_number records; taken = rise_of entry records ask; seen = length records + 1 })
 
+-- by how much settling a number so lowers the cost
+abbrev pub returned_by : Entry → List Record → ℕ → Outcome → ℕ
+returned_by entry records number outcome = cost_of entry records - cost_of entry (records ++ settling number outcome ∷ [])
+
+-- the settlement of a number behind these records
+abbrev pub settlement_of : Entry → List Record → ℕ → Outcome → Settlement
+settlement_of entry records number outcome = record { number = number; outcome = outcome; returned = returned_by entry records number outcome }
+
+-- the record that settles a number behind these records
+abbrev pub settlement_for : Entry → List Record → ℕ → Outcome → Record
+settlement_for entry records number outcome = Settle (settlement_of entry records number outcome)
+
 -- an ask is of the entry
 pub record IsAskOf (entry : Entry) (ask : Ask) : Type 0 where
   pub analyst : ask.analyst < entry.analysts
@@ -77,3 +92,8 @@ pub record IsUnsettled (ledger : Ledger) (number : ℕ) : Type 0 where
   pub ours : start_of ledger ≤ number
   pub reserved : IsSome (reservation_of ledger.records number)
   pub unsettled : outcome_of ledger.records number ≡ None
+
+-- The settlement may be added to the ledger: it is of a reservation of this run that has none, and says by how much the cost falls.
+pub record MaySettle (ledger : Ledger) (settlement : Settlement) : Type 0 where
+  pub unsettled : IsUnsettled ledger settlement.number
+  pub is : settlement ≡ settlement_of ledger.entry ledger.records settlement.number settlement.outcome

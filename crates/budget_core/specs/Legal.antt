@@ -1,11 +1,10 @@
 -- Which records may follow which.
 use Rattle.std.specs.Prelude.{◌≡◌, ℕ, ◌+◌, ◌≤◌, ◌<◌, List, [], ◌∷◌, ◌++◌, length, take, slice_get, Some, None, IsSome, IfSome, MatchOption}
-use Rattle.journal_records.specs.declared.records.Outcome.{Outcome}
 use Rattle.journal_records.specs.declared.records.Reservation.{Reservation}
 use Rattle.journal_records.specs.declared.records.Record.{Record}
 use Rattle.journal_records.specs.declared.records.Settlement.{Settlement}
-use Rattle.journal_records.specs.declared.records.Record.TheVariants.{Reserve}
-use Rattle.journal_records.specs.Records.{reservation_in, settlement_in, settling}
+use Rattle.journal_records.specs.declared.records.Record.TheVariants.{Reserve, Settle}
+use Rattle.journal_records.specs.Records.{reservation_in, settlement_in}
 use Rattle.budget_core.specs.Cost.{cost_of, budget_of}
 use Rattle.budget_core.specs.Counts.{reservations_of, reservation_of, outcome_of, open_from}
 use Rattle.budget_core.specs.Entries.{Entry, HasView}
@@ -20,15 +19,21 @@ pub record IsReservationAfter (entry : Entry) (records : List Record) (reservati
   pub rise : cost_of entry (records ++ Reserve reservation ∷ []) ≡ cost_of entry records + reservation.taken
   pub within : cost_of entry (records ++ Reserve reservation ∷ []) ≤ budget_of entry (records ++ Reserve reservation ∷ [])
 
--- A settlement is of a reservation that has none yet.
-pub record IsSettlementAfter (records : List Record) (number : ℕ) : Type 0 where
+-- The number is reserved, and isn't settled.
+pub record IsOpen (records : List Record) (number : ℕ) : Type 0 where
   pub reserved : IsSome (reservation_of records number)
   pub unsettled : outcome_of records number ≡ None
+
+-- A settlement is of a reservation that has none yet, and says by how much the cost falls.
+pub record IsSettlementAfter (entry : Entry) (records : List Record) (settlement : Settlement) : Type 0 where
+  pub reserved : IsSome (reservation_of records settlement.number)
+  pub unsettled : outcome_of records settlement.number ≡ None
+  pub fall : cost_of entry (records ++ Settle settlement ∷ []) + settlement.returned ≡ cost_of entry records
 
 -- the record may follow these records
 abbrev pub MayFollow : Entry → List Record → Record → Type 0
 MayFollow entry records next =
-    MatchOption (reservation_in next) (IfSome (settlement_in next) (λ (settlement : Settlement). IsSettlementAfter records settlement.number))
+    MatchOption (reservation_in next) (IfSome (settlement_in next) (IsSettlementAfter entry records))
     (IsReservationAfter entry records)
 
 -- each record may follow those before it
@@ -50,8 +55,8 @@ HasTerms next = IfSome (reservation_in next) (λ (reservation : Reservation). Ar
 pub record IsLegal (entry : Entry) (found records : List Record) : Type 0 where
   pub begins : take (length found) records ≡ found
   pub follows : (k : ℕ) (next : Record) → length found ≤ k → slice_get records k ≡ Some next → MayFollow entry (take k records) next
-  pub settles : (k number : ℕ) (outcome : Outcome) → length found ≤ k → slice_get records k ≡ Some (settling number outcome)
-      → length (reservations_of found) ≤ number
+  pub settles : (k : ℕ) (settlement : Settlement) → length found ≤ k → slice_get records k ≡ Some (Settle settlement)
+      → length (reservations_of found) ≤ settlement.number
   pub room : length found ≤ entry.capacity → (k : ℕ) → length found < k → k ≤ length records
       → k + open_from (length (reservations_of found)) (take k records) ≤ entry.capacity
   pub terms : (k : ℕ) (next : Record) → length found ≤ k → slice_get records k ≡ Some next → HasTerms next

@@ -1,23 +1,26 @@
 //! What the catalog says of an owner's budget, and what is asked of it.
 
 ghost use Rattle.std.specs.Prelude.{◌≡◌, ◌↔◌, IsTrue};
-ghost use Rattle.journal_records.specs.Encoding.{IsByteList};
+ghost use Rattle.journal_records.specs.Encoding.{newest_version, IsByteList};
 ghost use Rattle.budget_core.specs.Entries.{IsEntry, HasView};
 ghost use Rattle.budget_core.specs.Ledger.{IsAskOf};
 
 use journal_records::decoding::are_terms;
+use journal_records::records::NEWEST_VERSION;
 use partition_charge::view::View;
 use std::marker::Model;
 
 /// An owner's entry: the budget in millionths of epsilon (1 to 10^18), the greatest number of
-/// records (2 to 262,144), how many analysts may ask (1 to 64), and how many keys each of its
-/// partitions has (up to 8 partitions, 1 to 250 keys).
+/// records (2 to 262,144), how many analysts may ask (1 to 64), how many keys each of its
+/// partitions has (up to 8 partitions, 1 to 250 keys), and the version of its journal, whose rule of
+/// the cost its records keep.
 #[derive(Drop)]
 pub struct Entry {
     budget: u64,
     capacity: u32,
     analysts: u16,
     keys: Vec<u16>,
+    version: u8,
 }
 
 impl Model for Entry {
@@ -25,9 +28,9 @@ impl Model for Entry {
 
     ghost Value = { Terms };
 
-    ghost view = { λ a. record { budget = a.budget; capacity = a.capacity; analysts = a.analysts; keys = a.keys.items } };
+    ghost view = { λ a. record { budget = a.budget; capacity = a.capacity; analysts = a.analysts; keys = a.keys.items; version = a.version } };
 
-    ghost invariant = { λ a. IsEntry (record { budget = a.budget; capacity = a.capacity; analysts = a.analysts; keys = a.keys.items }) };
+    ghost invariant = { λ a. IsEntry (record { budget = a.budget; capacity = a.capacity; analysts = a.analysts; keys = a.keys.items; version = a.version }) };
 }
 
 /// What a query asks of the budget.
@@ -82,17 +85,32 @@ fn are_bytes(digest: [u8; 32])
 }
 
 impl Entry {
-    /// An owner's entry.
+    /// An owner's entry, for a new journal.
     pub fn new(budget: u64, capacity: u32, analysts: u16, keys: Vec<u16>) -> Entry
-        requires { IsEntry (record { budget = budget; capacity = capacity; analysts = analysts; keys = keys.items }) }
-        ensures { result ≡ record { budget = budget; capacity = capacity; analysts = analysts; keys = keys.items } }
+        requires { IsEntry (record { budget = budget; capacity = capacity; analysts = analysts; keys = keys.items; version = newest_version }) }
+        ensures { result ≡ record { budget = budget; capacity = capacity; analysts = analysts; keys = keys.items; version = newest_version } }
     {
         Entry {
             budget,
             capacity,
             analysts,
             keys,
+            version: NEWEST_VERSION,
         }
+    }
+
+    /// The entry, for a journal of this version.
+    pub fn with_version(self, version: u8) -> Entry
+        ensures { result ≡ record self { version = version } }
+    {
+        Entry { version, ..self }
+    }
+
+    /// The version of its journal.
+    pub fn version(&self) -> u8
+        ensures { result ≡ self.now.version }
+    {
+        self.version
     }
 
     /// The budget in millionths of epsilon.

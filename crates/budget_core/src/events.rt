@@ -9,7 +9,7 @@ ghost use Rattle.budget_core.specs.Safe.{IsSafe};
 
 use crate::entry::{Ask, Entry};
 use crate::ledger::Ledger;
-use journal_records::records::{Outcome, Record, Settlement};
+use journal_records::records::{Outcome, Record};
 use std::alloc::{AllocError, Global};
 use std::marker::Model;
 
@@ -75,7 +75,8 @@ impl Machine {
         ensures entry { self.new.ledger.entry ≡ self.old.ledger.entry }
     {
         if self.running && self.ledger.is_unsettled(number) {
-            self.ledger.settle(&Settlement { number, outcome });
+            let settlement = self.ledger.settlement(number, outcome);
+            self.ledger.settle(&settlement);
         }
     }
 

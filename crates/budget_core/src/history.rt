@@ -8,7 +8,8 @@ ghost use Rattle.budget_core.specs.Answers.{counts_of, IsFoundFault};
 ghost use Rattle.budget_core.specs.Cost.{charges_in, cost_of, budget_of};
 ghost use Rattle.budget_core.specs.Counts.{reservations_of, asker_of, outcome_of};
 ghost use Rattle.budget_core.specs.Entries.{IsEntry, HasView};
-ghost use Rattle.budget_core.specs.Legal.{MayFollow, HasTerms, IsHistory};
+ghost use Rattle.budget_core.specs.Ledger.{returned_by};
+ghost use Rattle.budget_core.specs.Legal.{MayFollow, HasTerms, IsOpen, IsHistory};
 
 use crate::answers::{Counts, FoundFault};
 use crate::entry::Entry;
@@ -119,10 +120,18 @@ impl History {
     pub fn cost_after(&self, view: View, charge: u64) -> u64
         requires view { HasView self.now.entry view }
         requires bounded { charge ≤ 2 ^ 62 }
-        ensures cost { result ≡ cost_of_charges (charges_in self.now.records ++ record { view = view; amount = charge } ∷ []) }
+        ensures cost { result ≡ cost_of_charges (charges_in self.now.entry self.now.records ++ record { view = view; amount = charge } ∷ []) }
         ensures grows { cost_of self.now.entry self.now.records ≤ result }
     {
         self.totals.costs.after(view, charge)
+    }
+
+    /// By how much settling this number so would lower the cost. It is reserved, and isn't settled.
+    pub fn returned(&self, number: u32, outcome: Outcome) -> u64
+        requires { IsOpen self.now.records number }
+        ensures { result ≡ returned_by self.now.entry self.now.records number outcome }
+    {
+        self.totals.returned(&self.entry, number, outcome)
     }
 
     /// Adds a record that may follow.
@@ -132,7 +141,7 @@ impl History {
         requires room { length self.old.records < self.old.entry.capacity }
         ensures { self.new ≡ record self.old { records = self.old.records ++ next.now ∷ [] } }
     {
-        self.totals.count(next);
+        self.totals.count(&self.entry, next);
         self.records.push_reserved(*next);
     }
 

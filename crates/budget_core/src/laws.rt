@@ -1,6 +1,6 @@
 //! The laws of legal records. Each function does nothing: its contract is the law.
 
-ghost use Rattle.budget_core.specs.Laws.{StaysWithinBudget, StaysHistory, NumbersInOrder, NumbersNeverShared, NumbersGrow, SettlesOnce, AddsUp, KeepsRoom, IgnoresAnswers, AsksAreTested, EventsAreSafe};
+ghost use Rattle.budget_core.specs.Laws.{StaysWithinBudget, StaysHistory, NumbersInOrder, NumbersNeverShared, NumbersGrow, SettlesOnce, AddsUp, OnlyExhaustedGiveBack, SettlementsNeverRaise, KeepsRoom, IgnoresAnswers, AsksAreTested, EventsAreSafe};
 
 /// Legal records cost at most the budget, where those found at the start do.
 pub fn stays_within_budget()
@@ -32,9 +32,19 @@ pub fn settles_once()
     ensures { SettlesOnce }
 {}
 
-/// What each reservation took adds up to the cost.
+/// What each reservation took adds up to the cost and to what was given back.
 pub fn adds_up()
     ensures { AddsUp }
+{}
+
+/// Only the settlement of an exhausted number gives anything back, and in version 3 alone.
+pub fn only_exhausted_give_back()
+    ensures { OnlyExhaustedGiveBack }
+{}
+
+/// A settlement never raises the cost.
+pub fn settlements_never_raise()
+    ensures { SettlementsNeverRaise }
 {}
 
 /// The records and a settlement for each open reservation fit into the capacity.

@@ -3,13 +3,13 @@
 ghost use Rattle.std.specs.Prelude.{◌≡◌, ℕ, ◌<◌, ◌≤◌, ◌∷◌, ◌++◌, [], ◌↔◌, length, IsTrue, IfOk, IfErr, Ok};
 ghost use Rattle.std.specs.List.{All};
 ghost use Rattle.journal_records.specs.declared.records.Record.TheVariants.{Reserve, Settle};
-ghost use Rattle.journal_records.specs.Encoding.{IsReservation, IsValid};
+ghost use Rattle.journal_records.specs.Encoding.{IsReservation, IsSettlement, IsValid};
 ghost use Rattle.budget_core.specs.Answers.{standing, recalled, left_of, counts_of, IsFoundFault};
 ghost use Rattle.budget_core.specs.Cost.{cost_of};
 ghost use Rattle.budget_core.specs.Counts.{outcome_of};
 ghost use Rattle.budget_core.specs.Entries.{IsEntry};
 ghost use Rattle.budget_core.specs.Events.{is_answer};
-ghost use Rattle.budget_core.specs.Ledger.{start_of, money_verdict, next_number, reservation_numbered, IsAskOf, MayReserve, IsUnsettled};
+ghost use Rattle.budget_core.specs.Ledger.{start_of, money_verdict, next_number, reservation_numbered, settlement_of, IsAskOf, MayReserve, MaySettle, IsUnsettled};
 ghost use Rattle.budget_core.specs.Sound.{IsSound};
 
 use crate::answers::{Counts, FoundFault, Left, Recall};
@@ -147,10 +147,25 @@ impl Ledger {
         self.unsettled += 1;
     }
 
+    /// The settlement of a number of this run, with what it gives back.
+    pub fn settlement(&self, number: u32, outcome: Outcome) -> Settlement
+        requires { IsUnsettled self.now number }
+        ensures settlement { result ≡ settlement_of self.now.entry self.now.records number outcome }
+        ensures valid { IsSettlement result }
+        ensures may { MaySettle self.now result }
+    {
+        let returned = self.history.returned(number, outcome);
+        Settlement {
+            number,
+            outcome,
+            returned,
+        }
+    }
+
     /// Adds a settlement of a reservation of this run. It is never full: room was kept when the reservation was
     /// made. Gives the number of records.
     pub fn settle(&mut self, settlement: &Settlement) -> u32
-        requires { IsUnsettled self.old settlement.now.number }
+        requires { MaySettle self.old settlement.now }
         ensures seen { result ≡ length self.new.records }
         ensures after { self.new ≡ record self.old { records = self.old.records ++ Settle settlement.now ∷ [] } }
         ensures sound { IsSound self.new }

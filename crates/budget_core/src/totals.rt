@@ -1,27 +1,35 @@
 //! What is known of records without going over them: what they cost, and a row for each number.
 
-ghost use Rattle.std.specs.Prelude.{◌≡◌, ℕ, ◌<◌, ◌≤◌, ◌∷◌, ◌++◌, [], ◌↔◌, ◌^◌, List, length, slice_get, Some, IsTrue, IfOk, IfErr};
+ghost use Rattle.std.specs.Prelude.{◌≡◌, ℕ, ◌<◌, ◌≤◌, ◌∷◌, ◌++◌, [], ◌↔◌, ◌^◌, List, length, slice_get, Some, true, false, IsTrue, IfOk, IfErr};
 ghost use Rattle.std.specs.List.{All};
 ghost use Rattle.journal_records.specs.Encoding.{AreChargeTerms, IsReservation, IsValid};
 ghost use Rattle.journal_records.specs.declared.records.Record.{Record as Entered};
 ghost use Rattle.journal_records.specs.declared.records.Record.TheVariants.{Reserve, Settle};
 ghost use Rattle.budget_core.specs.declared.totals.Row.{Row as Known};
-ghost use Rattle.budget_core.specs.Answers.{is_exhaustion};
+ghost use Rattle.budget_core.specs.Counts.{is_exhaustion};
 ghost use Rattle.budget_core.specs.Events.{is_answer};
-ghost use Rattle.budget_core.specs.Cost.{charge_of};
+ghost use Rattle.budget_core.specs.Cost.{charge_of, comes_back};
+ghost use Rattle.budget_core.specs.Ledger.{returned_by};
+ghost use Rattle.partition_charge.specs.Cost.{Charge as Charged};
+ghost use Rattle.partition_charge.specs.Totals.{AreTotalsOf, HasCharged, IsRest};
+ghost use Rattle.partition_charge.specs.Views.{IsView};
 ghost use Rattle.budget_core.specs.Entries.{Entry as Terms};
-ghost use Rattle.budget_core.specs.Kept.{IsTotalOf, IsTotal, MayCount, HasCounted};
-ghost use Rattle.budget_core.specs.Legal.{MayFollow, HasTerms, IsReservationAfter, IsSettlementAfter, IsFirstAstray};
+ghost use Rattle.budget_core.specs.Kept.{IsTotalOf, IsTotal, IsOpenIn, MayCount, HasCounted};
+ghost use Rattle.budget_core.specs.Legal.{MayFollow, HasTerms, IsReservationAfter, IsOpen, IsSettlementAfter, IsFirstAstray};
 
 use crate::entry::Entry;
 use journal_records::records::{Outcome, Record, Reservation, Settlement};
 use partition_charge::costs::Costs;
+use partition_charge::view::View;
 use std::alloc::{AllocError, Global};
 
 // What is known of a number.
 #[derive(Clone, Copy, Drop)]
 pub(crate) struct Row {
     pub(crate) analyst: u16,
+    pub(crate) view: View,
+    /// What it charged the view.
+    pub(crate) charge: u64,
     pub(crate) outcome: Option<Outcome>,
 }
 
@@ -53,6 +61,28 @@ fn is_exhaustion(outcome: Outcome) -> bool
     ensures { result ≡ is_exhaustion (Some outcome) }
 {
     matches!(outcome, Outcome::Exhausted)
+}
+
+// The version in which an exhausted number's charge comes back.
+const GIVES_BACK: u8 = 3;
+
+// Whether what a number was charged comes back with this outcome.
+fn comes_back(entry: &Entry, outcome: Outcome) -> bool
+    ensures { result ≡ comes_back entry.now (Some outcome) }
+{
+    entry.version() == GIVES_BACK && is_exhaustion(outcome)
+}
+
+// Gives back what a number was charged, where it comes back with this outcome.
+fn take_back(costs: &mut Costs, entry: &Entry, row: Row, outcome: Outcome)
+    requires charged { comes_back entry.now (Some outcome) ≡ true → IsView row.view × HasCharged costs.old row.view row.charge }
+    ensures given { (charges rest : List Charged) → AreTotalsOf costs.old charges → comes_back entry.now (Some outcome) ≡ true
+        → IsRest charges row.view row.charge rest → AreTotalsOf costs.new rest }
+    ensures kept { (charges : List Charged) → AreTotalsOf costs.old charges → comes_back entry.now (Some outcome) ≡ false → AreTotalsOf costs.new charges }
+{
+    if comes_back(entry, outcome) {
+        costs.give_back(row.view, row.charge);
+    }
 }
 
 // Writes how a number was settled.
@@ -96,14 +126,37 @@ impl Totals {
         after <= entry.budget() && after - spent == reservation.taken
     }
 
-    // Whether a settlement of this number may follow.
-    fn may_settle(&self, number: u32) -> bool
-        ensures { (entry : Terms) (records : List Entered) → IsTotalOf entry records self.now → (IsTrue result ↔ IsSettlementAfter records number) }
+    // Whether this number is reserved and isn't settled.
+    fn is_open(&self, number: u32) -> bool
+        ensures { (entry : Terms) (records : List Entered) → IsTotalOf entry records self.now → (IsTrue result ↔ IsOpen records number) }
     {
         match self.rows.get(number as usize) {
             Some(row) => row.outcome.is_none(),
             None => false,
         }
+    }
+
+    /// By how much settling this number so would lower the cost. It is reserved, and isn't settled.
+    pub fn returned(&self, entry: &Entry, number: u32, outcome: Outcome) -> u64
+        requires { IsOpenIn entry.now self.now number }
+        ensures { (records : List Entered) → IsTotalOf entry.now records self.now → IsOpen records number → result ≡ returned_by entry.now records number outcome }
+    {
+        if !comes_back(entry, outcome) {
+            return 0;
+        }
+        let row = self.rows[number as usize];
+        self.costs.spent() - self.costs.back(row.view, row.charge)
+    }
+
+    // Whether this settlement may follow.
+    fn may_settle(&self, entry: &Entry, settlement: &Settlement) -> bool
+        requires { IsTotal entry.now self.now }
+        ensures { (records : List Entered) → IsTotalOf entry.now records self.now → (IsTrue result ↔ IsSettlementAfter entry.now records settlement.now) }
+    {
+        if !self.is_open(settlement.number) {
+            return false;
+        }
+        self.returned(entry, settlement.number, settlement.outcome) == settlement.returned
     }
 
     // Whether this record may follow.
@@ -114,43 +167,47 @@ impl Totals {
     {
         match next {
             Record::Reserve(reservation) => self.may_reserve(entry, reservation),
-            Record::Settle(settlement) => self.may_settle(settlement.number),
+            Record::Settle(settlement) => self.may_settle(entry, settlement),
         }
     }
 
     // Counts a reservation.
-    fn count_reservation(&mut self, reservation: &Reservation)
-        requires follows { MayCount self.old (Reserve reservation.now) }
+    fn count_reservation(&mut self, entry: &Entry, reservation: &Reservation)
+        requires follows { MayCount entry.now self.old (Reserve reservation.now) }
         requires terms { AreChargeTerms reservation.now.e reservation.now.p reservation.now.q }
-        ensures { HasCounted self.old (Reserve reservation.now) self.new }
+        ensures { HasCounted entry.now self.old (Reserve reservation.now) self.new }
     {
         let charge = charge_for(reservation.e, reservation.p, reservation.q);
         self.costs.add(reservation.view, charge);
         self.rows.push_reserved(Row {
             analyst: reservation.analyst,
+            view: reservation.view,
+            charge,
             outcome: None,
         });
     }
 
     // Counts a settlement.
-    fn count_settlement(&mut self, settlement: &Settlement)
-        requires { MayCount self.old (Settle settlement.now) }
-        ensures { HasCounted self.old (Settle settlement.now) self.new }
+    fn count_settlement(&mut self, entry: &Entry, settlement: &Settlement)
+        requires { MayCount entry.now self.old (Settle settlement.now) }
+        ensures { HasCounted entry.now self.old (Settle settlement.now) self.new }
     {
+        let row = self.rows[settlement.number as usize];
+        take_back(&mut self.costs, entry, row, settlement.outcome);
         settle_row(&mut self.rows, settlement.number, settlement.outcome);
         self.answered += u32::from(is_answer(settlement.outcome));
         self.exhausted += u32::from(is_exhaustion(settlement.outcome));
     }
 
     /// Counts a record that may follow.
-    pub fn count(&mut self, next: &Record)
-        requires follows { MayCount self.old next.now }
+    pub fn count(&mut self, entry: &Entry, next: &Record)
+        requires follows { MayCount entry.now self.old next.now }
         requires terms { HasTerms next.now }
-        ensures { HasCounted self.old next.now self.new }
+        ensures { HasCounted entry.now self.old next.now self.new }
     {
         match next {
-            Record::Reserve(reservation) => self.count_reservation(reservation),
-            Record::Settle(settlement) => self.count_settlement(settlement),
+            Record::Reserve(reservation) => self.count_reservation(entry, reservation),
+            Record::Settle(settlement) => self.count_settlement(entry, settlement),
         }
     }
 
@@ -167,7 +224,7 @@ impl Totals {
             if !self.may_follow(entry, next) {
                 return Err(slot as u32);
             }
-            self.count(next);
+            self.count(entry, next);
         }
         Ok(())
     }

@@ -11,9 +11,9 @@ use Rattle.journal_records.specs.declared.records.Record.{Record}
 use Rattle.journal_records.specs.declared.records.Header.{Header}
 use Rattle.journal_records.specs.Records.{settling}
 use Rattle.budget_journal.specs.declared.opening.OpenFault.TheVariants.{NotInitialised, Changed}
-use Rattle.budget_journal.specs.declared.version.Version.TheVariants.{One, Two}
-use Rattle.budget_journal.specs.Journals.{slot_place, slot, gate_of, Holds, header_as, slots_in, Stands, IsHeaderFault}
-use Rattle.budget_journal.specs.Areas.{version_by, version_in, area_slots, area_begin, IsArea, IsLastArea, area_in, area_gate, live_area, HasGates, IsStray}
+use Rattle.budget_journal.specs.declared.form.Form.TheVariants.{One, Many}
+use Rattle.budget_journal.specs.Journals.{slot_place, slot, gate_of, Holds, slots_in, Stands, IsHeaderFault}
+use Rattle.budget_journal.specs.Areas.{version_by, form_by, form_in, area_slots, area_begin, IsArea, IsLastArea, area_in, area_gate, live_area, HasGates, IsStray}
 use Rattle.budget_journal.specs.Growth.{HasFront, HasCopy}
 use Rattle.budget_journal.specs.Making.{AreZeros, first_bytes, MakesJournal, AreFirst, Begins}
 use Rattle.budget_journal.proofs.Geometry.{area-by}
@@ -22,18 +22,30 @@ use Rattle.budget_journal.proofs.One.{stands-one}
 
 -- ---- versions
 
-first_version : version_by 1 ≡ One
+first_version : version_by 1 ≡ 1
 first_version = refl
 
-second_version : version_by 2 ≡ Two
+second_version : version_by 2 ≡ 2
 second_version = refl
 
+third_version : version_by 3 ≡ 3
+third_version = refl
+
 -- an unknown one is judged as the newest
-no_version : version_by 0 ≡ Two
+no_version : version_by 0 ≡ 3
 no_version = refl
 
-later_version : version_by 3 ≡ Two
+later_version : version_by 4 ≡ 3
 later_version = refl
+
+one_area : form_by 1 ≡ One
+one_area = refl
+
+many_areas : form_by 2 ≡ Many
+many_areas = refl
+
+as_many : form_by 3 ≡ Many
+as_many = refl
 
 -- version 1 has one area for all records, of any capacity
 all_in_one : area_slots One 262144 0 ≡ 262144
@@ -47,83 +59,83 @@ its_last = (λ n lt. absurd (omega arith), refl)
 
 -- ---- how many areas there are
 
-one_slot : IsLastArea Two 1 0
+one_slot : IsLastArea Many 1 0
 one_slot = (λ n lt. absurd (omega arith), refl)
 
-sixty_three : IsLastArea Two 63 0
+sixty_three : IsLastArea Many 63 0
 sixty_three = (λ n lt. absurd (omega arith), refl)
 
-sixty_four : IsLastArea Two 64 0
+sixty_four : IsLastArea Many 64 0
 sixty_four = (λ n lt. absurd (omega arith), refl)
 
-none_behind : IsArea Two 64 1 → ⊥
+none_behind : IsArea Many 64 1 → ⊥
 none_behind is = let h : 64 < 64 = is 0 (omega arith) in omega (arith, h)
 
-sixty_five : IsLastArea Two 65 1
+sixty_five : IsLastArea Many 65 1
 sixty_five = (area-by 65 0 (omega arith), refl)
 
-a_hundred : IsLastArea Two 100 1
+a_hundred : IsLastArea Many 100 1
 a_hundred = (area-by 100 0 (omega arith), refl)
 
-not_the_first : IsLastArea Two 100 0 → ⊥
+not_the_first : IsLastArea Many 100 0 → ⊥
 not_the_first last = let h : 64 ≡ 100 = last.1 in omega (arith, h)
 
-twice : IsLastArea Two 128 1
+twice : IsLastArea Many 128 1
 twice = (area-by 128 0 (omega arith), refl)
 
-one_more_than_twice : IsLastArea Two 129 2
+one_more_than_twice : IsLastArea Many 129 2
 one_more_than_twice = (area-by 129 1 (omega arith), refl)
 
-the_most : IsLastArea Two 262144 12
+the_most : IsLastArea Many 262144 12
 the_most = (area-by 262144 11 (omega arith), refl)
 
-not_the_one_before : area_slots Two 262144 11 ≡ 131072
+not_the_one_before : area_slots Many 262144 11 ≡ 131072
 not_the_one_before = refl
 
 -- ---- where they begin, and where the last one ends
 
-first_begins : area_begin Two 100 0 ≡ 128
+first_begins : area_begin Many 100 0 ≡ 128
 first_begins = refl
 
-of_one_slot : area_begin Two 1 1 ≡ 192
+of_one_slot : area_begin Many 1 1 ≡ 192
 of_one_slot = refl
 
-of_sixty_three : area_begin Two 63 1 ≡ 4160
+of_sixty_three : area_begin Many 63 1 ≡ 4160
 of_sixty_three = refl
 
-of_sixty_four : area_begin Two 64 1 ≡ 4224
+of_sixty_four : area_begin Many 64 1 ≡ 4224
 of_sixty_four = refl
 
-of_sixty_five : area_begin Two 65 2 ≡ 8384
+of_sixty_five : area_begin Many 65 2 ≡ 8384
 of_sixty_five = refl
 
-second_of_a_hundred : area_begin Two 100 1 ≡ 4224
+second_of_a_hundred : area_begin Many 100 1 ≡ 4224
 second_of_a_hundred = refl
 
-of_a_hundred : area_begin Two 100 2 ≡ 10624
+of_a_hundred : area_begin Many 100 2 ≡ 10624
 of_a_hundred = refl
 
-of_twice : area_begin Two 128 2 ≡ 12416
+of_twice : area_begin Many 128 2 ≡ 12416
 of_twice = refl
 
-last_of_the_most : area_begin Two 262144 12 ≡ 16773248
+last_of_the_most : area_begin Many 262144 12 ≡ 16773248
 last_of_the_most = refl
 
-of_the_most : area_begin Two 262144 13 ≡ 33550464
+of_the_most : area_begin Many 262144 13 ≡ 33550464
 of_the_most = refl
 
 -- the 65th record of a journal for a hundred stands in area 1, in a file that ends with it
-where_it_stands : slot_place (area_in Two 100 1 10624) 64 ≡ 8320
+where_it_stands : slot_place (area_in Many 100 1 10624) 64 ≡ 8320
 where_it_stands = refl
 
-all_of_it : (area_in Two 100 1 10624).size ≡ 10624
+all_of_it : (area_in Many 100 1 10624).size ≡ 10624
 all_of_it = refl
 
 -- a file may go on behind an area, and not end in it
-goes_on : (area_in Two 100 0 5000).size ≡ 5000
+goes_on : (area_in Many 100 0 5000).size ≡ 5000
 goes_on = refl
 
-ends_in_it : (area_in Two 100 0 4223).size ≡ 4224
+ends_in_it : (area_in Many 100 0 4223).size ≡ 4224
 ends_in_it = refl
 
 -- ---- gates
@@ -171,20 +183,20 @@ not_stray_where_shut stray = let h : 164 ≡ 165 = stray.2 in omega (arith, h)
 
 -- journals for two records
 abbrev header : Header
-header = record { owner = 1; budget = 10; capacity = 2; digest = replicate 32 7 }
+header = record { owner = 1; budget = 10; capacity = 2; digest = replicate 32 7; version = 2 }
 
 abbrev settled : Record
 settled = settling 7 Exhausted
 
 valid : IsValid settled
-valid = record { numbered = omega arith; settled = tt }
+valid = record { numbered = omega arith; settled = tt; bounded = omega arith; gives_back = tt }
 
 -- no record; one; one, with a slot's bytes behind the area
 abbrev none : List ℕ
-none = header_as Two header ++ replicate 128 0
+none = encoded_header header ++ replicate 128 0
 
 abbrev one : List ℕ
-one = header_as Two header ++ encoded settled ++ replicate 64 0
+one = encoded_header header ++ encoded settled ++ replicate 64 0
 
 abbrev with_more : List ℕ
 with_more = one ++ 165 ∷ 9 ∷ []
@@ -223,7 +235,7 @@ at_first (suc k) r is = absurd cc
 
 one_stands : Stands header (settled ∷ []) one
 one_stands = record {
-  head = record { fields = refl; gates = shut_gates one refl };
+  head = record { fields = refl; known = refl; gates = shut_gates one refl };
   fills = record {
     whole = refl;
     room = omega arith;
@@ -240,7 +252,7 @@ in_more (suc k) r is = absurd cc
 -- what stands behind the live area isn't looked at
 more_stands : Stands header (settled ∷ []) with_more
 more_stands = record {
-  head = record { fields = refl; gates = shut_gates with_more refl };
+  head = record { fields = refl; known = refl; gates = shut_gates with_more refl };
   fills = record {
     whole = refl;
     room = omega arith;
@@ -261,7 +273,7 @@ of_version_three : Stands header [] (take 9 none ++ 3 ∷ drop 10 none) → ⊥
 of_version_three stands = let h : 3 ≡ 2 = ap (λ (b : List ℕ). slice_index b 9) stands.head.fields in omega (arith, h)
 
 -- one of version 1 isn't read by the rules of version 2, though it would fill the area
-as_version_one : Stands header [] (take 9 none ++ 1 ∷ drop 10 none)
+as_version_one : Stands (record header { version = 1 }) [] (take 9 none ++ 1 ∷ drop 10 none)
 as_version_one = record {
   head = refl;
   fills = record {
@@ -277,7 +289,7 @@ as_version_one = record {
 byte_96 : Stands header [] (take 96 none ++ 1 ∷ drop 97 none) → ⊥
 byte_96 stands = let h : 1 ≡ 0 = ap (λ (b : List ℕ). slice_index b 96) stands.head.fields in omega (arith, h)
 
-byte_97 : take 97 (take 97 none ++ 1 ∷ drop 98 none) ≡ take 97 (header_as Two header)
+byte_97 : take 97 (take 97 none ++ 1 ∷ drop 98 none) ≡ take 97 (encoded_header header)
 byte_97 = refl
 
 a_gate_for_no_area : Stands header [] (take 97 none ++ 165 ∷ drop 98 none) → ⊥
@@ -290,7 +302,7 @@ wide = record header { capacity = 65 }
 
 -- Areas 0 and 1 of 64 and 65 slots, with a record in area 0 and none in area 1, and this byte as area 1's gate.
 abbrev front : ℕ → List ℕ
-front byte = (take 97 (header_as Two wide) ++ byte ∷ replicate 30 0) ++ encoded settled
+front byte = (take 97 (encoded_header wide) ++ byte ∷ replicate 30 0) ++ encoded settled
 
 abbrev two_areas : ℕ → List ℕ
 two_areas byte = front byte ++ replicate 8192 0
@@ -321,7 +333,7 @@ first_gate (suc (suc n)) low high = absurd (omega arith)
 -- An open gate: area 1 is live, and the record in area 0 isn't looked at.
 next_area_counts : Stands wide [] (two_areas 165)
 next_area_counts = record {
-  head = record { fields = refl; gates = record { there = area-by 65 0 (omega arith); opened = first_gate; shut = shut_past 165 } };
+  head = record { fields = refl; known = refl; gates = record { there = area-by 65 0 (omega arith); opened = first_gate; shut = shut_past 165 } };
   fills = record {
     whole = omega (arith, its_length 165);
     room = omega arith;
@@ -346,7 +358,7 @@ in_first (suc k) r is = absurd cc
 -- Another byte: area 0 is, and has its record, whatever was written behind it.
 first_area_counts : Stands wide (settled ∷ []) (two_areas 37)
 first_area_counts = record {
-  head = record { fields = refl; gates = record { there = λ n lt. absurd (omega arith); opened = λ n low high. absurd (omega arith); shut = torn_gate } };
+  head = record { fields = refl; known = refl; gates = record { there = λ n lt. absurd (omega arith); opened = λ n low high. absurd (omega arith); shut = torn_gate } };
   fills = record {
     whole = omega (arith, its_length 37);
     room = omega arith;
@@ -361,15 +373,15 @@ under_a_header : IsHeaderFault header (replicate 127 0) (NotInitialised 127)
 under_a_header = (refl, inl (omega arith))
 
 abbrev unknown : List ℕ
-unknown = take 9 none ++ 3 ∷ drop 10 none
+unknown = take 9 none ++ 4 ∷ drop 10 none
 
-unknown_version : IsHeaderFault header unknown (Changed (take 128 unknown) (header_as Two header))
-unknown_version = (omega arith, refl, refl, refl, inl (λ same. let h : 3 ≡ 2 = ap (λ (b : List ℕ). slice_index b 9) same in omega (arith, h)))
+unknown_version : IsHeaderFault header unknown (Changed (take 128 unknown) (encoded_header (record header { version = 3 })))
+unknown_version = (omega arith, refl, refl, refl, inl (λ same. let h : 4 ≡ 3 = ap (λ (b : List ℕ). slice_index b 9) same in omega (arith, h)))
 
 abbrev strayed : List ℕ
 strayed = take 97 none ++ 165 ∷ drop 98 none
 
-a_stray_gate : IsHeaderFault header strayed (Changed (take 128 strayed) (header_as Two header))
+a_stray_gate : IsHeaderFault header strayed (Changed (take 128 strayed) (encoded_header header))
 a_stray_gate = (
   omega arith,
   refl,
@@ -422,7 +434,7 @@ another_byte : AreZeros (Wrote 0 (0 ∷ 1 ∷ []) ∷ []) 2 → ⊥
 another_byte are = let h : 1 ≡ 0 = ap (λ (b : List ℕ). slice_index b 1) are.0 in omega (arith, h)
 
 abbrev header_behind_gate : Step
-header_behind_gate = Wrote 1 (drop 1 (header_as Two header))
+header_behind_gate = Wrote 1 (drop 1 (encoded_header header))
 
 abbrev making : List Step
 making = Synced ∷ Wrote 0 (165 ∷ []) ∷ Synced ∷ header_behind_gate ∷ Synced ∷ zeros
@@ -433,7 +445,7 @@ made_in_turn = (zeros, zeros_over_the_whole, refl)
 synced_once : MakesJournal header (Synced ∷ Wrote 0 (165 ∷ []) ∷ header_behind_gate ∷ zeros) → ⊥
 synced_once makes = let h = makes.2 in absurd cc
 
-gate_with_the_header : MakesJournal header (Synced ∷ Wrote 0 (header_as Two header) ∷ Synced ∷ zeros) → ⊥
+gate_with_the_header : MakesJournal header (Synced ∷ Wrote 0 (encoded_header header) ∷ Synced ∷ zeros) → ⊥
 gate_with_the_header makes = let h = makes.2 in absurd cc
 
 not_synced_at_the_end : MakesJournal header (Wrote 0 (165 ∷ []) ∷ Synced ∷ header_behind_gate ∷ Synced ∷ zeros) → ⊥

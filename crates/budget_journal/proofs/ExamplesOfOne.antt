@@ -9,12 +9,12 @@ use Rattle.journal_records.specs.declared.records.Record.TheVariants.{Reserve, S
 use Rattle.journal_records.specs.Records.{settling}
 use Rattle.journal_records.specs.declared.records.Header.{Header}
 use Rattle.budget_journal.specs.declared.opening.OpenFault.TheVariants.{NotInitialised, Changed}
-use Rattle.budget_journal.specs.declared.version.Version.TheVariants.{One}
+use Rattle.budget_journal.specs.declared.form.Form.TheVariants.{One}
 use Rattle.budget_journal.specs.Areas.{area_slots, area_in}
-use Rattle.budget_journal.specs.Journals.{Layout, header_as, slots_in, slot_place, slot, gate_of, Holds, Stands, IsTornOff, IsBeyond, IsUnreadable, IsDamaged, IsFirstDamaged, IsHeaderFault}
+use Rattle.budget_journal.specs.Journals.{Layout, slots_in, slot_place, slot, gate_of, Holds, Stands, IsTornOff, IsBeyond, IsUnreadable, IsDamaged, IsFirstDamaged, IsHeaderFault}
 
 abbrev header : Header
-header = record { owner = 1; budget = 10; capacity = 2; digest = replicate 32 7 }
+header = record { owner = 1; budget = 10; capacity = 2; digest = replicate 32 7; version = 1 }
 
 -- the header gives one area of two slots, in files of any length
 abbrev two_slots : Layout
@@ -30,23 +30,23 @@ abbrev settled : Record
 settled = settling 7 Exhausted
 
 valid : IsValid settled
-valid = record { numbered = omega arith; settled = tt }
+valid = record { numbered = omega arith; settled = tt; bounded = omega arith; gives_back = tt }
 
 -- no record, one, one whose gate is torn, one behind a closed slot, and a gate in front of no record
 abbrev none : List ℕ
-none = header_as One header ++ replicate 128 0
+none = encoded_header header ++ replicate 128 0
 
 abbrev one : List ℕ
-one = header_as One header ++ encoded settled ++ replicate 64 0
+one = encoded_header header ++ encoded settled ++ replicate 64 0
 
 abbrev torn : List ℕ
-torn = header_as One header ++ (37 ∷ drop 1 (encoded settled)) ++ replicate 64 0
+torn = encoded_header header ++ (37 ∷ drop 1 (encoded settled)) ++ replicate 64 0
 
 abbrev behind : List ℕ
-behind = header_as One header ++ replicate 64 0 ++ encoded settled
+behind = encoded_header header ++ replicate 64 0 ++ encoded settled
 
 abbrev unreadable : List ℕ
-unreadable = header_as One header ++ (165 ∷ replicate 127 0)
+unreadable = encoded_header header ++ (165 ∷ replicate 127 0)
 
 laid_out : slots_in header none ≡ two_slots
 laid_out = refl
@@ -138,7 +138,7 @@ initialised : IsHeaderFault header none (NotInitialised 256) → ⊥
 initialised (same, inl short) = let h : 256 < 128 = short in omega (arith, h)
 initialised (same, inr closed) = closed refl
 
-changed_header : IsHeaderFault (record header { owner = 2 }) none (Changed (take 128 none) (header_as One (record header { owner = 2 })))
+changed_header : IsHeaderFault (record header { owner = 2 }) none (Changed (take 128 none) (encoded_header (record header { owner = 2 })))
 changed_header = (omega arith, refl, refl, refl, λ same. let h : 1 ≡ 2 = ap (λ (b : List ℕ). slice_index b 13) same in omega (arith, h))
 
 -- a file that ends in slot 1, or one byte behind the last slot

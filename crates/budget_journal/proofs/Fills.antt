@@ -8,13 +8,13 @@ use Rattle.journal_records.specs.Encoding.{gate, encoded, IsValid}
 use Rattle.journal_records.specs.declared.records.Record.{Record}
 use Rattle.journal_records.specs.declared.records.Header.{Header}
 use Rattle.journal_records.proofs.Shapes.{length-encoded, encoded-gate}
-use Rattle.budget_journal.specs.declared.version.Version.{Version}
-use Rattle.budget_journal.specs.declared.version.Version.TheVariants.{Two}
+use Rattle.budget_journal.specs.declared.form.Form.{Form}
+use Rattle.budget_journal.specs.declared.form.Form.TheVariants.{Many}
 use Rattle.budget_journal.specs.Journals.{Layout, slot_place, slot, gate_of, Holds, FillsSlots, slots_in, Stands}
-use Rattle.budget_journal.specs.Areas.{version_in, area_begin, area_slots, area_in, live_area}
+use Rattle.budget_journal.specs.Areas.{form_in, area_begin, area_slots, area_in, live_area}
 use Rattle.budget_journal.specs.Growth.{HasFront}
 use Rattle.budget_journal.proofs.Geometry.{begin-low, end-within}
-use Rattle.budget_journal.proofs.Gates.{piece-moved, live-same, version-same, header-same}
+use Rattle.budget_journal.proofs.Gates.{piece-moved, live-same, form-same, header-same}
 
 -- the last of a list that was pushed, or one of those before
 pub pushed-cases : (records : List Record) (next r : Record) (j : ℕ) → slice_get (records ++ next ∷ []) j ≡ Some r
@@ -62,48 +62,48 @@ pub front-header : (size : ℕ) (d c : List ℕ) → 128 ≤ size → size ≤ l
 front-header size d c low long front = piece-moved c d 0 0 128 (omega (arith, front.long)) (omega arith) (λ i lt. front.same (0 + i) (omega arith))
 
 pub in-area : (header : Header) (records : List Record) (d : List ℕ) → Stands header records d
-    → area_begin (version_in d) header.capacity (suc (live_area d)) ≤ length d
-in-area header records d stands = end-within (version_in d) (area_begin (version_in d) header.capacity (suc (live_area d))) (length d) stands.fills.whole
+    → area_begin (form_in d) header.capacity (suc (live_area d)) ≤ length d
+in-area header records d stands = end-within (form_in d) (area_begin (form_in d) header.capacity (suc (live_area d))) (length d) stands.fills.whole
 
-pub in-two : (header : Header) (records : List Record) (d : List ℕ) → Stands header records d → version_in d ≡ Two
-    → area_begin Two header.capacity (suc (live_area d)) ≤ length d
+pub in-two : (header : Header) (records : List Record) (d : List ℕ) → Stands header records d → form_in d ≡ Many
+    → area_begin Many header.capacity (suc (live_area d)) ≤ length d
 in-two header records d stands two =
-    subst (λ (v : Version). area_begin v header.capacity (suc (live_area d)) ≤ length d) two (in-area header records d stands)
+    subst (λ (v : Form). area_begin v header.capacity (suc (live_area d)) ≤ length d) two (in-area header records d stands)
 
 -- a journal is no shorter than its header
 pub journal-long : (header : Header) (records : List Record) (d : List ℕ) → Stands header records d → 128 ≤ length d
-journal-long header records d stands = omega (arith, in-area header records d stands, begin-low (version_in d) header.capacity (suc (live_area d)))
+journal-long header records d stands = omega (arith, in-area header records d stands, begin-low (form_in d) header.capacity (suc (live_area d)))
 
-pub area-whole : (capacity area : ℕ) (c : List ℕ) → area_begin Two capacity (suc area) ≤ length c → length c ≡ max (length c) (area_begin Two capacity (suc area))
+pub area-whole : (capacity area : ℕ) (c : List ℕ) → area_begin Many capacity (suc area) ≤ length c → length c ≡ max (length c) (area_begin Many capacity (suc area))
 area-whole capacity area c le = omega (arith, le)
 
 -- what is written behind the live area changes nothing in version 2
-pub stands-front : (header : Header) (records : List Record) (d c : List ℕ) (size : ℕ) → Stands header records d → version_in d ≡ Two
-    → area_begin Two header.capacity (suc (live_area d)) ≤ size → size ≤ length d → HasFront size d c
-    → Stands header records c × (version_in c ≡ Two) × (live_area c ≡ live_area d)
+pub stands-front : (header : Header) (records : List Record) (d c : List ℕ) (size : ℕ) → Stands header records d → form_in d ≡ Many
+    → area_begin Many header.capacity (suc (live_area d)) ≤ size → size ≤ length d → HasFront size d c
+    → Stands header records c × (form_in c ≡ Many) × (live_area c ≡ live_area d)
 stands-front header records d c size stands two below long front =
     let capacity = header.capacity in
     let area = live_area d in
-    let low = begin-low Two capacity (suc area) in
-    let first = begin-low Two capacity area in
+    let low = begin-low Many capacity (suc area) in
+    let first = begin-low Many capacity area in
     let head : take 128 c ≡ take 128 d = front-header size d c (omega arith) long front in
     let live : live_area c ≡ live_area d = live-same c d head in
-    let version : version_in c ≡ Two = version-same c d head ∙ two in
-    let old : FillsSlots (area_in Two capacity area (length d)) d records
-    = subst (λ (v : Version). FillsSlots (area_in v capacity area (length d)) d records) two stands.fills in
+    let form : form_in c ≡ Many = form-same c d head ∙ two in
+    let old : FillsSlots (area_in Many capacity area (length d)) d records
+    = subst (λ (v : Form). FillsSlots (area_in v capacity area (length d)) d records) two stands.fills in
     let room = old.room in
-    let reach : area_begin Two capacity (suc area) ≤ length c = omega (arith, front.long) in
-    let fills : FillsSlots (area_in Two capacity area (length c)) c records
-    = fills-moved (area_in Two capacity area (length d)) (area_in Two capacity area (length c)) d c records old
+    let reach : area_begin Many capacity (suc area) ≤ length c = omega (arith, front.long) in
+    let fills : FillsSlots (area_in Many capacity area (length c)) c records
+    = fills-moved (area_in Many capacity area (length d)) (area_in Many capacity area (length c)) d c records old
     (omega arith) (area-whole capacity area c reach) reach
-    (λ k i lt within. front.same (area_begin Two capacity area + 64 * k + i) (omega arith)) room
-    (λ k le lt is. old.shut k le lt (sym (front.same (area_begin Two capacity area + 64 * k) (omega arith)) ∙ is)) in (
+    (λ k i lt within. front.same (area_begin Many capacity area + 64 * k + i) (omega arith)) room
+    (λ k le lt is. old.shut k le lt (sym (front.same (area_begin Many capacity area + 64 * k) (omega arith)) ∙ is)) in (
       record {
         head = header-same header c d head stands.head;
-        fills = subst (λ (v : Version). FillsSlots (area_in v capacity (live_area c) (length c)) c records) (sym version)
-            (subst (λ (n : ℕ). FillsSlots (area_in Two capacity n (length c)) c records) (sym live) fills);
+        fills = subst (λ (v : Form). FillsSlots (area_in v capacity (live_area c) (length c)) c records) (sym form)
+            (subst (λ (n : ℕ). FillsSlots (area_in Many capacity n (length c)) c records) (sym live) fills);
       },
-      version,
+      form,
       live,
     )
 
@@ -150,16 +150,16 @@ pub record IsReady (place : ℕ) (header : Header) (records : List Record) (d : 
   pub room : length records < (slots_in header d).slots
 
 pub ready-low : (place : ℕ) (header : Header) (records : List Record) (d : List ℕ) → IsReady place header records d → 128 ≤ place
-ready-low place header records d ready = omega (arith, ready.here, begin-low (version_in d) header.capacity (live_area d))
+ready-low place header records d ready = omega (arith, ready.here, begin-low (form_in d) header.capacity (live_area d))
 
 pub ready-long : (place : ℕ) (header : Header) (records : List Record) (d : List ℕ) → IsReady place header records d → place + 64 ≤ length d
 ready-long place header records d ready = let room = ready.room in omega (arith, ready.here, room, in-area header records d ready.stands)
 
 -- two files with one header and one length have the same slots
 pub same-slots : (header : Header) (c d : List ℕ) → take 128 c ≡ take 128 d → length c ≡ length d → slots_in header c ≡ slots_in header d
-same-slots header c d head long = ap (λ (v : Version). area_in v header.capacity (live_area c) (length c)) (version-same c d head)
-    ∙ ap (λ (n : ℕ). area_in (version_in d) header.capacity n (length c)) (live-same c d head)
-    ∙ ap (area_in (version_in d) header.capacity (live_area d)) long
+same-slots header c d head long = ap (λ (v : Form). area_in v header.capacity (live_area c) (length c)) (form-same c d head)
+    ∙ ap (λ (n : ℕ). area_in (form_in d) header.capacity n (length c)) (live-same c d head)
+    ∙ ap (area_in (form_in d) header.capacity (live_area d)) long
 
 module _ (place : ℕ) (header : Header) (records : List Record) (d c : List ℕ) (ready : IsReady place header records d) (but : SameBut place d c) where
   pub header-kept : take 128 c ≡ take 128 d

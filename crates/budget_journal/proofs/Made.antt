@@ -2,7 +2,7 @@
 use Rattle.std.proofs.Common.{◌≡◌, ◌≢◌, ℕ, zero, suc, ◌+◌, ◌-◌, ◌*◌, ◌<◌, ◌≤◌, List, [], ◌∷◌, ◌++◌, length, drop, take, slice_index, replicate, refl, sym, ◌∙◌, ap, subst, arith, inl, inr, ⊎_elim, append_assoc, length-drop, Option, None, Some, Result, Ok, Err, OnErr}
 use Rattle.std.proofs.lemmas.Bool.{cases_lt}
 use Rattle.std.proofs.lemmas.Option.{same_Some}
-use Rattle.std.proofs.lemmas.List.{length-set, get_or-drop, get_or_past, length-replicate}
+use Rattle.std.proofs.lemmas.List.{get_or-drop, get_or_past, length-replicate}
 use Rattle.outside_disks.specs.Disks.{Step, Trace, after, noted, seen_of, overlaid, WhereTold, MayHaveWritten}
 use Rattle.outside_disks.specs.Disks.Step.{Wrote, Synced}
 use Rattle.outside_disks.proofs.Told.{told-is, told-none, told-both, same-map}
@@ -10,11 +10,11 @@ use Rattle.outside_disks.proofs.Overlaid.{length-overlaid, overlaid-before, over
 use Rattle.journal_records.specs.Encoding.{gate, encoded_header, IsHeader}
 use Rattle.journal_records.specs.declared.records.Header.{Header}
 use Rattle.journal_records.proofs.Shapes.{length-encoded_header}
-use Rattle.budget_journal.specs.declared.version.Version.TheVariants.{Two}
+use Rattle.budget_journal.specs.declared.form.Form.TheVariants.{Many}
 use Rattle.budget_journal.specs.Areas.{area_in, area_gate, HasGates}
-use Rattle.budget_journal.specs.Journals.{FillsSlots, header_as, Stands, IsAtRest, TellsSome}
+use Rattle.budget_journal.specs.Journals.{FillsSlots, Stands, IsAtRest, TellsSome}
 use Rattle.budget_journal.specs.Making.{AreZeros, first_bytes, AreBehindZeros, header_steps, MakesJournal, AreFirst, Begins, BeginsSome, AddsSteps}
-use Rattle.budget_journal.proofs.Gates.{all-zero, piece-moved, no-gate}
+use Rattle.budget_journal.proofs.Gates.{all-zero, piece-moved, no-gate, version-known, many-from}
 use Rattle.budget_journal.proofs.Added.{lives-stands}
 
 -- so many zeros are seen
@@ -114,12 +114,12 @@ adds-tried P Q place size kept tried old mid new adds (inr wrote) =
 
 -- ---- the header
 
-pub length-header : (header : Header) → IsHeader header → length (header_as Two header) ≡ 128
-length-header header valid = length-set (encoded_header header) 9 2 ∙ length-encoded_header header valid
+pub length-header : (header : Header) → IsHeader header → length (encoded_header header) ≡ 128
+length-header header valid = length-encoded_header header valid
 
 -- ---- the file
 
-module _ (header : Header) (valid : IsHeader header) (body : List ℕ) (is : body ≡ drop 1 (header_as Two header)) (t : Trace)
+module _ (header : Header) (valid : IsHeader header) (grown : 2 ≤ header.version) (body : List ℕ) (is : body ≡ drop 1 (encoded_header header)) (t : Trace)
     (zeroed : IsZeroed (first_bytes header) t) where
   abbrev first : List ℕ
   first = overlaid (seen_of t) 1 body
@@ -128,7 +128,7 @@ module _ (header : Header) (valid : IsHeader header) (body : List ℕ) (is : bod
   whole = overlaid first 0 (gate ∷ [])
 
   length-body : length body ≡ 127
-  length-body = omega (arith, ap length is, length-drop 1 (header_as Two header), length-header header valid)
+  length-body = omega (arith, ap length is, length-drop 1 (encoded_header header), length-header header valid)
 
   length-first : length first ≡ first_bytes header
   length-first = omega (arith, length-overlaid (seen_of t) 1 body, zeroed.long, length-body)
@@ -136,19 +136,19 @@ module _ (header : Header) (valid : IsHeader header) (body : List ℕ) (is : bod
   length-whole : length whole ≡ first_bytes header
   length-whole = omega (arith, length-overlaid first 0 (gate ∷ []), length-first)
 
-  at : (i : ℕ) → i < 128 → slice_index whole i ≡ slice_index (header_as Two header) i
+  at : (i : ℕ) → i < 128 → slice_index whole i ≡ slice_index (encoded_header header) i
   at zero lt = overlaid-at first 0 (gate ∷ []) 0 (omega arith)
   at (suc i) lt =
       let here : 1 + i ≡ suc i = omega arith in
       overlaid-behind first 0 (gate ∷ []) (suc i) (omega arith) ∙ ap (slice_index first) (sym here)
       ∙ overlaid-at (seen_of t) 1 body i (omega (arith, length-body))
-      ∙ ap (λ (b : List ℕ). slice_index b i) is ∙ get_or-drop 1 (header_as Two header) i 0 ∙ ap (slice_index (header_as Two header)) here
+      ∙ ap (λ (b : List ℕ). slice_index b i) is ∙ get_or-drop 1 (encoded_header header) i 0 ∙ ap (slice_index (encoded_header header)) here
 
   past : (i : ℕ) → 128 ≤ i → slice_index whole i ≡ 0
   past i le = overlaid-behind first 0 (gate ∷ []) i (omega arith) ∙ overlaid-behind (seen_of t) 1 body i (omega (arith, length-body)) ∙ zeroed.zeros i
 
-  fields : take 97 whole ≡ take 97 (header_as Two header)
-  fields = piece-moved whole (header_as Two header) 0 0 97 (omega (arith, length-whole))
+  fields : take 97 whole ≡ take 97 (encoded_header header)
+  fields = piece-moved whole (encoded_header header) 0 0 97 (omega (arith, length-whole))
       (omega (arith, length-header header valid)) (λ i lt. at (0 + i) (omega arith))
 
   not-open : (byte : ℕ) → byte ≡ 0 → byte ≢ gate
@@ -158,10 +158,10 @@ module _ (header : Header) (valid : IsHeader header) (body : List ℕ) (is : bod
   gates = record {
     there = λ earlier lt. absurd (omega arith);
     opened = λ n low high. absurd (omega arith);
-    shut = λ n low high. not-open (area_gate whole n) (at (96 + n) (omega arith) ∙ no-gate Two header valid.digest.0 n low);
+    shut = λ n low high. not-open (area_gate whole n) (at (96 + n) (omega arith) ∙ no-gate header valid.digest.0 n low);
   }
 
-  fills : FillsSlots (area_in Two header.capacity 0 (length whole)) whole []
+  fills : FillsSlots (area_in Many header.capacity 0 (length whole)) whole []
   fills = record {
     whole = omega (arith, length-whole);
     room = omega arith;
@@ -170,13 +170,19 @@ module _ (header : Header) (valid : IsHeader header) (body : List ℕ) (is : bod
   }
 
   pub made : Stands header [] whole
-  made = (lives-stands 0 header [] whole valid.capacity (record { fields = fields; gates = gates; fills = fills })).0
+  made = (lives-stands 0 header [] whole valid.capacity (record {
+    fields = fields;
+    known = version-known header.version valid.version;
+    many = many-from header.version grown;
+    gates = gates;
+    fills = fills;
+  })).0
 
 -- ---- the steps
 
 module _ (header : Header) where
   abbrev behind_gate : List ℕ
-  behind_gate = drop 1 (header_as Two header)
+  behind_gate = drop 1 (encoded_header header)
 
   abbrev in_header : List Step
   in_header = Synced ∷ Wrote 1 behind_gate ∷ Synced ∷ []
@@ -234,7 +240,7 @@ pub told-nothing : (header : Header) (old new : Option Trace) → new ≡ old �
 told-nothing header old new same = adds-kept (BeginsSome (MakesJournal header)) (BeginsSome (MakesJournal header)) (λ more some. some) old old new
     (adds-none (BeginsSome (MakesJournal header)) (zeros-first header [] (zeros-begun 0 (first_bytes header) (omega arith) [] refl)) old) same
 
-module _ (header : Header) (n : ℕ) (whole : n ≡ first_bytes header) (body : List ℕ) (is : body ≡ drop 1 (header_as Two header))
+module _ (header : Header) (n : ℕ) (whole : n ≡ first_bytes header) (body : List ℕ) (is : body ≡ drop 1 (encoded_header header))
     (old asked zeroed synced first new : Option Trace) (begun : asked ≡ old) where
   since-old : (P : List Step → Type 0) → WhereTold (AddsSteps P) asked zeroed → WhereTold (AddsSteps P) old zeroed
   since-old P = subst (λ (o : Option Trace). WhereTold (AddsSteps P) o zeroed) begun
@@ -266,12 +272,12 @@ module _ (header : Header) (n : ℕ) (whole : n ≡ first_bytes header) (body : 
       → WhereTold (AddsSteps (AreBehindZeros header (in_header header))) old first
   told-header adds s f =
       let written : Option Trace = noted (Wrote 1 body) synced in
-      let same : written ≡ noted (Wrote 1 (drop 1 (header_as Two header))) synced = ap (λ (b : List ℕ). noted (Wrote 1 b) synced) is in
-      adds-step (AreBehindZeros header (Wrote 1 (drop 1 (header_as Two header)) ∷ Synced ∷ [])) (AreBehindZeros header (in_header header)) Synced
-      (after-step header (Wrote 1 (drop 1 (header_as Two header)) ∷ Synced ∷ []) Synced) old written first
-      (adds-step (AreBehindZeros header (Synced ∷ [])) (AreBehindZeros header (Wrote 1 (drop 1 (header_as Two header)) ∷ Synced ∷ []))
-      (Wrote 1 (drop 1 (header_as Two header)))
-      (after-step header (Synced ∷ []) (Wrote 1 (drop 1 (header_as Two header)))) old synced written (told-synced adds s) same) f
+      let same : written ≡ noted (Wrote 1 (drop 1 (encoded_header header))) synced = ap (λ (b : List ℕ). noted (Wrote 1 b) synced) is in
+      adds-step (AreBehindZeros header (Wrote 1 (drop 1 (encoded_header header)) ∷ Synced ∷ [])) (AreBehindZeros header (in_header header)) Synced
+      (after-step header (Wrote 1 (drop 1 (encoded_header header)) ∷ Synced ∷ []) Synced) old written first
+      (adds-step (AreBehindZeros header (Synced ∷ [])) (AreBehindZeros header (Wrote 1 (drop 1 (encoded_header header)) ∷ Synced ∷ []))
+      (Wrote 1 (drop 1 (encoded_header header)))
+      (after-step header (Synced ∷ []) (Wrote 1 (drop 1 (encoded_header header)))) old synced written (told-synced adds s) same) f
 
   pub told-gate-tried : WhereTold (AddsSteps (λ zeros. AreZeros zeros n)) asked zeroed → synced ≡ noted Synced zeroed
       → first ≡ noted Synced (noted (Wrote 1 body) synced) → MayHaveWritten 0 1 first new → WhereTold (AddsSteps (BeginsSome (MakesJournal header))) old new
@@ -288,17 +294,17 @@ module _ (header : Header) (n : ℕ) (whole : n ≡ first_bytes header) (body : 
       (after-step header (in_header header) (Wrote 0 (gate ∷ [])))
       old first (noted (Wrote 0 (gate ∷ [])) first) (told-header adds s f) refl) w
 
-pub told-made : (header : Header) → IsHeader header → (t : Trace) → seen_of t ≡ [] → (old new : Option Trace) → old ≡ Some t
+pub told-made : (header : Header) → IsHeader header → 2 ≤ header.version → (t : Trace) → seen_of t ≡ [] → (old new : Option Trace) → old ≡ Some t
     → WhereTold (AddsSteps (MakesJournal header)) old new → TellsSome (IsAtRest header []) new
-told-made header valid t empty None new is adds = absurd cc
-told-made header valid t empty (Some s) None is adds = absurd adds
-told-made header valid t empty (Some s) (Some u) is adds =
+told-made header valid grown t empty None new is adds = absurd cc
+told-made header valid grown t empty (Some s) None is adds = absurd adds
+told-made header valid grown t empty (Some s) (Some u) is adds =
     let zeros : List Step = adds.1.0 in
     let same : s ≡ t = same_Some s t is in
     let seen_none : seen_of s ≡ [] = ap seen_of same ∙ empty in
     subst (IsAtRest header []) (sym (adds.2 ∙ ap (λ (steps : List Step). record { start = s.start; steps = steps ++ s.steps }) adds.1.2))
     (record {
-      stands = made header valid (drop 1 (header_as Two header)) refl (record { start = s.start; steps = zeros ++ s.steps })
+      stands = made header valid grown (drop 1 (encoded_header header)) refl (record { start = s.start; steps = zeros ++ s.steps })
           (zeros-seen zeros (first_bytes header) s adds.1.1 seen_none);
       stable = λ c image. image;
     })

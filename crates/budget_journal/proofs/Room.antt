@@ -7,14 +7,14 @@ use Rattle.outside_disks.proofs.Told.{told-both, told-none}
 use Rattle.outside_disks.proofs.Images.{passes-none, passes-both, passes-weaker}
 use Rattle.journal_records.specs.declared.records.Record.{Record}
 use Rattle.journal_records.specs.declared.records.Header.{Header}
-use Rattle.budget_journal.specs.declared.version.Version.{Version}
-use Rattle.budget_journal.specs.declared.version.Version.TheVariants.{Two}
-use Rattle.budget_journal.specs.Areas.{version_in, area_slots, area_begin, area_in, live_area}
+use Rattle.budget_journal.specs.declared.form.Form.{Form}
+use Rattle.budget_journal.specs.declared.form.Form.TheVariants.{Many}
+use Rattle.budget_journal.specs.Areas.{form_in, area_slots, area_begin, area_in, live_area}
 use Rattle.budget_journal.specs.Journals.{Layout, slots_in, slot_place, Stands, IsBeforeOrAfter, IsAtRest, Mark, IsMarked, Appended, AppendFailed}
 use Rattle.budget_journal.specs.Growth.{IsNextPlace, SlotFilled, SlotFillFailed, IsFull, AreaAdded, AreaAddFailed, RoomMade, RoomNotMade}
 use Rattle.budget_journal.proofs.Geometry.{slots-double, grows}
 use Rattle.budget_journal.proofs.Copied.{told-weaker}
-use Rattle.budget_journal.proofs.Gates.{live-same, version-same}
+use Rattle.budget_journal.proofs.Gates.{live-same, form-same}
 
 -- what holds of a result on both counts
 pub if_ok_both : {T E P : Type 0} {Q R : T → Type 0} (r : Result T E) → OnOk r P → IfOk r Q → ((x : T) → P → Q x → R x) → IfOk r R
@@ -28,38 +28,38 @@ rest-passes header records t rest = passes-none (Stands header records) t
     (λ c image. subst (λ (d : List ℕ). Stands header records d) (sym (rest.stable c image)) rest.stands)
 
 module _ (mark : Mark) where
-  room-here : mark.used < area_slots mark.version mark.capacity mark.area → (t : Trace) → RoomMade mark mark.area t t
+  room-here : mark.used < area_slots mark.form mark.capacity mark.area → (t : Trace) → RoomMade mark mark.area t t
   room-here free t header records rest marked lt = (rest, marked, free, rest-passes header records t rest)
 
-  pub told-room-here : mark.used < area_slots mark.version mark.capacity mark.area → (told : Option Trace) → WhereTold (RoomMade mark mark.area) told told
+  pub told-room-here : mark.used < area_slots mark.form mark.capacity mark.area → (told : Option Trace) → WhereTold (RoomMade mark mark.area) told told
   told-room-here free = told-none (RoomMade mark mark.area) (room-here free)
 
-  module _ (past : area_slots mark.version mark.capacity mark.area ≤ mark.used) (lt : mark.used < mark.capacity) where
-    two : mark.version ≡ Two
-    two = grows mark.version mark.capacity mark.area (omega (arith, past, lt))
+  module _ (past : area_slots mark.form mark.capacity mark.area ≤ mark.used) (lt : mark.used < mark.capacity) where
+    two : mark.form ≡ Many
+    two = grows mark.form mark.capacity mark.area (omega (arith, past, lt))
 
-    past-two : area_slots Two mark.capacity mark.area ≤ mark.used
-    past-two = subst (λ (v : Version). area_slots v mark.capacity mark.area ≤ mark.used) two past
+    past-two : area_slots Many mark.capacity mark.area ≤ mark.used
+    past-two = subst (λ (v : Form). area_slots v mark.capacity mark.area ≤ mark.used) two past
 
     full : (header : Header) (records : List Record) (t : Trace) → IsAtRest header records t → IsMarked mark header records t
         → IsFull mark.capacity mark.area header records t
     full header records t rest marked =
-        let version = marked.version ∙ two in
-        let room : length records ≤ area_slots Two mark.capacity mark.area = subst (λ (c : ℕ). length records ≤ area_slots Two c mark.area) marked.capacity
-        (subst (λ (n : ℕ). length records ≤ area_slots Two header.capacity n) marked.area
-        (subst (λ (v : Version). length records ≤ area_slots v header.capacity (live_area (seen_of t))) version rest.stands.fills.room)) in
+        let form = marked.form ∙ two in
+        let room : length records ≤ area_slots Many mark.capacity mark.area = subst (λ (c : ℕ). length records ≤ area_slots Many c mark.area) marked.capacity
+        (subst (λ (n : ℕ). length records ≤ area_slots Many header.capacity n) marked.area
+        (subst (λ (v : Form). length records ≤ area_slots v header.capacity (live_area (seen_of t))) form rest.stands.fills.room)) in
         let used = marked.used in
         record {
           rest = rest;
-          two = version;
+          two = form;
           capacity_is = marked.capacity;
           live = marked.area;
           full = omega (arith, room, used, past-two);
           more = omega (arith, past-two, lt);
         }
 
-    free-next : mark.used ≤ area_slots Two mark.capacity mark.area → mark.used < area_slots mark.version mark.capacity (suc mark.area)
-    free-next le = subst (λ (v : Version). mark.used < area_slots v mark.capacity (suc mark.area)) (sym two)
+    free-next : mark.used ≤ area_slots Many mark.capacity mark.area → mark.used < area_slots mark.form mark.capacity (suc mark.area)
+    free-next le = subst (λ (v : Form). mark.used < area_slots v mark.capacity (suc mark.area)) (sym two)
         (omega (arith, slots-double mark.capacity mark.area, pow_pos mark.area, past-two, le, lt))
 
     room-added : (t u : Trace) → AreaAdded mark.capacity mark.area t u → RoomMade mark (suc mark.area) t u
@@ -69,7 +69,7 @@ module _ (mark : Mark) where
         let all = is_full.full in
         let used = marked.used in (
           more.0,
-          record { version = more.1 ∙ sym two; capacity = marked.capacity; area = more.2; used = marked.used },
+          record { form = more.1 ∙ sym two; capacity = marked.capacity; area = more.2; used = marked.used },
           free-next (omega (arith, all, used)),
           more.3,
         )
@@ -91,12 +91,12 @@ module _ (mark : Mark) where
 
 -- the slots of a journal that is marked
 marked-slots : (mark : Mark) (header : Header) (records : List Record) (u : Trace) → IsMarked mark header records u
-    → slots_in header (seen_of u) ≡ area_in mark.version mark.capacity mark.area (length (seen_of u))
-marked-slots mark header records u marked = ap (λ (v : Version). area_in v header.capacity (live_area (seen_of u)) (length (seen_of u))) marked.version
-    ∙ ap (λ (c : ℕ). area_in mark.version c (live_area (seen_of u)) (length (seen_of u))) marked.capacity
-    ∙ ap (λ (n : ℕ). area_in mark.version mark.capacity n (length (seen_of u))) marked.area
+    → slots_in header (seen_of u) ≡ area_in mark.form mark.capacity mark.area (length (seen_of u))
+marked-slots mark header records u marked = ap (λ (v : Form). area_in v header.capacity (live_area (seen_of u)) (length (seen_of u))) marked.form
+    ∙ ap (λ (c : ℕ). area_in mark.form c (live_area (seen_of u)) (length (seen_of u))) marked.capacity
+    ∙ ap (λ (n : ℕ). area_in mark.form mark.capacity n (length (seen_of u))) marked.area
 
-module _ (mark : Mark) (next : Record) (area place : ℕ) (here : place ≡ area_begin mark.version mark.capacity area + 64 * mark.used) where
+module _ (mark : Mark) (next : Record) (area place : ℕ) (here : place ≡ area_begin mark.form mark.capacity area + 64 * mark.used) where
   abbrev at : Mark
   at = record mark { area = area }
 
@@ -105,7 +105,7 @@ module _ (mark : Mark) (next : Record) (area place : ℕ) (here : place ≡ area
   before-or-after header records t u = passes-weaker (Stands header records) (IsBeforeOrAfter header records next) t u (λ c stands. inl stands)
 
   next-place : (header : Header) (records : List Record) (u : Trace) → IsMarked at header records u
-      → mark.used < area_slots mark.version mark.capacity area → IsNextPlace place header records u
+      → mark.used < area_slots mark.form mark.capacity area → IsNextPlace place header records u
   next-place header records u marked free =
       let used = marked.used in
       let slots = marked-slots at header records u marked in (
@@ -121,7 +121,7 @@ module _ (mark : Mark) (next : Record) (area place : ℕ) (here : place ≡ area
       let used = made.1.used in (
         put.0,
         subst (λ (m : Mark). IsMarked m header (records ++ next ∷ []) v) (sym same) (record {
-          version = version-same (seen_of v) (seen_of u) put.1 ∙ made.1.version;
+          form = form-same (seen_of v) (seen_of u) put.1 ∙ made.1.form;
           capacity = made.1.capacity;
           area = live-same (seen_of v) (seen_of u) put.1 ∙ made.1.area;
           used = omega (arith, length_push records next, used);

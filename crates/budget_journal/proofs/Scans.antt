@@ -15,10 +15,10 @@ use Rattle.budget_journal.specs.declared.opening.OpenFault.{OpenFault}
 use Rattle.budget_journal.specs.declared.opening.OpenFault.TheVariants.{DiskFault, NoMemory, NotInitialised, Changed, Damaged}
 use Rattle.std.specs.declared.alloc.Global.{Global}
 use Rattle.budget_journal.specs.declared.area.Area.{Area}
-use Rattle.budget_journal.specs.declared.version.Version.{Version}
-use Rattle.budget_journal.specs.declared.version.Version.TheVariants.{One, Two}
-use Rattle.budget_journal.specs.Areas.{version_in, area_slots, area_begin, IsArea, area_in, live_area}
-use Rattle.budget_journal.specs.Journals.{Layout, slot_place, slot, gate_of, Holds, IsUnreadable, IsBehindClosed, IsDamaged, FillsSlots, IsFirstDamaged, HasHeader, slots_in, Stands, Mark, IsMarked, Found, IsHeaderFault, IsOpenFault}
+use Rattle.budget_journal.specs.declared.form.Form.{Form}
+use Rattle.budget_journal.specs.declared.form.Form.TheVariants.{One, Many}
+use Rattle.budget_journal.specs.Areas.{form_in, area_slots, area_begin, IsArea, area_in, live_area}
+use Rattle.budget_journal.specs.Journals.{Layout, slot_place, slot, gate_of, Holds, IsUnreadable, IsBehindClosed, IsDamaged, FillsSlots, IsFirstDamaged, as_found, HasHeader, slots_in, Stands, Mark, IsMarked, Found, IsHeaderFault, IsOpenFault}
 use Rattle.budget_journal.specs.Opening.{HeaderRead, SlotRead, IsSlotFault, Scanned, SlotsRead, JournalRead}
 use Rattle.budget_journal.proofs.Fills.{pushed-cases}
 use Rattle.budget_journal.proofs.Geometry.{size-whole}
@@ -148,29 +148,29 @@ sound layout bytes records filled long k (inr (inr damaged)) =
     below (inr is) = is.0
 
 -- a live area whose slots are wholly there is in the file
-reaches : (version : Version) (capacity area : ℕ) (bytes : List ℕ) (records : List Record) → IsArea version capacity area → 128 ≤ length bytes
-    → Scanned (area_in version capacity area (length bytes)) bytes (area_slots version capacity area) records
-    → area_begin version capacity (suc area) ≤ length bytes
-reaches version capacity area bytes records is long scanned = ⊎_elim
-    (λ some. omega (arith, scanned.within (area_slots version capacity area - 1) (omega (arith, some)), some))
+reaches : (form : Form) (capacity area : ℕ) (bytes : List ℕ) (records : List Record) → IsArea form capacity area → 128 ≤ length bytes
+    → Scanned (area_in form capacity area (length bytes)) bytes (area_slots form capacity area) records
+    → area_begin form capacity (suc area) ≤ length bytes
+reaches form capacity area bytes records is long scanned = ⊎_elim
+    (λ some. omega (arith, scanned.within (area_slots form capacity area - 1) (omega (arith, some)), some))
     (λ none. by-area area is none)
-    (cases_lt 0 (area_slots version capacity area))
+    (cases_lt 0 (area_slots form capacity area))
   where
-    some-slots : (v : Version) (c a : ℕ) → area_slots v c a < c → area_slots v c (suc a) ≤ 0 → ⊥
+    some-slots : (v : Form) (c a : ℕ) → area_slots v c a < c → area_slots v c (suc a) ≤ 0 → ⊥
     some-slots One c a fewer none = omega (arith, fewer)
-    some-slots Two c a fewer none = omega (arith, fewer, none, pow_pos (suc a))
+    some-slots Many c a fewer none = omega (arith, fewer, none, pow_pos (suc a))
 
-    by-area : (a : ℕ) → IsArea version capacity a → area_slots version capacity a ≤ 0 → area_begin version capacity (suc a) ≤ length bytes
+    by-area : (a : ℕ) → IsArea form capacity a → area_slots form capacity a ≤ 0 → area_begin form capacity (suc a) ≤ length bytes
     by-area zero there none = omega (arith, none, long)
-    by-area (suc a) there none = absurd (some-slots version capacity a (there a (omega arith)) none)
+    by-area (suc a) there none = absurd (some-slots form capacity a (there a (omega arith)) none)
 
-pub area-read : (version : Version) (capacity area : ℕ) (bytes : List ℕ) (records : List Record) → IsArea version capacity area → 128 ≤ length bytes
-    → length bytes ≤ (area_in version capacity area (length bytes)).size
-    → Scanned (area_in version capacity area (length bytes)) bytes (area_slots version capacity area) records
-    → FillsSlots (area_in version capacity area (length bytes)) bytes records
-area-read version capacity area bytes records is long short scanned =
-    fills (area_in version capacity area (length bytes)) bytes (area_slots version capacity area) records scanned refl
-    (size-whole version (area_begin version capacity (suc area)) (length bytes) (reaches version capacity area bytes records is long scanned) short)
+pub area-read : (form : Form) (capacity area : ℕ) (bytes : List ℕ) (records : List Record) → IsArea form capacity area → 128 ≤ length bytes
+    → length bytes ≤ (area_in form capacity area (length bytes)).size
+    → Scanned (area_in form capacity area (length bytes)) bytes (area_slots form capacity area) records
+    → FillsSlots (area_in form capacity area (length bytes)) bytes records
+area-read form capacity area bytes records is long short scanned =
+    fills (area_in form capacity area (length bytes)) bytes (area_slots form capacity area) records scanned refl
+    (size-whole form (area_begin form capacity (suc area)) (length bytes) (reaches form capacity area bytes records is long scanned) short)
 
 -- ---- where it is told
 
@@ -181,12 +181,12 @@ told-found header records (Some t) new synced stands =
     subst (λ (o : Option Trace). WhereTold (Found header records) (Some t) o) (sym synced) (refl, record { stands = stands t refl; stable = λ c image. image })
 
 pub told-marked : (header : Header) (records : List Record) (mark : Mark) (old new : Option Trace) → header.capacity ≡ mark.capacity → length records ≡ mark.used
-    → new ≡ noted Synced old → ((t : Trace) → old ≡ Some t → (mark.version ≡ version_in (seen_of t)) × (mark.area ≡ live_area (seen_of t)))
+    → new ≡ noted Synced old → ((t : Trace) → old ≡ Some t → (mark.form ≡ form_in (seen_of t)) × (mark.area ≡ live_area (seen_of t)))
     → IfSome new (IsMarked mark header records)
 told-marked header records mark None new capacity used synced is = subst (λ (o : Option Trace). IfSome o (IsMarked mark header records)) (sym synced) tt
 told-marked header records mark (Some t) new capacity used synced is =
     subst (λ (o : Option Trace). IfSome o (IsMarked mark header records)) (sym synced)
-    (record { version = sym (is t refl).0; capacity = capacity; area = sym (is t refl).1; used = used })
+    (record { form = sym (is t refl).0; capacity = capacity; area = sym (is t refl).1; used = used })
 
 -- ---- the header and then the slots
 
@@ -197,7 +197,7 @@ header-fault header bytes (NotInitialised n) is = is
 header-fault header bytes (Changed kept found) is = is
 header-fault header bytes (Damaged k) is = absurd is
 
-slot-open-fault : (header : Header) (bytes : List ℕ) (fault : OpenFault) → 128 ≤ length bytes → HasHeader header bytes
+slot-open-fault : (header : Header) (bytes : List ℕ) (fault : OpenFault) → 128 ≤ length bytes → HasHeader (as_found header bytes) bytes
     → IsSlotFault (slots_in header bytes) bytes fault → IsOpenFault header bytes fault
 slot-open-fault header bytes DiskFault long head is = tt
 slot-open-fault header bytes NoMemory long head is = tt
@@ -205,21 +205,21 @@ slot-open-fault header bytes (NotInitialised n) long head is = absurd is
 slot-open-fault header bytes (Changed kept found) long head is = absurd is
 slot-open-fault header bytes (Damaged k) long head is = (long, head, is)
 
-module _ (header : Header) (bytes : List ℕ) (size : ℕ) (live : Area) (read : HeaderRead header bytes (Ok (size, live))) where
+module _ (header : Header) (bytes : List ℕ) (size : ℕ) (live : Area) (version : ℕ) (read : HeaderRead header bytes (Ok (size, live, version))) where
   -- what was read of the live area's slots, by the words of the definitions
-  by-header : (P : Layout → Type 0) → P (area_in live.version live.capacity live.number size) → P (slots_in header bytes)
-  by-header P holds = subst (λ (n : ℕ). P (area_in (version_in bytes) header.capacity (live_area bytes) n)) read.0
-      (subst (λ (a : ℕ). P (area_in (version_in bytes) header.capacity a size)) read.5
-      (subst (λ (c : ℕ). P (area_in (version_in bytes) c live.number size)) read.4
-      (subst (λ (v : Version). P (area_in v live.capacity live.number size)) read.3 holds)))
+  by-header : (P : Layout → Type 0) → P (area_in live.form live.capacity live.number size) → P (slots_in header bytes)
+  by-header P holds = subst (λ (n : ℕ). P (area_in (form_in bytes) header.capacity (live_area bytes) n)) read.0
+      (subst (λ (a : ℕ). P (area_in (form_in bytes) header.capacity a size)) read.5
+      (subst (λ (c : ℕ). P (area_in (form_in bytes) c live.number size)) read.4
+      (subst (λ (v : Form). P (area_in v live.capacity live.number size)) read.3 holds)))
 
-  pub read-fault : (fault : OpenFault) → IsSlotFault (area_in live.version live.capacity live.number size) bytes fault → IsOpenFault header bytes fault
+  pub read-fault : (fault : OpenFault) → IsSlotFault (area_in live.form live.capacity live.number size) bytes fault → IsOpenFault header bytes fault
   read-fault fault is = slot-open-fault header bytes fault read.1 read.2 (by-header (λ layout. IsSlotFault layout bytes fault) is)
 
-  pub read-records : (records : Vec Record Global) → FillsSlots (area_in live.version live.capacity live.number size) bytes records.items
-      → Stands header records.items bytes × (live.version ≡ version_in bytes) × (live.number ≡ live_area bytes)
+  pub read-records : (records : Vec Record Global) → FillsSlots (area_in live.form live.capacity live.number size) bytes records.items
+      → Stands (record header { version = version }) records.items bytes × (live.form ≡ form_in bytes) × (live.number ≡ live_area bytes)
   read-records records filled = (
-    record { head = read.2; fills = by-header (λ layout. FillsSlots layout bytes records.items) filled },
+    record { head = subst (λ (v : ℕ). HasHeader (record header { version = v }) bytes) (sym read.6) read.2; fills = by-header (λ layout. FillsSlots layout bytes records.items) filled },
     read.3,
     read.5,
   )

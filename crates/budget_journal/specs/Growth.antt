@@ -4,8 +4,8 @@ use Rattle.outside_disks.specs.Disks.{Trace, after, seen_of, Gives, Only, Passes
 use Rattle.outside_disks.specs.Disks.Step.{Wrote}
 use Rattle.journal_records.specs.declared.records.Record.{Record}
 use Rattle.journal_records.specs.declared.records.Header.{Header}
-use Rattle.budget_journal.specs.declared.version.Version.TheVariants.{Two}
-use Rattle.budget_journal.specs.Areas.{version_in, area_slots, live_area}
+use Rattle.budget_journal.specs.declared.form.Form.TheVariants.{Many}
+use Rattle.budget_journal.specs.Areas.{form_in, area_slots, live_area}
 use Rattle.budget_journal.specs.Journals.{slot_place, slots_in, Stands, IsBeforeOrAfter, IsAtRest, Mark, IsMarked}
 
 -- ---- a slot that is filled
@@ -58,16 +58,16 @@ AreaCopyFailed begin slots t u = begin + 64 * slots ≤ length (seen_of t) → O
 -- A full live area with fewer slots than the capacity, in version 2.
 pub record IsFull (capacity area : ℕ) (header : Header) (records : List Record) (t : Trace) : Type 0 where
   pub rest : IsAtRest header records t
-  pub two : version_in (seen_of t) ≡ Two
+  pub two : form_in (seen_of t) ≡ Many
   pub capacity_is : header.capacity ≡ capacity
   pub live : live_area (seen_of t) ≡ area
-  pub full : length records ≡ area_slots Two capacity area
-  pub more : area_slots Two capacity area < capacity
+  pub full : length records ≡ area_slots Many capacity area
+  pub more : area_slots Many capacity area < capacity
 
 -- The next area is live, with the same records, and no stop left anything else.
 abbrev pub AreaAdded : (capacity area : ℕ) → Trace → Trace → Type 0
 AreaAdded capacity area t u = (header : Header) (records : List Record) → IsFull capacity area header records t
-    → IsAtRest header records u × (version_in (seen_of u) ≡ Two) × (live_area (seen_of u) ≡ suc area) × Passes (Stands header records) t u
+    → IsAtRest header records u × (form_in (seen_of u) ≡ Many) × (live_area (seen_of u) ≡ suc area) × Passes (Stands header records) t u
 
 abbrev pub AreaAddFailed : (capacity area : ℕ) → Trace → Trace → Type 0
 AreaAddFailed capacity area t u = (header : Header) (records : List Record) → IsFull capacity area header records t → Passes (Stands header records) t u
@@ -75,7 +75,7 @@ AreaAddFailed capacity area t u = (header : Header) (records : List Record) → 
 -- The area with this number is live and has a free slot, with the same records, and no stop left anything else.
 abbrev pub RoomMade : Mark → (area : ℕ) → Trace → Trace → Type 0
 RoomMade mark area t u = (header : Header) (records : List Record) → IsAtRest header records t → IsMarked mark header records t → mark.used < mark.capacity
-    → IsAtRest header records u × IsMarked (record mark { area = area }) header records u × (mark.used < area_slots mark.version mark.capacity area)
+    → IsAtRest header records u × IsMarked (record mark { area = area }) header records u × (mark.used < area_slots mark.form mark.capacity area)
     × Passes (Stands header records) t u
 
 abbrev pub RoomNotMade : Mark → Trace → Trace → Type 0

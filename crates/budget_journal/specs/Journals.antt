@@ -1,5 +1,5 @@
 -- What the bytes of a journal stand for.
-use Rattle.std.specs.Prelude.{◌≡◌, ◌≢◌, ◌⊎◌, ℕ, ◌<◌, ◌≤◌, List, [], ◌∷◌, ◌++◌, length, take, slice_index, slice_set, Option, None, Some, Bool, ⊤}
+use Rattle.std.specs.Prelude.{◌≡◌, ◌≢◌, ◌⊎◌, ℕ, ◌<◌, ◌≤◌, List, [], ◌∷◌, ◌++◌, length, take, slice_index, Option, None, Some, Bool, ⊤}
 use Rattle.outside_disks.specs.Disks.{Trace, after, noted, seen_of, Only, Passes}
 use Rattle.outside_disks.specs.Disks.Step.{Synced}
 use Rattle.journal_records.specs.Encoding.{gate, encoded_header}
@@ -9,33 +9,34 @@ use Rattle.budget_journal.specs.declared.area.Area.{Area}
 use Rattle.budget_journal.specs.declared.journal.Journal.{Journal}
 use Rattle.budget_journal.specs.declared.opening.OpenFault.{OpenFault}
 use Rattle.budget_journal.specs.declared.opening.OpenFault.TheVariants.{NotInitialised, Changed, Damaged}
-use Rattle.budget_journal.specs.declared.version.Version.{Version}
-use Rattle.budget_journal.specs.declared.version.Version.TheVariants.{One, Two}
-use Rattle.budget_journal.specs.Areas.{version_byte, version_in, area_in, live_area, HasGates, IsStray}
+use Rattle.budget_journal.specs.declared.form.Form.{Form}
+use Rattle.budget_journal.specs.declared.form.Form.TheVariants.{One, Many}
+use Rattle.budget_journal.specs.Areas.{version_by, version_in, form_in, area_in, live_area, HasGates, IsStray}
 pub use Rattle.budget_journal.specs.Slots.{Layout, slot_place, slot, gate_of, Holds, FillsSlots, IsTornOff, IsBeyond, IsUnreadable, IsBehindClosed, IsDamaged, IsFirstDamaged}
 
 -- ---- the header
 
--- the header of a version, in which no area's gate is open
-abbrev pub header_as : Version → Header → List ℕ
-header_as version header = slice_set (encoded_header header) 9 (version_byte version)
-
--- The bytes begin with the header of version 2, but for bytes 97 to 127, in which the gates of areas are in order.
+-- The bytes begin with the header of a journal with many areas, but for bytes 97 to 127, in which the gates of areas are in order.
 pub record HasGrownHeader (header : Header) (bytes : List ℕ) : Type 0 where
-  pub fields : take 97 bytes ≡ take 97 (header_as Two header)
+  pub fields : take 97 bytes ≡ take 97 (encoded_header header)
+  pub known : version_by header.version ≡ header.version
   pub gates : HasGates header.capacity (live_area bytes) bytes
 
-abbrev pub HasHeaderOf : Version → Header → List ℕ → Type 0
-HasHeaderOf One header bytes = take 128 bytes ≡ header_as One header
-HasHeaderOf Two header bytes = HasGrownHeader header bytes
+abbrev pub HasHeaderOf : Form → Header → List ℕ → Type 0
+HasHeaderOf One header bytes = take 128 bytes ≡ encoded_header header
+HasHeaderOf Many header bytes = HasGrownHeader header bytes
+
+-- the header that is looked for in these bytes: in the version that they name
+abbrev pub as_found : Header → List ℕ → Header
+as_found header bytes = record header { version = version_in bytes }
 
 -- The bytes begin with this header, by the rules of the version that is found there.
 abbrev pub HasHeader : Header → List ℕ → Type 0
-HasHeader header bytes = HasHeaderOf (version_in bytes) header bytes
+HasHeader header bytes = HasHeaderOf (form_in bytes) header bytes
 
 -- The slots that the header found on the disk gives: those of the live area. Version 1 has zeros there, and area 0 alone.
 abbrev pub slots_in : Header → List ℕ → Layout
-slots_in header bytes = area_in (version_in bytes) header.capacity (live_area bytes) (length bytes)
+slots_in header bytes = area_in (form_in bytes) header.capacity (live_area bytes) (length bytes)
 
 -- ---- what bytes stand for
 
@@ -58,15 +59,15 @@ pub record IsAtRest (header : Header) (records : List Record) (t : Trace) : Type
 
 -- ---- a journal in the program
 
--- Where a journal is: its version, how much it may hold, its live area, and how many records it has.
+-- Where a journal is: how its slots lie, how much it may hold, its live area, and how many records it has.
 pub record Mark : Type 0 where
-  pub version : Version
+  pub form : Form
   pub capacity : ℕ
   pub area : ℕ
   pub used : ℕ
 
 abbrev pub mark_at : Area → ℕ → Mark
-mark_at area used = record { version = area.version; capacity = area.capacity; area = area.number; used = used }
+mark_at area used = record { form = area.form; capacity = area.capacity; area = area.number; used = used }
 
 module _ {D : Type 0} where
   abbrev pub disk_of : Journal D → D
@@ -84,12 +85,16 @@ module _ {D : Type 0} where
   abbrev pub capacity_of : Journal D → ℕ
   capacity_of journal = journal.area.capacity
 
+  -- the version of its header
+  abbrev pub version_of : Journal D → ℕ
+  version_of journal = journal.version
+
   abbrev pub mark_of : Journal D → Mark
   mark_of journal = mark_at journal.area journal.used
 
 -- a disk with these records is there
 pub record IsMarked (mark : Mark) (header : Header) (records : List Record) (t : Trace) : Type 0 where
-  pub version : version_in (seen_of t) ≡ mark.version
+  pub form : form_in (seen_of t) ≡ mark.form
   pub capacity : header.capacity ≡ mark.capacity
   pub area : live_area (seen_of t) ≡ mark.area
   pub used : length records ≡ mark.used
@@ -109,17 +114,17 @@ AppendFailed mark next t u =
 
 -- ---- opening
 
--- How the header that was found is another one: in version 1 by any byte. In version 2 bytes 97 to 127 don't count, but for a
+-- How the header that was found is another one: in version 1 by any byte. In versions 2 and 3 bytes 97 to 127 don't count, but for a
 -- gate that is open behind one that isn't or for no area.
-abbrev pub Differ : Version → (capacity : ℕ) → (kept found : List ℕ) → Type 0
+abbrev pub Differ : Form → (capacity : ℕ) → (kept found : List ℕ) → Type 0
 Differ One capacity kept found = kept ≢ found
-Differ Two capacity kept found = (take 97 kept ≢ take 97 found) ⊎ ((n : ℕ) × IsStray capacity kept n)
+Differ Many capacity kept found = (take 97 kept ≢ take 97 found) ⊎ ((n : ℕ) × IsStray capacity kept n)
 
 -- why a header wasn't the wanted one
 abbrev pub IsHeaderFault : Header → List ℕ → OpenFault → Type 0
 IsHeaderFault header bytes (NotInitialised n) = (n ≡ length bytes) × ((length bytes < 128) ⊎ (slice_index bytes 0 ≢ gate))
 IsHeaderFault header bytes (Changed kept found) = (128 ≤ length bytes) × (slice_index bytes 0 ≡ gate) × (kept ≡ take 128 bytes) ×
-    (found ≡ header_as (version_in bytes) header) × Differ (version_in bytes) header.capacity kept found
+    (found ≡ encoded_header (as_found header bytes)) × Differ (form_in bytes) header.capacity kept found
 IsHeaderFault header bytes (Damaged k) = ⊥
 IsHeaderFault header bytes _ = ⊤
 
@@ -127,7 +132,7 @@ IsHeaderFault header bytes _ = ⊤
 abbrev pub IsOpenFault : Header → List ℕ → OpenFault → Type 0
 IsOpenFault header bytes (NotInitialised n) = IsHeaderFault header bytes (NotInitialised n)
 IsOpenFault header bytes (Changed kept found) = IsHeaderFault header bytes (Changed kept found)
-IsOpenFault header bytes (Damaged k) = (128 ≤ length bytes) × HasHeader header bytes × IsFirstDamaged (slots_in header bytes) bytes k
+IsOpenFault header bytes (Damaged k) = (128 ≤ length bytes) × HasHeader (as_found header bytes) bytes × IsFirstDamaged (slots_in header bytes) bytes k
 IsOpenFault header bytes _ = ⊤
 
 -- opened: the disk was synced, and is at rest with these records

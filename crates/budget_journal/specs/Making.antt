@@ -2,11 +2,10 @@
 use Rattle.std.specs.Prelude.{◌≡◌, ℕ, ◌+◌, ◌*◌, ◌≤◌, List, [], ◌∷◌, ◌++◌, length, drop, replicate, ⊤}
 use Rattle.outside_disks.specs.Disks.{Step, Trace}
 use Rattle.outside_disks.specs.Disks.Step.{Wrote, Synced}
-use Rattle.journal_records.specs.Encoding.{gate}
+use Rattle.journal_records.specs.Encoding.{gate, encoded_header}
 use Rattle.journal_records.specs.declared.records.Header.{Header}
-use Rattle.budget_journal.specs.declared.version.Version.TheVariants.{Two}
+use Rattle.budget_journal.specs.declared.form.Form.TheVariants.{Many}
 use Rattle.budget_journal.specs.Areas.{area_slots}
-use Rattle.budget_journal.specs.Journals.{header_as}
 
 -- Writes of zeros from the start of a file on, each where the one before it ended: so many bytes. The newest stands first.
 abbrev pub AreZeros : List Step → ℕ → Type 0
@@ -16,7 +15,7 @@ AreZeros (Synced ∷ earlier) n = ⊥
 
 -- the header and area 0
 abbrev pub first_bytes : Header → ℕ
-first_bytes header = 128 + 64 * area_slots Two header.capacity 0
+first_bytes header = 128 + 64 * area_slots Many header.capacity 0
 
 -- behind zeros over the header and area 0, these steps
 abbrev pub AreBehindZeros : Header → (done steps : List Step) → Type 0
@@ -24,9 +23,9 @@ AreBehindZeros header done steps = (zeros : List Step) × AreZeros zeros (first_
 
 -- the header without its gate, and then its gate, each made stable
 abbrev pub header_steps : Header → List Step
-header_steps header = Synced ∷ Wrote 0 (gate ∷ []) ∷ Synced ∷ Wrote 1 (drop 1 (header_as Two header)) ∷ Synced ∷ []
+header_steps header = Synced ∷ Wrote 0 (gate ∷ []) ∷ Synced ∷ Wrote 1 (drop 1 (encoded_header header)) ∷ Synced ∷ []
 
--- A journal is made in version 2: zeros over the header and area 0, the header without its gate, and the gate. Each is stable
+-- A journal with many areas is made: zeros over the header and area 0, the header without its gate, and the gate. Each is stable
 -- before the next is written. The newest step stands first.
 abbrev pub MakesJournal : Header → List Step → Type 0
 MakesJournal header steps = AreBehindZeros header (header_steps header) steps

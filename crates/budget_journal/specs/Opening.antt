@@ -7,22 +7,22 @@ use Rattle.journal_records.specs.declared.records.Header.{Header}
 use Rattle.budget_journal.specs.declared.area.Area.{Area}
 use Rattle.budget_journal.specs.declared.opening.OpenFault.{OpenFault}
 use Rattle.budget_journal.specs.declared.opening.OpenFault.TheVariants.{NotInitialised, Changed, Damaged}
-use Rattle.budget_journal.specs.declared.version.Version.{Version}
-use Rattle.budget_journal.specs.declared.version.Version.TheVariants.{One, Two}
-use Rattle.budget_journal.specs.Areas.{version_in, live_area, HasGates}
-use Rattle.budget_journal.specs.Journals.{Layout, slot_place, slot, gate_of, Holds, FillsSlots, IsFirstDamaged, HasHeader, Stands, IsHeaderFault, IsOpenFault}
+use Rattle.budget_journal.specs.declared.form.Form.{Form}
+use Rattle.budget_journal.specs.declared.form.Form.TheVariants.{One, Many}
+use Rattle.budget_journal.specs.Areas.{version_in, form_in, live_area, HasGates}
+use Rattle.budget_journal.specs.Journals.{Layout, slot_place, slot, gate_of, Holds, FillsSlots, IsFirstDamaged, as_found, HasHeader, Stands, IsHeaderFault, IsOpenFault}
 
 -- ---- the header
 
 -- The header that was found is this one, with this live area.
-abbrev pub AreAlike : Version → (capacity area : ℕ) → (kept found : List ℕ) → Type 0
+abbrev pub AreAlike : Form → (capacity area : ℕ) → (kept found : List ℕ) → Type 0
 AreAlike One capacity area kept found = (kept ≡ found) × (area ≡ 0)
-AreAlike Two capacity area kept found = (take 97 kept ≡ take 97 found) × HasGates capacity area kept
+AreAlike Many capacity area kept found = (take 97 kept ≡ take 97 found) × HasGates capacity area kept
 
--- the header was judged: the length, and the live area
-abbrev pub HeaderRead : Header → List ℕ → Result (ℕ × Area) OpenFault → Type 0
-HeaderRead header bytes (Ok read) = (read.0 ≡ length bytes) × (128 ≤ length bytes) × HasHeader header bytes
-    × (read.1.version ≡ version_in bytes) × (read.1.capacity ≡ header.capacity) × (read.1.number ≡ live_area bytes)
+-- the header was judged: the length, the live area, and the version
+abbrev pub HeaderRead : Header → List ℕ → Result (ℕ × Area × ℕ) OpenFault → Type 0
+HeaderRead header bytes (Ok read) = (read.0 ≡ length bytes) × (128 ≤ length bytes) × HasHeader (as_found header bytes) bytes
+    × (read.1.form ≡ form_in bytes) × (read.1.capacity ≡ header.capacity) × (read.1.number ≡ live_area bytes) × (read.2 ≡ version_in bytes)
 HeaderRead header bytes (Err fault) = IsHeaderFault header bytes fault
 
 -- ---- the slots
@@ -56,7 +56,7 @@ SlotsRead layout bytes (Err fault) = IsSlotFault layout bytes fault
 
 -- ---- the whole
 
--- the live area and its records, or why these weren't read
-abbrev pub JournalRead : Header → List ℕ → Result (Area × Vec Record Global) OpenFault → Type 0
-JournalRead header bytes (Ok read) = Stands header read.1.items bytes × (read.0.version ≡ version_in bytes) × (read.0.number ≡ live_area bytes)
+-- the live area, its records and the version, or why these weren't read
+abbrev pub JournalRead : Header → List ℕ → Result (Area × Vec Record Global × ℕ) OpenFault → Type 0
+JournalRead header bytes (Ok read) = Stands (record header { version = read.2 }) read.1.items bytes × (read.0.form ≡ form_in bytes) × (read.0.number ≡ live_area bytes)
 JournalRead header bytes (Err fault) = IsOpenFault header bytes fault

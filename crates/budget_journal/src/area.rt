@@ -1,26 +1,26 @@
 //! Where the areas of a journal lie.
 
 ghost use Rattle.std.specs.Prelude.{◌≡◌, ◌+◌, ◌*◌, ◌<◌, ◌≤◌, ◌^◌, min};
-ghost use Rattle.budget_journal.specs.declared.version.Version.TheVariants.{Two};
+ghost use Rattle.budget_journal.specs.declared.form.Form.TheVariants.{Many};
 ghost use Rattle.budget_journal.specs.Areas.{area_slots, area_begin, IsArea, area_in};
 
-use crate::version::Version;
+use crate::form::Form;
 
-/// How many slots the first area has in version 2, where the capacity is no less.
+/// How many slots the first of many areas has, where the capacity is no less.
 const FIRST_SLOTS: u32 = 64;
 
 /// One area of a journal: where its slots begin and how many there are.
 #[derive(Clone, Copy)]
 pub(crate) struct Area {
-    pub(crate) version: Version,
+    pub(crate) form: Form,
     /// How many records the journal may hold.
     pub(crate) capacity: u32,
     pub(crate) number: u32,
     pub(crate) begin: u64,
     pub(crate) slots: u32,
-    ghost begins: { begin ≡ area_begin version capacity number },
-    ghost counted: { slots ≡ area_slots version capacity number },
-    ghost there: { IsArea version capacity number },
+    ghost begins: { begin ≡ area_begin form capacity number },
+    ghost counted: { slots ≡ area_slots form capacity number },
+    ghost there: { IsArea form capacity number },
     // areas double, so those before one have fewer slots together
     ghost low: { slots < capacity → begin ≤ 128 + 64 * slots },
     ghost bounded: { begin ≤ 128 + 128 * capacity },
@@ -40,28 +40,28 @@ fn doubled(slots: u32, capacity: u32) -> u32
 }
 
 // How many slots area 0 has.
-fn first_slots(version: Version, capacity: u32) -> u32
-    ensures { result ≡ area_slots version capacity 0 }
+fn first_slots(form: Form, capacity: u32) -> u32
+    ensures { result ≡ area_slots form capacity 0 }
 {
-    match version {
-        Version::One => capacity,
-        Version::Two => FIRST_SLOTS.min(capacity),
+    match form {
+        Form::One => capacity,
+        Form::Many => FIRST_SLOTS.min(capacity),
     }
 }
 
 impl Area {
     /// Area 0, of a journal that may hold so many records.
-    pub(crate) fn first(version: Version, capacity: u32) -> Area
-        ensures version { result.version ≡ version }
+    pub(crate) fn first(form: Form, capacity: u32) -> Area
+        ensures form { result.form ≡ form }
         ensures capacity { result.capacity ≡ capacity }
         ensures number { result.number ≡ 0 }
     {
         Area {
-            version,
+            form,
             capacity,
             number: 0,
             begin: 128,
-            slots: first_slots(version, capacity),
+            slots: first_slots(form, capacity),
         }
     }
 
@@ -69,13 +69,13 @@ impl Area {
     #[tactic(auto, using(crate::proofs::Next::next_slots, crate::proofs::Next::next_begin, crate::proofs::Next::next_there, crate::proofs::Next::next_few))]
     pub(crate) fn next(&self) -> Area
         requires { self.now.slots < self.now.capacity }
-        ensures version { result.version ≡ self.now.version }
+        ensures form { result.form ≡ self.now.form }
         ensures capacity { result.capacity ≡ self.now.capacity }
         ensures number { result.number ≡ self.now.number + 1 }
         ensures behind { result.begin ≡ self.now.begin + 64 * self.now.slots }
     {
         Area {
-            version: self.version,
+            form: self.form,
             capacity: self.capacity,
             number: self.number + 1,
             begin: self.begin + 64 * u64::from(self.slots),
@@ -92,12 +92,12 @@ impl Area {
 
     /// How long a file of so many bytes is to be, where this area is live.
     pub(crate) fn file_size(&self, bytes: u64) -> u64
-        ensures { result ≡ (area_in self.now.version self.now.capacity self.now.number bytes).size }
+        ensures { result ≡ (area_in self.now.form self.now.capacity self.now.number bytes).size }
     {
         let end = self.place(self.slots);
-        match self.version {
-            Version::One => end,
-            Version::Two => bytes.max(end),
+        match self.form {
+            Form::One => end,
+            Form::Many => bytes.max(end),
         }
     }
 }

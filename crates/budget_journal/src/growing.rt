@@ -6,7 +6,7 @@ ghost use Rattle.outside_disks.specs.Disks.{seen_of, noted, Gives, WhereTold, Ma
 ghost use Rattle.outside_disks.specs.Disks.Step.{Wrote, Synced};
 ghost use Rattle.budget_journal.specs.Growth.{SlotCopied, AreaCopied, AreaCopyFailed, AreaAdded, AreaAddFailed, RoomMade, RoomNotMade};
 ghost use Rattle.budget_journal.specs.Journals.{mark_at};
-ghost use Rattle.budget_journal.specs.declared.version.Version.TheVariants.{Two};
+ghost use Rattle.budget_journal.specs.declared.form.Form.TheVariants.{Many};
 
 use crate::area::Area;
 use fz_outside::Failed;
@@ -70,7 +70,7 @@ fn add_area<D: Disk>(disk: &mut D, full: &Area) -> Result<Area, Failed>
     requires { full.now.slots < full.now.capacity }
     ensures added { OnOk result (WhereTold (AreaAdded full.now.capacity full.now.number) (D.trace disk.old) (D.trace disk.new)) }
     ensures refused { OnErr result (WhereTold (AreaAddFailed full.now.capacity full.now.number) (D.trace disk.old) (D.trace disk.new)) }
-    ensures next { IfOk result (λ area. (area.version ≡ full.now.version) × (area.capacity ≡ full.now.capacity) × (area.number ≡ full.now.number + 1)) }
+    ensures next { IfOk result (λ area. (area.form ≡ full.now.form) × (area.capacity ≡ full.now.capacity) × (area.number ≡ full.now.number + 1)) }
     ensures cause { HasCause (D.faults disk.old) (D.faults disk.new) (IsErr result) }
     ensures passed { OnOk result (D.faults disk.new ≡ D.faults disk.old) }
 {
@@ -86,7 +86,7 @@ pub(crate) fn make_room<D: Disk>(disk: &mut D, live: &Area, used: u32) -> Result
     requires { used < live.now.capacity }
     ensures made { IfOk result (λ area. WhereTold (RoomMade (mark_at live.now used) area.number) (D.trace disk.old) (D.trace disk.new)) }
     ensures refused { OnErr result (WhereTold (RoomNotMade (mark_at live.now used)) (D.trace disk.old) (D.trace disk.new)) }
-    ensures version { IfOk result (λ area. area.version ≡ live.now.version) }
+    ensures form { IfOk result (λ area. area.form ≡ live.now.form) }
     ensures capacity { IfOk result (λ area. area.capacity ≡ live.now.capacity) }
     ensures cause { HasCause (D.faults disk.old) (D.faults disk.new) (IsErr result) }
     ensures passed { OnOk result (D.faults disk.new ≡ D.faults disk.old) }

@@ -7,9 +7,8 @@ ghost use Rattle.std.specs.Prelude.{◌≡◌, ◌+◌, ◌<◌, ◌^◌, true, 
 ghost use Rattle.fz_outside.specs.Faults.{HasCause};
 ghost use Rattle.outside_disks.specs.Disks.{WhereTold};
 ghost use Rattle.journal_records.specs.Encoding.{IsValid};
-ghost use Rattle.budget_journal.specs.Areas.{version_byte};
 ghost use Rattle.budget_journal.specs.Growth.{SlotFilled, SlotFillFailed};
-ghost use Rattle.budget_journal.specs.Journals.{Appended, AppendFailed, mark_at, mark_of, disk_of, used, is_closed, capacity_of};
+ghost use Rattle.budget_journal.specs.Journals.{Appended, AppendFailed, mark_at, mark_of, disk_of, used, is_closed, capacity_of, version_of};
 
 use crate::area::Area;
 use crate::growing::{make_room, put_stable};
@@ -38,6 +37,8 @@ pub struct Journal<D: Disk> {
     pub(crate) used: u32,
     /// Whether an append has failed.
     pub(crate) closed: bool,
+    /// The version of its header.
+    pub(crate) version: u8,
 }
 
 // Fills the slot at this place: what stands behind its gate, and then the gate.
@@ -67,7 +68,7 @@ fn add_record<D: Disk>(
     ensures added { IfOk result (λ area. WhereTold (Appended (mark_at live.now used) record_in.now (mark_at area (used + 1)))
         (D.trace disk.old) (D.trace disk.new)) }
     ensures refused { OnErr result (WhereTold (AppendFailed (mark_at live.now used) record_in.now) (D.trace disk.old) (D.trace disk.new)) }
-    ensures version { IfOk result (λ area. area.version ≡ live.now.version) }
+    ensures form { IfOk result (λ area. area.form ≡ live.now.form) }
     ensures capacity { IfOk result (λ area. area.capacity ≡ live.now.capacity) }
     ensures cause { HasCause (D.faults disk.old) (D.faults disk.new) (IsErr result) }
     ensures passed { OnOk result (D.faults disk.new ≡ D.faults disk.old) }
@@ -95,7 +96,7 @@ impl<D: Disk> Journal<D> {
         ensures open { OnOk result (is_closed self.new ≡ false) }
         ensures closed { OnErr result (is_closed self.new ≡ true) }
         ensures counted { OnOk result (used self.new ≡ used self.old + 1) }
-        ensures version { (mark_of self.new).version ≡ (mark_of self.old).version }
+        ensures version { version_of self.new ≡ version_of self.old }
         ensures room { capacity_of self.new ≡ capacity_of self.old }
 
         ensures cause { HasCause (D.faults (disk_of self.old)) (D.faults (disk_of self.new)) (IsErr result) }
@@ -123,9 +124,9 @@ impl<D: Disk> Journal<D> {
 
     /// The version of its header.
     pub fn version(&self) -> u8
-        ensures { result ≡ version_byte (mark_of self.now).version }
+        ensures { result ≡ version_of self.now }
     {
-        self.area.version.byte()
+        self.version
     }
 
     /// Gives the disk back.

@@ -1,26 +1,23 @@
 //! Making a journal on an empty disk.
 
-ghost use Rattle.std.specs.Prelude.{◌≡◌, ◌≢◌, ◌+◌, ◌*◌, Some, ℕ, [], ◌<◌, ◌^◌, length, IsErr, IsErrOf, IfErr, OnOk, OnErr};
+ghost use Rattle.std.specs.Prelude.{◌≡◌, ◌≢◌, ◌+◌, ◌*◌, Some, ℕ, [], ◌<◌, ◌≤◌, ◌^◌, length, IsErr, IsErrOf, IfErr, OnOk, OnErr};
 ghost use Rattle.fz_outside.specs.Faults.{HasCause};
 ghost use Rattle.outside_disks.specs.Disks.{Trace, seen_of, WhereTold};
 ghost use Rattle.journal_records.specs.Encoding.{IsHeader};
-ghost use Rattle.budget_journal.specs.declared.version.Version.TheVariants.{Two};
+ghost use Rattle.budget_journal.specs.declared.form.Form.TheVariants.{Many};
 ghost use Rattle.budget_journal.specs.Areas.{area_slots};
 ghost use Rattle.budget_journal.specs.Journals.{IsAtRest, TellsSome};
 ghost use Rattle.budget_journal.specs.Making.{AreZeros, MakesJournal, BeginsSome, AddsSteps};
 ghost use Rattle.budget_journal.specs.declared.making.InitFault.TheVariants.{DiskFault, AlreadyThere};
 
 use crate::area::Area;
+use crate::form::Form;
 use crate::growing::put_stable;
 use crate::journal::Journal;
-use crate::version::Version;
 use fz_outside::Failed;
-use journal_records::coding::GATE;
+use journal_records::coding::{GATE, encode_header};
 use journal_records::records::Header;
 use outside_disks::disk::Disk;
-
-/// The version of a journal that is made.
-const NEWEST: Version = Version::Two;
 
 /// Why no journal was made.
 #[derive(Clone, Copy, Debug, Drop, PartialEq, Eq)]
@@ -56,17 +53,18 @@ fn put_zeros<D: Disk>(disk: &mut D, pieces: u64) -> Result<(), Failed>
 
 // How many pieces of 64 bytes the header and area 0 have.
 fn first_pieces(capacity: u32) -> u64
-    ensures long { 64 * result ≡ 128 + 64 * area_slots Two capacity 0 }
+    ensures long { 64 * result ≡ 128 + 64 * area_slots Many capacity 0 }
     ensures few { result < 2 ^ 33 }
 {
-    2 + u64::from(Area::first(NEWEST, capacity).slots)
+    2 + u64::from(Area::first(Form::Many, capacity).slots)
 }
 
 impl<D: Disk> Journal<D> {
-    /// Makes a journal of no records on an empty disk, in version 2: the header and area 0 alone. After Ok a stop leaves it and
-    /// nothing else.
+    /// Makes a journal of no records on an empty disk, in the header's version, which isn't the first: the header and area 0
+    /// alone. After Ok a stop leaves it and nothing else.
     pub fn init(disk: &mut D, header: &Header) -> Result<(), InitFault>
-        requires { IsHeader header.now }
+        requires valid { IsHeader header.now }
+        requires grown { 2 ≤ header.now.version }
         ensures made { OnOk result ((t : Trace) → D.trace disk.old ≡ Some t → (seen_of t ≡ []) × TellsSome (IsAtRest header.now []) (D.trace disk.new)) }
         ensures in_turn { OnOk result (WhereTold (AddsSteps (MakesJournal header.now)) (D.trace disk.old) (D.trace disk.new)) }
         ensures begun { IfErr result (λ fault. fault ≡ DiskFault
@@ -83,7 +81,7 @@ impl<D: Disk> Journal<D> {
         put_zeros(disk, first_pieces(header.capacity))?;
         disk.sync()?;
         let mut bytes = [0u8; 128];
-        NEWEST.encode(header, &mut bytes);
+        encode_header(header, &mut bytes);
         put_stable(disk, 1, &bytes[1..])?;
         put_stable(disk, 0, &[GATE])?;
         Ok(())

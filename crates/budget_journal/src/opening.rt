@@ -7,16 +7,16 @@ ghost use Rattle.outside_disks.specs.Disks.{Trace, seen_of, noted, WhereTold};
 ghost use Rattle.outside_disks.specs.Disks.Step.{Synced};
 ghost use Rattle.journal_records.specs.Encoding.{IsValid};
 ghost use Rattle.budget_journal.specs.declared.opening.OpenFault.TheVariants.{DiskFault, NoMemory};
-ghost use Rattle.budget_journal.specs.declared.version.Version.TheVariants.{Two};
+ghost use Rattle.budget_journal.specs.declared.form.Form.TheVariants.{Many};
 ghost use Rattle.budget_journal.specs.Areas.{area_in, HasGates, IsStray};
-ghost use Rattle.budget_journal.specs.Journals.{Layout, slot_place, Differ, Found, IsMarked, IsOpenFault, MayHaveSynced, disk_of, used, is_closed, capacity_of, mark_of};
+ghost use Rattle.budget_journal.specs.Journals.{Layout, slot_place, Differ, Found, IsMarked, IsOpenFault, MayHaveSynced, disk_of, used, is_closed, capacity_of, mark_of, version_of};
 ghost use Rattle.budget_journal.specs.Opening.{AreAlike, HeaderRead, SlotRead, Scanned, IsSlotFault, SlotsRead, JournalRead};
 
 use crate::area::Area;
+use crate::form::{Form, version_named};
 use crate::journal::Journal;
-use crate::version::Version;
 use fz_outside::Failed;
-use journal_records::coding::GATE;
+use journal_records::coding::{GATE, encode_header};
 use journal_records::decoding::decode;
 use journal_records::records::{Header, Record};
 use outside_disks::disk::Disk;
@@ -31,7 +31,7 @@ pub enum OpenFault {
     NoMemory,
     /// The disk has under 128 bytes, or the header's gate is closed.
     NotInitialised { length: u64 },
-    /// The header on the disk isn't the entry's in the version that is found there, or that version is unknown.
+    /// The header on the disk isn't the entry's in the version that is found there, or that version is none of 1, 2 and 3.
     Changed { kept: [u8; 128], found: [u8; 128] },
     /// The least slot that isn't wholly there, or is past the last one in version 1, or is open and no record, or is open behind a
     /// closed one.
@@ -64,10 +64,10 @@ impl<T: Drop> From<AllocFailed<T>> for OpenFault {
 
 // The live area by the gates in a header, where these are in order.
 fn area_by_gates(kept: &[u8; 128], capacity: u32) -> Option<Area>
-    ensures live { IfSome result (λ area. (area.version ≡ Two) × (area.capacity ≡ capacity) × HasGates capacity area.number kept.now) }
+    ensures live { IfSome result (λ area. (area.form ≡ Many) × (area.capacity ≡ capacity) × HasGates capacity area.number kept.now) }
     ensures stray { IfNone result ((n : ℕ) × IsStray capacity kept.now n) }
 {
-    let mut live = Area::first(Version::Two, capacity);
+    let mut live = Area::first(Form::Many, capacity);
     let mut shut = false;
     for number in 1..32 {
         if kept[96 + number] != GATE {
@@ -92,27 +92,22 @@ fn have_same_fields(kept: &[u8; 128], found: &[u8; 128]) -> bool
     kept[..97] == found[..97]
 }
 
-// The live area of the header that is kept, if it is the one found, by the rules of this version.
-fn area_by_header(
-    version: Version,
-    capacity: u32,
-    kept: &[u8; 128],
-    found: &[u8; 128],
-) -> Option<Area>
-    ensures version { IfSome result (λ area. area.version ≡ version) }
+// The live area of the header that is kept, if it is the one found, by the rules of this form.
+fn area_by_header(form: Form, capacity: u32, kept: &[u8; 128], found: &[u8; 128]) -> Option<Area>
+    ensures form { IfSome result (λ area. area.form ≡ form) }
     ensures capacity { IfSome result (λ area. area.capacity ≡ capacity) }
-    ensures alike { IfSome result (λ area. AreAlike version capacity area.number kept.now found.now) }
-    ensures differ { IfNone result (Differ version capacity kept.now found.now) }
+    ensures alike { IfSome result (λ area. AreAlike form capacity area.number kept.now found.now) }
+    ensures differ { IfNone result (Differ form capacity kept.now found.now) }
 {
-    match version {
-        Version::One if *kept == *found => Some(Area::first(version, capacity)),
-        Version::Two if have_same_fields(kept, found) => area_by_gates(kept, capacity),
+    match form {
+        Form::One if *kept == *found => Some(Area::first(form, capacity)),
+        Form::Many if have_same_fields(kept, found) => area_by_gates(kept, capacity),
         _ => None,
     }
 }
 
-// The length and the live area of a journal with so many bytes, if its header is the wanted one.
-fn judge_header(size: u64, kept: &[u8; 128], header: &Header) -> Result<(u64, Area), OpenFault>
+// The length, the live area and the version of a journal with so many bytes, if its header is the wanted one.
+fn judge_header(size: u64, kept: &[u8; 128], header: &Header) -> Result<(u64, Area, u8), OpenFault>
     requires { 128 ≤ size }
     ensures judged { (bytes : List ℕ) → size ≡ length bytes → kept.now ≡ take 128 bytes → HeaderRead header.now bytes result }
     ensures long { IfOk result (λ read. read.0 ≡ size) }
@@ -122,17 +117,17 @@ fn judge_header(size: u64, kept: &[u8; 128], header: &Header) -> Result<(u64, Ar
     if kept[0] != GATE {
         return Err(OpenFault::NotInitialised { length: size });
     }
-    let version = Version::of(kept[9]);
+    let version = version_named(kept[9]);
     let mut found = [0u8; 128];
-    version.encode(header, &mut found);
-    match area_by_header(version, header.capacity, kept, &found) {
-        Some(live) => Ok((size, live)),
+    encode_header(&Header { version, ..*header }, &mut found);
+    match area_by_header(Form::of(kept[9]), header.capacity, kept, &found) {
+        Some(live) => Ok((size, live, version)),
         None => Err(OpenFault::Changed { kept: *kept, found }),
     }
 }
 
-// Syncs, and reads the header. Gives the length and the live area.
-fn read_header<D: Disk>(disk: &mut D, header: &Header) -> Result<(u64, Area), OpenFault>
+// Syncs, and reads the header. Gives the length, the live area and the version.
+fn read_header<D: Disk>(disk: &mut D, header: &Header) -> Result<(u64, Area, u8), OpenFault>
     ensures judged { (t : Trace) → D.trace disk.old ≡ Some t → HeaderRead header.now (seen_of t) result }
     ensures long { IfOk result (λ read. 128 ≤ read.0) }
     ensures same { IfOk result (λ read. read.1.capacity ≡ header.now.capacity) }
@@ -226,7 +221,7 @@ fn read_slots<D: Disk>(
 ) -> Result<Vec<Record>, OpenFault>
     requires { 128 ≤ size }
     ensures judged { (t : Trace) → D.trace disk.old ≡ Some t → size ≡ length (seen_of t)
-        → SlotsRead (area_in live.now.version live.now.capacity live.now.number size) (seen_of t) result }
+        → SlotsRead (area_in live.now.form live.now.capacity live.now.number size) (seen_of t) result }
     ensures bounded { IfOk result (λ records. length records.items ≤ live.now.slots) }
     ensures valid { IfOk result (λ records. All IsValid records.items) }
     ensures same { D.trace disk.new ≡ D.trace disk.old }
@@ -243,12 +238,12 @@ fn read_slots<D: Disk>(
     Ok(records)
 }
 
-// Reads the live area and its records, or says why not.
+// Reads the live area, its records and the version, or says why not.
 fn read_journal<D: Disk>(
     alloc: Global,
     disk: &mut D,
     header: &Header,
-) -> Result<(Area, Vec<Record>), OpenFault>
+) -> Result<(Area, Vec<Record>, u8), OpenFault>
     ensures judged { (t : Trace) → D.trace disk.old ≡ Some t → JournalRead header.now (seen_of t) result }
     ensures capacity { IfOk result (λ read. read.0.capacity ≡ header.now.capacity) }
     ensures bounded { IfOk result (λ read. length read.1.items ≤ read.0.slots) }
@@ -258,20 +253,21 @@ fn read_journal<D: Disk>(
     ensures cause { HasCause (D.faults disk.old) (D.faults disk.new) (IsErrOf result DiskFault) }
     ensures passed { OnOk result (D.faults disk.new ≡ D.faults disk.old) }
 {
-    let (size, live) = read_header(disk, header)?;
+    let (size, live, version) = read_header(disk, header)?;
     let records = read_slots(alloc, disk, size, &live)?;
-    Ok((live, records))
+    Ok((live, records, version))
 }
 
 impl<D: Disk> Journal<D> {
-    /// Opens the journal of this header that a stop may have left. It begins with a sync: what is read is stable.
+    /// Opens the journal of this header that a stop may have left, in whatever version it has. It begins with a sync: what is read
+    /// is stable.
     pub fn open(
         alloc: Global,
         disk: D,
         header: &Header,
     ) -> Result<(Journal<D>, Vec<Record>), (D, OpenFault)>
-        ensures found { IfOk result (λ opened. WhereTold (Found header.now opened.1.items) (D.trace disk) (D.trace (disk_of opened.0))) }
-        ensures marked { IfOk result (λ opened. IfSome (D.trace (disk_of opened.0)) (IsMarked (mark_of opened.0) header.now opened.1.items)) }
+        ensures found { IfOk result (λ opened. WhereTold (Found (record header.now { version = version_of opened.0 }) opened.1.items) (D.trace disk) (D.trace (disk_of opened.0))) }
+        ensures marked { IfOk result (λ opened. IfSome (D.trace (disk_of opened.0)) (IsMarked (mark_of opened.0) (record header.now { version = version_of opened.0 }) opened.1.items)) }
         ensures open { IfOk result (λ opened. is_closed opened.0 ≡ false) }
         ensures counted { IfOk result (λ opened. used opened.0 ≡ length opened.1.items) }
         ensures capacity { IfOk result (λ opened. capacity_of opened.0 ≡ header.now.capacity) }
@@ -285,12 +281,13 @@ impl<D: Disk> Journal<D> {
     {
         let mut disk = disk;
         match read_journal(alloc, &mut disk, header) {
-            Ok((area, records)) => {
+            Ok((area, records, version)) => {
                 let journal = Journal {
                     disk,
                     area,
                     used: records.len() as u32,
                     closed: false,
+                    version,
                 };
                 Ok((journal, records))
             }

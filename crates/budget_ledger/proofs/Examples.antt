@@ -1,10 +1,10 @@
 -- What a book answers and what a stop leaves, on both sides of each choice.
-use Rattle.std.proofs.Common.{◌≡◌, ℕ, ◌++◌, List, [], ◌∷◌, length, refl, ap, arith, inl, inr, Option, Some, None, Ok, Err}
+use Rattle.std.proofs.Common.{◌≡◌, ℕ, ◌++◌, List, [], ◌∷◌, length, refl, sym, ap, arith, inl, inr, Option, Some, None, Ok, Err}
 use Rattle.outside_disks.specs.Disks.{Trace}
 use Rattle.journal_records.specs.declared.records.Outcome.TheVariants.{Lost}
 use Rattle.journal_records.specs.declared.records.Record.{Record}
 use Rattle.journal_records.specs.declared.records.Record.TheVariants.{Reserve}
-use Rattle.journal_records.specs.Records.{settling}
+use Rattle.journal_records.specs.Records.{settling_back, settling}
 use Rattle.journal_records.specs.declared.records.Header.{Header}
 use Rattle.budget_journal.specs.Journals.{Stands}
 use Rattle.budget_journal.proofs.One.{stands-one}
@@ -16,6 +16,7 @@ use Rattle.budget_core.specs.Entries.{Entry}
 use Rattle.budget_core.specs.Cost.{cost_of}
 use Rattle.budget_core.specs.Ledger.{Ledger, money_verdict, records_after}
 use Rattle.budget_core.specs.Legal.{MayFollow, IsFirstAstray}
+use Rattle.budget_core.proofs.Costs.{returned-nothing, kept-unexhausted}
 use Rattle.budget_core.proofs.Histories.{history-nil}
 use Rattle.budget_ledger.specs.Account.{Failure, Storage, Account, IsMoment, Went}
 use Rattle.budget_ledger.specs.Booked.{IsReserved, IsSettlementOf}
@@ -37,7 +38,7 @@ abbrev left_open : List Record
 left_open = Reserve (record { number = 0; view = Whole; e = 6; p = 1; q = 1; taken = 6; analyst = 0; digest = [] }) ∷ []
 
 abbrev small : Entry
-small = record { budget = 20; capacity = 10; analysts = 1; keys = [] }
+small = record { budget = 20; capacity = 10; analysts = 1; keys = []; version = 2 }
 
 -- ---- closed or not
 
@@ -69,7 +70,12 @@ module _ (ledger : Ledger) (header : Header) (trace : Option Trace) where
 
   -- the fault that closes a book is the last one, and names its record
   closes : IsSettlementOf ready 0 Lost (Err DiskFault) shut
-  closes = record { ledger = refl; open_before = refl; closed = refl }
+  closes = record {
+    ledger = refl;
+    open_before = refl;
+    closed = ap (λ (n : ℕ). Some (record { failed_at = 3; pending = settling_back 0 Lost n }))
+        (sym (returned-nothing ledger.entry ledger.records 0 Lost (kept-unexhausted ledger.entry Lost refl)));
+  }
 
   closed_too_soon : IsSettlementOf ready 0 Lost (Err (Closed 2)) ready → ⊥
   closed_too_soon answer = let some = answer.1 in cc

@@ -3,12 +3,11 @@ use Rattle.std.proofs.Common.{◌≡◌, ℕ, Bool, true, List, [], ◌∷◌, �
 use Rattle.std.proofs.lemmas.Bool.{and_from, le-leb}
 use Rattle.journal_records.specs.declared.records.Outcome.{Outcome}
 use Rattle.journal_records.specs.declared.records.Record.{Record}
-use Rattle.journal_records.specs.Records.{settling}
 use Rattle.budget_core.specs.declared.entry.ReserveFault.{ReserveFault}
 use Rattle.budget_core.specs.declared.entry.Grant.{Grant}
 use Rattle.budget_core.specs.declared.events.Event.TheVariants.{Reserve as ToReserve, Settle as ToSettle}
 use Rattle.budget_core.specs.Events.{World, is_ask_of, is_unsettled, stepped}
-use Rattle.budget_core.specs.Ledger.{Ledger, start_of, reservation_for, money_verdict, records_after, IsUnsettled}
+use Rattle.budget_core.specs.Ledger.{Ledger, start_of, reservation_for, money_verdict, records_after, settlement_for, IsUnsettled}
 use Rattle.budget_core.proofs.Asks.{ask-test}
 use Rattle.budget_core.proofs.EventLemmas.{if-left, reserved-step}
 use Rattle.budget_ledger.specs.Account.{Account}
@@ -39,9 +38,9 @@ unsettled_test ledger number is = and_from _ _ (and_from _ _ (le-leb (start_of l
 pub settles : SettlesAsTheMachine
 settles old new number seen outcome sent unsettled (gained, counted) =
     let world : World = world_by old sent in
-    if-left true (is_unsettled world.start world.records number) (record world { records = world.records ++ settling number outcome ∷ [] }) world refl
+    if-left true (is_unsettled world.start world.records number) (record world { records = world.records ++ settlement_for old.ledger.entry world.records number outcome ∷ [] }) world refl
     (unsettled_test old.ledger number unsettled)
-    ∙ with_record old new.ledger (settling number outcome) sent gained.ledger
+    ∙ with_record old new.ledger (settlement_for old.ledger.entry old.ledger.records number outcome) sent gained.ledger
 
 pub opens : OpensAsTheMachine
 opens entry found start running sent book is = ap (λ (l : Ledger). record { records = l.records; start = start_of l; running = true; sent = sent }) (sym is)

@@ -1,5 +1,5 @@
 -- What an opening finds.
-use Rattle.std.proofs.Common.{◌≡◌, ◌⊎◌, ℕ, List, ap, sym, refl, subst, inl, inr, Option, Some, None}
+use Rattle.std.proofs.Common.{◌≡◌, ◌⊎◌, ℕ, List, ◌∙◌, ap, sym, refl, subst, inl, inr, Option, Some, None}
 use Rattle.std.specs.Prelude.{IfSome}
 use Rattle.outside_disks.specs.Disks.{Trace, seen_of, after, IsImageOf, Passes, WhereTold}
 use Rattle.outside_disks.proofs.Images.{passes-weaker}
@@ -7,6 +7,8 @@ use Rattle.journal_records.specs.declared.records.Record.{Record}
 use Rattle.journal_records.specs.declared.records.Header.{Header}
 use Rattle.budget_journal.specs.declared.opening.OpenFault.{OpenFault}
 use Rattle.budget_journal.specs.declared.opening.OpenFault.TheVariants.{NotInitialised, Changed, Damaged, DiskFault, NoMemory}
+use Rattle.budget_journal.specs.Areas.{version_in}
+use Rattle.budget_journal.proofs.Gates.{head-version}
 use Rattle.budget_journal.specs.Journals.{Stands, IsAtRest, Found, IsOpenFault, MayHaveSynced}
 use Rattle.budget_core.specs.Entries.{Entry}
 use Rattle.budget_core.specs.Legal.{IsFirstAstray}
@@ -29,13 +31,20 @@ told_rest header records (Some t) None found = absurd found
 told_rest header records (Some t) (Some u) found = found.1
 
 -- the first record that may not follow is a fault of the bytes that were found
-pub told_astray : (entry : Entry) (header : Header) (records : List Record) (k : ℕ) (old new : Option Trace) → WhereTold (Found header records) old new
-    → IsFirstAstray entry records k → (t : Trace) → old ≡ Some t → IsBookFault entry header (seen_of t) (Damaged k)
-told_astray entry header records k None new found astray t told = cc
-told_astray entry header records k (Some s) None found astray t told = absurd found
-told_astray entry header records k (Some s) (Some u) found astray t told =
-    let stands : Stands header records (seen_of s) = subst (λ (v : Trace). Stands header records (seen_of v)) found.0 found.1.stands in
-    inr (records, subst (λ (v : Trace). Stands header records (seen_of v)) (same_some s t told) stands, astray)
+pub told_astray : (entry : Entry) (header : Header) (version : ℕ) (records : List Record) (k : ℕ) (old new : Option Trace)
+    → WhereTold (Found (record header { version = version }) records) old new
+    → IsFirstAstray (record entry { version = version }) records k → (t : Trace) → old ≡ Some t → IsBookFault entry header (seen_of t) (Damaged k)
+told_astray entry header version records k None new found astray t told = cc
+told_astray entry header version records k (Some s) None found astray t told = absurd found
+told_astray entry header version records k (Some s) (Some u) found astray t told =
+    let here : seen_of u ≡ seen_of t = ap seen_of found.0 ∙ ap seen_of (same_some s t told) in
+    let stands : Stands (record header { version = version }) records (seen_of t) = subst (Stands (record header { version = version }) records) here found.1.stands in
+    let named : version ≡ version_in (seen_of t) = sym (head-version (record header { version = version }) (seen_of t) stands.head) in
+    inr (
+      records,
+      subst (λ (v : ℕ). Stands (record header { version = v }) records (seen_of t)) named stands,
+      subst (λ (v : ℕ). IsFirstAstray (record entry { version = v }) records k) named astray,
+    )
   where
     same_some : (x y : Trace) → Some x ≡ Some y → x ≡ y
     same_some x y e = cc

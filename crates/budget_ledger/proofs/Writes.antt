@@ -25,7 +25,7 @@ use Rattle.budget_ledger.proofs.Wents.{prefix_self, prefix_by, not_both, went_se
 pub settlement_fits : (ledger : Ledger) (number : ℕ) (outcome : Outcome) → IsSound ledger → IsUnsettled ledger number → length ledger.records < ledger.entry.capacity
 settlement_fits ledger number outcome sound u =
     let history = legal-history ledger.entry ledger.found ledger.records sound.found sound.legal in
-    omega (arith, sound.room, open_from-Settle ledger.entry (start_of ledger) ledger.records number outcome history u.ours u.reserved u.unsettled)
+    omega (arith, sound.room, open_from-Settle ledger.entry (start_of ledger) ledger.records number outcome 0 history u.ours u.reserved u.unsettled)
 
 module _ (header : Header) (records : List Record) (next : Record) where
   longer : List Record
@@ -97,6 +97,7 @@ module _ {D : Type 0} (trace : D → Option Trace) (faults : D → ℕ) (ledger 
         sound = sound;
         budget = holds.book.budget ∙ ap (λ (l : Ledger). l.entry.budget) (sym same);
         capacity = holds.book.capacity ∙ ap (λ (l : Ledger). l.entry.capacity) (sym same);
+        version = holds.book.version ∙ ap (λ (l : Ledger). l.entry.version) (sym same);
         kept = subst (λ (o : Option Failure). IfSome (trace (disk_of new)) (IsKeptNow header after.records o)) (sym written.open_after)
             (subst (λ (l : Ledger). IfSome (trace (disk_of new)) (IsAtRest header l.records)) (sym same) told.0);
         failed = λ failure closed. absurd (not_both is failure written.open_after closed);
@@ -150,6 +151,7 @@ module _ {D : Type 0} (trace : D → Option Trace) (faults : D → ℕ) (ledger 
         sound = holds.book.sound;
         budget = holds.book.budget;
         capacity = holds.book.capacity;
+        version = holds.book.version;
         kept = subst (λ (o : Option Failure). IfSome (trace (disk_of new)) (IsKeptNow header ledger.records o)) (sym failed.closed) told_not.0;
         failed = λ failure closed. ap (λ (f : Failure). f.failed_at) (sym (which failure closed));
         follows = λ failure closed. subst (λ (f : Failure). MayFollow ledger.entry ledger.records f.pending) (which failure closed) may;

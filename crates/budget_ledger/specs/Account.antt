@@ -28,12 +28,13 @@ abbrev pub IsKeptNow : Header → List Record → Option Failure → Trace → T
 IsKeptNow header records None t = IsAtRest header records t
 IsKeptNow header records (Some failure) t = Leaves (IsBeforeOrAfter header records failure.pending) t
 
--- What holds of every book: its ledger is sound, its journal has the entry's budget and capacity and keeps the records,
+-- What holds of every book: its ledger is sound, its journal has the entry's budget, capacity and version and keeps the records,
 -- and an append that failed was the disk's last call, of a record that might follow.
 pub record IsBook (account : Account) : Type 0 where
   pub sound : IsSound account.ledger
   pub budget : account.storage.header.budget ≡ account.ledger.entry.budget
   pub capacity : account.storage.header.capacity ≡ account.ledger.entry.capacity
+  pub version : account.storage.header.version ≡ account.ledger.entry.version
   pub kept : IfSome account.storage.trace (IsKeptNow account.storage.header account.ledger.records account.storage.closed)
   pub failed : (failure : Failure) → account.storage.closed ≡ Some failure → failure.failed_at ≡ account.storage.faults
   pub follows : (failure : Failure) → account.storage.closed ≡ Some failure → MayFollow account.ledger.entry account.ledger.records failure.pending

@@ -2,11 +2,10 @@
 use Rattle.std.specs.Prelude.{◌≡◌, ℕ, [], ◌∷◌, ◌++◌, length, Result, Ok, Err, None, Some}
 use Rattle.journal_records.specs.declared.records.Outcome.{Outcome}
 use Rattle.journal_records.specs.declared.records.Record.{Record}
-use Rattle.journal_records.specs.Records.{settling}
 use Rattle.budget_core.specs.declared.entry.Ask.{Ask}
 use Rattle.budget_core.specs.declared.entry.Grant.{Grant}
 use Rattle.budget_core.specs.declared.entry.ReserveFault.{ReserveFault}
-use Rattle.budget_core.specs.Ledger.{start_of, money_verdict, reservation_for, IsUnsettled}
+use Rattle.budget_core.specs.Ledger.{start_of, money_verdict, reservation_for, settlement_for, IsUnsettled}
 use Rattle.budget_ledger.specs.Account.{Failure, Account}
 use Rattle.budget_ledger.specs.declared.book.AppendFault.{AppendFault}
 use Rattle.budget_ledger.specs.declared.book.AppendFault.TheVariants.{Closed, DiskFault}
@@ -42,7 +41,7 @@ IsReserved old ask (Err (Refused fault)) new = HasVerdict old ask (Err fault) ×
 IsReserved old ask (Err (Unwritten fault)) new = (grant : Grant) × HasVerdict old ask (Ok grant)
     × IsUnwritten old (reservation_for old.ledger.records ask grant.taken) fault new
 
--- A settlement is written, but to a closed book.
+-- A settlement is written, but to a closed book. Its record says by how much the cost falls.
 abbrev pub IsSettlementOf : Account → (number : ℕ) → Outcome → Result ℕ AppendFault → Account → Type 0
-IsSettlementOf old number outcome (Ok seen) new = HasGained old (settling number outcome) new × (seen ≡ length new.ledger.records)
-IsSettlementOf old number outcome (Err fault) new = IsUnwritten old (settling number outcome) fault new
+IsSettlementOf old number outcome (Ok seen) new = HasGained old (settlement_for old.ledger.entry old.ledger.records number outcome) new × (seen ≡ length new.ledger.records)
+IsSettlementOf old number outcome (Err fault) new = IsUnwritten old (settlement_for old.ledger.entry old.ledger.records number outcome) fault new

@@ -28,9 +28,10 @@ abbrev pub LeavesMoments : Type 0
 LeavesMoments = (old new : List Record) (before after : Storage) → IfSome before.trace (IsAtRest before.header old) → Went old new before after
     → WhereTold (Passes (IsMoment before.header old new after.closed)) before.trace after.trace
 
--- Bytes that stand for records each of which may follow are refused for the disk or for want of memory alone.
+-- Bytes that stand for records each of which may follow, by the rules of their version, are refused for the disk or for want of
+-- memory alone.
 abbrev pub OpensWhatStands : Type 0
-OpensWhatStands = (entry : Entry) (header : Header) (records : List Record) (bytes : List ℕ) → Stands header records bytes → IsHistory entry records
+OpensWhatStands = (entry : Entry) (header : Header) (records : List Record) (bytes : List ℕ) → Stands header records bytes → entry.version ≡ header.version → IsHistory entry records
     → (fault : OpenFault) → IsBookFault entry header bytes fault → (fault ≡ DiskFault) ⊎ (fault ≡ NoMemory)
 
 -- What is left of a run that a stop ended: the records that it came to, its storage before and at the stop, and the file

@@ -20,7 +20,7 @@ use budget_core::answers::{Counts, Left, Recall};
 use budget_core::entry::{Ask, Grant, ReserveFault};
 use budget_core::ledger::Ledger;
 use budget_journal::journal::Journal;
-use journal_records::records::{Header, Outcome, Record, Settlement};
+use journal_records::records::{Header, Outcome, Record};
 use outside_disks::disk::Disk;
 use std::marker::Model;
 
@@ -124,7 +124,7 @@ impl<D: Disk> Book<D> {
         ensures went { Went self.old.ledger.records self.new.ledger.records self.old.storage self.new.storage }
         ensures kept { IsBook self.new }
     {
-        let settlement = Settlement { number, outcome };
+        let settlement = self.ledger.settlement(number, outcome);
         let next = Record::Settle(settlement);
         write_down(&mut self.journal, &mut self.failure, &next)?;
         Ok(self.ledger.settle(&settlement))

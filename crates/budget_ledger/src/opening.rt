@@ -19,7 +19,8 @@ use outside_disks::disk::Disk;
 use std::alloc::Global;
 
 impl<D: Disk> Book<D> {
-    /// Opens the book of this entry and header that a stop may have left. The room for the whole capacity is taken here.
+    /// Opens the book of this entry and header that a stop may have left, in whatever version its journal has. The room for the
+    /// whole capacity is taken here.
     pub fn open(
         alloc: Global,
         disk: D,
@@ -28,9 +29,18 @@ impl<D: Disk> Book<D> {
     ) -> Result<Book<D>, (D, OpenFault)>
         requires budget { header.now.budget ≡ entry.budget }
         requires capacity { header.now.capacity ≡ entry.capacity }
-        ensures found { IfOk result (λ book. WhereTold (Found header.now book.ledger.found) (D.trace disk) book.storage.trace) }
-        ensures fresh { IfOk result (λ book. (book.ledger ≡ record { entry = entry; found = book.ledger.found; records = book.ledger.found })
-            × (book.storage ≡ record { header = header.now; trace = book.storage.trace; faults = D.faults disk; closed = None })) }
+        ensures found { IfOk result (λ book. WhereTold (Found book.storage.header book.ledger.found) (D.trace disk) book.storage.trace) }
+        ensures fresh { IfOk result (λ book. (book.ledger ≡ record {
+          entry = record entry { version = book.storage.header.version };
+          found = book.ledger.found;
+          records = book.ledger.found;
+        })
+            × (book.storage ≡ record {
+              header = record header.now { version = book.storage.header.version };
+              trace = book.storage.trace;
+              faults = D.faults disk;
+              closed = None;
+            })) }
         ensures book { IfOk result IsBook }
 
         ensures refused { IfErr result (λ refused. (t : Trace) → D.trace disk ≡ Some t → IsBookFault entry header.now (seen_of t) refused.1) }
@@ -38,11 +48,12 @@ impl<D: Disk> Book<D> {
         ensures cause { IfErr result (λ refused. HasCause (D.faults disk) (D.faults refused.0) (refused.1 ≡ DiskFault)) }
     {
         let (journal, records) = Journal::open(alloc, disk, header)?;
-        match Ledger::found(alloc, entry, records) {
+        let version = journal.version();
+        match Ledger::found(alloc, entry.with_version(version), records) {
             Ok(ledger) => Ok(Book {
                 journal,
                 ledger,
-                header: *header,
+                header: Header { version, ..*header },
                 failure: None,
             }),
             Err(FoundFault::Astray(slot)) => Err((

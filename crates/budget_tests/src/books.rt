@@ -23,17 +23,29 @@ const LIMITS: Limits = Limits {
     written: 65_536,
 };
 
-fn header_of(capacity: u32) -> Header
+fn header_in(version: u8, capacity: u32) -> Header
+    requires version { (2 ≤ version) × (version ≤ 3) }
     ensures valid { IsHeader result }
     ensures budget { result.budget ≡ 10000000 }
     ensures capacity { result.capacity ≡ capacity }
+    ensures version { result.version ≡ version }
 {
     Header {
         owner: 0,
         budget: 10_000_000,
         capacity,
         digest: [1; 32],
+        version,
     }
+}
+
+fn header_of(capacity: u32) -> Header
+    ensures valid { IsHeader result }
+    ensures budget { result.budget ≡ 10000000 }
+    ensures capacity { result.capacity ≡ capacity }
+    ensures version { result.version ≡ 3 }
+{
+    header_in(3, capacity)
 }
 
 /// Opens the book of an owner with this capacity.
@@ -100,6 +112,7 @@ fn second_settlement() -> Record
     Record::Settle(Settlement {
         number: 0,
         outcome: Outcome::Lost,
+        returned: 0,
     })
 }
 
@@ -319,4 +332,53 @@ fn a_growth(rt: HostRuntime) {
     assert!(rt; grown.bytes().get(97) == Some(&0xA5));
     assert!(rt; grown.bytes().get(8320) == Some(&0xA5));
     assert!(rt; grown.bytes().get(8327) == Some(&32));
+}
+
+/// What is left in a journal of this version once its one number was exhausted, and what is left when it is opened again.
+fn left_exhausted(alloc: Global, version: u8) -> Option<(Left, Left)>
+    requires version { (2 ≤ version) × (version ≤ 3) }
+{
+    let mut disk = MemDisk::new(alloc, &[], LIMITS, &[]).ok()?;
+    Journal::init(&mut disk, &header_in(version, 100)).ok()?;
+    let mut book = opened(alloc, disk, 100).ok()?;
+    let grant = ask(&mut book).ok()?;
+    book.settle(grant.number, Outcome::Exhausted).ok()?;
+    let left = book.left();
+    let again = opened(alloc, book.into_disk(), 100).ok()?;
+    Some((left, again.left()))
+}
+
+// In version 3 an exhausted number's charge comes back, and in version 2 it doesn't.
+#[test]
+fn exhausted(rt: HostRuntime) {
+    for (version, spent) in &[(2, 1_000_000), (3, 0)] {
+        let left = Left {
+            spent: *spent,
+            budget: 10_000_000,
+            seen: 2,
+        };
+        assert!(rt; left_exhausted(rt.alloc(), *version) == Some((left, left)));
+    }
+}
+
+// A settlement that gives back less than the cost falls by may not follow.
+#[test]
+fn too_little_given_back(rt: HostRuntime) {
+    let alloc = rt.alloc();
+    let bytes = stopped(alloc).expect(&rt, "a reservation");
+    let mut disk = MemDisk::new(alloc, &bytes, LIMITS, &[])
+        .ok()
+        .expect(&rt, "a disk");
+    let mut slot = [0; 64];
+    encode(
+        &Record::Settle(Settlement {
+            number: 0,
+            outcome: Outcome::Exhausted,
+            returned: 999_999,
+        }),
+        &mut slot,
+    );
+    assert!(rt; disk.write_at(192, &slot) == Ok(()));
+    let refused = opened(alloc, disk, 100).err().expect(&rt, "a fault");
+    assert!(rt; refused.1 == OpenFault::Damaged { slot: 1 });
 }

@@ -21,4 +21,8 @@ fn parts_and_the_whole(rt: HostRuntime) {
     assert!(rt; costs.after(SECOND, 4) == 8);
     costs.add(View::Whole, 3);
     assert!(rt; costs.spent() == 9);
+    assert!(rt; costs.back(FIRST, 6) == 7);
+    costs.give_back(FIRST, 6);
+    costs.give_back(View::Whole, 3);
+    assert!(rt; costs.spent() == 4);
 }

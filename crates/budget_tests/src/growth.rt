@@ -21,12 +21,14 @@ const LIMITS: Limits = Limits {
 fn header_of(digest: u8) -> Header
     ensures valid { IsHeader result }
     ensures capacity { result.capacity ≡ 100 }
+    ensures version { result.version ≡ 2 }
 {
     Header {
         owner: 0,
         budget: 10_000_000,
         capacity: 100,
         digest: [digest; 32],
+        version: 2,
     }
 }
 
@@ -36,6 +38,7 @@ fn settlement(number: u32) -> Record
     Record::Settle(Settlement {
         number,
         outcome: Outcome::Exhausted,
+        returned: 0,
     })
 }
 
@@ -133,9 +136,9 @@ fn bytes(rt: HostRuntime) {
     }
 }
 
-// An unknown version; byte 96; a gate behind one that isn't, and for no area.
+// Two unknown versions; byte 96; a gate behind one that isn't, and for no area.
 #[rattlefmt::skip]
-const HEADERS: [&[(usize, u8)]; 4] = [&[(9, 3)], &[(96, 1)], &[(97, 0), (98, 0xA5)], &[(98, 0xA5)]];
+const HEADERS: [&[(usize, u8)]; 5] = [&[(9, 0)], &[(9, 4)], &[(96, 1)], &[(97, 0), (98, 0xA5)], &[(98, 0xA5)]];
 
 #[test]
 fn headers(rt: HostRuntime) {
@@ -311,4 +314,17 @@ fn a_full_journal(rt: HostRuntime) {
         .expect(&rt, "a journal");
     assert!(rt; records.len() == 100);
     assert!(rt; journal.fault_count() == 0);
+}
+
+// Version 3 is in the layout of version 2.
+#[test]
+fn version_three(rt: HostRuntime) {
+    let alloc = rt.alloc();
+    let bytes = bytes_with(alloc, 65).expect(&rt, "a journal");
+    let disk = changed(alloc, &bytes, &[(9, 3)]).expect(&rt, "a disk");
+    let (journal, records) = Journal::open(alloc, disk, &header_of(1))
+        .ok()
+        .expect(&rt, "a journal");
+    assert!(rt; journal.version() == 3);
+    assert!(rt; records.len() == 65);
 }

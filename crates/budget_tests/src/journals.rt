@@ -21,12 +21,14 @@ const LIMITS: Limits = Limits {
 fn header_of(digest: u8) -> Header
     ensures valid { IsHeader result }
     ensures capacity { result.capacity ≡ 100 }
+    ensures version { result.version ≡ 2 }
 {
     Header {
         owner: 0,
         budget: 10_000_000,
         capacity: 100,
         digest: [digest; 32],
+        version: 2,
     }
 }
 
@@ -36,6 +38,7 @@ fn settlement(number: u32) -> Record
     Record::Settle(Settlement {
         number,
         outcome: Outcome::Exhausted,
+        returned: 0,
     })
 }
 

@@ -36,9 +36,17 @@ fn small_entry(alloc: Global) -> Result<Entry, AllocError> {
 }
 
 // How many records these events lead to, the first number of the last run, and how many answers were sent.
-fn counted(alloc: Global, events: &[Event]) -> Result<(usize, u32, usize), AllocError> {
-    let world = run_events(alloc, small_entry(alloc)?, events)?;
+fn counted_in(
+    alloc: Global,
+    version: u8,
+    events: &[Event],
+) -> Result<(usize, u32, usize), AllocError> {
+    let world = run_events(alloc, small_entry(alloc)?.with_version(version), events)?;
     Ok((world.records.len(), world.start, world.sent.len()))
+}
+
+fn counted(alloc: Global, events: &[Event]) -> Result<(usize, u32, usize), AllocError> {
+    counted_in(alloc, 3, events)
 }
 
 // Spent by one ask: sent once, and over budget after a stop.
@@ -129,12 +137,34 @@ const TWO_RUNS: [Event; 10] = [
     }),
 ];
 
+// The dearer part is exhausted, and then there is room for 6.
+const EXHAUSTED: [Event; 4] = [
+    Event::Reserve(Ask {
+        view: FIRST,
+        e: 6,
+        ..ASK
+    }),
+    Event::Reserve(Ask {
+        view: SECOND,
+        e: 4,
+        ..ASK
+    }),
+    Event::Settle(0, Outcome::Exhausted),
+    Event::Reserve(Ask {
+        view: View::Whole,
+        e: 6,
+        ..ASK
+    }),
+];
+
 #[test]
 fn events(rt: HostRuntime) -> Result<(), AllocError> {
     let alloc = rt.alloc();
     assert!(rt; counted(alloc, &SPENT_AT_ONCE)? == (2, 1, 1));
     assert!(rt; counted(alloc, &PARTS)? == (3, 0, 0));
     assert!(rt; counted(alloc, &TWO_RUNS)? == (6, 2, 0));
+    assert!(rt; counted_in(alloc, 3, &EXHAUSTED)? == (4, 0, 0));
+    assert!(rt; counted_in(alloc, 2, &EXHAUSTED)? == (3, 0, 0));
     Ok(())
 }
 

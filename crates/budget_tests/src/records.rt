@@ -43,7 +43,18 @@ fn all_refused(bytes: &[u8; 64], changes: &[(usize, u8)]) -> bool {
 // Bytes that no record has: another gate, kind, partition, part or denominator, and bytes that are to be zero.
 const RESERVATION_CHANGES: [(usize, u8); 6] = [(0, 0x25), (1, 3), (2, 8), (3, 1), (19, 0), (31, 1)];
 
-const SETTLEMENT_CHANGES: [(usize, u8); 5] = [(2, 0), (2, 2), (2, 4), (3, 1), (63, 1)];
+const SETTLEMENT_CHANGES: [(usize, u8); 7] = [
+    (2, 0),
+    (2, 2),
+    (2, 4),
+    (3, 1),
+    (16, 1),
+    (23, 1),
+    (63, 1),
+];
+
+// Of an exhausted number these give something back.
+const RETURNED: [(usize, u64); 3] = [(16, 1 << 56), (22, 256), (23, 1)];
 
 #[test]
 fn a_reservation(rt: HostRuntime) {
@@ -61,11 +72,30 @@ fn a_settlement(rt: HostRuntime) {
     let settled = Record::Settle(Settlement {
         number: 0,
         outcome: Outcome::Answered(5),
+        returned: 0,
     });
     let bytes = encoding(&settled);
     assert!(rt; bytes.starts_with(b"\xA5\x02\x01\x00\0\0\0\0\0\0\0\0\0\0\0\x05"));
     assert!(rt; decode(&bytes) == Some(settled));
     assert!(rt; all_refused(&bytes, &SETTLEMENT_CHANGES));
+}
+
+fn exhausted(returned: u64) -> Record {
+    Record::Settle(Settlement {
+        number: 0,
+        outcome: Outcome::Exhausted,
+        returned,
+    })
+}
+
+#[test]
+fn a_settlement_that_gives_back(rt: HostRuntime) {
+    let bytes = encoding(&exhausted(0));
+    assert!(rt; bytes.starts_with(b"\xA5\x02\x02\x00\0\0\0\0\0\0\0\0\0\0\0\0\0\0\0\0\0\0\0\0\0"));
+    for (place, returned) in &RETURNED {
+        assert!(rt; decode_with(&bytes, *place, 1) == Some(exhausted(*returned)));
+    }
+    assert!(rt; decode_with(&bytes, 24, 1) == None);
 }
 
 #[test]
@@ -75,11 +105,22 @@ fn a_header(rt: HostRuntime) {
         budget: 10_000_000,
         capacity: 100,
         digest: [7; 32],
+        version: 1,
     };
     let mut bytes = [0; 128];
     encode_header(&header, &mut bytes);
     assert!(rt; bytes.starts_with(b"\xA5FUZZBUDG\x01\0\0\0\x01\0\0\0\0\x00\x98\x96\x80\0\0\0\x64"));
     assert!(rt; decode_header(&bytes) == Some(header));
-    bytes[9] = 2;
-    assert!(rt; decode_header(&bytes) == None);
+    for version in &[0, 4] {
+        bytes[9] = *version;
+        assert!(rt; decode_header(&bytes) == None);
+    }
+    bytes[9] = 3;
+    assert!(rt;
+        decode_header(&bytes)
+            == Some(Header {
+                version: 3,
+                ..header
+            })
+    );
 }

@@ -123,6 +123,7 @@ loading_lawful catalog reads owned lawful is =
       register = record {
         catalog = lawful;
         each_has = length-map owned (λ (l : LoadedOwner). l.holding) ∙ pairs_length IsLoadedFor catalog.owners owned pairs;
+        versioned = refl;
         holds = held_at catalog owned pairs;
       };
       hashed = hashed_at catalog owned pairs;

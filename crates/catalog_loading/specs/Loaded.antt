@@ -2,6 +2,7 @@
 use Rattle.std.specs.Prelude.{◌≡◌, ◌<◌, ℕ, List, [], length, map, nat_eq, Result, Ok, Err, find, get_or, position, slice_get, ok_or, option_and_then, bytes_eq, if◌then◌else◌}
 use Rattle.sha2.specs.Sha256.{sha256}
 use Rattle.journal_records.specs.declared.records.Header.{Header}
+use Rattle.journal_records.specs.Encoding.{newest_version}
 use Rattle.budget_core.specs.Entries.{Entry}
 use Rattle.metric_values.specs.Values.{Flat}
 use Rattle.table_store.specs.Table.{table_in_file}
@@ -9,7 +10,7 @@ use Rattle.owner_catalog.specs.Catalog.{Catalog, OwnerEntry, TableEntry, catalog
 use Rattle.owner_catalog.specs.Digest.{digest_of}
 use Rattle.owner_catalog.specs.Entries.{owner_entry_at}
 use Rattle.part_views.specs.Holding.{Holding}
-use Rattle.owner_house.specs.House.{Register, IsRegister, entry_of}
+use Rattle.owner_house.specs.House.{Register, IsRegister, entry_of, register_with}
 use Rattle.catalog_loading.specs.Steps.{FileStep, ◌>>=◌, done, one_by_one, file_read, from}
 
 -- this name is refused, where something is wrong
@@ -72,7 +73,7 @@ pub record Loading : Type 0 where
 -- what these owners are of this catalog
 abbrev pub loading_with : Catalog → List LoadedOwner → Loading
 loading_with catalog owners =
-    record { register = record { catalog = catalog; holdings = map (λ o. o.holding) owners }; hashes = map (λ o. o.hashes) owners }
+    record { register = register_with catalog (map (λ o. o.holding) owners); hashes = map (λ o. o.hashes) owners }
 
 -- what all owners of a catalog hold
 abbrev pub loaded : Catalog → FileStep Loading
@@ -120,14 +121,15 @@ owner_name_at loading o = (owner_entry_at loading.register.catalog o).name
 abbrev pub entry_at : Loading → (o : ℕ) → Entry
 entry_at loading o = entry_of loading.register.catalog (owner_entry_at loading.register.catalog o)
 
--- The header of an owner's journal under a key: the owner's number, its budget and capacity, and the digest of the key, its
--- entry and its table files.
+-- The header of an owner's new journal under a key: the owner's number, its budget and capacity, and the digest of the key,
+-- its entry and its table files.
 abbrev pub header_of : Loading → (key : List ℕ) → (o : ℕ) → Header
 header_of loading key o = record {
   owner = o;
   budget = (owner_entry_at loading.register.catalog o).budget;
   capacity = (owner_entry_at loading.register.catalog o).capacity;
   digest = digest_of loading.register.catalog o key (get_or loading.hashes o []);
+  version = newest_version;
 }
 
 -- the owner of this name

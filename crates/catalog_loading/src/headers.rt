@@ -9,11 +9,11 @@ ghost use Rattle.catalog_loading.specs.Loaded.{IsKeyedHouse, header_of, owners_i
 
 use crate::opening::Opened;
 use crate::stops::Stop;
-use journal_records::records::Header;
+use journal_records::records::{Header, NEWEST_VERSION};
 use owner_catalog::digest;
 use std::alloc::Global;
 
-/// The header of an owner's journal.
+/// The header of an owner's journal where it is new.
 fn header_for(opened: &Opened, owner: u32) -> Result<Header, Stop>
     requires { owner < owners_in opened.now.loading }
     ensures header { IfOk result (λ header. header ≡ header_of opened.now.loading opened.now.key owner) }
@@ -28,6 +28,7 @@ fn header_for(opened: &Opened, owner: u32) -> Result<Header, Stop>
         budget: catalog.budget(owner),
         capacity: catalog.capacity(owner),
         digest,
+        version: NEWEST_VERSION,
     })
 }
 

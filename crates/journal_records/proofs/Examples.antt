@@ -6,7 +6,7 @@ use Rattle.partition_charge.specs.declared.view.View.TheVariants.{Whole, Part}
 use Rattle.journal_records.specs.declared.records.Outcome.TheVariants.{Answered, Exhausted, Lost}
 use Rattle.journal_records.specs.declared.records.Reservation.{Reservation}
 use Rattle.journal_records.specs.declared.records.Record.TheVariants.{Reserve}
-use Rattle.journal_records.specs.Records.{reservation_in, settlement_in, outcome_in, settling, is_some_and, number_or_zero}
+use Rattle.journal_records.specs.Records.{reservation_in, settlement_in, outcome_in, settling_back, settling, is_some_and, number_or_zero}
 use Rattle.journal_records.specs.Encoding.{encoded, encoded_header, AreChargeTerms, IsReservation, IsSettlement, IsHeader}
 use Rattle.journal_records.proofs.Shapes.{digest-replicate}
 
@@ -68,6 +68,10 @@ greatest_answer = refl
 exhausted_bytes : encoded (settling 258 Exhausted) ≡ (165 ∷ 2 ∷ 2 ∷ 0 ∷ 0 ∷ 0 ∷ 1 ∷ 2 ∷ []) ++ replicate 56 0
 exhausted_bytes = refl
 
+-- what is given back stands behind the answer
+returned_bytes : encoded (settling_back 258 Exhausted 72623859790382856) ≡ (165 ∷ 2 ∷ 2 ∷ 0 ∷ 0 ∷ 0 ∷ 1 ∷ 2 ∷ []) ++ replicate 8 0 ++ (1 ∷ 2 ∷ 3 ∷ 4 ∷ 5 ∷ 6 ∷ 7 ∷ 8 ∷ []) ++ replicate 40 0
+returned_bytes = refl
+
 lost_bytes : encoded (settling 4294967295 Lost) ≡ (165 ∷ 2 ∷ 3 ∷ 0 ∷ []) ++ replicate 4 255 ++ replicate 56 0
 lost_bytes = refl
 
@@ -79,7 +83,7 @@ reserves_the_first = refl
 settles_nothing : settlement_in (Reserve first) ≡ None
 settles_nothing = refl
 
-settles_five : settlement_in (settling 5 Lost) ≡ Some (record { number = 5; outcome = Lost })
+settles_five : settlement_in (settling 5 Lost) ≡ Some (record { number = 5; outcome = Lost; returned = 0 })
 settles_five = refl
 
 reserves_nothing : reservation_in (settling 5 Lost) ≡ None
@@ -108,8 +112,8 @@ taken_by_none = refl
 
 -- ---- headers
 
-header_bytes : encoded_header (record { owner = 1; budget = 10000000; capacity = 100; digest = replicate 32 7 }) ≡
-    (165 ∷ 70 ∷ 85 ∷ 90 ∷ 90 ∷ 66 ∷ 85 ∷ 68 ∷ 71 ∷ 1 ∷ []) ++ (0 ∷ 0 ∷ 0 ∷ 1 ∷ []) ++ (0 ∷ 0 ∷ 0 ∷ 0 ∷ 0 ∷ 152 ∷ 150 ∷ 128 ∷ []) ++ (0 ∷ 0 ∷ 0 ∷ 100 ∷ [])
+header_bytes : encoded_header (record { owner = 1; budget = 10000000; capacity = 100; digest = replicate 32 7; version = 2 }) ≡
+    (165 ∷ 70 ∷ 85 ∷ 90 ∷ 90 ∷ 66 ∷ 85 ∷ 68 ∷ 71 ∷ 2 ∷ []) ++ (0 ∷ 0 ∷ 0 ∷ 1 ∷ []) ++ (0 ∷ 0 ∷ 0 ∷ 0 ∷ 0 ∷ 152 ∷ 150 ∷ 128 ∷ []) ++ (0 ∷ 0 ∷ 0 ∷ 100 ∷ [])
     ++ replicate 38 0 ++ replicate 32 7 ++ replicate 32 0
 header_bytes = refl
 
@@ -174,14 +178,32 @@ short_digest valid = let h : 31 ≡ 32 = valid.hashed.0 in omega (arith, h)
 no_byte : IsReservation (record first { digest = 256 ∷ replicate 31 9 }) → ⊥
 no_byte valid = let h : 256 < 256 = valid.hashed.1 0 in omega (arith, h)
 
-least_settled : IsSettlement (record { number = 4294967295; outcome = Answered (negsuc 9223372036854775807) })
-least_settled = record { numbered = omega arith; settled = omega arith }
+least_settled : IsSettlement (record { number = 4294967295; outcome = Answered (negsuc 9223372036854775807); returned = 0 })
+least_settled = record { numbered = omega arith; settled = omega arith; bounded = omega arith; gives_back = refl }
 
-too_great_a_settled_number : IsSettlement (record { number = 4294967296; outcome = Lost }) → ⊥
+all_given_back : IsSettlement (record { number = 0; outcome = Exhausted; returned = 18446744073709551615 })
+all_given_back = record { numbered = omega arith; settled = tt; bounded = omega arith; gives_back = tt }
+
+lost_and_given_back : IsSettlement (record { number = 0; outcome = Lost; returned = 1 }) → ⊥
+lost_and_given_back valid = let h : 1 ≡ 0 = valid.gives_back in omega (arith, h)
+
+answered_and_given_back : IsSettlement (record { number = 0; outcome = Answered (pos 5); returned = 1 }) → ⊥
+answered_and_given_back valid = let h : 1 ≡ 0 = valid.gives_back in omega (arith, h)
+
+too_much_given_back : IsSettlement (record { number = 0; outcome = Exhausted; returned = 18446744073709551616 }) → ⊥
+too_much_given_back valid = let h = valid.bounded in omega (arith, h)
+
+too_great_a_settled_number : IsSettlement (record { number = 4294967296; outcome = Lost; returned = 0 }) → ⊥
 too_great_a_settled_number valid = let h = valid.numbered in omega (arith, h)
 
-too_great_an_answer : IsSettlement (record { number = 0; outcome = Answered (pos 9223372036854775808) }) → ⊥
+too_great_an_answer : IsSettlement (record { number = 0; outcome = Answered (pos 9223372036854775808); returned = 0 }) → ⊥
 too_great_an_answer valid = let h = valid.settled in omega (arith, h)
 
-full_header : IsHeader (record { owner = 4294967295; budget = 18446744073709551615; capacity = 4294967295; digest = replicate 32 255 })
-full_header = record { owner = omega arith; budget = omega arith; capacity = omega arith; digest = digest-replicate 255 (omega arith) }
+full_header : IsHeader (record { owner = 4294967295; budget = 18446744073709551615; capacity = 4294967295; digest = replicate 32 255; version = 3 })
+full_header = record { owner = omega arith; budget = omega arith; capacity = omega arith; digest = digest-replicate 255 (omega arith); version = (omega arith, omega arith) }
+
+fourth_version : IsHeader (record { owner = 0; budget = 1; capacity = 2; digest = replicate 32 0; version = 4 }) → ⊥
+fourth_version valid = let h = valid.version.1 in omega (arith, h)
+
+no_version : IsHeader (record { owner = 0; budget = 1; capacity = 2; digest = replicate 32 0; version = 0 }) → ⊥
+no_version valid = let h = valid.version.0 in omega (arith, h)

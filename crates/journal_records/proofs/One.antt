@@ -66,6 +66,8 @@ record-one (Settle s) (Settle t) x y is =
     let i2 : answer_number s.outcome ≡ answer_number t.outcome = sym (from_be_bytes-to_be_bytes_8 (answer_number s.outcome) (answer-fits s.outcome x.settled))
     ∙ ap (λ (b : List ℕ). from_be_bytes w64 (take 8 (drop 8 b))) is ∙ from_be_bytes-to_be_bytes_8 (answer_number t.outcome) (answer-fits t.outcome y.settled) in
     let i3 = outcome-one s.outcome t.outcome x.settled y.settled (ap (λ (b : List ℕ). slice_index b 2) is) i2 in
-    λ i. Settle (record { number = i1 i; outcome = i3 i })
+    let i4 : s.returned ≡ t.returned = sym (from_be_bytes-to_be_bytes_8 s.returned x.bounded) ∙ ap (λ (b : List ℕ). from_be_bytes w64 (take 8 (drop 16 b))) is
+    ∙ from_be_bytes-to_be_bytes_8 t.returned y.bounded in
+    λ i. Settle (record { number = i1 i; outcome = i3 i; returned = i4 i })
 record-one (Reserve r) (Settle s) x y is = absurd (kinds _ _ (ap (λ (b : List ℕ). slice_index b 1) is) refl refl)
 record-one (Settle s) (Reserve r) x y is = absurd (kinds _ _ (ap (λ (b : List ℕ). slice_index b 1) (sym is)) refl refl)

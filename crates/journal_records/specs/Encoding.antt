@@ -45,12 +45,19 @@ encoded (Reserve r) =
     (gate ∷ 1 ∷ partition_byte r.view ∷ part_byte r.view ∷ []) ++ to_be_bytes w32 r.number ++ to_be_bytes w32 r.e ++ to_be_bytes w32 r.p ++ to_be_bytes w32 r.q
     ++ to_be_bytes w64 r.taken ++ to_be_bytes w16 r.analyst ++ (0 ∷ 0 ∷ []) ++ r.digest
 encoded (Settle s) =
-    (gate ∷ 2 ∷ outcome_byte s.outcome ∷ 0 ∷ []) ++ to_be_bytes w32 s.number ++ to_be_bytes w64 (answer_number s.outcome) ++ replicate 48 0
+    (gate ∷ 2 ∷ outcome_byte s.outcome ∷ 0 ∷ []) ++ to_be_bytes w32 s.number ++ to_be_bytes w64 (answer_number s.outcome)
+    ++ to_be_bytes w64 s.returned ++ replicate 40 0
 
 abbrev pub IsOutcome : Outcome → Type 0
 IsOutcome (Answered z) = FitsSigned w64 z
 IsOutcome Exhausted = ⊤
 IsOutcome Lost = ⊤
+
+-- Only where the sampler ran out of draws is something given back.
+abbrev pub MayReturn : Outcome → (returned : ℕ) → Type 0
+MayReturn (Answered z) returned = returned ≡ 0
+MayReturn Exhausted returned = ⊤
+MayReturn Lost returned = returned ≡ 0
 
 -- the greatest epsilon, in millionths
 abbrev pub epsilon_limit : ℕ
@@ -77,6 +84,8 @@ pub record IsReservation (r : Reservation) : Type 0 where
 pub record IsSettlement (s : Settlement) : Type 0 where
   pub numbered : s.number < 2 ^ 32
   pub settled : IsOutcome s.outcome
+  pub bounded : s.returned < 2 ^ 64
+  pub gives_back : MayReturn s.outcome s.returned
 
 abbrev pub IsValid : Record → Type 0
 IsValid (Reserve r) = IsReservation r
@@ -86,11 +95,20 @@ IsValid (Settle s) = IsSettlement s
 
 abbrev pub encoded_header : Header → List ℕ
 encoded_header h =
-    (gate ∷ 70 ∷ 85 ∷ 90 ∷ 90 ∷ 66 ∷ 85 ∷ 68 ∷ 71 ∷ 1 ∷ []) ++ to_be_bytes w32 h.owner ++ to_be_bytes w64 h.budget ++ to_be_bytes w32 h.capacity
+    (gate ∷ 70 ∷ 85 ∷ 90 ∷ 90 ∷ 66 ∷ 85 ∷ 68 ∷ 71 ∷ h.version ∷ []) ++ to_be_bytes w32 h.owner ++ to_be_bytes w64 h.budget ++ to_be_bytes w32 h.capacity
     ++ replicate 38 0 ++ h.digest ++ replicate 32 0
+
+-- the version of new journals
+abbrev pub newest_version : ℕ
+newest_version = 3
+
+-- the versions of a journal are 1, 2 and 3
+abbrev pub IsVersion : ℕ → Type 0
+IsVersion version = (1 ≤ version) × (version ≤ 3)
 
 pub record IsHeader (h : Header) : Type 0 where
   pub owner : h.owner < 2 ^ 32
   pub budget : h.budget < 2 ^ 64
   pub capacity : h.capacity < 2 ^ 32
   pub digest : IsByteList 32 h.digest
+  pub version : IsVersion h.version

@@ -20,9 +20,13 @@ settlement_in (Settle settlement) = Some settlement
 abbrev pub outcome_in : Record → Option Outcome
 outcome_in next = option_map (λ (settlement : Settlement). settlement.outcome) (settlement_in next)
 
--- the record that settles this number so
+-- the record that settles this number so, and gives this much back
+abbrev pub settling_back : (number : ℕ) → Outcome → (returned : ℕ) → Record
+settling_back number outcome returned = Settle (record { number = number; outcome = outcome; returned = returned })
+
+-- the record that settles this number so, and gives nothing back
 abbrev pub settling : (number : ℕ) → Outcome → Record
-settling number outcome = Settle (record { number = number; outcome = outcome })
+settling number outcome = settling_back number outcome 0
 
 -- there is a value, and it passes the test
 abbrev pub is_some_and : {A : Type 0} → (A → Bool) → Option A → Bool

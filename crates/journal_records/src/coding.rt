@@ -62,7 +62,8 @@ fn encode_settlement(settlement: &Settlement, out: &mut [u8; 64])
     put(out, 0, &[GATE, 2, kind, 0]);
     put(out, 4, &settlement.number.to_be_bytes());
     put(out, 8, &answer.to_be_bytes());
-    put(out, 16, &[0; 48]);
+    put(out, 16, &settlement.returned.to_be_bytes());
+    put(out, 24, &[0; 40]);
 }
 
 /// Writes the encoding of a record.
@@ -82,7 +83,18 @@ pub fn encode_header(header: &Header, out: &mut [u8; 128])
     put(
         out,
         0,
-        &[GATE, b'F', b'U', b'Z', b'Z', b'B', b'U', b'D', b'G', 1],
+        &[
+            GATE,
+            b'F',
+            b'U',
+            b'Z',
+            b'Z',
+            b'B',
+            b'U',
+            b'D',
+            b'G',
+            header.version,
+        ],
     );
     put(out, 10, &header.owner.to_be_bytes());
     put(out, 14, &header.budget.to_be_bytes());

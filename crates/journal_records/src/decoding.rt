@@ -9,7 +9,7 @@ ghost use Rattle.journal_records.specs.declared.records.Reservation.{Reservation
 ghost use Rattle.journal_records.specs.declared.records.Settlement.{Settlement as Settlements};
 ghost use Rattle.journal_records.specs.declared.records.Header.{Header as Headers};
 ghost use Rattle.journal_records.specs.declared.records.Record.TheVariants.{Reserve, Settle};
-ghost use Rattle.journal_records.specs.Encoding.{encoded, encoded_header, IsHeader, partition_byte, part_byte, outcome_byte, answer_number, IsOutcome, AreChargeTerms, IsReservation, IsSettlement, IsValid};
+ghost use Rattle.journal_records.specs.Encoding.{encoded, encoded_header, IsVersion, IsHeader, partition_byte, part_byte, outcome_byte, answer_number, IsOutcome, MayReturn, AreChargeTerms, IsReservation, IsSettlement, IsValid};
 
 use crate::coding::{encode, encode_header};
 use crate::fields::{common_divisor, digest_at, u16_at, u32_at, u64_at};
@@ -81,6 +81,16 @@ fn reservation_of(bytes: &[u8; 64]) -> Option<Record>
     }))
 }
 
+// Whether a settlement that ends so may give this amount back.
+fn may_return(outcome: Outcome, returned: u64) -> bool
+    ensures { IsTrue result ↔ MayReturn outcome returned }
+{
+    match outcome {
+        Outcome::Exhausted => true,
+        Outcome::Answered(_) | Outcome::Lost => returned == 0,
+    }
+}
+
 // The settlement that these bytes would be.
 fn settlement_of(bytes: &[u8; 64]) -> Option<Record>
     ensures valid { IfSome result IsValid }
@@ -88,7 +98,15 @@ fn settlement_of(bytes: &[u8; 64]) -> Option<Record>
 {
     let outcome = outcome_of(bytes[2], u64_at(bytes, 8))?;
     let number = u32_at(bytes, 4);
-    Some(Record::Settle(Settlement { number, outcome }))
+    let returned = u64_at(bytes, 16);
+    if !may_return(outcome, returned) {
+        return None;
+    }
+    Some(Record::Settle(Settlement {
+        number,
+        outcome,
+        returned,
+    }))
 }
 
 // What the bytes would be.
@@ -125,17 +143,29 @@ pub fn decode(bytes: &[u8; 64]) -> Option<Record>
     }
 }
 
-// The header that these bytes would be.
-fn fields_of(bytes: &[u8; 128]) -> Header
-    ensures valid { IsHeader result }
-    ensures only { (h : Headers) → IsHeader h → bytes.now ≡ encoded_header h → result ≡ h }
+// Whether there is this version of a journal.
+fn is_version(version: u8) -> bool
+    ensures { IsTrue result ↔ IsVersion version }
 {
-    Header {
+    1 <= version && version <= 3
+}
+
+// The header that these bytes would be.
+fn fields_of(bytes: &[u8; 128]) -> Option<Header>
+    ensures valid { IfSome result IsHeader }
+    ensures only { (h : Headers) → IsHeader h → bytes.now ≡ encoded_header h → result ≡ Some h }
+{
+    let version = bytes[9];
+    if !is_version(version) {
+        return None;
+    }
+    Some(Header {
         owner: u32_at(bytes, 10),
         budget: u64_at(bytes, 14),
         capacity: u32_at(bytes, 22),
         digest: digest_at(bytes, 64),
-    }
+        version,
+    })
 }
 
 /// The header that the bytes are the encoding of, if they are one.
@@ -143,7 +173,7 @@ pub fn decode_header(bytes: &[u8; 128]) -> Option<Header>
     ensures found { IfSome result (λ h. IsHeader h × (bytes.now ≡ encoded_header h)) }
     ensures only { (h : Headers) → IsHeader h → bytes.now ≡ encoded_header h → result ≡ Some h }
 {
-    let found = fields_of(bytes);
+    let found = fields_of(bytes)?;
     let mut again = [0u8; 128];
     encode_header(&found, &mut again);
     if again == *bytes { Some(found) } else { None }

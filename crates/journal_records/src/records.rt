@@ -37,6 +37,8 @@ pub struct Reservation {
 pub struct Settlement {
     pub number: u32,
     pub outcome: Outcome,
+    /// By how much the cost fell, in millionths: 0 unless the sampler ran out of draws.
+    pub returned: u64,
 }
 
 /// One record.
@@ -45,6 +47,9 @@ pub enum Record {
     Reserve(Reservation),
     Settle(Settlement),
 }
+
+/// The version of new journals.
+pub const NEWEST_VERSION: u8 = 3;
 
 /// What a journal begins with.
 #[derive(Clone, Copy, Debug, Drop, PartialEq, Eq)]
@@ -57,4 +62,6 @@ pub struct Header {
     pub capacity: u32,
     /// The digest of the owner's entry, the key and the tables.
     pub digest: [u8; 32],
+    /// Which version the journal has, 1 to 3.
+    pub version: u8,
 }

@@ -4,10 +4,10 @@ use mathlib.Core.List.{IsPrefix}
 use Rattle.journal_records.specs.declared.records.Outcome.{Outcome}
 use Rattle.journal_records.specs.declared.records.Record.{Record}
 use Rattle.journal_records.specs.declared.records.Record.TheVariants.{Reserve, Settle}
-use Rattle.journal_records.specs.Records.{settling}
+use Rattle.journal_records.specs.Records.{settling_back}
 use Rattle.budget_core.specs.declared.entry.Ask.{Ask}
 use Rattle.budget_core.specs.declared.entry.Grant.{Grant}
-use Rattle.budget_core.specs.Ledger.{Ledger, start_of, next_number, reservation_numbered, reservation_for, IsAskOf}
+use Rattle.budget_core.specs.Ledger.{Ledger, start_of, next_number, reservation_numbered, reservation_for, IsAskOf, settlement_for}
 use Rattle.budget_core.proofs.Grants.{grant-number}
 use Rattle.budget_core.proofs.Histories.{slice_get-append-lt}
 use Rattle.std.proofs.lemmas.Option.{slice_get_within}
@@ -84,9 +84,9 @@ reserved_goes x y ask (Ok grant) h = (grant.taken, inl (gains_of x y (reservatio
 reserved_goes x y ask (Err (Refused fault)) h = (0, inr (inl (rests_of x y h.1)))
 reserved_goes x y ask (Err (Unwritten fault)) h = (h.0.taken, unwritten_goes x y (reservation_for x.records ask h.0.taken) fault h.2)
 
-pub settled_goes : (x y : Watched) (number : ℕ) (outcome : Outcome) (result : Result ℕ AppendFault) → IsSettlementOf (account_at x) number outcome result (account_at y) → Goes x (settling number outcome) y
-settled_goes x y number outcome (Ok seen) h = inl (gains_of x y (settling number outcome) h.0)
-settled_goes x y number outcome (Err fault) h = unwritten_goes x y (settling number outcome) fault h
+pub settled_goes : (x y : Watched) (number : ℕ) (outcome : Outcome) (result : Result ℕ AppendFault) → IsSettlementOf (account_at x) number outcome result (account_at y) → Goes x (settlement_for x.opened.ledger.entry x.records number outcome) y
+settled_goes x y number outcome (Ok seen) h = inl (gains_of x y (settlement_for x.opened.ledger.entry x.records number outcome) h.0)
+settled_goes x y number outcome (Err fault) h = unwritten_goes x y (settlement_for x.opened.ledger.entry x.records number outcome) fault h
 
 -- ---- what it owes
 
@@ -235,25 +235,35 @@ module _ (opened : Account) (v w : Known Noted Account) (x y : Watched) (m : Mee
         reserved = reservation_numbered (next_number x.records) ask grant.taken;
         numbered = sym number;
         granted = subst (HasTold next) (sym more.own) (has_last next before.own);
-        unsettled = λ later outcome has.
-            ⊎_elim (λ (old : HasTold (later, settling grant.number outcome) before.own).
-            let at = record_noted x.records x.storage.closed later (settling grant.number outcome) (m.own later (Added (settling grant.number outcome)) (has_told later (settling grant.number outcome) v.own old)).1 in
-            let inside = slice_get_within x.records later (settling grant.number outcome) at in
+        unsettled = λ later outcome returned has.
+            ⊎_elim (λ (old : HasTold (later, settling_back grant.number outcome returned) before.own).
+            let at = record_noted x.records x.storage.closed later (settling_back grant.number outcome returned) (m.own later (Added (settling_back grant.number outcome returned)) (has_told later (settling_back grant.number outcome returned) v.own old)).1 in
+            let inside = slice_get_within x.records later (settling_back grant.number outcome returned) at in
             let there = slice_get-append-lt x.records (reservation_for x.records ask grant.taken ∷ []) later inside ∙ at in
             let records : y.records ≡ x.records ++ reservation_for x.records ask grant.taken ∷ [] = ap (λ (l : Ledger). l.records) h.1.ledger in
-            not_unsettled y.records later grant.number outcome (ap (λ (rs : List Record). slice_get rs later) records ∙ there) h.2.unsettled)
-            (λ (is : (later, settling grant.number outcome) ≡ next). let no : settling grant.number outcome ≡ reservation_for x.records ask grant.taken = ap (λ (z : Told). z.1) is in absurd cc)
-            (has_snoc (later, settling grant.number outcome) next before.own (subst (HasTold (later, settling grant.number outcome)) more.own has));
+            not_unsettled y.records later grant.number outcome returned (ap (λ (rs : List Record). slice_get rs later) records ∙ there) h.2.unsettled)
+            (λ (is : (later, settling_back grant.number outcome returned) ≡ next). let no : settling_back grant.number outcome returned ≡ reservation_for x.records ask grant.taken = ap (λ (z : Told). z.1) is in absurd cc)
+            (has_snoc (later, settling_back grant.number outcome returned) next before.own (subst (HasTold (later, settling_back grant.number outcome returned)) more.own has));
       }
 
   granted_if : IsPassKnown opened v → (ask : Ask) (result : Result Grant BookFault) → IsReserved (account_at x) ask result (account_at y) → IfOk result (λ grant. HasGranted after grant.number)
   granted_if k ask (Ok grant) h = granted_on k ask grant h
   granted_if k ask (Err fault) h = tt
 
-  settled_on : (number : ℕ) (outcome : Outcome) (result : Result ℕ AppendFault) → IsSettlementOf (account_at x) number outcome result (account_at y)
+  settled_by : IsPassKnown opened v → (number : ℕ) (outcome : Outcome)
+      → settlement_for x.opened.ledger.entry x.records number outcome ≡ settlement_for before.opened.ledger.entry x.records number outcome
+  settled_by k number outcome = ap (λ (o : Account). settlement_for o.ledger.entry x.records number outcome) (same_opened opened v x k m)
+
+  settled_on : IsPassKnown opened v → (number : ℕ) (outcome : Outcome) (result : Result ℕ AppendFault) → IsSettlementOf (account_at x) number outcome result (account_at y)
       → IsSettledOn before x.records number outcome result after
-  settled_on number outcome (Ok seen) h = (adds (settling number outcome) (gains_of x y (settling number outcome) h.0), h.1 ∙ ap length (sym seen_is))
-  settled_on number outcome (Err fault) h = unwritten (settling number outcome) fault h
+  settled_on k number outcome (Ok seen) h = (
+    subst (λ (r : Record). AddsRecord before x.records r after) (settled_by k number outcome)
+        (adds (settlement_for x.opened.ledger.entry x.records number outcome) (gains_of x y (settlement_for x.opened.ledger.entry x.records number outcome) h.0)),
+    h.1 ∙ ap length (sym seen_is),
+  )
+  settled_on k number outcome (Err fault) h =
+      subst (λ (r : Record). IsUnadded before x.records r fault after) (settled_by k number outcome)
+      (unwritten (settlement_for x.opened.ledger.entry x.records number outcome) fault h)
 
   -- ---- the same, of the pass as it is shown
 
@@ -274,7 +284,7 @@ module _ (opened : Account) (v w : Known Noted Account) (x y : Watched) (m : Mee
 
   pub has_settled : IsPassKnown opened v → (number : ℕ) (outcome : Outcome) (result : Result ℕ AppendFault) → IsSettlementOf (account_at x) number outcome result (account_at y)
       → HasSettled before number outcome result (pass_with (opened_in w.fixed) w)
-  has_settled k number outcome result h = subst (HasSettled before number outcome result) (shown k) (x.records, begins, settled_on number outcome result h)
+  has_settled k number outcome result h = subst (HasSettled before number outcome result) (shown k) (x.records, begins, settled_on k number outcome result h)
 
 -- ---- the whole of it, at the end
 

@@ -1,10 +1,10 @@
 -- What a pass shows and what its calls make of it, at worked books, on both sides of each choice.
-use Rattle.std.proofs.Common.{◌≡◌, ℕ, List, [], ◌∷◌, ◌++◌, length, length-append, refl, sym, ap, ◌∙◌, arith, inl, inr, Option, Some, None, Ok, Err}
+use Rattle.std.proofs.Common.{◌≡◌, ℕ, List, [], ◌∷◌, ◌++◌, length, length-append, map, refl, sym, ap, ◌∙◌, arith, inl, inr, Option, Some, None, Ok, Err}
 use Rattle.journal_records.specs.declared.records.Outcome.{Outcome}
 use Rattle.journal_records.specs.declared.records.Outcome.TheVariants.{Exhausted, Lost}
 use Rattle.journal_records.specs.declared.records.Record.{Record}
 use Rattle.journal_records.specs.declared.records.Record.TheVariants.{Reserve}
-use Rattle.journal_records.specs.Records.{outcome_in, settling}
+use Rattle.journal_records.specs.Records.{outcome_in, settling_back, settling}
 use Rattle.partition_charge.specs.declared.view.View.TheVariants.{Whole}
 use Rattle.partition_charge.specs.Cost.{cost_of_charges, partition_cost}
 use Rattle.budget_core.specs.declared.entry.Ask.{Ask}
@@ -33,8 +33,8 @@ found = reserved 0 ∷ settling 0 Lost ∷ []
 
 abbrev book : List Record → Option Failure → Account
 book records closed = record {
-  ledger = record { entry = record { budget = 20; capacity = 10; analysts = 1; keys = [] }; found = found; records = records };
-  storage = record { header = record { owner = 2; budget = 20; capacity = 10; digest = [] }; trace = None; faults = 3; closed = closed };
+  ledger = record { entry = record { budget = 20; capacity = 10; analysts = 1; keys = []; version = 2 }; found = found; records = records };
+  storage = record { header = record { owner = 2; budget = 20; capacity = 10; digest = []; version = 2 }; trace = None; faults = 3; closed = closed };
 }
 
 abbrev failed : Record → Failure
@@ -159,19 +159,20 @@ granted = record {
   unsettled = only;
 }
   where
-    only : (later : ℕ) (outcome : Outcome) → Has {A = Told} (later, settling 1 outcome) ((2, reserved 1) ∷ []) → ⊥
-    only later outcome (inl is) = let no : settling 1 outcome ≡ reserved 1 = ap (λ (z : Told). z.1) is in cc
-    only later outcome (inr none) = none
+    only : (later : ℕ) (outcome : Outcome) (returned : ℕ) → Has {A = Told} (later, settling_back 1 outcome returned) ((2, reserved 1) ∷ []) → ⊥
+    only later outcome returned (inl is) = let no : settling_back 1 outcome returned ≡ reserved 1 = ap (λ (z : Told). z.1) is in cc
+    only later outcome returned (inr none) = none
 
 not_granted_to_another : HasGranted (pass (found ++ reserved 1 ∷ []) None [] []) 1 → ⊥
 not_granted_to_another h = h.granted
 
 not_granted_twice : HasGranted (pass (found ++ reserved 1 ∷ settling 1 Lost ∷ []) None ((2, reserved 1) ∷ (3, settling 1 Lost) ∷ []) []) 1 → ⊥
-not_granted_twice h = h.unsettled 3 Lost (inr (inl refl))
+not_granted_twice h = h.unsettled 3 Lost 0 (inr (inl refl))
 
 -- A settlement goes to the records that are there by then.
 settles : HasSettled (pass (found ++ reserved 1 ∷ []) None ((2, reserved 1) ∷ []) []) 1 Exhausted (Ok 5)
     (pass (found ++ reserved 1 ∷ reserved 2 ∷ settling 1 Exhausted ∷ []) None ((2, reserved 1) ∷ (4, settling 1 Exhausted) ∷ []) [])
+unfolding cost_of cost_of_charges partition_cost
 settles = (
   found ++ reserved 1 ∷ reserved 2 ∷ [],
   (reserved 2 ∷ [], refl),
@@ -181,9 +182,9 @@ settles = (
 not_as_another_outcome : HasSettled (pass (found ++ reserved 1 ∷ []) None ((2, reserved 1) ∷ []) []) 1 Exhausted (Ok 4)
     (pass (found ++ reserved 1 ∷ settling 1 Lost ∷ []) None ((2, reserved 1) ∷ (3, settling 1 Lost) ∷ []) []) → ⊥
 not_as_another_outcome (g, begins, (adds, counted)) =
-    let own : reserved 1 ∷ settling 1 Lost ∷ [] ≡ reserved 1 ∷ settling 1 Exhausted ∷ [] = ap records_told adds.own in
-    let same : settling 1 Lost ≡ settling 1 Exhausted = cc own in
-    let outcome : Some Lost ≡ Some Exhausted = ap outcome_in same in cc outcome
+    let outcomes : None ∷ Some Lost ∷ [] ≡ None ∷ Some Exhausted ∷ [] = ap (λ (told : List Told). map outcome_in (records_told told)) adds.own in
+    let outcome : Some Lost ≡ Some Exhausted = cc outcomes in
+    cc outcome
 
 -- What is left is told by all records that are there, and is none of a state before those seen.
 looks : HasLooked (pass found None [] []) (λ ledger. left_by ledger.entry ledger.records ≡ record { spent = 12; budget = 20; seen = 3 }) (pass others None [] [])

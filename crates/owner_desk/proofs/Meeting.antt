@@ -8,7 +8,7 @@ use Rattle.journal_records.specs.declared.records.Reservation.{Reservation}
 use Rattle.journal_records.specs.declared.records.Settlement.{Settlement}
 use Rattle.journal_records.specs.declared.records.Record.{Record}
 use Rattle.journal_records.specs.declared.records.Record.TheVariants.{Reserve, Settle}
-use Rattle.journal_records.specs.Records.{settling}
+use Rattle.journal_records.specs.Records.{settling_back}
 use Rattle.budget_core.specs.Counts.{reservations_of, reservation_of, outcome_of}
 use Rattle.budget_core.specs.Entries.{Entry}
 use Rattle.budget_core.specs.Ledger.{IsUnsettled}
@@ -71,27 +71,27 @@ module _ (opened : Account) (v : Known Noted Account) (x : Watched) (k : IsPassK
   is_ours = ours x.opened.ledger.entry x.records history place reserved stands_at x.opened.ledger.found sound.legal.begins behind
 
   -- The reservation is unsettled, where the pass hasn't settled it itself.
-  pub may_settle : (number : ℕ) → reserved.number ≡ number → ((later : ℕ) (outcome : Outcome) → HasTold (later, settling number outcome) (told_in v.own) → ⊥)
+  pub may_settle : (number : ℕ) → reserved.number ≡ number → ((later : ℕ) (outcome : Outcome) (returned : ℕ) → HasTold (later, settling_back number outcome returned) (told_in v.own) → ⊥)
       → IsUnsettled (ledger_on x.opened x.records) number
   may_settle number is unsettled = subst (IsUnsettled (ledger_on x.opened x.records)) is (record {
     ours = is_ours;
     reserved = is_reserved x.opened.ledger.entry x.records history place reserved stands_at;
     unsettled = ⊎_elim (λ none. none) (λ (t : (outcome : Outcome) × (outcome_of x.records reserved.number ≡ Some outcome)).
         let at = settled_at x.records reserved.number t.0 t.1 in
-        let later : place < at.0 = settled_behind x.opened.ledger.entry x.records history place reserved stands_at at.0 reserved.number t.0 refl at.1 in
-        let both = m.pairs place at.0 (Added (Reserve reserved)) (Added (settling reserved.number t.0)) (m.own place (Added (Reserve reserved)) mine).0 later
-        (m.own place (Added (Reserve reserved)) mine).1 (noted_record x.records x.storage.closed at.0 (settling reserved.number t.0) at.1) refl in
-        let here : HasTold (at.0, settling reserved.number t.0) (told_in v.own) = told_has at.0 (settling reserved.number t.0) v.own (both.0 mine) in
-        absurd (unsettled at.0 t.0 (subst (λ (n : ℕ). HasTold (at.0, settling n t.0) (told_in v.own)) is here))) (none_or (outcome_of x.records reserved.number));
+        let later : place < at.0 = settled_behind x.opened.ledger.entry x.records history place reserved stands_at at.0 reserved.number t.0 at.1 refl at.2 in
+        let both = m.pairs place at.0 (Added (Reserve reserved)) (Added (settling_back reserved.number t.0 at.1)) (m.own place (Added (Reserve reserved)) mine).0 later
+        (m.own place (Added (Reserve reserved)) mine).1 (noted_record x.records x.storage.closed at.0 (settling_back reserved.number t.0 at.1) at.2) refl in
+        let here : HasTold (at.0, settling_back reserved.number t.0 at.1) (told_in v.own) = told_has at.0 (settling_back reserved.number t.0 at.1) v.own (both.0 mine) in
+        absurd (unsettled at.0 t.0 at.1 (subst (λ (n : ℕ). HasTold (at.0, settling_back n t.0 at.1) (told_in v.own)) is here))) (none_or (outcome_of x.records reserved.number));
   })
 
   -- Its settlement closes what is the pass's own.
-  pub closes_own : (number : ℕ) (outcome : Outcome) → reserved.number ≡ number → ClosesOwn stands v (history_of x) (Added (settling number outcome))
-  closes_own number outcome is p (Added (Reserve other)) past at closes =
+  pub closes_own : (number : ℕ) (outcome : Outcome) (returned : ℕ) → reserved.number ≡ number → ClosesOwn stands v (history_of x) (Added (settling_back number outcome returned))
+  closes_own number outcome returned is p (Added (Reserve other)) past at closes =
       let there : slice_get x.records p ≡ Some (Reserve other) = record_noted x.records x.storage.closed p (Reserve other) at in
       let here : p ≡ place = never-shared x.opened.ledger.entry x.records p place other reserved history there stands_at (sym closes ∙ sym is) in
       let same : Some (Reserve other) ≡ Some (Reserve reserved) = sym there ∙ (ap (slice_get x.records) here ∙ stands_at) in
       let alike : Reserve other ≡ Reserve reserved = cc in
       subst (λ (z : ℕ × Noted). Has z v.own) (λ i. (sym here i, Added (sym alike i))) mine
-  closes_own number outcome is p (Added (Settle other)) past at closes = absurd closes
-  closes_own number outcome is p (Failed failure) past at closes = absurd closes
+  closes_own number outcome returned is p (Added (Settle other)) past at closes = absurd closes
+  closes_own number outcome returned is p (Failed failure) past at closes = absurd closes

@@ -8,7 +8,7 @@ use Rattle.journal_records.specs.declared.records.Reservation.{Reservation}
 use Rattle.journal_records.specs.declared.records.Settlement.{Settlement}
 use Rattle.journal_records.specs.declared.records.Record.{Record}
 use Rattle.journal_records.specs.declared.records.Record.TheVariants.{Reserve, Settle}
-use Rattle.journal_records.specs.Records.{settling}
+use Rattle.journal_records.specs.Records.{settling_back}
 use Rattle.budget_core.specs.Counts.{reservations_of, reservation_of, outcome_of}
 use Rattle.budget_core.specs.Entries.{Entry}
 use Rattle.budget_core.specs.Legal.{IsHistory}
@@ -37,34 +37,34 @@ counts_le (Reserve first ∷ records) (suc j) (suc k) le = omega (arith, counts_
 counts_le (Settle settlement ∷ records) (suc j) (suc k) le = counts_le records j k (omega (arith, le))
 
 -- where a number is settled, its settlement stands
-pub settled_at : (records : List Record) (n : ℕ) (outcome : Outcome) → outcome_of records n ≡ Some outcome → (q : ℕ) × (slice_get records q ≡ Some (settling n outcome))
+pub settled_at : (records : List Record) (n : ℕ) (outcome : Outcome) → outcome_of records n ≡ Some outcome → (q : ℕ) × (returned : ℕ) × (slice_get records q ≡ Some (settling_back n outcome returned))
 settled_at [] n outcome is = absurd cc
-settled_at (Reserve reserved ∷ records) n outcome is = let r = settled_at records n outcome is in (suc r.0, r.1)
+settled_at (Reserve reserved ∷ records) n outcome is = let r = settled_at records n outcome is in (suc r.0, r.1, r.2)
 settled_at (Settle settlement ∷ records) n outcome is =
-    here (n == settlement.number) refl is (λ there. let r = settled_at records n outcome there in (suc r.0, r.1))
+    here (n == settlement.number) refl is (λ there. let r = settled_at records n outcome there in (suc r.0, r.1, r.2))
   where
     here : (b : Bool) → (n == settlement.number) ≡ b → cond b (Some settlement.outcome) (outcome_of records n) ≡ Some outcome
-        → (outcome_of records n ≡ Some outcome → (q : ℕ) × (slice_get (Settle settlement ∷ records) q ≡ Some (settling n outcome)))
-        → (q : ℕ) × (slice_get (Settle settlement ∷ records) q ≡ Some (settling n outcome))
+        → (outcome_of records n ≡ Some outcome → (q : ℕ) × (returned : ℕ) × (slice_get (Settle settlement ∷ records) q ≡ Some (settling_back n outcome returned)))
+        → (q : ℕ) × (returned : ℕ) × (slice_get (Settle settlement ∷ records) q ≡ Some (settling_back n outcome returned))
     here true test is later =
         let same : n ≡ settlement.number = eqb-true n settlement.number test in
         let made : settlement.outcome ≡ outcome = cc in
-        (zero, λ i. Some (settling (sym same i) (made i)))
+        (zero, settlement.returned, λ i. Some (settling_back (sym same i) (made i) settlement.returned))
     here false test is later = later is
 
 -- a number whose settlement stands isn't unsettled
-pub not_unsettled : (records : List Record) (q n : ℕ) (outcome : Outcome) → slice_get records q ≡ Some (settling n outcome) → outcome_of records n ≡ None → ⊥
-not_unsettled [] q n outcome at none = cc
-not_unsettled (Reserve reserved ∷ records) zero n outcome at none = cc
-not_unsettled (Reserve reserved ∷ records) (suc q) n outcome at none = not_unsettled records q n outcome at none
-not_unsettled (Settle settlement ∷ records) zero n outcome at none =
-    let made : settlement ≡ record { number = n; outcome = outcome } = cc in
+pub not_unsettled : (records : List Record) (q n : ℕ) (outcome : Outcome) (returned : ℕ) → slice_get records q ≡ Some (settling_back n outcome returned) → outcome_of records n ≡ None → ⊥
+not_unsettled [] q n outcome returned at none = cc
+not_unsettled (Reserve reserved ∷ records) zero n outcome returned at none = cc
+not_unsettled (Reserve reserved ∷ records) (suc q) n outcome returned at none = not_unsettled records q n outcome returned at none
+not_unsettled (Settle settlement ∷ records) zero n outcome returned at none =
+    let made : settlement ≡ record { number = n; outcome = outcome; returned = returned } = cc in
     here (n == settlement.number) (eq-eqb n settlement.number (sym (ap (λ (s : Settlement). s.number) made))) none
   where
     here : (b : Bool) → b ≡ true → cond b (Some settlement.outcome) (outcome_of records n) ≡ None → ⊥
     here true is none = cc
     here false is none = cc
-not_unsettled (Settle settlement ∷ records) (suc q) n outcome at none = here (n == settlement.number) none (λ later. not_unsettled records q n outcome at later)
+not_unsettled (Settle settlement ∷ records) (suc q) n outcome returned at none = here (n == settlement.number) none (λ later. not_unsettled records q n outcome returned at later)
   where
     here : (b : Bool) → cond b (Some settlement.outcome) (outcome_of records n) ≡ None → (outcome_of records n ≡ None → ⊥) → ⊥
     here true none rec = cc
@@ -87,9 +87,9 @@ module _ (entry : Entry) (records : List Record) (h : IsHistory entry records) (
       reserved_below entry records h reserved.number ∙ lt-ltb reserved.number (length (reservations_of records)) below
 
   -- a settlement stands behind its reservation
-  pub settled_behind : (q n : ℕ) (outcome : Outcome) → n ≡ reserved.number → slice_get records q ≡ Some (settling n outcome) → place < q
-  settled_behind q n outcome same there =
-      let may : IsSome (reservation_of (take q records) n) = (h.follows q (settling n outcome) there).reserved in
+  pub settled_behind : (q n : ℕ) (outcome : Outcome) (returned : ℕ) → n ≡ reserved.number → slice_get records q ≡ Some (settling_back n outcome returned) → place < q
+  settled_behind q n outcome returned same there =
+      let may : IsSome (reservation_of (take q records) n) = (h.follows q (settling_back n outcome returned) there).reserved in
       let below : n < length (reservations_of (take q records)) = ltb-true n (length (reservations_of (take q records))) (sym (reserved_below entry (take q records) (front q) n) ∙ may) in
       elim (cases_lt place q) [
         | inl before ↦ before

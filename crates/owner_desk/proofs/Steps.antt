@@ -3,10 +3,9 @@ use Rattle.std.proofs.Common.{◌≡◌, ℕ, List, [], ◌∷◌, ◌++◌, len
 use Rattle.std.specs.Prelude.{Result, Ok, Err, IfOk}
 use Rattle.journal_records.specs.declared.records.Outcome.{Outcome}
 use Rattle.journal_records.specs.declared.records.Record.{Record}
-use Rattle.journal_records.specs.Records.{settling}
 use Rattle.budget_core.specs.declared.entry.Ask.{Ask}
 use Rattle.budget_core.specs.declared.entry.Grant.{Grant}
-use Rattle.budget_core.specs.Ledger.{Ledger, start_of, money_verdict, next_number, reservation_for, reservation_numbered}
+use Rattle.budget_core.specs.Ledger.{Ledger, start_of, money_verdict, next_number, reservation_for, reservation_numbered, settlement_for}
 use Rattle.budget_core.proofs.Grants.{grant-number}
 use Rattle.budget_ledger.specs.Account.{Account, IsBook, Went}
 use Rattle.budget_ledger.specs.declared.failure.Failure.{Failure}
@@ -40,8 +39,8 @@ reserved_same old new ask (Err (Refused fault)) h = still_same old new (ap (λ (
 reserved_same old new ask (Err (Unwritten fault)) h = unwritten_same old new (reservation_for old.ledger.records ask h.0.taken) fault h.2
 
 settled_same : (old new : Account) (number : ℕ) (outcome : Outcome) (result : Result ℕ AppendFault) → IsSettlementOf old number outcome result new → SameLedger old new
-settled_same old new number outcome (Ok seen) h = gained_same old new (settling number outcome) h.0
-settled_same old new number outcome (Err fault) h = unwritten_same old new (settling number outcome) fault h
+settled_same old new number outcome (Ok seen) h = gained_same old new (settlement_for old.ledger.entry old.ledger.records number outcome) h.0
+settled_same old new number outcome (Err fault) h = unwritten_same old new (settlement_for old.ledger.entry old.ledger.records number outcome) fault h
 
 -- ---- a book with a record more, or of which an append failed, was touched; and any other call leaves it
 
@@ -64,8 +63,8 @@ module _ (opened old new : Account) (sole : IsSole opened old) where
   untouched_reserved ask (Err (Unwritten fault)) h = untouched_unwritten (reservation_for old.ledger.records ask h.0.taken) fault h.2
 
   untouched_settled : (number : ℕ) (outcome : Outcome) (result : Result ℕ AppendFault) → IsSettlementOf old number outcome result new → IsUntouched opened new
-  untouched_settled number outcome (Ok seen) h = untouched_gained (settling number outcome) h.0
-  untouched_settled number outcome (Err fault) h = untouched_unwritten (settling number outcome) fault h
+  untouched_settled number outcome (Ok seen) h = untouched_gained (settlement_for old.ledger.entry old.ledger.records number outcome) h.0
+  untouched_settled number outcome (Err fault) h = untouched_unwritten (settlement_for old.ledger.entry old.ledger.records number outcome) fault h
 
 sole_on : (opened old new : Account) → IsSole opened old → SameLedger old new → IsUntouched opened new → Went old.ledger.records new.ledger.records old.storage new.storage → IsBook new → IsSole opened new
 sole_on opened old new sole same untouched went book = record {

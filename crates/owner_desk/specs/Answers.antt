@@ -5,11 +5,11 @@ use Rattle.journal_records.specs.declared.records.Outcome.{Outcome}
 use Rattle.journal_records.specs.declared.records.Reservation.{Reservation}
 use Rattle.journal_records.specs.declared.records.Record.{Record}
 use Rattle.journal_records.specs.declared.records.Record.TheVariants.{Reserve}
-use Rattle.journal_records.specs.Records.{settling}
+use Rattle.journal_records.specs.Records.{settling_back}
 use Rattle.budget_core.specs.declared.entry.Ask.{Ask}
 use Rattle.budget_core.specs.declared.entry.Grant.{Grant}
 use Rattle.budget_core.specs.declared.entry.ReserveFault.{ReserveFault}
-use Rattle.budget_core.specs.Ledger.{Ledger, start_of, money_verdict, reservation_for}
+use Rattle.budget_core.specs.Ledger.{Ledger, start_of, money_verdict, reservation_for, settlement_for}
 use Rattle.budget_ledger.specs.declared.failure.Failure.{Failure}
 use Rattle.budget_ledger.specs.declared.book.AppendFault.{AppendFault}
 use Rattle.budget_ledger.specs.declared.book.AppendFault.TheVariants.{Closed, DiskFault}
@@ -65,8 +65,8 @@ IsReservedOn before g asking (Err (Unwritten fault)) after =
     (grant : Grant) × (verdict_on before g asking ≡ Ok grant) × IsUnadded before g (reservation_for g asking grant.taken) fault after
 
 abbrev pub IsSettledOn : Pass → List Record → (number : ℕ) → Outcome → Result ℕ AppendFault → Pass → Type 0
-IsSettledOn before g number outcome (Ok seen) after = AddsRecord before g (settling number outcome) after × (seen ≡ length after.seen)
-IsSettledOn before g number outcome (Err fault) after = IsUnadded before g (settling number outcome) fault after
+IsSettledOn before g number outcome (Ok seen) after = AddsRecord before g (settlement_for before.opened.ledger.entry g number outcome) after × (seen ≡ length after.seen)
+IsSettledOn before g number outcome (Err fault) after = IsUnadded before g (settlement_for before.opened.ledger.entry g number outcome) fault after
 
 -- what came of an ask of the budget
 abbrev pub HasReserved : Pass → Ask → Result Grant BookFault → Pass → Type 0
@@ -86,4 +86,4 @@ pub record HasGranted (pass : Pass) (number : ℕ) : Type 0 where
   pub reserved : Reservation
   pub numbered : reserved.number ≡ number
   pub granted : Has (place, Reserve reserved) pass.own
-  pub unsettled : (later : ℕ) (outcome : Outcome) → Has (later, settling number outcome) pass.own → ⊥
+  pub unsettled : (later : ℕ) (outcome : Outcome) (returned : ℕ) → Has (later, settling_back number outcome returned) pass.own → ⊥

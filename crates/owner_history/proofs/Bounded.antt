@@ -1,12 +1,13 @@
 -- The displacement that records show is at most their cost times how far the datasets are apart, whatever views they name.
-use Rattle.std.proofs.Common.{◌≡◌, ℕ, ◌+◌, ◌*◌, ◌≤◌, List, [], ◌∷◌, Option, Some, None, slice_get, length, map, suc, refl, arith}
+use Rattle.std.proofs.Common.{◌≡◌, ℕ, ◌+◌, ◌*◌, ◌≤◌, List, [], ◌∷◌, Option, Some, None, slice_get, length, map, suc, Bool, true, false, not, cond, ◌==◌, ◌&&◌, refl, sym, subst, arith}
 use Rattle.std.specs.Prelude.{⊤}
+use Rattle.std.specs.List.{filter}
 use Rattle.journal_records.specs.declared.records.Reservation.{Reservation}
 use Rattle.partition_charge.specs.declared.view.View.{View}
 use Rattle.journal_records.specs.declared.records.Outcome.{Outcome}
 use Rattle.journal_records.specs.declared.records.Outcome.TheVariants.{Answered, Exhausted, Lost}
 use Rattle.journal_records.specs.declared.records.Record.{Record}
-use Rattle.budget_core.specs.Cost.{cost_of, charge_of, charge_by, charges_in}
+use Rattle.budget_core.specs.Cost.{cost_of, charge_of, charge_by, comes_back, counts_in, charges_in}
 use Rattle.budget_core.specs.Entries.{Entry}
 use Rattle.budget_core.specs.Counts.{reservations_of, outcome_of}
 use Rattle.metric_values.specs.Distances.{gap}
@@ -19,7 +20,7 @@ use Rattle.answer_path.specs.Program.{IsCharged}
 use Rattle.owner_house.specs.Owner.{Owner, HasData}
 use Rattle.owner_history.specs.Explains.{Explains}
 use Rattle.owner_history.specs.Sound.{IsDisplacementBounded}
-use Rattle.owner_history.specs.Shown.{IsDisplacedIf, AreDisplaced, IsShown}
+use Rattle.owner_history.specs.Shown.{IsDisplacedIf, IsDisplaced, AreDisplaced, IsShown}
 use Rattle.answer_path.proofs.Charged.{charged_have_values}
 use Rattle.owner_history.proofs.Sums.{weighed, weighed-cons}
 use Rattle.owner_history.proofs.Apart.{far, charges-within}
@@ -34,6 +35,29 @@ AreCharged tables partitions [] [] = ⊤
 AreCharged tables partitions (program ∷ programs) (reservation ∷ reservations) = IsChargedFor tables partitions program reservation × AreCharged tables partitions programs reservations
 AreCharged tables partitions [] (reservation ∷ reservations) = ⊥
 AreCharged tables partitions (program ∷ programs) [] = ⊥
+
+-- what comes back is of an exhausted number
+exhausted_from : (entry : Entry) (o : Option Outcome) → comes_back entry o ≡ true → o ≡ Some Exhausted
+exhausted_from entry None back = never (entry.version == 3) back
+  where
+    never : (b : Bool) → (b && false) ≡ true → None ≡ Some Exhausted
+    never true is = absurd cc
+    never false is = absurd cc
+exhausted_from entry (Some (Answered answer)) back = never (entry.version == 3) back
+  where
+    never : (b : Bool) → (b && false) ≡ true → Some (Answered answer) ≡ Some Exhausted
+    never true is = absurd cc
+    never false is = absurd cc
+exhausted_from entry (Some Exhausted) back = refl
+exhausted_from entry (Some Lost) back = never (entry.version == 3) back
+  where
+    never : (b : Bool) → (b && false) ≡ true → Some Lost ≡ Some Exhausted
+    never true is = absurd cc
+    never false is = absurd cc
+
+back_from : (b : Bool) → not b ≡ false → b ≡ true
+back_from true is = refl
+back_from false is = absurd cc
 
 -- two datasets of the tables, and partitions of these
 pub record ArePair (tables : Signature) (partitions : List PartitionEntry) (rows other : Dataset) : Type 0 where
@@ -57,16 +81,37 @@ module _ (tables : Signature) (partitions : List PartitionEntry) (rows other : D
   outcome_bounded view e p q program (Some Exhausted) c = (0, refl, omega arith)
   outcome_bounded view e p q program (Some Lost) c = (0, refl, omega arith)
 
+  -- A reservation that counts shows at most its charge times that, and one that doesn't was exhausted and shows nothing.
+  counted_bounded : (entry : Entry) (records : List Record) (program : List ℕ) (r : Reservation) → IsChargedFor tables partitions program r → (b : Bool) → counts_in entry records r ≡ b
+      → (d : ℕ) × IsDisplaced tables partitions records rows other program r d × (d ≤ cond b (charge_of r.e r.p r.q * far partitions rows other r.view) 0)
+  counted_bounded entry records program r c true counts = outcome_bounded r.view r.e r.p r.q program (outcome_of records r.number) c
+  counted_bounded entry records program r c false skips = (
+    0,
+    subst (λ (o : Option Outcome). IsDisplacedIf (signature_in tables partitions r.view) (rows_in partitions r.view rows) (rows_in partitions r.view other) r.e program o 0)
+        (sym (exhausted_from entry (outcome_of records r.number) (back_from (comes_back entry (outcome_of records r.number)) skips))) refl,
+    omega arith,
+  )
+
+  weighed_next : (counts : Reservation → Bool) (r : Reservation) (rs : List Reservation) → weighed (far partitions rows other) (map charge_by (filter counts (r ∷ rs)))
+      ≡ cond (counts r) (charge_of r.e r.p r.q * far partitions rows other r.view) 0 + weighed (far partitions rows other) (map charge_by (filter counts rs))
+  weighed_next counts r rs = by (counts r)
+    where
+      by : (b : Bool) → weighed (far partitions rows other) (map charge_by (cond b (r ∷ filter counts rs) (filter counts rs)))
+          ≡ cond b (charge_of r.e r.p r.q * far partitions rows other r.view) 0 + weighed (far partitions rows other) (map charge_by (filter counts rs))
+      by true = weighed-cons (far partitions rows other) (charge_by r) (map charge_by (filter counts rs))
+      by false = omega arith
+
   -- all together at most the charges times how far the datasets are apart in their views
-  all_bounded : (records : List Record) (programs : List (List ℕ)) (reservations : List Reservation) → AreCharged tables partitions programs reservations
-      → (d : ℕ) × AreDisplaced tables partitions records rows other programs reservations d × (d ≤ weighed (far partitions rows other) (map charge_by reservations))
-  all_bounded records [] [] charged = (0, refl, omega arith)
-  all_bounded records [] (r ∷ rs) charged = absurd charged
-  all_bounded records (program ∷ programs) [] charged = absurd charged
-  all_bounded records (program ∷ programs) (r ∷ rs) charged =
-      let one = outcome_bounded r.view r.e r.p r.q program (outcome_of records r.number) charged.0 in
-      let more = all_bounded records programs rs charged.1 in
-      let sum = weighed-cons (far partitions rows other) (charge_by r) (map charge_by rs) in
+  all_bounded : (entry : Entry) (records : List Record) (programs : List (List ℕ)) (reservations : List Reservation) → AreCharged tables partitions programs reservations
+      → (d : ℕ) × AreDisplaced tables partitions records rows other programs reservations d
+      × (d ≤ weighed (far partitions rows other) (map charge_by (filter (counts_in entry records) reservations)))
+  all_bounded entry records [] [] charged = (0, refl, omega arith)
+  all_bounded entry records [] (r ∷ rs) charged = absurd charged
+  all_bounded entry records (program ∷ programs) [] charged = absurd charged
+  all_bounded entry records (program ∷ programs) (r ∷ rs) charged =
+      let one = counted_bounded entry records program r charged.0 (counts_in entry records r) refl in
+      let more = all_bounded entry records programs rs charged.1 in
+      let sum = weighed_next (counts_in entry records) r rs in
       (one.0 + more.0, (one.0, more.0, one.1, more.1, refl), omega (arith, one.2, more.2, sum))
 
 -- What records show is at most their cost times the distance.
@@ -74,8 +119,8 @@ pub shown_bounded : (entry : Entry) (tables : Signature) (partitions : List Part
     → AreCharged tables partitions programs (reservations_of records) → (d : ℕ) × IsShown tables partitions programs records rows other d × (d ≤ cost_of entry records * apart rows other)
 unfolding IsShown cost_of
 shown_bounded entry tables partitions records rows other programs pair charged =
-    let all = all_bounded tables partitions rows other pair records programs (reservations_of records) charged in
-    let within = charges-within tables partitions rows other (charges_in records) pair.divided pair.first pair.second in
+    let all = all_bounded tables partitions rows other pair entry records programs (reservations_of records) charged in
+    let within = charges-within tables partitions rows other (charges_in entry records) pair.divided pair.first pair.second in
     (all.0, all.1, omega (arith, all.2, within))
 
 charged_from : (tables : Signature) (partitions : List PartitionEntry) (programs : List (List ℕ)) (reservations : List Reservation) → length programs ≡ length reservations

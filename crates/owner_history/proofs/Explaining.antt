@@ -11,7 +11,7 @@ use Rattle.journal_records.specs.declared.records.Outcome.{Outcome}
 use Rattle.journal_records.specs.declared.records.Reservation.{Reservation}
 use Rattle.journal_records.specs.declared.records.Record.{Record}
 use Rattle.journal_records.specs.declared.records.Record.TheVariants.{Reserve}
-use Rattle.journal_records.specs.Records.{reservation_in, settling}
+use Rattle.journal_records.specs.Records.{reservation_in, settling_back}
 use Rattle.budget_core.specs.Counts.{reservations_of, outcome_of}
 use Rattle.budget_core.specs.Legal.{IsHistory}
 use Rattle.budget_core.proofs.Histories.{push_cases}
@@ -29,8 +29,8 @@ or_none : {X : Type 0} → (o : Option X) → option_or o None ≡ o
 or_none None = refl
 or_none (Some x) = refl
 
-settlements_reserve_nothing : (records : List Record) (n : ℕ) (outcome : Outcome) → reservations_of (records ++ settling n outcome ∷ []) ≡ reservations_of records
-settlements_reserve_nothing records n outcome = filter_map-append reservation_in records (settling n outcome ∷ []) ∙ append-nil (reservations_of records)
+settlements_reserve_nothing : (records : List Record) (n : ℕ) (outcome : Outcome) (returned : ℕ) → reservations_of (records ++ settling_back n outcome returned ∷ []) ≡ reservations_of records
+settlements_reserve_nothing records n outcome returned = filter_map-append reservation_in records (settling_back n outcome returned ∷ []) ∙ append-nil (reservations_of records)
 
 -- nothing explains nothing
 pub explains_none : (owner : Owner) (draws : ℕ → ℕ → ℕ) → Explains owner draws [] []
@@ -64,11 +64,11 @@ module _ (owner : Owner) (draws : ℕ → ℕ → ℕ) (programs : List (List �
       }
 
   -- a settlement more, which the reservation's program explains
-  pub explains_settlement : (n : ℕ) (program : List ℕ) (reserved : Reservation) (outcome : Outcome) → slice_get programs n ≡ Some program
+  pub explains_settlement : (n : ℕ) (program : List ℕ) (reserved : Reservation) (outcome : Outcome) (returned : ℕ) → slice_get programs n ≡ Some program
       → slice_get (reservations_of records) n ≡ Some reserved → outcome_of records n ≡ None → ExplainsOutcome owner (draws n) reserved program (Some outcome)
-      → Explains owner draws programs (records ++ settling n outcome ∷ [])
-  explains_settlement n program reserved outcome at_n made_n none settled =
-      let same : reservations_of (records ++ settling n outcome ∷ []) ≡ reservations_of records = settlements_reserve_nothing records n outcome in
+      → Explains owner draws programs (records ++ settling_back n outcome returned ∷ [])
+  explains_settlement n program reserved outcome returned at_n made_n none settled =
+      let same : reservations_of (records ++ settling_back n outcome returned ∷ []) ≡ reservations_of records = settlements_reserve_nothing records n outcome returned in
       record {
         each_has = ex.each_has ∙ ap length (sym same);
         explained = λ m other found at made_at.
@@ -81,14 +81,14 @@ module _ (owner : Owner) (draws : ℕ → ℕ → ℕ) (programs : List (List �
                   let here : Some reserved ≡ Some found = sym made_n ∙ ap (λ k. slice_get (reservations_of records) k) (sym is) ∙ made in
                   let there : Some program ≡ Some other = sym at_n ∙ ap (λ k. slice_get programs k) (sym is) ∙ at in
                   let asked : program ≡ other = cc in
-                  let now : outcome_of (records ++ settling n outcome ∷ []) m ≡ Some outcome = ap (λ k. outcome_of (records ++ settling n outcome ∷ []) k) is ∙ outcome_of-append-new records n outcome none in
+                  let now : outcome_of (records ++ settling_back n outcome returned ∷ []) m ≡ Some outcome = ap (λ k. outcome_of (records ++ settling_back n outcome returned ∷ []) k) is ∙ outcome_of-append-new records n outcome returned none in
                   subst (λ (o : Option Outcome). ExplainsOutcome owner (draws m) found other o) (sym now)
                   (subst (λ (x : List ℕ). ExplainsOutcome owner (draws m) found x (Some outcome)) asked
                   (subst (λ (r : Reservation). ExplainsOutcome owner (draws m) r program (Some outcome)) (same_Some reserved found here)
                   (subst (λ (k : ℕ). ExplainsOutcome owner (draws k) reserved program (Some outcome)) (sym is) settled))))
                   (λ other_number.
-                  let old : outcome_of (records ++ settling n outcome ∷ []) m ≡ outcome_of records m
-                  = outcome_of-append-Settle records n outcome m ∙ ap (λ b. option_or (outcome_of records m) (cond b (Some outcome) None)) (ne_eqb m n other_number) ∙ or_none (outcome_of records m) in
+                  let old : outcome_of (records ++ settling_back n outcome returned ∷ []) m ≡ outcome_of records m
+                  = outcome_of-append-Settle records n outcome returned m ∙ ap (λ b. option_or (outcome_of records m) (cond b (Some outcome) None)) (ne_eqb m n other_number) ∙ or_none (outcome_of records m) in
                   subst (λ (o : Option Outcome). ExplainsOutcome owner (draws m) found other o) (sym old) before.settled);
             };
       }

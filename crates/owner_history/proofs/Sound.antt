@@ -20,7 +20,7 @@ pub legal_self : (entry : Entry) (found : List Record) → IsLegal entry found f
 legal_self entry found = record {
   begins = take-length found;
   follows = λ k next past at. absurd (beyond found k next past at);
-  settles = λ k number outcome past at. absurd (beyond found k _ past at);
+  settles = λ k settlement past at. absurd (beyond found k _ past at);
   room = λ fits k more upto. absurd (omega arith);
   terms = λ k next past at. absurd (beyond found k next past at);
 }

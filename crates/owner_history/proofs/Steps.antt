@@ -6,16 +6,16 @@ use Rattle.journal_records.specs.declared.records.Outcome.{Outcome}
 use Rattle.journal_records.specs.declared.records.Reservation.{Reservation}
 use Rattle.journal_records.specs.declared.records.Record.{Record}
 use Rattle.journal_records.specs.declared.records.Record.TheVariants.{Reserve}
-use Rattle.journal_records.specs.Records.{reservation_in, settling}
+use Rattle.journal_records.specs.Records.{reservation_in}
 use Rattle.budget_core.specs.declared.entry.Ask.{Ask}
 use Rattle.budget_core.specs.declared.entry.Grant.{Grant}
 use Rattle.budget_core.specs.Counts.{reservations_of, reservation_of}
 use Rattle.journal_records.specs.Encoding.{AreChargeTerms}
 use Rattle.budget_core.specs.Legal.{IsHistory, IsLegal}
-use Rattle.budget_core.specs.Ledger.{Ledger, IsAskOf, IsUnsettled, next_number, reservation_numbered, money_verdict}
+use Rattle.budget_core.specs.Ledger.{Ledger, IsAskOf, IsUnsettled, next_number, reservation_numbered, money_verdict, returned_by, settlement_of, settlement_for}
 use Rattle.budget_core.proofs.Histories.{legal-history, slice_get-append-seam}
 use Rattle.budget_core.proofs.Numbers.{reservations_of-append-Reserve, reservations_of-append-Settle, reservation_of-append-old, reservation_of-next, outcome_of-append-new}
-use Rattle.budget_core.proofs.LegalLemmas.{granted as money_granted, legal-Reserve, legal-Settle, unsettled-Reserve}
+use Rattle.budget_core.proofs.LegalLemmas.{granted as money_granted, legal-Reserve, legal-Settle, unsettled-Reserve, settlement-may}
 use Rattle.owner_house.specs.Owner.{Owner, signature_of_view}
 use Rattle.answer_path.specs.Query.{Query}
 use Rattle.answer_path.specs.Code.{IsQueryOf}
@@ -107,11 +107,17 @@ module _ (owner : Owner) (draws : ℕ → ℕ → ℕ) (found : List Record) whe
       (reserved_for begun records w query of g.p g.q grant g.charged g.money)
 
   -- One settlement more.
-  pub settle : IsHistory owner.entry found → (records : List Record) → IsLawful records → (n : ℕ) (outcome : Outcome) → IsUnsettled (ledger_of records) n → IsLawful (records ++ settling n outcome ∷ [])
+  pub settle : IsHistory owner.entry found → (records : List Record) → IsLawful records → (n : ℕ) (outcome : Outcome) → IsUnsettled (ledger_of records) n
+      → IsLawful (records ++ settlement_for owner.entry records n outcome ∷ [])
   settle begun records w n outcome unsettled =
-      let after : List Record = records ++ settling n outcome ∷ [] in
-      let legal : IsLegal owner.entry found after = legal-Settle (ledger_of records) n outcome w.history w.legal unsettled in
-      record { history = legal-history owner.entry found after begun legal; legal = legal; later = omega (arith, w.later, reservations_of-append-Settle records n outcome) }
+      let after : List Record = records ++ settlement_for owner.entry records n outcome ∷ [] in
+      let legal : IsLegal owner.entry found after
+      = legal-Settle (ledger_of records) (settlement_of owner.entry records n outcome) w.history w.legal (settlement-may (ledger_of records) n outcome unsettled) in
+      record {
+        history = legal-history owner.entry found after begun legal;
+        legal = legal;
+        later = omega (arith, w.later, reservations_of-append-Settle records n outcome (returned_by owner.entry records n outcome));
+      }
 
   -- The program of a reservation explains it, behind those of the records.
   pub well_reserved : (programs : List (List ℕ)) (records : List Record) → IsWell programs records → (query : Query) (n : ℕ) (r : Reservation) (after : List Record) → IsReserved records query n r after
@@ -130,7 +136,7 @@ module _ (owner : Owner) (draws : ℕ → ℕ → ℕ) (found : List Record) whe
     pub granted : IsGranted (programs ++ query.program ∷ []) after query n outcome
 
   settled_step : IsHistory owner.entry found → (programs : List (List ℕ)) (records : List Record) → IsWell programs records → (query : Query) (n : ℕ) (r : Reservation) (first : List Record) (outcome : Outcome)
-      → IsReserved records query n r first → IsSettledBy owner draws query n outcome → IsStep programs records query n outcome (first ++ settling n outcome ∷ [])
+      → IsReserved records query n r first → IsSettledBy owner draws query n outcome → IsStep programs records query n outcome (first ++ settlement_for owner.entry first n outcome ∷ [])
   settled_step begun programs records w query n r first outcome made settles =
       let counted : n ≡ length programs = made.number ∙ sym w.explained.each_has in
       let at : slice_get (programs ++ query.program ∷ []) n ≡ Some query.program = ap (λ k. slice_get (programs ++ query.program ∷ []) k) counted ∙ slice_get-append-seam programs query.program [] in
@@ -140,19 +146,19 @@ module _ (owner : Owner) (draws : ℕ → ℕ → ℕ) (found : List Record) whe
       let reserved : IsWell (programs ++ query.program ∷ []) first = well_reserved programs records w query n r first made in
       record {
         number = made.number;
-        counted = reservations_of-append-Settle first n outcome ∙ made.counted;
+        counted = reservations_of-append-Settle first n outcome (returned_by owner.entry first n outcome) ∙ made.counted;
         well = record {
           lawful = settle begun first made.lawful n outcome made.unsettled;
-          explained = explains_settlement owner draws (programs ++ query.program ∷ []) first reserved.explained n query.program r outcome at listed made.unsettled.unsettled
+          explained = explains_settlement owner draws (programs ++ query.program ∷ []) first reserved.explained n query.program r outcome (returned_by owner.entry first n outcome) at listed made.unsettled.unsettled
               (outcome_explains owner draws query n outcome r made.view made.epsilon settles);
         };
         granted = record {
           reserved = r;
-          numbered = reservation_of-append-old first (settling n outcome) n r made.numbered;
+          numbered = reservation_of-append-old first (settlement_for owner.entry first n outcome) n r made.numbered;
           analyst = made.analyst;
           view = made.view;
           epsilon = made.epsilon;
-          settled = outcome_of-append-new first n outcome made.unsettled.unsettled;
+          settled = outcome_of-append-new first n outcome (returned_by owner.entry first n outcome) made.unsettled.unsettled;
           program = at;
         };
       }
@@ -160,18 +166,18 @@ module _ (owner : Owner) (draws : ℕ → ℕ → ℕ) (found : List Record) whe
   -- One grant more.
   pub step : IsHistory owner.entry found → (programs : List (List ℕ)) (records : List Record) → IsWell programs records → (query : Query) → IsQueryOf owner.entry query → (asking : Ask) (grant : Grant) (outcome : Outcome)
       → IsVerdict owner.entry (signature_of_view owner query.view) (length (reservations_of found)) records query (granted asking grant) → IsSettledBy owner draws query grant.number outcome
-      → IsStep programs records query grant.number outcome (records ++ grant_records asking grant outcome)
+      → IsStep programs records query grant.number outcome (records ++ grant_records owner.entry records asking grant outcome)
   step begun programs records w query of asking grant outcome is settles =
       let made = reserve begun records w.lawful query of asking grant is in
-      subst (λ (rs : List Record). IsStep programs records query grant.number outcome rs) (append_assoc records (granted_record asking grant ∷ []) (settling grant.number outcome ∷ []))
+      subst (λ (rs : List Record). IsStep programs records query grant.number outcome rs) (append_assoc records (granted_record asking grant ∷ []) (settlement_for owner.entry (records ++ granted_record asking grant ∷ []) grant.number outcome ∷ []))
       (settled_step begun programs records w query grant.number (reservation_numbered grant.number asking grant.taken) (records ++ granted_record asking grant ∷ []) outcome made settles)
 
   -- The same of the records alone, whatever was found.
   pub lawful_step : IsHistory owner.entry found → (records : List Record) → IsLawful records → (query : Query) → IsQueryOf owner.entry query → (asking : Ask) (grant : Grant) (outcome : Outcome)
-      → IsVerdict owner.entry (signature_of_view owner query.view) (length (reservations_of found)) records query (granted asking grant) → IsLawful (records ++ grant_records asking grant outcome)
+      → IsVerdict owner.entry (signature_of_view owner query.view) (length (reservations_of found)) records query (granted asking grant) → IsLawful (records ++ grant_records owner.entry records asking grant outcome)
   lawful_step begun records w query of asking grant outcome is =
       let made = reserve begun records w query of asking grant is in
-      subst IsLawful (append_assoc records (granted_record asking grant ∷ []) (settling grant.number outcome ∷ []))
+      subst IsLawful (append_assoc records (granted_record asking grant ∷ []) (settlement_for owner.entry (records ++ granted_record asking grant ∷ []) grant.number outcome ∷ []))
       (settle begun (records ++ granted_record asking grant ∷ []) made.lawful grant.number outcome made.unsettled)
 
 -- what is said of a number stays so in records and programs that go on

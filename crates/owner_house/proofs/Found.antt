@@ -1,6 +1,6 @@
 -- what the names of an owner, a partition and a key find
-use Rattle.std.proofs.Common.{◌≡◌, ℕ, suc, ◌+◌, ◌<◌, Bool, true, false, cond, List, [], ◌∷◌, length, slice_get, Option, Some, None, option_map, refl, sym, ◌∙◌, ap, subst, arith, bytes_eq}
-use Rattle.std.specs.Prelude.{IsSomeAnd, Result, Ok, ok_or}
+use Rattle.std.proofs.Common.{◌≡◌, ℕ, suc, ◌+◌, ◌<◌, Bool, true, false, cond, List, [], ◌∷◌, length, slice_get, Option, Some, option_map, sym, ◌∙◌, ap, subst, arith, bytes_eq}
+use Rattle.std.specs.Prelude.{IsSomeAnd}
 use Rattle.std.proofs.lemmas.List.Quantifiers.{position-Some}
 use Rattle.std.proofs.lemmas.Option.{slice_get-get_or, slice_get-map}
 use Rattle.partition_charge.specs.declared.view.View.{View}

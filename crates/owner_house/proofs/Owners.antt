@@ -6,46 +6,60 @@ use Rattle.std.proofs.lemmas.List.{length-map}
 use Rattle.std.proofs.Math.Seq.{take-length}
 use Rattle.std.specs.Prelude.{IfSome}
 use Rattle.std.proofs.lemmas.List.Quantifiers.{position-Some}
-use Rattle.std.specs.List.{All, zip, position, position_from}
+use Rattle.std.specs.List.{All, position, position_from}
 use Rattle.fz_ast.specs.Signature.{Signature}
 use Rattle.owner_catalog.specs.Entries.{Catalog, OwnerEntry, TableEntry, PartitionEntry, owner_entry_at as listed_at}
 use Rattle.owner_catalog.specs.Lawful.{IsOwner, IsPartition}
 use Rattle.partition_charge.specs.declared.view.View.TheVariants.{Part}
+use Rattle.journal_records.specs.Encoding.{newest_version}
 use Rattle.budget_core.specs.Entries.{Entry, IsEntry, HasView}
 use Rattle.owner_house.specs.Owner.{HasData, Owner, IsOwnerOf}
 use Rattle.part_views.specs.Holding.{Holding}
 use Rattle.part_views.specs.Partitions.{HasPart}
 use Rattle.owner_house.specs.Names.{AreNames}
-use Rattle.owner_house.specs.House.{Register, IsRegister, House, IsOwnerIn, AreOwners, house_of, entry_of, keys_of, owner_of, owner_from, owner_named, no_partition, partition_named, partition_at, key_named, no_owner, owner_at, numbered}
+use Rattle.owner_house.specs.House.{Register, IsRegister, House, IsOwnerIn, AreOwners, house_of, entry_of, keys_of, owner_of, owners_of, owner_from, owner_named, no_partition, partition_named, partition_at, key_named, no_owner, owner_at, numbered}
 use Rattle.owner_house.proofs.Found.{owner_stands, part_has_view}
 use Rattle.owner_house.proofs.Names.{tables_said}
 
--- an owner's entry and holding stand at its number
-pub record IsListed (catalog : Catalog) (entries : List OwnerEntry) (holdings : List Holding) (o : ℕ) (owner : Owner) : Type 0 where
+-- an owner's entry, holding and version stand at its number
+pub record IsListed (catalog : Catalog) (entries : List OwnerEntry) (holdings : List Holding) (versions : List ℕ) (o : ℕ) (owner : Owner) : Type 0 where
   pub entry : OwnerEntry
   pub holding : Holding
+  pub version : ℕ
   pub listed : slice_get entries o ≡ Some entry
   pub held : slice_get holdings o ≡ Some holding
-  pub is : owner_of catalog (entry, holding) ≡ owner
+  pub versioned : slice_get versions o ≡ Some version
+  pub is : owner_of catalog ((entry, holding), version) ≡ owner
 
-paired : (catalog : Catalog) (entries : List OwnerEntry) (holdings : List Holding) (o : ℕ) (owner : Owner) → slice_get (map (owner_of catalog) (zip entries holdings)) o ≡ Some owner → IsListed catalog entries holdings o owner
-paired catalog [] holdings o owner at = absurd (cc (at))
-paired catalog (entry ∷ entries) [] o owner at = absurd (cc (at))
-paired catalog (entry ∷ entries) (holding ∷ holdings) zero owner at = record { entry = entry; holding = holding; listed = refl; held = refl; is = cc (at) }
-paired catalog (entry ∷ entries) (holding ∷ holdings) (suc o) owner at =
-    let s = paired catalog entries holdings o owner at in record { entry = s.entry; holding = s.holding; listed = s.listed; held = s.held; is = s.is }
+paired : (catalog : Catalog) (entries : List OwnerEntry) (holdings : List Holding) (versions : List ℕ) (o : ℕ) (owner : Owner) → slice_get (owners_of catalog entries holdings versions) o ≡ Some owner
+    → IsListed catalog entries holdings versions o owner
+paired catalog [] holdings versions o owner at = absurd (cc (at))
+paired catalog (entry ∷ entries) [] versions o owner at = absurd (cc (at))
+paired catalog (entry ∷ entries) (holding ∷ holdings) [] o owner at = absurd (cc (at))
+paired catalog (entry ∷ entries) (holding ∷ holdings) (version ∷ versions) zero owner at =
+    record { entry = entry; holding = holding; version = version; listed = refl; held = refl; versioned = refl; is = cc (at) }
+paired catalog (entry ∷ entries) (holding ∷ holdings) (version ∷ versions) (suc o) owner at =
+    let s = paired catalog entries holdings versions o owner at in
+    record { entry = s.entry; holding = s.holding; version = s.version; listed = s.listed; held = s.held; versioned = s.versioned; is = s.is }
 
-pub owner_stands_at : (register : Register) (o : ℕ) (owner : Owner) → slice_get (house_of register).owners o ≡ Some owner → IsListed register.catalog register.catalog.owners register.holdings o owner
-owner_stands_at register o owner at = paired register.catalog register.catalog.owners register.holdings o owner at
+pub owner_stands_at : (register : Register) (o : ℕ) (owner : Owner) → slice_get (house_of register).owners o ≡ Some owner
+    → IsListed register.catalog register.catalog.owners register.holdings register.versions o owner
+owner_stands_at register o owner at = paired register.catalog register.catalog.owners register.holdings register.versions o owner at
 
--- there is a pair for each entry
-paired_length : (catalog : Catalog) (entries : List OwnerEntry) (holdings : List Holding) → length holdings ≡ length entries → length (map (owner_of catalog) (zip entries holdings)) ≡ length entries
-paired_length catalog [] holdings same = refl
-paired_length catalog (entry ∷ entries) [] same = absurd (omega (arith, same))
-paired_length catalog (entry ∷ entries) (holding ∷ holdings) same = let rest = paired_length catalog entries holdings (omega (arith, same)) in omega (arith, rest)
+-- there is an owner for each entry
+paired_length : (catalog : Catalog) (entries : List OwnerEntry) (holdings : List Holding) (versions : List ℕ) → length holdings ≡ length entries → length entries ≤ length versions
+    → length (owners_of catalog entries holdings versions) ≡ length entries
+paired_length catalog [] holdings versions same fits = refl
+paired_length catalog (entry ∷ entries) [] versions same fits = absurd (omega (arith, same))
+paired_length catalog (entry ∷ entries) (holding ∷ holdings) [] same fits = absurd (omega (arith, fits))
+paired_length catalog (entry ∷ entries) (holding ∷ holdings) (version ∷ versions) same fits =
+    let rest = paired_length catalog entries holdings versions (omega (arith, same)) (omega (arith, fits)) in omega (arith, rest)
+
+pub enough_versions : (register : Register) → IsRegister register → length register.catalog.owners ≤ length register.versions
+enough_versions register of = omega (arith, of.versioned, of.catalog.few_owners)
 
 pub owners_length : (register : Register) → IsRegister register → length (house_of register).owners ≡ length register.catalog.owners
-owners_length register of = paired_length register.catalog register.catalog.owners register.holdings of.each_has
+owners_length register of = paired_length register.catalog register.catalog.owners register.holdings register.versions of.each_has (enough_versions register of)
 
 pub in_catalog : (register : Register) → IsRegister register → (o : ℕ) → o < length (house_of register).owners → o < length register.catalog.owners
 in_catalog register of o within = omega (arith, within, owners_length register of)
@@ -53,14 +67,17 @@ in_catalog register of o within = omega (arith, within, owners_length register o
 pub in_holdings : (register : Register) → IsRegister register → (o : ℕ) → o < length (house_of register).owners → o < length register.holdings
 in_holdings register of o within = omega (arith, within, owners_length register of, of.each_has)
 
--- what is kept of an owner's budget is what the catalog says
-pub entry_said : (register : Register) (o : ℕ) (owner : Owner) → slice_get (house_of register).owners o ≡ Some owner → entry_of register.catalog (listed_at register.catalog o) ≡ owner.entry
-entry_said register o owner at =
+-- what is kept of an owner's budget is what the catalog says, with the version of its journal
+pub entry_said : (register : Register) (o : ℕ) (owner : Owner) (d : ℕ) → slice_get (house_of register).owners o ≡ Some owner
+    → record (entry_of register.catalog (listed_at register.catalog o)) { version = get_or register.versions o d } ≡ owner.entry
+entry_said register o owner d at =
     let s = owner_stands_at register o owner at in
-    ap (entry_of register.catalog) (get_or_from_slice_get register.catalog.owners o s.entry _ s.listed) ∙ ap (λ (w : Owner). w.entry) s.is
+    let listed = get_or_from_slice_get register.catalog.owners o s.entry _ s.listed in
+    let version = get_or_from_slice_get register.versions o s.version d s.versioned in
+    (λ i. record (entry_of register.catalog (listed i)) { version = version i }) ∙ ap (λ (w : Owner). w.entry) s.is
 
 pub entry_made : (catalog : Catalog) (o budget capacity analysts : ℕ) (keys : List ℕ) → budget ≡ (listed_at catalog o).budget → capacity ≡ (listed_at catalog o).capacity → analysts ≡ length catalog.analysts
-    → keys ≡ keys_of (listed_at catalog o) → record { budget = budget; capacity = capacity; analysts = analysts; keys = keys } ≡ entry_of catalog (listed_at catalog o)
+    → keys ≡ keys_of (listed_at catalog o) → record { budget = budget; capacity = capacity; analysts = analysts; keys = keys; version = newest_version } ≡ entry_of catalog (listed_at catalog o)
 entry_made catalog o budget capacity analysts keys b c a k = cc (b, c, a, k)
 
 -- each partition of a catalog has some keys, and not too many
@@ -163,24 +180,28 @@ owner_counts register o within =
     let s = owner_stands_at register o (owner_at (house_of register) o) (owner_there register o within) in sym (ap (λ (w : Owner). w.entry.analysts) s.is)
 
 -- a name's place among the entries is the number of its owner
-paired_place : (catalog : Catalog) (entries : List OwnerEntry) (holdings : List Holding) (name : List ℕ) (k : ℕ) → length holdings ≡ length entries
-    → option_map (λ found. found.0) (owner_from k (map (owner_of catalog) (zip entries holdings)) name) ≡ position_from (λ other. bytes_eq name other.name) k entries
-paired_place catalog [] holdings name k same = refl
-paired_place catalog (entry ∷ entries) [] name k same = absurd (omega (arith, same))
-paired_place catalog (entry ∷ entries) (holding ∷ holdings) name k same = here (paired_place catalog entries holdings name (k + 1) (omega (arith, same))) (bytes_eq name entry.name)
+paired_place : (catalog : Catalog) (entries : List OwnerEntry) (holdings : List Holding) (versions : List ℕ) (name : List ℕ) (k : ℕ) → length holdings ≡ length entries
+    → length entries ≤ length versions
+    → option_map (λ found. found.0) (owner_from k (owners_of catalog entries holdings versions) name) ≡ position_from (λ other. bytes_eq name other.name) k entries
+paired_place catalog [] holdings versions name k same fits = refl
+paired_place catalog (entry ∷ entries) [] versions name k same fits = absurd (omega (arith, same))
+paired_place catalog (entry ∷ entries) (holding ∷ holdings) [] name k same fits = absurd (omega (arith, fits))
+paired_place catalog (entry ∷ entries) (holding ∷ holdings) (version ∷ versions) name k same fits =
+    here (paired_place catalog entries holdings versions name (k + 1) (omega (arith, same)) (omega (arith, fits))) (bytes_eq name entry.name)
   where
     rest : Option (ℕ × Owner)
-    rest = owner_from (k + 1) (map (owner_of catalog) (zip entries holdings)) name
+    rest = owner_from (k + 1) (owners_of catalog entries holdings versions) name
 
     here : option_map (λ found. found.0) rest ≡ position_from (λ (other : OwnerEntry). bytes_eq name other.name) (k + 1) entries
-        → (b : Bool) → option_map (λ found. found.0) (cond b (Some (k, owner_of catalog (entry, holding))) rest) ≡ cond b (Some k) (position_from (λ (other : OwnerEntry). bytes_eq name other.name) (k + 1) entries)
+        → (b : Bool) → option_map (λ found. found.0) (cond b (Some (k, owner_of catalog ((entry, holding), version))) rest)
+        ≡ cond b (Some k) (position_from (λ (other : OwnerEntry). bytes_eq name other.name) (k + 1) entries)
     here ih true = refl
     here ih false = ih
 
 pub place_is : (register : Register) → IsRegister register → (name : List ℕ)
     → option_map (λ found. found.0) (owner_named (house_of register) name) ≡ position (λ other. bytes_eq name other.name) register.catalog.owners
 place_is register of name =
-    paired_place register.catalog register.catalog.owners register.holdings name 0 of.each_has ∙ sym (position_from-zero (λ (other : OwnerEntry). bytes_eq name other.name) register.catalog.owners)
+    paired_place register.catalog register.catalog.owners register.holdings register.versions name 0 of.each_has (enough_versions register of) ∙ sym (position_from-zero (λ (other : OwnerEntry). bytes_eq name other.name) register.catalog.owners)
 
 -- a number that is found by its name is its owner's
 pub named_is : (house : House) (name : List ℕ) → numbered house (option_map (λ found. found.0) (owner_named house name)) ≡ owner_named house name
@@ -217,7 +238,7 @@ pub register_owners : (register : Register) → IsRegister register → AreOwner
 register_owners register of o owner at =
     let s = owner_stands_at register o owner at in
     let held = of.holds o s.entry s.holding s.listed s.held in
-    let here : IsOwnerIn (house_of register) (owner_of register.catalog (s.entry, s.holding)) = record {
+    let here : IsOwnerIn (house_of register) (owner_of register.catalog ((s.entry, s.holding), s.version)) = record {
       data_of = record {
         tables = held.rows.signature;
         rows = held.rows.dataset;

@@ -1,8 +1,10 @@
 -- The house: its analysts, its owners, their tables and partitions.
-use Rattle.std.specs.Prelude.{◌≡◌, ℕ, ◌+◌, List, [], ◌∷◌, length, Option, Some, None, cond, map, get_or}
+use Rattle.std.specs.Prelude.{◌≡◌, ℕ, ◌+◌, List, [], ◌∷◌, length, Option, Some, None, cond, map, get_or, replicate}
 use Rattle.std.specs.Prelude.{position, bytes_eq, slice_get, option_map}
 use Rattle.std.specs.List.{zip}
+use Rattle.journal_records.specs.Encoding.{newest_version}
 use Rattle.budget_core.specs.Entries.{Entry}
+use Rattle.owner_catalog.specs.Limits.{owner_limit}
 use Rattle.owner_catalog.specs.Catalog.{Catalog, OwnerEntry, PartitionEntry, IsCatalog, owner_signature}
 use Rattle.part_views.specs.Holding.{Holding, IsHolding}
 use Rattle.owner_house.specs.Owner.{Owner, HasData}
@@ -48,31 +50,45 @@ pub record IsOwnerIn (house : House) (owner : Owner) : Type 0 where
 abbrev pub AreOwners : House → Type 0
 AreOwners house = (o : ℕ) (owner : Owner) → slice_get house.owners o ≡ Some owner → IsOwnerIn house owner
 
--- What a house is made of: a catalog, and what each of its owners holds, in order.
+-- What a house is made of: a catalog, what each of its owners holds, in order, and the versions of their journals.
 pub record Register : Type 0 where
   pub catalog : Catalog
   pub holdings : List Holding
+  pub versions : List ℕ
 
+abbrev pub register_by : Catalog → List Holding → (versions : List ℕ) → Register
+register_by catalog holdings versions = record { catalog = catalog; holdings = holdings; versions = versions }
+
+-- with new journals
 abbrev pub register_with : Catalog → List Holding → Register
-register_with catalog holdings = record { catalog = catalog; holdings = holdings }
+register_with catalog holdings = register_by catalog holdings (replicate owner_limit newest_version)
 
 -- how many keys each of an owner's partitions has
 abbrev pub keys_of : OwnerEntry → List ℕ
 keys_of owner = map (λ partition. length partition.keys) owner.partitions
 
--- what is kept of an owner's budget
+-- what is kept of an owner's budget, for a new journal
 abbrev pub entry_of : Catalog → OwnerEntry → Entry
 entry_of catalog owner =
-    record { budget = owner.budget; capacity = owner.capacity; analysts = length catalog.analysts; keys = keys_of owner }
+    record { budget = owner.budget; capacity = owner.capacity; analysts = length catalog.analysts; keys = keys_of owner; version = newest_version }
 
--- an owner of the catalog, and what it holds
-abbrev pub owner_of : Catalog → OwnerEntry × Holding → Owner
-owner_of catalog (owner, holding) =
-    record { name = owner.name; entry = entry_of catalog owner; tables = holding.tables; rows = holding.rows; partitions = holding.partitions }
+-- an owner of the catalog, what it holds, and the version of its journal
+abbrev pub owner_of : Catalog → (OwnerEntry × Holding) × ℕ → Owner
+owner_of catalog ((owner, holding), version) = record {
+  name = owner.name;
+  entry = record (entry_of catalog owner) { version = version };
+  tables = holding.tables;
+  rows = holding.rows;
+  partitions = holding.partitions;
+}
+
+-- a catalog's owners
+abbrev pub owners_of : Catalog → List OwnerEntry → List Holding → (versions : List ℕ) → List Owner
+owners_of catalog entries holdings versions = map (owner_of catalog) (zip (zip entries holdings) versions)
 
 abbrev pub house_of : Register → House
 house_of register =
-    record { analysts = register.catalog.analysts; owners = map (owner_of register.catalog) (zip register.catalog.owners register.holdings) }
+    record { analysts = register.catalog.analysts; owners = owners_of register.catalog register.catalog.owners register.holdings register.versions }
 
 -- The owner's tables and partitions are those that the catalog says it has, and there are rows of each table.
 pub record IsHeldBy (owner : OwnerEntry) (holding : Holding) : Type 0 where
@@ -84,11 +100,12 @@ pub record IsHeldBy (owner : OwnerEntry) (holding : Holding) : Type 0 where
 pub record IsRegister (register : Register) : Type 0 where
   pub catalog : IsCatalog register.catalog
   pub each_has : length register.holdings ≡ length register.catalog.owners
+  pub versioned : length register.versions ≡ owner_limit
   pub holds : (o : ℕ) (owner : OwnerEntry) (holding : Holding) → slice_get register.catalog.owners o ≡ Some owner
       → slice_get register.holdings o ≡ Some holding → IsHeldBy owner holding
 
 abbrev pub no_entry : Entry
-no_entry = record { budget = 0; capacity = 0; analysts = 0; keys = [] }
+no_entry = record { budget = 0; capacity = 0; analysts = 0; keys = []; version = 0 }
 
 abbrev pub no_owner : Owner
 no_owner = record { name = []; entry = no_entry; tables = []; rows = []; partitions = [] }

@@ -1,6 +1,6 @@
 //! A house: a catalog's owners, and what each of them holds.
 
-ghost use Rattle.std.specs.Prelude.{◌≡◌, ◌<◌, length, slice_get, Some, IfSome, IfOk, IsTrue};
+ghost use Rattle.std.specs.Prelude.{◌≡◌, ◌<◌, length, slice_get, slice_set, Some, IfSome, IfOk, IsTrue};
 ghost use Rattle.wire_lines.specs.Name.{is_name};
 ghost use Rattle.partition_charge.specs.declared.view.View.TheVariants.{Part};
 ghost use Rattle.budget_core.specs.Entries.{HasView};
@@ -10,39 +10,56 @@ ghost use Rattle.owner_catalog.specs.Entries.{owner_entry_at};
 ghost use Rattle.owner_house.specs.House.{IsRegister, register_with, house_of, keys_of, analyst_named, owner_named, partition_named, partition_at, key_named, numbered, owner_at};
 
 use budget_core::entry::Entry;
+use journal_records::records::NEWEST_VERSION;
 use owner_catalog::Catalog;
 use part_views::Dataset;
 use std::alloc::{AllocError, Global};
 use std::marker::Model;
 
-/// A catalog, and the tables, rows and partitions of each of its owners, in order.
+/// The owners that a catalog may have.
+const OWNERS: usize = 16;
+
+/// A catalog, the tables, rows and partitions of each of its owners, in order, and the versions of their journals.
 #[derive(Drop)]
 pub struct House {
     catalog: Catalog,
     datasets: Vec<Dataset>,
+    versions: [u8; OWNERS],
 }
 
 impl Model for House {
     ghost use Rattle.std.specs.Coded.{codes};
     ghost use Rattle.part_views.specs.Holding.{holding_code};
-    ghost use Rattle.owner_house.specs.House.{Register, IsRegister, register_with};
+    ghost use Rattle.owner_house.specs.House.{Register, IsRegister, register_by};
 
     ghost Value = { Register };
 
     ghost coded = { Prim.hlevel (codes, holding_code) };
 
-    ghost view = { λ h. register_with h.catalog h.datasets.items };
+    ghost view = { λ h. register_by h.catalog h.datasets.items h.versions };
 
-    ghost invariant = { λ h. IsRegister (register_with h.catalog h.datasets.items) };
+    ghost invariant = { λ h. IsRegister (register_by h.catalog h.datasets.items h.versions) };
 }
 
 impl House {
-    /// A house of a catalog, where what each owner holds stands at the owner's number.
+    /// A house of a catalog, where what each owner holds stands at the owner's number. Its journals are new.
     pub fn new(catalog: Catalog, datasets: Vec<Dataset>) -> House
         requires { IsRegister (register_with catalog datasets.items) }
         ensures { result ≡ register_with catalog datasets.items }
     {
-        House { catalog, datasets }
+        House {
+            catalog,
+            datasets,
+            versions: [NEWEST_VERSION; OWNERS],
+        }
+    }
+
+    /// An owner's journal is of this version.
+    pub fn set_version(&mut self, owner: u32, version: u8)
+        requires { owner < length (house_of self.old).owners }
+        ensures { self.new ≡ record self.old { versions = slice_set self.old.versions owner version } }
+    {
+        self.versions[owner as usize] = version;
     }
 
     /// The catalog.
@@ -72,12 +89,13 @@ impl House {
     {
         let analysts = self.catalog.analysts() as u16;
         let keys = self.keys(alloc, owner)?;
-        Ok(Entry::new(
+        let entry = Entry::new(
             self.catalog.budget(owner),
             self.catalog.capacity(owner),
             analysts,
             keys,
-        ))
+        );
+        Ok(entry.with_version(self.versions[owner as usize]))
     }
 
     /// An owner's tables, their rows and the partitions of them.

@@ -57,6 +57,10 @@ both-true false b is = absurd cc
 same-part : (p j : ℕ) → same_view (Part p j) (Part p j) ≡ true
 same-part p j = cc (eq-eqb p p refl, eq-eqb j j refl)
 
+pub same-self : (view : View) → same_view view view ≡ true
+same-self Whole = refl
+same-self (Part p j) = same-part p j
+
 other-partition : (p q i j : ℕ) → (q ≡ p → ⊥) → same_view (Part q i) (Part p j) ≡ false
 other-partition p q i j isnt = not-true (same_view (Part q i) (Part p j)) (λ yes. isnt (eqb-true q p (both-true (eqb q p) (eqb i j) yes).0))
 
@@ -126,11 +130,28 @@ pub costs-its-dearest : (charges : List Charge) (p cost : ℕ) → partition_cos
 costs-its-dearest charges p cost = (λ most j. omega (arith, most, dearest-at charges p j), dearest-le charges p cost)
 
 -- partitions whose parts cost the same
-same-partition : (xs ys : List Charge) (p : ℕ) → ((j : ℕ) → charges_of (Part p j) ys ≡ charges_of (Part p j) xs) → partition_cost ys p ≡ partition_cost xs p
+pub same-partition : (xs ys : List Charge) (p : ℕ) → ((j : ℕ) → charges_of (Part p j) ys ≡ charges_of (Part p j) xs) → partition_cost ys p ≡ partition_cost xs p
 same-partition xs ys p same =
     let up : partition_cost ys p ≤ partition_cost xs p = dearest-le ys p (partition_cost xs p) (λ j. omega (arith, same j, dearest-at xs p j)) in
     let down : partition_cost xs p ≤ partition_cost ys p = dearest-le xs p (partition_cost ys p) (λ j. omega (arith, same j, dearest-at ys p j)) in
     omega (arith, up, down)
+
+-- Lists that charge each view the same cost the same.
+pub same-cost : (xs ys : List Charge) → ((view : View) → charges_of view ys ≡ charges_of view xs) → cost_of_charges ys ≡ cost_of_charges xs
+unfolding cost_of_charges
+same-cost xs ys same =
+    let parts : total_below partition_range (partition_cost ys) ≡ total_below partition_range (partition_cost xs)
+    = total-same partition_range (partition_cost xs) (partition_cost ys) (λ p lt. same-partition xs ys p (λ j. same (Part p j))) in
+    omega (arith, parts, same Whole)
+
+-- The whole view's charges and a partition's cost are at most the cost.
+pub whole-within : (charges : List Charge) → charges_of Whole charges ≤ cost_of_charges charges
+unfolding cost_of_charges
+whole-within charges = omega arith
+
+pub partition-within : (charges : List Charge) (p : ℕ) → p < partition_range → partition_cost charges p ≤ cost_of_charges charges
+unfolding cost_of_charges
+partition-within charges p lt = omega (arith, total-at partition_range (partition_cost charges) p lt)
 
 module _ (charges : List Charge) (amount : ℕ) where
   -- ---- to the whole
@@ -227,6 +248,11 @@ parts-le : (xs ys : List Charge) → ((p j : ℕ) → charges_of (Part p j) xs �
     → total_below partition_range (partition_cost xs) ≤ total_below partition_range (partition_cost ys)
 parts-le xs ys below = total-le partition_range (partition_cost xs) (partition_cost ys)
     (λ p. dearest-le xs p (partition_cost ys p) (λ j. omega (arith, below p j, dearest-at ys p j)))
+
+-- What charges no view more costs no more.
+pub cost-le : (xs ys : List Charge) → ((view : View) → charges_of view xs ≤ charges_of view ys) → cost_of_charges xs ≤ cost_of_charges ys
+unfolding cost_of_charges
+cost-le xs ys below = omega (arith, below Whole, parts-le xs ys (λ p j. below (Part p j)))
 
 pub never-falls : (charges : List Charge) (next : Charge) → cost_of_charges charges ≤ cost_of_charges (charges ++ next ∷ [])
 unfolding cost_of_charges

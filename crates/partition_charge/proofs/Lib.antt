@@ -1,3 +1,4 @@
 pub mod Charges
 mod Examples
+pub mod Rests
 pub mod Standing

@@ -1,5 +1,5 @@
 -- What totals that stand for charges hold.
-use Rattle.std.proofs.Common.{◌≡◌, ℕ, ◌<◌, List, [], ◌∷◌, length, get_or, replicate, slice_index, sym, subst, ◌∙◌, ap, Some, arith, ⊎_elim, inl, inr, ◌⊎◌, max, set, ◌+◌, ◌++◌}
+use Rattle.std.proofs.Common.{◌≡◌, ℕ, ◌<◌, List, [], ◌∷◌, length, get_or, replicate, slice_index, refl, sym, subst, ◌∙◌, ap, Some, arith, ⊎_elim, inl, inr, ◌⊎◌, max, set, ◌+◌, ◌++◌}
 use Rattle.std.proofs.lemmas.Option.{slice_get-get_or, slice_get_within, get_or_from_slice_get}
 use Rattle.std.proofs.lemmas.List.{get_or-replicate, get_or-set_same, get_or-set_other, length-set}
 use Rattle.std.proofs.lemmas.Bool.{cases_eq}
@@ -27,7 +27,7 @@ new-stands = record {
   partitions = λ p parts is.
       let lt : p < length (replicate partition_range none) = slice_get_within (replicate partition_range none) p parts is in
       let same : none ≡ parts = sym (get_or-replicate partition_range p none none lt) ∙ get_or_from_slice_get (replicate partition_range none) p parts none is in
-      subst (λ (x : Parts). HasSums [] p x) same (record { sums = λ j within. get_or-replicate part_limit j 0 0 within; greatest = sym (partition-nil p) });
+      subst (λ (x : Parts). HasSums [] p x) same (record { sums = λ j within. get_or-replicate part_limit j 0 0 within; beyond = λ j past. refl; greatest = sym (partition-nil p) });
 }
 
 -- what a partition holds after another's charge, or the whole's
@@ -35,6 +35,7 @@ pub sums-whole : (charges : List Charge) (amount p : ℕ) (parts : Parts) → Ha
     → HasSums (charges ++ record { view = Whole; amount = amount } ∷ []) p parts
 sums-whole charges amount p parts has = record {
   sums = λ j within. has.sums j within ∙ sym (whole-part charges amount p j);
+  beyond = λ j past. whole-part charges amount p j ∙ has.beyond j past;
   greatest = has.greatest ∙ sym (whole-partition charges amount p);
 }
 
@@ -42,6 +43,7 @@ sums-elsewhere : (charges : List Charge) (amount p j q : ℕ) (parts : Parts) �
     → HasSums (charges ++ record { view = Part p j; amount = amount } ∷ []) q parts
 sums-elsewhere charges amount p j q parts isnt has = record {
   sums = λ i within. has.sums i within ∙ sym (part-elsewhere charges amount p j q i isnt);
+  beyond = λ i past. part-elsewhere charges amount p j q i isnt ∙ has.beyond i past;
   greatest = has.greatest ∙ sym (elsewhere-partition charges amount p j q isnt);
 }
 
@@ -56,11 +58,12 @@ sums-raised charges amount p j old new lt has raised others greatest = record {
       ∙ ap (λ (k : ℕ). charges_of (Part p k) (charges ++ record { view = Part p j; amount = amount } ∷ [])) (sym is))
       (λ isnt. others i isnt ∙ has.sums i within ∙ sym (part-other charges amount p j i isnt))
       (cases_eq i j);
+  beyond = λ i past. part-other charges amount p j i (λ is. omega (arith, is, past, lt)) ∙ has.beyond i past;
   greatest = omega (arith, greatest, has.sums j lt, has.greatest, part-partition charges amount p j);
 }
 
 -- one element was put in
-set-get : (xs : List Parts) (p k : ℕ) (x y : Parts) → slice_get (set xs p x) k ≡ Some y → ((k ≡ p) × (x ≡ y)) ⊎ ((k ≡ p → ⊥) × (slice_get xs k ≡ Some y))
+pub set-get : (xs : List Parts) (p k : ℕ) (x y : Parts) → slice_get (set xs p x) k ≡ Some y → ((k ≡ p) × (x ≡ y)) ⊎ ((k ≡ p → ⊥) × (slice_get xs k ≡ Some y))
 set-get xs p k x y is =
     let lt : k < length (set xs p x) = slice_get_within (set xs p x) k y is in
     let short : k < length xs = omega (arith, lt, length-set xs p x) in

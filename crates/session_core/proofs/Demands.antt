@@ -7,14 +7,13 @@ use mathlib.Core.List.{IsPrefix}
 use Rattle.journal_records.specs.declared.records.Outcome.{Outcome}
 use Rattle.journal_records.specs.declared.records.Outcome.TheVariants.{Answered, Exhausted, Lost}
 use Rattle.journal_records.specs.declared.records.Record.{Record}
-use Rattle.journal_records.specs.Records.{settling}
 use Rattle.budget_core.specs.declared.entry.Ask.{Ask}
 use Rattle.budget_core.specs.declared.entry.Grant.{Grant}
 use Rattle.budget_core.specs.declared.entry.ReserveFault.{ReserveFault}
 use Rattle.budget_core.specs.declared.answers.Recall.{Recall}
 use Rattle.budget_core.specs.declared.answers.Recall.TheVariants.{Unknown, NotYours, Answer, Open, Lost as IsLost, Exhausted as IsExhausted}
 use Rattle.budget_core.specs.Entries.{Entry}
-use Rattle.budget_core.specs.Ledger.{money_verdict}
+use Rattle.budget_core.specs.Ledger.{money_verdict, settlement_for}
 use Rattle.budget_core.specs.Answers.{recalled_from, left_by}
 use Rattle.fz_frac.specs.Distance.{Fin, Inf}
 use Rattle.fz_ast.specs.Signature.{Signature}
@@ -137,7 +136,7 @@ module _ (owner : Owner) (draws : ℕ → ℕ → ℕ) (start : ℕ) (seen : Lis
   asked_grows query g (program_refused refusal) pre by = grows_none seen g told after pre by.1 by.2
   asked_grows query g (money_refused refusal) pre by = grows_none seen g told after pre by.1 by.2
   asked_grows query g (granted asking grant) pre (inl two) =
-      let end : Record = settling grant.number two.outcome in
+      let end : Record = settlement_for owner.entry two.u grant.number two.outcome in
       let reserves : Grows seen ((length g, granted_record asking grant) ∷ []) two.u = grows_one seen g (granted_record asking grant) _ two.u pre two.reserved refl in
       let settles : Grows two.u ((length two.u, end) ∷ []) after
       = grows_one two.u two.u end _ after (prefix_self two.u) (subst (IsPrefix (two.u ++ end ∷ [])) (sym two.after_is) (prefix_self (two.u ++ end ∷ []))) refl in
@@ -254,15 +253,15 @@ not_lost grant reply outcome had is lost = subst (λ (r : Replied). NothingFaile
 not_unwritten : (asking : Ask) (grant : Grant) (reply : Replied) (added : List Record) → NothingFailed reply → IsUnrecorded asking grant reply added → ⊥
 not_unwritten asking grant reply added had by = subst (λ (r : Replied). NothingFailed r) by.1 had
 
-answered_once : (owner : Owner) (draws : ℕ → ℕ → ℕ) (query : Query) (v : Verdict) (reply other : Replied) (added more : List Record) → NothingFailed reply → NothingFailed other
-    → IsAnsweredBy owner draws query v reply added → IsAnsweredBy owner draws query v other more → (reply ≡ other) × (added ≡ more)
-answered_once owner draws query (program_refused refusal) reply other added more had has f g = (f.0 ∙ sym g.0, f.1 ∙ sym g.1)
-answered_once owner draws query (money_refused refusal) reply other added more had has f g = (f.0 ∙ sym g.0, f.1 ∙ sym g.1)
-answered_once owner draws query (granted asking grant) reply other added more had has (inr f) g = absurd (not_unwritten asking grant reply added had f)
-answered_once owner draws query (granted asking grant) reply other added more had has (inl f) (inr g) = absurd (not_unwritten asking grant other more has g)
-answered_once owner draws query (granted asking grant) reply other added more had has (inl f) (inl g) =
+answered_once : (owner : Owner) (draws : ℕ → ℕ → ℕ) (records : List Record) (query : Query) (v : Verdict) (reply other : Replied) (added more : List Record) → NothingFailed reply → NothingFailed other
+    → IsAnsweredBy owner draws records query v reply added → IsAnsweredBy owner draws records query v other more → (reply ≡ other) × (added ≡ more)
+answered_once owner draws records query (program_refused refusal) reply other added more had has f g = (f.0 ∙ sym g.0, f.1 ∙ sym g.1)
+answered_once owner draws records query (money_refused refusal) reply other added more had has f g = (f.0 ∙ sym g.0, f.1 ∙ sym g.1)
+answered_once owner draws records query (granted asking grant) reply other added more had has (inr f) g = absurd (not_unwritten asking grant reply added had f)
+answered_once owner draws records query (granted asking grant) reply other added more had has (inl f) (inr g) = absurd (not_unwritten asking grant other more has g)
+answered_once owner draws records query (granted asking grant) reply other added more had has (inl f) (inl g) =
     let same : f.0 ≡ g.0 = outcome_once owner draws query grant.number f.0 g.0 (not_lost grant reply f.0 had f.2) (not_lost grant other g.0 has g.2) f.1 g.1 in
-    (f.2 ∙ ap (λ (o : Outcome). outcome_reply grant o) same ∙ sym g.2, f.3 ∙ ap (λ (o : Outcome). grant_records asking grant o) same ∙ sym g.3)
+    (f.2 ∙ ap (λ (o : Outcome). outcome_reply grant o) same ∙ sym g.2, f.3 ∙ ap (λ (o : Outcome). grant_records owner.entry records asking grant o) same ∙ sym g.3)
 
 ran_out : (reply : Replied) → NothingFailed reply → reply ≡ refused no_memory → ⊥
 ran_out reply had is = subst (λ (r : Replied). NothingFailed r) is had
@@ -275,7 +274,7 @@ met_once owner draws start (asks query) seen reply other told more_told a b had 
 met_once owner draws start (asks query) seen reply other told more_told a b had has (added, inl f, told_is, is) (more, inr g, said, ends) = absurd (ran_out other has g.0)
 met_once owner draws start (asks query) seen reply other told more_told a b had has (added, inl f, told_is, is) (more, inl g, said, ends) =
     let same : f.0 ≡ g.0 = verdict_once owner.entry (signature_of_view owner query.view) start seen query f.0 g.0 f.1 g.1 in
-    let both = answered_once owner draws query f.0 reply other added more had has f.2 (subst (λ (v : Verdict). IsAnsweredBy owner draws query v other more) (sym same) g.2) in
+    let both = answered_once owner draws seen query f.0 reply other added more had has f.2 (subst (λ (v : Verdict). IsAnsweredBy owner draws seen query v other more) (sym same) g.2) in
     (both.0, is ∙ ap (λ rs. seen ++ rs) both.1 ∙ sym ends)
 met_once owner draws start (recalls analyst number) seen reply other told more_told a b had has f g = (f.0 ∙ sym g.0, f.2 ∙ sym g.2)
 met_once owner draws start balances seen reply other told more_told a b had has f g = (f.0 ∙ sym g.0, f.2 ∙ sym g.2)
@@ -308,7 +307,7 @@ module _ (owner : Owner) (draws : ℕ → ℕ → ℕ) (start : ℕ) (records : 
       let made = settlement (HasWorthIn owner query) (noise_at query.e (draws grant.number)) grant v.0 v.1 in
       record {
         reply = outcome_reply grant made.outcome;
-        added = grant_records (ask_for query p q) grant made.outcome;
+        added = grant_records owner.entry records (ask_for query p q) grant made.outcome;
         answered = (granted (ask_for query p q) grant, verdict _ refl, inl (made.outcome, made.settled, refl, refl));
         had = made.had;
       }

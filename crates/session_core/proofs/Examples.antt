@@ -1,5 +1,5 @@
 -- The definitions, computed on small scripts.
-use Rattle.std.proofs.Common.{◌≡◌, ℕ, zero, suc, List, [], ◌∷◌, map, Option, Some, None, slice_get, codes, refl, sym, ◌∙◌, ap, subst, pos, negsuc, inl, inr, arith}
+use Rattle.std.proofs.Common.{◌≡◌, ℕ, zero, suc, List, [], ◌∷◌, map, replicate, Option, Some, None, slice_get, codes, refl, sym, ◌∙◌, ap, subst, pos, negsuc, inl, inr, arith}
 use Rattle.std.specs.Prelude.{ℤ, ◌+ℤ◌, Ok, ◌⊎◌}
 use Rattle.std.specs.Fmt.{digits}
 use Rattle.std.specs.List.{flat_map, enumerate_from}
@@ -8,6 +8,7 @@ use Rattle.partition_charge.specs.declared.view.View.TheVariants.{Whole}
 use Rattle.journal_records.specs.declared.records.Outcome.{Outcome}
 use Rattle.journal_records.specs.declared.records.Outcome.TheVariants.{Answered, Exhausted, Lost}
 use Rattle.journal_records.specs.declared.records.Record.{Record}
+use Rattle.journal_records.specs.Records.{settling}
 use Rattle.budget_core.specs.declared.entry.Ask.{Ask}
 use Rattle.budget_core.specs.declared.entry.Grant.{Grant}
 use Rattle.budget_core.specs.Cost.{cost_of}
@@ -39,7 +40,7 @@ use Rattle.answer_path.specs.Judgement.{judgement_of, HasValue}
 use Rattle.answer_path.specs.Program.{IsCharged}
 use Rattle.answer_path.specs.Noise.{noise_at}
 use Rattle.answer_path.specs.Verdict.{program_refused, money_refused, granted, ask_for, IsVerdict}
-use Rattle.answer_path.specs.Answered.{outcome_reply, grant_records, HasWorthIn, IsSettledAt, IsAnswered, IsAsked}
+use Rattle.answer_path.specs.Answered.{outcome_reply, granted_record, grant_records, HasWorthIn, IsSettledAt, IsAnswered, IsAsked}
 use Rattle.answer_path.proofs.Answering.{money_says}
 use Rattle.answer_path.proofs.SizePeople.{size_people, size_term, size_reads}
 use Rattle.owner_history.specs.Granted.{told_settlement}
@@ -67,7 +68,7 @@ abbrev pub owner_entry : (name : List ℕ) (budget capacity : ℕ) → List Tabl
 owner_entry name budget capacity tables = record { name = name; budget = budget; capacity = capacity; tables = tables; partitions = []; text = [] }
 
 abbrev pub register_of : List OwnerEntry → List Holding → Register
-register_of owners holdings = record { catalog = record { analysts = codes "ann" ∷ codes "bob" ∷ []; owners = owners; text = [] }; holdings = holdings }
+register_of owners holdings = record { catalog = record { analysts = codes "ann" ∷ codes "bob" ∷ []; owners = owners; text = [] }; holdings = holdings; versions = replicate 16 2 }
 
 -- a house of two analysts and an owner, with these ages
 abbrev pub house : (budget capacity : ℕ) → List ℤ → Register
@@ -113,8 +114,12 @@ an_ask = record { analyst = 0; view = Whole; e = 1000000; p = 1; q = 1; digest =
 abbrev pub a_grant : Grant
 a_grant = record { number = 0; taken = 1000000; seen = 1 }
 
+-- what a grant adds in a journal of version 2, where nothing comes back
+abbrev pub plain_records : Ask → Grant → Outcome → List Record
+plain_records asking grant outcome = granted_record asking grant ∷ settling grant.number outcome ∷ []
+
 abbrev pub made : Outcome → List Record
-made outcome = grant_records an_ask a_grant outcome
+made outcome = plain_records an_ask a_grant outcome
 
 -- how the ask is settled where memory suffices
 abbrev pub outcome_with : (size : ℕ) → Option ℤ → Outcome
@@ -132,7 +137,7 @@ outcome_of_size size draws = outcome_with size (noise_at 1000000 (draws 0 0))
 pub grant_answer : (owner : Owner) (draws : ℕ → ℕ → ℕ) (records : List Record) (query : Query) (grant : Grant) (size : ℕ) → IsCharged (signature_of_view owner query.view) query.program 1 1
     → money_verdict owner.entry 0 records (ask_for query 1 1) ≡ Ok grant → HasWorthIn owner query (pos size)
     → let outcome : Outcome = outcome_with size (noise_at query.e (draws grant.number)) in
-    IsAnswered owner draws 0 records query (outcome_reply grant outcome) (grant_records (ask_for query 1 1) grant outcome)
+    IsAnswered owner draws 0 records query (outcome_reply grant outcome) (grant_records owner.entry records (ask_for query 1 1) grant outcome)
 unfolding IsAnswered
 grant_answer owner draws records query grant size accepts money value =
     let outcome = outcome_with size (noise_at query.e (draws grant.number)) in
@@ -283,7 +288,7 @@ IsSecondRefused budget capacity refusal draws =
 second_refused : (budget capacity : ℕ) (refusal : MoneyRefusal) (draws : ℕ → ℕ → ℕ → ℕ) → let owner : Owner = the_owner (house budget capacity []) in
     money_verdict owner.entry 0 [] an_ask ≡ Ok a_grant → IsVerdict owner.entry (people ∷ []) 0 (made (outcome_of_size 0 draws)) a_query (money_refused refusal)
     → IsSecondRefused budget capacity refusal draws
-unfolding meant_by request_of IsAnswered signature_in rows_in IsMetExactly
+unfolding meant_by request_of cost_of cost_of_charges partition_cost IsAnswered signature_in rows_in IsMetExactly
 second_refused budget capacity refusal draws first second =
     let outcome = outcome_of_size 0 draws in (
       made outcome,

@@ -124,12 +124,12 @@ abbrev failure : Outcome → Failure
 failure outcome = record { failed_at = 3; pending = settling 0 outcome }
 
 closed_by : (draws : ℕ → ℕ → ℕ → ℕ) → let outcome : Outcome = outcome_with 3 (noise_at 1000000 (draws 0 0)) in ClosesOn (house_of three_rows) draws 0 None closed_lines (Some (failure outcome))
-unfolding meant_by request_of signature_in rows_in
+unfolding meant_by request_of cost_of cost_of_charges partition_cost signature_in rows_in
 closed_by draws =
     let outcome : Outcome = outcome_with 3 (noise_at 1000000 (draws 0 0)) in
     let shut : Option Failure = Some (failure outcome) in (
       shut,
-      (failure outcome, refl, refl, (outcome, settled_with _ 3 (noise_at 1000000 (draws 0 0)) three_value, refl)),
+      (failure outcome, refl, refl, (outcome, opened, settled_with _ 3 (noise_at 1000000 (draws 0 0)) three_value, refl)),
       (shut, (failure outcome, refl, refl, refl, refl), (shut, refl, (shut, refl, refl))),
     )
 
@@ -166,7 +166,7 @@ shut_by draws =
     let outcome : Outcome = outcome_with 3 (noise_at 1000000 (draws 0 0)) in
     let shut : Shut = shut_own outcome in (
       shut,
-      (failure outcome, refl, refl, (outcome, settled_with _ 3 (noise_at 1000000 (draws 0 0)) three_value, refl), refl),
+      (failure outcome, refl, refl, (outcome, opened, settled_with _ 3 (noise_at 1000000 (draws 0 0)) three_value, refl), refl),
       (shut, (failure outcome, refl, refl, stays_shut outcome, refl), (shut, (stays_shut outcome, refl), (shut, (stays_shut outcome, refl), refl))),
     )
 

@@ -32,7 +32,7 @@ use Rattle.answer_path.specs.Judgement.{judgement_of, HasValue}
 use Rattle.answer_path.specs.Program.{IsCharged}
 use Rattle.answer_path.specs.Noise.{noise_at}
 use Rattle.answer_path.specs.Verdict.{money_refused}
-use Rattle.answer_path.specs.Answered.{Told, outcome_reply, grant_records, IsAnswered}
+use Rattle.answer_path.specs.Answered.{Told, outcome_reply, IsAnswered}
 use Rattle.answer_path.proofs.Answering.{money_says}
 use Rattle.answer_path.proofs.SizePeople.{size_people, size_term, size_reads}
 use Rattle.owner_house.specs.House.{Register, IsHeldBy, IsRegister, house_of, entry_of, owner_named, owner_at}
@@ -40,7 +40,7 @@ use Rattle.session_core.specs.Meant.{meant_by}
 use Rattle.session_core.specs.Exchanges.{Exchange, told_of}
 use Rattle.session_core.specs.Transcript.{Journals, LeadExactly, IsScriptRun, IsScriptWritten, IsTranscript}
 use Rattle.session_core.proofs.OneTranscript.{runs_once}
-use Rattle.session_core.proofs.Examples.{people, people_entry, ages_held, owner_entry, register_of, fresh, size_asked, a_query, an_ask, a_grant, made, outcome_with, grant_answer, turn, quiet}
+use Rattle.session_core.proofs.Examples.{people, people_entry, ages_held, owner_entry, register_of, fresh, size_asked, a_query, an_ask, a_grant, made, outcome_with, plain_records, grant_answer, turn, quiet}
 
 -- the school's second table, of one column of texts
 abbrev names : TableType
@@ -134,7 +134,7 @@ parted = record school_entry {
 keys_counted : (entry_of two_owners.catalog parted).keys ≡ 2 ∷ 1 ∷ []
 keys_counted = refl
 
-school_kept : (owner_at (house_of two_owners) 1).entry ≡ record { budget = 10000000; capacity = 100; analysts = 2; keys = [] }
+school_kept : (owner_at (house_of two_owners) 1).entry ≡ record { budget = 10000000; capacity = 100; analysts = 2; keys = []; version = 2 }
 school_kept = refl
 
 abbrev clinic : Owner
@@ -175,7 +175,7 @@ abbrev of_school : Option ℤ → Outcome
 of_school noise = outcome_with 2 noise
 
 abbrev school_records : (first second : Option ℤ) → List Record
-school_records first second = made (of_school first) ++ grant_records an_ask next_grant (of_school second)
+school_records first second = made (of_school first) ++ plain_records an_ask next_grant (of_school second)
 
 abbrev over_budget : Replied
 over_budget = refused (by_money (NoBudget 1000000 2000000 1000000 2))
@@ -189,7 +189,7 @@ exchanges a b c =
     ∷ asking ask_clinic (outcome_reply a_grant (of_clinic a)) (enumerate_from 0 (made (of_clinic a)))
     ∷ asking ask_school (outcome_reply a_grant (of_school b)) (enumerate_from 0 (made (of_school b)))
     ∷ quiet (Some 0) ask_clinic over_budget
-    ∷ asking ask_school (outcome_reply next_grant (of_school c)) (enumerate_from 2 (grant_records an_ask next_grant (of_school c))) ∷ []
+    ∷ asking ask_school (outcome_reply next_grant (of_school c)) (enumerate_from 2 (plain_records an_ask next_grant (of_school c))) ∷ []
 
 abbrev replies : (a b c : Option ℤ) → List Replied
 replies a b c = map (λ (x : Exchange). x.reply) (exchanges a b c)
@@ -236,7 +236,7 @@ school_leads : (draws : ℕ → ℕ → ℕ → ℕ) (a : Option ℤ) → let b 
 unfolding meant_by request_of cost_of cost_of_charges partition_cost signature_in rows_in IsMetExactly
 school_leads draws a =
     let first = made (of_school (noise draws 1 0)) in
-    let second = grant_records an_ask next_grant (of_school (noise draws 1 1)) in (
+    let second = plain_records an_ask next_grant (of_school (noise draws 1 1)) in (
       first,
       (first, inl (grant_answer school (draws 1) [] a_query a_grant 2 school_asked refl school_value), refl, refl),
       (first ++ second, (second, inl (grant_answer school (draws 1) first a_query next_grant 2 school_asked refl school_value), refl, refl), refl),

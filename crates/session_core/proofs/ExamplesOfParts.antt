@@ -33,7 +33,7 @@ use Rattle.answer_path.specs.Judgement.{judgement_of, HasValue}
 use Rattle.answer_path.specs.Program.{IsCharged}
 use Rattle.answer_path.specs.Noise.{noise_at}
 use Rattle.answer_path.specs.Verdict.{money_refused}
-use Rattle.answer_path.specs.Answered.{Told, HasWorthIn, outcome_reply, grant_records, IsAnswered}
+use Rattle.answer_path.specs.Answered.{Told, HasWorthIn, outcome_reply, IsAnswered}
 use Rattle.answer_path.proofs.Answering.{money_says}
 use Rattle.answer_path.proofs.SizePeople.{size_people, size_term, size_reads}
 use Rattle.owner_house.specs.House.{Register, IsHeldBy, house_of, owner_at}
@@ -42,7 +42,7 @@ use Rattle.session_core.specs.Meant.{says, wants, meant_by}
 use Rattle.session_core.specs.Exchanges.{Exchange}
 use Rattle.session_core.specs.Transcript.{LeadExactly, IsScriptRun}
 use Rattle.session_core.specs.Served.{IsAskFor}
-use Rattle.session_core.proofs.Examples.{people_entry, ages_held, owner_entry, register_of, fresh, only, outcome_with, grant_answer, turn, quiet}
+use Rattle.session_core.proofs.Examples.{people_entry, ages_held, owner_entry, register_of, fresh, only, outcome_with, plain_records, grant_answer, turn, quiet}
 
 -- the clinic's `people`: a town and an age
 abbrev townsfolk : TableType
@@ -173,13 +173,13 @@ whole_query = record { analyst = 0; view = Whole; e = 1; program = size_people }
 
 -- what each is answered, where the noise of its number is this: two rows are of A, and one of B
 abbrev added_first : Option ℤ → List Record
-added_first noise = grant_records (asking 0 0 6) first_grant (outcome_with 2 noise)
+added_first noise = plain_records (asking 0 0 6) first_grant (outcome_with 2 noise)
 
 abbrev added_second : Option ℤ → List Record
-added_second noise = grant_records (asking 0 1 6) second_grant (outcome_with 1 noise)
+added_second noise = plain_records (asking 0 1 6) second_grant (outcome_with 1 noise)
 
 abbrev added_third : Option ℤ → List Record
-added_third noise = grant_records (asking 0 0 4) third_grant (outcome_with 2 noise)
+added_third noise = plain_records (asking 0 0 4) third_grant (outcome_with 2 noise)
 
 abbrev records : (a b c : Option ℤ) → List Record
 records a b c = (added_first a ++ added_second b) ++ added_third c

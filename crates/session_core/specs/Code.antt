@@ -91,7 +91,7 @@ abbrev pub one_line : (who : Option ℕ) → (line : List ℕ) → Replied → L
 one_line who line reply told = record { turn = record { who = who; line = line }; reply = reply; told = told } ∷ []
 
 abbrev no_header : Header
-no_header = record { owner = 0; budget = 0; capacity = 0; digest = [] }
+no_header = record { owner = 0; budget = 0; capacity = 0; digest = []; version = 0 }
 
 abbrev no_storage : Storage
 no_storage = record { header = no_header; trace = None; faults = 0; closed = None }

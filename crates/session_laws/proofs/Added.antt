@@ -4,10 +4,10 @@ use mathlib.Core.Logic.{◌⊎◌, inl, inr}
 use mathlib.Core.List.{IsPrefix}
 use Rattle.journal_records.specs.declared.records.Outcome.{Outcome}
 use Rattle.journal_records.specs.declared.records.Record.{Record}
-use Rattle.journal_records.specs.Records.{settling}
 use Rattle.budget_core.specs.declared.entry.Ask.{Ask}
 use Rattle.budget_core.specs.declared.entry.Grant.{Grant}
 use Rattle.budget_core.specs.Counts.{reservations_of}
+use Rattle.budget_core.specs.Ledger.{settlement_for}
 use Rattle.budget_core.proofs.LegalLemmas.{granted as money_granted}
 use Rattle.wire_lines.specs.Reply.{refused}
 use Rattle.wire_lines.specs.Refusal.{by_disk}
@@ -44,9 +44,9 @@ module _ (draws : ℕ → ℕ → ℕ) (owner : Owner) (found records : List Rec
     pub u : List Record
     pub settles : IsSettledBy owner draws query grant.number outcome
     pub behind : IsPrefix (g ++ granted_record asking grant ∷ []) u
-    pub stands : IsPrefix (u ++ settling grant.number outcome ∷ []) records
+    pub stands : IsPrefix (u ++ settlement_for owner.entry u grant.number outcome ∷ []) records
     pub said : x.reply ≡ outcome_reply grant outcome
-    pub told : x.told ≡ (length g, granted_record asking grant) ∷ (length u, settling grant.number outcome) ∷ []
+    pub told : x.told ≡ (length g, granted_record asking grant) ∷ (length u, settlement_for owner.entry u grant.number outcome) ∷ []
 
   pub record IsReservedBy (query : Query) (x : Exchange) : Type 0 where
     pub asking : Ask
@@ -77,7 +77,7 @@ module _ (draws : ℕ → ℕ → ℕ) (owner : Owner) (found records : List Rec
   kind_asked query g x after (money_refused refusal) pre ends is by = inl (by.1, says_none query x (ap told_settlement by.0))
   kind_asked query g x after (granted asking grant) pre ends is (inl two) =
       let more : List Record = granted_record asking grant ∷ [] in
-      let end : List Record = settling grant.number two.outcome ∷ [] in
+      let end : List Record = settlement_for owner.entry two.u grant.number two.outcome ∷ [] in
       let all : IsPrefix (two.u ++ end) records = subst (λ (w : List Record). IsPrefix w records) two.after_is ends in
       reserved query g x asking grant is pre
       (prefix_trans (g ++ more) (two.u ++ end) records (prefix_trans (g ++ more) two.u (two.u ++ end) two.reserved (prefix_by two.u end)) all)
@@ -109,11 +109,11 @@ module _ (draws : ℕ → ℕ → ℕ) (owner : Owner) (found records : List Rec
 
   -- what was told is the reservation, or its settlement
   pub told_by : (query : Query) (x : Exchange) (r : IsReservedBy query x) (z : Told) → Has z x.told → (z ≡ (length r.g, granted_record r.asking r.grant))
-      ⊎ ((done : IsSettledLater query r.asking r.grant r.g x) × (z ≡ (length done.u, settling r.grant.number done.outcome)))
+      ⊎ ((done : IsSettledLater query r.asking r.grant r.g x) × (z ≡ (length done.u, settlement_for owner.entry done.u r.grant.number done.outcome)))
   told_by query x r z has = ended r.ends
     where
       ended : IsLeftOpen r.asking r.grant r.g x ⊎ IsSettledLater query r.asking r.grant r.g x → (z ≡ (length r.g, granted_record r.asking r.grant))
-          ⊎ ((done : IsSettledLater query r.asking r.grant r.g x) × (z ≡ (length done.u, settling r.grant.number done.outcome)))
+          ⊎ ((done : IsSettledLater query r.asking r.grant r.g x) × (z ≡ (length done.u, settlement_for owner.entry done.u r.grant.number done.outcome)))
       ended (inl alone) = elim (subst (λ (zs : List Told). Has z zs) alone.told has) [ inl is ↦ inl is | inr none ↦ absurd none ]
       ended (inr done) = elim (subst (λ (zs : List Told). Has z zs) done.told has) [
         | inl is ↦ inl is
@@ -133,14 +133,14 @@ module _ (draws : ℕ → ℕ → ℕ) (owner : Owner) (found records : List Rec
           omega (arith, low, prefix_length (r.g ++ granted_record r.asking r.grant ∷ []) u behind, length-append r.g (granted_record r.asking r.grant ∷ []))
 
       stands : (z ≡ (length r.g, granted_record r.asking r.grant))
-          ⊎ ((done : IsSettledLater query r.asking r.grant r.g x) × (z ≡ (length done.u, settling r.grant.number done.outcome)))
+          ⊎ ((done : IsSettledLater query r.asking r.grant r.g x) × (z ≡ (length done.u, settlement_for owner.entry done.u r.grant.number done.outcome)))
           → (length found ≤ z.0) × (slice_get records z.0 ≡ Some z.1)
       stands (inl is) =
           subst (λ (y : Told). (length found ≤ y.0) × (slice_get records y.0 ≡ Some y.1)) (sym is)
           (low, (prefix_seam r.g (granted_record r.asking r.grant) records r.stands).1)
       stands (inr (done, is)) =
           subst (λ (y : Told). (length found ≤ y.0) × (slice_get records y.0 ≡ Some y.1)) (sym is)
-          (far done.u done.behind, (prefix_seam done.u (settling r.grant.number done.outcome) records done.stands).1)
+          (far done.u done.behind, (prefix_seam done.u (settlement_for owner.entry done.u r.grant.number done.outcome) records done.stands).1)
 
   -- the reservation that was told is the grant's
   pub reserved_told : (query : Query) (x : Exchange) (r : IsReservedBy query x) → Has (length r.g, granted_record r.asking r.grant) x.told

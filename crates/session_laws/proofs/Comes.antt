@@ -7,9 +7,10 @@ use Rattle.journal_records.specs.declared.records.Record.{Record}
 use Rattle.journal_records.specs.declared.records.Reservation.{Reservation}
 use Rattle.journal_records.specs.declared.records.Settlement.{Settlement}
 use Rattle.journal_records.specs.declared.records.Record.TheVariants.{Reserve, Settle}
+use Rattle.journal_records.specs.Records.{settling_back}
 use Rattle.budget_core.specs.Counts.{reservations_of}
 use Rattle.budget_core.specs.Legal.{IsHistory}
-use Rattle.budget_core.specs.Ledger.{IsUnsettled}
+use Rattle.budget_core.specs.Ledger.{IsUnsettled, returned_by}
 use Rattle.budget_core.proofs.Histories.{prefix_split, slice_get-append-seam}
 use Rattle.budget_core.proofs.Numbers.{reserved_below, reservations_of-append-Settle}
 use Rattle.owner_house.specs.Owner.{Owner}
@@ -43,13 +44,19 @@ module _ (owner : Owner) (draws : ℕ → ℕ → ℕ) (found : List Record) (pr
       subst (λ (next : Record). IsLawful owner draws found (done ++ next ∷ [])) (sym is) (reserve owner draws found begun done w query of asking grant verdict).lawful
 
   unsettled : (done : List Record) (s : Settlement) → IsHistory owner.entry done → WasSettled owner draws start programs done s → IsUnsettled (record { entry = owner.entry; found = found; records = done }) s.number
-  unsettled done s history (query, r, settles, listed, view, e, program, none, ours) =
+  unsettled done s history (query, r, settles, listed, view, e, program, none, ours, back) =
       let below : s.number < length (reservations_of done) = slice_get_within (reservations_of done) s.number r listed in
       record { ours = ours; reserved = reserved_below owner.entry done history s.number ∙ lt-ltb s.number (length (reservations_of done)) below; unsettled = none }
 
+  lawful_settled : (done : List Record) (s : Settlement) → IsLawful owner draws found done → WasSettled owner draws start programs done s → IsLawful owner draws found (done ++ Settle s ∷ [])
+  lawful_settled done s w was =
+      let lawful = settle owner draws found begun done w s.number s.outcome (unsettled done s w.history was) in
+      let back : s.returned ≡ returned_by owner.entry done s.number s.outcome = was.9 in
+      subst (λ (k : ℕ). IsLawful owner draws found (done ++ settling_back s.number s.outcome k ∷ [])) (sym back) lawful
+
   lawful_more : (done : List Record) (next : Record) → IsLawful owner draws found done → CameBy owner draws start programs done next → IsLawful owner draws found (done ++ next ∷ [])
   lawful_more done (Reserve r) w came = lawful_reserved done r w (came.0 r refl)
-  lawful_more done (Settle s) w came = settle owner draws found begun done w s.number s.outcome (unsettled done s w.history (came.1 s refl))
+  lawful_more done (Settle s) w came = lawful_settled done s w (came.1 s refl)
 
   well_by_reserve : (done : List Record) (r : Reservation) → Well done → WasReserved owner start programs done r → Well (done ++ Reserve r ∷ [])
   well_by_reserve done r w (query, of, asking, grant, verdict, is, program) =
@@ -61,14 +68,14 @@ module _ (owner : Owner) (draws : ℕ → ℕ → ℕ) (found : List Record) (pr
       subst (λ (next : Record). Well (done ++ next ∷ [])) (sym is) (subst (λ (ps : List (List ℕ)). IsWell owner draws found ps (done ++ granted_record asking grant ∷ [])) (sym front) well)
 
   well_by_settle : (done : List Record) (s : Settlement) → Well done → WasSettled owner draws start programs done s → Well (done ++ Settle s ∷ [])
-  well_by_settle done s w (query, r, settles, listed, view, e, program, none, ours) =
-      let lawful = settle owner draws found begun done w.lawful s.number s.outcome (unsettled done s w.lawful.history (query, r, settles, listed, view, e, program, none, ours)) in
+  well_by_settle done s w (query, r, settles, listed, view, e, program, none, ours, back) =
+      let lawful = lawful_settled done s w.lawful (query, r, settles, listed, view, e, program, none, ours, back) in
       let below : s.number < length (reservations_of done) = slice_get_within (reservations_of done) s.number r listed in
-      let same : take (length (reservations_of (done ++ Settle s ∷ []))) programs ≡ take (length (reservations_of done)) programs = ap (λ (k : ℕ). take k programs) (reservations_of-append-Settle done s.number s.outcome) in
+      let same : take (length (reservations_of (done ++ Settle s ∷ []))) programs ≡ take (length (reservations_of done)) programs = ap (λ (k : ℕ). take k programs) (reservations_of-append-Settle done s.number s.outcome s.returned) in
       record {
         lawful = lawful;
         explained = subst (λ (ps : List (List ℕ)). Explains owner draws ps (done ++ Settle s ∷ [])) (sym same)
-            (explains_settlement owner draws (take (length (reservations_of done)) programs) done w.explained s.number query.program r s.outcome
+            (explains_settlement owner draws (take (length (reservations_of done)) programs) done w.explained s.number query.program r s.outcome s.returned
             (slice_take programs (length (reservations_of done)) s.number query.program below program) listed none (outcome_explains owner draws query s.number s.outcome r view e settles));
       }
 

@@ -8,11 +8,10 @@ use Rattle.journal_records.specs.declared.records.Outcome.{Outcome}
 use Rattle.journal_records.specs.declared.records.Reservation.{Reservation}
 use Rattle.journal_records.specs.declared.records.Record.{Record}
 use Rattle.journal_records.specs.declared.records.Record.TheVariants.{Reserve}
-use Rattle.journal_records.specs.Records.{settling}
 use Rattle.budget_core.specs.declared.entry.Ask.{Ask}
 use Rattle.budget_core.specs.Counts.{reservations_of}
 use Rattle.budget_core.specs.Legal.{IsHistory}
-use Rattle.budget_core.specs.Ledger.{reservation_numbered}
+use Rattle.budget_core.specs.Ledger.{reservation_numbered, returned_by, settlement_for}
 use Rattle.budget_core.proofs.Histories.{history-front}
 use Rattle.budget_core.proofs.Numbers.{reservation_of-next, outcome_of-append-new}
 use Rattle.owner_house.specs.Owner.{Owner}
@@ -103,8 +102,8 @@ module _ (house : House) (draws : ℕ → ℕ → ℕ → ℕ) (spoken : List Tu
         analyst = ap (λ (a : Ask). a.analyst) v.asks;
         view = ap (λ (a : Ask). a.view) v.asks;
         epsilon = ap (λ (a : Ask). a.e) v.asks;
-        settled = outcome_prefix (done.u ++ settling n done.outcome ∷ []) records n done.outcome done.stands
-            (outcome_of-append-new done.u n done.outcome (none_before house draws spoken count crew o owner found xs records here inside begun turns known all earlier each_has j x query at meant by done));
+        settled = outcome_prefix (done.u ++ settlement_for owner.entry done.u n done.outcome ∷ []) records n done.outcome done.stands
+            (outcome_of-append-new done.u n done.outcome (returned_by owner.entry done.u n done.outcome) (none_before house draws spoken count crew o owner found xs records here inside begun turns known all earlier each_has j x query at meant by done));
         program = program_at house draws spoken count crew o owner found xs records here inside begun turns known all earlier each_has j x query at meant by;
       }
 

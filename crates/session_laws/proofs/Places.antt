@@ -10,7 +10,7 @@ use Rattle.journal_records.specs.declared.records.Reservation.{Reservation}
 use Rattle.journal_records.specs.declared.records.Settlement.{Settlement}
 use Rattle.journal_records.specs.declared.records.Record.{Record}
 use Rattle.journal_records.specs.declared.records.Record.TheVariants.{Reserve, Settle}
-use Rattle.journal_records.specs.Records.{reservation_in, settling}
+use Rattle.journal_records.specs.Records.{reservation_in, settling_back}
 use Rattle.budget_core.specs.Counts.{reservations_of, outcome_of}
 use Rattle.budget_core.proofs.Histories.{slice_get-append-seam}
 use Rattle.owner_desk.proofs.Settles.{counts_behind}
@@ -60,32 +60,32 @@ listed_below (Reserve s ∷ records) (suc q) r at = listed_below records q r at
 listed_below (Settle o ∷ records) (suc q) r at = listed_below records q r at
 
 -- how a number was settled stands in the records
-pub settled_at : (records : List Record) (n : ℕ) (o : Outcome) → outcome_of records n ≡ Some o → (k : ℕ) × (slice_get records k ≡ Some (settling n o))
+pub settled_at : (records : List Record) (n : ℕ) (o : Outcome) → outcome_of records n ≡ Some o → (k returned : ℕ) × (slice_get records k ≡ Some (settling_back n o returned))
 settled_at [] n o is = absurd (cc (is))
-settled_at (Reserve r ∷ records) n o is = let rest = settled_at records n o is in (suc rest.0, rest.1)
+settled_at (Reserve r ∷ records) n o is = let rest = settled_at records n o is in (suc rest.0, rest.1, rest.2)
 settled_at (Settle s ∷ records) n o is = here (settled_at records n o) (n == s.number) refl is
   where
-    here : (outcome_of records n ≡ Some o → (k : ℕ) × (slice_get records k ≡ Some (settling n o))) → (b : Bool) → (n == s.number) ≡ b → cond b (Some s.outcome) (outcome_of records n) ≡ Some o
-        → (k : ℕ) × (slice_get (Settle s ∷ records) k ≡ Some (settling n o))
+    here : (outcome_of records n ≡ Some o → (k returned : ℕ) × (slice_get records k ≡ Some (settling_back n o returned))) → (b : Bool) → (n == s.number) ≡ b → cond b (Some s.outcome) (outcome_of records n) ≡ Some o
+        → (k returned : ℕ) × (slice_get (Settle s ∷ records) k ≡ Some (settling_back n o returned))
     here ih true hit is =
         let number : n ≡ s.number = eqb-true n s.number hit in
         let same : s.outcome ≡ o = cc (is) in
-        (0, ap (λ (k : ℕ). Some (settling k s.outcome)) (sym number) ∙ ap (λ (v : Outcome). Some (settling n v)) same)
-    here ih false miss is = let rest = ih is in (suc rest.0, rest.1)
+        (0, s.returned, ap (λ (k : ℕ). Some (settling_back k s.outcome s.returned)) (sym number) ∙ ap (λ (v : Outcome). Some (settling_back n v s.returned)) same)
+    here ih false miss is = let rest = ih is in (suc rest.0, rest.1, rest.2)
 
-pub unsettled_nowhere : (records : List Record) (n k : ℕ) (o : Outcome) → outcome_of records n ≡ None → slice_get records k ≡ Some (settling n o) → ⊥
-unsettled_nowhere [] n k o none at = absurd (cc (at))
-unsettled_nowhere (Reserve r ∷ records) n zero o none at = absurd (cc (at))
-unsettled_nowhere (Reserve r ∷ records) n (suc k) o none at = unsettled_nowhere records n k o none at
-unsettled_nowhere (Settle s ∷ records) n k o none at = here (unsettled_nowhere records n) (n == s.number) refl none k at
+pub unsettled_nowhere : (records : List Record) (n k : ℕ) (o : Outcome) (returned : ℕ) → outcome_of records n ≡ None → slice_get records k ≡ Some (settling_back n o returned) → ⊥
+unsettled_nowhere [] n k o returned none at = absurd (cc (at))
+unsettled_nowhere (Reserve r ∷ records) n zero o returned none at = absurd (cc (at))
+unsettled_nowhere (Reserve r ∷ records) n (suc k) o returned none at = unsettled_nowhere records n k o returned none at
+unsettled_nowhere (Settle s ∷ records) n k o returned none at = here (unsettled_nowhere records n) (n == s.number) refl none k returned at
   where
-    here : ((k : ℕ) (o : Outcome) → outcome_of records n ≡ None → slice_get records k ≡ Some (settling n o) → ⊥) → (b : Bool) → (n == s.number) ≡ b → cond b (Some s.outcome) (outcome_of records n) ≡ None → (k : ℕ)
-        → slice_get (Settle s ∷ records) k ≡ Some (settling n o) → ⊥
-    here ih true hit none k at = absurd (cc (none))
-    here ih false miss none zero at =
-        let same : s ≡ record { number = n; outcome = o } = cc (at) in
+    here : ((k : ℕ) (o : Outcome) (returned : ℕ) → outcome_of records n ≡ None → slice_get records k ≡ Some (settling_back n o returned) → ⊥) → (b : Bool) → (n == s.number) ≡ b → cond b (Some s.outcome) (outcome_of records n) ≡ None → (k returned : ℕ)
+        → slice_get (Settle s ∷ records) k ≡ Some (settling_back n o returned) → ⊥
+    here ih true hit none k returned at = absurd (cc (none))
+    here ih false miss none zero returned at =
+        let same : s ≡ record { number = n; outcome = o; returned = returned } = cc (at) in
         absurd (cc (miss, eq-eqb n s.number (sym (ap (λ (t : Settlement). t.number) same))))
-    here ih false miss none (suc k) at = ih k o none at
+    here ih false miss none (suc k) returned at = ih k o returned none at
 
 -- the first reservations of records, where these go on
 pub reservations_on : (g all : List Record) → IsPrefix g all → (more : List Reservation) × (reservations_of all ≡ reservations_of g ++ more)

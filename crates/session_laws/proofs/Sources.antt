@@ -12,12 +12,12 @@ use Rattle.journal_records.specs.declared.records.Reservation.{Reservation}
 use Rattle.journal_records.specs.declared.records.Settlement.{Settlement}
 use Rattle.journal_records.specs.declared.records.Record.{Record}
 use Rattle.journal_records.specs.declared.records.Record.TheVariants.{Reserve, Settle}
-use Rattle.journal_records.specs.Records.{settling}
+use Rattle.journal_records.specs.Records.{settling_back}
 use Rattle.budget_core.specs.declared.entry.Ask.{Ask}
 use Rattle.budget_core.specs.declared.entry.Grant.{Grant}
 use Rattle.budget_core.specs.Counts.{reservations_of, outcome_of}
 use Rattle.budget_core.specs.Legal.{IsHistory}
-use Rattle.budget_core.specs.Ledger.{reservation_numbered}
+use Rattle.budget_core.specs.Ledger.{reservation_numbered, settlement_of, settlement_for}
 use Rattle.budget_core.proofs.Histories.{slice_get-append-lt}
 use Rattle.budget_core.proofs.Numbers.{outcome_past}
 use Rattle.owner_house.specs.Owner.{Owner}
@@ -52,18 +52,19 @@ module _ (draws : ℕ → ℕ → ℕ) (owner : Owner) (found records : List Rec
       → (k ≡ length by.g) × (Reserve r ≡ granted_record by.asking by.grant)
   reserve_told query x by k r has = elim (told_by draws owner found records query x by (k, Reserve r) has) [
     | inl is ↦ (ap (λ (z : Told). z.0) is, ap (λ (z : Told). z.1) is)
-    | inr settled ↦ absurd (let both : Reserve r ≡ settling by.grant.number settled.0.outcome = ap (λ (z : Told). z.1) settled.1 in cc (both))
+    | inr settled ↦ absurd (let both : Reserve r ≡ settlement_for owner.entry settled.0.u by.grant.number settled.0.outcome = ap (λ (z : Told). z.1) settled.1 in cc (both))
   ]
 
   -- a settlement that is told stands where its records end
-  pub record Settles (query : Query) (x : Exchange) (by : IsReservedBy draws owner found records query x) (k n : ℕ) (outcome : Outcome) : Type 0 where
+  pub record Settles (query : Query) (x : Exchange) (by : IsReservedBy draws owner found records query x) (k n : ℕ) (outcome : Outcome) (returned : ℕ) : Type 0 where
     pub done : IsSettledLater draws owner found records query by.asking by.grant by.g x
     pub place : k ≡ length done.u
-    pub is : settling n outcome ≡ settling by.grant.number done.outcome
+    pub is : settling_back n outcome returned ≡ settlement_for owner.entry done.u by.grant.number done.outcome
 
-  pub settle_told : (query : Query) (x : Exchange) (by : IsReservedBy draws owner found records query x) (k n : ℕ) (outcome : Outcome) → Has {A = Told} (k, settling n outcome) x.told → Settles query x by k n outcome
-  settle_told query x by k n outcome has = elim (told_by draws owner found records query x by (k, settling n outcome) has) [
-    | inl is ↦ absurd (let both : settling n outcome ≡ granted_record by.asking by.grant = ap (λ (z : Told). z.1) is in cc (both))
+  pub settle_told : (query : Query) (x : Exchange) (by : IsReservedBy draws owner found records query x) (k n : ℕ) (outcome : Outcome) (returned : ℕ) → Has {A = Told} (k, settling_back n outcome returned) x.told
+      → Settles query x by k n outcome returned
+  settle_told query x by k n outcome returned has = elim (told_by draws owner found records query x by (k, settling_back n outcome returned) has) [
+    | inl is ↦ absurd (let both : settling_back n outcome returned ≡ granted_record by.asking by.grant = ap (λ (z : Told). z.1) is in cc (both))
     | inr settled ↦ record { done = settled.0; place = ap (λ (z : Told). z.0) settled.1; is = ap (λ (z : Told). z.1) settled.1 }
   ]
 
@@ -204,32 +205,32 @@ module _ (house : House) (draws : ℕ → ℕ → ℕ → ℕ) (spoken : List Tu
     none_before j x query at meant by done = settled (outcome_of done.u by.grant.number) refl
       where
         u_prefix : IsPrefix done.u records
-        u_prefix = prefix_trans done.u (done.u ++ settling by.grant.number done.outcome ∷ []) records (prefix_by done.u (settling by.grant.number done.outcome ∷ [])) done.stands
+        u_prefix = prefix_trans done.u (done.u ++ settlement_for owner.entry done.u by.grant.number done.outcome ∷ []) records (prefix_by done.u (settlement_for owner.entry done.u by.grant.number done.outcome ∷ [])) done.stands
 
-        other_line : (k : ℕ) (outcome : Outcome) → k < length done.u → slice_get records k ≡ Some (settling by.grant.number outcome) → length found ≤ k → ⊥
-        other_line k outcome lt there past =
-            let e = once.each k (settling by.grant.number outcome) past there in
-            let made = made_at e.0 (k, settling by.grant.number outcome) e.1 in
-            let s = settle_told (draws o) owner found records made.query e.1.x made.by k by.grant.number outcome e.1.has in
+        other_line : (k : ℕ) (outcome : Outcome) (returned : ℕ) → k < length done.u → slice_get records k ≡ Some (settling_back by.grant.number outcome returned) → length found ≤ k → ⊥
+        other_line k outcome returned lt there past =
+            let e = once.each k (settling_back by.grant.number outcome returned) past there in
+            let made = made_at e.0 (k, settling_back by.grant.number outcome returned) e.1 in
+            let s = settle_told (draws o) owner found records made.query e.1.x made.by k by.grant.number outcome returned e.1.has in
             let number : by.grant.number ≡ made.by.grant.number = ap number_of s.is in
             let place : j ≡ e.0 = same_line j e.0 x e.1.x query made.query at e.1.stands meant made.meant by made.by number in
             let both : Some e.1.x ≡ Some x = sym e.1.stands ∙ ap (λ k. slice_get xs k) (sym place) ∙ at in
             let same : e.1.x ≡ x = cc in
-            let has : Has {A = Told} (k, settling by.grant.number outcome) x.told = subst (λ (y : Exchange). Has {A = Told} (k, settling by.grant.number outcome) y.told) same e.1.has in
-            let ends = settle_told (draws o) owner found records query x by k by.grant.number outcome has in
+            let has : Has {A = Told} (k, settling_back by.grant.number outcome returned) x.told = subst (λ (y : Exchange). Has {A = Told} (k, settling_back by.grant.number outcome returned) y.told) same e.1.has in
+            let ends = settle_told (draws o) owner found records query x by k by.grant.number outcome returned has in
             absurd (omega (arith, lt, ends.place, one_end (draws o) owner found records query by.asking by.grant by.g x ends.done done))
 
         settled : (found_so : Option Outcome) → outcome_of done.u by.grant.number ≡ found_so → outcome_of done.u by.grant.number ≡ None
         settled None is = is
         settled (Some outcome) is =
             let k = settled_at done.u by.grant.number outcome is in
-            let lt = slice_get_within done.u k.0 (settling by.grant.number outcome) k.1 in
-            let there : slice_get records k.0 ≡ Some (settling by.grant.number outcome) = slice_get_prefix done.u records k.0 (settling by.grant.number outcome) u_prefix k.1 in
+            let lt = slice_get_within done.u k.0 (settling_back by.grant.number outcome k.1) k.2 in
+            let there : slice_get records k.0 ≡ Some (settling_back by.grant.number outcome k.1) = slice_get_prefix done.u records k.0 (settling_back by.grant.number outcome k.1) u_prefix k.2 in
             elim (cases_lt k.0 (length found)) [
               | inl early ↦
-                  let old : slice_get found k.0 ≡ Some (settling by.grant.number outcome) = sym (slice_get-append-lt found all.begins.0 k.0 early) ∙ ap (λ w. slice_get w k.0) all.begins.1 ∙ there in
-                  absurd (unsettled_nowhere found by.grant.number k.0 outcome (outcome_past owner.entry found begun by.grant.number (number_new query x by)) old)
-              | inr past ↦ absurd (other_line k.0 outcome lt there past)
+                  let old : slice_get found k.0 ≡ Some (settling_back by.grant.number outcome k.1) = sym (slice_get-append-lt found all.begins.0 k.0 early) ∙ ap (λ w. slice_get w k.0) all.begins.1 ∙ there in
+                  absurd (unsettled_nowhere found by.grant.number k.0 outcome k.1 (outcome_past owner.entry found begun by.grant.number (number_new query x by)) old)
+              | inr past ↦ absurd (other_line k.0 outcome k.1 lt there past)
             ]
 
     -- the query of a line is of the owner's entry, and written by the line
@@ -251,7 +252,7 @@ module _ (house : House) (draws : ℕ → ℕ → ℕ → ℕ) (spoken : List Tu
     )
 
     came_settled : (j : ℕ) (x : Exchange) (query : Query) → slice_get xs j ≡ Some x → meant_at house x.turn ≡ wants o owner (asks query) → (by : By query x) → (done : IsSettledLater (draws o) owner found records query by.asking by.grant by.g x)
-        → WasSettled owner (draws o) start programs done.u (record { number = by.grant.number; outcome = done.outcome })
+        → WasSettled owner (draws o) start programs done.u (settlement_of owner.entry done.u by.grant.number done.outcome)
     came_settled j x query at meant by done =
         let v = verdict_grants owner start by.g query by.asking by.grant by.verdict in
         let r : Reservation = reservation_numbered by.grant.number by.asking by.grant.taken in
@@ -266,6 +267,7 @@ module _ (house : House) (draws : ℕ → ℕ → ℕ → ℕ) (spoken : List Tu
           program_at j x query at meant by,
           none_before j x query at meant by done,
           number_new query x by,
+          refl,
         )
 
     -- Each new record came about by its line.
@@ -281,11 +283,11 @@ module _ (house : House) (draws : ℕ → ℕ → ℕ → ℕ) (spoken : List Tu
     settled_so k s past at =
         let e = once.each k (Settle s) past at in
         let made = made_at e.0 (k, Settle s) e.1 in
-        let t = settle_told (draws o) owner found records made.query e.1.x made.by k s.number s.outcome e.1.has in
-        let before : take k records ≡ t.done.u = ap (λ (m : ℕ). take m records) t.place ∙ (prefix_seam t.done.u (settling made.by.grant.number t.done.outcome) records t.done.stands).0 in
-        let same : s ≡ record { number = made.by.grant.number; outcome = t.done.outcome } = ap (settled_in s) t.is in
+        let t = settle_told (draws o) owner found records made.query e.1.x made.by k s.number s.outcome s.returned e.1.has in
+        let before : take k records ≡ t.done.u = ap (λ (m : ℕ). take m records) t.place ∙ (prefix_seam t.done.u (settlement_for owner.entry t.done.u made.by.grant.number t.done.outcome) records t.done.stands).0 in
+        let same : s ≡ settlement_of owner.entry t.done.u made.by.grant.number t.done.outcome = ap (settled_in s) t.is in
         subst (λ (z : Settlement). WasSettled owner (draws o) start programs (take k records) z) (sym same)
-        (subst (λ (w : List Record). WasSettled owner (draws o) start programs w (record { number = made.by.grant.number; outcome = t.done.outcome })) (sym before) (came_settled e.0 e.1.x made.query e.1.stands made.meant made.by t.done))
+        (subst (λ (w : List Record). WasSettled owner (draws o) start programs w (settlement_of owner.entry t.done.u made.by.grant.number t.done.outcome)) (sym before) (came_settled e.0 e.1.x made.query e.1.stands made.meant made.by t.done))
 
     pub came_at : (k : ℕ) (next : Record) → length found ≤ k → slice_get records k ≡ Some next → CameBy owner (draws o) start programs (take k records) next
     came_at k (Reserve r) past at = (

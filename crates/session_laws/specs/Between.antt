@@ -1,10 +1,11 @@
 -- Two lines of two workers, where the second one's records stand between the first one's.
-use Rattle.std.specs.Prelude.{◌≡◌, ℕ, zero, suc, List, [], ◌∷◌}
+use Rattle.std.specs.Prelude.{◌≡◌, ℕ, zero, suc, List, [], ◌∷◌, ◌++◌, length}
 use Rattle.journal_records.specs.declared.records.Outcome.{Outcome}
 use Rattle.journal_records.specs.declared.records.Record.{Record}
-use Rattle.journal_records.specs.Records.{settling}
 use Rattle.budget_core.specs.declared.entry.Ask.{Ask}
 use Rattle.budget_core.specs.declared.entry.Grant.{Grant}
+use Rattle.budget_core.specs.Entries.{Entry}
+use Rattle.budget_core.specs.Ledger.{settlement_for}
 use Rattle.owner_house.specs.Owner.{Owner, signature_of_view}
 use Rattle.answer_path.specs.Query.{Query}
 use Rattle.answer_path.specs.Verdict.{granted, IsVerdict}
@@ -20,14 +21,18 @@ abbrev pub two_workers : ℕ → ℕ
 two_workers zero = 0
 two_workers (suc at) = 1
 
--- A line asks this owner, is granted on just these records, and settled at a later place.
+-- A line asks this owner, is granted on just these records, and settled behind later ones.
 pub record IsSettledLater (house : House) (draws : ℕ → ℕ → ℕ → ℕ) (o : ℕ) (owner : Owner) (before : List Record) (x : Exchange) (query : Query)
-    (asking : Ask) (grant : Grant) (outcome : Outcome) (place later : ℕ) : Type 0 where
+    (asking : Ask) (grant : Grant) (outcome : Outcome) (place : ℕ) (later : List Record) : Type 0 where
   pub meant : meant_at house x.turn ≡ wants o owner (asks query)
   pub verdict : IsVerdict owner.entry (signature_of_view owner query.view) 0 before query (granted asking grant)
   pub settles : IsSettledBy owner (draws o) query grant.number outcome
   pub said : x.reply ≡ outcome_reply grant outcome
-  pub told : x.told ≡ (place, granted_record asking grant) ∷ (later, settling grant.number outcome) ∷ []
+  pub told : x.told ≡ (place, granted_record asking grant) ∷ (length later, settlement_for owner.entry later grant.number outcome) ∷ []
 
-abbrev pub four_records : Ask → Ask → Grant → Grant → Outcome → Outcome → List Record
-four_records a b c d s t = granted_record a c ∷ granted_record b d ∷ settling d.number t ∷ settling c.number s ∷ []
+abbrev pub three_records : Entry → Ask → Ask → Grant → Grant → Outcome → List Record
+three_records entry a b c d t =
+    granted_record a c ∷ granted_record b d ∷ settlement_for entry (granted_record a c ∷ granted_record b d ∷ []) d.number t ∷ []
+
+abbrev pub four_records : Entry → Ask → Ask → Grant → Grant → Outcome → Outcome → List Record
+four_records entry a b c d s t = three_records entry a b c d t ++ settlement_for entry (three_records entry a b c d t) c.number s ∷ []

@@ -8,6 +8,7 @@ use Rattle.journal_records.specs.Records.{reservation_in, settlement_in}
 use Rattle.budget_core.specs.declared.entry.Ask.{Ask}
 use Rattle.budget_core.specs.declared.entry.Grant.{Grant}
 use Rattle.budget_core.specs.Counts.{reservations_of, outcome_of}
+use Rattle.budget_core.specs.Ledger.{returned_by}
 use Rattle.budget_core.specs.Legal.{IsHistory, IsLegal}
 use Rattle.owner_house.specs.Owner.{Owner, signature_of_view}
 use Rattle.answer_path.specs.Query.{Query}
@@ -23,12 +24,13 @@ WasReserved owner start programs before r =
     × IsVerdict owner.entry (signature_of_view owner query.view) start before query (granted asking grant)
     × (Reserve r ≡ granted_record asking grant) × (slice_get programs (length (reservations_of before)) ≡ Some query.program)
 
--- A settlement is of such a reservation, which stands somewhere before it and is unsettled there.
+-- A settlement is of such a reservation, which stands somewhere before it and is unsettled there, and gives back what the cost falls by.
 abbrev pub WasSettled : Owner → (ℕ → ℕ → ℕ) → (start : ℕ) → (programs : List (List ℕ)) → (before : List Record) → Settlement → Type 0
 WasSettled owner draws start programs before s =
     (query : Query) × (r : Reservation) × IsSettledBy owner draws query s.number s.outcome
     × (slice_get (reservations_of before) s.number ≡ Some r) × (r.view ≡ query.view) × (r.e ≡ query.e)
     × (slice_get programs s.number ≡ Some query.program) × (outcome_of before s.number ≡ None) × (start ≤ s.number)
+    × (s.returned ≡ returned_by owner.entry before s.number s.outcome)
 
 -- A record came about so, whichever it is.
 abbrev pub CameBy : Owner → (ℕ → ℕ → ℕ) → (start : ℕ) → (programs : List (List ℕ)) → (before : List Record) → Record → Type 0

@@ -31,7 +31,7 @@ ghost use Rattle.session_laws.specs.ToldOnce.{AreToldOnce};
 ghost use Rattle.session_laws.specs.Growing.{AreGrowing, AreGrowingFrom};
 ghost use Rattle.session_laws.specs.Lines.{AreKnown, AreOfTurns, AreHonoured};
 ghost use Rattle.session_laws.specs.Crew.{AreDone, AreJoined, AreTogether};
-ghost use Rattle.session_laws.specs.Between.{two_workers, IsSettledLater, four_records};
+ghost use Rattle.session_laws.specs.Between.{two_workers, IsSettledLater, three_records, four_records};
 ghost use Rattle.session_laws.specs.Causes.{AreCaused};
 ghost use Rattle.session_laws.specs.Order.{LeastCodeRefuses, GrantsAreUnopposed};
 
@@ -222,8 +222,9 @@ pub fn blocks_are_dealt()
 /// An example, so that the premise of these laws can be met: of two workers' lines the second one's records may stand between the first one's.
 pub fn records_may_come_between()
     ensures { (house : House) (draws : ℕ → ℕ → ℕ → ℕ) (o : ℕ) (owner : Owner) (x y : Exchange) (q r : Query) (a b : Ask) (c d : Grant) (s t : Outcome) →
-        IsSettledLater house draws o owner [] x q a c s 0 3 → IsSettledLater house draws o owner (granted_record a c ∷ []) y r b d t 1 2 →
-        AreGathered house draws 2 two_workers o [] (x ∷ y ∷ []) (four_records a b c d s t) }
+        IsSettledLater house draws o owner [] x q a c s 0 (three_records owner.entry a b c d t) →
+        IsSettledLater house draws o owner (granted_record a c ∷ []) y r b d t 1 (granted_record a c ∷ granted_record b d ∷ []) →
+        AreGathered house draws 2 two_workers o [] (x ∷ y ∷ []) (four_records owner.entry a b c d s t) }
 {}
 
 /// A line that asks is refused by itself, for its program or by the budget with the least code of all that could refuse it, and

@@ -143,12 +143,14 @@ fn header() -> Header
     ensures valid { IsHeader result }
     ensures budget { result.budget ≡ 10000000 }
     ensures capacity { result.capacity ≡ 300 }
+    ensures version { result.version ≡ 2 }
 {
     Header {
         owner: 0,
         budget: 10_000_000,
         capacity: 300,
         digest: [1; 32],
+        version: 2,
     }
 }
 

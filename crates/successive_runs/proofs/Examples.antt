@@ -26,7 +26,7 @@ use Rattle.answer_path.specs.Met.{IsMetExactly}
 use Rattle.answer_path.specs.Noise.{noise_at}
 use Rattle.answer_path.specs.Shut.{Shut, unshut, StaysShut, ShutsBy}
 use Rattle.answer_path.specs.Verdict.{granted}
-use Rattle.answer_path.specs.Answered.{HasWorthIn, outcome_reply, granted_record, grant_records, IsAnswered}
+use Rattle.answer_path.specs.Answered.{HasWorthIn, outcome_reply, granted_record, IsAnswered}
 use Rattle.answer_path.proofs.Answering.{money_says}
 use Rattle.session_core.specs.Code.{IsAnalyst}
 use Rattle.session_core.specs.Meant.{wants, meant_by}
@@ -36,7 +36,7 @@ use Rattle.session_core.specs.Gathered.{one_worker, part_of, IsAnsweredOn, AreGa
 use Rattle.session_core.specs.Served.{ShutsFor, ShutsOn}
 use Rattle.session_core.specs.Transcript.{LeadExactly}
 use Rattle.session_core.proofs.Exactly.{answers_on, outcome_said}
-use Rattle.session_core.proofs.Examples.{three_rows, the_owner, a_query, an_ask, a_grant, made, outcome_with, settled_with, size_asked, three_value, turn, ask_line}
+use Rattle.session_core.proofs.Examples.{three_rows, the_owner, a_query, an_ask, a_grant, plain_records, made, outcome_with, settled_with, size_asked, three_value, turn, ask_line}
 use Rattle.session_laws.specs.Growing.{IsMetOn}
 use Rattle.session_laws.proofs.Added.{IsKind, kind_met, number_is, told_stands}
 use Rattle.session_laws.proofs.Once.{kind_at}
@@ -112,10 +112,10 @@ abbrev first_line : Outcome → Exchange
 first_line outcome = answering a_grant outcome (enumerate_from 0 (made outcome))
 
 abbrev again : Outcome → Exchange
-again outcome = answering next_grant outcome (enumerate_from 1 (grant_records an_ask next_grant outcome))
+again outcome = answering next_grant outcome (enumerate_from 1 (plain_records an_ask next_grant outcome))
 
 abbrev both_runs : Outcome → List Record
-both_runs outcome = opened ++ grant_records an_ask next_grant outcome
+both_runs outcome = opened ++ plain_records an_ask next_grant outcome
 
 abbrev stopped : Outcome → Run
 stopped outcome = record { count = 1; crew = one_worker; exchanges = first_line outcome ∷ []; records = made outcome; closed = None; sent = none_sent; left = opened }
@@ -164,7 +164,7 @@ second_leads draws =
     let outcome = outcome_at draws 1 in (
       both_runs outcome,
       (
-        grant_records an_ask next_grant outcome,
+        plain_records an_ask next_grant outcome,
         inl (granted an_ask next_grant, money_says clinic 1 opened a_query 1 1 (Ok next_grant) size_asked refl, inl (outcome, settled_with (HasWorthIn clinic a_query) 3 (noise_at 1000000 (draws 0 1)) three_value, refl, refl)),
         refl,
         refl,
@@ -188,7 +188,7 @@ first_gathered draws = record {
 second_gathered : (draws : ℕ → ℕ → ℕ → ℕ) → AreGathered house draws 1 one_worker 0 opened (again (outcome_at draws 1) ∷ []) (both_runs (outcome_at draws 1))
 unfolding meant_by request_of
 second_gathered draws = record {
-  begins = (grant_records an_ask next_grant (outcome_at draws 1), refl);
+  begins = (plain_records an_ask next_grant (outcome_at draws 1), refl);
   crews = λ at. omega arith;
   workers = each;
   once = λ weight. refl;
@@ -225,9 +225,9 @@ second_run : (draws : ℕ → ℕ → ℕ → ℕ) → IsRun house draws 0 clini
 second_run draws = record {
   speakers = speaks (again (outcome_at draws 1)) refl;
   gathered = second_gathered draws;
-  shut = shut_by_none draws next_grant (outcome_at draws 1) (enumerate_from 1 (grant_records an_ask next_grant (outcome_at draws 1)));
+  shut = shut_by_none draws next_grant (outcome_at draws 1) (enumerate_from 1 (plain_records an_ask next_grant (outcome_at draws 1)));
   follows = λ failure is. absurd (cc (is));
-  leaves = inl ((grant_records an_ask next_grant (outcome_at draws 1), refl), ([], refl));
+  leaves = inl ((plain_records an_ask next_grant (outcome_at draws 1), refl), ([], refl));
   kept = λ place x asked demand sent there meant.
       met_on_all house draws 1 one_worker 0 opened (again (outcome_at draws 1) ∷ []) (both_runs (outcome_at draws 1)) (both_runs (outcome_at draws 1)) (second_gathered draws) ([], refl) place x asked demand there meant;
 }
@@ -295,7 +295,7 @@ failing_gathered draws = record {
     each (suc i) lt = absurd (omega (arith, lt))
 
 shut_by_failure : (draws : ℕ → ℕ → ℕ → ℕ) → AreShut house draws 1 one_worker 0 (unsettled ∷ []) (Some (failed (outcome_at draws 0)))
-unfolding meant_by request_of signature_in rows_in ShutsBy
+unfolding meant_by request_of cost_of cost_of_charges partition_cost signature_in rows_in ShutsBy
 shut_by_failure draws = record {
   crews = λ at. omega arith;
   ends = λ i. shut_by (outcome_at draws 0);
@@ -304,11 +304,12 @@ shut_by_failure draws = record {
 }
   where
     each : (i : ℕ) → i < 1 → ShutsOn house draws 0 unshut (part_of one_worker i 0 (unsettled ∷ [])) (shut_by (outcome_at draws 0)) × StillShut (Some (failed (outcome_at draws 0))) (Some (failed (outcome_at draws 0)))
-    each zero lt = ((shut_by (outcome_at draws 0), (failed (outcome_at draws 0), refl, refl, (outcome_at draws 0, settled_with (HasWorthIn clinic a_query) 3 (noise_at 1000000 (draws 0 0)) three_value, refl), refl), refl), λ failure is. is)
+    each zero lt = ((shut_by (outcome_at draws 0), (failed (outcome_at draws 0), refl, refl, (outcome_at draws 0, opened, settled_with (HasWorthIn clinic a_query) 3 (noise_at 1000000 (draws 0 0)) three_value, refl), refl), refl), λ failure is. is)
     each (suc i) lt = absurd (omega (arith, lt))
 
 may_settle : (outcome : Outcome) → MayFollow clinic.entry opened (settling 0 outcome)
-may_settle outcome = record { reserved = refl; unsettled = refl }
+unfolding cost_of cost_of_charges partition_cost
+may_settle outcome = record { reserved = refl; unsettled = refl; fall = refl }
 
 -- It may be found settled, as a run that ends may find it open: whoever was told 52 wasn't told the answer.
 failing_run : (draws : ℕ → ℕ → ℕ → ℕ) → IsRun house draws 0 clinic [] (failing (outcome_at draws 0))

@@ -6,7 +6,7 @@ use mathlib.Core.List.{IsPrefix}
 use Rattle.journal_records.specs.declared.records.Outcome.{Outcome}
 use Rattle.journal_records.specs.declared.records.Reservation.{Reservation}
 use Rattle.journal_records.specs.declared.records.Record.{Record}
-use Rattle.journal_records.specs.Records.{settling}
+use Rattle.journal_records.specs.Records.{settling_back}
 use Rattle.budget_core.specs.Counts.{reservations_of, outcome_of}
 use Rattle.budget_core.specs.Entries.{Entry}
 use Rattle.budget_core.specs.Legal.{IsHistory, IsSettlementAfter}
@@ -33,9 +33,10 @@ pub history_on : (entry : Entry) (g all : List Record) → IsPrefix g all → Is
 history_on entry g all f h = history-front entry g f.0 (subst (λ (w : List Record). IsHistory entry w) (sym f.1) h)
 
 -- What a history settles at some place it hasn't settled before.
-pub unsettled_before : (entry : Entry) (u all : List Record) (n : ℕ) (outcome : Outcome) → IsPrefix (u ++ settling n outcome ∷ []) all → IsHistory entry all → outcome_of u n ≡ None
-unsettled_before entry u all n outcome f h =
-    let may : IsSettlementAfter u n = history-seam entry u (settling n outcome) [] (history_on entry (u ++ settling n outcome ∷ []) all f h) in
+pub unsettled_before : (entry : Entry) (u all : List Record) (n : ℕ) (outcome : Outcome) (returned : ℕ) → IsPrefix (u ++ settling_back n outcome returned ∷ []) all → IsHistory entry all → outcome_of u n ≡ None
+unsettled_before entry u all n outcome returned f h =
+    let may : IsSettlementAfter entry u (record { number = n; outcome = outcome; returned = returned })
+    = history-seam entry u (settling_back n outcome returned) [] (history_on entry (u ++ settling_back n outcome returned ∷ []) all f h) in
     may.unsettled
 
 -- How a number was settled in the first records is how it is, or it wasn't yet.

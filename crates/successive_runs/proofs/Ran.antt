@@ -8,7 +8,7 @@ use Rattle.journal_records.specs.declared.records.Record.TheVariants.{Reserve}
 use Rattle.budget_core.specs.declared.entry.Ask.{Ask}
 use Rattle.budget_core.specs.Counts.{reservations_of}
 use Rattle.budget_core.specs.Legal.{MayFollow, IsHistory, IsSettlementAfter}
-use Rattle.budget_core.specs.Ledger.{reservation_numbered}
+use Rattle.budget_core.specs.Ledger.{reservation_numbered, returned_by, settlement_of}
 use Rattle.budget_core.proofs.Histories.{history-append}
 use Rattle.budget_ledger.specs.declared.failure.Failure.{Failure}
 use Rattle.owner_house.specs.Owner.{Owner}
@@ -98,14 +98,14 @@ module _ (house : House) (draws : ℕ → ℕ → ℕ → ℕ) (o : ℕ) (owner 
 
   settlement_pends : (j : ℕ) (x : Exchange) (query : Query) (next : Record) → slice_get run.exchanges j ≡ Some x → meant_at house x.turn ≡ wants o owner (asks query) → (by : By query x)
       → IsPendingOf owner (draws o) query ((length by.g, granted_record by.asking by.grant) ∷ []) next → MayFollow owner.entry run.records next → IsStillExplained next
-  settlement_pends j x query next at meant by (outcome, settles, is) may =
+  settlement_pends j x query next at meant by (outcome, u, settles, is) may =
       let n : ℕ = by.grant.number in
       let v = verdict_grants owner (length (reservations_of found)) by.g query by.asking by.grant by.verdict in
-      let follows : IsSettlementAfter run.records n = subst (λ (w : Record). MayFollow owner.entry run.records w) is may in (
+      let follows : IsSettlementAfter owner.entry run.records (settlement_of owner.entry u n outcome) = subst (λ (w : Record). MayFollow owner.entry run.records w) is may in (
         whole,
         prefix_self whole,
         subst (λ (w : Record). Explains owner (draws o) whole (run.records ++ w ∷ [])) (sym is)
-            (explains_settlement owner (draws o) whole run.records well_here.explained n query.program (reservation_numbered n by.asking by.grant.taken) outcome (program_here j x query at meant by)
+            (explains_settlement owner (draws o) whole run.records well_here.explained n query.program (reservation_numbered n by.asking by.grant.taken) outcome (returned_by owner.entry u n outcome) (program_here j x query at meant by)
             (listed_here query x by) follows.unsettled
             (outcome_explains owner (draws o) query n outcome (reservation_numbered n by.asking by.grant.taken) (ap (λ (a : Ask). a.view) v.asks) (ap (λ (a : Ask). a.e) v.asks) settles)),
       )

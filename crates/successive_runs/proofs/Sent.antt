@@ -7,11 +7,10 @@ use Rattle.journal_records.specs.declared.records.Outcome.{Outcome}
 use Rattle.journal_records.specs.declared.records.Reservation.{Reservation}
 use Rattle.journal_records.specs.declared.records.Record.{Record}
 use Rattle.journal_records.specs.declared.records.Record.TheVariants.{Reserve}
-use Rattle.journal_records.specs.Records.{settling}
 use Rattle.budget_core.specs.declared.entry.Ask.{Ask}
 use Rattle.budget_core.specs.Counts.{reservations_of}
 use Rattle.budget_core.specs.Legal.{IsHistory}
-use Rattle.budget_core.specs.Ledger.{reservation_numbered}
+use Rattle.budget_core.specs.Ledger.{reservation_numbered, returned_by, settlement_for}
 use Rattle.budget_core.proofs.Numbers.{reservation_of-next, outcome_of-append-new}
 use Rattle.owner_house.specs.Owner.{Owner}
 use Rattle.owner_house.specs.House.{House, IsOwnerIn}
@@ -139,8 +138,8 @@ module _ (house : House) (draws : ℕ → ℕ → ℕ → ℕ) (o : ℕ) (owner 
           analyst = ap (λ (a : Ask). a.analyst) v.asks;
           view = ap (λ (a : Ask). a.view) v.asks;
           epsilon = ap (λ (a : Ask). a.e) v.asks;
-          settled = outcome_prefix (done.u ++ settling n done.outcome ∷ []) run.left n done.outcome done.stands
-              (outcome_of-append-new done.u n done.outcome (unsettled_before owner.entry done.u run.left n done.outcome done.stands g.explained.history));
+          settled = outcome_prefix (done.u ++ settlement_for owner.entry done.u n done.outcome ∷ []) run.left n done.outcome done.stands
+              (outcome_of-append-new done.u n done.outcome (returned_by owner.entry done.u n done.outcome) (unsettled_before owner.entry done.u run.left n done.outcome (returned_by owner.entry done.u n done.outcome) done.stands g.explained.history));
           program = g.agrees n query.program (program_left j x query at meant by) (number_left query x by);
         }
 

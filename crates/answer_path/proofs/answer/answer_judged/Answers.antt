@@ -86,7 +86,7 @@ returns-in-Ok-clause-turn g c =
     let settles : IsSettledBy (owner_with name pass.opened.ledger.entry dataset) draws query grant.number outcome =
     settled_by_term (owner_with name pass.opened.ledger.entry dataset) draws query grant.number term outcome c.requires.reads c.outcome_at-outcome.ensures.settled in
     subst (λ (reply : Replied). IsTurn (owner_with name pass.opened.ledger.entry dataset) draws query pass reply after) (sym settled.2)
-    (settled_turn name dataset draws query pass mid after p q grant outcome settled.0 accepts made settles settled.1))
+    (settled_turn name dataset draws query pass mid after p q grant outcome settled.0 accepts made settles settled.1 c.reserve.ensures.kept.opened))
 
 pub returns-in-Ok-clause-fits : goal.returns-in-Ok-clause-fits
 returns-in-Ok-clause-fits g c =

@@ -1,5 +1,5 @@
 use Rattle.std.proofs.Common.{◌≡◌}
-use Rattle.budget_journal.specs.declared.version.Version.TheVariants.{Two}
+use Rattle.budget_journal.specs.declared.form.Form.TheVariants.{Many}
 use Rattle.budget_journal.proofs.Gates.{GatesRead}
 use Rattle.budget_journal.proofs.opening.area_by_gates.Given as goal
 
@@ -7,6 +7,6 @@ abbrev pub invariant-loop-number : goal.invariant-loop-number
 invariant-loop-number l =
     record {
       read : GatesRead l.kept l.number l.live.number l.shut;
-      version : l.live.version ≡ Two;
+      form : l.live.form ≡ Many;
       capacity : l.live.capacity ≡ l.capacity;
     }

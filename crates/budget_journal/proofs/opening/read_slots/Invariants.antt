@@ -11,7 +11,7 @@ abbrev pub invariant-loop-slot : goal.invariant-loop-slot
 invariant-loop-slot g l =
     record {
       judged : (t : Trace) → g.D.Disk.trace l.fn.disk ≡ Some t → l.size ≡ length (seen_of t)
-          → Scanned (area_in l.live.version l.live.capacity l.live.number l.size) (seen_of t) l.slot l.records.items;
+          → Scanned (area_in l.live.form l.live.capacity l.live.number l.size) (seen_of t) l.slot l.records.items;
       bounded : length l.records.items ≤ l.slot;
       valid : All IsValid l.records.items;
       same : g.D.Disk.trace l.disk ≡ g.D.Disk.trace l.fn.disk;

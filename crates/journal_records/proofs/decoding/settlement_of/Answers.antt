@@ -24,13 +24,18 @@ answer : (bytes : List ℕ) (n : ℕ) (s : Settlement) → IsSettlement s → n 
 answer bytes n s valid read is = read ∙ ap (λ (b : List ℕ). from_be_bytes w64 (take 8 (drop 8 b))) is
     ∙ from_be_bytes-to_be_bytes_8 (answer_number s.outcome) (answer-fits s.outcome valid.settled)
 
+back : (bytes : List ℕ) (n : ℕ) (s : Settlement) → IsSettlement s → n ≡ from_be_bytes w64 (take 8 (drop 16 bytes))
+    → bytes ≡ encoded (Settle s) → n ≡ s.returned
+back bytes n s valid read is = read ∙ ap (λ (b : List ℕ). from_be_bytes w64 (take 8 (drop 16 b))) is ∙ from_be_bytes-to_be_bytes_8 s.returned valid.bounded
+
 pub returns-clause-only : goal.returns-clause-only
 returns-clause-only c s valid is =
     let n = c.u32_at-number.ensures ∙ ap (λ (b : List ℕ). from_be_bytes w32 (take 4 (drop 4 b))) is ∙ from_be_bytes-to_be_bytes_4 s.number valid.numbered in
     let o = c.in_ok-outcome.ensures.only s.outcome valid.settled (ap (λ (b : List ℕ). slice_index b 2) is)
     (answer c.args.bytes.now _ s valid c.u64_at.ensures is) in
     let w : c.in_ok-outcome.outcome ≡ s.outcome = same_Some _ _ o in
-    λ i. Some (Settle (record { number = n i; outcome = w i }))
+    let r = back c.args.bytes.now _ s valid c.u64_at-returned.ensures is in
+    λ i. Some (Settle (record { number = n i; outcome = w i; returned = r i }))
 
 pub returns-in_err-outcome-clause-only : goal.returns-in_err-outcome-clause-only
 returns-in_err-outcome-clause-only c s valid is =

@@ -11,4 +11,4 @@ after-requires-clause-room c =
 
 pub returns-clause-grows : goal.returns-clause-grows
 returns-clause-grows c =
-    rw (← c.self.view_is) omega (arith, kept-grows c.self.inside.entry c.self.inside.records.items c.args.view c.args.charge, c.after.ensures (charges_in c.self.inside.records.items) c.self.invariant.totals.costs)
+    rw (← c.self.view_is) omega (arith, kept-grows c.self.inside.entry c.self.inside.records.items c.args.view c.args.charge, c.after.ensures (charges_in c.self.inside.entry c.self.inside.records.items) c.self.invariant.totals.costs)

@@ -3,13 +3,13 @@ use Rattle.budget_core.specs.Ledger.{start_of}
 use Rattle.budget_core.specs.Run.{ledger_in}
 use Rattle.budget_core.specs.Entries.{Entry}
 use Rattle.budget_core.proofs.RunLemmas.{run-open}
-use Rattle.budget_core.proofs.SoundLemmas.{with-ask, verdict-over, verdict-full, verdict-grant}
+use Rattle.budget_core.proofs.SoundLemmas.{sound-history, with-ask, verdict-over, verdict-full, verdict-grant}
 use Rattle.budget_core.proofs.ledger.Ledger.verdict.Goals as goal
 
 pub returns-then-after-budget-clause-verdict : goal.returns-then-after-budget-clause-verdict
 returns-then-after-budget-clause-verdict c =
     let h = c.self.inside.history in
-    let after = with-ask h.entry h.records c.args.ask.now c.charge_for.result c.cost_after-after.result c.charge_for.ensures.charge c.cost_after-after.ensures.cost in
+    let after = with-ask h.entry h.records c.args.ask.now c.charge_for.result c.cost_after-after.result (sound-history (ledger_in c.self.inside) c.self.invariant.sound) c.charge_for.ensures.charge c.cost_after-after.ensures.cost in
     let budget : c.budget-budget.result ≡ h.entry.budget = c.budget-budget.ensures ∙ ap (λ (e : Entry). e.budget) c.entry.ensures in
     let v = verdict-over h.entry (start_of (ledger_in c.self.inside)) h.records c.args.ask.now c.spent-spent.result c.cost_after-after.result c.len-seen.result c.self.inside.unsettled
     c.spent-spent.ensures after c.len-seen.ensures (run-open c.self.inside c.self.invariant) (omega (arith, c.if-after-budget.true, budget)) in
@@ -18,7 +18,7 @@ returns-then-after-budget-clause-verdict c =
 pub returns-then-seen-self-clause-verdict : goal.returns-then-seen-self-clause-verdict
 returns-then-seen-self-clause-verdict c =
     let h = c.self.inside.history in
-    let after = with-ask h.entry h.records c.args.ask.now c.charge_for.result c.cost_after-after.result c.charge_for.ensures.charge c.cost_after-after.ensures.cost in
+    let after = with-ask h.entry h.records c.args.ask.now c.charge_for.result c.cost_after-after.result (sound-history (ledger_in c.self.inside) c.self.invariant.sound) c.charge_for.ensures.charge c.cost_after-after.ensures.cost in
     let budget : c.budget-budget.result ≡ h.entry.budget = c.budget-budget.ensures ∙ ap (λ (e : Entry). e.budget) c.entry.ensures in
     let capacity : c.capacity-capacity.result ≡ h.entry.capacity = c.capacity-capacity.ensures.capacity ∙ ap (λ (e : Entry). e.capacity) c.entry-2.ensures in
     let v = verdict-full h.entry (start_of (ledger_in c.self.inside)) h.records c.args.ask.now c.spent-spent.result c.cost_after-after.result c.len-seen.result c.self.inside.unsettled
@@ -28,7 +28,7 @@ returns-then-seen-self-clause-verdict c =
 pub returns-clause-verdict : goal.returns-clause-verdict
 returns-clause-verdict c =
     let h = c.self.inside.history in
-    let after = with-ask h.entry h.records c.args.ask.now c.charge_for.result c.cost_after-after.result c.charge_for.ensures.charge c.cost_after-after.ensures.cost in
+    let after = with-ask h.entry h.records c.args.ask.now c.charge_for.result c.cost_after-after.result (sound-history (ledger_in c.self.inside) c.self.invariant.sound) c.charge_for.ensures.charge c.cost_after-after.ensures.cost in
     let budget : c.budget-budget.result ≡ h.entry.budget = c.budget-budget.ensures ∙ ap (λ (e : Entry). e.budget) c.entry.ensures in
     let capacity : c.capacity-capacity.result ≡ h.entry.capacity = c.capacity-capacity.ensures.capacity ∙ ap (λ (e : Entry). e.capacity) c.entry-2.ensures in
     let v = verdict-grant h.entry (start_of (ledger_in c.self.inside)) h.records c.args.ask.now c.spent-spent.result c.cost_after-after.result c.len-seen.result c.self.inside.unsettled

@@ -6,4 +6,4 @@ use Rattle.budget_core.proofs.totals.Totals.may_follow.Goals as goal
 pub returns-in-Settle : goal.returns-in-Settle
 returns-in-Settle c records told =
     subst (λ (r : Record). (IsTrue c.may_settle.result → MayFollow c.args.entry.now records r) × (MayFollow c.args.entry.now records r → IsTrue c.may_settle.result))
-    (sym c.in-Settle.is) (c.may_settle.ensures c.args.entry.now records told)
+    (sym c.in-Settle.is) (c.may_settle.ensures records told)

@@ -1,11 +1,7 @@
-use Rattle.std.proofs.Common.{◌≤◌, length, sym, ap, arith}
-use Rattle.std.proofs.lemmas.Bool.{ltb-false}
-use Rattle.budget_core.specs.Counts.{reservations_of}
-use Rattle.budget_core.proofs.Standings.{not-past}
+use Rattle.budget_core.proofs.KeptLemmas.{may-settle-by}
 use Rattle.budget_core.proofs.totals.Totals.may_settle.Goals as goal
 
-pub returns-in-None : goal.returns-in-None
-returns-in-None c entry records told =
-    let past : length (reservations_of records) ≤ c.args.number
-    = omega (arith, ltb-false c.args.number (length c.deref.result.now) (sym c.in-None.ensures.lookup.0), ap length c.deref.ensures.value, told.rows.count) in
-    (λ yes. cc, λ may. absurd (not-past entry records told.history c.args.number past may))
+pub returns : goal.returns
+returns c records told =
+    let open_before = (c.is_open.ensures c.args.entry.now records told).0 c.if-not-is_open.false in
+    may-settle-by c.args.entry.now records c.args.settlement.now c.returned.result open_before (c.returned.ensures records told open_before)

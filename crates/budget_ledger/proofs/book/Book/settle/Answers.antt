@@ -1,5 +1,6 @@
 use Rattle.std.proofs.Common.{subst, sym, arith}
-use Rattle.journal_records.specs.Records.{settling}
+use Rattle.journal_records.specs.declared.records.Record.TheVariants.{Settle}
+use Rattle.budget_core.proofs.LegalLemmas.{may-settle}
 use Rattle.budget_core.specs.Ledger.{IsUnsettled}
 use Rattle.budget_ledger.specs.Account.{Account}
 use Rattle.budget_ledger.proofs.Writes.{settlement_fits, written_holds, written_went, stopped_holds, stopped_went}
@@ -14,7 +15,7 @@ write_down-requires-clause-room g c none =
 pub invariant_of-self-2 : goal.invariant_of-self-2
 invariant_of-self-2 g c =
     let unsettled : IsUnsettled c.self.inside.ledger c.args.number = subst (λ (a : Account). IsUnsettled a.ledger c.args.number) (sym c.self.view_is) c.requires in
-    written_holds g.D.Disk.trace g.D.Disk.faults c.self.inside.ledger c.self.inside.header (settling c.args.number c.args.outcome) c.self.inside.journal c.write_down.new.journal
+    written_holds g.D.Disk.trace g.D.Disk.faults c.self.inside.ledger c.self.inside.header (Settle c.settlement-settlement.result) c.self.inside.journal c.write_down.new.journal
     c.self.inside.failure c.write_down.new.failure c.self.invariant
     (λ none. settlement_fits c.self.inside.ledger c.args.number c.args.outcome c.self.invariant.book.sound unsettled)
     c.write_down.ensures.room c.in_ok-write_down.ensures.written c.settle.new.self c.settle.ensures.after c.settle.ensures.sound
@@ -22,7 +23,7 @@ invariant_of-self-2 g c =
 pub returns-clause-went : goal.returns-clause-went
 returns-clause-went g c =
     let unsettled : IsUnsettled c.self.inside.ledger c.args.number = subst (λ (a : Account). IsUnsettled a.ledger c.args.number) (sym c.self.view_is) c.requires in
-    let went = written_went g.D.Disk.trace g.D.Disk.faults c.self.inside.ledger c.self.inside.header (settling c.args.number c.args.outcome) c.self.inside.journal c.write_down.new.journal
+    let went = written_went g.D.Disk.trace g.D.Disk.faults c.self.inside.ledger c.self.inside.header (Settle c.settlement-settlement.result) c.self.inside.journal c.write_down.new.journal
     c.self.inside.failure c.write_down.new.failure c.self.invariant
     (λ none. settlement_fits c.self.inside.ledger c.args.number c.args.outcome c.self.invariant.book.sound unsettled)
     c.write_down.ensures.room c.in_ok-write_down.ensures.written c.settle.new.self c.settle.ensures.after in
@@ -34,15 +35,15 @@ returns-clause-kept g c = (invariant_of-self-2 g c).book
 pub invariant_of-self : goal.invariant_of-self
 invariant_of-self g c =
     let unsettled : IsUnsettled c.self.inside.ledger c.args.number = subst (λ (a : Account). IsUnsettled a.ledger c.args.number) (sym c.self.view_is) c.requires in
-    stopped_holds g.D.Disk.trace g.D.Disk.faults c.self.inside.ledger c.self.inside.header (settling c.args.number c.args.outcome) c.self.inside.journal c.write_down.new.journal
+    stopped_holds g.D.Disk.trace g.D.Disk.faults c.self.inside.ledger c.self.inside.header (Settle c.settlement-settlement.result) c.self.inside.journal c.write_down.new.journal
     c.self.inside.failure c.write_down.new.failure c.self.invariant
     (λ none. settlement_fits c.self.inside.ledger c.args.number c.args.outcome c.self.invariant.book.sound unsettled)
-    c.write_down.ensures.room _ c.in_err-write_down.ensures.stopped (record { reserved = unsettled.reserved; unsettled = unsettled.unsettled })
+    c.write_down.ensures.room _ c.in_err-write_down.ensures.stopped (may-settle c.self.inside.ledger c.settlement-settlement.result c.settlement-settlement.ensures.may)
 
 pub returns-in_err-write_down-clause-went : goal.returns-in_err-write_down-clause-went
 returns-in_err-write_down-clause-went g c =
     let unsettled : IsUnsettled c.self.inside.ledger c.args.number = subst (λ (a : Account). IsUnsettled a.ledger c.args.number) (sym c.self.view_is) c.requires in
-    let went = stopped_went g.D.Disk.trace g.D.Disk.faults c.self.inside.ledger c.self.inside.header (settling c.args.number c.args.outcome) c.self.inside.journal c.write_down.new.journal
+    let went = stopped_went g.D.Disk.trace g.D.Disk.faults c.self.inside.ledger c.self.inside.header (Settle c.settlement-settlement.result) c.self.inside.journal c.write_down.new.journal
     c.self.inside.failure c.write_down.new.failure c.self.invariant
     (λ none. settlement_fits c.self.inside.ledger c.args.number c.args.outcome c.self.invariant.book.sound unsettled)
     c.write_down.ensures.room _ c.in_err-write_down.ensures.stopped in

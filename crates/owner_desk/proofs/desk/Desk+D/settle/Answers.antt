@@ -1,7 +1,6 @@
 use Rattle.std.proofs.Common.{sym, ap, ◌≡◌, ◌∙◌, subst}
 use Rattle.owner_lock.specs.Passes.{known}
-use Rattle.journal_records.specs.Records.{settling}
-use Rattle.budget_core.specs.Ledger.{IsUnsettled}
+use Rattle.budget_core.specs.Ledger.{returned_by, settlement_for, IsUnsettled}
 use Rattle.budget_core.specs.Sound.{IsSound}
 use Rattle.budget_ledger.specs.Booked.{IsSettlementOf}
 use Rattle.owner_desk.specs.Passes.{ledger_on}
@@ -28,8 +27,8 @@ with-requires-clause-owes g c = λ x y r m called.
     (subst (λ (z : Watched). IsSettlementOf (account_at called.shown.now) c.args.number c.args.outcome r (account_at z)) called.leaves called.met.0) in
     let opened_stays : y.opened ≡ x.opened = sym (ap (λ (z : Watched). z.opened) called.leaves) ∙ (called.met.1.0 ∙ ap (λ (z : Watched). z.opened) called.shows) in
     let sound : IsSound (ledger_on y.opened y.records) = subst (λ (z : Watched). IsSound (ledger_on z.opened z.records)) called.leaves called.met.1.1 in
-    owes v x y (settling c.args.number c.args.outcome) opened_stays sound
-    (closes_own (opened_in v.fixed) v x c.pass.invariant m mine.place mine.reserved mine.granted c.args.number c.args.outcome mine.numbered)
+    owes v x y (settlement_for x.opened.ledger.entry x.records c.args.number c.args.outcome) opened_stays sound
+    (closes_own (opened_in v.fixed) v x c.pass.invariant m mine.place mine.reserved mine.granted c.args.number c.args.outcome (returned_by x.opened.ledger.entry x.records c.args.number c.args.outcome) mine.numbered)
     (settled_goes x y c.args.number c.args.outcome r said)
 
 pub returns-clause-settled : goal.returns-clause-settled
