@@ -173,6 +173,13 @@ impl<D: Disk> Book<D> {
         self.ledger.records()
     }
 
+    /// The version of its journal.
+    pub fn version(&self) -> u8
+        ensures { result ≡ self.now.storage.header.version }
+    {
+        self.header.version
+    }
+
     /// How many calls of the disk have failed.
     pub fn fault_count(&self) -> u64
         ensures { result ≡ self.now.storage.faults }

@@ -118,19 +118,41 @@ owners_in loading = length loading.register.catalog.owners
 abbrev pub owner_name_at : Loading → (o : ℕ) → List ℕ
 owner_name_at loading o = (owner_entry_at loading.register.catalog o).name
 
-abbrev pub entry_at : Loading → (o : ℕ) → Entry
-entry_at loading o = entry_of loading.register.catalog (owner_entry_at loading.register.catalog o)
+-- the version of an owner's journal
+abbrev pub version_at : Loading → (o : ℕ) → ℕ
+version_at loading o = get_or loading.register.versions o newest_version
 
--- The header of an owner's new journal under a key: the owner's number, its budget and capacity, and the digest of the key,
--- its entry and its table files.
-abbrev pub header_of : Loading → (key : List ℕ) → (o : ℕ) → Header
-header_of loading key o = record {
+-- what is kept of an owner's budget, for a new journal, for one of this version, and for the owner's
+abbrev pub new_entry : Loading → (o : ℕ) → Entry
+new_entry loading o = entry_of loading.register.catalog (owner_entry_at loading.register.catalog o)
+
+abbrev pub entry_in : Loading → (o version : ℕ) → Entry
+entry_in loading o version = record (new_entry loading o) { version = version }
+
+abbrev pub entry_at : Loading → (o : ℕ) → Entry
+entry_at loading o = entry_in loading o (version_at loading o)
+
+-- The header of an owner's journal of this version under a key: the owner's number, its budget and capacity, and the digest of the
+-- key, its entry and its table files.
+abbrev pub header_in : Loading → (key : List ℕ) → (o version : ℕ) → Header
+header_in loading key o version = record {
   owner = o;
   budget = (owner_entry_at loading.register.catalog o).budget;
   capacity = (owner_entry_at loading.register.catalog o).capacity;
   digest = digest_of loading.register.catalog o key (get_or loading.hashes o []);
-  version = newest_version;
+  version = version;
 }
+
+-- that of a new journal, and that of the owner's
+abbrev pub new_header : Loading → (key : List ℕ) → (o : ℕ) → Header
+new_header loading key o = header_in loading key o newest_version
+
+abbrev pub header_of : Loading → (key : List ℕ) → (o : ℕ) → Header
+header_of loading key o = header_in loading key o (version_at loading o)
+
+-- what was loaded, with journals of these versions
+abbrev pub in_versions : Loading → (versions : List ℕ) → Loading
+in_versions loading versions = record loading { register = record loading.register { versions = versions } }
 
 -- the owner of this name
 abbrev pub entry_named : Catalog → (name : List ℕ) → Result OwnerEntry (List ℕ)

@@ -5,7 +5,7 @@ ghost use Rattle.std.specs.List.{All};
 ghost use Rattle.journal_records.specs.Encoding.{IsHeader};
 ghost use Rattle.journal_records.specs.declared.records.Header.{Header as HeaderModel};
 ghost use Rattle.owner_catalog.specs.Limits.{owner_limit};
-ghost use Rattle.catalog_loading.specs.Loaded.{IsKeyedHouse, header_of, owners_in};
+ghost use Rattle.catalog_loading.specs.Loaded.{IsKeyedHouse, new_header, owners_in};
 
 use crate::opening::Opened;
 use crate::stops::Stop;
@@ -16,7 +16,7 @@ use std::alloc::Global;
 /// The header of an owner's journal where it is new.
 fn header_for(opened: &Opened, owner: u32) -> Result<Header, Stop>
     requires { owner < owners_in opened.now.loading }
-    ensures header { IfOk result (λ header. header ≡ header_of opened.now.loading opened.now.key owner) }
+    ensures header { IfOk result (λ header. header ≡ new_header opened.now.loading opened.now.key owner) }
     ensures valid { IfOk result IsHeader }
     ensures memory { IfErr result (λ stop. stop ≡ Stop.NoMemory) }
 {
@@ -37,7 +37,7 @@ pub fn headers_of(alloc: Global, opened: &Opened) -> Result<Vec<Header>, Stop>
     ensures count { IfOk result (λ headers. length headers.items ≡ owners_in opened.now.loading) }
     ensures few { IfOk result (λ headers. length headers.items ≤ owner_limit) }
     ensures headers { IfOk result (λ headers. (o : ℕ) (d : HeaderModel) → o < owners_in opened.now.loading →
-        get_or headers.items o d ≡ header_of opened.now.loading opened.now.key o) }
+        get_or headers.items o d ≡ new_header opened.now.loading opened.now.key o) }
     ensures valid { IfOk result (λ headers. All IsHeader headers.items) }
     ensures memory { IfErr result (λ stop. stop ≡ Stop.NoMemory) }
     ensures lawful { IsKeyedHouse opened.now }

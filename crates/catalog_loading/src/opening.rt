@@ -1,9 +1,9 @@
 //! A house is opened: a catalog, a key, and the tables of all owners.
 
-ghost use Rattle.std.specs.Prelude.{◌≡◌, ◌<◌, [], get_or, length, IsErrOf, MatchResult, OnOk};
+ghost use Rattle.std.specs.Prelude.{◌≡◌, ◌<◌, [], get_or, length, slice_set, IsErrOf, MatchResult, OnOk};
 ghost use Rattle.owner_catalog.specs.Entries.{owner_entry_at};
 ghost use Rattle.fz_outside.specs.Faults.{HasCause};
-ghost use Rattle.catalog_loading.specs.Loaded.{IsKeyedHouse, entry_named, house_read, owners_in};
+ghost use Rattle.catalog_loading.specs.Loaded.{IsKeyedHouse, entry_named, house_read, in_versions, keyed, owners_in};
 ghost use Rattle.catalog_loading.specs.Given.{IsOwnerAt, IsRefusedBy, IsStep};
 
 use crate::loading::{load_all, open_catalog};
@@ -62,6 +62,14 @@ impl Opened {
         ensures counted { length result.now ≡ length (owner_entry_at self.now.loading.register.catalog owner).tables }
     {
         &self.hashes[owner as usize]
+    }
+
+    /// An owner's journal is of this version.
+    pub fn set_version(&mut self, owner: u32, version: u8)
+        requires { owner < owners_in self.old.loading }
+        ensures { self.new ≡ keyed (in_versions self.old.loading (slice_set self.old.loading.register.versions owner version)) self.old.key }
+    {
+        self.house.set_version(owner, version);
     }
 
     /// The key of the house's draws.

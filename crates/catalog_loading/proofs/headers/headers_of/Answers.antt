@@ -3,14 +3,14 @@ use Rattle.std.specs.List.{All}
 use Rattle.std.proofs.lemmas.List.Elements.{All-append}
 use Rattle.journal_records.specs.Encoding.{IsHeader}
 use Rattle.journal_records.specs.declared.records.Header.{Header}
-use Rattle.catalog_loading.specs.Loaded.{header_of}
+use Rattle.catalog_loading.specs.Loaded.{new_header}
 use Rattle.catalog_loading.proofs.Hashes.{next_header, one_valid}
 use Rattle.catalog_loading.proofs.headers.headers_of.Goals as goal
 
 pub loop-owner-preserved : goal.loop-owner-preserved
 loop-owner-preserved c =
     let o = c.loop-owner.owner in
-    let f = header_of c.args.opened.now.loading c.args.opened.now.key in
+    let f = new_header c.args.opened.now.loading c.args.opened.now.key in
     let pushed : c.push.new.self.items ≡ c.loop-owner.headers.items ++ c.in_ok-header.header ∷ [] = c.in_ok-push.ensures.items in
     record {
       count = grind (arith, pushed, c.loop-owner.invariant.count);
