@@ -15,6 +15,7 @@ pub mod Doors
 pub mod Ends
 pub mod Owed
 pub mod Ran
+pub mod Versions
 pub mod Served
 pub mod Home
 pub mod Made

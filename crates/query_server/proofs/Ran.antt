@@ -26,11 +26,13 @@ use Rattle.session_laws.proofs.Worked.{script_gathered}
 use Rattle.owner_house.proofs.Owners.{entry_said, in_catalog, owner_there, owners_length}
 use Rattle.std.proofs.lemmas.Option.{slice_get_within}
 use Rattle.catalog_loading.specs.Given.{stop_at_fault}
-use Rattle.catalog_loading.specs.Loaded.{IsLoading, Loading, header_of, entry_at, owners_in}
+use Rattle.catalog_loading.specs.Loaded.{IsLoading, KeyedHouse, Loading, header_of, entry_at, in_versions, keyed, owners_in}
 use Rattle.query_server.specs.Work.{Work, to_answer}
 use Rattle.query_server.specs.Due.{IsDiskLine, IsDue, MayStop}
-use Rattle.query_server.specs.Shelves.{Shelf, EachDisk, IsOnlySynced}
-use Rattle.query_server.specs.Opened.{AreOpened, IsDiskNamed, IsRefusalDue}
+use Rattle.query_server.specs.Shelves.{Shelf, EachDisk, IsOnlySynced, bytes_on}
+use Rattle.query_server.specs.Opened.{AreOpened, IsDiskNamed, IsOpened, IsRefusalDue}
+use Rattle.owner_catalog.specs.Limits.{owner_limit}
+use Rattle.journal_records.specs.Encoding.{newest_version}
 use Rattle.query_server.specs.Run.{IsScriptAnswered, WentOn}
 use Rattle.query_server.specs.Books.{ArePassesOn, ArePutBack, GaveBook, IsNewPass, IsOpenStop, shown_by}
 use Rattle.query_server.specs.Ends.{Ended, IsScriptEnd, IsEndOf}
@@ -87,13 +89,14 @@ module _ (loading : Loading) (key : List ℕ) (lawful : IsLoading loading) where
   opened_passes old mid passes on = record {
     each_has = on.count ∙ sym count_owners;
     entries = λ o owner at.
-        (let within = in_catalog loading.register lawful.register o (slice_get_within house.owners o owner at) in (on.each o within).book.of_entry ∙ entry_said loading.register o owner at);
+        (let within = in_catalog loading.register lawful.register o (slice_get_within house.owners o owner at) in (on.each o within).book.of_entry ∙ entry_said loading.register o owner newest_version at);
   }
 
   pub opened_fresh : (old mid : Shelf) (passes : List Pass) → ArePassesOn (entry_at loading) (header_of loading key) (owners_in loading) old mid passes → AreFresh (house_of loading.register) passes
   opened_fresh old mid passes on = λ o owner at. (on.each o (in_catalog loading.register lawful.register o (slice_get_within house.owners o owner at))).fresh
 
-  pub passes_opened : (old mid : Shelf) (passes : List Pass) → ArePassesOn (entry_at loading) (header_of loading key) (owners_in loading) old mid passes → AreOpened loading key old (found_by passes)
+  pub passes_opened : (old mid : Shelf) (passes : List Pass) → ArePassesOn (entry_at loading) (header_of loading key) (owners_in loading) old mid passes 
+      → (o : ℕ) → o < owners_in loading → IsOpened (entry_at loading o) (header_of loading key o) (bytes_on old o) (found_by passes o)
   passes_opened old mid passes on = λ o within. pass_opened (entry_at loading o) (header_of loading key o) (old o) (pass_at passes o) (on.each o within)
 
   -- the records and the closings of the owners' books
@@ -155,18 +158,6 @@ module _ (loading : Loading) (key : List ℕ) (lawful : IsLoading loading) where
   unserved_back old mid new passes after books on none back =
       all_back (entry_at loading) (header_of loading key) (owners_in loading) old mid new passes after books on (λ o within. none o (owner_at house o) (there o within)) back
 
-  -- How the script that was to be answered ends, once the disks are put back.
-  pub run_ends : (workers : ℕ) (old mid new : Shelf) (passes after : List Pass) (books : ℕ → Account) (script : List ℕ) (result : Ended) → 0 < workers
-      → ArePassesOn (entry_at loading) (header_of loading key) (owners_in loading) old mid passes → IsScriptEnd (house_of loading.register) (draws_of key) workers script passes after result
-      → ArePutBack (owners_in loading) after books mid new → IsEndOf (to_answer workers loading key) old new script result
-  run_ends workers old mid new passes after books script (Ok (Done replies)) some on (short, h) back =
-      inl (inr (found_by passes, passes_opened old mid passes on, inl (refl, short, answered_over workers old mid new passes after books script replies.items some on h back)))
-  run_ends workers old mid new passes after books script (Ok (ProgramRefused line)) some on wrong back = absurd wrong
-  run_ends workers old mid new passes after books script (Ok ScriptTooLong) some on (long, none) back =
-      inl (inr (found_by passes, passes_opened old mid passes on, inr (refl, long, refl, unserved_back old mid new passes after books on none back)))
-  run_ends workers old mid new passes after books script (Err stop) some on (inl is, none) back = inr (inl (ap Err is), unserved_back old mid new passes after books on none back)
-  run_ends workers old mid new passes after books script (Err stop) some on (inr is, none) back = inr (inr (inl (ap Err is)), unserved_back old mid new passes after books on none back)
-
   -- There are as many passes as owners.
   pub few_owners : owners_in loading ≤ 16
   few_owners = lawful.register.catalog.few_owners
@@ -195,3 +186,36 @@ unread_passed owners draws workers script passes NoneToRead (Err stop) fresh is 
 pub passed_disk : {T : Type 0} (stop : Stop) (result : Result T Stop) (line : Vec ℕ Global) → IsErrAnd result (λ e. e ≡ stop) → result ≡ Err (Disk line) → stop ≡ Disk line
 passed_disk stop (Ok x) line wrong is = absurd wrong
 passed_disk stop (Err other) line same is = sym same ∙ err_same other (Disk line) (Err other) refl is
+
+-- ---- over a house whose journals' versions were found
+
+module _ (loading : Loading) (key : List ℕ) (versions : List ℕ) (counted : length versions ≡ owner_limit) (found_lawful : IsLoading (in_versions loading versions)) where
+  abbrev house_found : Loading
+  house_found = in_versions loading versions
+
+  pub all_opened : (old mid : Shelf) (passes : List Pass) → ArePassesOn (entry_at house_found) (header_of house_found key) (owners_in loading) old mid passes → AreOpened loading key old versions (found_by passes)
+  all_opened old mid passes on = record { counted = counted; each = passes_opened house_found key found_lawful old mid passes on }
+
+  -- How the script that was to be answered ends, once the disks are put back.
+  pub run_ends : (workers : ℕ) (old mid new : Shelf) (passes after : List Pass) (books : ℕ → Account) (script : List ℕ) (result : Ended) → 0 < workers
+      → ArePassesOn (entry_at house_found) (header_of house_found key) (owners_in loading) old mid passes → IsScriptEnd (house_of house_found.register) (draws_of key) workers script passes after result
+      → ArePutBack (owners_in loading) after books mid new → IsEndOf (to_answer workers loading key) old new script result
+  run_ends workers old mid new passes after books script (Ok (Done replies)) some on (short, h) back =
+      inl (inr (versions, found_by passes, all_opened old mid passes on, inl (refl, short, answered_over house_found key found_lawful workers old mid new passes after books script replies.items some on h back)))
+  run_ends workers old mid new passes after books script (Ok (ProgramRefused line)) some on wrong back = absurd wrong
+  run_ends workers old mid new passes after books script (Ok ScriptTooLong) some on (long, none) back =
+      inl (inr (versions, found_by passes, all_opened old mid passes on, inr (refl, long, refl, unserved_back house_found key found_lawful old mid new passes after books on none back)))
+  run_ends workers old mid new passes after books script (Err stop) some on (inl is, none) back = inr (inl (ap Err is), unserved_back house_found key found_lawful old mid new passes after books on none back)
+  run_ends workers old mid new passes after books script (Err stop) some on (inr is, none) back = inr (inr (inl (ap Err is)), unserved_back house_found key found_lawful old mid new passes after books on none back)
+
+-- the same by the names that the house has where it was opened
+pub run_over : (loading : Loading) (key versions : List ℕ) (counted : length versions ≡ owner_limit) (opened : KeyedHouse) → opened ≡ keyed (in_versions loading versions) key → IsLoading opened.loading
+    → (workers : ℕ) (old mid new : Shelf) (passes after : List Pass) (books : ℕ → Account) (script : List ℕ) (result : Ended) → 0 < workers
+    → ArePassesOn (entry_at opened.loading) (header_of opened.loading opened.key) (owners_in opened.loading) old mid passes
+    → IsScriptEnd (house_of opened.loading.register) (draws_of opened.key) workers script passes after result
+    → ArePutBack (owners_in opened.loading) after books mid new → IsEndOf (to_answer workers loading key) old new script result
+run_over loading key versions counted opened is lawful workers old mid new passes after books script result some =
+    subst (λ (h : KeyedHouse). IsLoading h.loading → ArePassesOn (entry_at h.loading) (header_of h.loading h.key) (owners_in h.loading) old mid passes
+    → IsScriptEnd (house_of h.loading.register) (draws_of h.key) workers script passes after result → ArePutBack (owners_in h.loading) after books mid new
+    → IsEndOf (to_answer workers loading key) old new script result) (sym is)
+    (λ found. run_ends loading key versions counted found workers old mid new passes after books script result some) lawful

@@ -4,6 +4,7 @@ use Rattle.std.specs.Prelude.{IfSome, Vec, Result, Err, option_and_then, option_
 use Rattle.std.specs.declared.alloc.Global.{Global}
 use Rattle.outside_disks.specs.Disks.{Shown, Trace, WhereTold, seen_of}
 use Rattle.journal_records.specs.declared.records.Header.{Header}
+use Rattle.journal_records.specs.Encoding.{newest_version}
 use Rattle.journal_records.specs.declared.records.Record.{Record}
 use Rattle.budget_journal.specs.Journals.{Found, Stands}
 use Rattle.budget_journal.specs.declared.opening.OpenFault.{OpenFault}
@@ -20,7 +21,7 @@ use Rattle.session_core.specs.Code.{pass_at}
 use Rattle.owner_house.proofs.Owners.{entry_said, owner_there, owners_length}
 use Rattle.catalog_loading.specs.Files.{Contents}
 use Rattle.catalog_loading.specs.Steps.{FileStep}
-use Rattle.catalog_loading.specs.Loaded.{IsLoading, Loading, header_of, entry_at, owner_name_at, owners_in}
+use Rattle.catalog_loading.specs.Loaded.{IsLoading, Loading, entry_at, header_of, new_entry, new_header, owner_name_at, owners_in, version_at}
 use Rattle.query_server.specs.Shelves.{Shelf, NoOtherRose, bytes_on}
 use Rattle.query_server.specs.Opened.{AreOpenedBefore, IsOpened, IsUnopened}
 use Rattle.query_server.specs.Status.{disk_text, journal_text}
@@ -54,13 +55,13 @@ pass_opened entry header shown pass new = book_opened entry header shown pass.op
 
 pub opened_before : (loading : Loading) (key : List ℕ) (k : ℕ) (old mid : Shelf) (passes : List Pass) → ArePassesOn (entry_at loading) (header_of loading key) k old mid passes → AreOpenedBefore loading key old k
 opened_before loading key k old mid passes on p less =
-    ((pass_at passes p).opened.ledger.found, pass_opened (entry_at loading p) (header_of loading key p) (old p) (pass_at passes p) (on.each p less))
+    (version_at loading p, (pass_at passes p).opened.ledger.found, pass_opened (entry_at loading p) (header_of loading key p) (old p) (pass_at passes p) (on.each p less))
 
 -- A book that isn't opened, behind others that are, stops the opening.
 pub book_stopped : (loading : Loading) (key : List ℕ) (k : ℕ) (old mid new : Shelf) (stop : Stop) → k < owners_in loading → mid k ≡ old k → AreOpenedBefore loading key old k
     → NoOtherRose k old new → IsBookStop loading key mid k stop → IsOpenStop loading key old new stop
 book_stopped loading key k old mid new (Journal line) within same before others (refusal, unopened, is) =
-    let refused = subst (λ (s : Option Shown). IsUnopened (entry_at loading k) (header_of loading key k) (bytes_shown s) refusal) same unopened in
+    let refused = subst (λ (s : Option Shown). IsUnopened (new_entry loading k) (new_header loading key k) (bytes_shown s) refusal) same unopened in
     (k, refusal, record { known = within; before = before; refused = refused }, is)
 book_stopped loading key k old mid new (Disk line) within same before others is = (k, within, is, before, others)
 book_stopped loading key k old mid new stop within same before others is = is
@@ -73,7 +74,7 @@ disk_stopped loading key shelf o name (Disk line) named is = is ∙ ap disk_text
 disk_stopped loading key shelf o name stop named is = is
 
 journal_stopped : (loading : Loading) (key : List ℕ) (shelf : Shelf) (o : ℕ) (name : List ℕ) (refusal : JournalRefusal) (stop : Stop) → name ≡ owner_name_at loading o
-    → IsUnopened (entry_at loading o) (header_of loading key o) (bytes_on shelf o) refusal → IsJournalStop name refusal stop → IsBookStop loading key shelf o stop
+    → IsUnopened (new_entry loading o) (new_header loading key o) (bytes_on shelf o) refusal → IsJournalStop name refusal stop → IsBookStop loading key shelf o stop
 journal_stopped loading key shelf o name refusal (Journal line) named unopened is = (refusal, unopened, is ∙ ap (λ n. journal_text n refusal) named)
 journal_stopped loading key shelf o name refusal (Disk line) named unopened is = absurd is
 journal_stopped loading key shelf o name refusal stop named unopened is = is
@@ -83,13 +84,13 @@ if_some P Q (Some a) f p = f a p
 if_some P Q None f p = tt
 
 pub fault_stopped : (loading : Loading) (key : List ℕ) (shelf : Shelf) (o : ℕ) (name : List ℕ) (fault : OpenFault) (stop : Stop) → name ≡ owner_name_at loading o
-    → IfSome (bytes_on shelf o) (λ bytes. IsBookFault (entry_at loading o) (header_of loading key o) bytes fault) → IsBookFaultStop name fault stop → IsBookStop loading key shelf o stop
+    → IfSome (bytes_on shelf o) (λ bytes. IsBookFault (entry_at loading o) (new_header loading key o) bytes fault) → IsBookFaultStop name fault stop → IsBookStop loading key shelf o stop
 fault_stopped loading key shelf o name open_fault.DiskFault stop named told is = disk_stopped loading key shelf o name stop named is
 fault_stopped loading key shelf o name open_fault.NoMemory stop named told is = subst (IsBookStop loading key shelf o) (sym is) tt
 fault_stopped loading key shelf o name (open_fault.NotInitialised n) stop named told is = journal_stopped loading key shelf o name (Uninitialised n) stop named told is
 fault_stopped loading key shelf o name (open_fault.Changed kept found) stop named told is =
     journal_stopped loading key shelf o name Changed stop named
-    (if_some (λ bytes. IsBookFault (entry_at loading o) (header_of loading key o) bytes (open_fault.Changed kept found)) _ (bytes_on shelf o) (λ bytes p. (kept, found, p)) told) is
+    (if_some (λ bytes. IsBookFault (entry_at loading o) (new_header loading key o) bytes (open_fault.Changed kept found)) _ (bytes_on shelf o) (λ bytes p. (kept, found, p)) told) is
 fault_stopped loading key shelf o name (open_fault.Damaged slot) stop named told is = journal_stopped loading key shelf o name (Damaged slot) stop named told is
 
 -- what is said of a told disk
@@ -98,27 +99,35 @@ pub told_shown : (P : List ℕ → Type 0) (shown : Option Shown) (trace : Optio
 told_shown P shown None faults is p = subst (λ (s : Option Shown). IfSome (bytes_shown s) P) (sym is) tt
 told_shown P shown (Some t) faults is p = subst (λ (s : Option Shown). IfSome (bytes_shown s) P) (sym is) (p t refl)
 
-pub new_book : (entry wanted : Entry) (header : Header) (before : Option Shown) (trace : Option Trace) (faults : ℕ) (book : Account) → entry ≡ wanted → before ≡ Some (record { trace = trace; faults = faults })
-    → WhereTold (Found header book.ledger.found) trace book.storage.trace
-    → (book.ledger ≡ record { entry = entry; found = book.ledger.found; records = book.ledger.found }) × (book.storage ≡ record { header = header; trace = book.storage.trace; faults = faults; closed = None })
-    → IsBook book → IsNewBook wanted header before book
-new_book entry wanted header before trace faults book is at found fresh sound = record {
-  of_entry = ap (λ (l : Ledger). l.entry) fresh.0 ∙ is;
-  fresh = ap (λ (l : Ledger). l.records) fresh.0;
-  of_header = ap (λ (s : Storage). s.header) fresh.1;
-  unclosed = ap (λ (s : Storage). s.closed) fresh.1;
-  history = subst (λ (e : Entry). IsHistory e book.ledger.found) (ap (λ (l : Ledger). l.entry) fresh.0 ∙ is) sound.sound.found;
-  on = subst (λ (s : Option Shown). IfSome s (λ b. WhereTold (Found header book.ledger.found) b.trace book.storage.trace × (book.storage.faults ≡ b.faults))) (sym at)
-      (found, ap (λ (s : Storage). s.faults) fresh.1);
-  sound = sound;
-}
+-- the version of a book's journal
+abbrev version_of_book : Account → ℕ
+version_of_book book = book.storage.header.version
+
+pub new_book : (entry wanted : Entry) (given header : Header) (before : Option Shown) (trace : Option Trace) (faults : ℕ) (book : Account) → entry ≡ wanted → given ≡ header
+    → before ≡ Some (record { trace = trace; faults = faults }) → WhereTold (Found book.storage.header book.ledger.found) trace book.storage.trace
+    → (book.ledger ≡ record { entry = record entry { version = version_of_book book }; found = book.ledger.found; records = book.ledger.found })
+    × (book.storage ≡ record { header = record given { version = version_of_book book }; trace = book.storage.trace; faults = faults; closed = None })
+    → IsBook book → IsNewBook (record wanted { version = version_of_book book }) (record header { version = version_of_book book }) before book
+new_book entry wanted given header before trace faults book is same at found fresh sound =
+    let its = ap (λ (l : Ledger). l.entry) fresh.0 ∙ ap (λ (e : Entry). record e { version = version_of_book book }) is in
+    let head = ap (λ (s : Storage). s.header) fresh.1 ∙ ap (λ (h : Header). record h { version = version_of_book book }) same in
+    record {
+      of_entry = its;
+      fresh = ap (λ (l : Ledger). l.records) fresh.0;
+      of_header = head;
+      unclosed = ap (λ (s : Storage). s.closed) fresh.1;
+      history = subst (λ (e : Entry). IsHistory e book.ledger.found) its sound.sound.found;
+      on = subst (λ (s : Option Shown). IfSome s (λ b. WhereTold (Found (record header { version = version_of_book book }) book.ledger.found) b.trace book.storage.trace × (book.storage.faults ≡ b.faults))) (sym at)
+          (subst (λ (h : Header). WhereTold (Found h book.ledger.found) trace book.storage.trace) head found, ap (λ (s : Storage). s.faults) fresh.1);
+      sound = sound;
+    }
 
 -- an owner's entry, by its number
 pub entry_is : (loading : Loading) (o : ℕ) (entry : Entry) → IsLoading loading → o < owners_in loading → ((asked : Owner) → slice_get (house_of loading.register).owners o ≡ Some asked → entry ≡ asked.entry)
     → entry ≡ entry_at loading o
 entry_is loading o entry lawful within is =
     let there = owner_there loading.register o (omega (arith, within, owners_length loading.register lawful.register)) in
-    is (owner_at (house_of loading.register) o) there ∙ sym (entry_said loading.register o (owner_at (house_of loading.register) o) there)
+    is (owner_at (house_of loading.register) o) there ∙ sym (entry_said loading.register o (owner_at (house_of loading.register) o) newest_version there)
 
 -- steps over files name no disk
 pub step_no_disk : {A B : Type 0} (held : Option Contents) (old new : List (List ℕ)) (step : FileStep A) (stop : Stop) (line : Vec ℕ Global) → IsStopped held old new step stop → stop ≡ Disk line → B

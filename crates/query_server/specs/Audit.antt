@@ -8,7 +8,7 @@ use Rattle.budget_core.specs.Entries.{Entry}
 use Rattle.owner_catalog.specs.Entries.{OwnerEntry}
 use Rattle.session_core.specs.Transcript.{Journals}
 use Rattle.catalog_loading.specs.Steps.{FileStep}
-use Rattle.catalog_loading.specs.Loaded.{Loading, with_house, owners_in, entry_at}
+use Rattle.catalog_loading.specs.Loaded.{Loading, with_house, owners_in, entry_at, in_versions}
 use Rattle.query_server.specs.Work.{Work, to_count}
 use Rattle.query_server.specs.Duty.{Duty, Kind}
 use Rattle.query_server.specs.Shelves.{Shelf, EachDisk, IsOnlySynced}
@@ -39,7 +39,7 @@ counted_text loading found = flat_map (λ numbered. counted_line (entry_at loadi
 abbrev pub IsCountDue : Loading → (key : List ℕ) → (old new : Shelf) → (status : Status) → (text : List ℕ) → Type 0
 IsCountDue loading key old new status text =
     IsRefusalDue loading key old new status text
-    ⊎ ((found : Journals) × AreOpened loading key old found × (status ≡ Done) × (text ≡ counted_text loading found)
+    ⊎ ((versions : List ℕ) × (found : Journals) × AreOpened loading key old versions found × (status ≡ Done) × (text ≡ counted_text (in_versions loading versions) found)
     × EachDisk (owners_in loading) (λ _. IsOnlySynced) old new)
 
 abbrev pub audit_duty : Loading → (key : List ℕ) → Duty

@@ -8,7 +8,7 @@ use Rattle.budget_core.specs.Legal.{IsHistory}
 use Rattle.budget_ledger.specs.Account.{Account, IsBook, Went}
 use Rattle.owner_desk.specs.Passes.{Pass, ledger_on}
 use Rattle.session_core.specs.Code.{IsClosedWith, fresh_pass, pass_at}
-use Rattle.catalog_loading.specs.Loaded.{Loading, header_of, entry_at, owner_name_at}
+use Rattle.catalog_loading.specs.Loaded.{Loading, new_header, new_entry, owner_name_at}
 use Rattle.query_server.specs.Shelves.{Shelf, IsOnlySynced, bytes_on}
 use Rattle.query_server.specs.Opened.{IsDiskNamed, IsRefusedAt, IsUnopened}
 use Rattle.query_server.specs.Status.{disk_text, journal_text}
@@ -59,7 +59,7 @@ IsBookFaultStop owner (open_fault.Damaged slot) stop = IsJournalStop owner (Dama
 -- why a book wasn't opened
 abbrev pub IsBookStop : Loading → (key : List ℕ) → Shelf → (o : ℕ) → Stop → Type 0
 IsBookStop loading key old o (Journal line) = (refusal : JournalRefusal)
-    × IsUnopened (entry_at loading o) (header_of loading key o) (bytes_on old o) refusal × (line.items ≡ journal_text (owner_name_at loading o) refusal)
+    × IsUnopened (new_entry loading o) (new_header loading key o) (bytes_on old o) refusal × (line.items ≡ journal_text (owner_name_at loading o) refusal)
 IsBookStop loading key old o (Disk line) = line.items ≡ disk_text (owner_name_at loading o)
 IsBookStop loading key old o NoMemory = ⊤
 IsBookStop loading key old o stop = ⊥

@@ -1,5 +1,5 @@
 -- What an owner keeps where nothing is written to its disk.
-use Rattle.std.specs.Prelude.{◌≡◌, ◌⊎◌, ℕ, List, slice_get, Some, IfSome}
+use Rattle.std.specs.Prelude.{◌≡◌, ◌⊎◌, ℕ, List, length, slice_get, Some, IfSome}
 use Rattle.word_streams.specs.Draws.{draws_of}
 use Rattle.outside_disks.specs.Disks.{IsImageOf, Passes, Shown, WhereTold, noted, seen_of}
 use Rattle.outside_disks.specs.Disks.Step.{Synced}
@@ -7,12 +7,12 @@ use Rattle.journal_records.specs.declared.records.Header.{Header}
 use Rattle.journal_records.specs.declared.records.Record.{Record}
 use Rattle.budget_journal.specs.Journals.{Stands}
 use Rattle.owner_house.specs.Owner.{Owner}
-use Rattle.owner_house.specs.House.{house_of}
+use Rattle.owner_catalog.specs.Limits.{owner_limit}
 use Rattle.owner_history.specs.Explains.{Explains}
 use Rattle.owner_history.specs.Sound.{IsBacked, IsOwed}
-use Rattle.catalog_loading.specs.Loaded.{Loading, entry_at, header_of}
+use Rattle.catalog_loading.specs.Loaded.{Loading, entry_at, header_of, in_versions}
 use Rattle.query_server.specs.Shelves.{Shelf, bytes_on}
-use Rattle.query_server.specs.Opened.{IsOpened}
+use Rattle.query_server.specs.Opened.{IsOpened, house_in}
 
 -- An owner's disk stood for these records, and does so still. They are legal, cost at most the budget, and are explained by just the
 -- programs that explain them, against any second dataset with a displacement of at most cost times distance.
@@ -25,9 +25,9 @@ pub record KeepsFound (owner : Owner) (draws : ℕ → ℕ → ℕ) (header : He
   pub owed : IsOwed owner found found
   pub backed : (programs : List (List ℕ)) → Explains owner draws programs found → IsBacked owner draws found programs found
 
--- So it is of each owner whose disk is at home with a journal that is opened, whatever became of the others.
+-- So it is of each owner whose disk is at home with a journal that is opened in its version, whatever became of the others.
 abbrev pub AreKept : Loading → (key : List ℕ) → (old new : Shelf) → Type 0
-AreKept loading key old new = (o : ℕ) (owner : Owner) (found : List Record) (before : Shown)
-    → slice_get (house_of loading.register).owners o ≡ Some owner → old o ≡ Some before
-    → IsOpened (entry_at loading o) (header_of loading key o) (bytes_on old o) found
-    → (after : Shown) × (new o ≡ Some after) × KeepsFound owner (draws_of key o) (header_of loading key o) found before after
+AreKept loading key old new = (versions : List ℕ) → length versions ≡ owner_limit → (o : ℕ) (owner : Owner) (found : List Record) (before : Shown)
+    → slice_get (house_in loading versions).owners o ≡ Some owner → old o ≡ Some before
+    → IsOpened (entry_at (in_versions loading versions) o) (header_of (in_versions loading versions) key o) (bytes_on old o) found
+    → (after : Shown) × (new o ≡ Some after) × KeepsFound owner (draws_of key o) (header_of (in_versions loading versions) key o) found before after

@@ -8,7 +8,7 @@ use Rattle.journal_records.specs.declared.records.Header.{Header}
 use Rattle.budget_journal.specs.Journals.{IsAtRest, TellsSome}
 use Rattle.owner_catalog.specs.Entries.{OwnerEntry}
 use Rattle.catalog_loading.specs.Steps.{FileStep}
-use Rattle.catalog_loading.specs.Loaded.{Loading, header_of, with_house, owner_name_at, owners_in}
+use Rattle.catalog_loading.specs.Loaded.{Loading, new_header, with_house, owner_name_at, owners_in}
 use Rattle.query_server.specs.Work.{Work, to_make}
 use Rattle.query_server.specs.Duty.{Duty, Kind}
 use Rattle.query_server.specs.Shelves.{Shelf, EachDisk, IsOnlySynced, bytes_on}
@@ -36,7 +36,7 @@ MayHaveFailed before after = (before.faults ≤ after.faults) × (IsOnlySynced b
 
 -- The journals of the owners before this one are made, its disk went on like this, and those behind it are as they were.
 pub record AreMadeBefore (loading : Loading) (key : List ℕ) (o : ℕ) (Goes : Shown → Shown → Type 0) (old new : Shelf) : Type 0 where
-  pub made : (p : ℕ) (before : Shown) → p < o → old p ≡ Some before → (after : Shown) × (new p ≡ Some after) × IsMade (header_of loading key p) before after
+  pub made : (p : ℕ) (before : Shown) → p < o → old p ≡ Some before → (after : Shown) × (new p ≡ Some after) × IsMade (new_header loading key p) before after
   pub here : (before : Shown) → old o ≡ Some before → (after : Shown) × (new o ≡ Some after) × Goes before after
   pub behind : (p : ℕ) → o < p → new p ≡ old p
 
@@ -69,7 +69,7 @@ pub record IsExistingDue (loading : Loading) (key : List ℕ) (old new : Shelf) 
 abbrev pub IsMakingDue : Loading → (key : List ℕ) → (old new : Shelf) → (status : Status) → (text : List ℕ) → Type 0
 IsMakingDue loading key old new status text =
     ((status ≡ Done) × (text ≡ flat_map made_line loading.register.catalog.owners)
-    × EachDisk (owners_in loading) (λ o. IsMade (header_of loading key o)) old new)
+    × EachDisk (owners_in loading) (λ o. IsMade (new_header loading key o)) old new)
     ⊎ IsExistingDue loading key old new status text
 
 abbrev pub init_duty : Loading → (key : List ℕ) → Duty

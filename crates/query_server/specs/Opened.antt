@@ -1,5 +1,5 @@
 -- Which of the owners' journals are opened, and which one is refused.
-use Rattle.std.specs.Prelude.{◌≡◌, ℕ, ◌<◌, List, Option, IfSome}
+use Rattle.std.specs.Prelude.{◌≡◌, ℕ, ◌<◌, List, length, Option, IfSome}
 use Rattle.journal_records.specs.declared.records.Header.{Header}
 use Rattle.journal_records.specs.declared.records.Record.{Record}
 use Rattle.budget_journal.specs.Journals.{Stands}
@@ -7,8 +7,10 @@ use Rattle.budget_journal.specs.declared.opening.OpenFault.TheVariants as open_f
 use Rattle.budget_core.specs.Entries.{Entry}
 use Rattle.budget_core.specs.Legal.{IsHistory}
 use Rattle.budget_ledger.specs.Opened.{IsBookFault}
+use Rattle.owner_catalog.specs.Limits.{owner_limit}
+use Rattle.owner_house.specs.House.{House, house_of}
 use Rattle.session_core.specs.Transcript.{Journals}
-use Rattle.catalog_loading.specs.Loaded.{Loading, entry_at, header_of, owner_name_at, owners_in}
+use Rattle.catalog_loading.specs.Loaded.{Loading, entry_at, entry_in, header_in, header_of, in_versions, new_entry, new_header, owner_name_at, owners_in}
 use Rattle.query_server.specs.Shelves.{Shelf, EachDisk, IsOnlySynced, NoOtherRose, bytes_on}
 use Rattle.query_server.specs.Status.{disk_text, journal_text}
 use Rattle.query_server.specs.declared.end.Status.{Status}
@@ -29,21 +31,26 @@ IsUnopened entry header bytes Changed =
 IsUnopened entry header bytes (Damaged slot) = IfSome bytes (λ b. IsBookFault entry header b (open_fault.Damaged slot))
 IsUnopened entry header bytes (Exists n) = ⊥
 
--- The journals of all owners are opened, with these records.
-abbrev pub AreOpened : Loading → (key : List ℕ) → Shelf → (found : Journals) → Type 0
-AreOpened loading key shelf found =
-    (o : ℕ) → o < owners_in loading → IsOpened (entry_at loading o) (header_of loading key o) (bytes_on shelf o) (found o)
+-- the house with journals of these versions
+abbrev pub house_in : Loading → (versions : List ℕ) → House
+house_in loading versions = house_of (in_versions loading versions).register
 
--- The journals of the owners before this one are opened.
+-- The journals of all owners are opened, each in its version, with these records.
+pub record AreOpened (loading : Loading) (key : List ℕ) (shelf : Shelf) (versions : List ℕ) (found : Journals) : Type 0 where
+  pub counted : length versions ≡ owner_limit
+  pub each : (o : ℕ) → o < owners_in loading
+      → IsOpened (entry_at (in_versions loading versions) o) (header_of (in_versions loading versions) key o) (bytes_on shelf o) (found o)
+
+-- The journals of the owners before this one are opened, each in its version.
 abbrev pub AreOpenedBefore : Loading → (key : List ℕ) → Shelf → (o : ℕ) → Type 0
-AreOpenedBefore loading key shelf o =
-    (p : ℕ) → p < o → (found : List Record) × IsOpened (entry_at loading p) (header_of loading key p) (bytes_on shelf p) found
+AreOpenedBefore loading key shelf o = (p : ℕ) → p < o
+    → (version : ℕ) × (found : List Record) × IsOpened (entry_in loading p version) (header_in loading key p version) (bytes_on shelf p) found
 
 -- An owner's journal is refused, and those of the owners before it are opened.
 pub record IsRefusedAt (loading : Loading) (key : List ℕ) (shelf : Shelf) (o : ℕ) (refusal : JournalRefusal) : Type 0 where
   pub known : o < owners_in loading
   pub before : AreOpenedBefore loading key shelf o
-  pub refused : IsUnopened (entry_at loading o) (header_of loading key o) (bytes_on shelf o) refusal
+  pub refused : IsUnopened (new_entry loading o) (new_header loading key o) (bytes_on shelf o) refusal
 
 -- What is due where a journal is refused: the first one's line. Nothing is written to any disk.
 pub record IsRefusalDue (loading : Loading) (key : List ℕ) (old new : Shelf) (status : Status) (text : List ℕ) : Type 0 where

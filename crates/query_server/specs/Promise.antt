@@ -1,14 +1,13 @@
 -- A script that was answered, and what is promised to every owner.
 use Rattle.std.specs.Prelude.{◌≡◌, ◌⊎◌, ℕ, ◌≤◌, List, length, Some, Ok}
 use Rattle.word_streams.specs.Draws.{draws_of}
-use Rattle.owner_house.specs.House.{house_of}
 use Rattle.session_core.specs.Headline.{Programs, AreFound, AreOwed, Headline}
 use Rattle.session_core.specs.Transcript.{Journals}
 use Rattle.command_words.specs.Command.{run, command_of}
 use Rattle.catalog_loading.specs.Files.{ReadsToCome}
-use Rattle.catalog_loading.specs.Loaded.{Loading, IsKeyedHouse, house_read, keyed}
+use Rattle.catalog_loading.specs.Loaded.{Loading, IsKeyedHouse, house_read, in_versions, keyed}
 use Rattle.query_server.specs.Shelves.{Shelf}
-use Rattle.query_server.specs.Opened.{AreOpened}
+use Rattle.query_server.specs.Opened.{AreOpened, house_in}
 use Rattle.query_server.specs.Run.{IsScriptAnswered, script_limit}
 use Rattle.query_server.specs.Due.{work_of, IsBeginning, MayStop}
 use Rattle.query_server.specs.declared.end.Status.{Status}
@@ -32,12 +31,13 @@ pub record IsAnsweredScript (words : List (List ℕ)) (reads : ReadsToCome) (old
   pub key : List ℕ
   pub house : IsHouseOf words reads workers loading key
   pub short : length script ≤ script_limit
+  pub versions : List ℕ
   pub found : Journals
-  pub opened : AreOpened loading key old found
-  pub answered : IsScriptAnswered loading key workers old new found script written
-  pub owed : AreOwed (house_of loading.register) found answered.records
-  pub headline : (earlier : Programs) → AreFound (house_of loading.register) (draws_of key) earlier found
-      → Headline (house_of loading.register) (draws_of key) found earlier script workers answered.crew answered.exchanges answered.records
+  pub opened : AreOpened loading key old versions found
+  pub answered : IsScriptAnswered (in_versions loading versions) key workers old new found script written
+  pub owed : AreOwed (house_in loading versions) found answered.records
+  pub headline : (earlier : Programs) → AreFound (house_in loading versions) (draws_of key) earlier found
+      → Headline (house_in loading versions) (draws_of key) found earlier script workers answered.crew answered.exchanges answered.records
 
 -- What a `run` leaves at whatever status: the script was answered, and what is written is a prefix of its replies, all of them at
 -- status Done; or it wasn't, the status is another, and nothing was written to any owner's disk.

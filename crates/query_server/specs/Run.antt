@@ -20,7 +20,7 @@ use Rattle.session_core.specs.Exchanges.{Exchange}
 use Rattle.session_core.specs.Gathered.{AreShut, IsGatheredScript}
 use Rattle.session_core.specs.Transcript.{Journals}
 use Rattle.catalog_loading.specs.Steps.{FileStep}
-use Rattle.catalog_loading.specs.Loaded.{Loading, header_of, with_house, entry_at, owners_in}
+use Rattle.catalog_loading.specs.Loaded.{Loading, header_of, in_versions, with_house, entry_at, owners_in}
 use Rattle.query_server.specs.Work.{Work, to_answer}
 use Rattle.query_server.specs.Duty.{Duty, Kind}
 use Rattle.query_server.specs.Shelves.{Shelf, EachDisk, IsOnlySynced}
@@ -82,7 +82,8 @@ IsAnswerDue loading key workers old new found script status text =
 abbrev pub IsScriptDue : Loading → (key : List ℕ) → (workers : ℕ) → (old new : Shelf) → (script : List ℕ) → (status : Status) → (text : List ℕ) → Type 0
 IsScriptDue loading key workers old new script status text =
     IsRefusalDue loading key old new status text
-    ⊎ ((found : Journals) × AreOpened loading key old found × IsAnswerDue loading key workers old new found script status text)
+    ⊎ ((versions : List ℕ) × (found : Journals) × AreOpened loading key old versions found
+    × IsAnswerDue (in_versions loading versions) key workers old new found script status text)
 
 abbrev pub run_duty : Loading → (key : List ℕ) → (workers : ℕ) → Duty
 run_duty loading key workers = record {

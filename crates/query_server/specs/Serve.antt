@@ -11,7 +11,7 @@ use Rattle.session_core.specs.Transcript.{Journals}
 use Rattle.held_sessions.specs.Sittings.{Sitting}
 use Rattle.held_sessions.specs.Crews.{AreHeldBy}
 use Rattle.catalog_loading.specs.Steps.{FileStep}
-use Rattle.catalog_loading.specs.Loaded.{Loading, header_of, with_house, entry_at, owners_in}
+use Rattle.catalog_loading.specs.Loaded.{Loading, header_of, in_versions, with_house, entry_at, owners_in}
 use Rattle.query_server.specs.Work.{Work, to_serve}
 use Rattle.query_server.specs.Duty.{Duty, Kind}
 use Rattle.query_server.specs.Shelves.{Shelf, EachDisk, IsOnlySynced}
@@ -62,13 +62,14 @@ pub record WereHeld (loading : Loading) (key : List ℕ) (workers : ℕ) (old ne
 abbrev pub IsServiceDue : Loading → (key : List ℕ) → (workers : ℕ) → (old new : Shelf) → (status : Status) → (text : List ℕ) → Type 0
 IsServiceDue loading key workers old new status text =
     IsRefusalDue loading key old new status text
-    ⊎ ((found : Journals) × AreOpened loading key old found × (status ≡ Done) × (text ≡ []) × WereHeld loading key workers old new found)
+    ⊎ ((versions : List ℕ) × (found : Journals) × AreOpened loading key old versions found × (status ≡ Done) × (text ≡ [])
+    × WereHeld (in_versions loading versions) key workers old new found)
 
 -- What may become of the disks where a failure or want of memory ends a service: nothing is written to any, or sessions were held before.
 abbrev pub MayStopService : Loading → (key : List ℕ) → (workers : ℕ) → (old new : Shelf) → Type 0
 MayStopService loading key workers old new =
     EachDisk (owners_in loading) (λ _. IsOnlySynced) old new
-    ⊎ ((found : Journals) × AreOpened loading key old found × WereHeld loading key workers old new found)
+    ⊎ ((versions : List ℕ) × (found : Journals) × AreOpened loading key old versions found × WereHeld (in_versions loading versions) key workers old new found)
 
 abbrev pub serve_duty : Loading → (key : List ℕ) → (workers each : ℕ) → Duty
 serve_duty loading key workers each = record {

@@ -4,7 +4,7 @@ use Rattle.std.specs.Prelude.{Vec, ◌≡◌, ◌⊎◌, ℕ, List, [], map, sli
 use Rattle.word_streams.specs.Draws.{draws_of}
 use Rattle.fz_outside.specs.Faults.{HasRisen}
 use Rattle.owner_desk.specs.Passes.{Pass}
-use Rattle.owner_house.specs.House.{House, house_of}
+use Rattle.owner_house.specs.House.{House}
 use Rattle.owner_house.specs.Owner.{Owner}
 use Rattle.session_core.specs.Headline.{Programs, AreFound, AreOwed}
 use Rattle.session_core.specs.Transcript.{Journals}
@@ -15,11 +15,11 @@ use Rattle.service_workers.specs.declared.posting.Service.{Service}
 use Rattle.service_workers.specs.declared.posting.Service.TheVariants as outcome
 use Rattle.command_words.specs.Command.{serve, command_of}
 use Rattle.catalog_loading.specs.Files.{ReadsToCome}
-use Rattle.catalog_loading.specs.Loaded.{Loading, IsKeyedHouse, house_read, keyed}
+use Rattle.catalog_loading.specs.Loaded.{Loading, IsKeyedHouse, house_read, in_versions, keyed}
 use Rattle.catalog_loading.specs.declared.stops.Stop.TheVariants as stop
 use Rattle.query_server.specs.Work.{Work, to_serve}
 use Rattle.query_server.specs.Shelves.{Shelf, NothingWritten}
-use Rattle.query_server.specs.Opened.{AreOpened}
+use Rattle.query_server.specs.Opened.{AreOpened, house_in}
 use Rattle.query_server.specs.Serve.{IsHeldOver}
 use Rattle.query_server.specs.Ends.{Ended, status_at}
 use Rattle.query_server.specs.declared.end.End.TheVariants as end_with
@@ -43,12 +43,13 @@ IsServiceEnd house draws workers each before after old new end =
 -- another, and hands it back.
 pub record IsServiceOver (loading : Loading) (key : List ℕ) (workers each : ℕ) (old new : Shelf) (before after : List Door) (end : Service) :
     Type 0 where
+  pub versions : List ℕ
   pub found : Journals
-  pub opened : AreOpened loading key old found
+  pub opened : AreOpened loading key old versions found
   pub first : List Pass
   pub last : List Pass
-  pub service : IsService (house_of loading.register) (draws_of key) workers each end before after first last
-  pub over : IsHeldOver loading key workers old new found first last service.sittings service.lasts service.held
+  pub service : IsService (house_in loading versions) (draws_of key) workers each end before after first last
+  pub over : IsHeldOver (in_versions loading versions) key workers old new found first last service.sittings service.lasts service.held
 
 -- No session was held: nothing was written to any owner's disk, and the doors are as they were.
 abbrev pub IsUnserved : (old new : Shelf) → (before after : List Door) → Type 0
@@ -96,10 +97,10 @@ pub record IsServiceDone (words : List (List ℕ)) (reads : ReadsToCome) (old ne
   pub house : IsHouseServed words reads workers each loading key
   pub end : Service
   pub at : IsServiceOver loading key workers each old new before after end
-  pub owed : AreOwed (house_of loading.register) at.found at.over.records
-  pub kept : (earlier : Programs) → AreFound (house_of loading.register) (draws_of key) earlier at.found
-      → (o : ℕ) (owner : Owner) → slice_get (house_of loading.register).owners o ≡ Some owner
-      → KeepThePromises (house_of loading.register) (draws_of key) o (at.found o) (map (λ x. x.turn) at.service.held.exchanges) workers
+  pub owed : AreOwed (house_in loading at.versions) at.found at.over.records
+  pub kept : (earlier : Programs) → AreFound (house_in loading at.versions) (draws_of key) earlier at.found
+      → (o : ℕ) (owner : Owner) → slice_get (house_in loading at.versions).owners o ≡ Some owner
+      → KeepThePromises (house_in loading at.versions) (draws_of key) o (at.found o) (map (λ x. x.turn) at.service.held.exchanges) workers
       at.service.held.crew owner (earlier o) at.service.held.exchanges (at.over.records o) at.service.sittings
   pub told : (status ≡ service_status end) ⊎ ((status ≡ Fault) × HasRisen sink sunk)
 

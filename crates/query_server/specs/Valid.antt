@@ -14,7 +14,7 @@ AreEmpty owners shelf = (o : ℕ) → o < owners → bytes_on shelf o ≡ Some [
 
 -- The owners' disks tell journals of records that may follow one another, under the headers of this house and this key.
 abbrev pub HoldJournals : Loading → (key : List ℕ) → Shelf → Type 0
-HoldJournals loading key shelf = TellBytes (owners_in loading) shelf × ((found : Journals) × AreOpened loading key shelf found)
+HoldJournals loading key shelf = TellBytes (owners_in loading) shelf × ((versions : List ℕ) × (found : Journals) × AreOpened loading key shelf versions found)
 
 -- All that is taken is valid. The words are a command and no name is refused, or else there would be no such work: each file that
 -- is named is there, not too long and within its definition, and so is each that a catalog names; an owner that is named is known,

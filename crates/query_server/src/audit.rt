@@ -3,7 +3,7 @@
 ghost use Rattle.std.specs.Prelude.{◌≡◌, ◌++◌, ◌<◌, ℕ, List, length, IfErr, IfOk, IsErrOf, IsSome, OnOk};
 ghost use Rattle.journal_records.specs.declared.records.Record.{Record};
 ghost use Rattle.owner_catalog.specs.Entries.{owner_entry_at};
-ghost use Rattle.catalog_loading.specs.Loaded.{entry_at, header_of, owners_in};
+ghost use Rattle.catalog_loading.specs.Loaded.{entry_in, header_in, in_versions, new_header, owners_in};
 ghost use Rattle.session_core.specs.Transcript.{Journals};
 ghost use Rattle.query_server.specs.Shelves.{AreAtHome, EachDisk, IsOnlySynced, StandsStill, bytes_on};
 ghost use Rattle.query_server.specs.Outside.{HasDiskCause, KeepsBay};
@@ -55,12 +55,12 @@ fn count_owner<B: Bay>(
     lines: &mut Vec<u8>,
 ) -> Result<(), Stop>
     requires owner { owner < owners_in opened.now.loading }
-    requires header { header.now ≡ header_of opened.now.loading opened.now.key owner }
+    requires header { header.now ≡ new_header opened.now.loading opened.now.key owner }
     requires known { owner < B.owners bay.old }
     requires home { IsSome (B.shelf bay.old owner) }
-    ensures counted { OnOk result ((found : List Record)
-        × IsOpened (entry_at opened.now.loading owner) header.now (bytes_on (B.shelf bay.old) owner) found
-        × (lines.new.items ≡ lines.old.items ++ counted_line (entry_at opened.now.loading owner) (owner_entry_at opened.now.loading.register.catalog owner) found)) }
+    ensures counted { OnOk result ((version : ℕ) × (found : List Record)
+        × IsOpened (entry_in opened.now.loading owner version) (header_in opened.now.loading opened.now.key owner version) (bytes_on (B.shelf bay.old) owner) found
+        × (lines.new.items ≡ lines.old.items ++ counted_line (entry_in opened.now.loading owner version) (owner_entry_at opened.now.loading.register.catalog owner) found)) }
     ensures left { LeftDisk owner (B.shelf bay.old) (B.shelf bay.new) }
     ensures still { OnOk result (StandsStill owner (B.shelf bay.old) (B.shelf bay.new)) }
     ensures stop { IfErr result (IsBookStop opened.now.loading opened.now.key (B.shelf bay.old) owner) }
@@ -77,9 +77,9 @@ fn count_owner<B: Bay>(
 /// The lines of all owners, whose books are opened one after another, up to the first that isn't opened.
 fn count_all<B: Bay>(alloc: Global, bay: &mut B, opened: &Opened) -> Result<Vec<u8>, Stop>
     requires home { AreAtHome (B.owners bay.old) (B.shelf bay.old) }
-    ensures counted { IfOk result (λ lines. (found : Journals)
-        × AreOpened opened.now.loading opened.now.key (B.shelf bay.old) found
-        × (lines.items ≡ counted_text opened.now.loading found)) }
+    ensures counted { IfOk result (λ lines. (versions : List ℕ) × (found : Journals)
+        × AreOpened opened.now.loading opened.now.key (B.shelf bay.old) versions found
+        × (lines.items ≡ counted_text (in_versions opened.now.loading versions) found)) }
     ensures disks { EachDisk (owners_in opened.now.loading) (λ _. IsOnlySynced) (B.shelf bay.old) (B.shelf bay.new) }
     ensures stop { IfErr result (IsOpenStop opened.now.loading opened.now.key (B.shelf bay.old) (B.shelf bay.new)) }
     ensures bay { KeepsBay B.shelf B.owners B.faults bay.old bay.new }

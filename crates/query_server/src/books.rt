@@ -1,13 +1,13 @@
 //! The owners' books are opened on their disks, and the disks are put back.
 
-ghost use Rattle.std.specs.Prelude.{◌≡◌, ℕ, ◌<◌, ◌≤◌, length, All, None, IfErr, IfOk, IsSome, OnErr, OnOk};
+ghost use Rattle.std.specs.Prelude.{◌≡◌, ℕ, ◌<◌, ◌≤◌, List, length, All, None, IfErr, IfOk, IsSome, OnErr, OnOk};
 ghost use Rattle.budget_ledger.specs.Account.{Account};
 ghost use Rattle.owner_house.specs.House.{house_of};
 ghost use Rattle.owner_lock.specs.Known.{whole_share};
 ghost use Rattle.session_core.specs.Bundles.{bundle_of};
 ghost use Rattle.session_core.specs.Code.{ArePasses};
 ghost use Rattle.owner_catalog.specs.Limits.{owner_limit};
-ghost use Rattle.catalog_loading.specs.Loaded.{entry_at, header_of, owners_in};
+ghost use Rattle.catalog_loading.specs.Loaded.{entry_at, entry_in, header_in, header_of, in_versions, keyed, new_header, owners_in};
 ghost use Rattle.query_server.specs.Shelves.{AreAtHome, EachDisk, IsOnlySynced};
 ghost use Rattle.query_server.specs.Outside.{HasDiskCause, KeepsBay};
 ghost use Rattle.query_server.specs.Books.{ArePassesOn, ArePutBack, IsNewBook, IsNewPass, LeftDisk, TookDisk};
@@ -71,10 +71,11 @@ pub(crate) fn open_book<B: Bay>(
     owner: u32,
 ) -> Result<Book<B::D>, Stop>
     requires owner { owner < owners_in opened.now.loading }
-    requires header { header.now ≡ header_of opened.now.loading opened.now.key owner }
+    requires header { header.now ≡ new_header opened.now.loading opened.now.key owner }
     requires known { owner < B.owners bay.old }
     requires home { IsSome (B.shelf bay.old owner) }
-    ensures book { IfOk result (IsNewBook (entry_at opened.now.loading owner) header.now (B.shelf bay.old owner)) }
+    ensures book { IfOk result (λ book. IsNewBook (entry_in opened.now.loading owner book.storage.header.version)
+        (header_in opened.now.loading opened.now.key owner book.storage.header.version) (B.shelf bay.old owner) book) }
     ensures taken { OnOk result (TookDisk owner (B.shelf bay.old) (B.shelf bay.new)) }
     ensures left { OnErr result (LeftDisk owner (B.shelf bay.old) (B.shelf bay.new)) }
     ensures stop { IfErr result (IsBookStop opened.now.loading opened.now.key (B.shelf bay.old) owner) }
@@ -127,20 +128,21 @@ pub fn put_back<B: Bay>(bay: &mut B, desks: Vec<Desk<B::D>>, passes: Vec<Pass<B:
     }
 }
 
-/// Opens an owner's book on its disk and puts it behind a lock. Where it isn't opened, or memory runs out, the disk is put back.
+/// Opens an owner's book on its disk and puts it behind a lock, and gives the version of its journal. Where it isn't opened, or memory runs
+/// out, the disk is put back.
 fn open_desk<B: Bay>(
     alloc: Global,
     bay: &mut B,
     opened: &Opened,
     header: &Header,
     owner: u32,
-) -> Result<(Desk<B::D>, Pass<B::D>), Stop>
+) -> Result<(Desk<B::D>, Pass<B::D>, u8), Stop>
     requires owner { owner < owners_in opened.now.loading }
-    requires header { header.now ≡ header_of opened.now.loading opened.now.key owner }
+    requires header { header.now ≡ new_header opened.now.loading opened.now.key owner }
     requires known { owner < B.owners bay.old }
     requires home { IsSome (B.shelf bay.old owner) }
     ensures desk { IfOk result (λ r. (r.1.lock ≡ r.0) × (r.1.share ≡ whole_share)
-        × IsNewPass (entry_at opened.now.loading owner) header.now (B.shelf bay.old owner) r.1.knows) }
+        × IsNewPass (entry_in opened.now.loading owner r.2) (header_in opened.now.loading opened.now.key owner r.2) (B.shelf bay.old owner) r.1.knows) }
     ensures taken { OnOk result (TookDisk owner (B.shelf bay.old) (B.shelf bay.new)) }
     ensures left { OnErr result (LeftDisk owner (B.shelf bay.old) (B.shelf bay.new)) }
     ensures stop { IfErr result (IsBookStop opened.now.loading opened.now.key (B.shelf bay.old) owner) }
@@ -148,8 +150,9 @@ fn open_desk<B: Bay>(
     ensures cause { HasDiskCause B.shelf B.owners B.faults bay.old bay.new result }
 {
     let book = open_book(alloc, bay, opened, header, owner)?;
+    let version = book.version();
     match Desk::new(alloc, owner, book) {
-        Ok(desk) => Ok(desk),
+        Ok((desk, pass)) => Ok((desk, pass, version)),
         Err((book, _)) => {
             bay.put_back(owner, book.into_disk());
             Err(Stop::NoMemory)
@@ -157,22 +160,24 @@ fn open_desk<B: Bay>(
     }
 }
 
-/// A desk for each owner, in order, over the book that is opened on its disk, and its first pass. Where a book isn't opened, or memory
-/// runs out, all disks are put back.
+/// A desk for each owner, in order, over the book that is opened on its disk, and its first pass; the house takes the versions of the
+/// journals. Where a book isn't opened, or memory runs out, all disks are put back.
 pub fn open_desks<B: Bay>(
     alloc: Global,
     bay: &mut B,
-    opened: &Opened,
+    opened: &mut Opened,
 ) -> Result<Opening<B::D>, Stop>
     requires home { AreAtHome (B.owners bay.old) (B.shelf bay.old) }
-    ensures passes { IfOk result (λ r. ArePassesOn (entry_at opened.now.loading)
-        (header_of opened.now.loading opened.now.key) (owners_in opened.now.loading) (B.shelf bay.old) (B.shelf bay.new)
+    ensures versions { (versions : List ℕ) × (length versions ≡ owner_limit)
+        × (opened.new ≡ keyed (in_versions opened.old.loading versions) opened.old.key) }
+    ensures passes { IfOk result (λ r. ArePassesOn (entry_at opened.new.loading)
+        (header_of opened.new.loading opened.new.key) (owners_in opened.new.loading) (B.shelf bay.old) (B.shelf bay.new)
         (bundle_of r.passes.items).knows) }
     ensures here { IfOk result (λ r. (bundle_of r.passes.items).locks ≡ r.desks.items) }
     ensures whole { IfOk result (λ r. All (λ s. s ≡ whole_share) (bundle_of r.passes.items).shares) }
-    ensures house { IfOk result (λ r. ArePasses (house_of opened.now.loading.register) (bundle_of r.passes.items).knows) }
-    ensures left { OnErr result (EachDisk (owners_in opened.now.loading) (λ _. IsOnlySynced) (B.shelf bay.old) (B.shelf bay.new)) }
-    ensures stop { IfErr result (IsOpenStop opened.now.loading opened.now.key (B.shelf bay.old) (B.shelf bay.new)) }
+    ensures house { IfOk result (λ r. ArePasses (house_of opened.new.loading.register) (bundle_of r.passes.items).knows) }
+    ensures left { OnErr result (EachDisk (owners_in opened.old.loading) (λ _. IsOnlySynced) (B.shelf bay.old) (B.shelf bay.new)) }
+    ensures stop { IfErr result (IsOpenStop opened.old.loading opened.old.key (B.shelf bay.old) (B.shelf bay.new)) }
     ensures bay { KeepsBay B.shelf B.owners B.faults bay.old bay.new }
     ensures cause { HasDiskCause B.shelf B.owners B.faults bay.old bay.new result }
 {
@@ -181,7 +186,8 @@ pub fn open_desks<B: Bay>(
     let mut passes = Vec::with_capacity(alloc, headers.len())?;
     for owner in 0..headers.len() as u32 {
         match open_desk(alloc, bay, opened, &headers[owner as usize], owner) {
-            Ok((desk, pass)) => {
+            Ok((desk, pass, version)) => {
+                opened.set_version(owner, version);
                 desks.push_reserved(desk);
                 passes.push_reserved(pass);
             }

@@ -7,7 +7,7 @@ ghost use Rattle.outside_disks.specs.Disks.{Shown};
 ghost use Rattle.journal_records.specs.Encoding.{IsHeader};
 ghost use Rattle.budget_journal.specs.declared.making.InitFault.TheVariants.{DiskFault};
 ghost use Rattle.owner_catalog.specs.Entries.{owner_entry_at};
-ghost use Rattle.catalog_loading.specs.Loaded.{header_of, owners_in};
+ghost use Rattle.catalog_loading.specs.Loaded.{new_header, owners_in};
 ghost use Rattle.query_server.specs.Shelves.{AreAtHome, EachDisk};
 ghost use Rattle.query_server.specs.Outside.{HasDiskCause, KeepsBay};
 ghost use Rattle.query_server.specs.Work.{to_make};
@@ -56,6 +56,7 @@ fn make_journal<B: Bay>(bay: &mut B, owner: u32, header: &Header) -> Result<(), 
     requires owner { owner < B.owners bay.old }
     requires home { IsSome (B.shelf bay.old owner) }
     requires header { IsHeader header.now }
+    requires grown { 2 ≤ header.now.version }
     ensures made { OnOk result (Turned (IsMade header.now) (B.shelf bay.old owner) (B.shelf bay.new owner)) }
     ensures unmade { IfErr result (λ fault. Turned (IsUnmade fault) (B.shelf bay.old owner) (B.shelf bay.new owner)) }
     ensures others { (o : ℕ) → o ≢ owner → B.shelf bay.new o ≡ B.shelf bay.old o }
@@ -86,7 +87,7 @@ fn unmade_stop(alloc: Global, owner: &str, fault: InitFault) -> Stop
 fn make_all<B: Bay>(alloc: Global, bay: &mut B, opened: &Opened) -> Result<(), Stop>
     requires home { AreAtHome (B.owners bay.old) (B.shelf bay.old) }
     ensures made { OnOk result (EachDisk (owners_in opened.now.loading)
-        (λ o. IsMade (header_of opened.now.loading opened.now.key o))
+        (λ o. IsMade (new_header opened.now.loading opened.now.key o))
         (B.shelf bay.old) (B.shelf bay.new)) }
     ensures stop { IfErr result (IsMakeStop opened.now.loading opened.now.key
         (B.shelf bay.old) (B.shelf bay.new)) }

@@ -82,7 +82,7 @@ fn answer_over<R: Threads + Wait + Sync, D: Disk + Send, S: Source, G: Gate + Sy
 fn answer<R: Threads + Wait + Sync, B: Bay, S: Source, G: Gate + Sync>(
     rt: &R,
     alloc: Global,
-    opened: &Opened,
+    opened: &mut Opened,
     bay: &mut B,
     source: &mut S,
     gate: &G,
@@ -91,14 +91,14 @@ fn answer<R: Threads + Wait + Sync, B: Bay, S: Source, G: Gate + Sync>(
     requires home { AreAtHome (B.owners bay.old) (B.shelf bay.old) }
     requires workers { (1 ≤ workers) × (workers ≤ greatest_workers) }
     ensures end { (script : List ℕ) × IsLeftToRead (S.left source.old) script
-        × IsEndOf (to_answer workers opened.now.loading opened.now.key) (B.shelf bay.old) (B.shelf bay.new) script result }
+        × IsEndOf (to_answer workers opened.old.loading opened.old.key) (B.shelf bay.old) (B.shelf bay.new) script result }
     ensures taken { IsTaken (S.left source.old) (S.left source.new) (status_at result) }
     ensures bay { KeepsBay B.shelf B.owners B.faults bay.old bay.new }
     ensures cause { HasCause (S.faults source.old) (S.faults source.new) (IsErrOf result Stop.Fault) }
     ensures disk { HasDiskCause B.shelf B.owners B.faults bay.old bay.new result }
 {
-    let house = opened.house();
     let Opening { desks, passes } = open_desks(alloc, bay, opened)?;
+    let house = opened.house();
     let mut passes = Passes::new(passes);
     let end = answer_over(
         rt,
@@ -142,6 +142,6 @@ pub(crate) fn run_script<R: Threads + Wait + Sync, F: Files, B: Bay, S: Source, 
     ensures cause { IsErrOf result Stop.Fault → HasRisen (F.faults files.old) (F.faults files.new) ⊎ HasRisen (S.faults source.old) (S.faults source.new) }
     ensures disk { HasDiskCause B.shelf B.owners B.faults bay.old bay.new result }
 {
-    let opened = open_house(alloc, files, catalog, key)?;
-    answer(rt, alloc, &opened, bay, source, gate, workers)
+    let mut opened = open_house(alloc, files, catalog, key)?;
+    answer(rt, alloc, &mut opened, bay, source, gate, workers)
 }

@@ -111,7 +111,7 @@ where
 fn serve_house<R: Threads + Wait + Sync, B: Bay, O: Doors + Drop + Send, G: Gate + Sync>(
     rt: &R,
     alloc: Global,
-    opened: &Opened,
+    opened: &mut Opened,
     bay: &mut B,
     doors: &mut Vec<O>,
     gate: &G,
@@ -124,17 +124,17 @@ where
     requires doors { greatest_workers ≤ length doors.old.items }
     requires ports { post.now.posting.port + post.now.workers ≤ 2 ^ 16 }
     requires some { 1 ≤ post.now.posting.each }
-    ensures end { (script : List ℕ) → IsEndOf (to_serve post.now.workers post.now.posting.each opened.now.loading opened.now.key)
+    ensures end { (script : List ℕ) → IsEndOf (to_serve post.now.workers post.now.posting.each opened.old.loading opened.old.key)
         (B.shelf bay.old) (B.shelf bay.new) script result }
-    ensures service { IsServiceOn opened.now.loading opened.now.key post.now.workers post.now.posting.each (B.shelf bay.old) (B.shelf bay.new)
+    ensures service { IsServiceOn opened.old.loading opened.old.key post.now.workers post.now.posting.each (B.shelf bay.old) (B.shelf bay.new)
         (doors_in O.coming O.served O.faults doors.old.items) (doors_in O.coming O.served O.faults doors.new.items) result }
     ensures bay { KeepsBay B.shelf B.owners B.faults bay.old bay.new }
     ensures cause { IsErrOf result Stop.Fault →
         SomeDoorRose (doors_in O.coming O.served O.faults doors.old.items) (doors_in O.coming O.served O.faults doors.new.items) }
     ensures disk { HasDiskCause B.shelf B.owners B.faults bay.old bay.new result }
 {
-    let house = opened.house();
     let Opening { desks, passes } = open_desks(alloc, bay, opened)?;
+    let house = opened.house();
     let mut passes = Passes::new(passes);
     let end = serve_over(
         rt,
@@ -193,6 +193,6 @@ where
         ⊎ SomeDoorRose (doors_in O.coming O.served O.faults doors.old.items) (doors_in O.coming O.served O.faults doors.new.items) }
     ensures disk { HasDiskCause B.shelf B.owners B.faults bay.old bay.new result }
 {
-    let opened = open_house(alloc, files, catalog, key)?;
-    serve_house(rt, alloc, &opened, bay, doors, gate, post)
+    let mut opened = open_house(alloc, files, catalog, key)?;
+    serve_house(rt, alloc, &mut opened, bay, doors, gate, post)
 }

@@ -7,7 +7,7 @@ use Rattle.budget_ledger.specs.Opened.{IsBookFault}
 use Rattle.owner_house.specs.Owner.{Owner}
 use Rattle.owner_house.specs.House.{Register, house_of}
 use Rattle.owner_house.proofs.Owners.{owners_length}
-use Rattle.catalog_loading.specs.Loaded.{IsLoading, Loading, entry_at, header_of, owners_in}
+use Rattle.catalog_loading.specs.Loaded.{IsLoading, Loading, entry_at, new_header, owners_in}
 use Rattle.query_server.proofs.Stops.{entry_is, fault_stopped, new_book, told_shown}
 use Rattle.query_server.proofs.books.open_book.Goals as goal
 
@@ -35,8 +35,8 @@ pub returns-in-Ok-open-clause-book : goal.returns-in-Ok-open-clause-book
 returns-in-Ok-open-clause-book g c =
     let loading = c.args.opened.now.loading in
     let found = entry_found loading c.house-house.result.now c.args.owner c.in_ok-entry.entry c.house-house.ensures.house c.house-house.ensures.lawful.lawful c.requires.owner c.in_ok-entry.ensures in
-    new_book c.in_ok-entry.entry (entry_at loading c.args.owner) c.args.header.now _ _ _ c.in-Ok-open.book found
-    c.in-Ok.ensures.given c.in-Ok-open.ensures.found c.in-Ok-open.ensures.fresh c.in-Ok-open.ensures.book
+    new_book c.in_ok-entry.entry (entry_at loading c.args.owner) c.args.header.now (new_header loading c.args.opened.now.key c.args.owner) _ _ _ c.in-Ok-open.book found
+    c.requires.header c.in-Ok.ensures.given c.in-Ok-open.ensures.found c.in-Ok-open.ensures.fresh c.in-Ok-open.ensures.book
 
 pub returns-in-Err-clause-stop : goal.returns-in-Err-clause-stop
 returns-in-Err-clause-stop g c =
@@ -46,8 +46,8 @@ returns-in-Err-clause-stop g c =
     let named = c.owner_name-name.ensures ∙ ap (λ (catalog : Catalog). (owner_entry_at catalog owner).name) c.catalog.ensures.catalog in
     let entry = entry_found loading c.house-house.result.now owner c.in_ok-entry.entry c.house-house.ensures.house c.house-house.ensures.lawful.lawful c.requires.owner c.in_ok-entry.ensures in
     fault_stopped loading key (g.B.Bay.shelf c.args.bay.now) owner c.owner_name-name.result.now c.in-Err.fault c.open_stop.result named
-    (told_shown (λ bytes. IsBookFault (entry_at loading owner) (header_of loading key owner) bytes c.in-Err.fault) (g.B.Bay.shelf c.args.bay.now owner) _ _ c.in-Ok.ensures.given
+    (told_shown (λ bytes. IsBookFault (entry_at loading owner) (new_header loading key owner) bytes c.in-Err.fault) (g.B.Bay.shelf c.args.bay.now owner) _ _ c.in-Ok.ensures.given
     (λ t told.
-    subst (λ (e : Entry). IsBookFault e (header_of loading key owner) (seen_of t) c.in-Err.fault) entry
+    subst (λ (e : Entry). IsBookFault e (new_header loading key owner) (seen_of t) c.in-Err.fault) entry
     (subst (λ (h : Header). IsBookFault c.in_ok-entry.entry h (seen_of t) c.in-Err.fault) c.requires.header (c.in-Err.ensures.refused t told))))
     c.open_stop.ensures

@@ -1,17 +1,15 @@
 use Rattle.std.proofs.Common.{◌≡◌, ◌≤◌, length}
 use Rattle.std.specs.Prelude.{vec_capacity}
 use Rattle.session_core.specs.Bundles.{bundle_of}
-use Rattle.catalog_loading.specs.Loaded.{header_of, entry_at}
-use Rattle.query_server.specs.Books.{ArePassesOn}
 use Rattle.query_server.proofs.Bundled.{AreWhole}
+use Rattle.query_server.proofs.Versions.{AreDesks}
 use Rattle.query_server.proofs.books.open_desks.Given as goal
 
 -- the first owners' books are opened, each behind its lock
 abbrev pub invariant-loop-owner : goal.invariant-loop-owner
 invariant-loop-owner g l =
-    let loading = l.opened.loading in
     record {
-      on : ArePassesOn (entry_at loading) (header_of loading l.opened.key) l.owner (g.B.Bay.shelf l.fn.bay) (g.B.Bay.shelf l.bay) (bundle_of l.passes.items).knows;
+      on : AreDesks l.fn.opened.loading l.fn.opened.key l.owner (g.B.Bay.shelf l.fn.bay) (g.B.Bay.shelf l.bay) l.opened (bundle_of l.passes.items).knows;
       here : (bundle_of l.passes.items).locks ≡ l.desks.items;
       whole : AreWhole l.passes.items;
       room : (length l.headers.items ≤ vec_capacity l.passes) × (length l.headers.items ≤ vec_capacity l.desks);
