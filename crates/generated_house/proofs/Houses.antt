@@ -80,9 +80,9 @@ pub lawful_with : (asks budget capacity : ℕ) → 1 ≤ asks → asks ≤ most_
 lawful_with asks budget capacity some few budget_is capacity_is =
     subst (λ (b : ℕ). IsCatalog (catalog_with b capacity)) (sym budget_is) (subst (λ (c : ℕ). IsCatalog (catalog_with (budget_for asks) c)) (sym capacity_is) (lawful asks some few))
 
--- the owner's entry is within its limits
-pub entry_lawful : (asks : ℕ) → 1 ≤ asks → asks ≤ most_asks → IsEntry (entry_for asks)
-entry_lawful asks some few = record {
+-- the owner's entry is within its limits, in any version
+pub entry_lawful : (asks version : ℕ) → 1 ≤ asks → asks ≤ most_asks → IsEntry (record (entry_for asks) { version = version })
+entry_lawful asks version some few = record {
   some_budget = omega (arith, some_paid asks some);
   budget = omega (arith, few_paid asks few);
   some_room = omega (arith, some);

@@ -1,11 +1,11 @@
 -- What the house is made of is what was to be made.
-use Rattle.std.proofs.Common.{◌≡◌, ℕ, zero, suc, ◌≤◌, List, [], ◌∷◌, slice_get, Some, refl, sym, ◌∙◌, ap, subst, arith}
+use Rattle.std.proofs.Common.{◌≡◌, ℕ, zero, suc, ◌<◌, ◌≤◌, List, [], ◌∷◌, length, slice_get, slice_set, Some, refl, sym, ◌∙◌, ap, subst, arith}
 use Rattle.std.proofs.lemmas.Option.{slice_get_within}
 use Rattle.metric_values.specs.Tables.{Dataset, IsDataset}
 use Rattle.owner_catalog.specs.Entries.{Catalog, OwnerEntry, owner_entry_at, owner_signature}
 use Rattle.part_views.specs.Holding.{Holding, IsHolding}
-use Rattle.owner_house.specs.House.{IsHeldBy, IsRegister, register_with}
-use Rattle.generated_house.specs.Sizes.{most_asks}
+use Rattle.owner_house.specs.House.{IsHeldBy, IsRegister, Register, house_of, register_with}
+use Rattle.generated_house.specs.Sizes.{journal_version, most_asks}
 use Rattle.generated_house.specs.House.{catalog_for, owner_for, register_for, rows_of_seed}
 use Rattle.generated_house.proofs.Houses.{lawful, rows_typed}
 
@@ -24,7 +24,7 @@ typed seed asks catalog tables catalog_is tables_are =
 
 made : (asks : ℕ) (tables : Dataset) → 1 ≤ asks → asks ≤ most_asks → IsHolding (first_holding (catalog_for asks) tables)
     → IsRegister (register_with (catalog_for asks) (first_holding (catalog_for asks) tables ∷ []))
-made asks tables some few held = record { catalog = lawful asks some few; each_has = refl; holds = each }
+made asks tables some few held = record { catalog = lawful asks some few; each_has = refl; versioned = refl; holds = each }
   where
     first : Holding
     first = first_holding (catalog_for asks) tables
@@ -48,8 +48,17 @@ module _ (catalog : Catalog) (tables : Dataset) (held : Holding) (holdings : Lis
       = subst (λ (h : Holding). IsRegister (register_with (catalog_for asks) (h ∷ []))) (sym same) (made asks tables some few (subst IsHolding same holding)) in
       subst (λ (c : Catalog). IsRegister (register_with c holdings)) (sym catalog_is) (subst (λ (hs : List Holding). IsRegister (register_with (catalog_for asks) hs)) (sym holdings_are) whole)
 
-  pub register_is : (seed asks : ℕ) → catalog ≡ catalog_for asks → tables ≡ rows_of_seed seed ∷ [] → held ≡ first_holding catalog tables → holdings ≡ held ∷ []
-      → register_with catalog holdings ≡ register_for seed asks
-  register_is seed asks catalog_is tables_are held_is holdings_are =
-      ap (register_with catalog) (holdings_are ∙ ap (λ (h : Holding). h ∷ []) (held_is ∙ ap (first_holding catalog) tables_are))
-      ∙ ap (λ (c : Catalog). register_with c (first_holding c (rows_of_seed seed ∷ []) ∷ [])) catalog_is
+  -- the version is that of an owner
+  pub one_owner : (asks : ℕ) (register : Register) → catalog ≡ catalog_for asks → holdings ≡ held ∷ [] → register ≡ register_with catalog holdings → 0 < length (house_of register).owners
+  one_owner asks register catalog_is holdings_are is =
+      let some : 0 < length (house_of (register_with (catalog_for asks) (held ∷ []))).owners = omega arith in
+      let here : register ≡ register_with (catalog_for asks) (held ∷ []) = is ∙ (λ i. register_with (catalog_is i) (holdings_are i)) in
+      subst (λ (r : Register). 0 < length (house_of r).owners) (sym here) some
+
+  pub register_is : (seed asks : ℕ) (old new : Register) → catalog ≡ catalog_for asks → tables ≡ rows_of_seed seed ∷ [] → held ≡ first_holding catalog tables → holdings ≡ held ∷ []
+      → old ≡ register_with catalog holdings → new ≡ record old { versions = slice_set old.versions 0 journal_version } → new ≡ register_for seed asks
+  register_is seed asks old new catalog_is tables_are held_is holdings_are made_of is =
+      let whole : register_with catalog holdings ≡ register_with (catalog_for asks) (first_holding (catalog_for asks) (rows_of_seed seed ∷ []) ∷ [])
+      = ap (register_with catalog) (holdings_are ∙ ap (λ (h : Holding). h ∷ []) (held_is ∙ ap (first_holding catalog) tables_are))
+      ∙ ap (λ (c : Catalog). register_with c (first_holding c (rows_of_seed seed ∷ []) ∷ [])) catalog_is in
+      is ∙ ap (λ (r : Register). record r { versions = slice_set r.versions 0 journal_version }) (made_of ∙ whole)

@@ -1,4 +1,4 @@
--- How large what is generated is.
+-- How large what is generated is, and of which version its journal.
 use Rattle.std.specs.Prelude.{ℕ, ◌+◌, ◌*◌, ◌/◌}
 
 -- the most asks
@@ -20,6 +20,10 @@ budget_for asks = paid_of asks * price
 -- how many records the journal has room for
 abbrev pub capacity_for : (asks : ℕ) → ℕ
 capacity_for asks = 2 * asks
+
+-- The version of the journal. In version 2 an ask whose number has no noise stays charged, so all of the budget is spent.
+abbrev pub journal_version : ℕ
+journal_version = 2
 
 -- how many rows the table has
 unfoldable pub row_count : ℕ

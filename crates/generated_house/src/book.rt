@@ -5,7 +5,7 @@ ghost use Rattle.budget_ledger.specs.Account.{IsBook};
 ghost use Rattle.generated_house.specs.Sizes.{most_asks};
 ghost use Rattle.generated_house.specs.House.{entry_for};
 
-use crate::{PRICE, paid_of};
+use crate::{PRICE, VERSION, paid_of};
 use budget_core::entry::Entry;
 use budget_journal::journal::Journal;
 use budget_ledger::book::Book;
@@ -39,12 +39,14 @@ pub fn generated_book(alloc: Global, asks: u32) -> Result<Book<MemDisk<'static>>
         2 * asks,
         1,
         Vec::new(alloc),
-    );
+    )
+    .with_version(VERSION);
     let header = Header {
         owner: 0,
         budget: entry.budget(),
         capacity: entry.capacity(),
         digest: [0; 32],
+        version: VERSION,
     };
     let mut disk = MemDisk::new(alloc, &[], limits_of(header.capacity), &[])?;
     // The disk is empty and has room for all of this, so it doesn't fail.

@@ -4,7 +4,7 @@ ghost use Rattle.std.specs.Prelude.{◌≡◌, ◌≤◌, [], ◌∷◌, IfOk};
 ghost use Rattle.generated_house.specs.Sizes.{most_asks, row_count};
 ghost use Rattle.generated_house.specs.House.{catalog_for, numbers_below, register_for, rows_of_seed};
 
-use crate::{PRICE, ROWS, paid_of};
+use crate::{PRICE, ROWS, VERSION, paid_of};
 use metric_values::{Table, Tables};
 use owner_catalog::{Catalog, OneOwner};
 use owner_house::house::House;
@@ -58,7 +58,7 @@ fn catalog(alloc: Global, asks: u32) -> Result<Catalog, AllocError>
 }
 
 /// The house of a seed and of so many asks.
-#[tactic(auto, using(crate::proofs::Registers::typed, crate::proofs::Registers::registered, crate::proofs::Registers::register_is))]
+#[tactic(auto, using(crate::proofs::Registers::typed, crate::proofs::Registers::registered, crate::proofs::Registers::one_owner, crate::proofs::Registers::register_is))]
 pub fn generated_house(alloc: Global, seed: u32, asks: u32) -> Result<House, AllocError>
     requires asks { (1 ≤ asks) × (asks ≤ most_asks) }
     ensures { IfOk result (λ house. house ≡ register_for seed asks) }
@@ -71,5 +71,7 @@ pub fn generated_house(alloc: Global, seed: u32, asks: u32) -> Result<House, All
     // This look tells the proof what a dataset keeps.
     let _ = dataset.sig(View::Whole);
     let datasets = vec![in alloc; dataset]?;
-    Ok(House::new(catalog, datasets))
+    let mut house = House::new(catalog, datasets);
+    house.set_version(0, VERSION);
+    Ok(house)
 }

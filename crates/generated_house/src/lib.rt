@@ -23,6 +23,9 @@ pub const BLOCK: u32 = 10;
 /// What an ask costs, in millionths.
 pub const PRICE: u64 = 1_000_000;
 
+/// The version of the journal, in which an ask whose number has no noise stays charged.
+pub const VERSION: u8 = 2;
+
 /// How many asks the budget pays for: half of them, rounded up.
 pub fn paid_of(asks: u32) -> u32
     requires { asks ≤ most_asks }

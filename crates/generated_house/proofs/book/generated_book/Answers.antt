@@ -1,4 +1,4 @@
-use Rattle.std.proofs.Common.{◌≡◌, ◌∙◌, ◌*◌, arith}
+use Rattle.std.proofs.Common.{◌≡◌, ◌∙◌, ◌*◌, ap, refl, arith}
 use Rattle.outside_disks.specs.Shown.{told}
 use Rattle.generated_house.specs.Sizes.{budget_for, capacity_for}
 use Rattle.generated_house.proofs.Books.{entry_is, header_lawful, header_with, opened}
