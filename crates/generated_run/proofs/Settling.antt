@@ -1,5 +1,5 @@
 -- Each number that is settled is settled by its noise: each settlement was told to a line that asks for the size of the table.
-use Rattle.std.proofs.Common.{◌≡◌, ℕ, zero, suc, ◌==◌, Bool, true, false, List, [], ◌∷◌, length, map, slice_get, Option, Some, None, if◌then◌else◌, refl, sym, ◌∙◌, ap, subst, arith, codes, eqb-true}
+use Rattle.std.proofs.Common.{◌≡◌, ℕ, zero, suc, List, [], ◌∷◌, length, map, slice_get, Option, Some, None, refl, sym, ◌∙◌, ap, subst, arith, codes}
 use Rattle.std.specs.Prelude.{ℤ, pos, ◌+ℤ◌}
 use Rattle.std.specs.List.{AllByRecursion}
 use mathlib.Core.Logic.{inl, inr}
@@ -8,10 +8,8 @@ use Rattle.journal_records.specs.declared.records.Outcome.{Outcome}
 use Rattle.journal_records.specs.declared.records.Outcome.TheVariants.{Answered}
 use Rattle.journal_records.specs.declared.records.Record.{Record}
 use Rattle.journal_records.specs.declared.records.Settlement.{Settlement}
-use Rattle.journal_records.specs.declared.records.Record.TheVariants.{Reserve, Settle}
-use Rattle.journal_records.specs.Records.{number_or_zero, outcome_in, settlement_in, settling}
+use Rattle.journal_records.specs.Records.{number_or_zero, outcome_in, settlement_in, settling_back}
 use Rattle.partition_charge.specs.declared.view.View.TheVariants.{Whole}
-use Rattle.budget_core.specs.Counts.{outcome_of}
 use Rattle.budget_core.specs.Entries.{Entry}
 use Rattle.metric_values.specs.Numbers.{clamp}
 use Rattle.metric_values.specs.Tables.{Dataset}
@@ -38,6 +36,7 @@ use Rattle.session_core.specs.Turns.{Turn}
 use Rattle.session_core.proofs.Turns.{turns_lines}
 use Rattle.session_laws.proofs.Added.{IsReservedBy}
 use Rattle.session_laws.proofs.Once.{reserves_at, told_once}
+use Rattle.session_laws.proofs.Places.{settled_at}
 use Rattle.session_laws.proofs.Sources.{Settles, settle_told}
 use Rattle.generated_house.specs.Sizes.{price, row_count}
 use Rattle.generated_house.specs.Key.{key_of_seed}
@@ -112,20 +111,6 @@ module _ (seed many : ℕ) where
   settled_with analyst (Some noise) outcome (inl (value, has, is)) = inl (is ∙ ap (λ (z : ℤ). Answered (z +ℤ noise)) (worth analyst value has))
   settled_with analyst (Some noise) outcome (inr lost) = inr lost
 
--- a number's settlement stands somewhere
-settled_at : (records : List Record) (n : ℕ) (outcome : Outcome) → outcome_of records n ≡ Some outcome → (p : ℕ) × (slice_get records p ≡ Some (settling n outcome))
-settled_at [] n outcome is = absurd (cc (is))
-settled_at (Reserve r ∷ records) n outcome is = let rest = settled_at records n outcome is in (suc rest.0, rest.1)
-settled_at (Settle s ∷ records) n outcome is = either (n == s.number) refl (settled_at records n outcome) is
-  where
-    either : (b : Bool) → (n == s.number) ≡ b → (outcome_of records n ≡ Some outcome → (p : ℕ) × (slice_get records p ≡ Some (settling n outcome)))
-        → (if b then Some s.outcome else outcome_of records n) ≡ Some outcome → (p : ℕ) × (slice_get (Settle s ∷ records) p ≡ Some (settling n outcome))
-    either true same rest is =
-        let number : n ≡ s.number = eqb-true n s.number same in
-        let so : s.outcome ≡ outcome = cc (is) in
-        (0, ap (λ (k : ℕ). Some (settling k s.outcome)) (sym number) ∙ ap (λ (o : Outcome). Some (settling n o)) so)
-    either false same rest is = let later = rest is in (suc later.0, later.1)
-
 -- the line of an exchange is one of the script's
 line_at : (xs : List Exchange) (j : ℕ) (x : Exchange) → AllByRecursion IsLine (map (λ (t : Turn). t.line) (map (λ (y : Exchange). y.turn) xs)) → slice_get xs j ≡ Some x → IsLine x.turn.line
 line_at [] j x all at = absurd (cc (at))
@@ -143,9 +128,9 @@ module _ (seed many workers : ℕ) (records : List Record) (a : IsAnsweredOver (
   lines = subst (λ (ls : List (List ℕ)). AllByRecursion IsLine ls) (sym (ap (map (λ (t : Turn). t.line)) a.turns ∙ turns_lines (house_for seed many) (script_of many))) (script_lines many)
 
   -- a settlement that was told is by the query's worth
-  told : (query : Query) (analyst : ℕ) (x : Exchange) (p n : ℕ) (outcome : Outcome) → the_query analyst ≡ query → (by : IsReservedBy (draws 0) (the_owner seed many) [] records query x)
-      → Settles (draws 0) (the_owner seed many) [] records query x by p n outcome → IsOutcomeOf (noise_of_seed seed n) outcome
-  told query analyst x p n outcome of by s =
+  told : (query : Query) (analyst : ℕ) (x : Exchange) (p n : ℕ) (outcome : Outcome) (returned : ℕ) → the_query analyst ≡ query → (by : IsReservedBy (draws 0) (the_owner seed many) [] records query x)
+      → Settles (draws 0) (the_owner seed many) [] records query x by p n outcome returned → IsOutcomeOf (noise_of_seed seed n) outcome
+  told query analyst x p n outcome returned of by s =
       let number : by.grant.number ≡ n = sym (ap (λ (r : Record). number_or_zero (λ (t : Settlement). t.number) (settlement_in r)) s.is) in
       let outcomes : Some outcome ≡ Some s.done.outcome = ap outcome_in s.is in
       let so : s.done.outcome ≡ outcome = cc (outcomes) in
@@ -160,10 +145,10 @@ module _ (seed many workers : ℕ) (records : List Record) (a : IsAnsweredOver (
       let house = house_for seed many in
       let owner = the_owner seed many in
       let at = settled_at records n outcome is in
-      let t = (told_once house draws workers crew 0 owner [] a.exchanges records refl a.gathered).each at.0 (settling n outcome) (omega arith) at.1 in
-      let made = reserves_at house draws workers crew 0 owner [] a.exchanges records refl a.gathered t.0 (at.0, settling n outcome) t.1 in
+      let t = (told_once house draws workers crew 0 owner [] a.exchanges records refl a.gathered).each at.0 (settling_back n outcome at.1) (omega arith) at.2 in
+      let made = reserves_at house draws workers crew 0 owner [] a.exchanges records refl a.gathered t.0 (at.0, settling_back n outcome at.1) t.1 in
       let q = query_of seed many t.1.x.turn.who t.1.x.turn.line made.query (line_at a.exchanges t.0 t.1.x lines t.1.stands) made.meant in
-      told made.query q.0 t.1.x at.0 n outcome q.1 made.by (settle_told (draws 0) owner [] records made.query t.1.x made.by at.0 n outcome t.1.has)
+      told made.query q.0 t.1.x at.0 n outcome at.1 q.1 made.by (settle_told (draws 0) owner [] records made.query t.1.x made.by at.0 n outcome at.1 t.1.has)
 
 -- the owner's entry is the book's
 pub entry_is : (register : Register) (seed many : ℕ) (entry : Entry) (owner : Owner) → register ≡ register_for seed many → entry ≡ entry_for many → slice_get (house_of register).owners 0 ≡ Some owner
