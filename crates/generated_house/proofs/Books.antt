@@ -2,7 +2,7 @@
 use Rattle.std.proofs.Common.{◌≡◌, ℕ, zero, suc, ◌^◌, ◌<◌, ◌≤◌, List, [], slice_index, Option, Some, None, refl, sym, ◌∙◌, ap, subst, arith}
 use Rattle.std.specs.Prelude.{replicate}
 use Rattle.outside_disks.specs.Disks.{Trace, WhereTold, seen_of}
-use Rattle.journal_records.specs.Encoding.{IsHeader}
+use Rattle.journal_records.specs.Encoding.{IsHeader, IsVersion}
 use Rattle.journal_records.specs.declared.records.Header.{Header}
 use Rattle.journal_records.specs.declared.records.Record.{Record}
 use Rattle.budget_core.specs.Entries.{Entry, IsEntry}
@@ -43,16 +43,16 @@ all_zero (suc n) zero = omega arith
 all_zero (suc n) (suc i) = all_zero n i
 
 -- a header of owner 0, without a digest
-abbrev pub header_with : (budget capacity : ℕ) → Header
-header_with budget capacity = record { owner = 0; budget = budget; capacity = capacity; digest = replicate 32 0; version = journal_version }
+abbrev pub header_with : (budget capacity version : ℕ) → Header
+header_with budget capacity version = record { owner = 0; budget = budget; capacity = capacity; digest = replicate 32 0; version = version }
 
-pub header_lawful : (budget capacity : ℕ) → budget < 2 ^ 64 → capacity < 2 ^ 32 → IsHeader (header_with budget capacity)
-header_lawful budget capacity budget_fits capacity_fits = record {
+pub header_lawful : (budget capacity version : ℕ) → budget < 2 ^ 64 → capacity < 2 ^ 32 → IsVersion version → IsHeader (header_with budget capacity version)
+header_lawful budget capacity version budget_fits capacity_fits known = record {
   owner = omega arith;
   budget = budget_fits;
   capacity = capacity_fits;
   digest = (refl, all_zero 32);
-  version = (omega arith, omega arith);
+  version = known;
 }
 
 -- the entry in some version, by whatever names its parts have

@@ -46,7 +46,7 @@ pub fn generated_book(alloc: Global, asks: u32) -> Result<Book<MemDisk<'static>>
         budget: entry.budget(),
         capacity: entry.capacity(),
         digest: [0; 32],
-        version: VERSION,
+        version: entry.version(),
     };
     let mut disk = MemDisk::new(alloc, &[], limits_of(header.capacity), &[])?;
     // The disk is empty and has room for all of this, so it doesn't fail.

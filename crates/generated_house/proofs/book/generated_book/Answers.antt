@@ -1,4 +1,4 @@
-use Rattle.std.proofs.Common.{◌≡◌, ◌∙◌, ◌*◌, ap, refl, arith}
+use Rattle.std.proofs.Common.{◌≡◌, ◌∙◌, ◌*◌, ap, arith}
 use Rattle.outside_disks.specs.Shown.{told}
 use Rattle.journal_records.specs.Encoding.{newest_version}
 use Rattle.budget_core.specs.Entries.{Entry}
@@ -9,7 +9,14 @@ use Rattle.generated_house.proofs.book.generated_book.Goals as goal
 
 pub init-requires-clause-valid : goal.init-requires-clause-valid
 init-requires-clause-valid c =
-    header_lawful _ _ (omega (arith, c.budget.ensures, c.capacity.ensures.valid.budget)) (omega (arith, c.capacity.ensures.capacity, c.capacity.ensures.valid.capacity))
+    let version : c.version.result ≡ journal_version = c.version.ensures ∙ ap (λ (e : Entry). e.version) c.with_version-entry.ensures in
+    header_lawful _ _ _ (omega (arith, c.budget.ensures, c.capacity.ensures.valid.budget)) (omega (arith, c.capacity.ensures.capacity, c.capacity.ensures.valid.capacity))
+    (omega (arith, version), omega (arith, version))
+
+pub init-requires-clause-grown : goal.init-requires-clause-grown
+init-requires-clause-grown c =
+    let version : c.version.result ≡ journal_version = c.version.ensures ∙ ap (λ (e : Entry). e.version) c.with_version-entry.ensures in
+    omega (arith, version)
 
 pub returns-in-Ok-open-clause-ledger : goal.returns-in-Ok-open-clause-ledger
 returns-in-Ok-open-clause-ledger c =
@@ -17,6 +24,7 @@ returns-in-Ok-open-clause-ledger c =
     let capacity_is : 2 * c.args.asks ≡ capacity_for c.args.asks = omega arith in
     let plain = c.new-2.ensures ∙ entry_is c.args.asks _ _ _ newest_version budget_is capacity_is c.new.ensures.items in
     let same = c.with_version-entry.ensures ∙ ap (λ (e : Entry). record e { version = journal_version }) plain in
+    let version : c.version.result ≡ journal_version = c.version.ensures ∙ ap (λ (e : Entry). e.version) c.with_version-entry.ensures in
     let alike = ap (λ (s : Storage). s.header) c.in-Ok-open.ensures.fresh.1 in
-    opened c.args.asks _ (header_with c.budget.result c.capacity.result) c.in-Ok-open.book.storage.header c.in-Ok-open.book.ledger _ (told c.init.new.disk) c.in-Ok-open.book.storage.trace _ same refl alike
+    opened c.args.asks _ (header_with c.budget.result c.capacity.result c.version.result) c.in-Ok-open.book.storage.header c.in-Ok-open.book.ledger _ (told c.init.new.disk) c.in-Ok-open.book.storage.trace _ same version alike
     c.in_ok-disk.ensures.told c.in-Ok.ensures.made c.in-Ok-open.ensures.found c.in-Ok-open.ensures.fresh.0
