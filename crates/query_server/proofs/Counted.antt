@@ -1,5 +1,5 @@
 -- The lines of owners and their records, one after another.
-use Rattle.std.proofs.Common.{◌≡◌, ◌<◌, ◌≤◌, ◌+◌, ◌∙◌, ◌++◌, ℕ, Bool, List, [], ◌∷◌, length, get_or, take, cond, Option, Some, Result, Ok, Err, refl, sym, ap, ap₂, subst, append_assoc, append-nil, arith}
+use Rattle.std.proofs.Common.{◌≡◌, ◌<◌, ◌≤◌, ◌+◌, ◌∙◌, ◌++◌, ℕ, zero, suc, Bool, List, [], ◌∷◌, length, get_or, take, cond, Option, Some, Result, Ok, Err, refl, sym, ap, ap₂, subst, append_assoc, append-nil, arith}
 use Rattle.std.specs.Prelude.{◌⊎◌, if◌then◌else◌, nat_eq, IfErr, IfOk, IsErrAnd, IsSome}
 use Rattle.std.specs.Result.{is_ok}
 use Rattle.std.specs.List.{enumerate_from, flat_map}
@@ -16,8 +16,12 @@ use Rattle.budget_core.specs.Entries.{Entry}
 use Rattle.owner_catalog.specs.Entries.{OwnerEntry}
 use Rattle.session_core.specs.Transcript.{Journals}
 use Rattle.query_server.specs.Shelves.{Shelf, EachDisk, IsOnlySynced, NoOtherRose, SomeRose, StandsStill, bytes_on}
-use Rattle.query_server.specs.Opened.{IsOpened}
-use Rattle.query_server.specs.Audit.{counted_line}
+use Rattle.query_server.specs.Opened.{AreOpened, IsOpened}
+use Rattle.query_server.specs.Audit.{counted_line, counted_text}
+use Rattle.owner_catalog.specs.Limits.{owner_limit}
+use Rattle.journal_records.specs.Encoding.{newest_version}
+use Rattle.catalog_loading.specs.Loaded.{Loading, entry_at, entry_in, header_in, in_versions, owners_in}
+use Rattle.std.proofs.Math.Seq.{take-length}
 use Rattle.query_server.specs.Books.{LeftDisk}
 use Rattle.catalog_loading.specs.declared.stops.Stop.{Stop}
 use Rattle.query_server.proofs.Disks.{before_last, risen_from}
@@ -51,17 +55,21 @@ counted_as old new entry e owner one found records entry_is owner_is records_are
     is ∙ ap (λ (x : Entry). old ++ counted_line x one records) entry_is ∙ ap (λ (x : OwnerEntry). old ++ counted_line entry x records) owner_is
     ∙ ap (λ (x : List Record). old ++ counted_line entry owner x) records_are
 
-abbrev pub line_by : (ℕ → Entry) → Journals → ℕ × OwnerEntry → List ℕ
-line_by entries found numbered = counted_line (entries numbered.0) numbered.1 (found numbered.0)
+-- the version and the records of each owner's journal
+abbrev pub Told : Type 0
+Told = ℕ → ℕ × List Record
 
-abbrev pub lines_from : (ℕ → Entry) → ℕ → List OwnerEntry → Journals → List ℕ
-lines_from entries k owners found = flat_map (line_by entries found) (enumerate_from k owners)
+abbrev pub line_by : (entries : ℕ → ℕ → Entry) → Told → ℕ × OwnerEntry → List ℕ
+line_by entries told numbered = counted_line (entries numbered.0 (told numbered.0).0) numbered.1 (told numbered.0).1
 
-same_lines : (entries : ℕ → Entry) (k : ℕ) (owners : List OwnerEntry) (f g : Journals) → ((p : ℕ) → k ≤ p → p < k + length owners → f p ≡ g p)
+abbrev pub lines_from : (entries : ℕ → ℕ → Entry) → ℕ → List OwnerEntry → Told → List ℕ
+lines_from entries k owners told = flat_map (line_by entries told) (enumerate_from k owners)
+
+same_lines : (entries : ℕ → ℕ → Entry) (k : ℕ) (owners : List OwnerEntry) (f g : Told) → ((p : ℕ) → k ≤ p → p < k + length owners → f p ≡ g p)
     → lines_from entries k owners f ≡ lines_from entries k owners g
 same_lines entries k [] f g agree = refl
 same_lines entries k (x ∷ xs) f g agree =
-    ap₂ (λ (a b : List ℕ). a ++ b) (ap (counted_line (entries k) x) (agree k (omega arith) (omega arith)))
+    ap₂ (λ (a b : List ℕ). a ++ b) (ap (λ (t : ℕ × List Record). counted_line (entries k t.0) x t.1) (agree k (omega arith) (omega arith)))
     (same_lines entries (k + 1) xs f g (λ p low high. agree p (omega (arith, low)) (omega (arith, high))))
 
 numbered_more : (k : ℕ) (xs ys : List OwnerEntry) → enumerate_from k (xs ++ ys) ≡ enumerate_from k xs ++ enumerate_from (k + length xs) ys
@@ -70,52 +78,104 @@ numbered_more k (x ∷ xs) ys =
     let same : (k + 1) + length xs ≡ k + length (x ∷ xs) = omega arith in
     ap (λ (rest : List (ℕ × OwnerEntry)). (k, x) ∷ rest) (numbered_more (k + 1) xs ys ∙ ap (λ (j : ℕ). enumerate_from (k + 1) xs ++ enumerate_from j ys) same)
 
-line_more : (entries : ℕ → Entry) (owners : List OwnerEntry) (f : Journals) (n : ℕ) (d : OwnerEntry) → n < length owners
-    → lines_from entries 0 (take (n + 1) owners) f ≡ lines_from entries 0 (take n owners) f ++ counted_line (entries n) (get_or owners n d) (f n)
+line_more : (entries : ℕ → ℕ → Entry) (owners : List OwnerEntry) (f : Told) (n : ℕ) (d : OwnerEntry) → n < length owners
+    → lines_from entries 0 (take (n + 1) owners) f ≡ lines_from entries 0 (take n owners) f ++ line_by entries f (n, get_or owners n d)
 line_more entries owners f n d less =
     let some : length (take n owners) ≡ n = length-take-le n owners (omega (arith, less)) in
     ap (λ (xs : List OwnerEntry). lines_from entries 0 xs f) (take_more owners n d less)
     ∙ ap (flat_map (line_by entries f)) (numbered_more 0 (take n owners) (get_or owners n d ∷ []))
     ∙ flat_map-append (line_by entries f) (enumerate_from 0 (take n owners)) (enumerate_from (0 + length (take n owners)) (get_or owners n d ∷ []))
-    ∙ ap (λ (text : List ℕ). lines_from entries 0 (take n owners) f ++ text) (append-nil (counted_line (entries (0 + length (take n owners))) (get_or owners n d) (f (0 + length (take n owners)))))
-    ∙ ap (λ (j : ℕ). lines_from entries 0 (take n owners) f ++ counted_line (entries j) (get_or owners n d) (f j)) (omega (arith, some))
+    ∙ ap (λ (text : List ℕ). lines_from entries 0 (take n owners) f ++ text) (append-nil (line_by entries f (0 + length (take n owners), get_or owners n d)))
+    ∙ ap (λ (j : ℕ). lines_from entries 0 (take n owners) f ++ line_by entries f (j, get_or owners n d)) (omega (arith, some))
 
--- the records of one owner more
-abbrev with_next : Journals → ℕ → List Record → Journals
-with_next found o records p = cond (nat_eq p o) records (found p)
+-- one owner more
+abbrev with_next : Told → ℕ → ℕ × List Record → Told
+with_next told o journal p = cond (nat_eq p o) journal (told p)
 
-next_here : (found : Journals) (o : ℕ) (records : List Record) → with_next found o records o ≡ records
-next_here found o records = ap (λ (b : Bool). cond b records (found o)) (eq-eqb o o refl)
+next_here : (told : Told) (o : ℕ) (journal : ℕ × List Record) → with_next told o journal o ≡ journal
+next_here told o journal = ap (λ (b : Bool). cond b journal (told o)) (eq-eqb o o refl)
 
-next_elsewhere : (found : Journals) (o : ℕ) (records : List Record) (p : ℕ) → (p ≡ o → ⊥) → with_next found o records p ≡ found p
-next_elsewhere found o records p isnt = ap (λ (b : Bool). cond b records (found p)) (not-equal p o isnt)
+next_elsewhere : (told : Told) (o : ℕ) (journal : ℕ × List Record) (p : ℕ) → (p ≡ o → ⊥) → with_next told o journal p ≡ told p
+next_elsewhere told o journal p isnt = ap (λ (b : Bool). cond b journal (told p)) (not-equal p o isnt)
 
--- the first owners' records, which are known to be so, and their lines
-abbrev pub AreCounted : (ℕ → Entry) → (Known : ℕ → List Record → Type 0) → List OwnerEntry → (n : ℕ) → (lines : List ℕ) → Type 0
-AreCounted entries Known owners n lines = (found : Journals) × ((o : ℕ) → o < n → Known o (found o)) × (lines ≡ lines_from entries 0 (take n owners) found)
+-- the first owners' journals, which are known to be so, and their lines
+abbrev pub AreCounted : (entries : ℕ → ℕ → Entry) → (Known : ℕ → ℕ × List Record → Type 0) → List OwnerEntry → (n : ℕ) → (lines : List ℕ) → Type 0
+AreCounted entries Known owners n lines = (told : Told) × ((o : ℕ) → o < n → Known o (told o)) × (lines ≡ lines_from entries 0 (take n owners) told)
 
-pub none_counted : (entries : ℕ → Entry) (Known : ℕ → List Record → Type 0) (owners : List OwnerEntry) (lines : List ℕ) → lines ≡ [] → AreCounted entries Known owners 0 lines
-none_counted entries Known owners lines is = (λ o. [], λ o less. absurd (omega (arith, less)), is)
+pub none_counted : (entries : ℕ → ℕ → Entry) (Known : ℕ → ℕ × List Record → Type 0) (owners : List OwnerEntry) (lines : List ℕ) → lines ≡ [] → AreCounted entries Known owners 0 lines
+none_counted entries Known owners lines is = (λ o. (0, []), λ o less. absurd (omega (arith, less)), is)
 
-pub one_counted : (entries : ℕ → Entry) (Known : ℕ → List Record → Type 0) (owners : List OwnerEntry) (o : ℕ) (d : OwnerEntry) (records : List Record) (lines more : List ℕ) → o < length owners
-    → AreCounted entries Known owners o lines → Known o records → more ≡ lines ++ counted_line (entries o) (get_or owners o d) records → AreCounted entries Known owners (o + 1) more
-one_counted entries Known owners o d records lines more within (found, known, text) last is = (
-  with_next found o records,
+pub one_counted : (entries : ℕ → ℕ → Entry) (Known : ℕ → ℕ × List Record → Type 0) (owners : List OwnerEntry) (o : ℕ) (d : OwnerEntry) (journal : ℕ × List Record) (lines more : List ℕ) → o < length owners
+    → AreCounted entries Known owners o lines → Known o journal → more ≡ lines ++ counted_line (entries o journal.0) (get_or owners o d) journal.1 → AreCounted entries Known owners (o + 1) more
+one_counted entries Known owners o d journal lines more within (told, known, text) last is = (
+  with_next told o journal,
   λ p less. here p less (cases_eq p o),
-  is ∙ ap (λ (t : List ℕ). t ++ counted_line (entries o) (get_or owners o d) records) (text ∙ same_lines entries 0 (take o owners) found (with_next found o records) (λ p low high. sym (elsewhere p (few high))))
-      ∙ ap (λ (rs : List Record). lines_from entries 0 (take o owners) (with_next found o records) ++ counted_line (entries o) (get_or owners o d) rs) (sym (next_here found o records))
-      ∙ sym (line_more entries owners (with_next found o records) o d within),
+  is ∙ ap (λ (t : List ℕ). t ++ counted_line (entries o journal.0) (get_or owners o d) journal.1) (text ∙ same_lines entries 0 (take o owners) told (with_next told o journal) (λ p low high. sym (elsewhere p (few high))))
+      ∙ ap (λ (j : ℕ × List Record). lines_from entries 0 (take o owners) (with_next told o journal) ++ counted_line (entries o j.0) (get_or owners o d) j.1) (sym (next_here told o journal))
+      ∙ sym (line_more entries owners (with_next told o journal) o d within),
 )
   where
     few : {p : ℕ} → p < 0 + length (take o owners) → p < o
     few high = let some : length (take o owners) ≡ o = length-take-le o owners (omega (arith, within)) in omega (arith, high, some)
 
-    elsewhere : (p : ℕ) → p < o → with_next found o records p ≡ found p
-    elsewhere p less = next_elsewhere found o records p (λ same. omega (arith, less, same))
+    elsewhere : (p : ℕ) → p < o → with_next told o journal p ≡ told p
+    elsewhere p less = next_elsewhere told o journal p (λ same. omega (arith, less, same))
 
-    here : (p : ℕ) → p < o + 1 → (p ≡ o) ⊎ (p ≡ o → ⊥) → Known p (with_next found o records p)
-    here p less (inl same) = subst (λ (q : ℕ). Known q (with_next found o records q)) (sym same) (subst (Known o) (sym (next_here found o records)) last)
-    here p less (inr isnt) = subst (Known p) (sym (next_elsewhere found o records p isnt)) (known p (before_last p o less isnt))
+    here : (p : ℕ) → p < o + 1 → (p ≡ o) ⊎ (p ≡ o → ⊥) → Known p (with_next told o journal p)
+    here p less (inl same) = subst (λ (q : ℕ). Known q (with_next told o journal q)) (sym same) (subst (Known o) (sym (next_here told o journal)) last)
+    here p less (inr isnt) = subst (Known p) (sym (next_elsewhere told o journal p isnt)) (known p (before_last p o less isnt))
+
+-- the first versions, in order
+pub first_of : (ℕ → ℕ) → (n : ℕ) → List ℕ
+first_of f zero = []
+first_of f (suc n) = f 0 ∷ first_of (λ k. f (k + 1)) n
+
+first_length : (f : ℕ → ℕ) (n : ℕ) → length (first_of f n) ≡ n
+first_length f zero = refl
+first_length f (suc n) = let rest = first_length (λ k. f (k + 1)) n in omega (arith, rest)
+
+first_at : (f : ℕ → ℕ) (n o d : ℕ) → o < n → get_or (first_of f n) o d ≡ f o
+first_at f zero o d less = absurd (omega (arith, less))
+first_at f (suc n) zero d less = refl
+first_at f (suc n) (suc o) d less = let same : o + 1 ≡ suc o = omega arith in first_at (λ k. f (k + 1)) n o d (omega (arith, less)) ∙ ap f same
+
+-- all owners' journals were opened, each in its version, and these are their lines
+pub all_counted : (loading : Loading) (key : List ℕ) (shelf : Shelf) (n : ℕ) (lines : List ℕ) → n ≡ owners_in loading → owners_in loading ≤ owner_limit
+    → AreCounted (entry_in loading) (λ o journal. IsOpened (entry_in loading o journal.0) (header_in loading key o journal.0) (bytes_on shelf o) journal.1) loading.register.catalog.owners n lines
+    → (versions : List ℕ) × (found : Journals) × AreOpened loading key shelf versions found × (lines ≡ counted_text (in_versions loading versions) found)
+all_counted loading key shelf n lines all few (told, known, text) = (
+  versions,
+  found,
+  record {
+    counted = first_length of_journals owner_limit;
+    each = λ o within.
+        subst (λ (v : ℕ). IsOpened (entry_in loading o v) (header_in loading key o v) (bytes_on shelf o) (found o)) (sym (version o (omega (arith, within, few)))) (known o (omega (arith, within, all)));
+  },
+  text ∙ ap (λ (xs : List OwnerEntry). lines_from (entry_in loading) 0 xs told) (take-length n owners (omega (arith, all)))
+      ∙ by_version 0 owners (λ p less. version p (omega (arith, less, few))),
+)
+  where
+    owners : List OwnerEntry
+    owners = loading.register.catalog.owners
+
+    found : Journals
+    found o = (told o).1
+
+    of_journals : ℕ → ℕ
+    of_journals o = (told o).0
+
+    versions : List ℕ
+    versions = first_of of_journals owner_limit
+
+    version : (o : ℕ) → o < owner_limit → get_or versions o newest_version ≡ (told o).0
+    version o less = first_at of_journals owner_limit o newest_version less
+
+    by_version : (k : ℕ) (xs : List OwnerEntry) → ((p : ℕ) → p < k + length xs → get_or versions p newest_version ≡ (told p).0)
+        → lines_from (entry_in loading) k xs told ≡ flat_map (λ numbered. counted_line (entry_at (in_versions loading versions) numbered.0) numbered.1 (found numbered.0)) (enumerate_from k xs)
+    by_version k [] agree = refl
+    by_version k (x ∷ xs) agree =
+        ap₂ (λ (a b : List ℕ). a ++ b) (ap (λ (v : ℕ). counted_line (entry_in loading k v) x (found k)) (sym (agree k (omega arith))))
+        (by_version (k + 1) xs (λ p less. agree p (omega (arith, less))))
 
 -- one disk more was synced at most
 pub one_left : (o : ℕ) (old mid new : Shelf) → EachDisk o (λ _. IsOnlySynced) old mid → LeftDisk o mid new → EachDisk (o + 1) (λ _. IsOnlySynced) old new
@@ -159,7 +219,5 @@ rose_since o old mid new a b c first second home before left (inr (p, was, is, a
         (p, begun.0, is, begun.1, now, risen_from begun.0.faults was.faults is.faults is.faults low high (omega arith) rose)
     here (inr past) = (p, was, is, sym (before.others p past) ∙ at, now, rose)
 
-pub opened_as : (entry : Entry) (one header : Header) (mid old : Shelf) (o : ℕ) (found : List Record) → one ≡ header → mid o ≡ old o
-    → IsOpened entry one (bytes_on mid o) found → IsOpened entry header (bytes_on old o) found
-opened_as entry one header mid old o found same at opened =
-    subst (λ (h : Header). IsOpened entry h (bytes_on old o) found) same (subst (λ (shown : Option Shown). IsOpened entry one (bytes_on (λ _. shown) o) found) at opened)
+pub opened_as : (entry : Entry) (header : Header) (mid old : Shelf) (o : ℕ) (found : List Record) → mid o ≡ old o → IsOpened entry header (bytes_on mid o) found → IsOpened entry header (bytes_on old o) found
+opened_as entry header mid old o found at opened = subst (λ (shown : Option Shown). IsOpened entry header (bytes_on (λ _. shown) o) found) at opened

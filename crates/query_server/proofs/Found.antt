@@ -15,10 +15,9 @@ use Rattle.budget_core.specs.Cost.{cost_of, budget_of}
 use Rattle.budget_core.specs.Entries.{Entry}
 use Rattle.budget_core.specs.Legal.{IsHistory}
 use Rattle.owner_house.specs.Owner.{HasData, Owner}
-use Rattle.owner_house.specs.House.{house_of}
 use Rattle.owner_house.proofs.Owners.{entry_said, in_catalog, register_owners}
 use Rattle.owner_history.proofs.Sound.{lawful_found, lawful_owed, well_backed, well_found}
-use Rattle.catalog_loading.specs.Loaded.{Loading, IsLoading, header_of, owners_in}
+use Rattle.catalog_loading.specs.Loaded.{Loading, IsLoading, header_of, in_versions, owners_in}
 use Rattle.query_server.specs.Work.{Work, to_count}
 use Rattle.query_server.specs.Shelves.{EachDisk, IsOnlySynced, NothingWritten, Shelf, bytes_on}
 use Rattle.query_server.specs.Due.{IsToWrite, IsWrittenAt, MayStop, work_of}
@@ -28,6 +27,8 @@ use Rattle.query_server.specs.declared.end.Status.{Status}
 use Rattle.query_server.proofs.Disks.{nothing_written}
 use Rattle.query_server.proofs.Endings.{counted_lawful, house_by, house_served_by}
 use Rattle.query_server.proofs.Owed.{history_within}
+use Rattle.query_server.proofs.Versions.{lawful_in}
+use Rattle.journal_records.specs.Encoding.{newest_version}
 
 -- ---- the disk
 
@@ -78,14 +79,15 @@ told_at : (b : Shelf) (o : ℕ) (before : Shown) (P : List ℕ → Type 0) → b
 told_at b o before P at = subst (λ (s : Option Shown). IfSome (option_map seen_of (option_and_then (λ (shown : Shown). shown.trace) s)) P) at
 
 pub nothing_lost : (loading : Loading) (key : List ℕ) (b a : Shelf) → IsLoading loading → NothingWritten b a → AreKept loading key b a
-nothing_lost loading key b a lawful disks = λ o owner found before there at opened.
+nothing_lost loading key b a lawful disks = λ versions counted o owner found before there at opened.
+    let house = in_versions loading versions in
     let went = disks o before at in
-    let of = register_owners loading.register lawful.register o owner there in (
+    let of = register_owners house.register (lawful_in loading versions lawful counted).register o owner there in (
       went.0,
       went.1,
-      keeps_found owner (draws_of key o) (header_of loading key o) found before went.0 of.data_of
-          (subst (λ (e : Entry). IsHistory e found) (entry_said loading.register o owner there) opened.history)
-          (told_at b o before (Stands (header_of loading key o) found) at opened.stands) went.2,
+      keeps_found owner (draws_of key o) (header_of house key o) found before went.0 of.data_of
+          (subst (λ (e : Entry). IsHistory e found) (entry_said house.register o owner newest_version there) opened.history)
+          (told_at b o before (Stands (header_of house key o) found) at opened.stands) went.2,
     )
 
 pub all_kept : (loading : Loading) (key : List ℕ) (b a : Shelf) → IsLoading loading → EachDisk (owners_in loading) (λ _. IsOnlySynced) b a → AreKept loading key b a
@@ -107,7 +109,7 @@ services_keep words reads old new before after status sink sunk workers each loa
 audit_synced : (loading : Loading) (key : List ℕ) (b a : Shelf) (script : List ℕ) (status : Status) (text : List ℕ) → IsToWrite (to_count loading key) b a script status text
     → EachDisk (owners_in loading) (λ _. IsOnlySynced) b a
 audit_synced loading key b a script status text (inl (inl refusal)) = refusal.disks
-audit_synced loading key b a script status text (inl (inr (found, opened, done, is, disks))) = disks
+audit_synced loading key b a script status text (inl (inr (versions, found, opened, done, is, disks))) = disks
 audit_synced loading key b a script status text (inr (line, may)) = may
 
 pub audits_keep : AuditsKeepWhatWasFound

@@ -7,7 +7,7 @@ use Rattle.outside_disks.specs.Disks.{Shown}
 use Rattle.outside_bays.specs.Bays.{Same}
 use Rattle.command_words.specs.Command.{Command, command_of}
 use Rattle.catalog_loading.specs.Files.{ReadsToCome}
-use Rattle.catalog_loading.specs.Loaded.{Loading, header_of}
+use Rattle.catalog_loading.specs.Loaded.{Loading, new_header}
 use Rattle.query_server.specs.Work.{Work}
 use Rattle.query_server.specs.Shelves.{Shelf, AreAtHome, EachDisk}
 use Rattle.query_server.specs.Init.{AreMadeBefore, IsMade}
@@ -46,27 +46,27 @@ made_back loading key k Goes b a made o home = here (cases_order o k)
   where
     here : (o ≡ k) ⊎ ((o < k) ⊎ (k < o)) → IsSome (a o)
     here (inl same) = subst (λ (n : ℕ). IsSome (a n)) (sym same) (went_back b a k Goes made.here (subst (λ (n : ℕ). IsSome (b n)) same home))
-    here (inr (inl less)) = went_back b a o (IsMade (header_of loading key o)) (λ before at. made.made o before less at) home
+    here (inr (inl less)) = went_back b a o (IsMade (new_header loading key o)) (λ before at. made.made o before less at) home
     here (inr (inr past)) = subst IsSome (sym (made.behind o past)) home
 
 work_back : (command : Option Command) (work : Work) (b a : Shelf) (script : List ℕ) (end : Ended) → ComesTo command work → IsOfDisks command → IsEndOf work b a script end → AreBack b a
 work_back command work b a script end (refuses name) takes (inl (is, text, same)) = same_back b a same
 work_back command work b a script end (refuses name) takes (inr (cut, same)) = same_back b a same
 work_back command work b a script end answers takes (inl (inl refusal)) = became_back _ _ b a refusal.disks
-work_back command work b a script end answers takes (inl (inr (found, opened, inl (done, short, answered)))) = became_back _ _ b a answered.disks
-work_back command work b a script end answers takes (inl (inr (found, opened, inr (over, long, text, disks)))) = became_back _ _ b a disks
+work_back command work b a script end answers takes (inl (inr (versions, found, opened, inl (done, short, answered)))) = became_back _ _ b a answered.disks
+work_back command work b a script end answers takes (inl (inr (versions, found, opened, inr (over, long, text, disks)))) = became_back _ _ b a disks
 work_back command work b a script end answers takes (inr (cut, disks)) = became_back _ _ b a disks
 work_back command work b a script end makes takes (inl (inl (done, text, disks))) = became_back _ _ b a disks
 work_back command work b a script end makes takes (inl (inr there)) = made_back _ _ _ _ b a there.disks
 work_back command work b a script end makes takes (inr (cut, inl same)) = same_back b a same
 work_back command work b a script end makes takes (inr (cut, inr (o, within, made))) = made_back _ _ o _ b a made
 work_back command work b a script end counts takes (inl (inl refusal)) = became_back _ _ b a refusal.disks
-work_back command work b a script end counts takes (inl (inr (found, opened, done, text, disks))) = became_back _ _ b a disks
+work_back command work b a script end counts takes (inl (inr (versions, found, opened, done, text, disks))) = became_back _ _ b a disks
 work_back command work b a script end counts takes (inr (cut, disks)) = became_back _ _ b a disks
 work_back command work b a script end serves takes (inl (inl refusal)) = became_back _ _ b a refusal.disks
-work_back command work b a script end serves takes (inl (inr (found, opened, done, text, held))) = became_back _ _ b a held.over.disks
+work_back command work b a script end serves takes (inl (inr (versions, found, opened, done, text, held))) = became_back _ _ b a held.over.disks
 work_back command work b a script end serves takes (inr (cut, inl disks)) = became_back _ _ b a disks
-work_back command work b a script end serves takes (inr (cut, inr (found, opened, held))) = became_back _ _ b a held.over.disks
+work_back command work b a script end serves takes (inr (cut, inr (versions, found, opened, held))) = became_back _ _ b a held.over.disks
 work_back command work b a script end other takes due = cc takes
 
 -- Every disk is at home again.

@@ -6,7 +6,7 @@ use mathlib.Core.Logic.{◌⊎◌, inl, inr}
 use Rattle.outside_disks.specs.Disks.{Shown, Trace, seen_of}
 use Rattle.budget_journal.specs.declared.making.InitFault.{InitFault}
 use Rattle.budget_journal.specs.declared.making.InitFault.TheVariants.{AlreadyThere, DiskFault}
-use Rattle.catalog_loading.specs.Loaded.{Loading, header_of, owner_name_at, owners_in}
+use Rattle.catalog_loading.specs.Loaded.{Loading, new_header, owner_name_at, owners_in}
 use Rattle.query_server.specs.Shelves.{Shelf, EachDisk, IsOnlySynced, NoOtherRose, StandsStill}
 use Rattle.query_server.specs.Init.{AreMadeBefore, IsMade, MayHaveFailed}
 use Rattle.query_server.specs.Work.{to_make}
@@ -32,7 +32,7 @@ turned_more Goes More None new more goes = goes
 
 -- the journals before an owner's are made, and its disk turned
 made_before : (loading : Loading) (key : List ℕ) (o : ℕ) (Goes : Goings) (old mid new : Shelf)
-    → EachDisk o (λ p. IsMade (header_of loading key p)) old mid → Turned Goes (mid o) (new o) → ((p : ℕ) → p ≢ o → new p ≡ mid p)
+    → EachDisk o (λ p. IsMade (new_header loading key p)) old mid → Turned Goes (mid o) (new o) → ((p : ℕ) → p ≢ o → new p ≡ mid p)
     → AreMadeBefore loading key o Goes old new
 made_before loading key o Goes old mid new made turn others = record {
   made = λ p before less is.
@@ -79,7 +79,7 @@ untaken DiskFault (Some b) None home same is = cc same
 untaken DiskFault None new home same is = cc home
 
 pub making_stopped : (loading : Loading) (key : List ℕ) (o : ℕ) (old mid new : Shelf) (fault : InitFault) (stop : Stop)
-    → EachDisk o (λ p. IsMade (header_of loading key p)) old mid → Turned (IsUnmade fault) (mid o) (new o) → ((p : ℕ) → p ≢ o → new p ≡ mid p)
+    → EachDisk o (λ p. IsMade (new_header loading key p)) old mid → Turned (IsUnmade fault) (mid o) (new o) → ((p : ℕ) → p ≢ o → new p ≡ mid p)
     → o < owners_in loading → IsUnmadeStop (owner_name_at loading o) fault stop → IsMakeStop loading key old new stop
 making_stopped loading key o old mid new (AlreadyThere n) (Journal line) made turn others within is =
     let long = there n (mid o) (new o) turn in (

@@ -14,9 +14,9 @@ use Rattle.command_words.specs.Command.{Command, command_of}
 use Rattle.query_server.specs.Work.{Work, usage, refused, to_answer, to_make, to_count, to_check, to_compare, to_serve, to_generate}
 use Rattle.catalog_loading.specs.Files.{Contents, ReadsToCome, always}
 use Rattle.catalog_loading.specs.Steps.{done}
-use Rattle.catalog_loading.specs.Loaded.{Loading}
+use Rattle.catalog_loading.specs.Loaded.{Loading, in_versions}
 use Rattle.query_server.specs.Shelves.{Shelf}
-use Rattle.query_server.specs.Opened.{AreOpened}
+use Rattle.query_server.specs.Opened.{AreOpened, house_in}
 use Rattle.query_server.specs.Run.{IsScriptAnswered, script_limit}
 use Rattle.query_server.specs.Check.{status_by}
 use Rattle.query_server.specs.Gap.{IsGapDue}
@@ -35,8 +35,8 @@ use Rattle.query_server.proofs.Ends.{took_passed}
 use Rattle.query_server.proofs.Endings.{ComesTo, answers, checks, compares, counts, makes, no_command, refuses, serves, house_by, work_comes}
 use Rattle.query_server.proofs.Disks.{may_stop_same}
 use Rattle.query_server.proofs.Owed.{histories}
+use Rattle.query_server.proofs.Versions.{lawful_in}
 use Rattle.session_laws.proofs.Scripts.{headline_of, owed_of}
-use Rattle.owner_house.specs.House.{house_of}
 use Rattle.owner_house.proofs.Owners.{register_owners}
 
 -- The end's text is written whole or in part: so it is written what is due.
@@ -103,14 +103,14 @@ pub due_status : (ending : Work) (b a : Shelf) (script : List ℕ) (status : Sta
 due_status usage b a script status text due = due.0
 due_status (refused name) b a script status text due = due.0
 due_status (to_answer workers loading key) b a script status text (inl due) = inr (inr due.is_status)
-due_status (to_answer workers loading key) b a script status text (inr (found, opened, inl due)) = inl due.0
-due_status (to_answer workers loading key) b a script status text (inr (found, opened, inr due)) = inr (inl due.0)
+due_status (to_answer workers loading key) b a script status text (inr (versions, found, opened, inl due)) = inl due.0
+due_status (to_answer workers loading key) b a script status text (inr (versions, found, opened, inr due)) = inr (inl due.0)
 due_status (to_make loading key) b a script status text (inl due) = inl due.0
 due_status (to_make loading key) b a script status text (inr due) = inr due.is_status
 due_status (to_count loading key) b a script status text (inl due) = inr due.is_status
-due_status (to_count loading key) b a script status text (inr (found, opened, is, due, disks)) = inl is
+due_status (to_count loading key) b a script status text (inr (versions, found, opened, is, due, disks)) = inl is
 due_status (to_serve workers each loading key) b a script status text (inl due) = inr due.is_status
-due_status (to_serve workers each loading key) b a script status text (inr (found, opened, is, none, held)) = inl is
+due_status (to_serve workers each loading key) b a script status text (inr (versions, found, opened, is, none, held)) = inl is
 due_status (to_generate seed asks) b a script status text due = due.0
 due_status (to_check tables program) b a script status text due = no_verdict (judgement_of tables due.reading) status due.is_status
 due_status (to_compare tables X Y program) b a script status text due = gap_verdict tables X Y program status text due
@@ -197,23 +197,25 @@ disks_of command work other is = absurd (grind (arith, is))
 
 -- a script that is answered
 answered_by : (words : List (List ℕ)) (reads : ReadsToCome) (b a : Shelf) (script text : List ℕ) (workers : ℕ) (loading : Loading) (key : List ℕ) → work_of words reads ≡ to_answer workers loading key
-    → (found : Journals) → AreOpened loading key b found → length script ≤ script_limit → IsScriptAnswered loading key workers b a found script text → IsAnsweredScript words reads b a script text
-answered_by words reads b a script text workers loading key work found opened short answered =
+    → (versions : List ℕ) (found : Journals) → AreOpened loading key b versions found → length script ≤ script_limit → IsScriptAnswered (in_versions loading versions) key workers b a found script text
+    → IsAnsweredScript words reads b a script text
+answered_by words reads b a script text workers loading key work versions found opened short answered =
     let house = house_by words reads workers loading key work in
-    let owners = register_owners loading.register house.lawful.lawful.register in
-    let histories = histories loading key b found house.lawful.lawful opened in
+    let owners = register_owners (in_versions loading versions).register (lawful_in loading versions house.lawful.lawful opened.counted).register in
+    let histories = histories loading key b versions found house.lawful.lawful opened in
     record {
       workers = workers;
       loading = loading;
       key = key;
       house = house;
       short = short;
+      versions = versions;
       found = found;
       opened = opened;
       answered = answered;
-      owed = owed_of (house_of loading.register) (draws_of key) found script workers answered.crew answered.exchanges answered.records owners histories answered.gathered;
+      owed = owed_of (house_in loading versions) (draws_of key) found script workers answered.crew answered.exchanges answered.records owners histories answered.gathered;
       headline = λ earlier explained.
-          headline_of (house_of loading.register) (draws_of key) found earlier script workers answered.crew answered.exchanges answered.records owners explained answered.gathered;
+          headline_of (house_in loading versions) (draws_of key) found earlier script workers answered.crew answered.exchanges answered.records owners explained answered.gathered;
     }
 
 -- what is left of some work
@@ -230,9 +232,9 @@ left_whole : (words : List (List ℕ)) (reads : ReadsToCome) (b a : Shelf) (scri
     → IsToWrite work b a script status text → IsLeftBy words reads b a script work status text
 left_whole words reads b a script text status command work (refuses name) takes is (inl (named, line, same)) = inr (not_done status code.Refused named (λ w. cc), same)
 left_whole words reads b a script text status command work answers takes is (inl (inl refusal)) = inr (not_done status code.JournalRefused refusal.is_status (λ w. cc), refusal.disks)
-left_whole words reads b a script text status command work answers takes is (inl (inr (found, opened, inl (done, short, answered)))) =
-    inl (text, answered_by words reads b a script text _ _ _ is found opened short answered, prefix_whole text, λ is. refl)
-left_whole words reads b a script text status command work answers takes is (inl (inr (found, opened, inr (over, long, line, disks)))) = inr (not_done status code.ScriptTooLong over (λ w. cc), disks)
+left_whole words reads b a script text status command work answers takes is (inl (inr (versions, found, opened, inl (done, short, answered)))) =
+    inl (text, answered_by words reads b a script text _ _ _ is versions found opened short answered, prefix_whole text, λ is. refl)
+left_whole words reads b a script text status command work answers takes is (inl (inr (versions, found, opened, inr (over, long, line, disks)))) = inr (not_done status code.ScriptTooLong over (λ w. cc), disks)
 left_whole words reads b a script text status command work other takes is (inr (inl (memory, line), may)) = inr (not_done status code.NoMemory memory (λ w. cc), may)
 left_whole words reads b a script text status command work other takes is (inr (inr (disk, line), may)) = inr (not_done status code.DiskFault disk (λ w. cc), may)
 left_whole words reads b a script text status command work other takes is due = cc takes

@@ -6,16 +6,17 @@ use Rattle.journal_records.specs.declared.records.Record.TheVariants.{Reserve, S
 use Rattle.budget_core.specs.Cost.{cost_of, budget_of}
 use Rattle.budget_core.specs.Entries.{Entry}
 use Rattle.budget_core.specs.Legal.{IsHistory, MayFollow}
-use Rattle.budget_core.proofs.Costs.{cost_of-append-Settle, cost_of-nil}
+use Rattle.budget_core.proofs.Costs.{cost_of-le-Settle, cost_of-nil}
 use Rattle.budget_core.proofs.Histories.{history-induction}
 use Rattle.owner_history.specs.Sound.{MayBeFound}
-use Rattle.owner_house.specs.House.{house_of}
 use Rattle.session_core.specs.Headline.{AreHistories}
 use Rattle.session_core.specs.Transcript.{Journals}
 use Rattle.owner_house.proofs.Owners.{entry_said, in_catalog}
-use Rattle.catalog_loading.specs.Loaded.{IsLoading, Loading}
+use Rattle.catalog_loading.specs.Loaded.{IsLoading, Loading, in_versions}
 use Rattle.query_server.specs.Shelves.{Shelf}
-use Rattle.query_server.specs.Opened.{AreOpened}
+use Rattle.query_server.specs.Opened.{AreOpened, house_in}
+use Rattle.query_server.proofs.Versions.{lawful_in}
+use Rattle.journal_records.specs.Encoding.{newest_version}
 
 -- A history keeps to the budget: each reservation did.
 pub history_within : (entry : Entry) (records : List Record) → IsHistory entry records → cost_of entry records ≤ budget_of entry records
@@ -23,12 +24,14 @@ history_within entry = history-induction entry (λ records. cost_of entry record
   where
     step : (xs : List Record) (x : Record) → IsHistory entry xs → MayFollow entry xs x → cost_of entry xs ≤ budget_of entry xs → cost_of entry (xs ++ x ∷ []) ≤ budget_of entry (xs ++ x ∷ [])
     step xs (Reserve reservation) history may within = may.within
-    step xs (Settle settlement) history may within = omega (arith, within, cost_of-append-Settle entry xs settlement.number settlement.outcome)
+    step xs (Settle settlement) history may within = omega (arith, within, cost_of-le-Settle entry xs settlement.number settlement.outcome settlement.returned)
 
 -- What the owners' journals are opened with may be found.
-pub histories : (loading : Loading) (key : List ℕ) (shelf : Shelf) (found : Journals) → IsLoading loading → AreOpened loading key shelf found → AreHistories (house_of loading.register) found
-histories loading key shelf found lawful opened = λ o owner at.
-    let known = in_catalog loading.register lawful.register o (slice_get_within (house_of loading.register).owners o owner at) in
-    let history = (opened o known).history in
-    subst (λ (e : Entry). IsHistory e (found o) → MayBeFound owner (found o)) (sym (entry_said loading.register o owner at))
+pub histories : (loading : Loading) (key : List ℕ) (shelf : Shelf) (versions : List ℕ) (found : Journals) → IsLoading loading → AreOpened loading key shelf versions found
+    → AreHistories (house_in loading versions) found
+histories loading key shelf versions found lawful opened = λ o owner at.
+    let register = (in_versions loading versions).register in
+    let known = in_catalog register (lawful_in loading versions lawful opened.counted).register o (slice_get_within (house_in loading versions).owners o owner at) in
+    let history = (opened.each o known).history in
+    subst (λ (e : Entry). IsHistory e (found o) → MayBeFound owner (found o)) (sym (entry_said register o owner newest_version at))
     (λ h. record { history = h; within = history_within owner.entry (found o) h }) history

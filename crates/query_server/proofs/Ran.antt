@@ -170,11 +170,12 @@ module _ (loading : Loading) (key : List ℕ) (lawful : IsLoading loading) where
   answered_no_disk draws workers passes after script (Err (Disk other)) line (failing, none) is = absurd (grind (arith, failing))
   answered_no_disk draws workers passes after script (Err stop) line (failing, none) is = cc
 
-  pub open_passed : (workers : ℕ) (old new : Shelf) (script : List ℕ) (stop : Stop) (result : Ended) → IsOpenStop loading key old new stop → EachDisk (owners_in loading) (λ _. IsOnlySynced) old new → IsErrAnd result (λ e. e ≡ stop)
-      → IsEndOf (to_answer workers loading key) old new script result
-  open_passed workers old new script stop result is disks passed =
-      subst (IsEndOf (to_answer workers loading key) old new script) (sym (end_passed stop result passed))
-      (open_ends (to_answer workers loading key) loading key old new script stop (λ text. inl) (λ text named. named) disks is disks)
+-- what stops the opening of the books ends a run
+pub open_passed : (loading : Loading) (key : List ℕ) (workers : ℕ) (old new : Shelf) (script : List ℕ) (stop : Stop) (result : Ended) → IsOpenStop loading key old new stop → EachDisk (owners_in loading) (λ _. IsOnlySynced) old new → IsErrAnd result (λ e. e ≡ stop)
+    → IsEndOf (to_answer workers loading key) old new script result
+open_passed loading key workers old new script stop result is disks passed =
+    subst (IsEndOf (to_answer workers loading key) old new script) (sym (end_passed stop result passed))
+    (open_ends (to_answer workers loading key) loading key old new script stop (λ text. inl) (λ text named. named) disks is disks)
 
 -- a fault of the source is passed on
 pub unread_passed : (house : House) (draws : ℕ → ℕ → ℕ → ℕ) (workers : ℕ) (script : List ℕ) (passes : List Pass) (fault : FileFault) (result : Ended) → AreFresh house passes

@@ -14,11 +14,13 @@ use Rattle.service_workers.specs.declared.posting.Service.{Service}
 use Rattle.service_workers.specs.declared.posting.Service.TheVariants.{Served, DoorFault, NoMemory}
 use Rattle.catalog_loading.specs.Files.{Contents}
 use Rattle.catalog_loading.specs.Steps.{FileStep}
-use Rattle.catalog_loading.specs.Loaded.{IsLoading, Loading, header_of, entry_at, owners_in}
+use Rattle.catalog_loading.specs.Loaded.{IsLoading, KeyedHouse, Loading, header_of, entry_at, in_versions, keyed, owners_in}
 use Rattle.catalog_loading.proofs.Reached.{IsDone, any_reads}
 use Rattle.query_server.specs.Work.{Work, ended, to_serve}
 use Rattle.query_server.specs.Due.{ForContents}
 use Rattle.query_server.specs.Shelves.{Shelf, EachDisk, IsOnlySynced}
+use Rattle.query_server.specs.Opened.{house_in}
+use Rattle.owner_catalog.specs.Limits.{owner_limit}
 use Rattle.query_server.specs.Outside.{DoorsStay, SomeDoorRose}
 use Rattle.query_server.specs.Serve.{WereHeld}
 use Rattle.query_server.specs.Service.{IsServedEnd, IsServiceAt, IsServiceEnd, IsServiceOn, IsServiceOver}
@@ -32,7 +34,7 @@ use Rattle.query_server.proofs.Contents.{any_left, at_some}
 use Rattle.query_server.proofs.Disks.{nothing_same, nothing_written}
 use Rattle.query_server.proofs.Doors.{doors_same, service_rose, service_stays}
 use Rattle.query_server.proofs.Ends.{end_passed}
-use Rattle.query_server.proofs.Ran.{books_closed, closings_of, open_ends, opened_fresh, owner_went, passes_opened, records_of, there, unserved_back}
+use Rattle.query_server.proofs.Ran.{all_opened, books_closed, closings_of, open_ends, opened_fresh, owner_went, records_of, there, unserved_back}
 
 -- a stop isn't all done
 pub stop_undone : (stop : Stop) → stop_status stop ≡ code.Done → ⊥
@@ -84,7 +86,7 @@ served_rose house draws workers each before after old new result few (inr (ended
 pub on_stays : (loading : Loading) (key : List ℕ) (workers each : ℕ) (old new : Shelf) (before after : List Door) (result : Ended)
     → IsServiceOn loading key workers each old new before after result → DoorsStay before after
 on_stays loading key workers each old new before after result (inl (service, over, ended)) =
-    service_stays (house_of loading.register) (draws_of key) workers each service before after over.first over.last over.service
+    service_stays (house_in loading over.versions) (draws_of key) workers each service before after over.first over.last over.service
 on_stays loading key workers each old new before after result (inr (undone, unserved)) = doors_same before after unserved.1
 
 -- what words come to
@@ -107,19 +109,23 @@ pub unserved_work : (held : Option Contents) (left : Option (List ℕ)) (steps :
 unserved_work held left steps shelf doors result undone =
     at_some held left (λ reads script. IsServiceAt (ended (steps reads).given) shelf shelf doors doors result) (λ reads script. inr (undone, (nothing_same shelf, refl)))
 
-module _ (loading : Loading) (key : List ℕ) (lawful : IsLoading loading) (workers each : ℕ) where
+module _ (loading : Loading) (key : List ℕ) (versions : List ℕ) (counted : length versions ≡ owner_limit) (lawful : IsLoading (in_versions loading versions)) (workers each : ℕ) where
+  abbrev house_found : Loading
+  house_found = in_versions loading versions
+
   served_over : (old mid new : Shelf) (passes after : List Pass) (books : ℕ → Account) (doors now : List Door) (end : Service)
-      → ArePassesOn (entry_at loading) (header_of loading key) (owners_in loading) old mid passes → IsService (house_of loading.register) (draws_of key) workers each end doors now passes after
+      → ArePassesOn (entry_at house_found) (header_of house_found key) (owners_in loading) old mid passes → IsService (house_of house_found.register) (draws_of key) workers each end doors now passes after
       → ArePutBack (owners_in loading) after books mid new → IsServiceOver loading key workers each old new doors now end
   served_over old mid new passes after books doors now end on s back =
-      let house = house_of loading.register in
-      let fresh = opened_fresh loading key lawful old mid passes on in
-      let closes = books_closed loading key lawful mid new after books back in
-      let records = records_of loading key lawful books in
-      let closed = closings_of loading key lawful books in
+      let house = house_of house_found.register in
+      let fresh = opened_fresh house_found key lawful old mid passes on in
+      let closes = books_closed house_found key lawful mid new after books back in
+      let records = records_of house_found key lawful books in
+      let closed = closings_of house_found key lawful books in
       record {
+        versions = versions;
         found = found_by passes;
-        opened = passes_opened loading key lawful old mid passes on;
+        opened = all_opened loading key versions counted lawful old mid passes on;
         first = passes;
         last = after;
         service = s;
@@ -135,15 +141,16 @@ module _ (loading : Loading) (key : List ℕ) (lawful : IsLoading loading) (work
             owned = λ o before within at. (
               shown_by (books o),
               back.each o within,
-              owner_went loading key lawful o old before (pass_at passes o) (pass_at after o) (books o) at (on.each o within)
-                  (s.held.owners o (owner_at house o) (there loading key lawful o within)).0.opened (back.gave o within),
+              owner_went house_found key lawful o old before (pass_at passes o) (pass_at after o) (books o) at (on.each o within)
+                  (s.held.owners o (owner_at house o) (there house_found key lawful o within)).0.opened (back.gave o within),
             );
             others = λ o past. back.others o past ∙ on.others o past;
           };
         };
       }
 
-  held_over : (old new : Shelf) (doors now : List Door) (end : Service) → (over : IsServiceOver loading key workers each old new doors now end) → WereHeld loading key workers old new over.found
+  held_over : (old new : Shelf) (doors now : List Door) (end : Service) → (over : IsServiceOver loading key workers each old new doors now end)
+      → WereHeld (in_versions loading over.versions) key workers old new over.found
   held_over old new doors now end over = record {
     before = over.first;
     after = over.last;
@@ -156,26 +163,46 @@ module _ (loading : Loading) (key : List ℕ) (lawful : IsLoading loading) (work
   over_ends : (old new : Shelf) (doors now : List Door) (end : Service) (script : List ℕ) (result : Ended) → IsServiceOver loading key workers each old new doors now end → IsServedEnd end result
       → IsEndOf (to_serve workers each loading key) old new script result
   over_ends old new doors now Served script result over (lines, is, none) =
-      inl (inr (over.found, over.opened, ap status_at is, ap text_at is ∙ none, held_over old new doors now Served over))
-  over_ends old new doors now DoorFault script result over is = inr (inl is, inr (over.found, over.opened, held_over old new doors now DoorFault over))
-  over_ends old new doors now NoMemory script result over is = inr (inr (inl is), inr (over.found, over.opened, held_over old new doors now NoMemory over))
+      inl (inr (over.versions, over.found, over.opened, ap status_at is, ap text_at is ∙ none, held_over old new doors now Served over))
+  over_ends old new doors now DoorFault script result over is = inr (inl is, inr (over.versions, over.found, over.opened, held_over old new doors now DoorFault over))
+  over_ends old new doors now NoMemory script result over is = inr (inr (inl is), inr (over.versions, over.found, over.opened, held_over old new doors now NoMemory over))
 
   -- How a service ends, once the disks are put back.
   pub service_on : (old mid new : Shelf) (passes after : List Pass) (books : ℕ → Account) (doors now : List Door) (result : Ended)
-      → ArePassesOn (entry_at loading) (header_of loading key) (owners_in loading) old mid passes → IsServiceEnd (house_of loading.register) (draws_of key) workers each doors now passes after result
+      → ArePassesOn (entry_at house_found) (header_of house_found key) (owners_in loading) old mid passes → IsServiceEnd (house_of house_found.register) (draws_of key) workers each doors now passes after result
       → ArePutBack (owners_in loading) after books mid new → IsServiceOn loading key workers each old new doors now result
   service_on old mid new passes after books doors now result on (inl (end, s, is)) back = inl (end, served_over old mid new passes after books doors now end on s back, is)
   service_on old mid new passes after books doors now result on (inr (is, none, same)) back =
-      inr (λ done. cc (done, ap status_at is), (nothing_written (owners_in loading) old new (unserved_back loading key lawful old mid new passes after books on none back), same))
+      inr (λ done. cc (done, ap status_at is), (nothing_written (owners_in loading) old new (unserved_back house_found key lawful old mid new passes after books on none back), same))
 
   pub service_ends : (old mid new : Shelf) (passes after : List Pass) (books : ℕ → Account) (doors now : List Door) (script : List ℕ) (result : Ended)
-      → ArePassesOn (entry_at loading) (header_of loading key) (owners_in loading) old mid passes → IsServiceEnd (house_of loading.register) (draws_of key) workers each doors now passes after result
+      → ArePassesOn (entry_at house_found) (header_of house_found key) (owners_in loading) old mid passes → IsServiceEnd (house_of house_found.register) (draws_of key) workers each doors now passes after result
       → ArePutBack (owners_in loading) after books mid new → IsEndOf (to_serve workers each loading key) old new script result
   service_ends old mid new passes after books doors now script result on (inl (end, s, is)) back =
       over_ends old new doors now end script result (served_over old mid new passes after books doors now end on s back) is
   service_ends old mid new passes after books doors now script result on (inr (is, none, same)) back =
-      inr (inr (inl is), inl (unserved_back loading key lawful old mid new passes after books on none back))
+      inr (inr (inl is), inl (unserved_back house_found key lawful old mid new passes after books on none back))
 
+  -- the same by the names that the house has where it was opened
+  pub on_over : (opened : KeyedHouse) → opened ≡ keyed house_found key → (old mid new : Shelf) (passes after : List Pass) (books : ℕ → Account) (doors now : List Door) (result : Ended)
+      → ArePassesOn (entry_at opened.loading) (header_of opened.loading opened.key) (owners_in opened.loading) old mid passes
+      → IsServiceEnd (house_of opened.loading.register) (draws_of opened.key) workers each doors now passes after result → ArePutBack (owners_in opened.loading) after books mid new
+      → IsServiceOn loading key workers each old new doors now result
+  on_over opened is old mid new passes after books doors now result =
+      subst (λ (h : KeyedHouse). ArePassesOn (entry_at h.loading) (header_of h.loading h.key) (owners_in h.loading) old mid passes
+      → IsServiceEnd (house_of h.loading.register) (draws_of h.key) workers each doors now passes after result → ArePutBack (owners_in h.loading) after books mid new
+      → IsServiceOn loading key workers each old new doors now result) (sym is) (service_on old mid new passes after books doors now result)
+
+  pub ends_over : (opened : KeyedHouse) → opened ≡ keyed house_found key → (old mid new : Shelf) (passes after : List Pass) (books : ℕ → Account) (doors now : List Door) (script : List ℕ) (result : Ended)
+      → ArePassesOn (entry_at opened.loading) (header_of opened.loading opened.key) (owners_in opened.loading) old mid passes
+      → IsServiceEnd (house_of opened.loading.register) (draws_of opened.key) workers each doors now passes after result → ArePutBack (owners_in opened.loading) after books mid new
+      → IsEndOf (to_serve workers each loading key) old new script result
+  ends_over opened is old mid new passes after books doors now script result =
+      subst (λ (h : KeyedHouse). ArePassesOn (entry_at h.loading) (header_of h.loading h.key) (owners_in h.loading) old mid passes
+      → IsServiceEnd (house_of h.loading.register) (draws_of h.key) workers each doors now passes after result → ArePutBack (owners_in h.loading) after books mid new
+      → IsEndOf (to_serve workers each loading key) old new script result) (sym is) (service_ends old mid new passes after books doors now script result)
+
+module _ (loading : Loading) (key : List ℕ) (workers each : ℕ) where
   -- the books weren't opened
   pub unopened_ends : (old new : Shelf) (script : List ℕ) (stop : Stop) (result : Ended) → IsOpenStop loading key old new stop → EachDisk (owners_in loading) (λ _. IsOnlySynced) old new → IsErrAnd result (λ e. e ≡ stop)
       → IsEndOf (to_serve workers each loading key) old new script result

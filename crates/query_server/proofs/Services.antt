@@ -5,7 +5,7 @@ use mathlib.Core.Logic.{◌⊎◌, inl, inr}
 use Rattle.journal_records.specs.declared.records.Record.{Record}
 use Rattle.word_streams.specs.Draws.{draws_of}
 use Rattle.fz_outside.specs.Faults.{HasRisen}
-use Rattle.owner_house.specs.House.{house_of}
+use Rattle.owner_house.specs.House.{House, IsOwnerIn}
 use Rattle.owner_house.specs.Owner.{Owner}
 use Rattle.owner_house.proofs.Owners.{register_owners}
 use Rattle.owner_history.specs.Sound.{IsFound, IsOwed, MayBeFound}
@@ -17,10 +17,11 @@ use Rattle.service_workers.specs.declared.posting.Service.{Service}
 use Rattle.service_workers.specs.declared.posting.Service.TheVariants.{Served, DoorFault, NoMemory}
 use Rattle.command_words.specs.Command.{Command, command_of}
 use Rattle.catalog_loading.specs.Files.{Contents, ReadsToCome}
-use Rattle.catalog_loading.specs.Loaded.{IsLoading, Loading}
+use Rattle.catalog_loading.specs.Loaded.{IsLoading, Loading, in_versions}
 use Rattle.query_server.specs.Work.{Work, ended, to_serve}
 use Rattle.query_server.specs.Due.{ForContents, IsOfDoors, command_steps, work_of}
 use Rattle.query_server.specs.Shelves.{Shelf}
+use Rattle.query_server.specs.Opened.{house_in}
 use Rattle.query_server.specs.Service.{IsServedEnd, IsServiceAt, IsServiceLeft, IsServiceOver, service_status}
 use Rattle.query_server.specs.Ends.{Ended, IsEndingWith, IsStepEnd, status_at, text_at}
 use Rattle.query_server.specs.Serve.{serve_steps}
@@ -31,6 +32,7 @@ use Rattle.query_server.proofs.Contents.{at_some, for_contents}
 use Rattle.query_server.proofs.Disks.{nothing_same}
 use Rattle.query_server.proofs.Endings.{house_served_by}
 use Rattle.query_server.proofs.Owed.{histories}
+use Rattle.query_server.proofs.Versions.{lawful_in}
 
 -- another command listens at no door
 pub doorless : {A : Type 0} (command other : Option Command) → command ≡ other → (IsOfDoors other → ⊥) → IsOfDoors command → A
@@ -64,23 +66,29 @@ served_status DoorFault end is = ap status_at is
 served_status NoMemory end is = ap status_at is
 
 module _ (loading : Loading) (key : List ℕ) (lawful : IsLoading loading) (workers each : ℕ) (b a : Shelf) (doors now : List Door) (end : Service) (at : IsServiceOver loading key workers each b a doors now end)
-    (o : ℕ) (owner : Owner) (here : slice_get (house_of loading.register).owners o ≡ Some owner) where
+    (o : ℕ) (owner : Owner) (here : slice_get (house_in loading at.versions).owners o ≡ Some owner) where
+  abbrev house_found : House
+  house_found = house_in loading at.versions
+
+  found_owners : IsOwnerIn house_found owner
+  found_owners = register_owners (in_versions loading at.versions).register (lawful_in loading at.versions lawful at.opened.counted).register o owner here
+
   owed_to : IsOwed owner (at.found o) (at.over.records o)
   owed_to =
-      let may = subst (λ (found : List Record). MayBeFound owner found) (sym (at.over.begun o)) (histories loading key b at.found lawful at.opened o owner here) in
+      let may = subst (λ (found : List Record). MayBeFound owner found) (sym (at.over.begun o)) (histories loading key b at.versions at.found lawful at.opened o owner here) in
       subst (λ (found : List Record). IsOwed owner found (at.over.records o)) (at.over.begun o)
-      (together_owed (house_of loading.register) (draws_of key) workers at.service.sittings at.service.lasts at.first at.last at.over.records at.over.closed at.over.fresh at.service.held at.over.closes o owner here
-      (register_owners loading.register lawful.register o owner here) may)
+      (together_owed house_found (draws_of key) workers at.service.sittings at.service.lasts at.first at.last at.over.records at.over.closed at.over.fresh at.service.held at.over.closes o owner here
+      found_owners may)
 
   kept_to : (earlier : List (List ℕ)) → IsFound owner (draws_of key o) earlier (at.found o)
-      → KeepThePromises (house_of loading.register) (draws_of key) o (at.found o) (map (λ x. x.turn) at.service.held.exchanges) workers at.service.held.crew owner earlier at.service.held.exchanges
+      → KeepThePromises house_found (draws_of key) o (at.found o) (map (λ x. x.turn) at.service.held.exchanges) workers at.service.held.crew owner earlier at.service.held.exchanges
       (at.over.records o) at.service.sittings
   kept_to earlier explained =
       let found = subst (λ (found : List Record). IsFound owner (draws_of key o) earlier found) (sym (at.over.begun o)) explained in
-      subst (λ (found : List Record). KeepThePromises (house_of loading.register) (draws_of key) o found (map (λ x. x.turn) at.service.held.exchanges) workers at.service.held.crew owner earlier
+      subst (λ (found : List Record). KeepThePromises house_found (draws_of key) o found (map (λ x. x.turn) at.service.held.exchanges) workers at.service.held.crew owner earlier
       at.service.held.exchanges (at.over.records o) at.service.sittings) (at.over.begun o)
-      (together_keep (house_of loading.register) (draws_of key) workers at.service.sittings at.service.lasts at.first at.last at.over.records at.over.closed at.over.fresh at.service.held at.over.closes o owner here
-      earlier (register_owners loading.register lawful.register o owner here) found)
+      (together_keep house_found (draws_of key) workers at.service.sittings at.service.lasts at.first at.last at.over.records at.over.closed at.over.fresh at.service.held at.over.closes o owner here
+      earlier found_owners found)
 
 service_left : (words : List (List ℕ)) (reads : ReadsToCome) (b a : Shelf) (doors now : List Door) (end : Ended) (status : Status) (text : List ℕ) (sink sunk : ℕ) → IsEndingWith end status text
     → (status ≡ code.Fault → (end ≡ Err Fault) ⊎ HasRisen sink sunk) → IsServiceAt (work_of words reads) b a doors now end → IsServiceLeft words reads b a doors now status sink sunk

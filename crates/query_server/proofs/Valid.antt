@@ -7,7 +7,7 @@ use Rattle.journal_records.specs.declared.records.Record.{Record}
 use Rattle.budget_core.specs.Entries.{Entry}
 use Rattle.command_words.specs.Command.{Command, command_of}
 use Rattle.catalog_loading.specs.Files.{ReadsToCome}
-use Rattle.catalog_loading.specs.Loaded.{Loading, header_of, entry_at, owners_in}
+use Rattle.catalog_loading.specs.Loaded.{Loading, entry_in, header_in, in_versions, new_entry, new_header, owners_in, version_at}
 use Rattle.query_server.specs.Work.{Work, usage, refused, to_answer, to_make, to_count, to_check, to_compare, to_serve, to_generate}
 use Rattle.query_server.specs.Shelves.{Shelf, bytes_on}
 use Rattle.query_server.specs.Outside.{NoCallFailed, Outside}
@@ -17,7 +17,7 @@ use Rattle.query_server.specs.Valid.{AreEmpty, EndsWell, HoldJournals, IsValidFo
 use Rattle.query_server.specs.Laws.{ValidCommandsEndWell}
 use Rattle.query_server.specs.Ends.{Ended}
 use Rattle.query_server.specs.declared.refusals.JournalRefusal.{JournalRefusal}
-use Rattle.query_server.specs.declared.refusals.JournalRefusal.TheVariants.{Exists}
+use Rattle.query_server.specs.declared.refusals.JournalRefusal.TheVariants.{Changed, Damaged, Exists, Uninitialised}
 use Rattle.query_server.specs.declared.end.Status.{Status}
 use Rattle.query_server.specs.declared.end.Status.TheVariants as code
 use Rattle.catalog_loading.specs.declared.stops.Stop.TheVariants.{Fault}
@@ -31,10 +31,20 @@ unrefused entry header (Some bytes) found refusal told opened isnt = not_refused
 unrefused entry header None found (Exists n) told opened isnt = isnt
 unrefused entry header None found refusal told opened isnt = cc
 
+-- why a journal isn't opened doesn't hang on the version that it is looked for in
+in_version : (loading : Loading) (key : List ℕ) (o version : ℕ) (bytes : Option (List ℕ)) (refusal : JournalRefusal) → IsUnopened (new_entry loading o) (new_header loading key o) bytes refusal
+    → IsUnopened (entry_in loading o version) (header_in loading key o version) bytes refusal
+in_version loading key o version bytes (Uninitialised n) is = is
+in_version loading key o version bytes Changed is = is
+in_version loading key o version bytes (Damaged slot) is = is
+in_version loading key o version bytes (Exists n) is = is
+
 -- journals that are told, and stand for records that may follow one another, aren't refused
 never_refused : (loading : Loading) (key : List ℕ) (b : Shelf) (o : ℕ) (refusal : JournalRefusal) → HoldJournals loading key b → IsRefusedAt loading key b o refusal → ⊥
-never_refused loading key b o refusal (told, (found, opened)) at =
-    unrefused (entry_at loading o) (header_of loading key o) (bytes_on b o) (found o) refusal (told o at.known) (opened o at.known) at.refused
+never_refused loading key b o refusal (told, (versions, found, opened)) at =
+    let version = version_at (in_versions loading versions) o in
+    unrefused (entry_in loading o version) (header_in loading key o version) (bytes_on b o) (found o) refusal (told o at.known) (opened.each o at.known)
+    (in_version loading key o version (bytes_on b o) refusal at.refused)
 
 -- no journal is there on an empty disk
 never_there : (loading : Loading) (b : Shelf) (o n : ℕ) → AreEmpty (owners_in loading) b → o < owners_in loading → 1 ≤ n → IfSome (bytes_on b o) (λ bytes. length bytes ≡ n) → ⊥
@@ -46,15 +56,15 @@ pub ends_well : (work : Work) (b a : Shelf) (script : List ℕ) (status : Status
 ends_well usage b a script status text valid due = absurd valid
 ends_well (refused name) b a script status text valid due = absurd valid
 ends_well (to_answer workers loading key) b a script status text valid (inl r) = absurd (never_refused loading key b r.o r.refusal valid r.at)
-ends_well (to_answer workers loading key) b a script status text valid (inr (found, opened, inl (done, short, answered))) = inl done
-ends_well (to_answer workers loading key) b a script status text valid (inr (found, opened, inr (over, long, is, disks))) = inr over
+ends_well (to_answer workers loading key) b a script status text valid (inr (versions, found, opened, inl (done, short, answered))) = inl done
+ends_well (to_answer workers loading key) b a script status text valid (inr (versions, found, opened, inr (over, long, is, disks))) = inr over
 ends_well (to_make loading key) b a script status text valid (inl (done, is, disks)) = done
 ends_well (to_make loading key) b a script status text valid (inr r) = absurd (never_there loading b r.o r.n valid r.known r.some r.long)
 ends_well (to_count loading key) b a script status text valid (inl r) = absurd (never_refused loading key b r.o r.refusal valid r.at)
-ends_well (to_count loading key) b a script status text valid (inr (found, opened, done, is, disks)) = done
+ends_well (to_count loading key) b a script status text valid (inr (versions, found, opened, done, is, disks)) = done
 ends_well (to_check tables program) b a script status text valid due = due_status (to_check tables program) b a script status text due
 ends_well (to_serve workers each loading key) b a script status text valid (inl r) = absurd (never_refused loading key b r.o r.refusal valid r.at)
-ends_well (to_serve workers each loading key) b a script status text valid (inr (found, opened, done, none, held)) = done
+ends_well (to_serve workers each loading key) b a script status text valid (inr (versions, found, opened, done, none, held)) = done
 ends_well (to_generate seed asks) b a script status text valid due = due.0
 ends_well (to_compare tables X Y program) b a script status text valid due = due_status (to_compare tables X Y program) b a script status text due
 

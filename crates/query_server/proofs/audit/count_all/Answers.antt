@@ -1,20 +1,20 @@
 use Rattle.std.proofs.Common.{◌≡◌, ◌∙◌, ◌<◌, [], refl, ap, rules, arith}
 use Rattle.std.specs.Prelude.{Err}
 use Rattle.owner_catalog.specs.Entries.{OwnerEntry}
-use Rattle.catalog_loading.specs.Loaded.{header_of, owners_in, entry_at}
+use Rattle.catalog_loading.specs.Loaded.{entry_in, header_in, owners_in}
 use Rattle.query_server.specs.Shelves.{bytes_on}
 use Rattle.query_server.specs.Opened.{IsOpened}
 use Rattle.query_server.specs.Books.{IsOpenStop}
 use Rattle.query_server.proofs.Disks.{same_still}
-use Rattle.query_server.proofs.Counted.{none_counted, one_counted, one_left, one_still, opened_as, rose_since, still_elsewhere, stop_passed}
+use Rattle.query_server.proofs.Counted.{all_counted, none_counted, one_counted, one_left, one_still, opened_as, rose_since, still_elsewhere, stop_passed}
 use Rattle.query_server.proofs.Ran.{passed_disk}
 use Rattle.query_server.proofs.Stops.{book_stopped}
 use Rattle.query_server.proofs.audit.count_all.Goals as goal
 
 pub loop-owner-init : goal.loop-owner-init
 loop-owner-init g c = record {
-  counted = none_counted (entry_at c.args.opened.now.loading) (λ o. IsOpened (entry_at c.args.opened.now.loading o)
-      (header_of c.args.opened.now.loading c.args.opened.now.key o) (bytes_on (g.B.Bay.shelf c.args.bay.now) o)) c.args.opened.now.loading.register.catalog.owners c.new-lines.result.items c.new-lines.ensures.items;
+  counted = none_counted (entry_in c.args.opened.now.loading) (λ o journal. IsOpened (entry_in c.args.opened.now.loading o journal.0)
+      (header_in c.args.opened.now.loading c.args.opened.now.key o journal.0) (bytes_on (g.B.Bay.shelf c.args.bay.now) o) journal.1) c.args.opened.now.loading.register.catalog.owners c.new-lines.result.items c.new-lines.ensures.items;
   disks = record { owned = λ o before less at. absurd (omega (arith, less)); others = λ o past. refl };
   still = λ o. same_still o (g.B.Bay.shelf c.args.bay.now) (g.B.Bay.shelf c.args.bay.now) refl;
   owners = refl;
@@ -40,7 +40,7 @@ returns-in_err-count_owner-clause-stop g c =
     c.from_residual-in_err-count_owner.result c.from_residual-in_err-count_owner.ensures.1
     (book_stopped loading c.args.opened.now.key c.loop-owner.owner (g.B.Bay.shelf c.args.bay.now) (g.B.Bay.shelf c.loop-owner.bay) (g.B.Bay.shelf c.count_owner.new.bay) stop
     (omega (arith, c.loop-owner-test.true, c.len-owner-end.ensures, c.in_ok-headers.ensures.count)) (c.loop-owner.invariant.disks.others c.loop-owner.owner (omega arith))
-    (λ p less. (counted.0 p, counted.1 p less)) (still_elsewhere _ _ _ _ c.loop-owner.invariant.still c.in_err-count_owner.ensures.left) c.in_err-count_owner.ensures.stop)
+    (λ p less. ((counted.0 p).0, (counted.0 p).1, counted.1 p less)) (still_elsewhere _ _ _ _ c.loop-owner.invariant.still c.in_err-count_owner.ensures.left) c.in_err-count_owner.ensures.stop)
 
 pub returns-in_err-count_owner-clause-disk : goal.returns-in_err-count_owner-clause-disk
 returns-in_err-count_owner-clause-disk g c line is =
@@ -59,15 +59,22 @@ loop-owner-preserved g c =
     let o = c.loop-owner.owner in
     let within : o < owners_in loading = omega (arith, c.loop-owner-test.true, c.len-owner-end.ensures, c.in_ok-headers.ensures.count) in
     let found = c.in_ok-count_owner.ensures.counted in
-    let header : c.index.result.now ≡ header_of loading c.args.opened.now.key o = search (rules, c.in_ok-headers.ensures.headers o c.index.result.now within) in
+    let key = c.args.opened.now.key in
     record {
-      counted = one_counted (entry_at loading) (λ p. IsOpened (entry_at loading p) (header_of loading c.args.opened.now.key p) (bytes_on (g.B.Bay.shelf c.args.bay.now) p))
-          c.args.opened.now.loading.register.catalog.owners o no_owner found.0 c.loop-owner.lines.items c.count_owner.new.lines.items within c.loop-owner.invariant.counted
-          (opened_as (entry_at loading o) c.index.result.now (header_of loading c.args.opened.now.key o) (g.B.Bay.shelf c.loop-owner.bay) (g.B.Bay.shelf c.args.bay.now) o found.0
-          header (c.loop-owner.invariant.disks.others o (omega arith)) found.1) found.2;
+      counted = one_counted (entry_in loading) (λ p journal. IsOpened (entry_in loading p journal.0) (header_in loading key p journal.0) (bytes_on (g.B.Bay.shelf c.args.bay.now) p) journal.1)
+          c.args.opened.now.loading.register.catalog.owners o no_owner (found.0, found.1.0) c.loop-owner.lines.items c.count_owner.new.lines.items within c.loop-owner.invariant.counted
+          (opened_as (entry_in loading o found.0) (header_in loading key o found.0) (g.B.Bay.shelf c.loop-owner.bay) (g.B.Bay.shelf c.args.bay.now) o found.1.0
+          (c.loop-owner.invariant.disks.others o (omega arith)) found.1.1.0) found.1.1.1;
       disks = one_left o (g.B.Bay.shelf c.args.bay.now) (g.B.Bay.shelf c.loop-owner.bay) (g.B.Bay.shelf c.count_owner.new.bay) c.loop-owner.invariant.disks c.in_ok-count_owner.ensures.left;
       still = one_still o (g.B.Bay.shelf c.args.bay.now) (g.B.Bay.shelf c.loop-owner.bay) (g.B.Bay.shelf c.count_owner.new.bay) c.loop-owner.invariant.still
           (c.loop-owner.invariant.disks.others o (omega arith)) c.in_ok-count_owner.ensures.still c.in_ok-count_owner.ensures.left;
       owners = c.in_ok-count_owner.ensures.bay.0 ∙ c.loop-owner.invariant.owners;
       faults = omega (arith, c.loop-owner.invariant.faults, c.in_ok-count_owner.ensures.bay.1);
     }
+
+pub returns-clause-counted : goal.returns-clause-counted
+returns-clause-counted g c =
+    let loading = c.args.opened.now.loading in
+    let all : c.loop-owner.owner ≡ owners_in loading = omega (arith, c.loop-owner-test.false, c.len-owner-end.ensures, c.in_ok-headers.ensures.count) in
+    all_counted loading c.args.opened.now.key (g.B.Bay.shelf c.args.bay.now) c.loop-owner.owner c.loop-owner.lines.items all
+    (omega (arith, c.in_ok-headers.ensures.few, c.in_ok-headers.ensures.count)) c.loop-owner.invariant.counted

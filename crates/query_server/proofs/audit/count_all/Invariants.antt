@@ -1,5 +1,5 @@
 use Rattle.std.proofs.Common.{◌≡◌, ◌≤◌, ℕ}
-use Rattle.catalog_loading.specs.Loaded.{header_of, entry_at}
+use Rattle.catalog_loading.specs.Loaded.{header_in, entry_in}
 use Rattle.query_server.specs.Shelves.{EachDisk, IsOnlySynced, StandsStill, bytes_on}
 use Rattle.query_server.specs.Opened.{IsOpened}
 use Rattle.query_server.proofs.Counted.{AreCounted}
@@ -9,8 +9,8 @@ use Rattle.query_server.proofs.audit.count_all.Given as goal
 abbrev pub invariant-loop-owner : goal.invariant-loop-owner
 invariant-loop-owner g l =
     record {
-      counted : AreCounted (entry_at l.opened.loading) (λ o. IsOpened (entry_at l.opened.loading o)
-          (header_of l.opened.loading l.opened.key o) (bytes_on (g.B.Bay.shelf l.fn.bay) o))
+      counted : AreCounted (entry_in l.opened.loading) (λ o journal. IsOpened (entry_in l.opened.loading o journal.0)
+          (header_in l.opened.loading l.opened.key o journal.0) (bytes_on (g.B.Bay.shelf l.fn.bay) o) journal.1)
           l.opened.loading.register.catalog.owners l.owner l.lines.items;
       disks : EachDisk l.owner (λ _. IsOnlySynced) (g.B.Bay.shelf l.fn.bay) (g.B.Bay.shelf l.bay);
       still : (o : ℕ) → StandsStill o (g.B.Bay.shelf l.fn.bay) (g.B.Bay.shelf l.bay);

@@ -1,5 +1,5 @@
 use Rattle.std.proofs.Common.{refl, ap}
-use Rattle.catalog_loading.specs.Loaded.{entry_at}
+use Rattle.catalog_loading.specs.Loaded.{entry_in, header_in}
 use Rattle.owner_catalog.specs.Entries.{owner_entry_at}
 use Rattle.query_server.proofs.Back.{changed_to}
 use Rattle.query_server.proofs.Counted.{counted_as}
@@ -9,18 +9,22 @@ use Rattle.query_server.proofs.audit.count_owner.Goals as goal
 
 pub returns-in_err-counted-clause-left : goal.returns-in_err-counted-clause-left
 returns-in_err-counted-clause-left g c =
-    book_back (entry_at c.args.opened.now.loading c.args.owner) c.args.header.now c.args.owner (g.B.Bay.shelf c.args.bay.now) _ _ c.in_ok-book.book c.in_ok-book.ensures.book c.in_ok-book.ensures.taken
+    let version = c.in_ok-book.book.storage.header.version in
+    book_back (entry_in c.args.opened.now.loading c.args.owner version) (header_in c.args.opened.now.loading c.args.opened.now.key c.args.owner version) c.args.owner (g.B.Bay.shelf c.args.bay.now) _ _ c.in_ok-book.book c.in_ok-book.ensures.book c.in_ok-book.ensures.taken
     (changed_to _ _ _ _ _ _ _ _ refl c.into_disk.ensures.trace c.into_disk.ensures.faults c.put_back.ensures.home)
 
 pub returns-clause-left : goal.returns-clause-left
 returns-clause-left g c =
-    book_back (entry_at c.args.opened.now.loading c.args.owner) c.args.header.now c.args.owner (g.B.Bay.shelf c.args.bay.now) _ _ c.in_ok-book.book c.in_ok-book.ensures.book c.in_ok-book.ensures.taken
+    let version = c.in_ok-book.book.storage.header.version in
+    book_back (entry_in c.args.opened.now.loading c.args.owner version) (header_in c.args.opened.now.loading c.args.opened.now.key c.args.owner version) c.args.owner (g.B.Bay.shelf c.args.bay.now) _ _ c.in_ok-book.book c.in_ok-book.ensures.book c.in_ok-book.ensures.taken
     (changed_to _ _ _ _ _ _ _ _ refl c.into_disk.ensures.trace c.into_disk.ensures.faults c.put_back.ensures.home)
 
 pub returns-clause-counted : goal.returns-clause-counted
 returns-clause-counted g c =
-    let new = c.in_ok-book.ensures.book in (
+    let new = c.in_ok-book.ensures.book in
+    let version = c.in_ok-book.book.storage.header.version in (
+      version,
       c.in_ok-book.book.ledger.found,
-      book_opened (entry_at c.args.opened.now.loading c.args.owner) c.args.header.now (g.B.Bay.shelf c.args.bay.now c.args.owner) c.in_ok-book.book new,
+      book_opened (entry_in c.args.opened.now.loading c.args.owner version) (header_in c.args.opened.now.loading c.args.opened.now.key c.args.owner version) (g.B.Bay.shelf c.args.bay.now c.args.owner) c.in_ok-book.book new,
       counted_as _ _ _ _ _ _ _ _ new.of_entry (ap (λ catalog. owner_entry_at catalog c.args.owner) c.catalog.ensures.catalog) new.fresh c.in_ok-counted.ensures,
     )

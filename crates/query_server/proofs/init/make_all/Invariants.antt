@@ -1,5 +1,5 @@
 use Rattle.std.proofs.Common.{◌≡◌}
-use Rattle.catalog_loading.specs.Loaded.{header_of}
+use Rattle.catalog_loading.specs.Loaded.{new_header}
 use Rattle.query_server.specs.Shelves.{EachDisk}
 use Rattle.query_server.specs.Init.{IsMade}
 use Rattle.query_server.proofs.init.make_all.Given as goal
@@ -8,7 +8,7 @@ use Rattle.query_server.proofs.init.make_all.Given as goal
 abbrev pub invariant-loop-owner : goal.invariant-loop-owner
 invariant-loop-owner g l =
     record {
-      made : EachDisk l.owner (λ o. IsMade (header_of l.opened.loading l.opened.key o))
+      made : EachDisk l.owner (λ o. IsMade (new_header l.opened.loading l.opened.key o))
           (g.B.Bay.shelf l.fn.bay) (g.B.Bay.shelf l.bay);
       owners : g.B.Bay.owners l.bay ≡ g.B.Bay.owners l.fn.bay;
       passed : g.B.Bay.faults l.bay ≡ g.B.Bay.faults l.fn.bay;

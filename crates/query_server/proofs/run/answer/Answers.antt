@@ -10,7 +10,7 @@ use Rattle.query_server.proofs.Bundled.{AreWholeIn, many_known}
 use Rattle.query_server.proofs.Contents.{any_left}
 use Rattle.query_server.proofs.Ends.{took_passed}
 use Rattle.query_server.proofs.Passes.{back_counted}
-use Rattle.query_server.proofs.Ran.{answered_in, answered_no_disk, few_owners, open_passed, many_opened, opened_fresh, run_ends}
+use Rattle.query_server.proofs.Ran.{answered_in, answered_no_disk, few_owners, open_passed, many_opened, opened_fresh, run_over}
 use Rattle.query_server.proofs.run.answer.Goals as goal
 
 pub returns-in_err-desks-clause-taken : goal.returns-in_err-desks-clause-taken
@@ -20,7 +20,7 @@ pub returns-in_err-desks-clause-end : goal.returns-in_err-desks-clause-end
 returns-in_err-desks-clause-end g c =
     let loading = c.args.opened.now.loading in
     let some = any_left (g.S.Source.left c.args.source.now) in
-    (some.0, some.1, open_passed loading c.args.opened.now.key c.house-house.ensures.lawful.lawful c.args.workers _ _ some.0 c.in_err-desks.field-0.0 c.from_residual.result c.in_err-desks.ensures.stop c.in_err-desks.ensures.left c.from_residual.ensures.1)
+    (some.0, some.1, open_passed loading c.args.opened.now.key c.args.workers _ _ some.0 c.in_err-desks.field-0.0 c.from_residual.result c.in_err-desks.ensures.stop c.in_err-desks.ensures.left c.from_residual.ensures.1)
 
 pub answer_over-end-requires-clause-here : goal.answer_over-end-requires-clause-here
 answer_over-end-requires-clause-here g c κs _ = ap (λ (b : Bundle). b.locks) c.new-passes.ensures ∙ c.in_ok-desks.ensures.here ∙ sym c.deref.ensures.value
@@ -28,14 +28,14 @@ answer_over-end-requires-clause-here g c κs _ = ap (λ (b : Bundle). b.locks) c
 pub answer_over-end-requires-clause-passes : goal.answer_over-end-requires-clause-passes
 answer_over-end-requires-clause-passes g c κs _ =
     subst (λ (r : Register). ArePasses (house_of r) c.new-passes.result.knows) (sym c.house-house.ensures.house)
-    (subst (λ (b : Bundle). ArePasses (house_of c.args.opened.now.loading.register) b.knows) (sym c.new-passes.ensures) c.in_ok-desks.ensures.house)
+    (subst (λ (b : Bundle). ArePasses (house_of c.open_desks.new.opened.loading.register) b.knows) (sym c.new-passes.ensures) c.in_ok-desks.ensures.house)
 
 pub answer_over-end-requires-clause-fresh : goal.answer_over-end-requires-clause-fresh
 answer_over-end-requires-clause-fresh g c κs _ =
-    let loading = c.args.opened.now.loading in
+    let loading = c.open_desks.new.opened.loading in
     subst (λ (r : Register). AreFresh (house_of r) c.new-passes.result.knows) (sym c.house-house.ensures.house)
     (subst (λ (b : Bundle). AreFresh (house_of loading.register) b.knows) (sym c.new-passes.ensures)
-    (opened_fresh loading c.args.opened.now.key c.house-house.ensures.lawful.lawful _ _ (bundle_of c.in_ok-desks.field-0.passes.items).knows c.in_ok-desks.ensures.passes))
+    (opened_fresh loading c.open_desks.new.opened.key c.house-house.ensures.lawful.lawful _ _ (bundle_of c.in_ok-desks.field-0.passes.items).knows c.in_ok-desks.ensures.passes))
 
 pub answer_over-end-requires-clause-shares : goal.answer_over-end-requires-clause-shares
 answer_over-end-requires-clause-shares g c κs _ = subst AreWholeIn (sym c.new-passes.ensures) c.in_ok-desks.ensures.whole
@@ -49,28 +49,29 @@ put_back-requires-clause-whole g c κs _ = subst AreWholeIn (sym c.into_vec.ensu
 
 pub put_back-requires-clause-few : goal.put_back-requires-clause-few
 put_back-requires-clause-few g c κs _ =
-    let loading = c.args.opened.now.loading in
-    let few = few_owners loading c.args.opened.now.key c.house-house.ensures.lawful.lawful in
-    let all = many_opened loading c.args.opened.now.key c.house-house.ensures.lawful.lawful c.house-house.result.now c.into_vec.result.items _ c.into_vec.ensures c.house-house.ensures.house c.answer_over-end.ensures.passes in
+    let loading = c.open_desks.new.opened.loading in
+    let few = few_owners loading c.open_desks.new.opened.key c.house-house.ensures.lawful.lawful in
+    let all = many_opened loading c.open_desks.new.opened.key c.house-house.ensures.lawful.lawful c.house-house.result.now c.into_vec.result.items _ c.into_vec.ensures c.house-house.ensures.house c.answer_over-end.ensures.passes in
     omega (arith, few, all)
 
 pub put_back-requires-clause-known : goal.put_back-requires-clause-known
 put_back-requires-clause-known g c κs _ =
-    let loading = c.args.opened.now.loading in
-    let few = few_owners loading c.args.opened.now.key c.house-house.ensures.lawful.lawful in
-    let all = many_opened loading c.args.opened.now.key c.house-house.ensures.lawful.lawful c.house-house.result.now c.into_vec.result.items _ c.into_vec.ensures c.house-house.ensures.house c.answer_over-end.ensures.passes in
+    let loading = c.open_desks.new.opened.loading in
+    let few = few_owners loading c.open_desks.new.opened.key c.house-house.ensures.lawful.lawful in
+    let all = many_opened loading c.open_desks.new.opened.key c.house-house.ensures.lawful.lawful c.house-house.result.now c.into_vec.result.items _ c.into_vec.ensures c.house-house.ensures.house c.answer_over-end.ensures.passes in
     omega (arith, few, all, (c.requires.home 15 (omega arith)).0, c.in_ok-desks.ensures.bay.0)
 
 pub put_back-requires-clause-taken : goal.put_back-requires-clause-taken
 put_back-requires-clause-taken g c κs _ = λ o less.
-    let loading = c.args.opened.now.loading in
-    let all = many_opened loading c.args.opened.now.key c.house-house.ensures.lawful.lawful c.house-house.result.now c.into_vec.result.items _ c.into_vec.ensures c.house-house.ensures.house c.answer_over-end.ensures.passes in
+    let loading = c.open_desks.new.opened.loading in
+    let all = many_opened loading c.open_desks.new.opened.key c.house-house.ensures.lawful.lawful c.house-house.result.now c.into_vec.result.items _ c.into_vec.ensures c.house-house.ensures.house c.answer_over-end.ensures.passes in
     c.in_ok-desks.ensures.passes.taken o (omega (arith, less, all))
 
 pub returns-clause-end : goal.returns-clause-end
 returns-clause-end g c =
-    let loading = c.args.opened.now.loading in
-    let key = c.args.opened.now.key in
+    let found = c.in_ok-desks.ensures.versions in
+    let loading = c.open_desks.new.opened.loading in
+    let key = c.open_desks.new.opened.key in
     let lawful = c.house-house.ensures.lawful.lawful in
     let house = house_of loading.register in
     let workers = c.args.workers in
@@ -86,14 +87,14 @@ returns-clause-end g c =
     (answered_in c.house-house.result.now loading.register c.key.result key workers due.0 _ _ c.answer_over-end.result c.house-house.ensures.house c.key.ensures due.2)) in (
       due.0,
       due.1,
-      run_ends loading key lawful workers _ _ _ passes (bundle_of after).knows c.put_back.ensures.back.0 due.0 c.answer_over-end.result (omega (arith, c.requires.workers.0)) c.in_ok-desks.ensures.passes answered
+      run_over c.args.opened.now.loading c.args.opened.now.key found.0 found.1.0 c.open_desks.new.opened found.1.1 lawful workers _ _ _ passes (bundle_of after).knows c.put_back.ensures.back.0 due.0 c.answer_over-end.result (omega (arith, c.requires.workers.0)) c.in_ok-desks.ensures.passes answered
           (back_counted after _ _ _ _ all c.put_back.ensures.back.1),
     )
 
 pub returns-clause-disk : goal.returns-clause-disk
 returns-clause-disk g c = λ line is.
-    let loading = c.args.opened.now.loading in
-    let key = c.args.opened.now.key in
+    let loading = c.open_desks.new.opened.loading in
+    let key = c.open_desks.new.opened.key in
     let workers = c.args.workers in
     let due = c.answer_over-end.ensures.end in
     answered_no_disk loading key c.house-house.ensures.lawful.lawful (draws_of key) workers _ _ due.0 c.answer_over-end.result line (answered_in c.house-house.result.now loading.register c.key.result key workers due.0 _ _ c.answer_over-end.result c.house-house.ensures.house c.key.ensures due.2) is

@@ -5,7 +5,7 @@ use Rattle.owner_house.specs.House.{Register, house_of}
 use Rattle.session_core.specs.Bundles.{Bundle, bundle_of}
 use Rattle.session_core.specs.Code.{AreFresh, ArePasses}
 use Rattle.service_workers.specs.Services.{door_of}
-use Rattle.catalog_loading.specs.Loaded.{owners_in}
+use Rattle.catalog_loading.specs.Loaded.{IsLoading, KeyedHouse, Loading, in_versions, keyed, owners_in}
 use Rattle.query_server.specs.Outside.{doors_in}
 use Rattle.query_server.specs.Service.{IsServiceEnd}
 use Rattle.query_server.proofs.Bundled.{AreWholeIn, many_known}
@@ -13,23 +13,27 @@ use Rattle.catalog_loading.specs.declared.stops.Stop.TheVariants.{Fault}
 use Rattle.query_server.proofs.Ends.{end_passed}
 use Rattle.query_server.proofs.Passes.{back_counted}
 use Rattle.query_server.proofs.Ran.{few_owners, many_opened, opened_fresh}
-use Rattle.query_server.proofs.Served.{served_in, served_no_disk, served_rose, service_ends, service_on, unopened_ends, unopened_faultless, unopened_on}
+use Rattle.query_server.proofs.Served.{served_in, served_no_disk, served_rose, ends_over, on_over, unopened_ends, unopened_faultless, unopened_on}
 use Rattle.query_server.proofs.Stops.{err_same}
 use Rattle.query_server.proofs.serve.serve_house.Goals as goal
 
+-- the house that was opened, by what it is
+found_lawful : {loading : Loading} {key versions : List ℕ} {opened : KeyedHouse} → opened ≡ keyed (in_versions loading versions) key → IsLoading opened.loading → IsLoading (in_versions loading versions)
+found_lawful is lawful = subst (λ (h : KeyedHouse). IsLoading h.loading) is lawful
+
 pub returns-in_err-desks-clause-end : goal.returns-in_err-desks-clause-end
 returns-in_err-desks-clause-end g c = λ script.
-    unopened_ends c.args.opened.now.loading c.args.opened.now.key c.house-house.ensures.lawful.lawful c.args.post.now.workers c.args.post.now.posting.each _ _ script c.in_err-desks.field-0.0 c.from_residual.result
+    unopened_ends c.args.opened.now.loading c.args.opened.now.key c.args.post.now.workers c.args.post.now.posting.each _ _ script c.in_err-desks.field-0.0 c.from_residual.result
     c.in_err-desks.ensures.stop c.in_err-desks.ensures.left c.from_residual.ensures.1
 
 pub returns-in_err-desks-clause-service : goal.returns-in_err-desks-clause-service
 returns-in_err-desks-clause-service g c =
-    unopened_on c.args.opened.now.loading c.args.opened.now.key c.house-house.ensures.lawful.lawful c.args.post.now.workers c.args.post.now.posting.each _ _
+    unopened_on c.args.opened.now.loading c.args.opened.now.key c.args.post.now.workers c.args.post.now.posting.each _ _
     (doors_in g.O.Doors.coming g.O.Doors.served g.O.Doors.faults c.args.doors.now.items) c.in_err-desks.field-0.0 c.from_residual.result c.in_err-desks.ensures.left c.from_residual.ensures.1
 
 pub returns-in_err-desks-clause-cause : goal.returns-in_err-desks-clause-cause
 returns-in_err-desks-clause-cause g c = λ is.
-    unopened_faultless c.args.opened.now.loading c.args.opened.now.key c.house-house.ensures.lawful.lawful c.args.post.now.workers c.args.post.now.posting.each _ _ c.in_err-desks.field-0.0
+    unopened_faultless c.args.opened.now.loading c.args.opened.now.key c.args.post.now.workers c.args.post.now.posting.each _ _ c.in_err-desks.field-0.0
     c.in_err-desks.ensures.stop (err_same c.in_err-desks.field-0.0 Fault c.from_residual.result (end_passed c.in_err-desks.field-0.0 c.from_residual.result c.from_residual.ensures.1) is)
 
 pub serve_over-end-requires-clause-here : goal.serve_over-end-requires-clause-here
@@ -38,14 +42,14 @@ serve_over-end-requires-clause-here g c κs _ = ap (λ (b : Bundle). b.locks) c.
 pub serve_over-end-requires-clause-passes : goal.serve_over-end-requires-clause-passes
 serve_over-end-requires-clause-passes g c κs _ =
     subst (λ (r : Register). ArePasses (house_of r) c.new-passes.result.knows) (sym c.house-house.ensures.house)
-    (subst (λ (b : Bundle). ArePasses (house_of c.args.opened.now.loading.register) b.knows) (sym c.new-passes.ensures) c.in_ok-desks.ensures.house)
+    (subst (λ (b : Bundle). ArePasses (house_of c.open_desks.new.opened.loading.register) b.knows) (sym c.new-passes.ensures) c.in_ok-desks.ensures.house)
 
 pub serve_over-end-requires-clause-fresh : goal.serve_over-end-requires-clause-fresh
 serve_over-end-requires-clause-fresh g c κs _ =
-    let loading = c.args.opened.now.loading in
+    let loading = c.open_desks.new.opened.loading in
     subst (λ (r : Register). AreFresh (house_of r) c.new-passes.result.knows) (sym c.house-house.ensures.house)
     (subst (λ (b : Bundle). AreFresh (house_of loading.register) b.knows) (sym c.new-passes.ensures)
-    (opened_fresh loading c.args.opened.now.key c.house-house.ensures.lawful.lawful _ _ (bundle_of c.in_ok-desks.field-0.passes.items).knows c.in_ok-desks.ensures.passes))
+    (opened_fresh loading c.open_desks.new.opened.key c.house-house.ensures.lawful.lawful _ _ (bundle_of c.in_ok-desks.field-0.passes.items).knows c.in_ok-desks.ensures.passes))
 
 pub serve_over-end-requires-clause-shares : goal.serve_over-end-requires-clause-shares
 serve_over-end-requires-clause-shares g c κs _ = subst AreWholeIn (sym c.new-passes.ensures) c.in_ok-desks.ensures.whole
@@ -59,28 +63,29 @@ put_back-requires-clause-whole g c κs _ = subst AreWholeIn (sym c.into_vec.ensu
 
 pub put_back-requires-clause-few : goal.put_back-requires-clause-few
 put_back-requires-clause-few g c κs _ =
-    let loading = c.args.opened.now.loading in
-    let few = few_owners loading c.args.opened.now.key c.house-house.ensures.lawful.lawful in
-    let all = many_opened loading c.args.opened.now.key c.house-house.ensures.lawful.lawful c.house-house.result.now c.into_vec.result.items _ c.into_vec.ensures c.house-house.ensures.house c.serve_over-end.ensures.passes in
+    let loading = c.open_desks.new.opened.loading in
+    let few = few_owners loading c.open_desks.new.opened.key c.house-house.ensures.lawful.lawful in
+    let all = many_opened loading c.open_desks.new.opened.key c.house-house.ensures.lawful.lawful c.house-house.result.now c.into_vec.result.items _ c.into_vec.ensures c.house-house.ensures.house c.serve_over-end.ensures.passes in
     omega (arith, few, all)
 
 pub put_back-requires-clause-known : goal.put_back-requires-clause-known
 put_back-requires-clause-known g c κs _ =
-    let loading = c.args.opened.now.loading in
-    let few = few_owners loading c.args.opened.now.key c.house-house.ensures.lawful.lawful in
-    let all = many_opened loading c.args.opened.now.key c.house-house.ensures.lawful.lawful c.house-house.result.now c.into_vec.result.items _ c.into_vec.ensures c.house-house.ensures.house c.serve_over-end.ensures.passes in
+    let loading = c.open_desks.new.opened.loading in
+    let few = few_owners loading c.open_desks.new.opened.key c.house-house.ensures.lawful.lawful in
+    let all = many_opened loading c.open_desks.new.opened.key c.house-house.ensures.lawful.lawful c.house-house.result.now c.into_vec.result.items _ c.into_vec.ensures c.house-house.ensures.house c.serve_over-end.ensures.passes in
     omega (arith, few, all, (c.requires.home 15 (omega arith)).0, c.in_ok-desks.ensures.bay.0)
 
 pub put_back-requires-clause-taken : goal.put_back-requires-clause-taken
 put_back-requires-clause-taken g c κs _ = λ o less.
-    let loading = c.args.opened.now.loading in
-    let all = many_opened loading c.args.opened.now.key c.house-house.ensures.lawful.lawful c.house-house.result.now c.into_vec.result.items _ c.into_vec.ensures c.house-house.ensures.house c.serve_over-end.ensures.passes in
+    let loading = c.open_desks.new.opened.loading in
+    let all = many_opened loading c.open_desks.new.opened.key c.house-house.ensures.lawful.lawful c.house-house.result.now c.into_vec.result.items _ c.into_vec.ensures c.house-house.ensures.house c.serve_over-end.ensures.passes in
     c.in_ok-desks.ensures.passes.taken o (omega (arith, less, all))
 
 pub returns-clause-end : goal.returns-clause-end
 returns-clause-end g c = λ script.
-    let loading = c.args.opened.now.loading in
-    let key = c.args.opened.now.key in
+    let found = c.in_ok-desks.ensures.versions in
+    let loading = c.open_desks.new.opened.loading in
+    let key = c.open_desks.new.opened.key in
     let lawful = c.house-house.ensures.lawful.lawful in
     let house = house_of loading.register in
     let workers = c.args.post.now.workers in
@@ -96,13 +101,14 @@ returns-clause-end g c = λ script.
     let served = subst (λ (b : Bundle). IsServiceEnd house (draws_of key) workers each doors now b.knows (bundle_of after).knows c.serve_over-end.result) c.new-passes.ensures
     (subst (λ (b : Bundle). IsServiceEnd house (draws_of key) workers each doors now c.new-passes.result.knows b.knows c.serve_over-end.result) (sym same)
     (served_in c.house-house.result.now loading.register c.key.result key workers each doors now _ _ c.serve_over-end.result c.house-house.ensures.house c.key.ensures c.serve_over-end.ensures.end)) in
-    service_ends loading key lawful workers each _ _ _ passes (bundle_of after).knows c.put_back.ensures.back.0 doors now script c.serve_over-end.result c.in_ok-desks.ensures.passes served
+    ends_over c.args.opened.now.loading c.args.opened.now.key found.0 found.1.0 (found_lawful found.1.1 lawful) workers each c.open_desks.new.opened found.1.1 _ _ _ passes (bundle_of after).knows c.put_back.ensures.back.0 doors now script c.serve_over-end.result c.in_ok-desks.ensures.passes served
     (back_counted after _ _ _ _ all c.put_back.ensures.back.1)
 
 pub returns-clause-service : goal.returns-clause-service
 returns-clause-service g c =
-    let loading = c.args.opened.now.loading in
-    let key = c.args.opened.now.key in
+    let found = c.in_ok-desks.ensures.versions in
+    let loading = c.open_desks.new.opened.loading in
+    let key = c.open_desks.new.opened.key in
     let lawful = c.house-house.ensures.lawful.lawful in
     let house = house_of loading.register in
     let workers = c.args.post.now.workers in
@@ -118,7 +124,7 @@ returns-clause-service g c =
     let served = subst (λ (b : Bundle). IsServiceEnd house (draws_of key) workers each doors now b.knows (bundle_of after).knows c.serve_over-end.result) c.new-passes.ensures
     (subst (λ (b : Bundle). IsServiceEnd house (draws_of key) workers each doors now c.new-passes.result.knows b.knows c.serve_over-end.result) (sym same)
     (served_in c.house-house.result.now loading.register c.key.result key workers each doors now _ _ c.serve_over-end.result c.house-house.ensures.house c.key.ensures c.serve_over-end.ensures.end)) in
-    service_on loading key lawful workers each _ _ _ passes (bundle_of after).knows c.put_back.ensures.back.0 doors now c.serve_over-end.result c.in_ok-desks.ensures.passes served
+    on_over c.args.opened.now.loading c.args.opened.now.key found.0 found.1.0 (found_lawful found.1.1 lawful) workers each c.open_desks.new.opened found.1.1 _ _ _ passes (bundle_of after).knows c.put_back.ensures.back.0 doors now c.serve_over-end.result c.in_ok-desks.ensures.passes served
     (back_counted after _ _ _ _ all c.put_back.ensures.back.1)
 
 pub returns-clause-bay : goal.returns-clause-bay
