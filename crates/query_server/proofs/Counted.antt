@@ -151,7 +151,7 @@ all_counted loading key shelf n lines all few (told, known, text) = (
     each = λ o within.
         subst (λ (v : ℕ). IsOpened (entry_in loading o v) (header_in loading key o v) (bytes_on shelf o) (found o)) (sym (version o (omega (arith, within, few)))) (known o (omega (arith, within, all)));
   },
-  text ∙ ap (λ (xs : List OwnerEntry). lines_from (entry_in loading) 0 xs told) (take-length n owners (omega (arith, all)))
+  text ∙ ap (λ (k : ℕ). lines_from (entry_in loading) 0 (take k owners) told) all ∙ ap (λ (xs : List OwnerEntry). lines_from (entry_in loading) 0 xs told) (take-length owners)
       ∙ by_version 0 owners (λ p less. version p (omega (arith, less, few))),
 )
   where

@@ -22,7 +22,7 @@ use Rattle.owner_house.specs.Owner.{Owner}
 use Rattle.owner_catalog.specs.Catalog.{Catalog, OwnerEntry}
 use Rattle.owner_catalog.specs.Digest.{digest_of}
 use Rattle.session_core.specs.Transcript.{Journals}
-use Rattle.catalog_loading.specs.Loaded.{Loading, header_of, owner_name_at}
+use Rattle.catalog_loading.specs.Loaded.{Loading, entry_at, header_in, header_of, in_versions, owner_name_at}
 use Rattle.query_server.specs.Shelves.{Shelf, bytes_on, TellBytes, AreAtHome, EachDisk, IsOnlySynced, NoOtherRose}
 use Rattle.query_server.specs.Opened.{AreOpenedBefore, IsUnopened, IsRefusedAt, IsRefusalDue}
 use Rattle.query_server.specs.Init.{AreMadeBefore, IsMade, IsExistingDue, IsMakingNamed, MayBeMadeInPart, MayHaveFailed, made_line}
@@ -70,7 +70,7 @@ abbrev two : Catalog
 two = record { analysts = codes "ann" ∷ codes "bob" ∷ []; owners = owner census 10000000 100 ∷ owner (codes "b") 3 2 ∷ []; text = [] }
 
 abbrev loading : Loading
-loading = record { register = record { catalog = two; holdings = [] }; hashes = (replicate 32 1 ∷ []) ∷ (replicate 32 2 ∷ []) ∷ [] }
+loading = record { register = record { catalog = two; holdings = []; versions = replicate 16 3 }; hashes = (replicate 32 1 ∷ []) ∷ (replicate 32 2 ∷ []) ∷ [] }
 
 line_of_a_made_journal : made_line (owner census 10000000 100) ≡ codes "owner census budget 10000000 capacity 100\n"
 unfolding digits
@@ -83,9 +83,17 @@ made number = Reserve (record { number = number; view = Whole; e = 2; p = 1; q =
 abbrev three : List Record
 three = made 0 ∷ settling 0 (Answered (pos 5)) ∷ made 1 ∷ settling 1 Exhausted ∷ made 2 ∷ []
 
-line_of_three : counted_line (record { budget = 10000000; capacity = 100; analysts = 1; keys = [] }) (owner census 10000000 100) three ≡ codes "census reservations 3 answered 1 exhausted 1 lost 1 spent 6 budget 10000000\n"
+abbrev kept_in : (version : ℕ) → Entry
+kept_in version = record { budget = 10000000; capacity = 100; analysts = 1; keys = []; version = version }
+
+-- in version 2 each counts, and in version 3 the exhausted one's charge has come back
+line_of_three : counted_line (kept_in 2) (owner census 10000000 100) three ≡ codes "census reservations 3 answered 1 exhausted 1 lost 1 spent 6 budget 10000000\n"
 unfolding digits cost_of cost_of_charges partition_cost
 line_of_three = refl
+
+line_of_three_later : counted_line (kept_in 3) (owner census 10000000 100) three ≡ codes "census reservations 3 answered 1 exhausted 1 lost 1 spent 4 budget 10000000\n"
+unfolding digits cost_of cost_of_charges partition_cost
+line_of_three_later = refl
 
 -- each owner's line is of its own records
 abbrev of_the_second : Journals
@@ -99,8 +107,27 @@ lines_of_both = refl
 -- ---- headers
 
 header_of_the_second : header_of loading (codes "key") 1
-    ≡ record { owner = 1; budget = 3; capacity = 2; digest = digest_of two 1 (codes "key") (replicate 32 2 ∷ []) }
+    ≡ record { owner = 1; budget = 3; capacity = 2; digest = digest_of two 1 (codes "key") (replicate 32 2 ∷ []); version = 3 }
 header_of_the_second = refl
+
+-- with a journal of version 2 the owner's header and entry have that version, and the first owner's have their own
+abbrev later_and_older : Loading
+later_and_older = in_versions loading (3 ∷ 2 ∷ replicate 14 3)
+
+older_header : header_of later_and_older (codes "key") 1 ≡ record (header_of loading (codes "key") 1) { version = 2 }
+older_header = refl
+
+older_entry : entry_at later_and_older 1 ≡ record { budget = 3; capacity = 2; analysts = 2; keys = []; version = 2 }
+older_entry = refl
+
+later_entry : entry_at later_and_older 0 ≡ entry_at loading 0
+later_entry = refl
+
+-- each owner's line is by the version of its own journal
+spent_by_version : counted_text later_and_older (λ o. made 0 ∷ settling 0 Exhausted ∷ [])
+    ≡ codes "census reservations 1 answered 0 exhausted 1 lost 0 spent 0 budget 10000000\nb reservations 1 answered 0 exhausted 1 lost 0 spent 2 budget 3\n"
+unfolding digits cost_of cost_of_charges partition_cost
+spent_by_version = refl
 
 -- ---- what the disks show
 
@@ -215,7 +242,7 @@ first_refused = record { known = omega arith; before = λ p lt. absurd (omega (a
 second_refused : IsRefusedAt loading key (shelf_with []) 1 (Damaged 7) → ⊥
 second_refused at =
     let opened = at.before 0 (omega arith) in
-    let long : 128 ≤ 0 = journal-long (header_of loading key 0) opened.0 [] opened.1.stands in
+    let long : 128 ≤ 0 = journal-long (header_in loading key 0 opened.0) opened.1.0 [] opened.1.1.stands in
     omega (arith, long)
 
 third_refused : (refusal : JournalRefusal) → IsRefusedAt loading key (shelf_with []) 2 refusal → ⊥
@@ -307,7 +334,7 @@ second_disk : IsDiskLine (to_count loading key) (counted 0 0 0) (counted 0 1 0) 
 second_disk = (1, omega arith, refl, opened, others)
   where
     opened : AreOpenedBefore loading key (counted 0 0 0) 1
-    opened zero less = ([], record { stands = tt; history = record { follows = λ k next is. absurd (cc is) } })
+    opened zero less = (3, [], record { stands = tt; history = record { follows = λ k next is. absurd (cc is) } })
     opened (suc p) less = absurd (omega (arith, less))
 
     others : NoOtherRose 1 (counted 0 0 0) (counted 0 1 0)
@@ -329,7 +356,7 @@ another_owners_disk (o, lt, is, opened, others) = first_disk o lt is others
 unmade_before : (o : ℕ) → o < 2 → codes "disk b\n" ≡ disk_text (owner_name_at loading o) → AreOpenedBefore loading key (shelf_with []) o → ⊥
 unmade_before zero lt is opened = let wrong : 10 ≡ 101 = ap (λ text. slice_index text 6) is in omega (arith, wrong)
 unmade_before (suc zero) lt is opened = let first = opened 0 (omega arith) in
-    let long : 128 ≤ 0 = journal-long (header_of loading key 0) first.0 [] first.1.stands in omega (arith, long)
+    let long : 128 ≤ 0 = journal-long (header_in loading key 0 first.0) first.1.0 [] first.1.1.stands in omega (arith, long)
 unmade_before (suc (suc o)) lt is opened = omega (arith, lt)
 
 behind_an_unmade_journal : (new : Shelf) → IsDiskLine (to_answer 1 loading key) (shelf_with []) new (codes "disk b\n") → ⊥
@@ -429,8 +456,8 @@ valid_making : IsValidFor (to_make loading key) (λ o. telling [])
 valid_making o lt = refl
 
 no_journals : HoldJournals loading key (λ o. telling []) → ⊥
-no_journals (told, (found, opened)) =
-    let long : 128 ≤ 0 = journal-long (header_of loading key 0) (found 0) [] (opened 0 (omega arith)).stands in omega (arith, long)
+no_journals (told, (versions, found, opened)) =
+    let long : 128 ≤ 0 = journal-long (header_of (in_versions loading versions) key 0) (found 0) [] (opened.each 0 (omega arith)).stands in omega (arith, long)
 
 not_valid_run : IsValidFor (to_answer 1 loading key) (λ o. telling []) → ⊥
 not_valid_run = no_journals
@@ -441,7 +468,7 @@ not_valid_audit = no_journals
 -- journals of no records are valid, and those that aren't told are not
 module _ (bytes : ℕ → List ℕ) (made : (o : ℕ) → Stands (header_of loading key o) [] (bytes o)) where
   valid_run : IsValidFor (to_answer 1 loading key) (λ o. telling (bytes o))
-  valid_run = (λ o lt. refl, (λ o. [], λ o lt. record { stands = made o; history = record { follows = λ k r at. absurd (cc (at)) } }))
+  valid_run = (λ o lt. refl, (replicate 16 3, λ o. [], record { counted = refl; each = λ o lt. record { stands = made o; history = record { follows = λ k r at. absurd (cc (at)) } } }))
 
   not_valid_making : IsValidFor (to_make loading key) (λ o. telling (bytes o)) → ⊥
   not_valid_making is =

@@ -10,6 +10,7 @@ use Rattle.outside_disks.specs.Disks.Step.{Synced}
 use Rattle.outside_disks.proofs.Images.{passes-weaker}
 use Rattle.journal_records.specs.declared.records.Header.{Header}
 use Rattle.journal_records.specs.declared.records.Record.{Record}
+use Rattle.journal_records.specs.Encoding.{newest_version}
 use Rattle.budget_journal.specs.Journals.{Stands}
 use Rattle.budget_journal.proofs.One.{stands-one}
 use Rattle.budget_core.specs.Entries.{Entry}
@@ -144,7 +145,7 @@ its_disk loading key old new found records closed lawful disks o owner before af
     let w = disks.owned o before within was in
     let both : Some w.0 ≡ Some after = sym w.1 ∙ is in
     let same : w.0 ≡ after = cc (both) in
-    subst (λ (e : Entry). WentOn e (header_of loading key o) (found o) (records o) (closed o) before after) (entry_said loading.register o owner at)
+    subst (λ (e : Entry). WentOn e (header_of loading key o) (found o) (records o) (closed o) before after) (entry_said loading.register o owner newest_version at)
     (subst (λ (s : Shown). WentOn (entry_at loading o) (header_of loading key o) (found o) (records o) (closed o) before s) same w.2)
 
 -- ---- an answered script

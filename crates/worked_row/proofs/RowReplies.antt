@@ -44,6 +44,7 @@ use Rattle.session_laws.proofs.Exact.{exact, one_part}
 use Rattle.session_core.specs.Turns.{Turn, turns_of, meant_at}
 use Rattle.session_core.specs.Exchanges.{Exchange, IsPlain, ArePlain, TurnLeads, Lead}
 use Rattle.session_core.specs.Transcript.{Journals, MeetsExactly, LeadExactly, first_new}
+use Rattle.catalog_loading.specs.Loaded.{in_versions}
 use Rattle.query_server.specs.Run.{IsScriptAnswered}
 use Rattle.query_server.specs.Shelves.{Shelf}
 use Rattle.word_streams.specs.Draws.{draws_of}
@@ -234,8 +235,8 @@ text_is replies text row same =
     subst (λ (t : List ℕ). IsRowText t) (sym (same ∙ ap (λ (rs : List Replied). flat_map reply_text rs) row.are)) (text_with row.reply row.said)
 
 -- Every script that is answered over a journal without records gives the row, but for want of memory or a disk at its second line.
-pub answered_is : (old new : Shelf) (found : Journals) (text : List ℕ) → found 0 ≡ [] → IsScriptAnswered loading zeros 1 old new found script text → IsRowText text
-answered_is old new found text none a =
+pub answered_is : (rest : List ℕ) (old new : Shelf) (found : Journals) (text : List ℕ) → found 0 ≡ [] → IsScriptAnswered (in_versions loading (3 ∷ rest)) zeros 1 old new found script text → IsRowText text
+answered_is rest old new found text none a =
     let draws = draws_of zeros in
     let ours = a.gathered.owners 0 owner refl in
     let shut = a.shut 0 owner refl in

@@ -1,17 +1,18 @@
 -- What the status and what is written come to where that script is answered over a journal that was made and has no records.
-use Rattle.std.proofs.Common.{◌≡◌, ℕ, ◌<◌, List, [], ◌++◌, length, Option, Some, refl, ◌∙◌, ap, subst, arith, length-append}
+use Rattle.std.proofs.Common.{◌≡◌, ℕ, ◌<◌, List, [], ◌∷◌, ◌++◌, get_or, length, Option, Some, refl, sym, ◌∙◌, ap, subst, arith, length-append}
 use Rattle.std.specs.Prelude.{IfSome}
 use mathlib.Core.Logic.{◌⊎◌, inl, inr}
 use Rattle.fz_outside.specs.Faults.{HasRisen}
 use Rattle.budget_journal.specs.Journals.{Stands}
+use Rattle.budget_journal.proofs.Gates.{head-version}
 use Rattle.budget_journal.proofs.One.{stands-one}
 use Rattle.budget_core.specs.Entries.{Entry}
 use Rattle.budget_core.specs.Legal.{IsHistory}
 use Rattle.query_server.proofs.Unopened.{not_refused as never_refused}
 use Rattle.session_core.specs.Transcript.{Journals}
 use Rattle.query_server.specs.Work.{Work, to_answer}
-use Rattle.query_server.specs.Run.{IsScriptDue}
-use Rattle.catalog_loading.specs.Loaded.{entry_at, owner_name_at, header_of}
+use Rattle.query_server.specs.Run.{IsScriptAnswered, IsScriptDue}
+use Rattle.catalog_loading.specs.Loaded.{header_in, in_versions, new_entry, new_header, owner_name_at}
 use Rattle.query_server.specs.Opened.{AreOpened, IsRefusalDue, IsUnopened}
 use Rattle.query_server.specs.Shelves.{Shelf, bytes_on}
 use Rattle.query_server.specs.Due.{IsBeginning, IsToWrite, IsStopLine, IsWrittenAt}
@@ -30,16 +31,25 @@ no_records entry = record { follows = λ k next is. absurd (cc is) }
 not_refused : (old new : Shelf) (status : Status) (text : List ℕ) → IsJournalMade old → IsRefusalDue loading zeros old new status text → ⊥
 not_refused old new status text (bytes, told, made) due =
     let first : due.o ≡ 0 = omega (arith, due.at.known) in
-    let refused : IsUnopened (entry_at loading 0) (header_of loading zeros 0) (bytes_on old 0) due.refusal =
-    subst (λ (o : ℕ). IsUnopened (entry_at loading o) (header_of loading zeros o) (bytes_on old o) due.refusal) first due.at.refused in
-    never_refused (entry_at loading 0) (header_of loading zeros 0) [] bytes due.refusal made (no_records (entry_at loading 0)) (subst (λ (b : Option (List ℕ)). IsUnopened (entry_at loading 0) (header_of loading zeros 0) b due.refusal) told refused)
+    let refused : IsUnopened (new_entry loading 0) (new_header loading zeros 0) (bytes_on old 0) due.refusal =
+    subst (λ (o : ℕ). IsUnopened (new_entry loading o) (new_header loading zeros o) (bytes_on old o) due.refusal) first due.at.refused in
+    never_refused (new_entry loading 0) (new_header loading zeros 0) [] bytes due.refusal made (no_records (new_entry loading 0)) (subst (λ (b : Option (List ℕ)). IsUnopened (new_entry loading 0) (new_header loading zeros 0) b due.refusal) told refused)
 
--- it is opened without records
-none_there : (old : Shelf) (found : Journals) → IsJournalMade old → AreOpened loading zeros old found → found 0 ≡ []
-none_there old found (bytes, told, made) opened =
-    let stands : Stands (header_of loading zeros 0) (found 0) bytes =
-    subst (λ (b : Option (List ℕ)). IfSome b (Stands (header_of loading zeros 0) (found 0))) told (opened 0 (omega arith)).stands in
-    stands-one (header_of loading zeros 0) (found 0) [] bytes stands made
+-- the first of these versions is 3
+begins_new : (versions : List ℕ) → length versions ≡ 16 → get_or versions 0 3 ≡ 3 → (rest : List ℕ) × (versions ≡ 3 ∷ rest)
+begins_new [] many is = absurd (omega (arith, many))
+begins_new (version ∷ rest) many is = (rest, ap (λ (v : ℕ). v ∷ rest) is)
+
+-- it is opened in version 3, without records
+none_there : (old : Shelf) (versions : List ℕ) (found : Journals) → IsJournalMade old → AreOpened loading zeros old versions found → ((rest : List ℕ) × (versions ≡ 3 ∷ rest)) × (found 0 ≡ [])
+none_there old versions found (bytes, told, made) opened =
+    let version = get_or versions 0 3 in
+    let stands : Stands (header_in loading zeros 0 version) (found 0) bytes =
+    subst (λ (b : Option (List ℕ)). IfSome b (Stands (header_in loading zeros 0 version) (found 0))) told (opened.each 0 (omega arith)).stands in
+    let new : version ≡ 3 = sym (head-version (header_in loading zeros 0 version) bytes stands.head) ∙ head-version (header_in loading zeros 0 3) bytes made.head in (
+      begins_new versions opened.counted new,
+      stands-one (header_in loading zeros 0 3) (found 0) [] bytes (subst (λ (v : ℕ). Stands (header_in loading zeros 0 v) (found 0) bytes) new stands) made,
+    )
 
 script_length : length script ≡ 39
 script_length = refl
@@ -47,8 +57,10 @@ script_length = refl
 -- so what is due is the row
 due_is : (old new : Shelf) (status : Status) (text : List ℕ) → IsJournalMade old → IsScriptDue loading zeros 1 old new script status text → (status ≡ Done) × IsRowText text
 due_is old new status text made (inl refusal) = absurd (not_refused old new status text made refusal)
-due_is old new status text made (inr (found, opened, inl (done, few, answered))) = (done, answered_is old new found text (none_there old found made opened) answered)
-due_is old new status text made (inr (found, opened, inr (over, many, is, disks))) = absurd (omega (arith, many, script_length))
+due_is old new status text made (inr (versions, found, opened, inl (done, few, answered))) =
+    let there = none_there old versions found made opened in
+    (done, answered_is there.0.0 old new found text there.1 (subst (λ (vs : List ℕ). IsScriptAnswered (in_versions loading vs) zeros 1 old new found script text) there.0.1 answered))
+due_is old new status text made (inr (versions, found, opened, inr (over, many, is, disks))) = absurd (omega (arith, many, script_length))
 
 row_length : length row ≡ 33
 row_length = refl
