@@ -161,7 +161,7 @@ stays_shut : (outcome : Outcome) → StaysShut [] (Some (failure outcome)) (Some
 stays_shut outcome = record { still = λ other is. is; adds_nothing = λ other is. refl }
 
 shut_by : (draws : ℕ → ℕ → ℕ → ℕ) → let outcome : Outcome = outcome_with 3 (noise_at 1000000 (draws 0 0)) in ShutsOn (house_of three_rows) draws 0 unshut closed_lines (shut_own outcome)
-unfolding meant_by request_of signature_in rows_in ShutsBy
+unfolding meant_by request_of signature_in rows_in ShutsBy cost_of cost_of_charges partition_cost
 shut_by draws =
     let outcome : Outcome = outcome_with 3 (noise_at 1000000 (draws 0 0)) in
     let shut : Shut = shut_own outcome in (
