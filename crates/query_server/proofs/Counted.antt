@@ -131,10 +131,12 @@ first_of f zero = []
 first_of f (suc n) = f 0 ∷ first_of (λ k. f (k + 1)) n
 
 first_length : (f : ℕ → ℕ) (n : ℕ) → length (first_of f n) ≡ n
+unfolding first_of
 first_length f zero = refl
 first_length f (suc n) = let rest = first_length (λ k. f (k + 1)) n in omega (arith, rest)
 
 first_at : (f : ℕ → ℕ) (n o d : ℕ) → o < n → get_or (first_of f n) o d ≡ f o
+unfolding first_of
 first_at f zero o d less = absurd (omega (arith, less))
 first_at f (suc n) zero d less = refl
 first_at f (suc n) (suc o) d less = let same : o + 1 ≡ suc o = omega arith in first_at (λ k. f (k + 1)) n o d (omega (arith, less)) ∙ ap f same

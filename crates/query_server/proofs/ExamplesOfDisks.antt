@@ -242,7 +242,7 @@ first_refused = record { known = omega arith; before = λ p lt. absurd (omega (a
 second_refused : IsRefusedAt loading key (shelf_with []) 1 (Damaged 7) → ⊥
 second_refused at =
     let opened = at.before 0 (omega arith) in
-    let long : 128 ≤ 0 = journal-long (header_in loading key 0 opened.0) opened.1.0 [] opened.1.1.stands in
+    let long : 128 ≤ 0 = journal-long (header_in loading key 0 opened.0) opened.1 [] opened.2.stands in
     omega (arith, long)
 
 third_refused : (refusal : JournalRefusal) → IsRefusedAt loading key (shelf_with []) 2 refusal → ⊥
@@ -356,7 +356,7 @@ another_owners_disk (o, lt, is, opened, others) = first_disk o lt is others
 unmade_before : (o : ℕ) → o < 2 → codes "disk b\n" ≡ disk_text (owner_name_at loading o) → AreOpenedBefore loading key (shelf_with []) o → ⊥
 unmade_before zero lt is opened = let wrong : 10 ≡ 101 = ap (λ text. slice_index text 6) is in omega (arith, wrong)
 unmade_before (suc zero) lt is opened = let first = opened 0 (omega arith) in
-    let long : 128 ≤ 0 = journal-long (header_in loading key 0 first.0) first.1.0 [] first.1.1.stands in omega (arith, long)
+    let long : 128 ≤ 0 = journal-long (header_in loading key 0 first.0) first.1 [] first.2.stands in omega (arith, long)
 unmade_before (suc (suc o)) lt is opened = omega (arith, lt)
 
 behind_an_unmade_journal : (new : Shelf) → IsDiskLine (to_answer 1 loading key) (shelf_with []) new (codes "disk b\n") → ⊥

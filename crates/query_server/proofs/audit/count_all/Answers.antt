@@ -62,9 +62,9 @@ loop-owner-preserved g c =
     let key = c.args.opened.now.key in
     record {
       counted = one_counted (entry_in loading) (λ p journal. IsOpened (entry_in loading p journal.0) (header_in loading key p journal.0) (bytes_on (g.B.Bay.shelf c.args.bay.now) p) journal.1)
-          c.args.opened.now.loading.register.catalog.owners o no_owner (found.0, found.1.0) c.loop-owner.lines.items c.count_owner.new.lines.items within c.loop-owner.invariant.counted
-          (opened_as (entry_in loading o found.0) (header_in loading key o found.0) (g.B.Bay.shelf c.loop-owner.bay) (g.B.Bay.shelf c.args.bay.now) o found.1.0
-          (c.loop-owner.invariant.disks.others o (omega arith)) found.1.1.0) found.1.1.1;
+          c.args.opened.now.loading.register.catalog.owners o no_owner (found.0, found.1) c.loop-owner.lines.items c.count_owner.new.lines.items within c.loop-owner.invariant.counted
+          (opened_as (entry_in loading o found.0) (header_in loading key o found.0) (g.B.Bay.shelf c.loop-owner.bay) (g.B.Bay.shelf c.args.bay.now) o found.1
+          (c.loop-owner.invariant.disks.others o (omega arith)) found.2) found.3;
       disks = one_left o (g.B.Bay.shelf c.args.bay.now) (g.B.Bay.shelf c.loop-owner.bay) (g.B.Bay.shelf c.count_owner.new.bay) c.loop-owner.invariant.disks c.in_ok-count_owner.ensures.left;
       still = one_still o (g.B.Bay.shelf c.args.bay.now) (g.B.Bay.shelf c.loop-owner.bay) (g.B.Bay.shelf c.count_owner.new.bay) c.loop-owner.invariant.still
           (c.loop-owner.invariant.disks.others o (omega arith)) c.in_ok-count_owner.ensures.still c.in_ok-count_owner.ensures.left;

@@ -6,7 +6,7 @@ use Rattle.query_server.proofs.audit.list_counted.Goals as goal
 
 pub returns-in-Ok-clause-end : goal.returns-in-Ok-clause-end
 returns-in-Ok-clause-end g c = λ script.
-    let counted = c.in-Ok.ensures.counted in inl (inr (counted.0, counted.1, counted.2.0, refl, counted.2.1, c.in-Ok.ensures.disks))
+    let counted = c.in-Ok.ensures.counted in inl (inr (counted.0, counted.1, counted.2, refl, counted.3, c.in-Ok.ensures.disks))
 
 pub returns-in-Err-clause-end : goal.returns-in-Err-clause-end
 returns-in-Err-clause-end g c = λ script.

@@ -87,7 +87,7 @@ returns-clause-end g c =
     (answered_in c.house-house.result.now loading.register c.key.result key workers due.0 _ _ c.answer_over-end.result c.house-house.ensures.house c.key.ensures due.2)) in (
       due.0,
       due.1,
-      run_over c.args.opened.now.loading c.args.opened.now.key found.0 found.1.0 c.open_desks.new.opened found.1.1 lawful workers _ _ _ passes (bundle_of after).knows c.put_back.ensures.back.0 due.0 c.answer_over-end.result (omega (arith, c.requires.workers.0)) c.in_ok-desks.ensures.passes answered
+      run_over c.args.opened.now.loading c.args.opened.now.key found.0 found.1 c.open_desks.new.opened found.2 lawful workers _ _ _ passes (bundle_of after).knows c.put_back.ensures.back.0 due.0 c.answer_over-end.result (omega (arith, c.requires.workers.0)) c.in_ok-desks.ensures.passes answered
           (back_counted after _ _ _ _ all c.put_back.ensures.back.1),
     )
 

@@ -101,7 +101,7 @@ returns-clause-end g c = λ script.
     let served = subst (λ (b : Bundle). IsServiceEnd house (draws_of key) workers each doors now b.knows (bundle_of after).knows c.serve_over-end.result) c.new-passes.ensures
     (subst (λ (b : Bundle). IsServiceEnd house (draws_of key) workers each doors now c.new-passes.result.knows b.knows c.serve_over-end.result) (sym same)
     (served_in c.house-house.result.now loading.register c.key.result key workers each doors now _ _ c.serve_over-end.result c.house-house.ensures.house c.key.ensures c.serve_over-end.ensures.end)) in
-    ends_over c.args.opened.now.loading c.args.opened.now.key found.0 found.1.0 (found_lawful found.1.1 lawful) workers each c.open_desks.new.opened found.1.1 _ _ _ passes (bundle_of after).knows c.put_back.ensures.back.0 doors now script c.serve_over-end.result c.in_ok-desks.ensures.passes served
+    ends_over c.args.opened.now.loading c.args.opened.now.key found.0 found.1 (found_lawful found.2 lawful) workers each c.open_desks.new.opened found.2 _ _ _ passes (bundle_of after).knows c.put_back.ensures.back.0 doors now script c.serve_over-end.result c.in_ok-desks.ensures.passes served
     (back_counted after _ _ _ _ all c.put_back.ensures.back.1)
 
 pub returns-clause-service : goal.returns-clause-service
@@ -124,7 +124,7 @@ returns-clause-service g c =
     let served = subst (λ (b : Bundle). IsServiceEnd house (draws_of key) workers each doors now b.knows (bundle_of after).knows c.serve_over-end.result) c.new-passes.ensures
     (subst (λ (b : Bundle). IsServiceEnd house (draws_of key) workers each doors now c.new-passes.result.knows b.knows c.serve_over-end.result) (sym same)
     (served_in c.house-house.result.now loading.register c.key.result key workers each doors now _ _ c.serve_over-end.result c.house-house.ensures.house c.key.ensures c.serve_over-end.ensures.end)) in
-    on_over c.args.opened.now.loading c.args.opened.now.key found.0 found.1.0 (found_lawful found.1.1 lawful) workers each c.open_desks.new.opened found.1.1 _ _ _ passes (bundle_of after).knows c.put_back.ensures.back.0 doors now c.serve_over-end.result c.in_ok-desks.ensures.passes served
+    on_over c.args.opened.now.loading c.args.opened.now.key found.0 found.1 (found_lawful found.2 lawful) workers each c.open_desks.new.opened found.2 _ _ _ passes (bundle_of after).knows c.put_back.ensures.back.0 doors now c.serve_over-end.result c.in_ok-desks.ensures.passes served
     (back_counted after _ _ _ _ all c.put_back.ensures.back.1)
 
 pub returns-clause-bay : goal.returns-clause-bay
