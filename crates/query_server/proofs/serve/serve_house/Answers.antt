@@ -1,4 +1,5 @@
 use Rattle.std.proofs.Common.{◌≡◌, ◌∙◌, ◌<◌, ◌≤◌, ℕ, List, length, refl, sym, ap, subst, arith}
+use Rattle.std.specs.Prelude.{Err}
 use Rattle.std.proofs.lemmas.List.{length-map}
 use Rattle.word_streams.specs.Draws.{draws_of}
 use Rattle.owner_house.specs.House.{Register, house_of}
@@ -12,14 +13,14 @@ use Rattle.query_server.proofs.Bundled.{AreWholeIn, many_known}
 use Rattle.catalog_loading.specs.declared.stops.Stop.TheVariants.{Fault}
 use Rattle.query_server.proofs.Ends.{end_passed}
 use Rattle.query_server.proofs.Passes.{back_counted}
-use Rattle.query_server.proofs.Ran.{few_owners, many_opened, opened_fresh}
+use Rattle.query_server.proofs.Ran.{few_owners, many_opened, opened_fresh, passed_disk}
 use Rattle.query_server.proofs.Served.{served_in, served_no_disk, served_rose, ends_over, on_over, unopened_ends, unopened_faultless, unopened_on}
 use Rattle.query_server.proofs.Stops.{err_same}
 use Rattle.query_server.proofs.serve.serve_house.Goals as goal
 
 -- the house that was opened, by what it is
-found_lawful : {loading : Loading} {key versions : List ℕ} {opened : KeyedHouse} → opened ≡ keyed (in_versions loading versions) key → IsLoading opened.loading → IsLoading (in_versions loading versions)
-found_lawful is lawful = subst (λ (h : KeyedHouse). IsLoading h.loading) is lawful
+found_lawful : (loading : Loading) (key versions : List ℕ) (opened : KeyedHouse) → opened ≡ keyed (in_versions loading versions) key → IsLoading opened.loading → IsLoading (in_versions loading versions)
+found_lawful loading key versions opened is lawful = subst (λ (h : KeyedHouse). IsLoading h.loading) is lawful
 
 pub returns-in_err-desks-clause-end : goal.returns-in_err-desks-clause-end
 returns-in_err-desks-clause-end g c = λ script.
@@ -35,6 +36,10 @@ pub returns-in_err-desks-clause-cause : goal.returns-in_err-desks-clause-cause
 returns-in_err-desks-clause-cause g c = λ is.
     unopened_faultless c.args.opened.now.loading c.args.opened.now.key c.args.post.now.workers c.args.post.now.posting.each _ _ c.in_err-desks.field-0.0
     c.in_err-desks.ensures.stop (err_same c.in_err-desks.field-0.0 Fault c.from_residual.result (end_passed c.in_err-desks.field-0.0 c.from_residual.result c.from_residual.ensures.1) is)
+
+pub returns-in_err-desks-clause-disk : goal.returns-in_err-desks-clause-disk
+returns-in_err-desks-clause-disk g c = λ line is.
+    c.in_err-desks.ensures.cause line (ap Err (passed_disk c.in_err-desks.field-0.0 c.from_residual.result line c.from_residual.ensures.1 is))
 
 pub serve_over-end-requires-clause-here : goal.serve_over-end-requires-clause-here
 serve_over-end-requires-clause-here g c κs _ = ap (λ (b : Bundle). b.locks) c.new-passes.ensures ∙ c.in_ok-desks.ensures.here ∙ sym c.deref.ensures.value
@@ -101,7 +106,7 @@ returns-clause-end g c = λ script.
     let served = subst (λ (b : Bundle). IsServiceEnd house (draws_of key) workers each doors now b.knows (bundle_of after).knows c.serve_over-end.result) c.new-passes.ensures
     (subst (λ (b : Bundle). IsServiceEnd house (draws_of key) workers each doors now c.new-passes.result.knows b.knows c.serve_over-end.result) (sym same)
     (served_in c.house-house.result.now loading.register c.key.result key workers each doors now _ _ c.serve_over-end.result c.house-house.ensures.house c.key.ensures c.serve_over-end.ensures.end)) in
-    ends_over c.args.opened.now.loading c.args.opened.now.key found.0 found.1 (found_lawful found.2 lawful) workers each c.open_desks.new.opened found.2 _ _ _ passes (bundle_of after).knows c.put_back.ensures.back.0 doors now script c.serve_over-end.result c.in_ok-desks.ensures.passes served
+    ends_over c.args.opened.now.loading c.args.opened.now.key found.0 found.1 (found_lawful c.args.opened.now.loading c.args.opened.now.key found.0 c.open_desks.new.opened found.2 lawful) workers each c.open_desks.new.opened found.2 _ _ _ passes (bundle_of after).knows c.put_back.ensures.back.0 doors now script c.serve_over-end.result c.in_ok-desks.ensures.passes served
     (back_counted after _ _ _ _ all c.put_back.ensures.back.1)
 
 pub returns-clause-service : goal.returns-clause-service
@@ -124,7 +129,7 @@ returns-clause-service g c =
     let served = subst (λ (b : Bundle). IsServiceEnd house (draws_of key) workers each doors now b.knows (bundle_of after).knows c.serve_over-end.result) c.new-passes.ensures
     (subst (λ (b : Bundle). IsServiceEnd house (draws_of key) workers each doors now c.new-passes.result.knows b.knows c.serve_over-end.result) (sym same)
     (served_in c.house-house.result.now loading.register c.key.result key workers each doors now _ _ c.serve_over-end.result c.house-house.ensures.house c.key.ensures c.serve_over-end.ensures.end)) in
-    on_over c.args.opened.now.loading c.args.opened.now.key found.0 found.1 (found_lawful found.2 lawful) workers each c.open_desks.new.opened found.2 _ _ _ passes (bundle_of after).knows c.put_back.ensures.back.0 doors now c.serve_over-end.result c.in_ok-desks.ensures.passes served
+    on_over c.args.opened.now.loading c.args.opened.now.key found.0 found.1 (found_lawful c.args.opened.now.loading c.args.opened.now.key found.0 c.open_desks.new.opened found.2 lawful) workers each c.open_desks.new.opened found.2 _ _ _ passes (bundle_of after).knows c.put_back.ensures.back.0 doors now c.serve_over-end.result c.in_ok-desks.ensures.passes served
     (back_counted after _ _ _ _ all c.put_back.ensures.back.1)
 
 pub returns-clause-bay : goal.returns-clause-bay
