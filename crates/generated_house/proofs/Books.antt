@@ -15,7 +15,7 @@ use Rattle.generated_house.specs.Sizes.{budget_for, capacity_for, journal_versio
 use Rattle.generated_house.specs.House.{entry_for}
 use Rattle.generated_house.proofs.Houses.{entry_lawful}
 
--- bytes have one header but for what it says beside the version, and under it they stand for no records once
+-- What is found under a header that differs at most in its version is of the version that was made, and has no records.
 module _ (header other : Header) (is : other ≡ record header { version = other.version }) (found : List Record) where
   module _ (t u : Trace) (rest : IsAtRest header [] t) (synced : seen_of u ≡ seen_of t) (stands : Stands other found (seen_of u)) where
     made_version : other.version ≡ header.version
