@@ -59,7 +59,8 @@ REFUSALS = {
     "no 42 N": "the owner's journal is closed for the rest of this run, since its disk failed (fault {0}) at an ask before; nothing is charged, "
         "unless several workers answered the script and another one's record failed behind this ask's reservation (`left` in the next run tells): it may be "
         "asked again then",
-    "no 50 N": "the noise of reservation {0} took over 4096 draws, which hardly ever happens: it is charged, and has no answer for ever",
+    "no 50 N": "the noise of reservation {0} took over 4096 draws, which hardly ever happens: it has no answer for ever, and its charge comes back, or "
+        "stays in a journal of version 1 or 2",
     "no 51 N": "memory ran out while the program of reservation {0} was run: it is charged, and has no answer for ever",
     "no 52": "the disk failed while its record was written: it may be charged, and has no answer; `audit`, and `recall` of its number in the next run, tell "
         "which",
@@ -81,7 +82,7 @@ LINES = {
     "hello W": "{0} speaks from here on",
     "answer N V N": "reservation {0} has the noisy value {1}, and took {2} millionths",
     "recall N answer V N": "reservation {0} was answered with {1}",
-    "recall N exhausted N": "reservation {0} is charged and has no answer, since its noise took over 4096 draws",
+    "recall N exhausted N": "reservation {0} has no answer, since its noise took over 4096 draws; its charge came back, or stays in a journal of version 1 or 2",
     "recall N lost N": "reservation {0} is charged and has no answer: memory ran out, the disk failed, or the program was stopped",
     "recall N open N": "reservation {0} is of this very run and has no answer yet; ask again in the next run",
     "left N N N": "{0} of {1} millionths are spent",

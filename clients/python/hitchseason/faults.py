@@ -2,7 +2,7 @@
 
     Fault                        all of them
     Refused                      nothing is charged; `reply` is the line or nothing, `place` the part of the analyst's program
-    Unanswered                   charged, or perhaps, and no answer comes
+    Unanswered                   no answer comes: exhausted (50), whose charge comes back, or charged (51), or perhaps (52)
     Failed                       the program didn't run, or closed a journal: nothing of what was asked is known to be charged
     Cut                          the run was cut, and what came of it isn't known, or not which answer is whose
 """
