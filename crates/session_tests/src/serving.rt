@@ -9,7 +9,7 @@ ghost use Rattle.session_core.specs.Code.{ArePasses};
 use crate::abreast::{HoldStreams, told_two};
 use answer_path::{Desk, Pass};
 use catalog_loading::{Opened, open_house};
-use fz_outside::files::MemFiles;
+use fz_outside::files::{MemFile, MemFiles};
 use fz_outside::words::Streams;
 use memory_runs::journals::{LARGE, SMALL, empty_journals, journals_on};
 use memory_runs::{KEY, census_files};
@@ -38,19 +38,27 @@ pub struct Serving<'a> {
     ghost whole: { All (λ s. s ≡ whole_share) passes.shares },
 }
 
+/// The bytes of the journal of the first owner in these files, which an `init` has made.
+pub fn made_of<R: Threads + Wait + Sync>(
+    rt: &R,
+    alloc: Global,
+    held: &[MemFile<'_>],
+) -> Result<Vec<u8>, AllocError> {
+    let mut journals = empty_journals(alloc)?;
+    journals.ran(rt, alloc, &["init", "cat.json", "key"], held, b"")?;
+    match journals.into_disks() {
+        Some((disk, _)) => disk.bytes().to_vec(alloc),
+        None => Err(AllocError),
+    }
+}
+
 /// The bytes of the journal of census with this table, which an `init` has made.
 pub fn made<R: Threads + Wait + Sync>(
     rt: &R,
     alloc: Global,
     table: &[u8],
 ) -> Result<Vec<u8>, AllocError> {
-    let held = census_files(table, "key", &KEY);
-    let mut journals = empty_journals(alloc)?;
-    journals.ran(rt, alloc, &["init", "cat.json", "key"], &held, b"")?;
-    match journals.into_disks() {
-        Some((disk, _)) => disk.bytes().to_vec(alloc),
-        None => Err(AllocError),
-    }
+    made_of(rt, alloc, &census_files(table, "key", &KEY))
 }
 
 /// The house of census with this table, over the journal on this disk.
@@ -59,10 +67,18 @@ pub fn served_on<'a>(
     table: &[u8],
     disk: MemDisk<'a>,
 ) -> Result<Serving<'a>, AllocError> {
-    let held = census_files(table, "key", &KEY);
+    served_of(alloc, &census_files(table, "key", &KEY), disk)
+}
+
+/// The house of these files, over the journal on this disk.
+pub fn served_of<'a>(
+    alloc: Global,
+    held: &[MemFile<'_>],
+    disk: MemDisk<'a>,
+) -> Result<Serving<'a>, AllocError> {
     let second = MemDisk::new(alloc, &[], SMALL, &[])?;
     let mut bay = journals_on(alloc, disk, second, &[])?.into_bay();
-    let Ok(opened) = open_house(alloc, &mut MemFiles::new(&held), "cat.json", "key") else {
+    let Ok(opened) = open_house(alloc, &mut MemFiles::new(held), "cat.json", "key") else {
         return Err(AllocError);
     };
     match open_desks(alloc, &mut bay, &opened) {

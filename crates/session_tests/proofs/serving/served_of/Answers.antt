@@ -4,7 +4,7 @@ use Rattle.owner_lock.specs.Known.{whole_share}
 use Rattle.owner_house.specs.House.{house_of}
 use Rattle.session_core.specs.Bundles.{Bundle}
 use Rattle.session_core.specs.Code.{ArePasses}
-use Rattle.session_tests.proofs.serving.served_on.Goals as goal
+use Rattle.session_tests.proofs.serving.served_of.Goals as goal
 
 -- The passes that are opened are those of the house's owners, of its desks, and whole.
 pub invariant_of-result : goal.invariant_of-result
