@@ -98,7 +98,8 @@ fi
 
 if command -v cc >/dev/null; then
     PROGRAM=$program "$top/bench/failing_disk.py" --quick || passed=1
-    PROGRAM=$program "$top/bench/torn_writes.py" || passed=1
+    PROGRAM=$program "$top/bench/failing_workers.py" --quick || passed=1
+    PROGRAM=$program "$top/bench/torn_writes.py" 1 || passed=1
     PROGRAM=$program "$top/bench/refused_memory.sh" >memory.said || passed=1
     grep -c "want of memory" memory.said | sed 's/$/ refused allocations end with 7/'
     grep WRONG memory.said && passed=1

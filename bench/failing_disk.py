@@ -1,10 +1,10 @@
 #!/usr/bin/env python3
 """Each call on a real journal file fails in turn, alone and with all later ones, and each is the one at which the program is killed.
 
-usage: bench/failing_disk.py [--quick]    (PROGRAM=FILE tries another build than tools/build's). Needs cc. --quick tries every fourth call of the last
-two runs.
+usage: bench/failing_disk.py [--quick]    (PROGRAM=FILE tries another build than tools/build's). Needs cc. --quick tries every fourth or twelfth call of
+all runs but the first.
 It counts the calls of `init`, and of a run of three asks that goes on behind one earlier answer, of one that goes on behind 31 and so opens the
-journal's next area, and of one over a journal of version 1; and then runs each again with one call that fails, with all from that one on, and with a
+journal's next area, and of such runs over journals of versions 1 and 2; and then runs each again with one call that fails, with all from that one on, and with a
 kill in the place of the call (a write has then put half of its bytes). Judged by a second reader (tools/journal.py) and the second implementation of
 lines (tools/reference.py):
 
@@ -30,7 +30,7 @@ TOP = os.path.dirname(os.path.dirname(os.path.abspath(__file__)))
 PROGRAM = os.path.abspath(os.environ.get("PROGRAM", f"{TOP}/out/hitchseason"))
 sys.path.insert(0, f"{TOP}/tools")
 from catalog import census, read  # noqa: E402
-from journal import VERSION_AT, Refused, appended, book_of, contents, header, made  # noqa: E402
+from journal import VERSION_AT, VERSIONS, Refused, appended, book_of, contents, header, in_version, made  # noqa: E402
 from reference import ROWS, Server, key_words, with_rows  # noqa: E402
 
 E = 100_000
@@ -38,6 +38,10 @@ ASK = "ask census 0.1 size people"
 # How many earlier answers there are: a few, and so many that the second ask finds the first area full.
 FEW, MANY = 1, 31
 CAPACITY = 100
+NEWEST = VERSIONS[-1]
+# The runs: behind so many answers, over a journal of this version. Those of the last version are over one that an `init` has made.
+RUNS = ((FEW, NEWEST), (MANY, NEWEST), (FEW, 1), (FEW, 2), (MANY, 2))
+QUICK = (1, 4, 4, 12, 12)
 
 
 def asked(first):
@@ -60,7 +64,7 @@ class Room:
             with open(name, "wb") as file:
                 file.write(data)
         subprocess.run(["cc", "-O1", "-shared", "-fPIC", "-o", self.library, f"{TOP}/bench/fail_disk.c", "-ldl"], check=True)
-        self.head, self.entry = header(census(), 0, bytes(32), contents, 2), read(census())["owners"][0]
+        self.head, self.entry = header(census(), 0, bytes(32), contents, NEWEST), read(census())["owners"][0]
 
     def ran(self, command, script="", **faults):
         given = {**os.environ, **faults}
@@ -68,12 +72,12 @@ class Room:
             given["LD_PRELOAD"] = self.library
         return subprocess.run([PROGRAM, command, "cat.json", "key"], input=script, capture_output=True, text=True, env=given)
 
-    def made(self, first, version=2):
+    def made(self, first, version=NEWEST):
         """One journal with so many earlier answers."""
         subprocess.run(["rm", "-rf", "journals"], check=True)
         self.ran("init")
-        if version == 1:
-            self.write(made(self.head[:VERSION_AT] + b"\1" + self.head[VERSION_AT + 1 :], CAPACITY))
+        if version != NEWEST:
+            self.write(made(in_version(self.head, version), CAPACITY))
         self.ran("run", "hello ann\n" + f"{ASK}\n" * first)
         self.first, self.before = first, contents("journals/0.bud")
         if len(self.book().records) != 2 * first or self.before[VERSION_AT] != version:
@@ -173,9 +177,10 @@ def judge_run(room, ran):
 
 def told_of_areas(room, now, book, first):
     """What there is of a next area: it, its gate, and records in it, or a part of it without the gate."""
-    if room.before[VERSION_AT] == 1:
-        room.came["version 1"] += 1
-    elif now[: len(room.before)][97] != room.before[97]:
+    room.came[f"version {now[VERSION_AT]}"] += 1
+    if now[VERSION_AT] == 1:
+        return
+    if now[: len(room.before)][97] != room.before[97]:
         room.came["an area that was opened, with no record more" if len(book.records) == 64 else "an area that was opened, with records"] += 1
     elif len(now) > len(room.before):
         room.came["an area, or a part of one, without its gate"] += 1
@@ -218,7 +223,7 @@ def left_by(room, first, version, **faults):
 
 def short_writes(room):
     """Writes that put half of their bytes, and what is said and left then."""
-    for first, version in ((FEW, 2), (MANY, 2), (FEW, 1)):
+    for first, version in RUNS:
         whole, short = left_by(room, first, version), left_by(room, first, version, SHORT="1")
         if whole != short:
             print(f"short writes: {short[0]}, and without {whole[0]}; the journal is {'the same' if whole[1:] == short[1:] else 'another'}")
@@ -253,11 +258,11 @@ def in_order(log, wanted):
 
 
 ENDS = ["init: no file", "init: a file to be removed", "run: not opened", "run: 52 of a reservation", "run: 52 of a settlement", "killed", "one record more",
-    "version 1", "an area that was opened, with no record more", "an area that was opened, with records", "an area, or a part of one, without its gate"]  # fmt: skip
+    *(f"version {version}" for version in VERSIONS), "an area that was opened, with no record more", "an area that was opened, with records", "an area, or a part of one, without its gate"]  # fmt: skip
 
 
 def main():
-    step = 4 if sys.argv[1:] == ["--quick"] else 1
+    steps = QUICK if sys.argv[1:] == ["--quick"] else (1,) * len(RUNS)
     if "PROGRAM" not in os.environ:
         subprocess.run([f"{TOP}/tools/build"], check=True)
     # In memory, where there is a folder of it: the calls are the same, and a busy disk takes its time for each sync.
@@ -265,14 +270,15 @@ def main():
     with tempfile.TemporaryDirectory(dir="/dev/shm" if os.access("/dev/shm", os.W_OK) else None) as folder, tempfile.TemporaryDirectory() as library:
         room = Room(folder, library)
         calls = [turns(room, "init", "", lambda: subprocess.run(["rm", "-rf", "journals"], check=True), judge_init)]
-        for first, version, every in ((FEW, 2, 1), (MANY, 2, step), (FEW, 1, step)):
+        for (first, version), every in zip(RUNS, steps):
             room.made(first, version)
             calls.append(turns(room, "run", "".join(f"{line}\n" for line in asked(first)), room.anew, judge_run, every))
         short_writes(room)
         order_of_syncs(room)
         os.chdir(TOP)
     print("short writes, and the order of syncs: as wanted")
-    said = f"{calls[0]} calls of init, {calls[1]} of a run, {calls[2]} of one that opens an area, {calls[3]} of one over a journal of version 1"
+    runs = (f"{calls} of a run{' that opens an area' * (first == MANY)}, version {version}" for (first, version), calls in zip(RUNS, calls[1:]))
+    said = f"{calls[0]} calls of init, {', '.join(runs)}"
     print(f"{said}, each failing, failing with all later ones, and killed: as wanted")
     print(", ".join(f"{end} {many}" for end, many in sorted(room.came.items())))
     lacking = [end for end in ENDS if not room.came[end]]

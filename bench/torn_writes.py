@@ -6,7 +6,7 @@ random for each prefix, 4 unless said, beside the four of `MemDisk::after_stop`.
 disk would lose is made here.
 The writes and syncs of the program on its own journal are recorded (bench/fail_disk.c): those of an `init`, and of three runs, one behind
 the other, with asks of the whole and of parts, of several analysts, refused and granted, the last by two workers; of one that opens the journal's next
-area; and of one over a journal of version 1. What was synced stays. Of each later write up to the prefix's end any bytes may be there, and the file
+area, by one worker and by two; and of such runs over journals of versions 1 and 2. What was synced stays. Of each later write up to the prefix's end any bytes may be there, and the file
 may end anywhere between its old end and its new one:
 
 - the old bytes and the old end; the new ones; 0xFF or 0xA5 in each place;
@@ -33,7 +33,7 @@ TOP = os.path.dirname(os.path.dirname(os.path.abspath(__file__)))
 PROGRAM = os.path.abspath(os.environ.get("PROGRAM", f"{TOP}/out/hitchseason"))
 sys.path.insert(0, f"{TOP}/tools")
 from catalog import catalog, owner, read  # noqa: E402
-from journal import FIRST_SLOTS, VERSION_AT, Refused, Reservation, Settlement, appended, book_of, contents, header, made  # noqa: E402
+from journal import FIRST_SLOTS, VERSION_AT, VERSIONS, WHOLE, Book, Refused, Reservation, appended, book_of, contents, header, in_version, made  # noqa: E402
 
 JOURNAL = "journals/0.bud"
 ANALYSTS = ("ann", "bob")
@@ -46,8 +46,11 @@ RUNS = (
     ("2", ["hello ann", ASK, PART.format("A"), "bye", "hello bob", PART.format("B"), ASK, "bye"]),
 )
 CAPACITY = 80
-# So many records stand before a run that opens the next area.
-FULL = FIRST_SLOTS - 2
+# So many records stand before a run that opens the next area, where the version has any.
+FULL, FEW = FIRST_SLOTS - 2, 16
+ONE, TWO = ["hello ann", ASK, ASK], ["hello ann", ASK, "bye", "hello bob", ASK, "bye"]
+# Runs over journals that are laid: the version, how many work, and how many records there are.
+LAID = ((3, 1, FULL), (3, 2, FULL), (2, 1, FULL), (2, 2, FULL), (1, 1, FEW), (1, 2, FULL))
 
 
 class Wrong(Exception):
@@ -149,7 +152,7 @@ class Room:
             with open(name, "wb") as file:
                 file.write(data)
         subprocess.run(["cc", "-O1", "-shared", "-fPIC", "-o", self.library, f"{TOP}/bench/fail_disk.c", "-ldl"], check=True)
-        self.head, self.entry = header(whole, 0, bytes(32), contents, 2), read(whole)["owners"][0]
+        self.head, self.entry = header(whole, 0, bytes(32), contents, VERSIONS[-1]), read(whole)["owners"][0]
 
     def ran(self, command, lines=(), workers=None, **given):
         if given:
@@ -176,9 +179,18 @@ class Room:
 
     def lay(self, records, version):
         """The journal in the program's place is one of this version, with these records."""
-        head = self.head[:VERSION_AT] + bytes([version]) + self.head[VERSION_AT + 1 :]
         with open(JOURNAL, "wb") as file:
-            file.write(appended(made(head, CAPACITY), CAPACITY, records))
+            file.write(appended(made(in_version(self.head, version), CAPACITY), CAPACITY, records))
+
+    def filled(self, records, version, many):
+        """So many records, these first; those behind them are lost and exhausted by turns."""
+        book = Book(self.entry, len(ANALYSTS), version)
+        assert all(book.add(record) for record in records)
+        while len(book.records) < many:
+            number = len(book.reserved)
+            book.keep(Reservation(number, WHOLE, 1, 1, 1, 1, 0, bytes(32)))
+            book.keep(book.settlement(number, 2 + number % 2))
+        return book.records
 
     def book(self, file):
         return book_of(file, self.head, self.entry, len(ANALYSTS))
@@ -226,13 +238,13 @@ def goes_on(room, book):
 
 def synced_records(pairs, known, records, version):
     """How many records stand behind so many pairs of syncs. A record is its body and its gate, each of them synced, and so is an area."""
-    opens = version == 2 and known <= FIRST_SLOTS < len(records) and known + pairs > FIRST_SLOTS
+    opens = version > 1 and known <= FIRST_SLOTS < len(records) and known + pairs > FIRST_SLOTS
     return known + pairs - opens
 
 
 def tried(room, name, before, calls, records, known, more, rng):
     """Each prefix of the calls of a command, torn; `known` records were there before it. How many files there were."""
-    there, count, version = name != "init", 0, before[VERSION_AT] if before else 2
+    there, count, version = name != "init", 0, before[VERSION_AT] if before else VERSIONS[-1]
     for end in range(len(calls) + 1):
         synced = synced_records(calls[:end].count(None) // 2, known, records, version) if there else 0
         for kind, file in files_after(before, calls[:end], more, rng):
@@ -246,8 +258,9 @@ def tried(room, name, before, calls, records, known, more, rng):
                 judge(room, file, synced, records, there or end == len(calls))
             except Wrong as fault:
                 raise Wrong(f"{name}, {end} of {len(calls)} calls, {kind}: {fault}") from None
-            room.came["an area without its gate"] += there and version == 2 and len(file) > len(before) and file[97] == 0
-            room.came["an area that was opened"] += there and version == 2 and file[97] != before[97]
+            room.came[f"version {version}"] += 1
+            room.came["an area without its gate"] += there and version > 1 and len(file) > len(before) and file[97] == 0
+            room.came["an area that was opened"] += there and version > 1 and file[97] != before[97]
     return count
 
 
@@ -256,14 +269,14 @@ def steps(room):
     found = [("init", *room.recorded("init"))] + [(f"run {k}", *room.recorded("run", lines, workers)) for k, (workers, lines) in enumerate(RUNS, 1)]
     whole = room.book(contents(JOURNAL)).records
     yield from ((*step, whole) for step in found)
-    many = whole + [one for number in range(len(whole) // 2, FULL // 2) for one in (Reservation(number, (255, 0), 1, 1, 1, 1, 0, bytes(32)), Settlement(number, 3))]
-    for name, laid, version in (("a run that opens an area", many[:FULL], 2), ("a run over version 1", whole, 1)):
-        room.lay(laid, version)
-        step = room.recorded("run", ["hello ann", ASK, ASK])
+    for version, workers, many in LAID:
+        room.lay(room.filled(whole, version, many), version)
+        step = room.recorded("run", *((TWO, "2") if workers == 2 else (ONE, None)))
+        name = f"a run{' that opens an area' * (many == FULL and version > 1)} over version {version}, {workers} at work"
         yield name, *step, room.book(contents(JOURNAL)).records
 
 
-MET = [*STOPS, "at random", "no journal yet", "the synced records", "one record more", "an area without its gate", "an area that was opened"]
+MET = [*STOPS, *(f"version {version}" for version in VERSIONS), "at random", "no journal yet", "the synced records", "one record more", "an area without its gate", "an area that was opened"]
 
 
 def main():
@@ -284,7 +297,7 @@ def main():
             sys.exit(f"WRONG: {fault}")
         os.chdir(TOP)
     print(", ".join(f"{kind} {many}" for kind, many in sorted(room.came.items())))
-    lacking = [kind for kind in MET if not room.came[kind]]
+    lacking = [kind for kind in MET if not room.came[kind] and (more or kind != "at random")]
     if lacking:
         sys.exit("never met: " + ", ".join(lacking))
 

@@ -146,6 +146,11 @@ def header(data, order, key, file, version=1):
     return head
 
 
+def in_version(head, version):
+    """A header as it is in a journal of this version, with no area opened."""
+    return head[:VERSION_AT] + bytes([version]) + head[VERSION_AT + 1 : GATES_AT] + bytes(HEAD - GATES_AT)
+
+
 class Area:
     """The slots of one area: its number, where it begins, and how many slots it has."""
 
@@ -273,7 +278,7 @@ def behind_closed(slot, closed):
 
 
 def made(head, capacity):
-    """A journal with this header and no records: in version 2, as an `init` leaves it, its first area alone."""
+    """A journal with this header and no records: from version 2 on its first area alone, as an `init` leaves it."""
     return head + bytes(SLOT * area_slots(version_of(head), capacity, 0))
 
 
@@ -284,7 +289,8 @@ def put(data, place, more):
 
 
 def appended(data, capacity, records):
-    """A journal's bytes with these records behind its own. Where all slots of the live area are taken in version 2, the next one is written first."""
+    """A journal's bytes with these records behind its own. Where all slots of the live area are taken, from version 2 on, the next one is written
+    first."""
     data, area = bytearray(data), live_area(data, capacity)
     gates = area.gates(data)
     slot = len(gates) - len(gates.lstrip(bytes([GATE])))
@@ -295,6 +301,12 @@ def appended(data, capacity, records):
             data[GATES_AT + area.number] = GATE
         put(data, area.place(slot), record.encoded())
     return bytes(data)
+
+
+def remade(data, version):
+    """A journal's records, none of which gives anything back, in one of another version."""
+    capacity = capacity_in(data)
+    return appended(made(in_version(data, version), capacity), capacity, slots(data, capacity))
 
 
 def dearest(sums):
