@@ -36,11 +36,10 @@ older() {
     python3 - "$top/tools" <<'END'
 import sys
 sys.path.insert(0, sys.argv[1])
-from journal import HEAD, VERSION_AT, appended, capacity_in, contents, made, slots
+from journal import contents, remade
 data = contents("journals/0.bud")
-head, capacity = data[:VERSION_AT] + b"\1" + data[VERSION_AT + 1 : HEAD], capacity_in(data)
 with open("journals/0.bud", "wb") as file:
-    file.write(appended(made(head, capacity), capacity, slots(data, capacity)))
+    file.write(remade(data, 1))
 END
 }
 # sums: what stands in journals.
@@ -86,9 +85,11 @@ anew && tr '\0' '\377' </dev/zero | head -c 6528 >journals/0.bud && refused "byt
 anew && head -c 6528 /dev/urandom >journals/0.bud && put 0 '\245' && refused "random bytes behind a gate" 4 'journal census changed/'
 anew && put 0 '\045' && refused "the header's gate torn" 4 'journal census uninitialised 4224/'
 older && put 0 '\045' && refused "version 1: the header's gate torn" 4 'journal census uninitialised 6528/'
-anew && put 9 '\003' && refused "another version" 4 'journal census changed/'
-anew && put 9 '\001' && refused "version 2 called version 1" 4 'journal census damaged 64/'
+anew && put 9 '\004' && refused "another version" 4 'journal census changed/'
+anew && put 9 '\001' && refused "version 3 called version 1" 4 'journal census damaged 64/'
+anew && put 9 '\002' && over_journals "version 3 called version 2" 0 "$again" run cat.json key
 older && put 9 '\002' && over_journals "version 1 called version 2" 0 "$again" run cat.json key
+older && put 9 '\003' && over_journals "version 1 called version 3" 0 "$again" run cat.json key
 anew && put 96 '\001' && refused "a byte of the header's end" 4 'journal census changed/'
 anew && put 127 '\001' && over_journals "a gate of an area that isn't open" 0 "$again" run cat.json key
 anew && put 97 '\245' && refused "an area opened that isn't there" 4 'journal census damaged 0/'

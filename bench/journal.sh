@@ -1,5 +1,5 @@
 #!/usr/bin/env bash
-# What the journal costs: asks of `size people` beside a plain C loop with the same writes and syncs, in turn; `audit` of a full journal, of both
+# What the journal costs: asks of `size people` beside a plain C loop with the same writes and syncs, in turn; `audit` of a full journal, of all
 # versions; asks behind many records and behind few; an ask that opens the last area.
 # usage: bench/journal.sh [ROUNDS [FOLDER]]    (PROGRAM=FILE measures another build). FOLDER lies on a real disk: out/ here, unless said
 # Bars: a run of 2,000 asks takes at most 1.25 times the loop's wall time on the disk, and on tmpfs, less the run of no ask, at most 10
@@ -30,9 +30,9 @@ asks() { echo "hello ann" && yes "ask census 1 size people" | head -n "$1"; }
 asks "$answers" >many
 asks "$behind" >some
 asks 0 >none
-# filled RECORDS FILE [VERSION]: a journal of full.json with so many records, each reservation with its settlement; of version 2, unless said.
+# filled RECORDS FILE [VERSION]: a journal of full.json with so many records, each reservation with its settlement; of version 3, unless said.
 filled() {
-    python3 - "$top/tools" "$1" "$2" "${3:-2}" <<'END'
+    python3 - "$top/tools" "$1" "$2" "${3:-3}" <<'END'
 import sys
 sys.path.insert(0, sys.argv[1])
 from journal import ONE, WHOLE, Reservation, Settlement, appended, contents, header, made
@@ -126,7 +126,7 @@ for ((round = 0; round < rounds; round++)); do
     seconds ours.times run full.json one
 done
 echo "    one that opens the area of 262,144 slots: $(awk -v ours="$(least ours.times)" -v empty="$(least empty.times)" 'BEGIN { printf "%.1f", (ours - empty) * 1000 }') ms"
-for version in 1 2; do
+for version in 1 2 3; do
     filled 262144 journals/0.bud "$version"
     rm -f ./*.times
     for ((round = 0; round < rounds; round++)); do seconds audit.times "$program" audit full.json key; done

@@ -1,5 +1,5 @@
 // The writes and syncs of so many answers in a journal, and nothing else: what any program takes that keeps its promises.
-// usage: journal_loop FILE ANSWERS    prints the seconds of wall that they took, on a journal of version 2 with room for just these
+// usage: journal_loop FILE ANSWERS    prints the seconds of wall that they took, on a journal in the layout of versions 2 and 3 with room for just these
 #define _GNU_SOURCE
 #include <fcntl.h>
 #include <stdio.h>

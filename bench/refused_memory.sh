@@ -36,11 +36,11 @@ by_try() {
     local first=$1 last=$2 in_a_row=0 output number status
     take_quick_program
     make_room
-    cp "$top"/crates/hitchseason/data/{cat.json,people.csv} "$example/key" .
+    cp "$example"/{people.csv,key} .
     renew cat.json key
     cd "$top/crates/hitchseason" || exit 2
     for ((number = first; number <= last && in_a_row < 5; number++)); do
-        output=$(rt try --fail-alloc "$number" --data cat.json=data/cat.json --data people.csv=data/people.csv --data key="$example/key" \
+        output=$(rt try --fail-alloc "$number" --data cat.json="$room/cat.json" --data people.csv="$room/people.csv" --data key="$room/key" \
             --data journals/0.bud="$room/journals/0.bud" -- run cat.json key <"$example/script" 2>/dev/null)
         status=$?
         judge "$number" "$status" "$output"

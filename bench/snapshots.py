@@ -24,7 +24,7 @@ import threading
 import time
 
 from served import TOP, Caller, Room, Service, Wrong, contents, need_program, place
-from journal import HEAD, SLOT, VERSION_AT, Book, Refused, book_of, check_header, live_area, made, slots
+from journal import HEAD, SLOT, Book, Refused, book_of, check_header, live_area, remade, slots
 
 ANALYST = "ann"
 SNAPSHOT, WATCH = f"{TOP}/tools/snapshot", f"{TOP}/tools/watch"
@@ -182,9 +182,9 @@ def other_files():
         whole = contents(journal)
         damaged = bytearray(whole)
         damaged[-SLOT] = 0xA5
-        older = made(whole[:VERSION_AT] + b"\1" + whole[VERSION_AT + 1 : HEAD], 3000)
+        older = remade(whole, 1)
         cases = [b"", bytes(500), b"\0" + whole[1:], bytes(damaged), whole[:-1], whole + b"\xa5", whole[: HEAD - 28], whole[:HEAD], older, older[:-1],
-            older + b"\xa5", older[:-SLOT] + b"\xa5" + bytes(SLOT - 1), whole]  # fmt: skip
+            older + b"\xa5", older[:-SLOT] + b"\xa5" + bytes(SLOT - 1), remade(whole, 2), whole]  # fmt: skip
         for number, data in enumerate(cases):
             with open(journal, "wb") as file:
                 file.write(data)

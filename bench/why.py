@@ -21,7 +21,7 @@ PROGRAM = os.path.abspath(os.environ.get("PROGRAM", f"{TOP}/out/hitchseason"))
 sys.path.insert(0, f"{TOP}/tools")
 from catalog import catalog, owner  # noqa: E402
 from causes import Command, Journals  # noqa: E402
-from journal import GATE, HEAD, SLOT, VERSION_AT, Refused, appended, capacity_in, contents, made, slots  # noqa: E402
+from journal import GATE, HEAD, SLOT, VERSIONS, Refused, contents, remade  # noqa: E402
 
 TABLES = (("people", "people.csv", (("town", "text"), ("age", "num"))),)
 SECOND = (("stays", "stays.csv", (("ward", "text"), ("nights", "num"))),)
@@ -65,9 +65,7 @@ def copy_slot(source, target):
 def older(number=0):
     """Makes a journal one of version 1, with the same records."""
     name = f"journals/{number}.bud"
-    data = contents(name)
-    head, capacity = data[:VERSION_AT] + b"\1" + data[VERSION_AT + 1 : HEAD], capacity_in(data)
-    write(name, appended(made(head, capacity), capacity, slots(data, capacity)))
+    write(name, remade(contents(name), 1))
 
 
 def with_catalog(change):
@@ -205,7 +203,7 @@ MADE = [
     (swap_journals, AUDIT, "", 4, ["It is the journal of the owner health, made with the key, analysts and tables of now"]),
     (lambda: with_catalog(swap_owners), AUDIT, "", 4, ["It is the journal of the owner census"]),
     (lambda: put(0, 1, b"x"), AUDIT, "", 4, ["It is no journal: behind its first byte `FUZZBUDG` doesn't stand"]),
-    (lambda: put(0, 9, b"\3"), AUDIT, "", 4, ["It is a journal of version 3, and this program reads versions 1 and 2"]),
+    (lambda: put(0, 9, b"\4"), AUDIT, "", 4, ["It is a journal of version 4, and this program reads versions 1 to 3"]),
     (lambda: put(0, 96, b"\1"), AUDIT, "", 4, ["that are always zeros (26 to 63, and 96) aren't"]),
     (lambda: put(0, 98, bytes([GATE])), AUDIT, "", 4, ["A gate of its areas is out of order: byte 98 opens area 2, and area 1 before it isn't open"]),
     (lambda: put(0, 97, bytes([GATE] * 2)), AUDIT, "", 4, ["byte 98 opens area 2, and with capacity 100 the last one is area 1"]),
@@ -226,7 +224,7 @@ MADE = [
     (lambda: copy_slot(1, 9), AUDIT, "", 4, ["slot 9 (from 0): it is open behind slot 4, which is closed", "all of it is zeros"]),
     (lambda: put_in_slot(1, 1, b"\3"), AUDIT, "", 4, ["slot 1 (from 0): it is open, and holds no record: its kind (byte 1) is 3"]),
     (lambda: put_in_slot(1, 2, b"\4"), AUDIT, "", 4, ["the outcome of a settlement (byte 2) is 4"]),
-    (lambda: put_in_slot(1, 63, b"\4"), AUDIT, "", 4, ["a settlement has bytes behind its end"]),
+    (lambda: put_in_slot(1, 63, b"\4"), AUDIT, "", 4, ["a settlement has other bytes than its own, where zeros belong"]),
     (lambda: put_in_slot(0, 2, b"\x09"), AUDIT, "", 4, ["a reservation's partition and part (bytes 2 and 3) are 9 and 0"]),
     (lambda: put_in_slot(0, 8, b"\xff"), AUDIT, "", 4, ["a reservation's epsilon is 42"]),
     (lambda: put_in_slot(0, 19, b"\0"), AUDIT, "", 4, ["a reservation's sensitivity is 1/0"]),
@@ -364,12 +362,10 @@ class Trial:
         asks = "".join(f"ask{part} 0.1 {program}\n" for program in ("size people", "2 * size people") for part in (" census", "part census areas A", "part "
             "census areas B"))
         subprocess.run([PROGRAM, *RUN.split()], input=f"hello ann\n{asks}hello bob\n{asks}".encode(), cwd=folder, capture_output=True, check=True)
-        whole = [contents("journals/0.bud")]
-        older()
-        whole.append(contents("journals/0.bud"))
+        whole = [remade(contents("journals/0.bud"), version) for version in VERSIONS]
         kinds = Counter()
         for number in range(count):
-            write("journals/0.bud", damaged(chance, whole[number % 2]))
+            write("journals/0.bud", damaged(chance, whole[number % len(whole)]))
             ran = subprocess.run([PROGRAM, *AUDIT.split()], cwd=folder, capture_output=True, text=True)
             found = Journals(Command(AUDIT.split()))
             refused = [(number, book) for number, book in enumerate(found.books) if isinstance(book, Refused)]
