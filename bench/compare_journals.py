@@ -1,13 +1,14 @@
 #!/usr/bin/env python3
-"""Random files in the place of journals, of both versions, read by the program and by the second reader (tools/journal.py): the same counts, or the
+"""Random files in the place of journals, of all versions, read by the program and by the second reader (tools/journal.py): the same counts, or the
 same refusal with its place.
 
 usage: bench/compare_journals.py [COUNT [SEED [FIRST]]]     5,000 files, unless said, from case FIRST (0) of SEED (1) on (PROGRAM=FILE compares another
 build than tools/build's)
-Each case is a catalog of one or two owners with journals of version 1 or 2, of 0 records up to all that have room, of one area up to five. Earlier areas,
+Each case is a catalog of one or two owners with journals of version 1, 2 or 3, of 0 records up to all that have room, of one area up to five. Earlier areas,
 and what stands behind the live one, mostly hold what runs leave there, and now and then any bytes. Most journals are spoilt then: bytes changed, in the
 header, at gates, in records; cut off or made longer; pieces repeated, put in or taken out; slots exchanged; areas exchanged, opened and closed; the
-version changed; records that may not follow those before them; another owner's journal, or that of another key.
+version changed; records that may not follow those before them, such as a settlement that gives back too much, too little, or in an older version;
+another owner's journal, or that of another key.
 
 - `audit` writes the counts of each, with status 0, or with 4 the first refusal, and leaves the files as they are.
 - Where all open, the program goes on with a few asks, recalls and balances, and is told what the second server (tools/reference.py) says; what it
@@ -29,7 +30,7 @@ PROGRAM = os.path.abspath(os.environ.get("PROGRAM", f"{TOP}/out/hitchseason"))
 KEPT = f"{TOP}/out/compare_journals"
 sys.path.insert(0, f"{TOP}/tools")
 from catalog import catalog, owner  # noqa: E402
-from journal import GATE, GATES_AT, HEAD, MOST_AREAS, SLOT, VERSION_AT, Book, Refused, Reservation, Settlement  # noqa: E402
+from journal import GATE, GATES_AT, HEAD, MOST_AREAS, SLOT, VERSION_AT, VERSIONS, Book, Refused, Reservation, Settlement  # noqa: E402
 from journal import appended, areas, book_of, contents, header, live_area, live_number, made, put, version_of  # noqa: E402
 from random_scripts import reservation_at_random  # noqa: E402
 from reference import Server, house_of, key_words  # noqa: E402
@@ -61,7 +62,7 @@ def fill(rng, book, many):
         if unsettled and rng.random() < 0.48:
             outcome = rng.choice([1, 1, 1, 2, 3])
             answer = rng.choice([0, -1, 2**63 - 1, -(2**63), rng.randint(-(2**50), 2**50)])
-            book.keep(Settlement(rng.choice(unsettled), outcome, answer if outcome == 1 else 0))
+            book.keep(book.settlement(rng.choice(unsettled), outcome, answer if outcome == 1 else 0))
         else:
             book.add(reservation_at_random(rng, book, parts))
 
@@ -80,7 +81,18 @@ def wrong_record(rng, book):
         one.e, one.p, one.q = 10**9, 2**32 - 1, 1
         one.taken = one.charge()
         return one
+    unsettled = [one.number for one in book.reserved if one.number not in book.settled]
+    if kind < 6 and unsettled:
+        return gives_back_wrongly(rng, book, rng.choice(unsettled))
     return Settlement(rng.choice([number, number + 1, 2**32 - 1, *book.settled]), rng.choice([1, 2, 3]))
+
+
+def gives_back_wrongly(rng, book, number):
+    """A settlement of an open number that gives back another amount than the cost falls by, mostly one that some other rule would give."""
+    one = book.reserved[number]
+    due = book.settlement(number, 2).returned
+    amounts = {0, one.taken, one.charge(), book.spent, due + 1, due - 1, 1, 2**64 - 1} - {due, -1}
+    return Settlement(number, rng.choice([2, 2, 2, 2, 1, 3]), 0, rng.choice(sorted(amounts)))
 
 
 # Spoiling.
@@ -163,7 +175,7 @@ def areas_opened(rng, data, area):
 
 def version_changed(rng, data, area):
     if len(data) > VERSION_AT:
-        data[VERSION_AT] = rng.choice([1, 2, 1, 2, 0, 3, GATE])
+        data[VERSION_AT] = rng.choice([1, 2, 3, 1, 2, 3, 0, 4, GATE])
 
 
 def all_else(rng, data, area):
@@ -199,21 +211,24 @@ class Case:
         with open(name, "wb") as file:
             file.write(data)
 
-    def head(self, order, version=2, key=None):
+    def head(self, order, version=VERSIONS[-1], key=None):
         return header(self.data, order, key or self.key, {"people.csv": PEOPLE}.__getitem__, version)
 
     def journal(self, order):
         """A journal of this owner, with records, and perhaps spoilt."""
         rng, entry = self.rng, self.entries[order]
-        capacity, version, book = entry["capacity"], rng.choice([1, 2, 2, 2]), Book(entry, len(self.analysts))
+        capacity, version = entry["capacity"], rng.choice([1, 2, 3, 3, 3])
+        book = Book(entry, len(self.analysts), version)
         fill(rng, book, min(capacity, rng.choice([0, 2, 20, 64, 65, 128, 129, capacity, rng.randint(0, capacity)])))
         records = list(book.records)
         if rng.random() < 0.1 and len(records) < capacity:
             records.append(wrong_record(rng, book))
             self.came["a last record that may not follow, perhaps"] += 1
+        self.came["settlements that give back"] += sum(isinstance(one, Settlement) and one.returned > 0 for one in book.records)
+        self.came["exhausted in an older version"] += version < 3 and any(one.outcome == 2 for one in book.settled.values())
         key = bytes(32) if rng.random() < 0.02 else None
         data = bytearray(appended(made(self.head(order if rng.random() < 0.98 else 0, version, key), capacity), capacity, records))
-        if version == 2 and rng.random() < 0.4:
+        if version > 1 and rng.random() < 0.4:
             self.around(data, capacity)
         for _ in range(rng.choice([0, 1, 1, 1, 2])):
             spoil = rng.choice(SPOILS)
@@ -269,12 +284,14 @@ class Case:
 
     def counted(self, books):
         for data, book in zip(self.journals, books):
-            version = data[VERSION_AT] if len(data) > VERSION_AT and data[VERSION_AT] in (1, 2) else "none"
+            version = data[VERSION_AT] if len(data) > VERSION_AT and data[VERSION_AT] in VERSIONS else "none"
             if isinstance(book, Refused):
                 self.came[f"version {version} {str(book).split()[0]}"] += 1
                 self.came["a record that may not stand there"] += "may not stand there" in book.how
+                if "gives back" in book.how:
+                    self.came[f"version {version} gives back wrongly"] += 1
             else:
-                area = live_number(data) if version == 2 else 0
+                area = live_number(data) if version != 1 else 0
                 self.came[f"version {version} open, area {area}"] += 1
 
     def by_words(self, due, refused):
@@ -325,9 +342,9 @@ def compare(seed, number, came):
             os.chdir(TOP)
 
 
-WANTED = [f"version {version} {what}" for version in (1, 2) for what in ("open, area 0", "changed", "damaged", "uninitialised")] + [
-    "version none changed", "version none uninitialised", *(f"version 2 open, area {area}" for area in range(1, 4)), "other bytes around the live area",
-    "a record that may not stand there", "tools/journal.py by its words", "an area that a run opened", "runs that go on",
+WANTED = [f"version {version} {what}" for version in VERSIONS for what in ("open, area 0", "changed", "damaged", "uninitialised", "gives back wrongly")] + [
+    "version none changed", "version none uninitialised", *(f"version {version} open, area {area}" for version in VERSIONS[1:] for area in range(1, 4)),
+    "other bytes around the live area", "settlements that give back", "exhausted in an older version", "a record that may not stand there", "tools/journal.py by its words", "an area that a run opened", "runs that go on",
     *{spoil.__name__.replace("_", " ") for spoil in SPOILS}]  # fmt: skip
 
 
