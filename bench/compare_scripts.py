@@ -4,7 +4,7 @@
 usage: bench/compare_scripts.py [COUNT [SEED [FIRST]]]     (PROGRAM=FILE compares another build than tools/build's)
 COUNT random houses (1,000 where none is said), from case FIRST (0) of SEED (1) on. Each is a catalog of 1 to 4 owners with their tables, a
 key, and 1 to 3 scripts by good and hostile analysts (random_scripts.py): `init`, then a run a script over the same journals, and `audit`.
-Before the first run a journal may be made an older one, of version 1, and be given records that runs could have left. Between runs one may be left
+Before the first run a journal may be made an older one, of version 1 or 2, and be given records that runs could have left. Between runs one may be left
 as a stop leaves it, with its last record, or its next area, behind no gate, or a settlement be made an exhausted or a lost one. The next run finds
 them. Compared are, byte by byte:
 
@@ -28,7 +28,7 @@ TOP = os.path.dirname(os.path.dirname(os.path.abspath(__file__)))
 PROGRAM = os.path.abspath(os.environ.get("PROGRAM", f"{TOP}/out/hitchseason"))
 KEPT = f"{TOP}/out/compare_scripts"
 sys.path.insert(0, f"{TOP}/tools")
-from journal import GATE, SLOT, VERSION_AT, Area, Settlement, appended, area_slots, book_of, contents, header, live_area, made  # noqa: E402
+from journal import GATE, SLOT, VERSIONS, Area, Book, Settlement, appended, area_slots, book_of, contents, header, in_version, live_area, made  # noqa: E402
 from random_scripts import house_at_random, lay_records, script_of  # noqa: E402
 from programs import deep  # noqa: E402
 from reference import Server, house_of, key_words, lines_of  # noqa: E402
@@ -43,7 +43,8 @@ WANTED = (
     + [f"no 10 {word}" for word in range(6)] + ["no 12 1", "no 12 2", "no 12 3"]
     + [f"no 30 {kind}" for kind in ("unbound", "mismatch", "notground", "notflat")]
     + [f"no {code}" for code in (11, 13, 14, 20, 21, 22, 31, 32, 33, 34, 35, 36, 37, 40, 41, 60, 61)]
-    + ["a run that goes on", "a record without its gate", "recall of an earlier run's", "journals of version 1", "an area that was opened"]
+    + ["a run that goes on", "a record without its gate", "recall of an earlier run's", "journals of version 1", "journals of version 2", "journals with records that gave back",
+        "an area that was opened"]
 )  # fmt: skip
 
 
@@ -81,7 +82,7 @@ class Case:
             self.file(name, data)
         self.house = house_of(catalog, files.__getitem__)
         self.entries = self.house.catalog["owners"]
-        self.heads = [header(catalog, order, self.key, files.__getitem__, 2) for order in range(len(self.entries))]
+        self.heads = [header(catalog, order, self.key, files.__getitem__, VERSIONS[-1]) for order in range(len(self.entries))]
         said = "".join(f"owner {entry['name']} budget {entry['budget']} capacity {entry['capacity']}\n" for entry in self.entries)
         self.same("init", self.ran("init"), said.encode())
         self.kept = [made(head, entry["capacity"]) for head, entry in zip(self.heads, self.entries)]
@@ -162,16 +163,17 @@ class Case:
 
     def lay(self):
         """Some journals are older ones, and some are given records that were there before."""
-        for order, book in enumerate(self.books()):
-            capacity = self.entries[order]["capacity"]
-            if self.rng.random() < 0.25:
-                head = self.heads[order]
-                self.leave(order, made(head[:VERSION_AT] + b"\1" + head[VERSION_AT + 1 :], capacity))
-                self.came["journals of version 1"] += 1
+        for order, entry in enumerate(self.entries):
+            capacity, version = entry["capacity"], self.rng.choice([VERSIONS[-1]] * 5 + [1, 1, 2])
+            if version != VERSIONS[-1]:
+                self.leave(order, made(in_version(self.heads[order], version), capacity))
+                self.came[f"journals of version {version}"] += 1
             if self.rng.random() < (0.6 if capacity > 64 else 0.25):
+                book = Book(entry, len(self.house.catalog["analysts"]), version)
                 lay_records(self.rng, book)
                 self.leave(order, self.with_records(order, book.records))
                 self.came["journals with records that were laid"] += 1
+                self.came["journals with records that gave back"] += any(one.returned for one in book.settled.values())
 
     def stop(self):
         """Some journals are left as a stop leaves them, and some settlements are others."""
@@ -253,6 +255,9 @@ def told(seed, came):
     replies = {name for name in came if name.split()[0] in REPLIES}
     for names in (lines, replies, came.keys() - lines - replies - {"cases", "cut short", "runs"}):
         print(", ".join(f"{name} {came[name]}" for name in sorted(names)))
+    accepted = sum(many for name, many in came.items() if name.startswith(("answer", "no 40", "no 41")))
+    refused = sum(many for name, many in came.items() if name.startswith(("no 2", "no 3")))
+    print(f"of {accepted + refused} programs that came to be read {accepted} were accepted")
     lacking = [name for name in WANTED if came[name] * SHARE < cases]
     if lacking:
         print("too few of: " + ", ".join(lacking))

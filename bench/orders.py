@@ -11,7 +11,7 @@ written. It shares nothing with the server but the rules. Held is, for each owne
 - each reply is the one that the second server gives to its line behind some first records: as many as the reply's SEEN, or those before the
   reservation whose number it shows; and these grow along a worker's lines, and have all that its earlier lines were told and added;
 - the records added are the second server's for those lines, byte for byte, a settlement wherever it stands behind its reservation, and each
-  record is one line's;
+  record is one line's; what an exhausted one gives back hangs on where it stands, and is journal.py's;
 - a reply that no record changes (10 to 37, `hello`, `bye`) is the second server's own.
 
 And for all owners together: there is one order of all that lines saw and added which is each worker's own and each owner's own.
@@ -22,6 +22,7 @@ no line of a worker adds a record behind its 42 or 52, and a reservation without
 import os
 import sys
 from collections import Counter, defaultdict
+from itertools import repeat
 
 sys.path.insert(0, f"{os.path.dirname(os.path.dirname(os.path.abspath(__file__)))}/tools")
 from catalog import catalog, owner  # noqa: E402
@@ -58,18 +59,20 @@ class Log:
         if list(map(vars, found.records)) != list(map(vars, self.records[: self.first])):
             raise Wrong(f"{self.name}: the records found aren't the first ones now")
         self.start, self.places, self.settled, self.claimed = len(found.reserved), {}, {}, set()
-        charges, reservations, self.behind = {}, [], []
+        reservations, self.behind = [], []
+        behind = Book(book.entry, book.analysts, book.version)
         for place, one in enumerate([*self.records, None]):
             if place >= self.first:
-                self.behind.append((dict(charges), list(reservations), sum(said is None for _, said in reservations[self.start :])))
+                charges = {None if view == WHOLE else view: amount for view, amount in behind.sums.items()}
+                self.behind.append((charges, list(reservations), sum(said is None for _, said in reservations[self.start :])))
             if isinstance(one, Reservation):
-                view = None if one.view == WHOLE else one.view
-                charges[view] = charges.get(view, 0) + one.charge()
                 reservations.append((analysts[one.analyst], None))
                 self.places[one.number] = place
             elif one:
                 reservations[one.number] = (reservations[one.number][0], one.standing())
                 self.settled[one.number] = place
+            if one:
+                behind.keep(one)
         # Lines that were told 42 or 52, with the least place that a record of theirs may have.
         self.unkept, self.faults, self.looked = [], 0, self.first
 
@@ -152,6 +155,7 @@ class Judge:
         place = log.settled.get(reservation.number)
         if place is None:
             raise Wrong(f"reservation {reservation.number} of {log.name} has no settlement")
+        settlement.returned = log.records[place].returned
         for at, record in ((length, reservation), (place, settlement)):
             if log.records[at].encoded() != record.encoded():
                 raise Wrong(f"record {at} of {log.name} is {log.records[at].encoded().hex()}, and {record.encoded().hex()} is due")
@@ -222,6 +226,8 @@ class Judge:
         log.goes_to(place)
         self.server.who = who
         self.server.reply(line)
+        if settled is not None:
+            log.owner.added[1].returned = log.records[settled].returned
         due = [record.encoded() for record in log.owner.added]
         return due[:1] == [one.encoded()] and (settled is None or due[1] == log.records[settled].encoded())
 
@@ -308,7 +314,39 @@ def check():
         assert not any(pair.fits(zero, zero, workers, after) for workers in (1, 2))
     refused = f"no 40 {10**6} {2 * 10**6} {10**7} 2"
     assert not any(pair.fits(zero, refused, workers, half) for workers in (1, 2))
+    check_exhausted()
     print("all as known")
+
+
+def check_exhausted():
+    """Of 10 part A takes 6, and its number is exhausted, behind part B's 4, or before. Two comes back, or six and B takes four."""
+    data = catalog(owner("a", (("people", "people.csv", (("town", "text"), ("age", "num"))),), 10, 100, (("area", "people", "town", ("A", "B")),)))
+    house, draws = house_of(data, {"people.csv": b"town,age\nA,20\nB,30\nA,40\n"}.__getitem__), key_words(bytes(32))
+    words = lambda order, number: repeat(0) if number == 0 else draws(order, number)
+    script = b"hello ann\naskpart a area A 0.000006 size people\nbye\nhello bob\naskpart a area B 0.000004 size people\nbye\n"
+    server = Server(house, words)
+    said = [server.reply(line) for line in lines_of(script)]
+    assert said[1] == "no 50 0" and said[4].startswith("answer 1 ") and said[4].endswith(" 4"), said
+    entry = house.catalog["owners"][0]
+    asked, exhausted, other, answered = server.owners[b"a"].added
+    for version, (back, spent) in {1: (0, 6), 2: (0, 6), 3: (2, 4)}.items():
+        found, after = Book(entry, 2, version), Book(entry, 2, version)
+        other.taken = 0
+        assert all(after.add(record) for record in (asked, other, answered)) and after.settlement(0, 2).returned == back
+        assert after.add(after.settlement(0, 2)) and after.spent == spent
+        replies = [*said[:4], said[4][:-1] + "0", said[5]]
+        for takes, fits in (("0", True), ("4", False)):
+            replies[4] = said[4][:-1] + takes
+            try:
+                judged(house, words, [found], [after], script, "".join(f"{reply}\n" for reply in replies).encode(), 2)
+                assert fits, (version, takes)
+            except Wrong as fault:
+                assert not fits, (version, takes, fault)
+    other.taken = 4
+    found, after = Book(entry, 2), Book(entry, 2)
+    assert exhausted.returned == 6 and all(after.add(record) for record in (asked, exhausted, other, answered)) and after.spent == 4
+    for workers in (1, 2):
+        judged(house, words, [found], [after], script, "".join(f"{reply}\n" for reply in said).encode(), workers)
 
 
 if __name__ == "__main__":

@@ -73,11 +73,12 @@ class Ask:
         digest = hashlib.sha256(self.program).digest()
         return Reservation(number, self.view or WHOLE, self.e, r.numerator, r.denominator, taken, ANALYSTS.index(self.analyst), digest)
 
-    def settlement(self, key, number):
+    def settlement(self, key, number, returned):
+        """What an exhausted number gives back hangs on the records before its settlement, and journal.py holds it."""
         try:
             return Settlement(number, 1, self.exact + noise(self.e, key_draws(key, self.order, number)))
         except Exhausted:
-            return Settlement(number, 2)
+            return Settlement(number, 2, 0, returned)
 
     def charge(self):
         return -(-self.sensitivity.numerator * self.e // self.sensitivity.denominator)
@@ -273,7 +274,7 @@ def of_lines(room, script, order, book, first):
             ask = reserved[record.number] = unasked.pop(record.e, None)
             due = ask and ask.reservation(record.number, record.taken)
         else:
-            due = record.number in reserved and reserved[record.number].settlement(room.key, record.number)
+            due = record.number in reserved and reserved[record.number].settlement(room.key, record.number, record.returned)
         if not due or record.encoded() != due.encoded():
             raise Wrong(f"of {room.names[order]} no line's is the record {record.said(book.entry, ANALYSTS)}")
 
