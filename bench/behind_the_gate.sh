@@ -16,7 +16,7 @@ if [ "${1:-}" = --services ]; then
     SCRIPTS=("serving.py --quick" keeping.py "snapshots.py 8" "two_processes.py 3")
     # The second implementation takes its ChaCha20 from there.
     if python3 -c 'import cryptography' 2>/dev/null; then
-        SCRIPTS+=(compare_gen.py "compare_journals.py 500" "compare_scripts.py 60" "compare_orders.py 40")
+        SCRIPTS+=(compare_gen.py "compare_tables.py 500" "compare_journals.py 500" "compare_scripts.py 60" "compare_orders.py 40")
     else
         echo "the second implementation is skipped: there is no Python package cryptography"
     fi
