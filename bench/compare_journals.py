@@ -344,7 +344,8 @@ def compare(seed, number, came):
 
 WANTED = [f"version {version} {what}" for version in VERSIONS for what in ("open, area 0", "changed", "damaged", "uninitialised", "gives back wrongly")] + [
     "version none changed", "version none uninitialised", *(f"version {version} open, area {area}" for version, most in ((2, 2), (3, 3)) for area in range(1, most + 1)),
-    "other bytes around the live area", "settlements that give back", "exhausted in an older version", "a record that may not stand there", "tools/journal.py by its words", "an area that a run opened", "runs that go on",
+    "other bytes around the live area", "settlements that give back", "exhausted in an older version", "a record that may not stand there",
+    "tools/journal.py by its words", "an area that a run opened", "runs that go on",
     *{spoil.__name__.replace("_", " ") for spoil in SPOILS}]  # fmt: skip
 
 

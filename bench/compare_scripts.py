@@ -43,8 +43,8 @@ WANTED = (
     + [f"no 10 {word}" for word in range(6)] + ["no 12 1", "no 12 2", "no 12 3"]
     + [f"no 30 {kind}" for kind in ("unbound", "mismatch", "notground", "notflat")]
     + [f"no {code}" for code in (11, 13, 14, 20, 21, 22, 31, 32, 33, 34, 35, 36, 37, 40, 41, 60, 61)]
-    + ["a run that goes on", "a record without its gate", "recall of an earlier run's", "journals of version 1", "journals of version 2", "journals with records that gave back",
-        "an area that was opened"]
+    + ["a run that goes on", "a record without its gate", "recall of an earlier run's", "journals of version 1", "journals of version 2"]
+    + ["journals with records that gave back", "an area that was opened"]
 )  # fmt: skip
 
 

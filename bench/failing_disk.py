@@ -4,8 +4,8 @@
 usage: bench/failing_disk.py [--quick]    (PROGRAM=FILE tries another build than tools/build's). Needs cc. --quick tries every fourth or twelfth call of
 all runs but the first.
 It counts the calls of `init`, and of a run of three asks that goes on behind one earlier answer, of one that goes on behind 31 and so opens the
-journal's next area, and of such runs over journals of versions 1 and 2; and then runs each again with one call that fails, with all from that one on, and with a
-kill in the place of the call (a write has then put half of its bytes). Judged by a second reader (tools/journal.py) and the second implementation of
+journal's next area, and of such runs over journals of versions 1 and 2; and then runs each again with one call that fails, with all from that one
+on, and with a kill in the place of the call (a write has then put half of its bytes). Judged by a second reader (tools/journal.py) and the second implementation of
 lines (tools/reference.py):
 
 - `init` ends with 6 and its line, or is killed; what is left is no journal, or an empty one;
@@ -258,7 +258,8 @@ def in_order(log, wanted):
 
 
 ENDS = ["init: no file", "init: a file to be removed", "run: not opened", "run: 52 of a reservation", "run: 52 of a settlement", "killed", "one record more",
-    *(f"version {version}" for version in VERSIONS), "an area that was opened, with no record more", "an area that was opened, with records", "an area, or a part of one, without its gate"]  # fmt: skip
+    *(f"version {version}" for version in VERSIONS), "an area that was opened, with no record more", "an area that was opened, with records",
+    "an area, or a part of one, without its gate"]  # fmt: skip
 
 
 def main():

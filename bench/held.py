@@ -3,8 +3,9 @@
 
 usage: bench/held.py [ROWS [ASKS]]    8,192 rows and 400 asks, unless said (PROGRAM=FILE tries another build than tools/build's)
 One connection asks a program that is charged nothing and visits each row as often as there are rows; until it is answered, the other one asks
-`size people` again and again, at most 50,000 times, of the same owner and then of another one. Beside that stand as many asks as are said with nothing to hold anybody. Of
-each series it prints how many were answered, and the median, the 95th of a hundred and the greatest time of one, from its line to its reply.
+`size people` again and again, at most 50,000 times, of the same owner and then of another one. Beside that stand as many asks as are said with
+nothing to hold anybody. Of each series it prints how many were answered, and the median, the 95th of a hundred and the greatest time of one, from
+its line to its reply.
 It ends with status 1 where the held program's reply isn't an answer, where fewer than ten asks were answered meanwhile, or where numbers aren't given
 in turn.
 """

@@ -6,8 +6,8 @@ random for each prefix, 4 unless said, beside the four of `MemDisk::after_stop`.
 disk would lose is made here.
 The writes and syncs of the program on its own journal are recorded (bench/fail_disk.c): those of an `init`, and of three runs, one behind
 the other, with asks of the whole and of parts, of several analysts, refused and granted, the last by two workers; of one that opens the journal's next
-area, by one worker and by two; and of such runs over journals of versions 1 and 2. What was synced stays. Of each later write up to the prefix's end any bytes may be there, and the file
-may end anywhere between its old end and its new one:
+area, by one worker and by two; and of such runs over journals of versions 1 and 2. What was synced stays. Of each later write up to the prefix's
+end any bytes may be there, and the file may end anywhere between its old end and its new one:
 
 - the old bytes and the old end; the new ones; 0xFF or 0xA5 in each place;
 - at random: each write there or not; pieces of 16 bytes there or not; any bytes; a cut anywhere.
@@ -276,7 +276,8 @@ def steps(room):
         yield name, *step, room.book(contents(JOURNAL)).records
 
 
-MET = [*STOPS, *(f"version {version}" for version in VERSIONS), "at random", "no journal yet", "the synced records", "one record more", "an area without its gate", "an area that was opened"]
+MET = [*STOPS, *(f"version {version}" for version in VERSIONS), "at random", "no journal yet", "the synced records", "one record more",
+    "an area without its gate", "an area that was opened"]  # fmt: skip
 
 
 def main():
