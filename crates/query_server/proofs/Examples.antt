@@ -99,8 +99,8 @@ module _ (loading : Loading) (key : List ℕ) (old new : Shelf) (found : Journal
   -- A script is neither answered nor too long where a journal is refused, and comes to no other status than these.
   unusable : (text : List ℕ) → IsScriptDue loading key 1 old new script Refused text → ⊥
   unusable text (inl due) = let wrong = due.is_status in cc
-  unusable text (inr (records, opened, inl (wrong, short, due))) = cc
-  unusable text (inr (records, opened, inr (wrong, long, due, disks))) = cc
+  unusable text (inr (versions, records, opened, inl (wrong, short, due))) = cc
+  unusable text (inr (versions, records, opened, inr (wrong, long, due, disks))) = cc
 
 -- ---- what is written, read and taken
 

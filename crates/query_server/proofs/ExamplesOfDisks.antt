@@ -22,7 +22,7 @@ use Rattle.owner_house.specs.Owner.{Owner}
 use Rattle.owner_catalog.specs.Catalog.{Catalog, OwnerEntry}
 use Rattle.owner_catalog.specs.Digest.{digest_of}
 use Rattle.session_core.specs.Transcript.{Journals}
-use Rattle.catalog_loading.specs.Loaded.{Loading, entry_at, header_in, header_of, in_versions, owner_name_at}
+use Rattle.catalog_loading.specs.Loaded.{Loading, entry_at, header_in, header_of, in_versions, new_header, owner_name_at}
 use Rattle.query_server.specs.Shelves.{Shelf, bytes_on, TellBytes, AreAtHome, EachDisk, IsOnlySynced, NoOtherRose}
 use Rattle.query_server.specs.Opened.{AreOpenedBefore, IsUnopened, IsRefusedAt, IsRefusalDue}
 use Rattle.query_server.specs.Init.{AreMadeBefore, IsMade, IsExistingDue, IsMakingNamed, MayBeMadeInPart, MayHaveFailed, made_line}
@@ -381,7 +381,7 @@ failed_times n = record { trace = None; faults = n }
 second_made : AreMadeBefore loading key 1 MayHaveFailed (counted 0 0 0) (counted 0 1 0)
 second_made = record { made = made; here = here; behind = behind }
   where
-    made : (p : ℕ) (before : Shown) → p < 1 → counted 0 0 0 p ≡ Some before → (after : Shown) × (counted 0 1 0 p ≡ Some after) × IsMade (header_of loading key p) before after
+    made : (p : ℕ) (before : Shown) → p < 1 → counted 0 0 0 p ≡ Some before → (after : Shown) × (counted 0 1 0 p ≡ Some after) × IsMade (new_header loading key p) before after
     made zero before less is =
         let one : failed_times 0 ≡ before = cc is in
         subst (λ (b : Shown). (after : Shown) × (counted 0 1 0 0 ≡ Some after) × IsMade (header_of loading key 0) b after) one

@@ -26,9 +26,9 @@ not_slot k (inr is) = cc
 
 module _ (entry : Entry) (header : Header) (records : List Record) (bytes : List ℕ) where
   -- Bytes that stand for records which may follow one another aren't refused.
-  pub not_refused : (refusal : JournalRefusal) → Stands header records bytes → IsHistory entry records → IsUnopened entry header (Some bytes) refusal → ⊥
-  not_refused (Uninitialised n) stands history is = not_length n (book_stands header records bytes stands entry history (open_fault.NotInitialised n) is)
-  not_refused Changed stands history (kept, found, is) =
-      not_header kept found (book_stands header records bytes stands entry history (open_fault.Changed kept found) is)
-  not_refused (Damaged k) stands history is = not_slot k (book_stands header records bytes stands entry history (open_fault.Damaged k) is)
-  not_refused (Exists n) stands history is = is
+  pub not_refused : (refusal : JournalRefusal) → Stands header records bytes → entry.version ≡ header.version → IsHistory entry records → IsUnopened entry header (Some bytes) refusal → ⊥
+  not_refused (Uninitialised n) stands same history is = not_length n (book_stands header records bytes stands entry same history (open_fault.NotInitialised n) is)
+  not_refused Changed stands same history (kept, found, is) =
+      not_header kept found (book_stands header records bytes stands entry same history (open_fault.Changed kept found) is)
+  not_refused (Damaged k) stands same history is = not_slot k (book_stands header records bytes stands entry same history (open_fault.Damaged k) is)
+  not_refused (Exists n) stands same history is = is

@@ -1,5 +1,5 @@
 -- commands of which nothing is in the way
-use Rattle.std.proofs.Common.{◌≡◌, ℕ, ◌<◌, ◌≤◌, List, [], length, Option, Some, None, subst, arith}
+use Rattle.std.proofs.Common.{◌≡◌, ℕ, ◌<◌, ◌≤◌, List, [], length, Option, Some, None, refl, subst, arith}
 use Rattle.std.specs.Prelude.{Err, IfSome, IsSome}
 use mathlib.Core.Logic.{◌⊎◌, inl, inr}
 use Rattle.journal_records.specs.declared.records.Header.{Header}
@@ -26,10 +26,11 @@ use Rattle.query_server.proofs.Outcomes.{Comes, due_status, finished_due}
 use Rattle.query_server.proofs.Unopened.{not_refused}
 
 -- what bytes stand for, where they are told
-unrefused : (entry : Entry) (header : Header) (bytes : Option (List ℕ)) (found : List Record) (refusal : JournalRefusal) → IsSome bytes → IsOpened entry header bytes found → IsUnopened entry header bytes refusal → ⊥
-unrefused entry header (Some bytes) found refusal told opened isnt = not_refused entry header found bytes refusal opened.stands opened.history isnt
-unrefused entry header None found (Exists n) told opened isnt = isnt
-unrefused entry header None found refusal told opened isnt = cc
+unrefused : (entry : Entry) (header : Header) (bytes : Option (List ℕ)) (found : List Record) (refusal : JournalRefusal) → IsSome bytes → entry.version ≡ header.version → IsOpened entry header bytes found
+    → IsUnopened entry header bytes refusal → ⊥
+unrefused entry header (Some bytes) found refusal told same opened isnt = not_refused entry header found bytes refusal opened.stands same opened.history isnt
+unrefused entry header None found (Exists n) told same opened isnt = isnt
+unrefused entry header None found refusal told same opened isnt = cc
 
 -- why a journal isn't opened doesn't hang on the version that it is looked for in
 in_version : (loading : Loading) (key : List ℕ) (o version : ℕ) (bytes : Option (List ℕ)) (refusal : JournalRefusal) → IsUnopened (new_entry loading o) (new_header loading key o) bytes refusal
@@ -43,7 +44,7 @@ in_version loading key o version bytes (Exists n) is = is
 never_refused : (loading : Loading) (key : List ℕ) (b : Shelf) (o : ℕ) (refusal : JournalRefusal) → HoldJournals loading key b → IsRefusedAt loading key b o refusal → ⊥
 never_refused loading key b o refusal (told, (versions, found, opened)) at =
     let version = version_at (in_versions loading versions) o in
-    unrefused (entry_in loading o version) (header_in loading key o version) (bytes_on b o) (found o) refusal (told o at.known) (opened.each o at.known)
+    unrefused (entry_in loading o version) (header_in loading key o version) (bytes_on b o) (found o) refusal (told o at.known) refl (opened.each o at.known)
     (in_version loading key o version (bytes_on b o) refusal at.refused)
 
 -- no journal is there on an empty disk

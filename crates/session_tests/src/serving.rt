@@ -78,10 +78,10 @@ pub fn served_of<'a>(
 ) -> Result<Serving<'a>, AllocError> {
     let second = MemDisk::new(alloc, &[], SMALL, &[])?;
     let mut bay = journals_on(alloc, disk, second, &[])?.into_bay();
-    let Ok(opened) = open_house(alloc, &mut MemFiles::new(held), "cat.json", "key") else {
+    let Ok(mut opened) = open_house(alloc, &mut MemFiles::new(held), "cat.json", "key") else {
         return Err(AllocError);
     };
-    match open_desks(alloc, &mut bay, &opened) {
+    match open_desks(alloc, &mut bay, &mut opened) {
         Ok(opening) => Ok(Serving {
             opened,
             desks: opening.desks,

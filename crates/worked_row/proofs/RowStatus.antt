@@ -33,7 +33,7 @@ not_refused old new status text (bytes, told, made) due =
     let first : due.o ≡ 0 = omega (arith, due.at.known) in
     let refused : IsUnopened (new_entry loading 0) (new_header loading zeros 0) (bytes_on old 0) due.refusal =
     subst (λ (o : ℕ). IsUnopened (new_entry loading o) (new_header loading zeros o) (bytes_on old o) due.refusal) first due.at.refused in
-    never_refused (new_entry loading 0) (new_header loading zeros 0) [] bytes due.refusal made (no_records (new_entry loading 0)) (subst (λ (b : Option (List ℕ)). IsUnopened (new_entry loading 0) (new_header loading zeros 0) b due.refusal) told refused)
+    never_refused (new_entry loading 0) (new_header loading zeros 0) [] bytes due.refusal made refl (no_records (new_entry loading 0)) (subst (λ (b : Option (List ℕ)). IsUnopened (new_entry loading 0) (new_header loading zeros 0) b due.refusal) told refused)
 
 -- the first of these versions is 3
 begins_new : (versions : List ℕ) → length versions ≡ 16 → get_or versions 0 3 ≡ 3 → (rest : List ℕ) × (versions ≡ 3 ∷ rest)

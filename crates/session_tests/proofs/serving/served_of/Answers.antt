@@ -10,6 +10,6 @@ use Rattle.session_tests.proofs.serving.served_of.Goals as goal
 pub invariant_of-result : goal.invariant_of-result
 invariant_of-result c = record {
   here = ap (λ (b : Bundle). b.locks) c.new-in-Ok-open_desks.ensures ∙ c.in-Ok-open_desks.ensures.here;
-  of_the_house = subst (λ (b : Bundle). ArePasses (house_of c.in-Ok.opened.loading.register) b.knows) (sym c.new-in-Ok-open_desks.ensures) c.in-Ok-open_desks.ensures.house;
+  of_the_house = subst (λ (b : Bundle). ArePasses (house_of c.open_desks.new.opened.loading.register) b.knows) (sym c.new-in-Ok-open_desks.ensures) c.in-Ok-open_desks.ensures.house;
   whole = subst (λ (b : Bundle). All (λ s. s ≡ whole_share) b.shares) (sym c.new-in-Ok-open_desks.ensures) c.in-Ok-open_desks.ensures.whole;
 }
