@@ -95,7 +95,7 @@ module _ (loading : Loading) (key : List ℕ) (lawful : IsLoading loading) where
   pub opened_fresh : (old mid : Shelf) (passes : List Pass) → ArePassesOn (entry_at loading) (header_of loading key) (owners_in loading) old mid passes → AreFresh (house_of loading.register) passes
   opened_fresh old mid passes on = λ o owner at. (on.each o (in_catalog loading.register lawful.register o (slice_get_within house.owners o owner at))).fresh
 
-  pub passes_opened : (old mid : Shelf) (passes : List Pass) → ArePassesOn (entry_at loading) (header_of loading key) (owners_in loading) old mid passes 
+  pub passes_opened : (old mid : Shelf) (passes : List Pass) → ArePassesOn (entry_at loading) (header_of loading key) (owners_in loading) old mid passes
       → (o : ℕ) → o < owners_in loading → IsOpened (entry_at loading o) (header_of loading key o) (bytes_on old o) (found_by passes o)
   passes_opened old mid passes on = λ o within. pass_opened (entry_at loading o) (header_of loading key o) (old o) (pass_at passes o) (on.each o within)
 
