@@ -53,7 +53,7 @@ const SCRIPT: &[u8] = b"left census\nhello ann\nrecall census 0\nask census 1 si
 type Kept = (Patches<'static>, &'static [u8], &'static [u8]);
 
 #[rattlefmt::skip]
-static KEPT: [Kept; 11] = [
+static KEPT: [Kept; 13] = [
     (&[],
         b"census reservations 1 answered 1 exhausted 0 lost 0 spent 1000000 budget 10000000\n",
         b"left 1000000 10000000 2\nhello ann\nrecall 0 answer 5 2\nanswer 1 3 1000000\n"),
@@ -84,6 +84,13 @@ static KEPT: [Kept; 11] = [
     (&[(157, b"\x01")],
         b"census reservations 1 answered 1 exhausted 0 lost 0 spent 1000000 budget 10000000\n",
         b"left 1000000 10000000 2\nhello ann\nno 61 0 2\nanswer 1 3 1000000\n"),
+    // in version 3 an answered number is charged, and an exhausted one's charge has come back
+    (&[(9, b"\x03")],
+        b"census reservations 1 answered 1 exhausted 0 lost 0 spent 1000000 budget 10000000\n",
+        b"left 1000000 10000000 2\nhello ann\nrecall 0 answer 5 2\nanswer 1 3 1000000\n"),
+    (&[(9, b"\x03"), (194, b"\x02"), (200, &[0; 8]), (213, b"\x0F\x42\x40")],
+        b"census reservations 1 answered 0 exhausted 1 lost 0 spent 0 budget 10000000\n",
+        b"left 0 10000000 2\nhello ann\nrecall 0 exhausted 2\nanswer 1 3 1000000\n"),
     // another program was asked: nobody compares it
     (&[(160, &[7; 32])],
         b"census reservations 1 answered 1 exhausted 0 lost 0 spent 1000000 budget 10000000\n",
@@ -98,14 +105,14 @@ static KEPT: [Kept; 11] = [
 type Refused = (usize, Patches<'static>, &'static [u8]);
 
 #[rattlefmt::skip]
-static REFUSED: [Refused; 33] = [
+static REFUSED: [Refused; 36] = [
     (0, &[], b"journal census uninitialised 0\n"),
     (127, &[], b"journal census uninitialised 127\n"),
     (6528, &[(0, b"\0")], b"journal census uninitialised 6528\n"),
     (6528, &[(0, b"\x25")], b"journal census uninitialised 6528\n"),
     // the header, before the slots: name, version, owner, budget, capacity, zeros, digest, zeros
     (6528, &[(1, b"f"), (128, b"\0")], b"journal census changed\n"),
-    (6528, &[(9, b"\x03")], b"journal census changed\n"),
+    (6528, &[(9, b"\x04")], b"journal census changed\n"),
     (6528, &[(13, b"\x01")], b"journal census changed\n"),
     (6528, &[(21, b"\x81")], b"journal census changed\n"),
     (6528, &[(25, b"\x65")], b"journal census changed\n"),
@@ -137,6 +144,10 @@ static REFUSED: [Refused; 33] = [
     (6528, &[(136, b"\x3B\x9A\xCA\0"), (152, b"\x3B\x9A\xCA\0")], b"journal census damaged 0\n"),
     (6528, &[(199, b"\x01")], b"journal census damaged 1\n"),
     (6528, &[(256, SETTLED)], b"journal census damaged 2\n"),
+    // a charge that came back in version 1, or in version 3 not whole or not at all
+    (6528, &[(194, b"\x02"), (200, &[0; 8]), (213, b"\x0F\x42\x40")], b"journal census damaged 1\n"),
+    (6528, &[(9, b"\x03"), (194, b"\x02"), (200, &[0; 8]), (213, b"\x0F\x42\x3F")], b"journal census damaged 1\n"),
+    (6528, &[(9, b"\x03"), (194, b"\x02"), (200, &[0; 8])], b"journal census damaged 1\n"),
 ];
 
 // The file of a journal behind this script.
@@ -162,11 +173,11 @@ fn older(alloc: Global) -> Result<Vec<u8>, AllocError> {
     patched(alloc, &[], 6528, &WRITTEN)
 }
 
-// Its bytes are as the format says, in version 2. Blanks at a program's ends are of the program.
+// Its bytes are as the format says, in version 3. Blanks at a program's ends are of the program.
 #[test]
 fn written_file(rt: HostRuntime) -> Result<(), Fail> {
     let fields = patched(rt.alloc(), &[], 4224, &WRITTEN)?;
-    let due = patched(rt.alloc(), &fields, 4224, &[(9, b"\x02")])?;
+    let due = patched(rt.alloc(), &fields, 4224, &[(9, b"\x03")])?;
     assert!(rt; answered(&rt, rt.alloc())?.as_slice() == due.as_slice());
     let blanks = file_behind(&rt, rt.alloc(), b"hello ann\nask census 1  size people \n")?;
     let due_then = patched(rt.alloc(), &due, 4224, &[(160, WITH_BLANKS)])?;
