@@ -1,5 +1,6 @@
 // The writes and syncs of so many answers in a journal, and nothing else: what any program takes that keeps its promises.
 // usage: journal_loop FILE ANSWERS    prints the seconds of wall that they took, on a journal in the layout of versions 2 and 3 with room for just these
+//        journal_loop FILE grow N     those of one answer that opens an area of N slots, behind one of N/2 that is full
 #define _GNU_SOURCE
 #include <fcntl.h>
 #include <stdio.h>
@@ -35,8 +36,37 @@ static void open_area(int file, off_t before, size_t used, off_t begin, size_t s
     free(slots);
 }
 
+static double now(void) {
+    struct timespec time;
+    clock_gettime(CLOCK_MONOTONIC, &time);
+    return time.tv_sec + time.tv_nsec / 1e9;
+}
+
+// One answer behind a full area of half as many slots, which stands where it does in a journal whose first area has 64.
+static void grow(const char *name, long slots) {
+    long used = slots / 2, before = used - 64;
+    int file = open(name, O_RDWR | O_CREAT | O_TRUNC, 0644), number = 0;
+    must(file >= 0, name);
+    char record[64];
+    memset(record, 0xA5, sizeof record);
+    for (long slot = 0; slot < 2 + before + used; slot++)
+        must(write(file, record, 64) == 64, "write");
+    must(fsync(file) == 0, "fsync");
+    for (long room = 64; room < slots; room *= 2) number++;
+    double begun = now();
+    off_t area = 128 + 64 * before, next = area + 64 * used;
+    open_area(file, area, 64 * used, next, 64 * slots, number);
+    append(file, next + 64 * used, record);
+    append(file, next + 64 * (used + 1), record);
+    printf("%.6f\n", now() - begun);
+}
+
 int main(int count, char **words) {
-    must(count == 3, "usage: journal_loop FILE ANSWERS");
+    must(count == 3 || (count == 4 && strcmp(words[2], "grow") == 0), "usage: journal_loop FILE ANSWERS, or FILE grow N");
+    if (count == 4) {
+        grow(words[1], atol(words[3]));
+        return 0;
+    }
     long records = 2 * atol(words[2]), room = records < 64 ? records : 64;
     int file = open(words[1], O_RDWR | O_CREAT | O_TRUNC, 0644), number = 0;
     must(file >= 0, words[1]);
@@ -45,8 +75,7 @@ int main(int count, char **words) {
     for (long slot = 0; slot < room + 2; slot++)
         must(write(file, record, 64) == 64, "write");
     must(fsync(file) == 0, "fsync");
-    struct timespec begun, ended;
-    clock_gettime(CLOCK_MONOTONIC, &begun);
+    double begun = now();
     memset(record, 0xA5, sizeof record);
     off_t area = 128;
     for (long at = 0; at < records; at++) {
@@ -58,7 +87,6 @@ int main(int count, char **words) {
         }
         append(file, area + 64 * at, record);
     }
-    clock_gettime(CLOCK_MONOTONIC, &ended);
-    printf("%.6f\n", (ended.tv_sec - begun.tv_sec) + (ended.tv_nsec - begun.tv_nsec) / 1e9);
+    printf("%.6f\n", now() - begun);
     return 0;
 }
