@@ -192,7 +192,8 @@ class Groups:
 
     def svg(self, title=None, percent="95"):
         """The histogram with its error bars, as tools/plot draws it."""
-        return pictures.histogram_svg(pictures.bars_of(self.as_dict(), percent), title or self.partition, percent)
+        groups = self.as_dict()
+        return pictures.histogram_svg(pictures.bars_of(groups, percent), title or self.partition, percent, pictures.eps_of(groups))
 
     def as_dict(self):
         return {"partition": self.partition, "taken": self.taken, "groups": {key: answer.as_dict() for key, answer in self.items()}}

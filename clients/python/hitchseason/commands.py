@@ -161,10 +161,10 @@ def plot(words, doc):
 
 def histogram(said, given):
     groups = json.loads(said)
-    bars, title = pictures.bars_of(groups, given.level), given.title or groups["partition"]
+    bars, title, eps = pictures.bars_of(groups, given.level), given.title or groups["partition"], pictures.eps_of(groups)
     if given.text:
-        return pictures.histogram_text(bars, title, given.level, columns())
-    return pictures.histogram_svg(bars, title, given.level)
+        return pictures.histogram_text(bars, title, given.level, columns(), eps)
+    return pictures.histogram_svg(bars, title, given.level, eps)
 
 
 def budget(said, given):

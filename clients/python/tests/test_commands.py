@@ -28,6 +28,9 @@ class Commands(unittest.TestCase):
         cls.file = f"{cls.folder}/young"
         with open(cls.file, "w") as file:
             file.write(YOUNG)
+        cls.empty = f"{cls.folder}/empty"
+        with open(cls.empty, "w") as file:
+            json.dump({"partition": "areas", "groups": {}}, file)
 
     @classmethod
     def tearDownClass(cls):
@@ -75,6 +78,7 @@ class Commands(unittest.TestCase):
             (["left", self.folder], 2, "usage"),
             (["forecast", "ssh://there", "labour", "1", self.file], 1, "--public FILE"),
             (["plot", "histogram", self.file], 1, "tools/plot"),
+            (["plot", "histogram", self.empty], 1, "no answer"),
         ):
             ran = tool(*words)
             self.assertEqual(ran.returncode, status, ran.stderr)
@@ -99,9 +103,12 @@ class Commands(unittest.TestCase):
         text = self.said("plot", "histogram", "--text", "--level", "99.9", given=asked).splitlines()
         self.assertEqual([line.split()[0] for line in text[1:-1]], ["north", "south", "east", "west", "capital"])
         self.assertTrue(all("├" in line and "┤" in line for line in text[1:-1]))
+        self.assertTrue(text[-1].startswith("EPS 0.5; "), text[-1])
+        foot = "Noisy answers at EPS 0.5. Error bars: each holds the exact value in at least 95 of 100 answers"
+        self.assertEqual(drawn.findall(f"{SVG}text")[-1].text, foot)
         lefts = "".join(self.said("left", self.folder, "labour", "--json") for _ in range(3))
         drawn = ElementTree.fromstring(self.said("plot", "budget", given=lefts).encode())
-        self.assertEqual(len(drawn.findall(f"{SVG}path")), 2)
+        self.assertEqual(len(drawn.findall(f"{SVG}path")), 3)
         self.assertEqual(len(self.said("plot", "budget", "--text", given=lefts).splitlines()), 5)
 
 
@@ -151,6 +158,47 @@ class Pictures(unittest.TestCase):
                 self.assertTrue(all(0 <= float(one.get(end)) <= height for end in ("y1", "y2")), bars[:2])
             lines = pictures.histogram_text(bars, "of these", columns=80).splitlines()
             self.assertTrue(all(len(line) <= 80 for line in lines[1:-1]))
+
+    def test_ends(self):
+        """Worked by hand: ticks are at -50, 0, 50 and 100, which is 300 px, from 52 down to 352."""
+        drawn = ElementTree.fromstring(pictures.histogram_svg([("a", 50, -50, 100), ("b", -20, -40, 0)], "ends"))
+        texts = [one.text for one in drawn.findall(f"{SVG}text")]
+        self.assertEqual(texts[1:5], ["\u221250", "0", "50", "100"])
+        bars = [(float(one.get("y")), float(one.get("height"))) for one in drawn.findall(f"{SVG}rect")[1:]]
+        self.assertEqual(bars, [(152, 100), (252, 40)])
+        ends = [(float(one.get("y1")), float(one.get("y2"))) for one in drawn.findall(f"{SVG}line") if one.get("x1") == one.get("x2")]
+        self.assertEqual(ends, [(352, 52), (332, 252)])
+
+    def test_any_text(self):
+        """A title in several lines, texts that XML can't have, long keys by both their ends, all in ASCII."""
+        keys = ["東京" * 10, f"{'a' * 30}1{'b' * 32}1", f"{'a' * 30}1{'b' * 32}2", "\uffff", "<&>"]
+        svg = pictures.histogram_svg([(key, 1, 0, 2) for key in keys], "one\x01 " + "word " * 40)
+        self.assertTrue(svg.isascii())
+        texts = [one.text for one in ElementTree.fromstring(svg).findall(f"{SVG}text")]
+        self.assertTrue(texts[0].startswith("one\ufffd word"))
+        self.assertEqual(sum(text.count("word") for text in texts), 40)
+        for text in ("\ufffd", "<&>"):
+            self.assertIn(text, texts)
+        self.assertEqual([text[-1] for text in texts if "…" in text and text.startswith("aaa")], ["1", "2"])
+
+    def test_text(self):
+        """Worked by hand: a sign of Japanese takes two cells; 41 cells from -20 to 20, of which the 21st is 0."""
+        lines = pictures.histogram_text([("ab", 1, 0, 2), ("東京", 1, 0, 2)], "two", columns=40).splitlines()
+        bar = f"├{'─' * 14}┼{'─' * 14}┤"
+        self.assertEqual(lines[1:3], [f"ab    1  {bar}", f"東京  1  {bar}"])
+        lines = pictures.histogram_text([("a", -5, -20, 10), ("b", 10, 5, 20)], "below", columns=48, eps="0.5").splitlines()
+        self.assertEqual(lines[1], f"a  -5  ├{'─' * 14}┼────│{'─' * 9}┤")
+        self.assertEqual(lines[2], f"b  10  {' ' * 20}│████├────┼{'─' * 9}┤")
+        self.assertEqual(lines[3], "EPS 0.5; │ is 0; each ├─┤ holds the exact value in at least 95 of 100 answers")
+
+    def test_steps(self):
+        """Worked by hand: ticks to 20, which are 260 px, from 52 down to 312, and 640 px across from 64. The budget is stepped too."""
+        drawn = ElementTree.fromstring(pictures.budget_svg([(None, 0, 10**7), (None, 10**7, 10**7), (None, 0, 2 * 10**7)], "steps"))
+        area, spent, budget = [one.get("d") for one in drawn.findall(f"{SVG}path")]
+        self.assertEqual(spent, "M64.0,312.0H384.0V182.0H704.0V312.0H704.0")
+        self.assertEqual(area, f"{spent}V312.0H64.0Z")
+        self.assertEqual(budget, "M64.0,182.0H384.0V182.0H704.0V52.0H704.0")
+        self.assertEqual(pictures.told_units(1234567890123456789), "1\u2009234\u2009567\u2009890\u2009123.456789")
 
     def test_budgets(self):
         for points in ([(None, 0, 10**6)], [("2026-01-01T00:00:00Z", 5, 10), ("2026-01-03T00:00:00Z", 10, 10)], [(None, number, 20) for number in range(9)]):
