@@ -57,7 +57,7 @@ abbrev house : House
 house = house_of loading.register
 
 abbrev owner : Owner
-owner = owner_of catalog (census, loaded_owner.holding)
+owner = owner_of catalog ((census, loaded_owner.holding), 3)
 
 abbrev query : Query
 query = record { analyst = 0; view = Whole; e = 1000000; program = size_people }
@@ -126,7 +126,7 @@ told_by_disk : (refusal : DiskRefusal) (reply : Replied) → reply ≡ refused (
 told_by_disk (Closed n) reply is = inr (n, is)
 told_by_disk DiskFailed reply is = inl (inr (inr (inr is)))
 
-said_by : (draws : ℕ → ℕ → ℕ) (reply : Replied) (added : List Record) → noise_at 1000000 (draws 0) ≡ Some (pos 2) → IsAnsweredBy owner draws query (granted asking grant) reply added → IsTold reply
+said_by : (draws : ℕ → ℕ → ℕ) (reply : Replied) (added : List Record) → noise_at 1000000 (draws 0) ≡ Some (pos 2) → IsAnsweredBy owner draws [] query (granted asking grant) reply added → IsTold reply
 said_by draws reply added noise (inl (outcome, settled, is, more)) =
     inl (here (settled_to outcome (subst (λ (k : Option ℤ). IsSettledAt HasWorth k outcome) noise settled)))
   where
@@ -138,7 +138,7 @@ said_by draws reply added noise (inr (refusal, is, more)) = told_by_disk refusal
 asked_by : (draws : ℕ → ℕ → ℕ) (reply : Replied) (added : List Record) → noise_at 1000000 (draws 0) ≡ Some (pos 2) → IsAnswered owner draws 0 [] query reply added → IsTold reply
 unfolding IsAnswered
 asked_by draws reply added noise (verdict, is, said) =
-    said_by draws reply added noise (subst (λ (v : Verdict). IsAnsweredBy owner draws query v reply added) (is_granted verdict is) said)
+    said_by draws reply added noise (subst (λ (v : Verdict). IsAnsweredBy owner draws [] query v reply added) (is_granted verdict is) said)
 
 -- the second line's reply
 second_told : (draws : ℕ → ℕ → ℕ → ℕ) (y : Exchange) (after : List Record) → noise_at 1000000 (draws 0 0) ≡ Some (pos 2)
