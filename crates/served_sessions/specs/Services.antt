@@ -8,7 +8,7 @@ use Rattle.budget_journal.specs.Journals.{Stands}
 use Rattle.owner_house.specs.Owner.{Owner}
 use Rattle.owner_house.specs.House.{house_of}
 use Rattle.session_core.specs.Transcript.{Journals}
-use Rattle.catalog_loading.specs.Loaded.{Loading, header_of}
+use Rattle.catalog_loading.specs.Loaded.{Loading, header_of, in_versions}
 use Rattle.service_workers.specs.Services.{Door}
 use Rattle.service_workers.specs.declared.posting.Service.{Service}
 use Rattle.query_server.specs.Shelves.{Shelf}
@@ -16,9 +16,9 @@ use Rattle.query_server.specs.Serve.{WereHeld}
 use Rattle.query_server.specs.Service.{IsServiceOver}
 use Rattle.successive_runs.specs.Life.{Run, IsRun}
 
--- the sessions that a service held
+-- the sessions that a service held, in the house with the versions of its journals
 abbrev pub held_in : (loading : Loading) (key : List ℕ) (workers each : ℕ) (old new : Shelf) (before after : List Door) (end : Service)
-    → (at : IsServiceOver loading key workers each old new before after end) → WereHeld loading key workers old new at.found
+    → (at : IsServiceOver loading key workers each old new before after end) → WereHeld (in_versions loading at.versions) key workers old new at.found
 held_in loading key workers each old new before after end at = record {
   before = at.first;
   after = at.last;
