@@ -16,6 +16,7 @@ import time
 from collections import deque
 from contextlib import contextmanager, suppress
 
+from .borrowed import meanings
 from .faults import Failed, Refused
 from .transport import Stopped, Waited
 
@@ -23,10 +24,24 @@ from .transport import Stopped, Waited
 PATIENCE, PAUSE = 20, 0.5
 AHEAD = 16
 CLOSED = "door closed"
+# How much is told of what another program said.
+TOLD = 60
 
 
 class Ended(Exception):
     """The connection ended before a reply was whole, and why."""
+
+
+def is_of_service(line, reply):
+    """Whether a service, or its door, says this to the first line of a connection."""
+    word = reply.split(" ")[0]
+    return word == "door" or (word in ("no", line.split(" ")[0]) and meanings.meaning(reply) is not None)
+
+
+def shown(reply):
+    """What another program said, on one line and without what a terminal would take for a command."""
+    said = "".join(one if one.isprintable() else one.encode("unicode_escape").decode() for one in reply.strip())
+    return f"`{said if len(said) <= TOLD else said[: TOLD - 2] + '..'}`" if said else "an empty line"
 
 
 class Server:
@@ -96,7 +111,7 @@ class Server:
                 self.waiting = True
                 self.link = self.opened()
                 self.link.say(line)
-                return self.link.hear()
+                return self.known(line, self.link.hear())
             except KeyboardInterrupt:
                 raise Waited() from None
             except (OSError, Ended) as fault:
@@ -106,6 +121,13 @@ class Server:
                 self.pause()
             finally:
                 self.waiting = False
+
+    def known(self, line, reply):
+        """The first reply of a connection, if it is a service's: it may be that another program listens there."""
+        if is_of_service(line, reply):
+            return reply
+        self.drop()
+        raise Failed(f"What answers at {self.name} is no hitchseason service (it said {shown(reply)}). Nothing was asked.")
 
     @staticmethod
     def pause():

@@ -188,5 +188,77 @@ class Served(unittest.TestCase):
         self.assertEqual(json.loads(ran.stdout)["records"], 0)
 
 
+class Says(Between):
+    """What listens is another program: it says the same to whatever comes, and how many lines came is counted."""
+
+    def __init__(self, said):
+        self.said, self.lines = said, []
+        super().__init__(None)
+
+    def taken(self):
+        return ()
+
+    def serve(self, link):
+        with link, link.makefile("rb") as lines:
+            for line in lines:
+                self.lines.append(line)
+                link.sendall(self.said)
+
+
+class OtherPrograms(unittest.TestCase):
+    """At the port listens something else."""
+
+    @classmethod
+    def setUpClass(cls):
+        cls.place = survey(capacity=10)
+        ran = subprocess.run([f"{TOP}/tools/public", "--json", "catalog.json"], cwd=cls.place.folder, check=True, stdout=subprocess.PIPE)
+        cls.public = f"{cls.place.folder}/public.json"
+        with open(cls.public, "wb") as file:
+            file.write(ran.stdout)
+
+    @classmethod
+    def tearDownClass(cls):
+        cls.place.__exit__()
+
+    def fault(self, said, call):
+        """What is raised, and which lines came."""
+        other = Says(said)
+        try:
+            with self.assertRaises((Failed, Refused)) as caught:
+                call(connect("127.0.0.1", other.port, "mia", "labour", public=self.public))
+        finally:
+            other.close()
+        return caught.exception, other.lines, f"127.0.0.1, port {other.port},"
+
+    def test_no_service(self):
+        web = b"HTTP/1.0 400 Bad\r\nServer: web\r\n\r\n"
+        for said, told in (
+            (web, "`HTTP/1.0 400 Bad`"),
+            (b"\n", "an empty line"),
+            (b"SSH-2.0-\x1b[31mred\r\n", "`SSH-2.0-\\x1b[31mred`"),
+            (b"n" * 100 + b"\n", f"`{'n' * 58}..`"),
+            (b"left labour\n", "`left labour`"),
+            (b"no entry\n", "`no entry`"),
+        ):
+            fault, lines, where = self.fault(said, lambda client: client.left())
+            self.assertIsInstance(fault, Failed)
+            self.assertEqual(str(fault), f"What answers at {where} is no hitchseason service (it said {told}). Nothing was asked.")
+            self.assertEqual(lines, [b"left labour\n"])
+        for call in (lambda client: client.count("persons", eps=1), lambda client: client.recall(0)):
+            fault, lines, _ = self.fault(web, call)
+            self.assertIn("is no hitchseason service", str(fault))
+            self.assertEqual(len(lines), 1)
+
+    def test_refusals_of_a_service(self):
+        """A line of the protocol is told as it was."""
+        for said, call, told in (
+            (b"no 12 1\n", lambda client: client.recall(0), "no 12 1: nothing was asked."),
+            (b"no 12 1\n", lambda client: client.left(), "no 12 1: the analyst"),
+            (b"door hello: this key speaks for tom alone\n", lambda client: client.recall(0), "door hello: this key speaks for tom alone: nothing was asked."),
+        ):
+            fault, _, _ = self.fault(said, call)
+            self.assertTrue(str(fault).startswith(told), fault)
+
+
 if __name__ == "__main__":
     unittest.main()
