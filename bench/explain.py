@@ -34,6 +34,7 @@ AGE = f"let age = fun (p : {ROW}) => let (region, p) = p in let (age, p) = p in 
 REGION = f"let region = fun (p : {ROW}) => let (region, p) = p in region in\n"
 PEOPLE = "let people = persons in "
 TOTAL = "a total can't be: ask for it"
+CLIENT = "before it is sent, and a refusal's place counts in what is sent. `tools/forecast FOLDER OWNER EPS FILE` marks it in FILE"
 
 
 def chosen(condition, word="filter"):
@@ -137,9 +138,13 @@ CASES = [
     ("size (filter (fn (a, b) => a <= 3) persons)", "21 7", ",", ["a `let` takes two names", f"`fn (p : {ROW}) =>"]),
     (chosen_ages("15 <= x and x <= 64"), "21 56", "<=", ["`a AND b` is `if a then b else false`"]),
     (AGE + REGION + chosen('region p == "north" OR age p <= 64'), "21 87", "<=", ["`a OR b` is `if a then true else b`"]),
-    (chosen("p.age <= 29"), "20 51", ".", ["Columns have no names", "let (age, p) = p in age`"]),
-    ("size persons.region", "20 12", ".", ["Columns have no names", "let (region, p) = p in region`"]),
-    (chosen("p.wages <= 29"), "20 51", ".", ["Columns have no names", "takes the first one off a row"]),
+    (chosen("p.age <= 29"), "20 51", ".", ["Columns have no names", "let (age, p) = p in age`",
+        f"This is a client's program: `p.age` is written out {CLIENT}"]),
+    ("size (filter (fn (p : row persons) => p . age <= 29) persons)", "20 40", ".", [f"`row persons` and `p . age` are written out {CLIENT}"]),
+    ("size (filter (fn (p : row persons) => true) persons)", "21 8", "row", [f"This is a client's program: `row persons` is written out {CLIENT}"]),
+    ("size persons.region", "20 12", ".", ["Columns have no names", "let (region, p) = p in region`", "!client"]),
+    (chosen("p.wages <= 29"), "20 51", ".", ["Columns have no names", "takes the first one off a row", "!client"]),
+    ('size persons * "p.age : row persons"', "21 2", "*", ["!client"]),
     (REGION + chosen('region p <= "m"'), "30 mismatch 133 141", "region p", ["Texts have no order"]),
     (AGES + 'size (filter (fn (x : num) => x <= "30") ages)', "30 mismatch 146 150", '"30"', ["with: `30`, `\"30\"`"]),
     ("COUNT(*)", "21 2", "*", ["Counting is `size persons`"]),
@@ -409,6 +414,15 @@ class Trial:
         if ran.stdout != f"no {refusal}\n":
             self.differ("check", program, ran.stdout, refusal)
 
+    def by_client(self):
+        """A client's program beside the refusal of what the client sent: it isn't asked whether another one was."""
+        with open(self.file, "w") as file:
+            file.write("size (filter (fn (p : row persons) => p.age < 30) persons)")
+        ran = self.explain("no 21 20")
+        first = "Of this program over the tables of labour the rules say `no 20 39`, and not `no 21 20`.\n"
+        if ran.returncode != 1 or not ran.stdout.startswith(first) or CLIENT not in ran.stdout:
+            self.differ("a client's program", "p.age < 30", f"{ran.returncode} {ran.stdout}{ran.stderr}", first)
+
     def piped(self):
         """Replies of a script, of which the first refusal counts."""
         with open(self.file, "w") as file:
@@ -562,6 +576,7 @@ def main():
             trial.one(program, refusal, marked, said)
             if not alone:
                 trial.by_program(program, refusal)
+        trial.by_client()
         trial.piped()
         trial.parts()
         trial.others()

@@ -55,10 +55,12 @@ def of_program(house, written, words, exception):
     """A program that the rules refuse, its place being marked in what the analyst wrote."""
     refusal = program_parts.Refusal(house, written.sent, words, exception)
     refusal.text = Places(written)
-    explanation = explain.Explanation(refusal)
+    explanation, reply = explain.Explanation(refusal), f"no {' '.join(words)}"
     part = f"\n(Of a part: {house.shown_alone()})" if house.partition and house.hidden else ""
     place = written.place(*explanation.place) if explanation.place else None
-    return Refused(explanation.lines() + part, f"no {' '.join(words)}", place)
+    counts = "; its place counts in the program as it was sent" if written.named and program_parts.place_of(refusal) else ""
+    first = f"{explain.what_of(refusal, counted=not written.named)} (reply `{reply}`{counts})."
+    return Refused(explanation.lines(first) + part, reply, place)
 
 
 def of_reply(reply, line, catalog, analyst, sensitivity):

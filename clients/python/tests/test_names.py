@@ -332,6 +332,28 @@ class ByHand(unittest.TestCase):
                 self.assertEqual(program[slice(*caught.exception.place)], marked, program)
             self.assertIn("hint: ", str(caught.exception))
 
+    def test_said(self):
+        """Words first; then the reply, whose place is one of what is sent where columns are written out: there a row's type begins at byte 22 of the
+        filters, and has 16 bytes."""
+        view = asks.View({"owners": []}, {"name": "census", "tables": PEOPLE, "partitions": []})
+        counts = "its place counts in the program as it was sent"
+        for program, said in (
+            ("size (filter (fn (p : row people) => p.age < 3) people)",
+                f"no term begins with the program's tokens up to here, `)` (reply `no 21 18`; {counts})."),
+            ("size (filter (fn (p : row people) => p.age == 3 $) people)", f"no token begins here (reply `no 20 50`; {counts})."),
+            ("size (filter (fn (p : row people) => nobody == 3) people)",
+                f"this name is neither bound nor a table of the owner (reply `no 30 unbound 43 49`; {counts})."),
+            ("sum[0,9] (map (fn (p : row people) => p.age) people) + people",
+                f"this part has another type than is wanted here (reply `no 30 mismatch 97 103`; {counts})."),
+            ("let row = size people in fn (p : row people) => p.age", "the program's value is no number (reply `no 34`)."),
+            ("size people * 2", "no term begins with the program's tokens up to token 2, `*` (reply `no 21 2`)."),
+            ("size people $", "no token begins at byte 12 (reply `no 20 12`)."),
+        ):
+            with self.assertRaises(Refused) as caught:
+                view.ask(program, "0.5")
+            self.assertEqual(str(caught.exception).split("\n")[0], said)
+            self.assertEqual(caught.exception.reply, said.split("`")[-2])
+
 
 class Wide(unittest.TestCase):
     """A table of 16 columns whose names are as long as names may be."""
