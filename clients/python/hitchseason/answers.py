@@ -19,6 +19,11 @@ def written(number):
     return f"{float(number):.6g}"
 
 
+def rounded(number):
+    """With the digits that count."""
+    return number if isinstance(number, int) else exact(float(written(number)))
+
+
 def units(millionths):
     """Millionths as EPS is written."""
     return f"{Decimal(millionths) / 10**6:f}"
@@ -44,8 +49,12 @@ class Left:
 class Known:
     """A value with intervals: `value`, `interval(PERCENT)`, `taken` in millionths, `left` (a Left), the answers' `numbers`."""
 
-    def interval(self, percent=95):
+    def at(self, level):
+        """The ends at a level."""
         raise NotImplementedError
+
+    def interval(self, percent=95):
+        return self.at(noise.level_of(percent))
 
     def intervals(self):
         return {percent: self.interval(percent) for percent in PERCENTS}
@@ -94,8 +103,8 @@ class Answer(Known):
     def margin(self, percent=95):
         return noise.margin(self.ask.e, noise.level_of(percent))
 
-    def interval(self, percent=95):
-        margin = self.margin(percent)
+    def at(self, level):
+        margin = noise.margin(self.ask.e, level)
         return self.value - margin, self.value + margin
 
     def as_dict(self):
@@ -122,9 +131,9 @@ class Worked(Known):
     def numbers(self):
         return [answer.number for answer in self.answers]
 
-    def interval(self, percent=95):
+    def at(self, level):
         """The ends are whole, or rounded outwards."""
-        low, high = self.ends(noise.level_of(percent))
+        low, high = self.ends(level)
         return (exact(low) if low == int(low) else nextafter(low, -inf)), (exact(high) if high == int(high) else nextafter(high, inf))
 
 
@@ -140,7 +149,7 @@ def total(answers):
 
 
 class Groups:
-    """An answer for each key of a partition, in its order."""
+    """What is known of each key of a partition, in its order: an answer, or what is worked out of several."""
 
     def __init__(self, partition, answers):
         self.partition, self.answers = partition, answers
@@ -159,7 +168,8 @@ class Groups:
 
     @property
     def taken(self):
-        return total(list(self.answers.values())).taken
+        taken = [answer.taken for answer in self.answers.values()]
+        return None if None in taken else sum(taken)
 
     @property
     def left(self):
@@ -167,17 +177,19 @@ class Groups:
 
     @property
     def numbers(self):
-        return [answer.number for answer in self.answers.values()]
+        return [number for answer in self.answers.values() for number in answer.numbers]
 
     def total(self, keys=None):
-        """The sum over some keys, or all. Rows of no key aren't in it."""
-        return total([self.answers[key] for key in (self.answers if keys is None else keys)])
+        """The sum over some keys, or all. Rows of no key aren't in it. Of what is worked out of several answers there is none."""
+        found = [self.answers[key] for key in (self.answers if keys is None else keys)]
+        if not all(isinstance(answer, Answer) for answer in found):
+            raise ValueError("a total is of counts or sums, of which each is one answer")
+        return total(found)
 
     def together(self, percent=95):
-        """Intervals, by key, that hold all at once at a level."""
+        """Intervals, by key, that hold all at once at a level: the keys' noises are independent."""
         level = noise.each_of(len(self.answers), noise.level_of(percent))
-        margins = {key: noise.margin(answer.ask.e, level) for key, answer in self.items()}
-        return {key: (answer.value - margins[key], answer.value + margins[key]) for key, answer in self.items()}
+        return {key: answer.at(level) for key, answer in self.items()}
 
     def top(self, count, percent=95):
         """The keys with the greatest answers, the greatest first: each with its answer, and whether it is surely among the so many greatest values,
@@ -191,9 +203,10 @@ class Groups:
         return Top(self, [(key, self.answers[key], sure(key)) for key in order], percent)
 
     def svg(self, title=None, percent="95"):
-        """The histogram with its error bars, as tools/plot draws it."""
+        """The histogram with its error bars, as tools/plot draws it; of what has a point in it, the digits that count."""
         groups = self.as_dict()
-        return pictures.histogram_svg(pictures.bars_of(groups, percent), title or self.partition, percent, pictures.eps_of(groups))
+        bars = [(key, *map(rounded, drawn)) for key, *drawn in pictures.bars_of(groups, percent)]
+        return pictures.histogram_svg(bars, title or self.partition, percent, pictures.eps_of(groups))
 
     def as_dict(self):
         return {"partition": self.partition, "taken": self.taken, "groups": {key: answer.as_dict() for key, answer in self.items()}}
@@ -265,4 +278,4 @@ def laid_out(rows):
 
 def short(known):
     """A value with its margin at 95 of 100."""
-    return f"{known.value} ±{known.interval(95)[1] - known.value}"
+    return f"{written(known.value)} ±{written(known.interval(95)[1] - known.value)}"

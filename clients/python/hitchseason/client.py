@@ -8,13 +8,13 @@
 """
 import time
 from contextlib import nullcontext
-from inspect import Parameter, signature
+from inspect import Parameter, Signature, signature
 
 from . import statistics
 from .answers import Answer, Left, units
 from .asks import Forecast, View
 from .borrowed import meanings
-from .faults import Cut, Failed, Fault, Refused, Unanswered, known, of_reply
+from .faults import BadCall, Cut, Failed, Fault, Refused, Unanswered, known, of_reply
 from .transport import Stopped, Waited, transport_of
 
 RECALLS = 64
@@ -52,6 +52,49 @@ def asking(name):
     call.__name__, call.__doc__ = name, PLANS[name].__doc__
     call.__signature__ = plan.replace(parameters=[Parameter("self", Parameter.POSITIONAL_ONLY), *list(plan.parameters.values())[1:]])
     return call
+
+
+# The words of calls.
+
+
+def program_of(words, more):
+    """What `groups` asks of each key."""
+    return words[1] if len(words) > 1 else more.get("program")
+
+
+def takes_of(name, words=(), more=()):
+    """The signature of a call; where `groups` is given a statistic's name, with that one's words."""
+    takes = list(signature(PLANS[name]).parameters.values())
+    if name == "groups":
+        program = program_of(words, dict(more))
+        of = statistics.OF_KEYS[program] if statistics.is_statistic(program) else statistics.single
+        own = [one for one in signature(of).parameters.values() if one.name not in ("view", "table", "program", "part")]
+        takes = [*takes[:3], *own, Parameter("keys", Parameter.KEYWORD_ONLY, default=None)]
+    return Signature([one for one in takes if one.name != "made"])
+
+
+def form_of(name, words=(), more=()):
+    """The words of a call, those that may be left out in brackets."""
+    takes = list(takes_of(name, words, more).parameters.values())[1:]
+    needed = [one.name.upper() for one in takes if one.default is Parameter.empty]
+    said = " ".join(needed + [f"[{one.name}=]" for one in takes if one.default is not Parameter.empty])
+    if name != "groups":
+        return said
+    program = program_of(words, dict(more))
+    return said.replace("PROGRAM", program) if statistics.is_statistic(program) else f"{said}, or in PROGRAM's place a statistic's name and its words but for TABLE"
+
+
+def fit(name, words, more):
+    """Refuses words that aren't those of a call."""
+    if name not in PLANS:
+        raise BadCall(f"there is no call `{name}`: {known(name, list(PLANS), 'there is')}")
+    takes = takes_of(name, words, more)
+    try:
+        bound = takes.bind(None, *words, **more).arguments
+    except TypeError as fault:
+        raise BadCall(f"{name}: {fault}. Its words are {name} {form_of(name, words, more)}") from None
+    if "charge" in takes.parameters and "eps" not in takes.parameters and bound.get("charge") is None:
+        raise BadCall(f"{name}: a charge is said, which is divided among its asks. Its words are {name} {form_of(name, words, more)}")
 
 
 class Pending:
@@ -92,7 +135,15 @@ class Client:
         return self.transport.kept() if hasattr(self.transport, "kept") else nullcontext()
 
     def plan(self, name, *words, **more):
-        return PLANS[name](self.view, *words, **more)
+        fit(name, words, more)
+        try:
+            return PLANS[name](self.view, *words, **more)
+        except (Fault, UnicodeError):
+            raise
+        except ValueError as fault:
+            raise BadCall(str(fault)) from None
+        except (TypeError, AttributeError) as fault:
+            raise BadCall(f"{name}: one of its words is of another kind than is wanted ({fault}). Its words are {name} {form_of(name, words, more)}") from fault
 
     def afford(self, plan):
         """Refuses asks of the whole that don't fit together, so that none of them is paid in vain. Of parts it can't be known."""

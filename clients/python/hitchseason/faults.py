@@ -1,6 +1,7 @@
 """What goes wrong, as exceptions, in tools/explain's words.
 
     Fault                        all of them
+    BadCall                      the words of a call don't fit it: nothing was asked
     Refused                      nothing is charged; `reply` is the line or nothing, `place` the part of the analyst's program
     Unanswered                   no answer comes: exhausted (50), whose charge comes back, or charged (51), or perhaps (52)
     Failed                       the program didn't run, or closed a journal: nothing of what was asked is known to be charged
@@ -17,6 +18,10 @@ class Fault(Exception):
     """ANSWERS are those that came before it in the same asking, by what they were asked of, and are paid."""
 
     answers = ()
+
+
+class BadCall(Fault, ValueError):
+    """It is a ValueError, too."""
 
 
 class Refused(Fault):
@@ -85,5 +90,4 @@ def of_reply(reply, line, catalog, analyst, sensitivity):
     return (Refused if code in ("41", "60", "61") else Failed)(f"{reply}: {said}.", reply)
 
 
-
-__all__ = ["Cut", "Failed", "Fault", "Refused", "Unanswered", "known", "of_names", "of_program", "of_reply"]
+__all__ = ["BadCall", "Cut", "Failed", "Fault", "Refused", "Unanswered", "known", "of_names", "of_program", "of_reply"]

@@ -8,18 +8,18 @@ import os
 import re
 import shlex
 import sys
-from inspect import Parameter, signature
 
 from .answers import Answer, Groups, units
 from .asks import Forecast, price
 from .borrowed import explain, programs
-from .client import PLANS
+from .client import PLANS, form_of, takes_of
 from .commands import client_of, parser_of, place_words
-from .faults import Cut, Failed, Fault, Refused, known
+from .faults import BadCall, Cut, Failed, Fault, Refused, known
 from .prompt import GivenUp, Held, Plain, Terminal, candidates
 from .told import answered, folded, harmless, listed, named, owner_told
 
 END = re.compile(r'"[^"]*"|;')
+NAMED = re.compile(r"([a-z]+)=(?!=)(.*)", re.S)
 MOST = 2**16
 HELP = [
     ("PROGRAM;", "is asked at the epsilon that is set. It may have several lines; `;` or an empty line ends it"),
@@ -363,27 +363,27 @@ class Shell:
         name, *typed = shlex.split(rest) or [""]
         if name not in PLANS or name == "ask":
             raise Unsaid(f"there is no statistic `{name}`: {known(name, list(PLANS)[1:], 'there is')}")
-        takes, words, more = signature(PLANS[name]).parameters, [], {}
-        places = [one for one in takes if one not in ("view", "made")]
+        takes, words, more = takes_of(name, [word for word in typed if not NAMED.fullmatch(word)]), [], {}
+        places = list(takes.parameters)[1:]
         for word in typed:
-            found = re.fullmatch(r"([a-z]+)=(?!=)(.*)", word, re.S)
+            found = NAMED.fullmatch(word)
             if found:
                 more[found[1]] = read(found[1], found[2])
             else:
                 words.append(read(places[len(words)] if len(words) < len(places) else "", word))
         try:
-            signature(PLANS[name]).bind(None, *words, **more)
+            takes.bind(None, *words, **more)
         except TypeError:
-            raise Unsaid(f"its words are \\a {name} {form_of(takes)}") from None
-        return name, words, {**self.usual(name, takes, more), **more}
+            raise Unsaid(f"its words are \\a {name} {form_of(name, words)}") from None
+        return name, words, {**self.usual(name, words, takes.parameters, more), **more}
 
-    def usual(self, name, takes, more):
+    def usual(self, name, words, takes, more):
         """The epsilon and the part that are set, where no other are said."""
         usual = {}
         if "eps" in takes and not {"eps", "charge"} & set(more):
             usual["eps"] = self.eps
         if "eps" not in takes and "charge" not in more:
-            raise Unsaid(f"a charge is said, which is divided among its asks: \\a {name} {form_of(takes)}")
+            raise Unsaid(f"a charge is said, which is divided among its asks: \\a {name} {form_of(name, words)}")
         if "eps" in usual and self.eps is None:
             raise Unsaid("no epsilon is set: \\e 0.5 sets one, or eps=0.5 among its words")
         if self.part and "part" in takes:
@@ -405,16 +405,9 @@ def read(name, word):
     return word.split(",") if name in ("keys", "shares") else tuple(word.split(",")) if name == "part" else word
 
 
-def form_of(takes):
-    """The words of a statistic, as they are typed."""
-    needed = [one.upper() for one, kind in takes.items() if kind.default is Parameter.empty and one != "view"]
-    others = [f"[{one}=]" for one, kind in takes.items() if kind.default is not Parameter.empty and one != "made"]
-    return " ".join(needed + others)
-
-
 def told_here(fault):
     """Whether the server wasn't asked, so that what is left is what it was."""
-    return isinstance(fault, Refused) and (fault.reply is None or fault.reply.split()[1] in explain.OF_PROGRAMS)
+    return isinstance(fault, BadCall) or isinstance(fault, Refused) and (fault.reply is None or fault.reply.split()[1] in explain.OF_PROGRAMS)
 
 
 def answers_of(known):
@@ -422,7 +415,7 @@ def answers_of(known):
     if isinstance(known, Answer):
         return [known]
     found = getattr(known, "answers", None) or known.groups.answers
-    return list(found.values()) if isinstance(found, dict) else found
+    return [answer for one in found.values() for answer in answers_of(one)] if isinstance(found, dict) else found
 
 
 def short(key):

@@ -123,17 +123,32 @@ def sum_of(view, table, column, low, high, where=None, eps=None, charge=None, pa
 # Parts.
 
 
-def groups(view, partition, program, eps=None, charge=None, keys=None, made=Groups):
-    """A program of each key of a partition, or of some, each once."""
-    keys = list(dict.fromkeys(view.partition(partition)["keys"] if keys is None else keys))
-    asks = [view.ask(program, eps, charge, (partition, key)) for key in keys]
-    return Plan(asks, lambda answers: made(partition, dict(zip(keys, answers))))
+def groups(view, partition, program, *words, keys=None, made=Groups, **more):
+    """A program of each key of a partition, or of some, each once; or a statistic by its name, with its words but for the table, which is the
+    partition's, and `part`: groups("areas", "mean", "income", 0, 5000, charge=1). The charge is each key's, and the dearest key's alone is taken."""
+    table, keys = view.partition(partition)["table"], view.partition(partition)["keys"] if keys is None else [keys] if isinstance(keys, str) else keys
+    of, first = (OF_KEYS[program], (table,)) if is_statistic(program) else (single, (program,))
+    plans = {key: of(view, *first, *words, part=(partition, key), **more) for key in dict.fromkeys(keys)}
+    asks, note = [ask for plan in plans.values() for ask in plan.asks], next((plan.note for plan in plans.values()), None)
+    if any(isinstance(plan, Search) for plan in plans.values()):
+        return Searches(partition, plans, asks, made, note)
+
+    def worked(answers):
+        rest = iter(answers)
+        return made(partition, {key: plan.made([next(rest) for _ in plan.asks]) for key, plan in plans.items()})
+
+    return Plan(asks, worked, note)
+
+
+def is_statistic(program):
+    """Whether it is a statistic's name, which is no program by itself."""
+    return isinstance(program, str) and program in OF_KEYS
 
 
 def histogram(view, partition, where=None, eps=None, charge=None, keys=None, made=Groups):
     """How many rows there are of each key of a partition, or of some."""
     table = view.partition(partition)["table"]
-    return groups(view, partition, f"size {chosen(table, where)}", eps, charge, keys, made)
+    return groups(view, partition, f"size {chosen(table, where)}", eps, charge, keys=keys, made=made)
 
 
 def crosstab(view, partition, where=None, eps=None, charge=None, separator="."):
@@ -146,6 +161,9 @@ def crosstab(view, partition, where=None, eps=None, charge=None, separator="."):
 
 def top(view, partition, number, where=None, eps=None, charge=None, percent=95):
     """So many keys with the greatest answers of a histogram: each with its answer, and whether it is surely among them, at the level."""
+    if not isinstance(number, int) or number < 1:
+        raise ValueError(f"how many keys is a whole number over 0, and not {number!r}")
+    noise.level_of(percent)
     plan = histogram(view, partition, where, eps, charge)
     return Plan(plan.asks, lambda answers: plan.made(answers).top(number, percent))
 
@@ -338,3 +356,24 @@ class Found:
         over = [bound for bound, answer in self.steps if answer.value >= 0 and low <= bound <= high]
         value = (max(under, default=low) + min(over, default=high)) // 2
         return Worked(min(max(value, low), high), self.answers(), self.ends)
+
+
+class Searches(Plan):
+    """A search of each key, one after the other."""
+
+    def __init__(self, partition, plans, asks, made, note):
+        super().__init__(asks, None, note)
+        self.partition, self.plans, self.made_of = partition, plans, made
+
+    def work(self, send):
+        found = {}
+        for key, plan in self.plans.items():
+            try:
+                found[key] = plan.work(send)
+            except Fault as fault:
+                fault.answers = [*(answer for known in found.values() for answer in known.answers), *fault.answers]
+                raise
+        return self.made_of(self.partition, found)
+
+
+OF_KEYS = {"count": count, "sum": sum_of, "mean": mean, "variance": variance, "quantile": quantile, "median": median}

@@ -165,13 +165,19 @@ class Pipes(unittest.TestCase):
         lines += ["\\a median persons income 0 5000 charge=1 steps=3"]
         lines += ["\\a sum persons income 0 5000 charge=1", "\\a histogram areas eps=0.1 keys=north,west"]
         lines += ["\\a groups areas 'size persons' 'eps=0.1'"]
+        lines += ["\\a groups areas mean income 0 5000 charge=1 keys=north,west"]
         said = self.said(*lines)
-        self.assertEqual(len(re.findall("^numbers? ", said, re.M)), 6)
+        self.assertEqual(len(re.findall("^numbers? ", said, re.M)), 7)
+        self.assertRegex(said.splitlines()[-1], "^numbers [0-9]+ to [0-9]+, 1 taken, ")
         for line, why in (
             ("\\a", "there is no statistic ``"),
             ("\\a maen persons", "is `mean` meant?"),
             ("\\a mean persons income 0 5000", "a charge is said"),
             ("\\a mean charge=1", "its words are \\a mean TABLE COLUMN LOW HIGH [where=]"),
+            ("\\a groups areas mean income charge=1", "its words are \\a groups PARTITION mean COLUMN LOW HIGH [where=] [charge=] [shares=] [keys=]"),
+            ("\\a groups areas", "or in PROGRAM's place a statistic's name and its words but for TABLE"),
+            ("\\a groups areas mean income 0 x charge=1", "HIGH is a whole number, and not `x`"),
+            ("\\a count persons eps=1 part=north", "`part` is a partition and one of its keys, as part=(\"areas\", \"north\")"),
             ("\\a count persons", "\\e 0.5 sets one"),
             ("\\a mean persons income 0 x charge=1", "HIGH is a whole number, and not `x`"),
             ("\\a mean persons income 9 5 charge=1", "bounds are whole numbers"),

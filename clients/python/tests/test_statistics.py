@@ -2,11 +2,13 @@
 
 The asks of many tries stand in one script, and the searches of many quantiles go on step by step together.
 """
+import re
 import unittest
 from fractions import Fraction
+from xml.etree import ElementTree
 
 from common import enough, often, persons, survey
-from hitchseason import noise, statistics
+from hitchseason import Refused, noise, statistics
 
 PERCENTS = (50, 95, 99.9)
 
@@ -115,6 +117,51 @@ class Statistics(unittest.TestCase):
         best = sorted(exact, key=lambda key: -exact[key])[:2]
         wrong = sum(any(sure and key not in best for key, _, sure in groups.top(2)) for groups in found)
         self.assertTrue(enough(len(found) - wrong, len(found), 0.95))
+
+    def test_statistics_of_each(self):
+        """Means and sums of each key; of a mean of charge 1 each key is charged half for the sum and half for the count, and the first key's is taken alone."""
+        rows = {key: [row for row in self.rows if row["region"] == key] for key in ("north", "south", "east", "west", "capital")}
+        incomes = {key: [min(5000, row["income"]) for row in found] for key, found in rows.items()}
+        plan = self.client.plan("groups", "areas", "mean", "income", 0, 5000, charge=1)
+        self.assertEqual([ask.part[1] for ask in plan.asks], [key for key in rows for _ in range(2)])
+        found = self.tries(plan, often(30, 500))
+        for key, mine in incomes.items():
+            self.judge(f"mean of {key}", [groups[key] for groups in found], Fraction(sum(mine), len(mine)))
+        exact = {key: Fraction(sum(mine), len(mine)) for key, mine in incomes.items()}
+        together = sum(all(low <= exact[key] <= high for key, (low, high) in groups.together(95).items()) for groups in found)
+        self.assertTrue(enough(together, len(found), 0.95))
+        forecast = self.client.forecast("groups", "areas", "mean", "income", 0, 5000, charge=1)
+        self.assertEqual((forecast.charge, len(forecast.asks), [count for _, count in forecast.kinds()]), (10**6, 10, [5, 5]))
+        one = self.client.groups("areas", "mean", "income", 0, 5000, 'p.work == "employed"', charge=1)
+        self.assertEqual((one.taken, [answer.taken for _, answer in one.items()]), (10**6, [10**6, 0, 0, 0, 0]))
+        self.assertEqual(one.numbers, list(range(one.numbers[0], one.numbers[0] + 10)))
+        self.assertEqual(list(one.as_dict()["groups"]["east"]["numbers"]), one["east"].numbers)
+        with self.assertRaises(ValueError):
+            one.total()
+        sums = self.tries(self.client.plan("groups", "areas", "sum", "income", 0, 5000, eps="0.0005", keys=["east", "west"]), often(30, 500))
+        self.judge("total of sums", [groups.total() for groups in sums], sum(incomes["east"] + incomes["west"]))
+        self.assertEqual(len(self.client.groups("areas", "count", where="p.age <= 30", eps=1, keys="north")), 1)
+        spread = self.client.groups("areas", "variance", "age", 0, 100, charge=4, keys=["south"])["south"]
+        self.assertEqual(len(spread.numbers), 3)
+
+    def test_medians_of_each(self):
+        """At a charge of 100 each is exact, and where there is no room any more, what was answered is told."""
+        found = self.client.groups("areas", "median", "age", 0, 63, charge=100)
+        for key, known in found.items():
+            ages = sorted(row["age"] for row in self.rows if row["region"] == key)
+            self.assertEqual(known.value, ages[(len(ages) - 1) // 2])
+        with survey(capacity=20) as place, self.assertRaises(Refused) as caught:
+            place.client().groups("areas", "median", "income", 0, 5000, charge=1)
+        # Ten answers have room: eight steps of the first key, or fewer, and some of the next ones.
+        self.assertEqual([answer.number for answer in caught.exception.answers], list(range(10)))
+
+    def test_picture_of_each(self):
+        """Bars of means have the digits that count."""
+        drawn = ElementTree.fromstring(self.client.groups("areas", "mean", "income", 0, 5000, charge=1).svg())
+        svg = "{http://www.w3.org/2000/svg}"
+        self.assertEqual(len(drawn.findall(f"{svg}rect")), 1 + 5)
+        told = [found.text for found in drawn.iter(f"{svg}title")][1:]
+        self.assertTrue(all(re.fullmatch(r"[a-z]+: [0-9.]{1,7} \([0-9.]{1,7} to [0-9.]{1,7}\)", one) for one in told), told)
 
     def test_of_a_part(self):
         north = [row["age"] for row in self.rows if row["region"] == "north"]
