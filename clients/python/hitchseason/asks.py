@@ -105,6 +105,15 @@ class View:
             raise faults.Refused(f"the partition {partition} has no key `{key}`: {faults.known(key, keys, 'it has')}")
         return partition, key
 
+    def as_part(self, given):
+        """The partition and the key of `part`."""
+        if isinstance(given, (tuple, list)) and len(given) == 2 and all(isinstance(word, str) for word in given):
+            return self.part(*given)
+        partitions = self.entry["partitions"]
+        partition = next((one for one in partitions if given in one["keys"]), partitions[0] if partitions else {"name": "PARTITION", "keys": ["KEY"]})
+        key = given if given in partition["keys"] else partition["keys"][0]
+        raise faults.BadCall(f'`part` is a partition and one of its keys, as part=("{partition["name"]}", "{key}"), and not {given!r}')
+
     def checked(self, program, partition=None):
         """A program as it is sent, and its sensitivity, over the owner's tables or those that a part shows."""
         if (program, partition) not in self.known:
@@ -122,7 +131,7 @@ class View:
         return self.known[program, partition]
 
     def ask(self, program, eps=None, charge=None, part=None):
-        part = self.part(*part) if part else None
+        part = self.as_part(part) if part else None
         found, sensitivity = self.checked(program, part[0] if part else None)
         ask = Ask(self.name, found, sensitivity, price(sensitivity, eps, charge), part, self.closed)
         if len(ask.line().encode()) > lines.LINE_LIMIT:
