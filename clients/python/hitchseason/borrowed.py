@@ -29,6 +29,7 @@ try:
     import program_parts
     import programs
     import runs
+    import sql_words
     import tables
 
     explain = command("explain")
@@ -36,4 +37,4 @@ try:
 finally:
     sys.path.remove(TOOLS)
 
-__all__ = ["TOOLS", "TOP", "explain", "lines", "meanings", "program_parts", "programs", "public", "runs", "tables"]
+__all__ = ["TOOLS", "TOP", "explain", "lines", "meanings", "program_parts", "programs", "public", "runs", "sql_words", "tables"]

@@ -8,6 +8,7 @@
     Cut                          the run was cut, and what came of it isn't known, or not which answer is whose
 """
 from .borrowed import explain, lines, meanings, program_parts
+from .hints import for_client
 from .names import Places, known
 
 OF_PROGRAMS = explain.OF_PROGRAMS
@@ -61,6 +62,7 @@ def of_program(house, written, words, exception):
     refusal = program_parts.Refusal(house, written.sent, words, exception)
     refusal.text = Places(written)
     explanation, reply = explain.Explanation(refusal), f"no {' '.join(words)}"
+    explanation.hint = for_client(explanation.hint, refusal, written.source)
     part = f"\n(Of a part: {house.shown_alone()})" if house.partition and house.hidden else ""
     place = written.place(*explanation.place) if explanation.place else None
     counts = "; its place counts in the program as it was sent" if written.named and program_parts.place_of(refusal) else ""

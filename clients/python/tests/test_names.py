@@ -355,6 +355,35 @@ class ByHand(unittest.TestCase):
             self.assertEqual(caught.exception.reply, said.split("`")[-2])
 
 
+    def test_hints(self):
+        """They speak of the client's calls, and of columns by their names."""
+        partitions = [{"name": "sexes", "table": "people", "column": "sex", "keys": ["f", "m"]}]
+        view = asks.View({"owners": []}, {"name": "census", "tables": PEOPLE, "partitions": partitions})
+        mean = "A mean is a call: `census.mean(\"people\", {0}, LOW, HIGH, charge=..)`, at the prompt `\\a mean people {1} LOW HIGH charge=..`."
+        for program, hint in (
+            ("SELECT AVG(age) FROM people", mean.format('"age"', "age")),
+            ("avg people", mean.format("COLUMN", "COLUMN")),
+            ("size (filter (fn (q : row people) => age <= 30) people)",
+                "`age` is a column of `people`, and no name: write `q.age`, where `fn (q : row people)` binds the row."),
+            ("sum[0,9] age", "`age` is a column of `people`, and no name: write `p.age`, where `fn (p : row people)` binds the row."),
+            ("size (filter (age <= 29) people)", "`filter` takes a function, which is handed one row at a time: `fn (p : row people) => p.age <= 29`."),
+            ('size (filter (sex == "f") people)', "`filter` takes a function, which is handed one row at a time: `fn (p : row people) => p.sex == \"f\"`."),
+            ("size (filter (fn (p : people) => true) people)",
+                "`people` is a table, and here stands a type. A row of it is written `row people`: `fn (p : row people) => ..`."),
+            ("size people group by sex", "A program of each key of a partition is a call: `census.groups(\"sexes\", PROGRAM, eps=..)`, at the prompt `\\a groups "
+                "sexes PROGRAM eps=..`."),
+            ("size people * 2", "The factor stands on the left: write `2 * size people`."),
+        ):
+            with self.assertRaises(Refused) as caught:
+                view.ask(program, "0.5")
+            self.assertEqual(str(caught.exception).split("\n")[-1], f"hint: {hint}")
+        # A table of one column has no rows to take apart.
+        ages = asks.View({"owners": []}, {"name": "census", "tables": [{"name": "ages", "columns": [{"name": "age", "type": "num"}]}], "partitions": []})
+        with self.assertRaises(Refused) as caught:
+            ages.ask("size (filter (age <= 29) ages)", "0.5")
+        self.assertIn("one element at a time: `fn (age : num) => age <= 29`", str(caught.exception))
+
+
 class Wide(unittest.TestCase):
     """A table of 16 columns whose names are as long as names may be."""
 
