@@ -12,6 +12,7 @@ import json
 import signal
 import socket
 import subprocess
+import sys
 import time
 from collections import deque
 from contextlib import contextmanager, suppress
@@ -20,8 +21,8 @@ from .borrowed import meanings
 from .faults import Failed, Refused
 from .transport import Stopped, Waited
 
-# How long a service that isn't there is tried again; lines that are sent ahead of their replies.
-PATIENCE, PAUSE = 20, 0.5
+# How long a service that isn't there is tried again, and after how long that is told; lines that are sent ahead of their replies.
+PATIENCE, PAUSE, LATE = 20, 0.5, 1
 AHEAD = 16
 CLOSED = "door closed"
 # How much is told of what another program said.
@@ -104,23 +105,32 @@ class Server:
             return self.first(line)
 
     def first(self, line):
-        """The reply to the first line of a new connection."""
-        until = time.monotonic() + PATIENCE
+        """The reply to the first line of a new connection. A wait for one is told, once."""
+        begun, told = time.monotonic(), False
         while True:
             try:
                 self.waiting = True
-                self.link = self.opened()
+                self.link = self.opened(PATIENCE if told else LATE)
                 self.link.say(line)
                 return self.known(line, self.link.hear())
             except KeyboardInterrupt:
                 raise Waited() from None
             except (OSError, Ended) as fault:
                 self.drop()
-                if time.monotonic() > until or isinstance(fault, Refusal):
+                waited = time.monotonic() - begun
+                if waited > PATIENCE or isinstance(fault, Refusal):
                     raise Failed(f"{self.name} can't be reached: {fault}. Nothing was asked.") from None
+                told = told or (waited >= LATE and self.tell())
                 self.pause()
             finally:
                 self.waiting = False
+
+    def tell(self):
+        """Says what is waited for, where somebody may read it."""
+        with suppress(OSError, ValueError):
+            if sys.stderr:
+                print(f"waiting for {self.name.rstrip(',')}, up to {PATIENCE} s", file=sys.stderr, flush=True)
+        return True
 
     def known(self, line, reply):
         """The first reply of a connection, if it is a service's: it may be that another program listens there."""
@@ -185,13 +195,16 @@ class Address(Server):
         super().__init__(public)
         self.host, self.port, self.name = host, port, f"{host}, port {port},"
 
-    def opened(self):
-        return Connection(self.host, self.port)
+    def opened(self, patience):
+        return Connection(self.host, self.port, patience)
 
 
 class Connection(Link):
-    def __init__(self, host, port):
-        self.socket = socket.create_connection((host, port))
+    """Once it is there, a reply is waited for as long as it takes."""
+
+    def __init__(self, host, port, patience):
+        self.socket = socket.create_connection((host, port), patience)
+        self.socket.settimeout(None)
         self.socket.setsockopt(socket.IPPROTO_TCP, socket.TCP_NODELAY, 1)
 
     def say(self, line):
@@ -222,7 +235,7 @@ class Login(Server):
         super().__init__(public)
         self.name, self.command = destination, [*ssh, "-T", *words, "--", destination]
 
-    def opened(self):
+    def opened(self, _):
         return Process(self.command)
 
 

@@ -26,10 +26,10 @@ def often(short, long):
 
 
 class Between:
-    """Takes connections at a port of its own, and has `serve` serve each with what `taken` says of it, in a thread of its own."""
+    """Takes connections at a port, which is its own unless said, and has `serve` serve each with what `taken` says of it, in a thread of its own."""
 
-    def __init__(self, to):
-        self.to, self.door = to, socket.create_server(("127.0.0.1", 0))
+    def __init__(self, to, port=0):
+        self.to, self.door = to, socket.create_server(("127.0.0.1", port))
         self.port = self.door.getsockname()[1]
         threading.Thread(target=self.run, daemon=True).start()
 

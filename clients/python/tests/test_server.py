@@ -1,5 +1,7 @@
 """The client over connections: answers, refusals of a door, connections that are cut, and what is found by `recall`. Where the program has no `serve` it is
 skipped."""
+import contextlib
+import io
 import json
 import os
 import socket
@@ -10,7 +12,7 @@ import time
 import unittest
 
 from common import PROGRAM, TOP, Between, often, survey
-from hitchseason import Cut, Failed, Refused, connect
+from hitchseason import Cut, Failed, Refused, connect, server
 
 sys.path.insert(0, f"{TOP}/bench")
 from served import free_ports, is_listened_at  # noqa: E402
@@ -191,9 +193,9 @@ class Served(unittest.TestCase):
 class Says(Between):
     """What listens is another program: it says the same to whatever comes, and how many lines came is counted."""
 
-    def __init__(self, said):
+    def __init__(self, said, port=0):
         self.said, self.lines = said, []
-        super().__init__(None)
+        super().__init__(None, port)
 
     def taken(self):
         return ()
@@ -248,6 +250,31 @@ class OtherPrograms(unittest.TestCase):
             fault, lines, _ = self.fault(web, call)
             self.assertIn("is no hitchseason service", str(fault))
             self.assertEqual(len(lines), 1)
+
+    def test_waiting(self):
+        """A service that isn't there: that it is waited for is told once, after a second, and not where it comes before."""
+        port, patience = free_ports(1), server.PATIENCE
+        server.PATIENCE = 2.5
+        try:
+            for ready, told in ((None, True), (1.8, True), (0.3, False)):
+                late = threading.Timer(ready or 0, lambda: others.append(Says(b"left 0 20000000 0\n", port)))
+                others, said, begun = [], io.StringIO(), time.monotonic()
+                if ready:
+                    late.start()
+                with contextlib.redirect_stderr(said):
+                    client = connect("127.0.0.1", port, "mia", "labour", public=self.public)
+                    if ready:
+                        self.assertEqual(client.left().records, 0)
+                    else:
+                        with self.assertRaises(Failed) as caught:
+                            client.left()
+                        self.assertIn(f"127.0.0.1, port {port}, can't be reached", str(caught.exception))
+                        self.assertGreater(time.monotonic() - begun, 2.5)
+                self.assertEqual(said.getvalue(), f"waiting for 127.0.0.1, port {port}, up to 2.5 s\n" if told else "")
+                for other in others:
+                    other.close()
+        finally:
+            server.PATIENCE = patience
 
     def test_refusals_of_a_service(self):
         """A line of the protocol is told as it was."""
