@@ -140,20 +140,22 @@ class View:
 
 
 class Plan:
-    """The asks of a statistic, and what is made of their answers; NOTE says what a forecast can't say in figures."""
+    """The asks of a statistic, and what is made of their answers; NOTE says what a forecast can't say in figures. SUMS are sums of answers that are told,
+    too: pairs of a name and of how many answers there are in it."""
 
-    def __init__(self, asks, made, note=None):
-        self.asks, self.made, self.note = asks, made, note
+    def __init__(self, asks, made, note=None, sums=()):
+        self.asks, self.made, self.note, self.sums = asks, made, note, sums
 
     def work(self, send):
         return self.made(send(self.asks))
 
 
 class Forecast:
-    """Before anything is asked: the `charge` in millionths, of parts the most that it can be, and for each kind of ask its margins."""
+    """Before anything is asked: the `charge` in millionths, of parts the most that it can be, and for each kind of ask its margins. `left` is what was
+    left when that was told last, or nothing; the margins of `sums` are those of sums of answers, as totals."""
 
-    def __init__(self, plan):
-        self.asks, self.note = plan.asks, plan.note
+    def __init__(self, plan, left=None, budget=None):
+        self.asks, self.note, self.sums, self.left, self.budget = plan.asks, plan.note, plan.sums, left, budget
         of_parts = {}
         for ask in self.asks:
             partition, key = ask.part or (None, None)
@@ -172,6 +174,23 @@ class Forecast:
         """By how much an answer is off at most, at this level; of several kinds of asks that of the kind with this number."""
         return noise.margin(self.kinds()[number][0].e, noise.level_of(percent))
 
+    def at_most(self):
+        """Whether the charge may be less: parts are charged where they are the dearest of their partition."""
+        return any(ask.part for ask in self.asks)
+
+    def margins_of_sums(self):
+        """By name: of so many answers of the first kind, by the distribution of the sum of their noises."""
+        e = self.asks[0].e
+        return [(name, count, {percent: noise.sum_margin([e] * count, noise.level_of(percent)) for percent in PERCENTS}) for name, count in self.sums]
+
+    def too_much(self):
+        """What is said where it takes more than what was left, or than the whole budget."""
+        most = self.budget if self.left is None else self.left
+        if most is None or self.charge <= most:
+            return []
+        there = f"the whole budget is {units(most)}" if self.left is None else f"{units(most)} is left"
+        return [f"But {there}: it {'may be' if self.at_most() else 'is'} refused."]
+
     def as_dict(self):
         kinds = [
             {
@@ -185,16 +204,23 @@ class Forecast:
             }
             for ask, count in self.kinds()
         ]
-        return {"charge": self.charge, "at_most": any(ask.part for ask in self.asks), "kinds": kinds, "note": self.note}
+        sums = [{"name": name, "answers": count, "margins": margins} for name, count, margins in self.margins_of_sums()]
+        told = {"charge": self.charge, "at_most": self.at_most(), "left": self.left, "too_much": bool(self.too_much())}
+        return {**told, "kinds": kinds, "sums": sums, "note": self.note}
 
     def __str__(self):
-        most = "at most " if any(ask.part for ask in self.asks) else ""
+        most = "at most " if self.at_most() else ""
         said = [f"charge: {most}{units(self.charge)} ({len(self.asks)} {'ask' if len(self.asks) == 1 else 'asks'})"]
         for ask, count in self.kinds():
-            margins = ", ".join(f"{percent} of 100 ±{noise.margin(ask.e, noise.level_of(percent))}" for percent in PERCENTS)
+            margins = {percent: noise.margin(ask.e, noise.level_of(percent)) for percent in PERCENTS}
             sensitivity = programs.sensitivity_text(ask.sensitivity)
             times = f"{count} times " if count > 1 else ""
-            said.append(f"{times}EPS {explain.in_units(ask.e)}, sensitivity {sensitivity}, charge {units(ask.charge)}: {margins}")
-        return "\n".join(said + ([self.note] if self.note else []))
+            said.append(f"{times}EPS {explain.in_units(ask.e)}, sensitivity {sensitivity}, charge {units(ask.charge)}: {told(margins)}")
+        said += [f"{name}, of {count} answers: {told(margins)}" for name, count, margins in self.margins_of_sums()]
+        return "\n".join(said + ([self.note] if self.note else []) + self.too_much())
 
     __repr__ = __str__
+
+
+def told(margins):
+    return ", ".join(f"{percent} of 100 ±{margin}" for percent, margin in margins.items())

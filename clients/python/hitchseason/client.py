@@ -81,7 +81,9 @@ def form_of(name, words=(), more=()):
     if name != "groups":
         return said
     program = program_of(words, dict(more))
-    return said.replace("PROGRAM", program) if statistics.is_statistic(program) else f"{said}, or in PROGRAM's place a statistic's name and its words but for TABLE"
+    if statistics.is_statistic(program):
+        return said.replace("PROGRAM", program)
+    return f"{said}, or in PROGRAM's place a statistic's name and its words but for TABLE"
 
 
 def fit(name, words, more):
@@ -116,7 +118,7 @@ class Client:
                 raise Refused(f"there is no {what} `{name}`: {known(name, [one for one in all_names if one], 'there is')}")
         self.transport, self.catalog, self.analyst = transport, catalog, analyst
         self.view = View(catalog, catalog["owners"][names.index(owner)], getattr(transport, "closed", False))
-        self.next = self.pending = None
+        self.next = self.pending = self.known = None
 
     # What is asked. Each takes `eps` or `charge`, and `part=(PARTITION, KEY)`, as statistics.py says.
 
@@ -156,8 +158,9 @@ class Client:
     # What costs nothing.
 
     def forecast(self, name, *words, **more):
-        """What a call would be charged, and how far its answers are off: forecast("count", "people", eps=0.5). It asks nothing."""
-        return Forecast(self.plan(name, *words, **more))
+        """What a call would be charged, and how far its answers are off: forecast("count", "people", eps=0.5). It asks nothing. What is left is known
+        from the last answer or the last left(); else it is compared with the whole budget."""
+        return Forecast(self.plan(name, *words, **more), self.known.left if self.known else None, self.view.entry["budget"])
 
     def sent(self, program):
         """A program as it is sent, with its columns' names written out."""
@@ -189,7 +192,8 @@ class Client:
         words = reply.split(" ")
         if words[0] != "left":
             raise Failed(f"{reply}: {meanings.meaning(reply)}.", reply)
-        return Left(self.view.name, *map(int, words[1:4]), time.strftime("%Y-%m-%dT%H:%M:%SZ", time.gmtime()))
+        self.known = Left(self.view.name, *map(int, words[1:4]), time.strftime("%Y-%m-%dT%H:%M:%SZ", time.gmtime()))
+        return self.known
 
     # Asking.
 

@@ -10,7 +10,7 @@ import shlex
 import sys
 
 from .answers import Answer, Groups, units
-from .asks import Forecast, price
+from .asks import price
 from .borrowed import explain, programs
 from .client import PLANS, form_of, takes_of
 from .commands import client_of, parser_of, place_words
@@ -327,7 +327,7 @@ class Shell:
             if self.eps is None:
                 raise Unsaid(NO_EPS.replace("\\g asks", "\\f says"))
             name, words, more = self.call_of(program)
-        forecast = Forecast(self.client.plan(name, *words, **more))
+        forecast = self.client.forecast(name, *words, **more)
         return self.in_form(forecast, lambda: str(forecast))
 
     def do_s(self, rest):

@@ -8,6 +8,7 @@ distribution of their noises:
 - a variance: by the mean's interval at a level near 1, and a number that a combination of all three noises stays within at the rest of the level;
 - a quantile: a bound is too low or too high where its answer says so by more than a margin that at the level no step passes to the wrong side.
 """
+from collections import Counter
 from fractions import Fraction
 
 from . import noise
@@ -153,10 +154,19 @@ def histogram(view, partition, where=None, eps=None, charge=None, keys=None, mad
 
 def crosstab(view, partition, where=None, eps=None, charge=None, separator="."):
     """How many rows there are of each key of a partition by a joint column, as a table with its totals."""
-    for key in view.partition(partition)["keys"]:
+    keys = view.partition(partition)["keys"]
+    for key in keys:
         if key.count(separator) != 1:
             raise ValueError(f"`{key}` isn't two keys with one `{separator}` between them: {partition} is no partition by a joint column")
-    return histogram(view, partition, where, eps, charge, made=lambda name, answers: Crosstab(name, answers, separator))
+    plan = histogram(view, partition, where, eps, charge, made=lambda name, answers: Crosstab(name, answers, separator))
+    plan.sums = [*cells_of("a row's total", keys, 0, separator), *cells_of("a column's total", keys, 1, separator), ("the total", len(keys))]
+    return plan
+
+
+def cells_of(name, keys, side, separator):
+    """A total of rows, or of columns, with how many cells there are in it; in several sizes where some cells aren't there."""
+    sizes = Counter(key.split(separator)[side] for key in keys).values()
+    return [(name, size) for size in sorted(set(sizes))]
 
 
 def top(view, partition, number, where=None, eps=None, charge=None, percent=95):

@@ -6,10 +6,12 @@ import os
 import subprocess
 import unittest
 from collections import Counter
+from math import exp
 from xml.etree import ElementTree
 
 from common import PROGRAM, TOP, Place, rows_of, survey
 from hitchseason import Refused, connect, pictures
+from hitchseason.answers import short
 
 YOUNG = "size (filter (fn (p : row persons) =>\n  p.age <= 30) persons)\n"
 REGISTER = f"{TOP}/examples/register"
@@ -112,6 +114,22 @@ class Commands(unittest.TestCase):
         self.assertEqual(len(self.said("plot", "budget", "--text", given=lefts).splitlines()), 5)
 
 
+def within(eps, count, margin):
+    """How likely the sum of so many noises is off by at most so much, each noise being K with P(K = k) = (1 - q)/(1 + q) q^|k| for q = exp(-EPS): one sum
+    after the other, up to 100 to both sides, where 10^-20 is left."""
+    q, most = exp(-eps), 100
+    one = {k: (1 - q) / (1 + q) * q ** abs(k) for k in range(-most, most + 1)}
+    found = {0: 1.0}
+    for _ in range(count):
+        more = dict.fromkeys(range(-most, most + 1), 0.0)
+        for have, share in found.items():
+            for k, other in one.items():
+                if -most <= have + k <= most:
+                    more[have + k] += share * other
+        found = more
+    return sum(found[k] for k in range(-margin, margin + 1))
+
+
 class Register(unittest.TestCase):
     """A cross table by a joint column, and the client beside a file that tools/public wrote."""
 
@@ -125,8 +143,21 @@ class Register(unittest.TestCase):
             with open(public, "w") as file:
                 file.write(tool("public", "--json", f"{place.folder}/catalog.json").stdout)
             client = connect(place.folder, "ann", program=PROGRAM, public=public)
-            self.assertEqual(client.forecast("crosstab", "group", eps="0.5").charge, 500_000)
+            forecast = client.forecast("crosstab", "group", eps="0.5")
+            self.assertEqual((forecast.charge, forecast.left, forecast.too_much()), (500_000, None, []))
+            totals = {("a row's total", 5): 13, ("a column's total", 3): 10, ("the total", 15): 21}
+            self.assertEqual({(name, count): margins["95"] for name, count, margins in forecast.margins_of_sums()}, totals)
+            for (_, count), margin in totals.items():
+                self.assertTrue(within(0.5, count, margin - 1) < 0.95 <= within(0.5, count, margin), count)
+            self.assertEqual(str(forecast).splitlines()[2], "a row's total, of 5 answers: 50 of 100 ±4, 95 of 100 ±13, 99.9 of 100 ±24")
+            self.assertEqual(forecast.as_dict()["sums"][1]["margins"], {"50": 3, "95": 10, "99.9": 20})
+            self.assertEqual(client.forecast("crosstab", "group", eps=2).too_much(), ["But the whole budget is 1: it may be refused."])
             table = client.crosstab("group", eps="0.5")
+            self.assertEqual([short(table.row_total("f")), short(table.column_total("from_18")), short(table.total())],
+                [f"{known.value} ±{margin}" for known, margin in zip((table.row_total("f"), table.column_total("from_18"), table.total()), totals.values())])
+            self.assertEqual(client.forecast("count", "people", eps="0.5").too_much(), [])
+            self.assertEqual(str(client.forecast("count", "people", eps="0.6")).splitlines()[-1], "But 0.5 is left: it is refused.")
+            self.assertTrue(client.forecast("histogram", "group", eps="0.6").as_dict()["too_much"])
             self.assertEqual((table.taken, table.left.left), (500_000, 500_000))
             self.assertEqual((table.rows, len(table.columns)), (["f", "m", "unknown"], 5))
             for (row, column), answer in table.cells.items():

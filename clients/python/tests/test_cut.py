@@ -327,7 +327,8 @@ class Refusals(unittest.TestCase):
                 (lambda: client.mean("persons", "income", 0, 5000), f"mean: a charge is said, which is divided among its asks. {mean}"),
                 (lambda: client.groups("areas", "mean", "income", charge=1), f"groups: missing a required argument: 'low'. {of_each}"),
                 (lambda: client.groups("areas", "mean", "income", 0, 5000, eps=1), of_each),
-                (lambda: client.groups("areas", "size persons", eps=1, part=("areas", "north")), "Its words are groups PARTITION PROGRAM [eps=] [charge=] [keys=], or"),
+                (lambda: client.groups("areas", "size persons", eps=1, part=("areas", "north")), "Its words are groups PARTITION PROGRAM [eps=] [charge=] "
+                    "[keys=], or in PROGRAM's place"),
                 (lambda: client.forecast("crosstabs", "areas", eps=1), "there is no call `crosstabs`: is `crosstab` meant?"),
                 (lambda: client.count("persons", part="west", eps=1), part.format("west", "'west'")),
                 (lambda: client.count("persons", part="nowhere", eps=1), part.format("north", "'nowhere'")),

@@ -370,8 +370,8 @@ class ByHand(unittest.TestCase):
             ('size (filter (sex == "f") people)', "`filter` takes a function, which is handed one row at a time: `fn (p : row people) => p.sex == \"f\"`."),
             ("size (filter (fn (p : people) => true) people)",
                 "`people` is a table, and here stands a type. A row of it is written `row people`: `fn (p : row people) => ..`."),
-            ("size people group by sex", "A program of each key of a partition is a call: `census.groups(\"sexes\", PROGRAM, eps=..)`, at the prompt `\\a groups "
-                "sexes PROGRAM eps=..`."),
+            ("size people group by sex", "A program of each key of a partition is a call: `census.groups(\"sexes\", PROGRAM, eps=..)`, at the prompt "
+                "`\\a groups sexes PROGRAM eps=..`."),
             ("size people * 2", "The factor stands on the left: write `2 * size people`."),
         ):
             with self.assertRaises(Refused) as caught:
