@@ -131,7 +131,7 @@ class View:
         return self.known[program, partition]
 
     def ask(self, program, eps=None, charge=None, part=None):
-        part = self.as_part(part) if part else None
+        part = None if part is None else self.as_part(part)
         found, sensitivity = self.checked(program, part[0] if part else None)
         ask = Ask(self.name, found, sensitivity, price(sensitivity, eps, charge), part, self.closed)
         if len(ask.line().encode()) > lines.LINE_LIMIT:

@@ -333,6 +333,7 @@ class Refusals(unittest.TestCase):
                 (lambda: client.count("persons", part="west", eps=1), part.format("west", "'west'")),
                 (lambda: client.count("persons", part="nowhere", eps=1), part.format("north", "'nowhere'")),
                 (lambda: client.count("persons", part=("areas",), eps=1), part.format("north", "('areas',)")),
+                (lambda: client.count("persons", part="", eps=1), part.format("north", "''")),
                 (lambda: client.count("persons", where=5, eps=1), "Its words are count TABLE [where=] [eps=] [charge=] [part=]"),
                 (lambda: client.top("areas", "3", eps=1), "how many keys is a whole number over 0, and not '3'"),
                 (lambda: client.top("areas", 3, eps=1, percent=200), "a level is over 0"),
