@@ -182,11 +182,11 @@ class RandomCuts(unittest.TestCase):
         client.ask("size persons", eps=EPS)
         opened = client.transport.opened
 
-        def between():
+        def between(patience):
             if client.pending is not None:
                 client.transport.opened = opened
                 other.ask("size persons + 7", eps=EPS)
-            return opened()
+            return opened(patience)
 
         for mode in ("behind", "answered"):
             client.left()
