@@ -140,17 +140,22 @@ class Plan:
         return self.made(send(self.asks))
 
 
+def charge_of(asks):
+    """What asks are charged together, in millionths; of parts the most that it can be."""
+    of_parts = {}
+    for ask in asks:
+        partition, key = ask.part or (None, None)
+        keys = of_parts.setdefault(partition, {})
+        keys[key] = keys.get(key, 0) + ask.charge
+    return sum(max(keys.values()) for keys in of_parts.values())
+
+
 class Forecast:
-    """Before anything is asked: the `charge` in millionths, of parts the most that it can be, and for each kind of ask its margins."""
+    """""Before anything is asked: the `charge` in millionths, of parts the most that it can be, and for each kind of ask its margins."""
 
     def __init__(self, plan):
         self.asks, self.note = plan.asks, plan.note
-        of_parts = {}
-        for ask in self.asks:
-            partition, key = ask.part or (None, None)
-            keys = of_parts.setdefault(partition, {})
-            keys[key] = keys.get(key, 0) + ask.charge
-        self.charge = sum(max(keys.values()) for keys in of_parts.values())
+        self.charge = charge_of(self.asks)
 
     def kinds(self):
         """Asks that differ in their part alone count as one: (ask, how many)."""

@@ -12,12 +12,14 @@ from inspect import Parameter, signature
 
 from . import statistics
 from .answers import Answer, Left, units
-from .asks import Forecast, View
+from .asks import Forecast, View, charge_of
 from .borrowed import meanings
 from .faults import Cut, Failed, Fault, Refused, Unanswered, known, of_reply
 from .transport import Stopped, Waited, transport_of
 
 RECALLS = 64
+# How much is told of a program; reservations that may be open at once, as there are at most so many workers.
+SAID, OPEN = 60, 16
 PLANS = {
     "ask": statistics.single, "count": statistics.count, "sum": statistics.sum_of, "mean": statistics.mean, "median": statistics.median,
     "quantile": statistics.quantile, "variance": statistics.variance, "groups": statistics.groups, "histogram": statistics.histogram,
@@ -55,10 +57,56 @@ def asking(name):
 
 
 class Pending:
-    """Asks that may have been answered, and the number from which on the analyst had none."""
+    """Asks that may have been answered, the number from which on the analyst had none, and what was left at a time before them. HEARD is what came of
+    the first of them, as far as their replies were heard."""
 
-    def __init__(self, asks, first):
-        self.asks, self.first = asks, first
+    def __init__(self, asks, first, left):
+        self.asks, self.first, self.left, self.heard = asks, first, left, []
+
+    def keep(self, found):
+        """What replies say, up to one that says nothing, or whose number isn't told: behind it nothing is sure."""
+        for one in found:
+            if isinstance(one, Failed) and meanings.meaning(one.reply) is None or isinstance(one, Unanswered) and one.number is None:
+                self.left = None
+                break
+            self.heard.append(one)
+
+    def rest(self):
+        return self.asks[len(self.heard) :]
+
+    def answers(self):
+        return [one for one in self.heard if isinstance(one, Answer)]
+
+    def numbers(self):
+        return [one.number for one in self.heard if isinstance(one, (Answer, Unanswered))]
+
+    def behind(self):
+        """The number behind the last one that was heard."""
+        return max([self.first - 1, *self.numbers()]) + 1
+
+    def none_refused(self, after, found, entry, judged):
+        """Whether surely none of the asks was refused: what was left before them was enough for all, and nobody else has reserved since."""
+        if self.left is None or not all(isinstance(one, (Answer, Unanswered)) for one in self.heard):
+            return False
+        if judged and len({(ask.sent, ask.part and ask.part[0]) for ask in self.asks}) > 1:
+            return False
+        # At that time there were at least half as many numbers as records, and each open one was still to take another.
+        since, own = range(max(self.first, (self.left.records + 1) // 2), after), {*self.numbers(), *(number for number, _ in found)}
+        room = self.left.records + OPEN + 2 * len(self.asks) <= entry["capacity"]
+        return own.issuperset(since) and room and charge_of(self.asks) <= self.left.left
+
+    def told(self, found, unasked=()):
+        """Which asks are answered, in words, and which not."""
+        answered = [called(one.ask) for one in found if isinstance(one, Answer)]
+        said = f"Of {len(self.asks)} asks {len(answered)} {'is' if len(answered) == 1 else 'are'} answered"
+        said += f" and paid (`answers`): {', '.join(answered)}. " if answered else ". "
+        said += "".join(f"{called(ask)}: {one} " for ask, one in zip(self.asks, found) if isinstance(one, Fault))
+        return said + (f"Not reserved, so that nothing is charged for them: {', '.join(map(called, unasked))}." if unasked else "")
+
+
+def called(ask):
+    """An ask as it is told: its part, or the beginning of its program."""
+    return " ".join(ask.part) if ask.part else f"`{ask.sent if len(ask.sent) <= SAID else ask.sent[: SAID - 2] + '..'}`"
 
 
 class Client:
@@ -73,7 +121,8 @@ class Client:
                 raise Refused(f"there is no {what} `{name}`: {known(name, [one for one in all_names if one], 'there is')}")
         self.transport, self.catalog, self.analyst = transport, catalog, analyst
         self.view = View(catalog, catalog["owners"][names.index(owner)], getattr(transport, "closed", False))
-        self.next = self.pending = None
+        # The next number; what was left at a time when there was none behind it that isn't another's; what isn't known yet.
+        self.next = self.before = self.pending = None
 
     # What is asked. Each takes `eps` or `charge`, and `part=(PARTITION, KEY)`, as statistics.py says.
 
@@ -99,6 +148,7 @@ class Client:
         if len(plan.asks) == 1 or any(ask.part for ask in plan.asks):
             return
         charge, left = Forecast(plan).charge, self.left()
+        self.before = left
         if charge > left.left:
             raise Refused(f"its {len(plan.asks)} asks take up to {units(charge)} together, and {units(left.left)} is left: none of them was asked.")
 
@@ -149,10 +199,11 @@ class Client:
             raise Cut("a run before was cut, and what came of it isn't known yet: recover() first")
         if self.next is None:
             self.learn()
-        self.pending = Pending(asks, self.next)
+        self.pending = Pending(asks, self.next, self.before)
         try:
             replies = self.transport.replies([hello, *(ask.line() for ask in asks), f"left {self.view.name}"])
         except Stopped as stopped:
+            self.pending.keep(self.one(ask, reply, None) for ask, reply in zip(asks, stopped.heard[1:]))
             return self.recover(f"{stopped}. ")
         except (Failed, Waited):
             self.pending = None
@@ -164,7 +215,7 @@ class Client:
         found = [self.one(ask, reply, left) for ask, reply in zip(asks, replies)]
         numbers = [one.number for one in found if isinstance(one, (Answer, Unanswered))]
         self.next = None if None in numbers else max([self.next - 1, *numbers]) + 1
-        self.pending = None
+        self.before, self.pending = left, None
         return self.all_answered(asks, found)
 
     def one(self, ask, reply, left):
@@ -188,7 +239,7 @@ class Client:
     def learn(self):
         """The next number: each that there is has one record or two."""
         least = (self.left().records + 1) // 2
-        self.next, _, _ = unasked(lambda: self.numbers_from(least))
+        self.next, _, self.before = unasked(lambda: self.numbers_from(least))
 
     def numbers_from(self, first):
         """The next number, those of the analyst from the first on with what `recall` says of each, and what is left."""
@@ -204,24 +255,39 @@ class Client:
             at += RECALLS
 
     def recover(self, why=""):
-        """What came of the asks of a run that was cut, by `recall`, which costs nothing: their answers, where the analyst's new numbers are as
-        many as the asks; Failed where there is none, so that nothing was charged; Cut where it can't be told."""
+        """What came of the asks of a run that was cut: the replies that were heard, and behind them `recall`, which costs nothing. Their answers, where the
+        analyst's new numbers are as many as the other asks; Failed where nothing was charged; else Cut, with the answers of those that are known."""
         if self.pending is None:
             raise Failed("no run was cut")
-        asks = self.pending.asks
+        pending = self.pending
+        heard, rest = pending.heard, pending.rest()
         try:
-            after, found, left = self.numbers_from(self.pending.first)
+            after, found, left = self.numbers_from(pending.behind())
         except (Stopped, Failed) as fault:
-            raise Cut(f"{why}What came of it isn't known, since no recall is answered: {fault}. recover() tries once more, for nothing.") from None
-        if any(said == ["open"] for _, said in found):
-            raise Cut(f"{why}A reservation is still open: recover() later.", found)
-        self.next, self.pending = after, None
-        if not found:
-            raise Failed(f"{why}Nothing that was asked came to be reserved: nothing is charged, and it may be asked again.")
-        if len(found) != len(asks):
-            told = "; ".join(f"{number} {' '.join(said)}" for number, said in found)
-            raise Cut(f"{why}Of {len(asks)} asks the analyst has {len(found)} new reservations, and which is whose isn't known: {told}.", found)
-        return self.all_answered(asks, [self.recalled(ask, number, said, left) for ask, (number, said) in zip(asks, found)])
+            if not rest:
+                self.next, self.pending = pending.behind(), None
+                return self.all_answered(pending.asks, heard)
+            known = pending.told(heard) if heard else ""
+            said = f"What came of {'the others' if heard else 'it'} isn't known, since no recall is answered: {fault}. recover() tries once more, for nothing."
+            raise Cut(f"{why}{known}{said}", answers=pending.answers()) from None
+        for answer in pending.answers():
+            answer.left = left
+        if rest and any(said == ["open"] for _, said in found):
+            known = pending.told(heard) if heard else ""
+            raise Cut(f"{why}{known}A reservation is still open: recover() later.", found, pending.answers())
+        self.next, self.before, self.pending = after, left, None
+        recalled = [*heard, *(self.recalled(ask, number, said, left) for ask, (number, said) in zip(rest, found))]
+        if not rest or len(found) == len(rest):
+            return self.all_answered(pending.asks, recalled)
+        if not found and not pending.numbers():
+            raise next(iter(heard), Failed(f"{why}Nothing that was asked came to be reserved: nothing is charged, and it may be asked again."))
+        if not found or len(found) < len(rest) and pending.none_refused(after, found, self.view.entry, getattr(self.transport, "judged", False)):
+            unasked = rest[len(found) :]
+            raise Cut(f"{why}{pending.told(recalled, unasked)}", found, [one for one in recalled if isinstance(one, Answer)], unasked)
+        told = "; ".join(f"{number} {' '.join(said)}" for number, said in found)
+        of = f"{pending.told(heard)}Of the {len(rest)} others" if heard else f"Of {len(rest)} asks"
+        new = f"{len(found)} new reservation{'s' if len(found) > 1 else ''}"
+        raise Cut(f"{why}{of} the analyst has {new}, and which is whose isn't known: {told}.", found, pending.answers())
 
     def recalled(self, ask, number, said, left):
         if said[0] != "answer":

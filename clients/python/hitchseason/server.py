@@ -30,7 +30,9 @@ class Ended(Exception):
 
 
 class Server:
-    closed = True
+    """JUDGED: lines that ask may be refused on their way, for their program."""
+
+    closed, judged = True, False
 
     def __init__(self, given):
         self.given, self.link, self.depth, self.waiting = given, None, 0, False
@@ -76,7 +78,7 @@ class Server:
                 found.append(self.link.hear())
                 sent.popleft()
         except (OSError, Ended) as fault:
-            raise Stopped(f"the connection ended: {fault}") from None
+            raise Stopped(f"the connection ended: {fault}", found) from None
         return found
 
     def one(self, line):
@@ -194,7 +196,9 @@ class Connection(Link):
 
 
 class Login(Server):
-    """WORDS stand before the destination, as ("-i", "FILE")."""
+    """WORDS stand before the destination, as ("-i", "FILE"). A door refuses programs that walk too deep."""
+
+    judged = True
 
     def __init__(self, destination, public=None, ssh=("ssh",), words=()):
         super().__init__(public)

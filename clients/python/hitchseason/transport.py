@@ -22,7 +22,11 @@ NEVER_ASKED = (2, 3, 4, 6, 8)
 
 
 class Stopped(Exception):
-    """Replies are missing, and what became of the lines isn't known."""
+    """Replies are missing, and what became of their lines isn't known; HEARD are those that came, of the first lines in their order."""
+
+    def __init__(self, said, heard=()):
+        super().__init__(said)
+        self.heard = list(heard)
 
 
 class Waited(KeyboardInterrupt):
@@ -58,7 +62,7 @@ class Folder:
             raise Failed(f"the program ended with status {ran.returncode}: {meanings.STATUSES[ran.returncode]} ({said.strip()}). {more}.", said.strip())
         found = said.split("\n")[:-1]
         if ran.returncode != 0 or len(found) != len(lines):
-            raise Stopped(ended(ran.returncode))
+            raise Stopped(ended(ran.returncode), found[: len(lines)])
         return found
 
     def ran(self, script, lock):

@@ -24,10 +24,11 @@ def has_serve():
 
 
 class Proxy(Between):
-    """Hands bytes through, and cuts a connection where it is told: before a line that asks, behind it, within it, or behind its reply."""
+    """Hands bytes through, and cuts a connection where it is told: before a line that asks, behind it, within it, or behind its reply; of lines that ask
+    it lets so many through before."""
 
     def __init__(self, port):
-        self.cut, self.connections = None, 0
+        self.cut, self.through, self.connections = None, 0, 0
         super().__init__(port)
 
     def taken(self):
@@ -43,7 +44,8 @@ class Proxy(Between):
     def pass_on(self, link):
         with link, socket.create_connection(("127.0.0.1", self.to)) as to, link.makefile("rb") as lines, to.makefile("rb") as replies:
             for line in lines:
-                mode = self.cut if line.startswith(b"ask") else None
+                mode = self.cut if line.startswith(b"ask") and self.through == 0 else None
+                self.through -= self.through > 0 and line.startswith(b"ask")
                 self.cut = None if mode else self.cut
                 if mode == "before":
                     return
@@ -144,6 +146,31 @@ class Served(unittest.TestCase):
             client.histogram("areas", eps=1)
         self.assertEqual(len(caught.exception.numbers), 1)
 
+    def cut_at(self, mode, through):
+        self.proxy.cut, self.proxy.through = mode, through
+
+    def test_partly_heard(self):
+        """A mean whose sum was heard, and a histogram of which three parts were heard and the fourth was answered: nothing that was paid is lost."""
+        client = self.client()
+        self.cut_at("before", 1)
+        with self.assertRaises(Cut) as caught:
+            client.mean("persons", "income", 0, 5000, charge=1)
+        (answer,) = caught.exception.answers
+        self.assertEqual((answer.number, answer.value, answer.recalled), (0, client.recall(0), False))
+        self.assertEqual([ask.sent for ask in caught.exception.unasked], ["size persons"])
+        self.cut_at("answered", 3)
+        with self.assertRaises(Cut) as caught:
+            client.histogram("areas", eps=1)
+        known = [(answer.ask.part[1], answer.number, answer.recalled) for answer in caught.exception.answers]
+        self.assertEqual(known, [("north", 1, False), ("south", 2, False), ("east", 3, False), ("west", 4, True)])
+        self.assertEqual([answer.value for answer in caught.exception.answers], [client.recall(number) for number in range(1, 5)])
+        self.assertEqual(([ask.part[1] for ask in caught.exception.unasked], client.left().records), (["capital"], 10))
+        # All was answered, one before the last reply.
+        self.cut_at("answered", 4)
+        groups = client.histogram("areas", eps=1)
+        self.assertEqual([answer.recalled for answer in groups.answers.values()], [False] * 4 + [True])
+        self.assertEqual(groups.numbers, [5, 6, 7, 8, 9])
+
     def test_kill(self):
         """A service that is killed and started anew while the client waits for it."""
         client = self.client()
@@ -186,6 +213,24 @@ class Served(unittest.TestCase):
         """tools/left and tools/askparts over an address."""
         ran = subprocess.run([f"{TOP}/tools/left", f"127.0.0.1:{self.port}", "labour", "--public", self.public, "--json"], check=True, stdout=subprocess.PIPE)
         self.assertEqual(json.loads(ran.stdout)["records"], 0)
+
+    def test_askparts_cut(self):
+        """What is known is told in each form, the keys that aren't are named, and the status is 1."""
+        words = [f"{TOP}/tools/askparts", f"127.0.0.1:{self.proxy.port}", "mia", "labour", "areas", "1", "-", "--public", self.public]
+        for form in ("--json", "--csv", None):
+            self.cut_at("before", 3)
+            ran = subprocess.run(words + ([form] if form else []), input="size persons", capture_output=True, text=True, timeout=60)
+            self.assertEqual(ran.returncode, 1, ran.stderr)
+            self.assertIn("Not reserved, so that nothing is charged for them: areas west, areas capital.", ran.stderr)
+            if form == "--json":
+                found = json.loads(ran.stdout)
+                self.assertEqual((list(found["groups"]), found["missing"]), (["north", "south", "east"], ["west", "capital"]))
+            elif form == "--csv":
+                self.assertEqual([line.split(",")[0] for line in ran.stdout.splitlines()[1:]], ["north", "south", "east", "west", "capital"])
+                self.assertEqual(ran.stdout.splitlines()[4:], ["west,,,,,,,,,", "capital,,,,,,,,,"])
+            else:
+                self.assertEqual([line.split()[0] for line in ran.stdout.splitlines()[:-1]], ["north", "south", "east"])
+                self.assertTrue(ran.stdout.endswith("left; without an answer: west, capital\n"), ran.stdout)
 
 
 if __name__ == "__main__":
