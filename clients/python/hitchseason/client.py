@@ -7,6 +7,7 @@
 **One client an analyst and owner at a time**: only so are an analyst's new reservations those of its client. The client never asks again by itself.
 """
 import time
+from collections import deque
 from contextlib import nullcontext
 from inspect import Parameter, signature
 
@@ -51,9 +52,37 @@ def asking(name):
         return self.work(name, *words, **more)
 
     plan = signature(PLANS[name])
+    takes = [Parameter("self", Parameter.POSITIONAL_ONLY), *list(plan.parameters.values())[1:], Parameter("resume", Parameter.KEYWORD_ONLY, default=())]
     call.__name__, call.__doc__ = name, PLANS[name].__doc__
-    call.__signature__ = plan.replace(parameters=[Parameter("self", Parameter.POSITIONAL_ONLY), *list(plan.parameters.values())[1:]])
+    call.__signature__ = plan.replace(parameters=sorted(takes, key=lambda one: one.kind))
     return call
+
+
+class Kept:
+    """Asks for a call that goes on: answers that came before stand for the asks that they answer, and only the others are asked, by SEND."""
+
+    def __init__(self, answers, send):
+        self.answers, self.send_others = {}, send
+        for answer in answers:
+            if not isinstance(answer, Answer):
+                raise ValueError("`resume` has the answers of a call that was cut, as a fault has them in `answers`")
+            self.answers.setdefault(answer.ask.line(), deque()).append(answer)
+
+    def send(self, asks):
+        found = [self.taken(ask) for ask in asks]
+        others = [ask for ask, answer in zip(asks, found) if answer is None]
+        if others and any(self.answers.values()):
+            raise Refused("`resume` has answers that aren't of this call: nothing was asked.")
+        try:
+            came = iter(self.send_others(others) if others else [])
+        except Fault as fault:
+            fault.answers = [*(answer for answer in found if answer is not None), *fault.answers]
+            raise
+        return [next(came) if answer is None else answer for answer in found]
+
+    def taken(self, ask):
+        answers = self.answers.get(ask.line())
+        return answers.popleft() if answers else None
 
 
 class Pending:
@@ -124,17 +153,17 @@ class Client:
         # The next number; what was left at a time when there was none behind it that isn't another's; what isn't known yet.
         self.next = self.before = self.pending = None
 
-    # What is asked. Each takes `eps` or `charge`, and `part=(PARTITION, KEY)`, as statistics.py says.
+    # What is asked. Each takes `eps` or `charge`, and `part=(PARTITION, KEY)`, as statistics.py says, and `resume=ANSWERS` of a call that was cut.
 
     ask, count, sum, mean, variance = (asking(name) for name in ("ask", "count", "sum", "mean", "variance"))
     quantile, median = asking("quantile"), asking("median")
     groups, histogram, crosstab, top = (asking(name) for name in ("groups", "histogram", "crosstab", "top"))
 
-    def work(self, name, *words, **more):
-        plan = self.plan(name, *words, **more)
+    def work(self, name, *words, resume=(), **more):
+        plan, kept = self.plan(name, *words, **more), Kept(resume, self.send)
         with self.kept():
-            self.afford(plan)
-            return plan.work(self.send)
+            self.afford(plan, [answer.ask for answer in resume])
+            return plan.work(kept.send)
 
     def kept(self):
         """All that is asked in here goes over one connection, where there are any."""
@@ -143,14 +172,14 @@ class Client:
     def plan(self, name, *words, **more):
         return PLANS[name](self.view, *words, **more)
 
-    def afford(self, plan):
-        """Refuses asks of the whole that don't fit together, so that none of them is paid in vain. Of parts it can't be known."""
+    def afford(self, plan, paid=()):
+        """Refuses asks of the whole that don't fit together, so that none of them is paid in vain. Of parts it can't be known. PAID are answered already."""
         if len(plan.asks) == 1 or any(ask.part for ask in plan.asks):
             return
-        charge, left = Forecast(plan).charge, self.left()
+        charge, left = Forecast(plan).charge - charge_of(paid), self.left()
         self.before = left
         if charge > left.left:
-            raise Refused(f"its {len(plan.asks)} asks take up to {units(charge)} together, and {units(left.left)} is left: none of them was asked.")
+            raise Refused(f"its {len(plan.asks) - len(paid)} asks take up to {units(charge)} together, and {units(left.left)} is left: none of them was asked.")
 
     # What costs nothing.
 
@@ -280,7 +309,9 @@ class Client:
         if not rest or len(found) == len(rest):
             return self.all_answered(pending.asks, recalled)
         if not found and not pending.numbers():
-            raise next(iter(heard), Failed(f"{why}Nothing that was asked came to be reserved: nothing is charged, and it may be asked again."))
+            none = f"None of the {len(rest)} asks was reserved: nothing is charged for them, and they" if len(rest) > 1 else (
+                "The ask wasn't reserved: nothing is charged for it, and it")
+            raise next(iter(heard), Failed(f"{why}{none} may be asked again."))
         if not found or len(found) < len(rest) and pending.none_refused(after, found, self.view.entry, getattr(self.transport, "judged", False)):
             unasked = rest[len(found) :]
             raise Cut(f"{why}{pending.told(recalled, unasked)}", found, [one for one in recalled if isinstance(one, Answer)], unasked)

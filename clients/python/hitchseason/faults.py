@@ -18,6 +18,10 @@ class Fault(Exception):
 
     answers = ()
 
+    def add(self, said):
+        """Says more."""
+        self.args = (f"{self} {said}",)
+
 
 class Refused(Fault):
     def __init__(self, said, reply=None, place=None):

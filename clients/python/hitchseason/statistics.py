@@ -292,8 +292,17 @@ class Search(Plan):
                 found.add(bound, *send([self.ask(step, bound)]))
             except Fault as fault:
                 fault.answers = [*found.answers(), *fault.answers]
+                if found.steps:
+                    fault.add(before_said(found.answers()))
                 raise
         return found.worked()
+
+
+def before_said(answers):
+    """What is paid of a search that goes no further."""
+    many = f"{len(answers)} asks of this call were" if len(answers) > 1 else "one ask of this call was"
+    are, they = ("are", "them") if len(answers) > 1 else ("is", "it")
+    return f"Before that {many} answered and {are} paid (`answers`): in Python `resume=fault.answers` in the same call goes on behind {they}."
 
 
 class Found:

@@ -255,6 +255,13 @@ class Servers(unittest.TestCase):
         self.assertEqual(([ask.sent for ask in cut.unasked], cut.numbers, client.next, client.pending), (["size persons"], [], 4, None))
         self.assertIn("Of 2 asks 1 is answered and paid (`answers`): `sum[-50,50] (map", str(cut))
         self.assertTrue(str(cut).endswith("Not reserved, so that nothing is charged for them: `size persons`."), cut)
+        # The call goes on with the count alone. Answers of another call are refused.
+        for other in (lambda: client.count("persons", eps=1, resume=cut.answers), lambda: client.histogram("areas", eps=1, resume=cut.answers)):
+            self.assertIn("aren't of this call: nothing was asked", str(self.cut_of(other, Refused)))
+        self.assertEqual(self.asked(client), 2)
+        client.transport.exchanges += [[], [HELLO, "answer 4 10 500000"]]
+        mean = call(resume=cut.answers)
+        self.assertEqual((mean.value, mean.numbers, self.asked(client)), (44, [3, 4], 3))
 
     def test_first_recalled(self):
         """No reply was heard, and there is one new number: it is the first ask's, as neither can have been refused."""

@@ -11,6 +11,7 @@ import unittest
 
 from common import PROGRAM, TOP, Between, often, survey
 from hitchseason import Cut, Failed, Refused, connect
+from hitchseason.answers import Left
 
 sys.path.insert(0, f"{TOP}/bench")
 from served import free_ports, is_listened_at  # noqa: E402
@@ -170,6 +171,27 @@ class Served(unittest.TestCase):
         groups = client.histogram("areas", eps=1)
         self.assertEqual([answer.recalled for answer in groups.answers.values()], [False] * 4 + [True])
         self.assertEqual(groups.numbers, [5, 6, 7, 8, 9])
+
+    def test_search_goes_on(self):
+        """A median whose third step was cut: two steps are paid, and the call goes on with the third, so that there are 8 numbers in all; it may have
+        taken what was left."""
+        client = self.client()
+        self.cut_at("before", 2)
+        with self.assertRaises(Failed) as caught:
+            client.median("persons", "income", 0, 5000, charge=1)
+        self.assertEqual([answer.number for answer in caught.exception.answers], [0, 1])
+        said = "The ask wasn't reserved: nothing is charged for it, and it may be asked again. Before that 2 asks of this call were answered and are paid"
+        self.assertIn(said, str(caught.exception))
+        # Without what is paid there is enough for the rest, to the millionth.
+        client.left = lambda: Left("labour", 250_000, 1_000_000, 4, "")
+        found = client.median("persons", "income", 0, 5000, charge=1, resume=caught.exception.answers)
+        self.assertEqual((found.numbers, found.taken), (list(range(8)), 10**6))
+        client.left = lambda: Left("labour", 250_001, 1_000_000, 4, "")
+        with self.assertRaises(Refused) as refused:
+            client.median("persons", "income", 0, 5000, charge=1, resume=caught.exception.answers)
+        self.assertIn("its 6 asks take up to 0.75 together", str(refused.exception))
+        del client.left
+        self.assertEqual(client.left().records, 16)
 
     def test_kill(self):
         """A service that is killed and started anew while the client waits for it."""
