@@ -29,7 +29,8 @@ PLANS = {
 
 
 def connect(place, *names, **words):
-    """WORDS of a folder: `program`, `catalog`, `key`; of a service `public`, a file that tools/public --json wrote; of ssh `words`, its own."""
+    """WORDS of a folder: `program`, `catalog`, `key`; of a service `public`, a file that tools/public --json wrote; of ssh `words`, its own. `wait`:
+    for how many seconds another connection, or run on the folder, is waited for; without an end, unless said."""
     if names and isinstance(names[0], int):
         place, names = f"{place}:{names[0]}", names[1:]
     named = {name: words.pop(name) for name in ("analyst", "owner") if name in words}
@@ -293,6 +294,7 @@ class Client:
         try:
             after, found, left = self.numbers_from(pending.behind())
         except (Stopped, Failed) as fault:
+            fault = str(fault).removesuffix(" Nothing was asked.").removesuffix(".")
             if not rest:
                 self.next, self.pending = pending.behind(), None
                 return self.all_answered(pending.asks, heard)

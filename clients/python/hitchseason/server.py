@@ -9,9 +9,11 @@ a while, as the service may be started anew. Where replies to later lines are mi
 Where a connection ends within a line, what came of the line is a line to the service. So programs are `closed`: they go in parentheses (asks.py).
 """
 import json
+import select
 import signal
 import socket
 import subprocess
+import sys
 import time
 from collections import deque
 from contextlib import contextmanager, suppress
@@ -21,6 +23,8 @@ from .transport import Stopped, Waited
 
 # How long a service that isn't there is tried again; lines that are sent ahead of their replies.
 PATIENCE, PAUSE = 20, 0.5
+# When somebody who waits behind another connection is told so.
+TOLD_AFTER = 5
 AHEAD = 16
 CLOSED = "door closed"
 
@@ -34,8 +38,8 @@ class Server:
 
     closed, judged = True, False
 
-    def __init__(self, given):
-        self.given, self.link, self.depth, self.waiting = given, None, 0, False
+    def __init__(self, given, wait=None):
+        self.given, self.wait, self.link, self.depth, self.waiting = given, wait, None, 0, False
 
     def public(self):
         if self.given is None:
@@ -96,7 +100,7 @@ class Server:
         while True:
             try:
                 self.waiting = True
-                self.link = self.opened()
+                self.link = self.behind_others(self.opened())
                 self.link.say(line)
                 return self.link.hear()
             except KeyboardInterrupt:
@@ -108,6 +112,25 @@ class Server:
                 self.pause()
             finally:
                 self.waiting = False
+
+    def behind_others(self, link):
+        """A link whose first reply is waited for: a worker that serves another connection replies to nobody else."""
+        link.awaited = lambda: self.await_reply(link)
+        return link
+
+    def await_reply(self, link):
+        """Says that it waits; past the limit it gives up."""
+        is_there = lambda seconds: select.select([link], [], [], max(seconds, 0))[0]
+        until = None if self.wait is None else time.monotonic() + self.wait
+        if is_there(TOLD_AFTER if self.wait is None else min(TOLD_AFTER, self.wait)):
+            return
+        if until is None or until > time.monotonic():
+            self.say_waits()
+        if until is not None and not is_there(until - time.monotonic()):
+            raise Failed(f"{self.name} has served another connection for {self.wait} s. Nothing was asked.")
+
+    def say_waits(self):
+        """A door says it itself."""
 
     @staticmethod
     def pause():
@@ -138,9 +161,12 @@ class Refusal(Ended):
 class Link:
     """Lines out and replies in. `read` gives some bytes, or none at the end."""
 
-    told = b""
+    told, awaited = b"", None
 
     def hear(self):
+        if self.awaited:
+            awaited, self.awaited = self.awaited, None
+            awaited()
         while b"\n" not in self.told:
             data = self.read()
             if not data:
@@ -161,18 +187,24 @@ class Link:
 
 
 class Address(Server):
-    def __init__(self, host, port, public=None):
-        super().__init__(public)
+    def __init__(self, host, port, public=None, wait=None):
+        super().__init__(public, wait)
         self.host, self.port, self.name = host, port, f"{host}, port {port},"
 
     def opened(self):
         return Connection(self.host, self.port)
+
+    def say_waits(self):
+        print(f"port {self.port} serves another connection; waiting", file=sys.stderr, flush=True)
 
 
 class Connection(Link):
     def __init__(self, host, port):
         self.socket = socket.create_connection((host, port))
         self.socket.setsockopt(socket.IPPROTO_TCP, socket.TCP_NODELAY, 1)
+
+    def fileno(self):
+        return self.socket.fileno()
 
     def say(self, line):
         self.socket.sendall(f"{line}\n".encode())
@@ -200,8 +232,8 @@ class Login(Server):
 
     judged = True
 
-    def __init__(self, destination, public=None, ssh=("ssh",), words=()):
-        super().__init__(public)
+    def __init__(self, destination, public=None, ssh=("ssh",), words=(), wait=None):
+        super().__init__(public, wait)
         self.name, self.command = destination, [*ssh, "-T", *words, "--", destination]
 
     def opened(self):
@@ -214,6 +246,9 @@ class Process(Link):
     def __init__(self, command):
         quiet = {"preexec_fn": lambda: signal.signal(signal.SIGINT, signal.SIG_IGN)}
         self.process = subprocess.Popen(command, stdin=subprocess.PIPE, stdout=subprocess.PIPE, bufsize=0, **quiet)
+
+    def fileno(self):
+        return self.process.stdout.fileno()
 
     def say(self, line):
         data = f"{line}\n".encode()

@@ -1,4 +1,5 @@
 """Runs that are cut: what the client finds of its asks by `recall`, and that it never asks again."""
+import fcntl
 import os
 import random
 import subprocess
@@ -7,7 +8,7 @@ import unittest
 from statistics import median
 
 from common import PROGRAM, often, survey
-from hitchseason import Client, Cut, Failed, Refused, Unanswered
+from hitchseason import Client, Cut, Failed, Refused, Unanswered, connect
 from hitchseason.answers import Left
 from hitchseason.transport import Stopped, Waited
 
@@ -170,6 +171,16 @@ class Cuts(unittest.TestCase):
         with self.assertRaises(Failed):
             again.count("persons", eps=1)
         self.assertEqual(again.count("persons", eps=1).number, 4)
+
+    def test_wait(self):
+        """Another run on the folder is waited for up to the limit."""
+        client = connect(self.place.folder, "mia", "labour", program=PROGRAM, wait=0.3)
+        with open(f"{self.place.folder}/journals.lock", "a") as file:
+            fcntl.flock(file, fcntl.LOCK_EX)
+            with self.assertRaises(Failed) as caught:
+                client.count("persons", eps=1)
+            self.assertEqual(str(caught.exception), f"another run has worked on {self.place.folder} for 0.3 s. Nothing was asked.")
+        self.assertEqual(client.count("persons", eps=1).number, 0)
 
     def test_not_run(self):
         self.mode("refuse")

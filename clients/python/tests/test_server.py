@@ -1,5 +1,6 @@
 """The client over connections: answers, refusals of a door, connections that are cut, and what is found by `recall`. Where the program has no `serve` it is
 skipped."""
+import io
 import json
 import os
 import socket
@@ -8,9 +9,10 @@ import sys
 import threading
 import time
 import unittest
+from contextlib import redirect_stderr
 
 from common import PROGRAM, TOP, Between, often, survey
-from hitchseason import Cut, Failed, Refused, connect
+from hitchseason import Cut, Failed, Refused, connect, server
 from hitchseason.answers import Left
 
 sys.path.insert(0, f"{TOP}/bench")
@@ -192,6 +194,30 @@ class Served(unittest.TestCase):
         self.assertIn("its 6 asks take up to 0.75 together", str(refused.exception))
         del client.left
         self.assertEqual(client.left().records, 16)
+
+    def test_behind_another(self):
+        """The worker serves another connection: that is said once, and past the limit nothing was asked. What was cut meanwhile is known later."""
+        told, server.TOLD_AFTER = server.TOLD_AFTER, 0.2
+        self.addCleanup(setattr, server, "TOLD_AFTER", told)
+        for wait, said in ((0.5, f"port {self.port} serves another connection; waiting\n"), (0.1, "")):
+            client = connect("127.0.0.1", self.port, "mia", "labour", public=self.public, wait=wait)
+            with socket.create_connection(("127.0.0.1", self.port)) as other, other.makefile("rb") as replies:
+                other.sendall(b"hello tom\n")
+                self.assertEqual(replies.readline(), b"hello tom\n")
+                with redirect_stderr(io.StringIO()) as stderr, self.assertRaises(Failed) as caught:
+                    client.count("persons", eps=1)
+                self.assertEqual(str(caught.exception), f"127.0.0.1, port {self.port}, has served another connection for {wait} s. Nothing was asked.")
+                self.assertEqual(stderr.getvalue(), said)
+            self.assertIsNone(client.pending)
+            # Where no limit is said, or it isn't reached.
+            for patient in (self.client(port=self.port), connect("127.0.0.1", self.port, "mia", "labour", public=self.public, wait=60)):
+                other = socket.create_connection(("127.0.0.1", self.port))
+                other.sendall(b"hello tom\n")
+                other.recv(100)
+                threading.Timer(0.5, other.close).start()
+                with redirect_stderr(io.StringIO()) as stderr:
+                    before = patient.left().records
+                self.assertEqual((stderr.getvalue(), before), (f"port {self.port} serves another connection; waiting\n", 0))
 
     def test_kill(self):
         """A service that is killed and started anew while the client waits for it."""
