@@ -10,6 +10,7 @@ from . import pictures
 from .answers import PERCENTS, Groups, units
 from .client import connect
 from .faults import Fault
+from .transport import Waited
 
 FOLDER = ("public", "program", "catalog", "key")
 WRITES = {"histogram": "tools/askparts --json", "budget": "tools/left --json"}
@@ -34,15 +35,22 @@ def text_of(name):
 
 
 def run(name, call, parser, words):
-    """The status of a command: 1 where something was refused or failed, 2 where the words are none."""
+    """The status of a command: 1 where something was refused or failed, 2 where the words are none, 130 where Ctrl-C ended it."""
     given = parser.parse_intermixed_args(words)
     try:
         call(given)
         return 0
+    except KeyboardInterrupt as ended:
+        print(f"tools/{name}: {ended if isinstance(ended, Interrupted) else 'given up; nothing was asked'}", file=sys.stderr)
+        return 130
     except (Fault, ValueError, OSError) as fault:
         sys.stdout.flush()
         print(f"tools/{name}: {fault}", file=sys.stderr)
         return 1
+
+
+class Interrupted(KeyboardInterrupt):
+    """Ctrl-C, where something may have been asked."""
 
 
 def parser_of(name, doc):
@@ -65,9 +73,13 @@ def askparts(words, doc):
     parser.set_defaults(form=text_lines)
 
     def call(given):
-        client = client_of(given, given.analyst, given.owner)
+        client, program = client_of(given, given.analyst, given.owner), text_of(given.file)
         try:
-            groups = client.groups(given.partition, text_of(given.file), eps=given.eps, keys=given.keys or None)
+            groups = client.groups(given.partition, program, eps=given.eps, keys=given.keys or None)
+        except KeyboardInterrupt as ended:
+            if isinstance(ended, Waited) and not client.pending:
+                raise
+            raise Interrupted("given up; what was asked may be answered and paid: tools/shell tells it again by its number (\\r N)") from None
         except Fault as fault:
             # What is answered is paid.
             if fault.answers:

@@ -3,6 +3,7 @@ skipped."""
 import io
 import json
 import os
+import signal
 import socket
 import subprocess
 import sys
@@ -62,6 +63,28 @@ class Proxy(Between):
                 if mode == "answered":
                     return
                 link.sendall(reply)
+
+
+class Silent(Between):
+    """Takes a line from each connection, or hands so many lines' replies of a service through, and then says nothing."""
+
+    def __init__(self, to=None, through=0):
+        self.through, self.silent = through, threading.Event()
+        super().__init__(to)
+
+    def taken(self):
+        return ()
+
+    def serve(self, link):
+        with link, link.makefile("rb") as lines:
+            if self.through:
+                with socket.create_connection(("127.0.0.1", self.to)) as to, to.makefile("rb") as replies:
+                    for _ in range(self.through):
+                        to.sendall(lines.readline())
+                        link.sendall(replies.readline())
+            lines.readline()
+            self.silent.set()
+            lines.read()
 
 
 @unittest.skipUnless(has_serve(), "the program has no serve")
@@ -261,6 +284,30 @@ class Served(unittest.TestCase):
         """tools/left and tools/askparts over an address."""
         ran = subprocess.run([f"{TOP}/tools/left", f"127.0.0.1:{self.port}", "labour", "--public", self.public, "--json"], check=True, stdout=subprocess.PIPE)
         self.assertEqual(json.loads(ran.stdout)["records"], 0)
+
+    def interrupted(self, silent, tool, *words, given=""):
+        """What a tool says, and its status, when Ctrl-C ends it where it has no reply."""
+        ran = subprocess.Popen(
+            [f"{TOP}/tools/{tool}", f"127.0.0.1:{silent.port}", *words, "--public", self.public], stdin=subprocess.PIPE, stdout=subprocess.PIPE,
+            stderr=subprocess.PIPE, text=True, preexec_fn=lambda: signal.signal(signal.SIGINT, signal.default_int_handler),
+        )  # fmt: skip
+        threading.Timer(0.0, lambda: (silent.silent.wait(60), ran.send_signal(signal.SIGINT))).start()
+        out, err = ran.communicate(given, timeout=90)
+        silent.close()
+        return ran.returncode, out, err
+
+    def test_interrupted(self):
+        """Ctrl-C where the first reply is waited for, so that nothing was asked; and behind an ask."""
+        program = f"{self.place.folder}/program"
+        with open(program, "w") as file:
+            file.write("size persons")
+        asks = ("mia", "labour", "areas", "1", program)
+        for tool, words, given in (("left", ("labour",), ""), ("askparts", asks, ""), ("shell", ("mia", "labour"), "\\b\n")):
+            self.assertEqual(self.interrupted(Silent(), tool, *words, given=given), (130, "", f"tools/{tool}: given up; nothing was asked\n"))
+        # A `left`, a hello, 64 recalls, a `left` and a hello come before the line that asks.
+        status, out, err = self.interrupted(Silent(self.port, 68), "askparts", *asks)
+        self.assertEqual((status, out), (130, ""))
+        self.assertTrue(err.startswith("tools/askparts: given up; what was asked may be answered and paid: "), err)
 
     def test_askparts_cut(self):
         """What is known is told in each form, the keys that aren't are named, and the status is 1."""
