@@ -75,6 +75,15 @@ class Ask:
         return f"{of} {explain.in_units(self.e)} {f'({self.sent})' if self.closed else self.sent}"
 
 
+class Forgotten:
+    """An ask of which the owner and EPS alone are said."""
+
+    sent = part = None
+
+    def __init__(self, owner, e):
+        self.owner, self.e = owner, e
+
+
 class View:
     """CLOSED: a line may be cut, and what came of it count as a line. So programs go in parentheses, of which no beginning is a program."""
 

@@ -13,7 +13,7 @@ from inspect import Parameter, signature
 
 from . import statistics
 from .answers import Answer, Left, units
-from .asks import Forecast, View, charge_of
+from .asks import Ask, Forecast, Forgotten, View, charge_of, price
 from .borrowed import meanings
 from .faults import Cut, Failed, Fault, Refused, Unanswered, known, of_reply
 from .transport import Stopped, Waited, transport_of
@@ -65,7 +65,7 @@ class Kept:
     def __init__(self, answers, send):
         self.answers, self.send_others = {}, send
         for answer in answers:
-            if not isinstance(answer, Answer):
+            if not isinstance(getattr(answer, "ask", None), Ask):
                 raise ValueError("`resume` has the answers of a call that was cut, as a fault has them in `answers`")
             self.answers.setdefault(answer.ask.line(), deque()).append(answer)
 
@@ -195,15 +195,17 @@ class Client:
     def left(self):
         return self.left_of(self.told([f"left {self.view.name}"])[0])
 
-    def recall(self, number):
-        """What became of a reservation: its value, or Refused where it isn't the analyst's, or Unanswered where it has none."""
+    def recall(self, number, eps=None):
+        """What became of a reservation: its value, or, by the EPS at which it was asked, an answer with its interval. Refused where it isn't the
+        analyst's, Unanswered where it has none."""
+        e = None if eps is None else price(1, eps=eps)
         reply = self.told([self.hello(), f"recall {self.view.name} {number}"])[1]
         words = reply.split(" ")
         if words[0] != "recall":
             raise Refused(f"{reply}: {meanings.meaning(reply)}.", reply)
         if words[2] != "answer":
             raise Unanswered(f"{reply}: {meanings.meaning(reply)}.", reply, number)
-        return int(words[3])
+        return int(words[3]) if e is None else Answer(Forgotten(self.view.name, e), number, int(words[3]), None, recalled=True)
 
     def hello(self):
         if self.analyst is None:

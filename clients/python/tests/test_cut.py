@@ -172,6 +172,17 @@ class Cuts(unittest.TestCase):
             again.count("persons", eps=1)
         self.assertEqual(again.count("persons", eps=1).number, 4)
 
+    def test_recalled_with_interval(self):
+        """By the EPS the margin is that of the answer: at 0.5 it is 6 at 95 of 100. The number alone is a value, as ever."""
+        answer = self.client.count("persons", eps="0.5")
+        again = self.client.recall(0, eps=0.5)
+        self.assertEqual((self.client.recall(0), again.value, again.interval(95)), (answer.value, answer.value, (answer.value - 6, answer.value + 6)))
+        self.assertEqual((again.numbers, again.taken, again.recalled, again.as_dict()["eps"], again.as_dict()["sent"]), ([0], None, True, "0.5", None))
+        self.assertTrue(str(again).endswith("; number 0, recalled"), again)
+        for eps in (0, -1, "x"):
+            with self.assertRaises(ValueError):
+                self.client.recall(0, eps=eps)
+
     def test_wait(self):
         """Another run on the folder is waited for up to the limit."""
         client = connect(self.place.folder, "mia", "labour", program=PROGRAM, wait=0.3)
