@@ -235,12 +235,19 @@ class Client:
         try:
             replies = self.transport.replies([hello, *(ask.line() for ask in asks), f"left {self.view.name}"])
         except Stopped as stopped:
-            self.pending.keep(self.one(ask, reply, None) for ask, reply in zip(asks, stopped.heard[1:]))
+            self.keep(stopped.heard)
             return self.recover(f"{stopped}. ")
         except (Failed, Waited):
             self.pending = None
             raise
+        except KeyboardInterrupt as ended:
+            self.keep(getattr(ended, "heard", ()))
+            raise
         return self.taken(asks, replies[1:-1], self.left_of(replies[-1]))
+
+    def keep(self, heard):
+        """Replies that came before the run was cut, the first of them being that of the hello."""
+        self.pending.keep(self.one(ask, reply, None) for ask, reply in zip(self.pending.asks, heard[1:]))
 
     def taken(self, asks, replies, left):
         """The answers, or the first fault with the answers beside it."""

@@ -83,6 +83,9 @@ class Server:
                 sent.popleft()
         except (OSError, Ended) as fault:
             raise Stopped(f"the connection ended: {fault}", found) from None
+        except KeyboardInterrupt as ended:
+            ended.heard = found
+            raise
         return found
 
     def one(self, line):

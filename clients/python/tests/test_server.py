@@ -197,6 +197,36 @@ class Served(unittest.TestCase):
         self.assertEqual([answer.recalled for answer in groups.answers.values()], [False] * 4 + [True])
         self.assertEqual(groups.numbers, [5, 6, 7, 8, 9])
 
+    def test_heard_before_an_interrupt(self):
+        """Ctrl-C behind three replies of five: another analyst has asked meanwhile, and the three are told as they were heard."""
+        client = self.client()
+        client.learn()
+        opened = client.transport.opened
+
+        def interrupting():
+            link = opened()
+            hear, heard = link.hear, []
+
+            def hears():
+                if len(heard) == 4:
+                    self.client("tom", self.port + 1).count("persons", eps=1)
+                    raise KeyboardInterrupt
+                heard.append(hear())
+                return heard[-1]
+
+            link.hear, client.transport.opened = hears, opened
+            return link
+
+        client.transport.opened = interrupting
+        self.cut_at("before", 3)
+        with self.assertRaises(KeyboardInterrupt):
+            client.histogram("areas", eps=1)
+        with self.assertRaises(Cut) as caught:
+            client.recover()
+        known = [(answer.ask.part[1], answer.number, answer.recalled) for answer in caught.exception.answers]
+        self.assertEqual(known, [("north", 0, False), ("south", 1, False), ("east", 2, False)])
+        self.assertEqual([ask.part[1] for ask in caught.exception.unasked], ["west", "capital"])
+
     def test_search_goes_on(self):
         """A median whose third step was cut: two steps are paid, and the call goes on with the third, so that there are 8 numbers in all; it may have
         taken what was left."""
