@@ -77,8 +77,9 @@ class Server:
         try:
             while len(found) < len(lines):
                 while len(sent) < AHEAD and (line := next(rest, None)) is not None:
-                    self.link.say(line)
                     sent.append(line)
+                    if not self.is_sent(line):
+                        rest = iter(())
                 found.append(self.link.hear())
                 sent.popleft()
         except (OSError, Ended) as fault:
@@ -87,6 +88,14 @@ class Server:
             ended.heard = found
             raise
         return found
+
+    def is_sent(self, line):
+        """Whether a line goes out; where it doesn't, as the connection has ended, replies to those before may still be there."""
+        try:
+            self.link.say(line)
+            return True
+        except OSError:
+            return False
 
     def one(self, line):
         """A line on a connection that is there. It asks nothing, so another connection may take it."""

@@ -10,6 +10,7 @@ from statistics import median
 from common import PROGRAM, often, survey
 from hitchseason import Client, Cut, Failed, Refused, Unanswered, connect
 from hitchseason.answers import Left
+from hitchseason.server import Ended, Server
 from hitchseason.transport import Stopped, Waited
 
 # The program under a mode that the folder's file `mode` has, once: killed before it has read anything, killed when it has answered and before it has
@@ -202,6 +203,41 @@ class Cuts(unittest.TestCase):
 
 
 HELLO = "hello mia"
+
+
+class Broken(Server):
+    """A connection that takes so many lines and has so many replies, each of them the number of its line, and then has ended."""
+
+    name = "nowhere"
+
+    def __init__(self, taken, replies):
+        super().__init__(None)
+        self.taken, self.left, self.said = taken, [str(number) for number in range(replies)], []
+
+    def opened(self):
+        return self
+
+    def say(self, line):
+        if len(self.said) == self.taken:
+            raise BrokenPipeError("broken pipe")
+        self.said.append(line)
+
+    def hear(self):
+        if not self.left:
+            raise Ended("no reply came")
+        return self.left.pop(0)
+
+    def close(self):
+        pass
+
+
+class Connections(unittest.TestCase):
+    def test_replies_behind_a_broken_pipe(self):
+        """What came is heard where a line can't go out any more: of 4 lines 3 went out, and 2 replies came."""
+        for taken, replies, heard in ((3, 2, ["0", "1"]), (3, 3, ["0", "1", "2"]), (1, 1, ["0"]), (4, 2, ["0", "1"])):
+            with self.assertRaises(Stopped) as caught:
+                Broken(taken, replies).replies(["left a", "left b", "left c", "left d"])
+            self.assertEqual(caught.exception.heard, heard)
 
 
 class Told:

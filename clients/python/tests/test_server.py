@@ -199,13 +199,14 @@ class Served(unittest.TestCase):
 
     def test_heard_before_an_interrupt(self):
         """Ctrl-C behind three replies of five: another analyst has asked meanwhile, and the three are told as they were heard."""
-        client = self.client()
+        client = self.client(port=self.port)
         client.learn()
         opened = client.transport.opened
 
         def interrupting():
             link = opened()
-            hear, heard = link.hear, []
+            hear, heard, say = link.hear, [], link.say
+            link.say = lambda line: None if " west " in line or " capital " in line else say(line)
 
             def hears():
                 if len(heard) == 4:
@@ -218,7 +219,6 @@ class Served(unittest.TestCase):
             return link
 
         client.transport.opened = interrupting
-        self.cut_at("before", 3)
         with self.assertRaises(KeyboardInterrupt):
             client.histogram("areas", eps=1)
         with self.assertRaises(Cut) as caught:
