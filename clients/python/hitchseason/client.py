@@ -7,17 +7,21 @@
 **One client an analyst and owner at a time**: only so are an analyst's new reservations those of its client. The client never asks again by itself.
 """
 import time
+from collections import deque
+from collections.abc import Iterable
 from contextlib import nullcontext
 from inspect import Parameter, Signature, signature
 
 from . import statistics
 from .answers import Answer, Left, units
-from .asks import Forecast, View
+from .asks import Ask, Forecast, Forgotten, View, charge_of, price
 from .borrowed import meanings
 from .faults import BadCall, Cut, Failed, Fault, Refused, Unanswered, known, of_reply
 from .transport import Stopped, Waited, transport_of
 
 RECALLS = 64
+# How much is told of a program; reservations that may be open at once, as there are at most so many workers.
+SAID, OPEN = 60, 16
 PLANS = {
     "ask": statistics.single, "count": statistics.count, "sum": statistics.sum_of, "mean": statistics.mean, "median": statistics.median,
     "quantile": statistics.quantile, "variance": statistics.variance, "groups": statistics.groups, "histogram": statistics.histogram,
@@ -26,7 +30,8 @@ PLANS = {
 
 
 def connect(place, *names, **words):
-    """WORDS of a folder: `program`, `catalog`, `key`; of a service `public`, a file that tools/public --json wrote; of ssh `words`, its own."""
+    """WORDS of a folder: `program`, `catalog`, `key`; of a service `public`, a file that tools/public --json wrote; of ssh `words`, its own. `wait`:
+    for how many seconds another connection, or run on the folder, is waited for; without an end, unless said."""
     if names and isinstance(names[0], int):
         place, names = f"{place}:{names[0]}", names[1:]
     named = {name: words.pop(name) for name in ("analyst", "owner") if name in words}
@@ -49,8 +54,9 @@ def asking(name):
         return self.work(name, *words, **more)
 
     plan = signature(PLANS[name])
+    takes = [Parameter("self", Parameter.POSITIONAL_ONLY), *list(plan.parameters.values())[1:], Parameter("resume", Parameter.KEYWORD_ONLY, default=())]
     call.__name__, call.__doc__ = name, PLANS[name].__doc__
-    call.__signature__ = plan.replace(parameters=[Parameter("self", Parameter.POSITIONAL_ONLY), *list(plan.parameters.values())[1:]])
+    call.__signature__ = plan.replace(parameters=sorted(takes, key=lambda one: one.kind))
     return call
 
 
@@ -99,11 +105,93 @@ def fit(name, words, more):
         raise BadCall(f"{name}: a charge is said, which is divided among its asks. Its words are {name} {form_of(name, words, more)}")
 
 
-class Pending:
-    """Asks that may have been answered, and the number from which on the analyst had none."""
+class Kept:
+    """Asks for a call that goes on: answers that came before stand for the asks that they answer, and only the others are asked, by SEND."""
 
-    def __init__(self, asks, first):
-        self.asks, self.first = asks, first
+    def __init__(self, answers, send):
+        self.answers, self.paid, self.send_others = {}, [], send
+        for answer in answers if isinstance(answers, Iterable) else [answers]:
+            if not isinstance(getattr(answer, "ask", None), Ask):
+                raise BadCall("`resume` has the answers of a call that was cut, as a fault has them in `answers`")
+            self.answers.setdefault(answer.ask.line(), deque()).append(answer)
+            self.paid.append(answer.ask)
+
+    def send(self, asks):
+        found = [self.taken(ask) for ask in asks]
+        others = [ask for ask, answer in zip(asks, found) if answer is None]
+        if others and any(self.answers.values()):
+            raise Refused("`resume` has answers that aren't of this call: nothing was asked.")
+        try:
+            came = iter(self.send_others(others) if others else [])
+        except Fault as fault:
+            fault.answers = [*(answer for answer in found if answer is not None), *fault.answers]
+            raise
+        return [next(came) if answer is None else answer for answer in found]
+
+    def taken(self, ask):
+        answers = self.answers.get(ask.line())
+        return answers.popleft() if answers else None
+
+
+class Pending:
+    """Asks that may have been answered, the number from which on the analyst had none, and what was left at a time before them. HEARD is what came of
+    the first of them, as far as their replies were heard."""
+
+    def __init__(self, asks, first, left):
+        self.asks, self.first, self.left, self.heard = asks, first, left, []
+
+    def keep(self, found):
+        """What replies say, up to one that says nothing, or whose number isn't told: behind it nothing is sure."""
+        for one in found:
+            if isinstance(one, Failed) and meanings.meaning(one.reply) is None or isinstance(one, Unanswered) and one.number is None:
+                self.left = None
+                break
+            self.heard.append(one)
+
+    def rest(self):
+        return self.asks[len(self.heard) :]
+
+    def answers(self):
+        return [one for one in self.heard if isinstance(one, Answer)]
+
+    def numbers(self):
+        return [one.number for one in self.heard if isinstance(one, (Answer, Unanswered))]
+
+    def behind(self):
+        """The number behind the last one that was heard."""
+        return max([self.first - 1, *self.numbers()]) + 1
+
+    def none_refused(self, after, found, entry, judged):
+        """Whether surely none of the asks was refused: what was left before them was enough for all, and nobody else has reserved since."""
+        if self.left is None or not all(isinstance(one, (Answer, Unanswered)) for one in self.heard):
+            return False
+        if judged and len({(ask.sent, ask.part and ask.part[0]) for ask in self.asks}) > 1:
+            return False
+        # At that time there were at least half as many numbers as records, and each open one was still to take another.
+        since, own = range(max(self.first, (self.left.records + 1) // 2), after), {*self.numbers(), *(number for number, _ in found)}
+        room = self.left.records + OPEN + 2 * len(self.asks) <= entry["capacity"]
+        return own.issuperset(since) and room and charge_of(self.asks) <= self.left.left
+
+    def told(self, found, unasked=()):
+        """Which asks are answered, in words, and which not."""
+        called = calling(self.asks)
+        answered = [called(one.ask) for one in found if isinstance(one, Answer)]
+        said = f"Of {len(self.asks)} asks {len(answered)} {'is' if len(answered) == 1 else 'are'} answered"
+        said += f" and paid (`answers`): {', '.join(answered)}. " if answered else ". "
+        said += "".join(f"{called(ask)}: {one} " for ask, one in zip(self.asks, found) if isinstance(one, Fault))
+        return said + (f"Not reserved, so that nothing is charged for them: {', '.join(map(called, unasked))}." if unasked else "")
+
+
+def calling(asks):
+    """How each of these asks is told: by its part, or the beginning of its program; by both where several programs are asked of parts."""
+    several = len({ask.sent for ask in asks}) > 1
+
+    def called(ask):
+        program = f"`{ask.sent if len(ask.sent) <= SAID else ask.sent[: SAID - 2] + '..'}`"
+        part = " ".join(ask.part or ())
+        return f"{part} {program}" if part and several else part or program
+
+    return called
 
 
 class Client:
@@ -118,19 +206,20 @@ class Client:
                 raise Refused(f"there is no {what} `{name}`: {known(name, [one for one in all_names if one], 'there is')}")
         self.transport, self.catalog, self.analyst = transport, catalog, analyst
         self.view = View(catalog, catalog["owners"][names.index(owner)], getattr(transport, "closed", False))
-        self.next = self.pending = self.known = None
+        # The next number; what was left at a time when there was none behind it that isn't another's; what isn't known yet; what was left at last.
+        self.next = self.before = self.pending = self.known = None
 
-    # What is asked. Each takes `eps` or `charge`, and `part=(PARTITION, KEY)`, as statistics.py says.
+    # What is asked. Each takes `eps` or `charge`, and `part=(PARTITION, KEY)`, as statistics.py says, and `resume=ANSWERS` of a call that was cut.
 
     ask, count, sum, mean, variance = (asking(name) for name in ("ask", "count", "sum", "mean", "variance"))
     quantile, median = asking("quantile"), asking("median")
     groups, histogram, crosstab, top = (asking(name) for name in ("groups", "histogram", "crosstab", "top"))
 
-    def work(self, name, *words, **more):
-        plan = self.plan(name, *words, **more)
+    def work(self, name, *words, resume=(), **more):
+        plan, kept = self.plan(name, *words, **more), Kept(resume, self.send)
         with self.kept():
-            self.afford(plan)
-            return plan.work(self.send)
+            self.afford(plan, kept.paid)
+            return plan.work(kept.send)
 
     def kept(self):
         """All that is asked in here goes over one connection, where there are any."""
@@ -147,13 +236,14 @@ class Client:
         except (TypeError, AttributeError) as fault:
             raise BadCall(f"{name}: one of its words is of another kind than is wanted ({fault}). Its words are {name} {form_of(name, words, more)}") from fault
 
-    def afford(self, plan):
-        """Refuses asks of the whole that don't fit together, so that none of them is paid in vain. Of parts it can't be known."""
+    def afford(self, plan, paid=()):
+        """Refuses asks of the whole that don't fit together, so that none of them is paid in vain. Of parts it can't be known. PAID are answered already."""
         if len(plan.asks) == 1 or any(ask.part for ask in plan.asks):
             return
-        charge, left = Forecast(plan).charge, self.left()
+        charge, left = Forecast(plan).charge - charge_of(paid), self.left()
+        self.before = left
         if charge > left.left:
-            raise Refused(f"its {len(plan.asks)} asks take up to {units(charge)} together, and {units(left.left)} is left: none of them was asked.")
+            raise Refused(f"its {len(plan.asks) - len(paid)} asks take up to {units(charge)} together, and {units(left.left)} is left: none of them was asked.")
 
     # What costs nothing.
 
@@ -169,15 +259,20 @@ class Client:
     def left(self):
         return self.left_of(self.told([f"left {self.view.name}"])[0])
 
-    def recall(self, number):
-        """What became of a reservation: its value, or Refused where it isn't the analyst's, or Unanswered where it has none."""
+    def recall(self, number, eps=None):
+        """What became of a reservation: its value, or, by the EPS at which it was asked, an answer with its interval. Refused where it isn't the
+        analyst's, Unanswered where it has none."""
+        try:
+            e = None if eps is None else price(1, eps=eps)
+        except ValueError as fault:
+            raise BadCall(str(fault)) from None
         reply = self.told([self.hello(), f"recall {self.view.name} {number}"])[1]
         words = reply.split(" ")
         if words[0] != "recall":
             raise Refused(f"{reply}: {meanings.meaning(reply)}.", reply)
         if words[2] != "answer":
             raise Unanswered(f"{reply}: {meanings.meaning(reply)}.", reply, number)
-        return int(words[3])
+        return int(words[3]) if e is None else Answer(Forgotten(self.view.name, e), number, int(words[3]), None, recalled=True)
 
     def hello(self):
         if self.analyst is None:
@@ -204,22 +299,30 @@ class Client:
             raise Cut("a run before was cut, and what came of it isn't known yet: recover() first")
         if self.next is None:
             self.learn()
-        self.pending = Pending(asks, self.next)
+        self.pending = Pending(asks, self.next, self.before)
         try:
             replies = self.transport.replies([hello, *(ask.line() for ask in asks), f"left {self.view.name}"])
         except Stopped as stopped:
+            self.keep(stopped.heard)
             return self.recover(f"{stopped}. ")
         except (Failed, Waited):
             self.pending = None
             raise
+        except KeyboardInterrupt as ended:
+            self.keep(getattr(ended, "heard", ()))
+            raise
         return self.taken(asks, replies[1:-1], self.left_of(replies[-1]))
+
+    def keep(self, heard):
+        """Replies that came before the run was cut, the first of them being that of the hello."""
+        self.pending.keep(self.one(ask, reply, None) for ask, reply in zip(self.pending.asks, heard[1:]))
 
     def taken(self, asks, replies, left):
         """The answers, or the first fault with the answers beside it."""
         found = [self.one(ask, reply, left) for ask, reply in zip(asks, replies)]
         numbers = [one.number for one in found if isinstance(one, (Answer, Unanswered))]
         self.next = None if None in numbers else max([self.next - 1, *numbers]) + 1
-        self.pending = None
+        self.before, self.pending = left, None
         return self.all_answered(asks, found)
 
     def one(self, ask, reply, left):
@@ -243,7 +346,7 @@ class Client:
     def learn(self):
         """The next number: each that there is has one record or two."""
         least = (self.left().records + 1) // 2
-        self.next, _, _ = unasked(lambda: self.numbers_from(least))
+        self.next, _, self.before = unasked(lambda: self.numbers_from(least))
 
     def numbers_from(self, first):
         """The next number, those of the analyst from the first on with what `recall` says of each, and what is left."""
@@ -259,24 +362,42 @@ class Client:
             at += RECALLS
 
     def recover(self, why=""):
-        """What came of the asks of a run that was cut, by `recall`, which costs nothing: their answers, where the analyst's new numbers are as
-        many as the asks; Failed where there is none, so that nothing was charged; Cut where it can't be told."""
+        """What came of the asks of a run that was cut: the replies that were heard, and behind them `recall`, which costs nothing. Their answers, where the
+        analyst's new numbers are as many as the other asks; Failed where nothing was charged; else Cut, with the answers of those that are known."""
         if self.pending is None:
             raise Failed("no run was cut")
-        asks = self.pending.asks
+        pending = self.pending
+        heard, rest = pending.heard, pending.rest()
         try:
-            after, found, left = self.numbers_from(self.pending.first)
+            after, found, left = self.numbers_from(pending.behind())
         except (Stopped, Failed) as fault:
-            raise Cut(f"{why}What came of it isn't known, since no recall is answered: {fault}. recover() tries once more, for nothing.") from None
-        if any(said == ["open"] for _, said in found):
-            raise Cut(f"{why}A reservation is still open: recover() later.", found)
-        self.next, self.pending = after, None
-        if not found:
-            raise Failed(f"{why}Nothing that was asked came to be reserved: nothing is charged, and it may be asked again.")
-        if len(found) != len(asks):
-            told = "; ".join(f"{number} {' '.join(said)}" for number, said in found)
-            raise Cut(f"{why}Of {len(asks)} asks the analyst has {len(found)} new reservations, and which is whose isn't known: {told}.", found)
-        return self.all_answered(asks, [self.recalled(ask, number, said, left) for ask, (number, said) in zip(asks, found)])
+            fault = str(fault).removesuffix(" Nothing was asked.").removesuffix(".")
+            if not rest:
+                self.next, self.pending = pending.behind(), None
+                return self.all_answered(pending.asks, heard)
+            known = pending.told(heard) if heard else ""
+            said = f"What came of {'the others' if heard else 'it'} isn't known, since no recall is answered: {fault}. recover() tries once more, for nothing."
+            raise Cut(f"{why}{known}{said}", answers=pending.answers()) from None
+        for answer in pending.answers():
+            answer.left = left
+        if rest and any(said == ["open"] for _, said in found):
+            known = pending.told(heard) if heard else ""
+            raise Cut(f"{why}{known}A reservation is still open: recover() later.", found, pending.answers())
+        self.next, self.before, self.pending = after, left, None
+        recalled = [*heard, *(self.recalled(ask, number, said, left) for ask, (number, said) in zip(rest, found))]
+        if not rest or len(found) == len(rest):
+            return self.all_answered(pending.asks, recalled)
+        if not found and not pending.numbers():
+            none = f"None of the {len(rest)} asks was reserved: nothing is charged for them, and they" if len(rest) > 1 else (
+                "The ask wasn't reserved: nothing is charged for it, and it")
+            raise next(iter(heard), Failed(f"{why}{none} may be asked again."))
+        if not found or len(found) < len(rest) and pending.none_refused(after, found, self.view.entry, getattr(self.transport, "judged", False)):
+            unasked = rest[len(found) :]
+            raise Cut(f"{why}{pending.told(recalled, unasked)}", found, [one for one in recalled if isinstance(one, Answer)], unasked)
+        told = "; ".join(f"{number} {' '.join(said)}" for number, said in found)
+        of = f"{pending.told(heard)}Of the {len(rest)} others" if heard else f"Of {len(rest)} asks"
+        new = f"{len(found)} new reservation{'s' if len(found) > 1 else ''}"
+        raise Cut(f"{why}{of} the analyst has {new}, and which is whose isn't known: {told}.", found, pending.answers())
 
     def recalled(self, ask, number, said, left):
         if said[0] != "answer":
