@@ -160,7 +160,7 @@ def charge_of(asks):
 
 
 class Forecast:
-    """"Before anything is asked: the `charge` in millionths, of parts the most that it can be, and for each kind of ask its margins."""
+    """Before anything is asked: the `charge` in millionths, of parts the most that it can be, and for each kind of ask its margins."""
 
     def __init__(self, plan):
         self.asks, self.note = plan.asks, plan.note
