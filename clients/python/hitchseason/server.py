@@ -207,7 +207,9 @@ class Address(Server):
         return Connection(self.host, self.port)
 
     def say_waits(self):
-        print(f"port {self.port} serves another connection; waiting", file=sys.stderr, flush=True)
+        with suppress(OSError, ValueError):
+            if sys.stderr:
+                print(f"port {self.port} serves another connection; waiting", file=sys.stderr, flush=True)
 
 
 class Connection(Link):
