@@ -203,8 +203,8 @@ class Served(unittest.TestCase):
         client.learn()
         opened = client.transport.opened
 
-        def interrupting(patience):
-            link = opened(patience)
+        def interrupting(*words):
+            link = opened(*words)
             hear, heard, say = link.hear, [], link.say
             link.say = lambda line: None if " west " in line or " capital " in line else say(line)
 
