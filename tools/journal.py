@@ -1,8 +1,9 @@
 #!/usr/bin/env python3
 """Journals, read apart from the server.
 
-    journal.py CATALOG KEY [FOLDER]     each owner's journal in FOLDER/journals (in ./journals): its records, and the line of an audit.
-                                        A reservation's charge is r times e, rounded up; taken is by how much the owner's spent grew
+    journal.py CATALOG KEY [FOLDER]     each owner's journal in FOLDER/journals (in ./journals), or N.bud in FOLDER itself, as in a copy of
+                                        tools/snapshot: its records, and the line of an audit. A reservation's charge is r times e, rounded up;
+                                        taken is by how much the owner's spent grew
     journal.py --areas CATALOG KEY [FOLDER]  each journal's version, its areas and which of them is live, or in words why it is refused
     journal.py --compare COPY CATALOG KEY   whether each journal in ./journals begins with the records of its copy in the folder COPY: records
                                         are only ever added, so any other change was made by somebody, or by the disk. It ends with status 1
@@ -420,13 +421,21 @@ def contents(name):
         return file.read()
 
 
+def journals_of(folder):
+    """Where a folder's journals lie: in `journals`, or, as tools/snapshot copies them, in the folder itself."""
+    if os.path.isdir(f"{folder}/journals"):
+        return f"{folder}/journals"
+    is_copy = os.path.isdir(folder) and any(re.fullmatch(r"[0-9]+\.bud", name) for name in os.listdir(folder))
+    return folder if is_copy else f"{folder}/journals"
+
+
 def books(catalog_name, key_name, folder=".", file=contents):
     """Each owner's book, or why there is none."""
-    data = file(catalog_name)
+    data, journals = file(catalog_name), journals_of(folder)
     catalog, key = read(data), file(key_name)
     for order, entry in enumerate(catalog["owners"]):
         try:
-            kept = contents(f"{folder}/journals/{order}.bud")
+            kept = contents(f"{journals}/{order}.bud")
         except FileNotFoundError:
             kept = b""
         try:
@@ -676,9 +685,9 @@ def show(words):
 def show_areas(words):
     """Each journal's version and areas, or why it is refused; whether none is."""
     catalog, key, folder = read(contents(words[0])), contents(words[1]), words[2] if len(words) == 3 else "."
-    refused = False
+    refused, journals = False, journals_of(folder)
     for order, (entry, book) in enumerate(zip(catalog["owners"], books(*words))):
-        data = contents(f"{folder}/journals/{order}.bud") if os.path.exists(f"{folder}/journals/{order}.bud") else b""
+        data = contents(f"{journals}/{order}.bud") if os.path.exists(f"{journals}/{order}.bud") else b""
         if len(data) >= HEAD:
             live = live_area(data, entry["capacity"])
             for area in areas(live.version, entry["capacity"]):

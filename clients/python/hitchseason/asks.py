@@ -75,6 +75,15 @@ class Ask:
         return f"{of} {explain.in_units(self.e)} {f'({self.sent})' if self.closed else self.sent}"
 
 
+class Forgotten:
+    """An ask of which the owner and EPS alone are said."""
+
+    sent = part = None
+
+    def __init__(self, owner, e):
+        self.owner, self.e = owner, e
+
+
 class View:
     """CLOSED: a line may be cut, and what came of it count as a line. So programs go in parentheses, of which no beginning is a program."""
 
@@ -150,18 +159,23 @@ class Plan:
         return self.made(send(self.asks))
 
 
+def charge_of(asks):
+    """What asks are charged together, in millionths; of parts the most that it can be."""
+    of_parts = {}
+    for ask in asks:
+        partition, key = ask.part or (None, None)
+        keys = of_parts.setdefault(partition, {})
+        keys[key] = keys.get(key, 0) + ask.charge
+    return sum(max(keys.values()) for keys in of_parts.values())
+
+
 class Forecast:
     """Before anything is asked: the `charge` in millionths, of parts the most that it can be, and for each kind of ask its margins. `left` is what was
     left when that was told last, or nothing; the margins of `sums` are those of sums of answers, as totals."""
 
     def __init__(self, plan, left=None, budget=None):
         self.asks, self.note, self.sums, self.left, self.budget = plan.asks, plan.note, plan.sums, left, budget
-        of_parts = {}
-        for ask in self.asks:
-            partition, key = ask.part or (None, None)
-            keys = of_parts.setdefault(partition, {})
-            keys[key] = keys.get(key, 0) + ask.charge
-        self.charge = sum(max(keys.values()) for keys in of_parts.values())
+        self.charge = charge_of(self.asks)
 
     def kinds(self):
         """Asks that differ in their part alone count as one: (ask, how many)."""

@@ -12,8 +12,9 @@ from inspect import Parameter, Signature, signature
 
 from . import statistics
 from .answers import Answer, Left, units
-from .asks import Forecast, View
+from .asks import Forecast, Forgotten, View, charge_of, price
 from .borrowed import meanings
+from .cuts import Kept, Pending
 from .faults import BadCall, Cut, Failed, Fault, Refused, Unanswered, known, of_reply
 from .transport import Stopped, Waited, transport_of
 
@@ -26,7 +27,8 @@ PLANS = {
 
 
 def connect(place, *names, **words):
-    """WORDS of a folder: `program`, `catalog`, `key`; of a service `public`, a file that tools/public --json wrote; of ssh `words`, its own."""
+    """WORDS of a folder: `program`, `catalog`, `key`; of a service `public`, a file that tools/public --json wrote; of ssh `words`, its own. `wait`:
+    for how many seconds another connection, or run on the folder, is waited for; without an end, unless said."""
     if names and isinstance(names[0], int):
         place, names = f"{place}:{names[0]}", names[1:]
     named = {name: words.pop(name) for name in ("analyst", "owner") if name in words}
@@ -49,8 +51,9 @@ def asking(name):
         return self.work(name, *words, **more)
 
     plan = signature(PLANS[name])
+    takes = [Parameter("self", Parameter.POSITIONAL_ONLY), *list(plan.parameters.values())[1:], Parameter("resume", Parameter.KEYWORD_ONLY, default=())]
     call.__name__, call.__doc__ = name, PLANS[name].__doc__
-    call.__signature__ = plan.replace(parameters=[Parameter("self", Parameter.POSITIONAL_ONLY), *list(plan.parameters.values())[1:]])
+    call.__signature__ = plan.replace(parameters=sorted(takes, key=lambda one: one.kind))
     return call
 
 
@@ -99,13 +102,6 @@ def fit(name, words, more):
         raise BadCall(f"{name}: a charge is said, which is divided among its asks. Its words are {name} {form_of(name, words, more)}")
 
 
-class Pending:
-    """Asks that may have been answered, and the number from which on the analyst had none."""
-
-    def __init__(self, asks, first):
-        self.asks, self.first = asks, first
-
-
 class Client:
     def __init__(self, transport, catalog, analyst, owner=None):
         names = [entry["name"] for entry in catalog["owners"]]
@@ -118,19 +114,20 @@ class Client:
                 raise Refused(f"there is no {what} `{name}`: {known(name, [one for one in all_names if one], 'there is')}")
         self.transport, self.catalog, self.analyst = transport, catalog, analyst
         self.view = View(catalog, catalog["owners"][names.index(owner)], getattr(transport, "closed", False))
-        self.next = self.pending = self.known = None
+        # The next number; what was left at a time when there was none behind it that isn't another's; what isn't known yet; what was left at last.
+        self.next = self.before = self.pending = self.known = None
 
-    # What is asked. Each takes `eps` or `charge`, and `part=(PARTITION, KEY)`, as statistics.py says.
+    # What is asked. Each takes `eps` or `charge`, and `part=(PARTITION, KEY)`, as statistics.py says, and `resume=ANSWERS` of a call that was cut.
 
     ask, count, sum, mean, variance = (asking(name) for name in ("ask", "count", "sum", "mean", "variance"))
     quantile, median = asking("quantile"), asking("median")
     groups, histogram, crosstab, top = (asking(name) for name in ("groups", "histogram", "crosstab", "top"))
 
-    def work(self, name, *words, **more):
-        plan = self.plan(name, *words, **more)
+    def work(self, name, *words, resume=(), **more):
+        plan, kept = self.plan(name, *words, **more), Kept(resume, self.send)
         with self.kept():
-            self.afford(plan)
-            return plan.work(self.send)
+            self.afford(plan, kept.paid)
+            return plan.work(kept.send)
 
     def kept(self):
         """All that is asked in here goes over one connection, where there are any."""
@@ -147,13 +144,14 @@ class Client:
         except (TypeError, AttributeError) as fault:
             raise BadCall(f"{name}: one of its words is of another kind than is wanted ({fault}). Its words are {name} {form_of(name, words, more)}") from fault
 
-    def afford(self, plan):
-        """Refuses asks of the whole that don't fit together, so that none of them is paid in vain. Of parts it can't be known."""
+    def afford(self, plan, paid=()):
+        """Refuses asks of the whole that don't fit together, so that none of them is paid in vain. Of parts it can't be known. PAID are answered already."""
         if len(plan.asks) == 1 or any(ask.part for ask in plan.asks):
             return
-        charge, left = Forecast(plan).charge, self.left()
+        charge, left = Forecast(plan).charge - charge_of(paid), self.left()
+        self.before = left
         if charge > left.left:
-            raise Refused(f"its {len(plan.asks)} asks take up to {units(charge)} together, and {units(left.left)} is left: none of them was asked.")
+            raise Refused(f"its {len(plan.asks) - len(paid)} asks take up to {units(charge)} together, and {units(left.left)} is left: none of them was asked.")
 
     # What costs nothing.
 
@@ -169,15 +167,20 @@ class Client:
     def left(self):
         return self.left_of(self.told([f"left {self.view.name}"])[0])
 
-    def recall(self, number):
-        """What became of a reservation: its value, or Refused where it isn't the analyst's, or Unanswered where it has none."""
+    def recall(self, number, eps=None):
+        """What became of a reservation: its value, or, by the EPS at which it was asked, an answer with its interval. Refused where it isn't the
+        analyst's, Unanswered where it has none."""
+        try:
+            e = None if eps is None else price(1, eps=eps)
+        except ValueError as fault:
+            raise BadCall(str(fault)) from None
         reply = self.told([self.hello(), f"recall {self.view.name} {number}"])[1]
         words = reply.split(" ")
         if words[0] != "recall":
             raise Refused(f"{reply}: {meanings.meaning(reply)}.", reply)
         if words[2] != "answer":
             raise Unanswered(f"{reply}: {meanings.meaning(reply)}.", reply, number)
-        return int(words[3])
+        return int(words[3]) if e is None else Answer(Forgotten(self.view.name, e), number, int(words[3]), None, recalled=True)
 
     def hello(self):
         if self.analyst is None:
@@ -204,22 +207,30 @@ class Client:
             raise Cut("a run before was cut, and what came of it isn't known yet: recover() first")
         if self.next is None:
             self.learn()
-        self.pending = Pending(asks, self.next)
+        self.pending = Pending(asks, self.next, self.before)
         try:
             replies = self.transport.replies([hello, *(ask.line() for ask in asks), f"left {self.view.name}"])
         except Stopped as stopped:
+            self.keep(stopped.heard)
             return self.recover(f"{stopped}. ")
         except (Failed, Waited):
             self.pending = None
             raise
+        except KeyboardInterrupt as ended:
+            self.keep(getattr(ended, "heard", ()))
+            raise
         return self.taken(asks, replies[1:-1], self.left_of(replies[-1]))
+
+    def keep(self, heard):
+        """Replies that came before the run was cut, the first of them being that of the hello."""
+        self.pending.keep(self.one(ask, reply, None) for ask, reply in zip(self.pending.asks, heard[1:]))
 
     def taken(self, asks, replies, left):
         """The answers, or the first fault with the answers beside it."""
         found = [self.one(ask, reply, left) for ask, reply in zip(asks, replies)]
         numbers = [one.number for one in found if isinstance(one, (Answer, Unanswered))]
         self.next = None if None in numbers else max([self.next - 1, *numbers]) + 1
-        self.pending = None
+        self.before, self.pending = left, None
         return self.all_answered(asks, found)
 
     def one(self, ask, reply, left):
@@ -243,7 +254,7 @@ class Client:
     def learn(self):
         """The next number: each that there is has one record or two."""
         least = (self.left().records + 1) // 2
-        self.next, _, _ = unasked(lambda: self.numbers_from(least))
+        self.next, _, self.before = unasked(lambda: self.numbers_from(least))
 
     def numbers_from(self, first):
         """The next number, those of the analyst from the first on with what `recall` says of each, and what is left."""
@@ -259,24 +270,42 @@ class Client:
             at += RECALLS
 
     def recover(self, why=""):
-        """What came of the asks of a run that was cut, by `recall`, which costs nothing: their answers, where the analyst's new numbers are as
-        many as the asks; Failed where there is none, so that nothing was charged; Cut where it can't be told."""
+        """What came of the asks of a run that was cut: the replies that were heard, and behind them `recall`, which costs nothing. Their answers, where the
+        analyst's new numbers are as many as the other asks; Failed where nothing was charged; else Cut, with the answers of those that are known."""
         if self.pending is None:
             raise Failed("no run was cut")
-        asks = self.pending.asks
+        pending = self.pending
+        heard, rest = pending.heard, pending.rest()
         try:
-            after, found, left = self.numbers_from(self.pending.first)
+            after, found, left = self.numbers_from(pending.behind())
         except (Stopped, Failed) as fault:
-            raise Cut(f"{why}What came of it isn't known, since no recall is answered: {fault}. recover() tries once more, for nothing.") from None
-        if any(said == ["open"] for _, said in found):
-            raise Cut(f"{why}A reservation is still open: recover() later.", found)
-        self.next, self.pending = after, None
-        if not found:
-            raise Failed(f"{why}Nothing that was asked came to be reserved: nothing is charged, and it may be asked again.")
-        if len(found) != len(asks):
-            told = "; ".join(f"{number} {' '.join(said)}" for number, said in found)
-            raise Cut(f"{why}Of {len(asks)} asks the analyst has {len(found)} new reservations, and which is whose isn't known: {told}.", found)
-        return self.all_answered(asks, [self.recalled(ask, number, said, left) for ask, (number, said) in zip(asks, found)])
+            fault = str(fault).removesuffix(" Nothing was asked.").removesuffix(".")
+            if not rest:
+                self.next, self.pending = pending.behind(), None
+                return self.all_answered(pending.asks, heard)
+            known = pending.told(heard) if heard else ""
+            said = f"What came of {'the others' if heard else 'it'} isn't known, since no recall is answered: {fault}. recover() tries once more, for nothing."
+            raise Cut(f"{why}{known}{said}", answers=pending.answers()) from None
+        for answer in pending.answers():
+            answer.left = left
+        if rest and any(said == ["open"] for _, said in found):
+            known = pending.told(heard) if heard else ""
+            raise Cut(f"{why}{known}A reservation is still open: recover() later.", found, pending.answers())
+        self.next, self.before, self.pending = after, left, None
+        recalled = [*heard, *(self.recalled(ask, number, said, left) for ask, (number, said) in zip(rest, found))]
+        if not rest or len(found) == len(rest):
+            return self.all_answered(pending.asks, recalled)
+        if not found and not pending.numbers():
+            none = f"None of the {len(rest)} asks was reserved: nothing is charged for them, and they" if len(rest) > 1 else (
+                "The ask wasn't reserved: nothing is charged for it, and it")
+            raise next(iter(heard), Failed(f"{why}{none} may be asked again."))
+        if not found or len(found) < len(rest) and pending.none_refused(after, found, self.view.entry, getattr(self.transport, "judged", False)):
+            unasked = rest[len(found) :]
+            raise Cut(f"{why}{pending.told(recalled, unasked)}", found, [one for one in recalled if isinstance(one, Answer)], unasked)
+        told = "; ".join(f"{number} {' '.join(said)}" for number, said in found)
+        of = f"{pending.told(heard)}Of the {len(rest)} others" if heard else f"Of {len(rest)} asks"
+        new = f"{len(found)} new reservation{'s' if len(found) > 1 else ''}"
+        raise Cut(f"{why}{of} the analyst has {new}, and which is whose isn't known: {told}.", found, pending.answers())
 
     def recalled(self, ask, number, said, left):
         if said[0] != "answer":

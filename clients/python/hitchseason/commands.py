@@ -10,6 +10,7 @@ from . import pictures
 from .answers import PERCENTS, Groups, units
 from .client import connect
 from .faults import Fault
+from .transport import Waited
 
 FOLDER = ("public", "program", "catalog", "key")
 WRITES = {"histogram": "tools/askparts --json", "budget": "tools/left --json"}
@@ -34,15 +35,22 @@ def text_of(name):
 
 
 def run(name, call, parser, words):
-    """The status of a command: 1 where something was refused or failed, 2 where the words are none."""
+    """The status of a command: 1 where something was refused or failed, 2 where the words are none, 130 where Ctrl-C ended it."""
     given = parser.parse_intermixed_args(words)
     try:
         call(given)
         return 0
+    except KeyboardInterrupt as ended:
+        print(f"tools/{name}: {ended if isinstance(ended, Interrupted) else 'given up; nothing was asked'}", file=sys.stderr)
+        return 130
     except (Fault, ValueError, OSError) as fault:
         sys.stdout.flush()
         print(f"tools/{name}: {fault}", file=sys.stderr)
         return 1
+
+
+class Interrupted(KeyboardInterrupt):
+    """Ctrl-C, where something may have been asked."""
 
 
 def parser_of(name, doc):
@@ -65,40 +73,50 @@ def askparts(words, doc):
     parser.set_defaults(form=text_lines)
 
     def call(given):
-        client = client_of(given, given.analyst, given.owner)
+        client, program = client_of(given, given.analyst, given.owner), text_of(given.file)
         try:
-            groups = client.groups(given.partition, text_of(given.file), eps=given.eps, keys=given.keys or None)
+            groups = client.groups(given.partition, program, eps=given.eps, keys=given.keys or None)
+        except KeyboardInterrupt as ended:
+            if isinstance(ended, Waited) and not client.pending:
+                raise
+            raise Interrupted("given up; what was asked may be answered and paid: tools/shell tells it again by its number (\\r N)") from None
         except Fault as fault:
-            # What was answered before it is paid.
+            # What is answered is paid.
             if fault.answers:
-                print(given.form(Groups(given.partition, {answer.ask.part[1]: answer for answer in fault.answers}), given.level))
+                known = {answer.ask.part[1]: answer for answer in fault.answers}
+                wanted = dict.fromkeys(given.keys or client.view.partition(given.partition)["keys"])
+                print(given.form(Groups(given.partition, known), given.level, [key for key in wanted if key not in known]))
             raise
-        print(given.form(groups, given.level))
+        print(given.form(groups, given.level, []))
 
     return run("askparts", call, parser, words)
 
 
-def text_lines(groups, percent):
-    """A line a key, and one of what they took together."""
+def text_lines(groups, percent, missing):
+    """A line a key, and one of what they took together, and of keys without an answer."""
     rows = [[key, str(answer.value), "{} to {}".format(*answer.interval(percent))] for key, answer in groups.items()]
     widths = [max(len(row[place]) for row in rows) for place in range(3)]
     lines = [f"{key.ljust(widths[0])}  {value.rjust(widths[1])}  {ends.rjust(widths[2])}" for key, value, ends in rows]
     taken = "some were recalled, and what they took isn't told" if groups.taken is None else f"taken {units(groups.taken)}"
-    return "\n".join([*lines, f"{percent} of 100; {taken}; {units(groups.left.left)} left"])
+    left = f"; {units(groups.left.left)} left" if groups.left else ""
+    without = f"; without an answer: {', '.join(missing)}" if missing else ""
+    return "\n".join([*lines, f"{percent} of 100; {taken}{left}{without}"])
 
 
-def csv_lines(groups, _):
+def csv_lines(groups, _, missing):
+    """A key without an answer has nothing behind it."""
     file = io.StringIO()
     lines = csv.writer(file, lineterminator="\n")
     lines.writerow(["key", "value", *(f"{end}_{percent}" for percent in PERCENTS for end in ("low", "high")), "number", "taken"])
     for key, answer in groups.items():
         ends = [end for percent in PERCENTS for end in answer.interval(percent)]
         lines.writerow([key, answer.value, *ends, answer.number, answer.taken])
+    lines.writerows([key, *[""] * (2 * len(PERCENTS) + 3)] for key in missing)
     return file.getvalue().rstrip("\n")
 
 
-def json_lines(groups, _):
-    return json.dumps(groups.as_dict(), ensure_ascii=False)
+def json_lines(groups, _, missing):
+    return json.dumps({**groups.as_dict(), **({"missing": missing} if missing else {})}, ensure_ascii=False)
 
 
 # What costs nothing.

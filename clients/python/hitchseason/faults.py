@@ -5,7 +5,7 @@
     Refused                      nothing is charged; `reply` is the line or nothing, `place` the part of the analyst's program
     Unanswered                   no answer comes: exhausted (50), whose charge comes back, or charged (51), or perhaps (52)
     Failed                       the program didn't run, or closed a journal: nothing of what was asked is known to be charged
-    Cut                          the run was cut, and what came of it isn't known, or not which answer is whose
+    Cut                          the run was cut, and what came of it isn't known, or not which answer is whose, or a part of it came to nothing
 """
 from .borrowed import explain, lines, meanings, program_parts
 from .hints import for_client
@@ -19,6 +19,10 @@ class Fault(Exception):
     """ANSWERS are those that came before it in the same asking, by what they were asked of, and are paid."""
 
     answers = ()
+
+    def add(self, said):
+        """Says more."""
+        self.args = (f"{self} {said}",)
 
 
 class BadCall(Fault, ValueError):
@@ -44,11 +48,12 @@ class Failed(Fault):
 
 
 class Cut(Fault):
-    """NUMBERS are the new reservations of the analyst, each with what `recall` says of it, where that is known."""
+    """NUMBERS are the new reservations of the analyst whose replies weren't heard, each with what `recall` says of it, where that is known;
+    `answers` those that are known by what they were asked of, and UNASKED the asks that surely weren't reserved."""
 
-    def __init__(self, said, numbers=None):
+    def __init__(self, said, numbers=None, answers=(), unasked=()):
         super().__init__(said)
-        self.numbers = numbers
+        self.numbers, self.answers, self.unasked = numbers, list(answers), list(unasked)
 
 
 def of_names(fault, source):

@@ -9,6 +9,7 @@ a while, as the service may be started anew. Where replies to later lines are mi
 Where a connection ends within a line, what came of the line is a line to the service. So programs are `closed`: they go in parentheses (asks.py).
 """
 import json
+import select
 import signal
 import socket
 import subprocess
@@ -23,6 +24,8 @@ from .transport import Stopped, Waited
 
 # How long a service that isn't there is tried again, and after how long that is told; lines that are sent ahead of their replies.
 PATIENCE, PAUSE, LATE = 20, 0.5, 1
+# When somebody who waits behind another connection is told so.
+TOLD_AFTER = 5
 AHEAD = 16
 CLOSED = "door closed"
 # How much is told of what another program said.
@@ -45,11 +48,21 @@ def shown(reply):
     return f"`{said if len(said) <= TOLD else said[: TOLD - 2] + '..'}`" if said else "an empty line"
 
 
-class Server:
-    closed = True
+def tell(said):
+    """Says what is waited for, where somebody may read it."""
+    with suppress(OSError, ValueError):
+        if sys.stderr:
+            print(said, file=sys.stderr, flush=True)
+    return True
 
-    def __init__(self, given):
-        self.given, self.link, self.depth, self.waiting = given, None, 0, False
+
+class Server:
+    """JUDGED: lines that ask may be refused on their way, for their program."""
+
+    closed, judged = True, False
+
+    def __init__(self, given, wait=None):
+        self.given, self.wait, self.link, self.depth, self.waiting = given, wait, None, 0, False
 
     def public(self):
         if self.given is None:
@@ -87,13 +100,25 @@ class Server:
         try:
             while len(found) < len(lines):
                 while len(sent) < AHEAD and (line := next(rest, None)) is not None:
-                    self.link.say(line)
                     sent.append(line)
+                    if not self.is_sent(line):
+                        rest = iter(())
                 found.append(self.link.hear())
                 sent.popleft()
         except (OSError, Ended) as fault:
-            raise Stopped(f"the connection ended: {fault}") from None
+            raise Stopped(f"the connection ended: {fault}", found) from None
+        except KeyboardInterrupt as ended:
+            ended.heard = found
+            raise
         return found
+
+    def is_sent(self, line):
+        """Whether a line goes out; where it doesn't, as the connection has ended, replies to those before may still be there."""
+        try:
+            self.link.say(line)
+            return True
+        except OSError:
+            return False
 
     def one(self, line):
         """A line on a connection that is there. It asks nothing, so another connection may take it."""
@@ -110,7 +135,7 @@ class Server:
         while True:
             try:
                 self.waiting = True
-                self.link = self.opened(PATIENCE if told else LATE)
+                self.link = self.behind_others(self.opened(PATIENCE if told else LATE))
                 self.link.say(line)
                 return self.known(line, self.link.hear())
             except KeyboardInterrupt:
@@ -120,17 +145,10 @@ class Server:
                 waited = time.monotonic() - begun
                 if waited > PATIENCE or isinstance(fault, Refusal):
                     raise Failed(f"{self.name} can't be reached: {fault}. Nothing was asked.") from None
-                told = told or (waited >= LATE and self.tell())
+                told = told or (waited >= LATE and tell(f"waiting for {self.name.rstrip(',')}, up to {PATIENCE} s"))
                 self.pause()
             finally:
                 self.waiting = False
-
-    def tell(self):
-        """Says what is waited for, where somebody may read it."""
-        with suppress(OSError, ValueError):
-            if sys.stderr:
-                print(f"waiting for {self.name.rstrip(',')}, up to {PATIENCE} s", file=sys.stderr, flush=True)
-        return True
 
     def known(self, line, reply):
         """The first reply of a connection, if it is a service's: it may be that another program listens there."""
@@ -138,6 +156,25 @@ class Server:
             return reply
         self.drop()
         raise Failed(f"What answers at {self.name} is no hitchseason service (it said {shown(reply)}). Nothing was asked.")
+
+    def behind_others(self, link):
+        """A link whose first reply is waited for: a worker that serves another connection replies to nobody else."""
+        link.awaited = lambda: self.await_reply(link)
+        return link
+
+    def await_reply(self, link):
+        """Says that it waits; past the limit it gives up."""
+        is_there = lambda seconds: select.select([link], [], [], max(seconds, 0))[0]
+        until = None if self.wait is None else time.monotonic() + self.wait
+        if is_there(TOLD_AFTER if self.wait is None else min(TOLD_AFTER, self.wait)):
+            return
+        if until is None or until > time.monotonic():
+            self.say_waits()
+        if until is not None and not is_there(until - time.monotonic()):
+            raise Failed(f"{self.name} has served another connection for {self.wait} s. Nothing was asked.")
+
+    def say_waits(self):
+        """A door says it itself."""
 
     @staticmethod
     def pause():
@@ -168,9 +205,12 @@ class Refusal(Ended):
 class Link:
     """Lines out and replies in. `read` gives some bytes, or none at the end."""
 
-    told = b""
+    told, awaited = b"", None
 
     def hear(self):
+        if self.awaited:
+            awaited, self.awaited = self.awaited, None
+            awaited()
         while b"\n" not in self.told:
             data = self.read()
             if not data:
@@ -191,12 +231,15 @@ class Link:
 
 
 class Address(Server):
-    def __init__(self, host, port, public=None):
-        super().__init__(public)
+    def __init__(self, host, port, public=None, wait=None):
+        super().__init__(public, wait)
         self.host, self.port, self.name = host, port, f"{host}, port {port},"
 
     def opened(self, patience):
         return Connection(self.host, self.port, patience)
+
+    def say_waits(self):
+        tell(f"port {self.port} serves another connection; waiting")
 
 
 class Connection(Link):
@@ -206,6 +249,9 @@ class Connection(Link):
         self.socket = socket.create_connection((host, port), patience)
         self.socket.settimeout(None)
         self.socket.setsockopt(socket.IPPROTO_TCP, socket.TCP_NODELAY, 1)
+
+    def fileno(self):
+        return self.socket.fileno()
 
     def say(self, line):
         self.socket.sendall(f"{line}\n".encode())
@@ -229,10 +275,12 @@ class Connection(Link):
 
 
 class Login(Server):
-    """WORDS stand before the destination, as ("-i", "FILE")."""
+    """WORDS stand before the destination, as ("-i", "FILE"). A door refuses programs that walk too deep."""
 
-    def __init__(self, destination, public=None, ssh=("ssh",), words=()):
-        super().__init__(public)
+    judged = True
+
+    def __init__(self, destination, public=None, ssh=("ssh",), words=(), wait=None):
+        super().__init__(public, wait)
         self.name, self.command = destination, [*ssh, "-T", *words, "--", destination]
 
     def opened(self, _):
@@ -245,6 +293,9 @@ class Process(Link):
     def __init__(self, command):
         quiet = {"preexec_fn": lambda: signal.signal(signal.SIGINT, signal.SIG_IGN)}
         self.process = subprocess.Popen(command, stdin=subprocess.PIPE, stdout=subprocess.PIPE, bufsize=0, **quiet)
+
+    def fileno(self):
+        return self.process.stdout.fileno()
 
     def say(self, line):
         data = f"{line}\n".encode()

@@ -17,6 +17,7 @@ from .commands import client_of, parser_of, place_words
 from .faults import BadCall, Cut, Failed, Fault, Refused, known
 from .prompt import GivenUp, Held, Plain, Terminal, candidates
 from .told import answered, folded, harmless, listed, named, owner_told
+from .transport import Waited
 
 END = re.compile(r'"[^"]*"|;')
 NAMED = re.compile(r"([a-z]+)=(?!=)(.*)", re.S)
@@ -81,8 +82,10 @@ class Shell:
                 for line in text.split("\n"):
                     if not self.over:
                         self.take(line)
-            except KeyboardInterrupt:
+            except KeyboardInterrupt as ended:
                 self.typed = ""
+                if isinstance(ended, Waited):
+                    self.say(f"{'tools/shell: ' if self.plain else ''}given up; nothing was asked", sys.stderr)
                 if self.plain:
                     return 130
         if self.typed and self.plain and not self.over:

@@ -310,7 +310,8 @@ class Search(Plan):
         super().__init__(asks, None, note)
         self.ask, self.low, self.high = ask, low, high
 
-    def work(self, send):
+    def work(self, send, before=()):
+        """BEFORE are answers of the same call, of searches that are done."""
         found = Found(self.low, self.high, [ask.e for ask in self.asks])
         for step in range(len(self.asks)):
             bound = found.next_bound()
@@ -319,9 +320,19 @@ class Search(Plan):
             try:
                 found.add(bound, *send([self.ask(step, bound)]))
             except Fault as fault:
-                fault.answers = [*found.answers(), *fault.answers]
+                paid = [*before, *found.answers()]
+                fault.answers = [*paid, *fault.answers]
+                if paid:
+                    fault.add(before_said(paid))
                 raise
         return found.worked()
+
+
+def before_said(answers):
+    """What is paid of a search that goes no further."""
+    many = f"{len(answers)} asks of this call were" if len(answers) > 1 else "one ask of this call was"
+    are, they = ("are", "them") if len(answers) > 1 else ("is", "it")
+    return f"Before that {many} answered and {are} paid (`answers`): in Python `resume=fault.answers` in the same call goes on behind {they}."
 
 
 class Found:
@@ -378,11 +389,7 @@ class Searches(Plan):
     def work(self, send):
         found = {}
         for key, plan in self.plans.items():
-            try:
-                found[key] = plan.work(send)
-            except Fault as fault:
-                fault.answers = [*(answer for known in found.values() for answer in known.answers), *fault.answers]
-                raise
+            found[key] = plan.work(send, [answer for known in found.values() for answer in known.answers])
         return self.made_of(self.partition, found)
 
 

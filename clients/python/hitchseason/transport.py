@@ -13,16 +13,22 @@ import os
 import shutil
 import signal
 import subprocess
+import time
 from contextlib import contextmanager
 
 from .borrowed import TOP, meanings, public
 from .faults import Failed
 
 NEVER_ASKED = (2, 3, 4, 6, 8)
+PAUSE = 0.1
 
 
 class Stopped(Exception):
-    """Replies are missing, and what became of the lines isn't known."""
+    """Replies are missing, and what became of their lines isn't known; HEARD are those that came, of the first lines in their order."""
+
+    def __init__(self, said, heard=()):
+        super().__init__(said)
+        self.heard = list(heard)
 
 
 class Waited(KeyboardInterrupt):
@@ -30,10 +36,11 @@ class Waited(KeyboardInterrupt):
 
 
 class Folder:
-    """`waiting` says whether another run on the folder is waited for."""
+    """`waiting` says whether another run on the folder is waited for: without an end, or for WAIT seconds."""
 
-    def __init__(self, folder, program=None, catalog="catalog.json", key="key", public=None):
-        self.folder, self.catalog, self.key, self.program, self.given, self.waiting = folder, catalog, key, program, public, False
+    def __init__(self, folder, program=None, catalog="catalog.json", key="key", public=None, wait=None):
+        self.folder, self.catalog, self.key, self.program, self.given, self.wait = folder, catalog, key, program, public, wait
+        self.waiting = False
 
     def public(self):
         if self.given is not None:
@@ -58,7 +65,7 @@ class Folder:
             raise Failed(f"the program ended with status {ran.returncode}: {meanings.STATUSES[ran.returncode]} ({said.strip()}). {more}.", said.strip())
         found = said.split("\n")[:-1]
         if ran.returncode != 0 or len(found) != len(lines):
-            raise Stopped(ended(ran.returncode))
+            raise Stopped(ended(ran.returncode), found[: len(lines)])
         return found
 
     def ran(self, script, lock):
@@ -81,13 +88,25 @@ class Folder:
         with file:
             try:
                 self.waiting = True
-                fcntl.flock(file, fcntl.LOCK_EX)
+                self.lock(file)
                 self.waiting = False
             except KeyboardInterrupt:
                 raise Waited() from None
             finally:
                 self.waiting = False
             yield file.fileno()
+
+    def lock(self, file):
+        if self.wait is None:
+            return fcntl.flock(file, fcntl.LOCK_EX)
+        until = time.monotonic() + self.wait
+        while True:
+            try:
+                return fcntl.flock(file, fcntl.LOCK_EX | fcntl.LOCK_NB)
+            except BlockingIOError:
+                if time.monotonic() > until:
+                    raise Failed(f"another run has worked on {self.folder} for {self.wait} s. Nothing was asked.") from None
+            time.sleep(PAUSE)
 
     def found(self):
         """The program that was named, else `hitchseason` on the path, else tools/build's quick build."""
@@ -106,15 +125,15 @@ def ended(status):
     return f"the run ended with status {status}, {meanings.STATUSES.get(status, 'which the program never ends with')}" if status else "replies are missing"
 
 
-def transport_of(place, public=None, ssh=("ssh",), words=(), **of_folder):
+def transport_of(place, public=None, ssh=("ssh",), words=(), wait=None, **of_folder):
     """A folder's; a service's behind `ssh://DESTINATION`, for which WORDS are ssh's own, or at `HOST:PORT`."""
     from .server import Address, Login
 
     if place.startswith("ssh://"):
-        return Login(place.removeprefix("ssh://"), public, ssh, words)
+        return Login(place.removeprefix("ssh://"), public, ssh, words, wait)
     host, colon, port = place.rpartition(":")
     if colon and port.isdigit() and not os.path.isdir(place):
-        return Address(host.strip("[]"), int(port), public)
+        return Address(host.strip("[]"), int(port), public, wait)
     if not os.path.isdir(place):
         raise Failed(f"{place} is no folder, no HOST:PORT and no ssh://DESTINATION")
-    return Folder(place, public=public, **of_folder)
+    return Folder(place, public=public, wait=wait, **of_folder)

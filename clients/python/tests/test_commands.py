@@ -98,6 +98,20 @@ class Commands(unittest.TestCase):
             self.assertIn("no 41", ran.stderr)
             self.assertEqual([line.split()[0] for line in ran.stdout.splitlines()[:-1]], ["north", "south", "east"])
 
+    def test_journals_of_a_copy(self):
+        """tools/journal.py reads a folder with `journals` in it, and what tools/snapshot makes of it; elsewhere there is none."""
+        with survey(budget=20_000_000, capacity=6) as place:
+            place.client().count("persons", eps="0.5")
+            tools, run = f"{TOP}/tools", lambda *words: subprocess.run(words, cwd=place.folder, capture_output=True, text=True)
+            self.assertEqual(run(f"{tools}/snapshot", "copy").returncode, 0)
+            for words in ([], ["--areas"]):
+                own, here, copy = (run(f"{tools}/journal.py", *words, "catalog.json", "key", *folder) for folder in ([], ["."], ["copy"]))
+                self.assertEqual((own.returncode, own.stdout, own.stdout), (0, here.stdout, copy.stdout))
+                self.assertIn("2 records of 6" if words else "labour reservations 1 answered 1", own.stdout)
+            os.mkdir(f"{place.folder}/empty")
+            ran = run(f"{tools}/journal.py", "catalog.json", "key", "empty")
+            self.assertEqual((ran.returncode, ran.stdout), (1, "journal labour uninitialised 0\njournal health uninitialised 0\n"))
+
     def test_plot(self):
         asked = self.said("askparts", self.folder, "mia", "labour", "areas", "0.5", self.file, "--json")
         drawn = ElementTree.fromstring(self.said("plot", "histogram", given=asked).encode())

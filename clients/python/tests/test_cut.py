@@ -1,4 +1,5 @@
 """Runs that are cut: what the client finds of its asks by `recall`, and that it never asks again."""
+import fcntl
 import os
 import random
 import subprocess
@@ -7,7 +8,9 @@ import unittest
 from statistics import median
 
 from common import PROGRAM, often, survey
-from hitchseason import BadCall, Client, Cut, Failed, Fault, Refused, Unanswered
+from hitchseason import BadCall, Client, Cut, Failed, Fault, Refused, Unanswered, connect
+from hitchseason.answers import Left
+from hitchseason.server import Ended, Server
 from hitchseason.transport import Stopped, Waited
 
 # The program under a mode that the folder's file `mode` has, once: killed before it has read anything, killed when it has answered and before it has
@@ -70,16 +73,15 @@ class Cuts(unittest.TestCase):
         self.assertEqual(self.client.count("persons", eps=1).number, 1)
 
     def test_behind(self):
-        """The one new number is the answer, which is recalled, and isn't asked once more."""
+        """The one new number is the answer, which is recalled, and isn't asked once more; a reply that came is the answer as ever."""
         for number, mode in enumerate(("behind", "half")):
             self.mode(mode)
             answer = self.client.count("persons", eps=1)
-            self.assertTrue(answer.recalled)
-            self.assertIsNone(answer.taken)
+            self.assertEqual((answer.recalled, answer.taken), (True, None) if mode == "behind" else (False, 10**6))
             self.assertEqual((answer.number, answer.value), (number, self.client.recall(number)))
             self.assertEqual(self.spent(), (number + 1, 10**6 * (number + 1)))
             self.assertEqual(answer.left.spent, 10**6 * (number + 1))
-            self.assertIn("recalled", str(answer))
+            self.assertEqual("recalled" in str(answer), answer.recalled)
 
     def test_groups_behind(self):
         """As many new numbers as asks are the answers, in their order."""
@@ -171,12 +173,71 @@ class Cuts(unittest.TestCase):
             again.count("persons", eps=1)
         self.assertEqual(again.count("persons", eps=1).number, 4)
 
+    def test_recalled_with_interval(self):
+        """By the EPS the margin is that of the answer: at 0.5 it is 6 at 95 of 100. The number alone is a value, as ever."""
+        answer = self.client.count("persons", eps="0.5")
+        again = self.client.recall(0, eps=0.5)
+        self.assertEqual((self.client.recall(0), again.value, again.interval(95)), (answer.value, answer.value, (answer.value - 6, answer.value + 6)))
+        self.assertEqual((again.numbers, again.taken, again.recalled, again.as_dict()["eps"], again.as_dict()["sent"]), ([0], None, True, "0.5", None))
+        self.assertTrue(str(again).endswith("; number 0, recalled"), again)
+        for eps in (0, -1, "x"):
+            with self.assertRaises(ValueError):
+                self.client.recall(0, eps=eps)
+
+    def test_wait(self):
+        """Another run on the folder is waited for up to the limit."""
+        client = connect(self.place.folder, "mia", "labour", program=PROGRAM, wait=0.3)
+        with open(f"{self.place.folder}/journals.lock", "a") as file:
+            fcntl.flock(file, fcntl.LOCK_EX)
+            with self.assertRaises(Failed) as caught:
+                client.count("persons", eps=1)
+            self.assertEqual(str(caught.exception), f"another run has worked on {self.place.folder} for 0.3 s. Nothing was asked.")
+        self.assertEqual(client.count("persons", eps=1).number, 0)
+
     def test_not_run(self):
         self.mode("refuse")
         with self.assertRaises(Failed) as caught:
             self.client.count("persons", eps=1)
         self.assertIn("status 3", str(caught.exception))
         self.assertIsNone(self.client.pending)
+
+
+HELLO = "hello mia"
+
+
+class Broken(Server):
+    """A connection that takes so many lines and has so many replies, in which what is spent is the number of the line, and then has ended."""
+
+    name = "nowhere"
+
+    def __init__(self, taken, replies):
+        super().__init__(None)
+        self.taken, self.left, self.said = taken, [f"left {number} 9 4" for number in range(replies)], []
+
+    def opened(self, *_):
+        return self
+
+    def say(self, line):
+        if len(self.said) == self.taken:
+            raise BrokenPipeError("broken pipe")
+        self.said.append(line)
+
+    def hear(self):
+        if not self.left:
+            raise Ended("no reply came")
+        return self.left.pop(0)
+
+    def close(self):
+        pass
+
+
+class Connections(unittest.TestCase):
+    def test_replies_behind_a_broken_pipe(self):
+        """What came is heard where a line can't go out any more: of 4 lines 3 went out, and 2 replies came."""
+        for taken, replies in ((3, 2), (3, 3), (1, 1), (4, 2)):
+            with self.assertRaises(Stopped) as caught:
+                Broken(taken, replies).replies(["left a", "left b", "left c", "left d"])
+            self.assertEqual([reply.split()[1] for reply in caught.exception.heard], ["0", "1", "2"][:replies])
 
 
 class Told:
@@ -214,6 +275,129 @@ class Servers(unittest.TestCase):
         (answer,) = client.recover()
         self.assertEqual((answer.number, answer.value, client.next), (4, 17, 5))
         self.assertEqual(sum("ask " in line for lines in client.transport.asked for line in lines), 1)
+
+    def mean(self, *exchanges):
+        """Of a mean, whose sum and count are asked at once behind a `left`; number 3 is the next one, and 4 records are of numbers 0 to 1 at most."""
+        client = self.client([], *exchanges)
+        call = lambda **more: client.mean("persons", "age", 0, 100, charge=1, **more)
+        return client, call
+
+    def cut_of(self, call, kind=Cut):
+        with self.assertRaises(kind) as caught:
+            call()
+        return caught.exception
+
+    def asked(self, client):
+        return sum(line.startswith("ask") for lines in client.transport.asked for line in lines)
+
+    def test_heard(self):
+        """The sum was heard, as -60, and the count is recalled, as 10: with the bounds' middle of 50 the mean is 44."""
+        client, call = self.mean(Stopped("cut", [HELLO, "answer 3 -60 500000"]), [HELLO, "recall 4 answer 10 8"])
+        mean = call()
+        self.assertEqual((mean.value, mean.numbers, mean.taken, client.next), (44, [3, 4], None, 5))
+        self.assertEqual([answer.recalled for answer in mean.answers], [False, True])
+        self.assertEqual([line for line in client.transport.asked[2] if "recall" in line][0], "recall labour 4")
+        # Both were heard, and the line behind them wasn't; whether a recall is answered or not.
+        heard = [HELLO, "answer 3 -60 500000", "answer 5 10 500000"]
+        for recall, spent in (([HELLO], 10**6), (Stopped("cut"), None)):
+            client, call = self.mean(Stopped("cut", heard), recall)
+            mean = call()
+            self.assertEqual((mean.value, mean.numbers, mean.taken, client.next, client.pending), (44, [3, 5], 10**6, 6, None))
+            self.assertEqual(mean.left and mean.left.spent, spent)
+
+    def test_first_heard(self):
+        """The sum was heard and the count wasn't reserved: the answer isn't lost, and the count is named."""
+        client, call = self.mean(Stopped("cut", [HELLO, "answer 3 -60 500000"]), [HELLO])
+        cut = self.cut_of(call)
+        self.assertEqual([(answer.number, answer.value, answer.recalled) for answer in cut.answers], [(3, -60, False)])
+        self.assertEqual(([ask.sent for ask in cut.unasked], cut.numbers, client.next, client.pending), (["size persons"], [], 4, None))
+        self.assertIn("Of 2 asks 1 is answered and paid (`answers`): `sum[-50,50] (map", str(cut))
+        self.assertTrue(str(cut).endswith("Not reserved, so that nothing is charged for them: `size persons`."), cut)
+        # The call goes on with the count alone. Answers of another call are refused.
+        for other in (lambda: client.count("persons", eps=1, resume=cut.answers), lambda: client.histogram("areas", eps=1, resume=cut.answers)):
+            self.assertIn("aren't of this call: nothing was asked", str(self.cut_of(other, Refused)))
+        self.assertEqual(self.asked(client), 2)
+        client.transport.exchanges += [[], [HELLO, "answer 4 10 500000"]]
+        mean = call(resume=cut.answers)
+        self.assertEqual((mean.value, mean.numbers, self.asked(client)), (44, [3, 4], 3))
+
+    def test_first_recalled(self):
+        """No reply was heard, and there is one new number: it is the first ask's, as neither can have been refused."""
+        client, call = self.mean(Stopped("cut", [HELLO]), [HELLO, "recall 3 answer -60 6"])
+        cut = self.cut_of(call)
+        self.assertEqual([(answer.ask.sent[:3], answer.number, answer.value, answer.recalled) for answer in cut.answers], [("sum", 3, -60, True)])
+        self.assertEqual(([ask.sent for ask in cut.unasked], cut.numbers), (["size persons"], [(3, ["answer", "-60"])]))
+        self.assertEqual(self.asked(client), 2)
+
+    def test_not_sure(self):
+        """One new number of two asks, where the first may have been refused: the door judges them, the journal may have been full, or another analyst has
+        asked meanwhile, who has number 4."""
+        one = [HELLO, "recall 3 answer -60 6"]
+        for what, recall in (("judged", one), ("capacity", one), ("others", [HELLO, "no 61 3 8", "recall 4 answer -60 8"]), (None, one)):
+            client, call = self.mean(Stopped("cut", [HELLO]), recall)
+            client.transport.judged = what == "judged"
+            # 4 records, 2 for each of the asks and 1 for each of 16 that may be open.
+            client.view.entry["capacity"] = 23 if what == "capacity" else 24
+            cut = self.cut_of(call)
+            self.assertEqual([answer.number for answer in cut.answers], [3] if what is None else [])
+            self.assertEqual("which is whose isn't known" in str(cut), what is not None)
+            self.assertEqual(([number for number, _ in cut.numbers], len(cut.unasked)), ([4 if what == "others" else 3], 1 if what is None else 0))
+
+    def test_groups_heard(self):
+        """Of five parts two were heard, one is recalled, and two weren't reserved. Where the budget wasn't surely enough before them, the third may be any."""
+        heard = [HELLO, "answer 3 58 500000", "answer 4 71 0"]
+        for spent, sure in ((19_500_000, True), (19_500_001, False)):
+            client = self.client(Stopped("cut", heard), [HELLO, "recall 5 answer 62 12"])
+            client.before = Left("labour", spent, 20_000_000, 6, "")
+            cut = self.cut_of(lambda client=client: client.histogram("areas", eps="0.5"))
+            known = [("north", 58), ("south", 71), ("east", 62)]
+            self.assertEqual([(answer.ask.part[1], answer.value) for answer in cut.answers], known if sure else known[:2])
+            self.assertEqual([ask.part[1] for ask in cut.unasked], ["west", "capital"] if sure else [])
+            said = "Not reserved, so that nothing is charged for them: areas west, areas capital." if sure else (
+                "Of the 3 others the analyst has 1 new reservation, and which is whose isn't known: 5 answer 62.")
+            self.assertTrue(str(cut).endswith(said), cut)
+            self.assertEqual((client.next, client.pending, self.asked(client)), (6, None, 5))
+
+    def test_groups_of_a_statistic(self):
+        """Of two keys' means the second count isn't reserved: asks are told by part and program, and the call goes on with that count."""
+        client = self.client(Stopped("cut", [HELLO, "answer 3 -60 500000", "answer 4 10 500000", "answer 5 -50 0"]), [HELLO])
+        call = lambda **more: client.groups("areas", "mean", "age", 0, 100, charge=1, keys=["north", "south"], **more)
+        cut = self.cut_of(call)
+        self.assertIn("Of 4 asks 3 are answered and paid (`answers`): areas north `sum[-50,50] (map", str(cut))
+        self.assertTrue(str(cut).endswith("Not reserved, so that nothing is charged for them: areas south `size persons`."), cut)
+        client.transport.exchanges.append([HELLO, "answer 6 10 0"])
+        found = call(resume=cut.answers)
+        self.assertEqual({key: (mean.value, mean.numbers) for key, mean in found.items()}, {"north": (44, [3, 4]), "south": (45, [5, 6])})
+        self.assertEqual(self.asked(client), 5)
+
+    def test_groups_of_searches(self):
+        """What is paid of searches that are done is told, too, and the call goes on behind them."""
+        client = self.client([HELLO, "answer 3 5 500000"], [HELLO, "answer 4 5 500000"], Stopped("cut", [HELLO]), [HELLO])
+        call = lambda **more: client.groups("areas", "median", "age", 0, 100, charge=1, steps=2, keys=["north", "south"], **more)
+        fault = self.cut_of(call, Failed)
+        self.assertIn("nothing is charged for it, and it may be asked again. Before that 2 asks of this call were answered", str(fault))
+        self.assertEqual([answer.number for answer in fault.answers], [3, 4])
+        client.transport.exchanges += [[HELLO, f"answer {number} 5 500000"] for number in (5, 6)]
+        found = call(resume=fault.answers)
+        self.assertEqual([median.numbers for _, median in found.items()], [[3, 4], [5, 6]])
+        self.assertEqual(self.asked(client), 5)
+
+    def test_refused_heard(self):
+        """What was refused has no number: the first was heard so, and the number is one of the others'; where there is none the refusal is told."""
+        heard = Stopped("cut", [HELLO, "no 40 19500001 20000001 20000000 8"])
+        for recall, kind in (([HELLO, "recall 3 answer 62 12"], Cut), ([HELLO], Refused)):
+            client = self.client(heard, recall)
+            client.before = Left("labour", 0, 20_000_000, 6, "")
+            fault = self.cut_of(lambda client=client: client.histogram("areas", eps="0.5"), kind)
+            self.assertEqual((list(fault.answers), client.pending), ([], None))
+
+    def test_heard_and_no_recall(self):
+        """Until a recall is answered what was heard is told; then the rest is known, and all of it comes."""
+        client, call = self.mean(Stopped("cut", [HELLO, "answer 3 -60 500000"]), Stopped("cut again"), [HELLO, "recall 4 answer 10 8"])
+        cut = self.cut_of(call)
+        self.assertEqual(([answer.value for answer in cut.answers], cut.numbers), ([-60], None))
+        self.assertIn("What came of the others isn't known", str(cut))
+        self.assertEqual([answer.value for answer in client.recover()], [-60, 10])
 
     def test_lost(self):
         client = self.client(Stopped("the connection ended"), ["hello mia", "recall 3 lost 4"])
@@ -308,6 +492,10 @@ class Refusals(unittest.TestCase):
                 (lambda: client.mean("persons", "age", 5, 5, charge=1), "bounds are whole numbers"),
                 (lambda: client.quantile("persons", "age", 1, 0, 9, charge=1), "a share is over 0 and under 1"),
                 (lambda: client.crosstab("areas", eps=1), "no partition by a joint column"),
+                (lambda: client.recall(7, eps=0), "under 0.000001"),
+                (lambda: client.count("persons", eps=1, resume=[7]), "as a fault has them in `answers`"),
+                (lambda: client.count("persons", eps=1, resume=7), "as a fault has them in `answers`"),
+                (lambda: client.forecast("count", "persons", eps=1, resume=()), "count: got an unexpected keyword argument 'resume'"),
             ):
                 with self.assertRaises(ValueError) as caught:
                     call()

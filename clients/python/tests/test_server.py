@@ -1,18 +1,20 @@
 """The client over connections: answers, refusals of a door, connections that are cut, and what is found by `recall`. Where the program has no `serve` it is
 skipped."""
-import contextlib
 import io
 import json
 import os
+import signal
 import socket
 import subprocess
 import sys
 import threading
 import time
 import unittest
+from contextlib import redirect_stderr
 
 from common import PROGRAM, TOP, Between, often, survey
 from hitchseason import Cut, Failed, Refused, connect, server
+from hitchseason.answers import Left
 
 sys.path.insert(0, f"{TOP}/bench")
 from served import free_ports, is_listened_at  # noqa: E402
@@ -26,10 +28,11 @@ def has_serve():
 
 
 class Proxy(Between):
-    """Hands bytes through, and cuts a connection where it is told: before a line that asks, behind it, within it, or behind its reply."""
+    """Hands bytes through, and cuts a connection where it is told: before a line that asks, behind it, within it, or behind its reply; of lines that ask
+    it lets so many through before."""
 
     def __init__(self, port):
-        self.cut, self.connections = None, 0
+        self.cut, self.through, self.connections = None, 0, 0
         super().__init__(port)
 
     def taken(self):
@@ -45,7 +48,8 @@ class Proxy(Between):
     def pass_on(self, link):
         with link, socket.create_connection(("127.0.0.1", self.to)) as to, link.makefile("rb") as lines, to.makefile("rb") as replies:
             for line in lines:
-                mode = self.cut if line.startswith(b"ask") else None
+                mode = self.cut if line.startswith(b"ask") and self.through == 0 else None
+                self.through -= self.through > 0 and line.startswith(b"ask")
                 self.cut = None if mode else self.cut
                 if mode == "before":
                     return
@@ -59,6 +63,28 @@ class Proxy(Between):
                 if mode == "answered":
                     return
                 link.sendall(reply)
+
+
+class Silent(Between):
+    """Takes a line from each connection, or hands so many lines' replies of a service through, and then says nothing."""
+
+    def __init__(self, to=None, through=0):
+        self.through, self.silent = through, threading.Event()
+        super().__init__(to)
+
+    def taken(self):
+        return ()
+
+    def serve(self, link):
+        with link, link.makefile("rb") as lines:
+            if self.through:
+                with socket.create_connection(("127.0.0.1", self.to)) as to, to.makefile("rb") as replies:
+                    for _ in range(self.through):
+                        to.sendall(lines.readline())
+                        link.sendall(replies.readline())
+            lines.readline()
+            self.silent.set()
+            lines.read()
 
 
 @unittest.skipUnless(has_serve(), "the program has no serve")
@@ -146,6 +172,106 @@ class Served(unittest.TestCase):
             client.histogram("areas", eps=1)
         self.assertEqual(len(caught.exception.numbers), 1)
 
+    def cut_at(self, mode, through):
+        self.proxy.cut, self.proxy.through = mode, through
+
+    def test_partly_heard(self):
+        """A mean whose sum was heard, and a histogram of which three parts were heard and the fourth was answered: nothing that was paid is lost."""
+        client = self.client()
+        self.cut_at("before", 1)
+        with self.assertRaises(Cut) as caught:
+            client.mean("persons", "income", 0, 5000, charge=1)
+        (answer,) = caught.exception.answers
+        self.assertEqual((answer.number, answer.value, answer.recalled), (0, client.recall(0), False))
+        self.assertEqual([ask.sent for ask in caught.exception.unasked], ["size persons"])
+        self.cut_at("answered", 3)
+        with self.assertRaises(Cut) as caught:
+            client.histogram("areas", eps=1)
+        known = [(answer.ask.part[1], answer.number, answer.recalled) for answer in caught.exception.answers]
+        self.assertEqual(known, [("north", 1, False), ("south", 2, False), ("east", 3, False), ("west", 4, True)])
+        self.assertEqual([answer.value for answer in caught.exception.answers], [client.recall(number) for number in range(1, 5)])
+        self.assertEqual(([ask.part[1] for ask in caught.exception.unasked], client.left().records), (["capital"], 10))
+        # All was answered, one before the last reply.
+        self.cut_at("answered", 4)
+        groups = client.histogram("areas", eps=1)
+        self.assertEqual([answer.recalled for answer in groups.answers.values()], [False] * 4 + [True])
+        self.assertEqual(groups.numbers, [5, 6, 7, 8, 9])
+
+    def test_heard_before_an_interrupt(self):
+        """Ctrl-C behind three replies of five: another analyst has asked meanwhile, and the three are told as they were heard."""
+        client = self.client(port=self.port)
+        client.learn()
+        opened = client.transport.opened
+
+        def interrupting(*words):
+            link = opened(*words)
+            hear, heard, say = link.hear, [], link.say
+            link.say = lambda line: None if " west " in line or " capital " in line else say(line)
+
+            def hears():
+                if len(heard) == 4:
+                    self.client("tom", self.port + 1).count("persons", eps=1)
+                    raise KeyboardInterrupt
+                heard.append(hear())
+                return heard[-1]
+
+            link.hear, client.transport.opened = hears, opened
+            return link
+
+        client.transport.opened = interrupting
+        with self.assertRaises(KeyboardInterrupt):
+            client.histogram("areas", eps=1)
+        with self.assertRaises(Cut) as caught:
+            client.recover()
+        known = [(answer.ask.part[1], answer.number, answer.recalled) for answer in caught.exception.answers]
+        self.assertEqual(known, [("north", 0, False), ("south", 1, False), ("east", 2, False)])
+        self.assertEqual([ask.part[1] for ask in caught.exception.unasked], ["west", "capital"])
+
+    def test_search_goes_on(self):
+        """A median whose third step was cut: two steps are paid, and the call goes on with the third, so that there are 8 numbers in all; it may have
+        taken what was left."""
+        client = self.client()
+        self.cut_at("before", 2)
+        with self.assertRaises(Failed) as caught:
+            client.median("persons", "income", 0, 5000, charge=1)
+        self.assertEqual([answer.number for answer in caught.exception.answers], [0, 1])
+        said = "The ask wasn't reserved: nothing is charged for it, and it may be asked again. Before that 2 asks of this call were answered and are paid"
+        self.assertIn(said, str(caught.exception))
+        # Without what is paid there is enough for the rest, to the millionth.
+        client.left = lambda: Left("labour", 250_000, 1_000_000, 4, "")
+        found = client.median("persons", "income", 0, 5000, charge=1, resume=caught.exception.answers)
+        self.assertEqual((found.numbers, found.taken), (list(range(8)), 10**6))
+        client.left = lambda: Left("labour", 250_001, 1_000_000, 4, "")
+        with self.assertRaises(Refused) as refused:
+            client.median("persons", "income", 0, 5000, charge=1, resume=caught.exception.answers)
+        self.assertIn("its 6 asks take up to 0.75 together", str(refused.exception))
+        del client.left
+        self.assertEqual(client.left().records, 16)
+
+    def test_behind_another(self):
+        """The worker serves another connection: that is said once, and past the limit nothing was asked. What was cut meanwhile is known later."""
+        told, server.TOLD_AFTER = server.TOLD_AFTER, 0.2
+        self.addCleanup(setattr, server, "TOLD_AFTER", told)
+        for wait, said in ((0.5, f"port {self.port} serves another connection; waiting\n"), (0.1, "")):
+            client = connect("127.0.0.1", self.port, "mia", "labour", public=self.public, wait=wait)
+            with socket.create_connection(("127.0.0.1", self.port)) as other, other.makefile("rb") as replies:
+                other.sendall(b"hello tom\n")
+                self.assertEqual(replies.readline(), b"hello tom\n")
+                with redirect_stderr(io.StringIO()) as stderr, self.assertRaises(Failed) as caught:
+                    client.count("persons", eps=1)
+                self.assertEqual(str(caught.exception), f"127.0.0.1, port {self.port}, has served another connection for {wait} s. Nothing was asked.")
+                self.assertEqual(stderr.getvalue(), said)
+            self.assertIsNone(client.pending)
+            # Where no limit is said, or it isn't reached.
+            for patient in (self.client(port=self.port), connect("127.0.0.1", self.port, "mia", "labour", public=self.public, wait=60)):
+                other = socket.create_connection(("127.0.0.1", self.port))
+                other.sendall(b"hello tom\n")
+                other.recv(100)
+                threading.Timer(0.5, other.close).start()
+                with redirect_stderr(io.StringIO()) as stderr:
+                    before = patient.left().records
+                self.assertEqual((stderr.getvalue(), before), (f"port {self.port} serves another connection; waiting\n", 0))
+
     def test_kill(self):
         """A service that is killed and started anew while the client waits for it."""
         client = self.client()
@@ -188,6 +314,48 @@ class Served(unittest.TestCase):
         """tools/left and tools/askparts over an address."""
         ran = subprocess.run([f"{TOP}/tools/left", f"127.0.0.1:{self.port}", "labour", "--public", self.public, "--json"], check=True, stdout=subprocess.PIPE)
         self.assertEqual(json.loads(ran.stdout)["records"], 0)
+
+    def interrupted(self, silent, tool, *words, given=""):
+        """What a tool says, and its status, when Ctrl-C ends it where it has no reply."""
+        ran = subprocess.Popen(
+            [f"{TOP}/tools/{tool}", f"127.0.0.1:{silent.port}", *words, "--public", self.public], stdin=subprocess.PIPE, stdout=subprocess.PIPE,
+            stderr=subprocess.PIPE, text=True, preexec_fn=lambda: signal.signal(signal.SIGINT, signal.default_int_handler),
+        )  # fmt: skip
+        threading.Timer(0.0, lambda: (silent.silent.wait(60), ran.send_signal(signal.SIGINT))).start()
+        out, err = ran.communicate(given, timeout=90)
+        silent.close()
+        return ran.returncode, out, err
+
+    def test_interrupted(self):
+        """Ctrl-C where the first reply is waited for, so that nothing was asked; and behind an ask."""
+        program = f"{self.place.folder}/program"
+        with open(program, "w") as file:
+            file.write("size persons")
+        asks = ("mia", "labour", "areas", "1", program)
+        for tool, words, given in (("left", ("labour",), ""), ("askparts", asks, ""), ("shell", ("mia", "labour"), "\\b\n")):
+            self.assertEqual(self.interrupted(Silent(), tool, *words, given=given), (130, "", f"tools/{tool}: given up; nothing was asked\n"))
+        # A `left`, a hello, 64 recalls, a `left` and a hello come before the line that asks.
+        status, out, err = self.interrupted(Silent(self.port, 68), "askparts", *asks)
+        self.assertEqual((status, out), (130, ""))
+        self.assertTrue(err.startswith("tools/askparts: given up; what was asked may be answered and paid: "), err)
+
+    def test_askparts_cut(self):
+        """What is known is told in each form, the keys that aren't are named, and the status is 1."""
+        words = [f"{TOP}/tools/askparts", f"127.0.0.1:{self.proxy.port}", "mia", "labour", "areas", "1", "-", "--public", self.public]
+        for form in ("--json", "--csv", None):
+            self.cut_at("before", 3)
+            ran = subprocess.run(words + ([form] if form else []), input="size persons", capture_output=True, text=True, timeout=60)
+            self.assertEqual(ran.returncode, 1, ran.stderr)
+            self.assertIn("Not reserved, so that nothing is charged for them: areas west, areas capital.", ran.stderr)
+            if form == "--json":
+                found = json.loads(ran.stdout)
+                self.assertEqual((list(found["groups"]), found["missing"]), (["north", "south", "east"], ["west", "capital"]))
+            elif form == "--csv":
+                self.assertEqual([line.split(",")[0] for line in ran.stdout.splitlines()[1:]], ["north", "south", "east", "west", "capital"])
+                self.assertEqual(ran.stdout.splitlines()[4:], ["west,,,,,,,,,", "capital,,,,,,,,,"])
+            else:
+                self.assertEqual([line.split()[0] for line in ran.stdout.splitlines()[:-1]], ["north", "south", "east"])
+                self.assertTrue(ran.stdout.endswith("left; without an answer: west, capital\n"), ran.stdout)
 
 
 class Says(Between):
@@ -261,7 +429,7 @@ class OtherPrograms(unittest.TestCase):
                 others, said, begun = [], io.StringIO(), time.monotonic()
                 if ready:
                     late.start()
-                with contextlib.redirect_stderr(said):
+                with redirect_stderr(said):
                     client = connect("127.0.0.1", port, "mia", "labour", public=self.public)
                     if ready:
                         self.assertEqual(client.left().records, 0)
