@@ -8,7 +8,7 @@ use Rattle.journal_records.specs.declared.records.Record.TheVariants.{Reserve}
 use Rattle.journal_records.specs.Records.{settling}
 use Rattle.budget_core.specs.declared.answers.Recall.TheVariants.{Unknown, NotYours, Answer, Open, Lost as IsLost, Exhausted as IsExhausted}
 use Rattle.budget_core.specs.Answers.{recalled, recalled_from, left_of, counts_of}
-use Rattle.budget_core.specs.Cost.{cost_of}
+use Rattle.budget_core.specs.Cost.{cost_of, budget_of}
 use Rattle.budget_core.specs.Ledger.{Ledger}
 
 -- a reservation of the whole by this analyst for one millionth
@@ -60,12 +60,12 @@ unknown_then : recalled_from 2 found 2 1 ≡ Unknown 3
 unknown_then = refl
 
 left_over : left_of ledger ≡ record { spent = 6; budget = 10; seen = 10 }
-unfolding cost_of cost_of_charges partition_cost
+unfolding cost_of cost_of_charges partition_cost budget_of
 left_over = refl
 
 -- In version 3 what the exhausted number was charged is left as well.
 left_over_in_three : left_of (record ledger { entry = record ledger.entry { version = 3 } }) ≡ record { spent = 5; budget = 10; seen = 10 }
-unfolding cost_of cost_of_charges partition_cost
+unfolding cost_of cost_of_charges partition_cost budget_of
 left_over_in_three = refl
 
 -- Of six reservations two are answered and one is exhausted; three are lost or open.

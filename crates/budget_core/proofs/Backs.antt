@@ -13,7 +13,7 @@ use Rattle.journal_records.specs.declared.records.Outcome.{Outcome}
 use Rattle.journal_records.specs.declared.records.Outcome.TheVariants.{Answered, Exhausted, Lost}
 use Rattle.journal_records.specs.declared.records.Reservation.{Reservation}
 use Rattle.journal_records.specs.declared.records.Record.{Record}
-use Rattle.journal_records.specs.declared.records.Record.TheVariants.{Reserve, Settle}
+use Rattle.journal_records.specs.declared.records.Record.TheVariants.{Reserve, Settle, Grant}
 use Rattle.journal_records.specs.Records.{settling_back, number_or_zero}
 use Rattle.budget_core.specs.Counts.{reservations_of, reservation_of, is_numbered, outcome_of}
 use Rattle.budget_core.specs.Cost.{charge_by, comes_back, counts_in, charges_in}
@@ -22,7 +22,7 @@ use Rattle.budget_core.specs.Legal.{MayFollow, IsOpen, IsHistory}
 use Rattle.budget_core.proofs.Charging.{view-valid}
 use Rattle.budget_core.proofs.Costs.{nothing-back, sum-filtered}
 use Rattle.budget_core.proofs.Histories.{history-induction}
-use Rattle.budget_core.proofs.Numbers.{sum_by-parts, option_or-None, eqb_turned, reservations-with, reservations-settled, reservation_of-append, reserved_below, outcome_of-append-Settle}
+use Rattle.budget_core.proofs.Numbers.{sum_by-parts, option_or-None, eqb_turned, reservations-with, reservations-settled, reservations-granted, reservation_of-append, reserved_below, outcome_of-append-Settle}
 
 -- Of a number's reservations a history has just the one that is found.
 only-one : (entry : Entry) (a : Reservation → ℕ) (records : List Record) → IsHistory entry records → (n : ℕ)
@@ -49,6 +49,9 @@ only-one entry a = history-induction entry (λ records. (n : ℕ) → sum_by (λ
     step xs (Settle settlement) h may before n =
         ap (sum_by (λ (r : Reservation). cond (n == r.number) (a r) 0)) (reservations-settled xs settlement) ∙ before n
         ∙ ap (number_or_zero a) (sym (reservation_of-append xs (Settle settlement ∷ []) n ∙ option_or-None (reservation_of xs n)))
+    step xs (Grant grant) h may before n =
+        ap (sum_by (λ (r : Reservation). cond (n == r.number) (a r) 0)) (reservations-granted xs grant) ∙ before n
+        ∙ ap (number_or_zero a) (sym (reservation_of-append xs (Grant grant ∷ []) n ∙ option_or-None (reservation_of xs n)))
 
 -- What an exhausted number was charged is what comes back, and nothing else does.
 module _ (entry : Entry) (records : List Record) (number returned : ℕ) (outcome : Outcome) (back : comes_back entry (Some outcome) ≡ true)
@@ -118,6 +121,7 @@ reserved-view entry = history-induction entry (λ records. (n : ℕ) (r : Reserv
         by None was true now = let same : reservation ≡ r = cc now in subst (λ (z : Reservation). HasView entry z.view) same may.looks_at
         by None was false now = absurd cc
     step xs (Settle settlement) h may before n r is = before n r (sym (reservation_of-append xs (Settle settlement ∷ []) n ∙ option_or-None (reservation_of xs n)) ∙ is)
+    step xs (Grant grant) h may before n r is = before n r (sym (reservation_of-append xs (Grant grant ∷ []) n ∙ option_or-None (reservation_of xs n)) ∙ is)
 
 pub charge-view : (entry : Entry) (records : List Record) → IsEntry entry → IsHistory entry records → (n : ℕ) (charge : Charge)
     → option_map charge_by (reservation_of records n) ≡ Some charge → IsView charge.view

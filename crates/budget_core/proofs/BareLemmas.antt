@@ -7,15 +7,15 @@ use Rattle.journal_records.specs.declared.records.Outcome.{Outcome}
 use Rattle.journal_records.specs.declared.records.Outcome.TheVariants.{Answered, Exhausted, Lost}
 use Rattle.journal_records.specs.declared.records.Reservation.{Reservation}
 use Rattle.journal_records.specs.declared.records.Record.{Record}
-use Rattle.journal_records.specs.declared.records.Record.TheVariants.{Reserve, Settle}
+use Rattle.journal_records.specs.declared.records.Record.TheVariants.{Reserve, Settle, Grant}
 use Rattle.budget_core.specs.declared.entry.Ask.{Ask}
 use Rattle.budget_core.specs.Bare.{bare_outcome, bare_record, without_answers}
-use Rattle.budget_core.specs.Cost.{cost_of}
-use Rattle.budget_core.specs.Counts.{reservations_of, outcome_of, is_exhaustion, is_open_in, open_from}
+use Rattle.budget_core.specs.Cost.{cost_of, budget_of}
+use Rattle.budget_core.specs.Counts.{reservations_of, outcome_of, is_exhaustion, amount_of, is_open_in, open_from}
 use Rattle.budget_core.specs.Entries.{Entry}
 use Rattle.budget_core.specs.Ledger.{next_number, reservation_numbered, cost_with, money_verdict}
 use Rattle.budget_core.proofs.Numbers.{one_if}
-use Rattle.budget_core.proofs.Costs.{charges_in-same, cost_of-same}
+use Rattle.budget_core.proofs.Costs.{charges_in-same, cost_of-same, budget_of-same}
 
 sum_by-mapped : {X : Type 0} → (f g : X → ℕ) (h : X → X) → ((x : X) → f (h x) ≡ g x) → (xs : List X) → sum_by f (map h xs) ≡ sum_by g xs
 sum_by-mapped f g h same [] = refl
@@ -25,6 +25,7 @@ same-reservations : (records : List Record) → reservations_of (without_answers
 same-reservations [] = refl
 same-reservations (Reserve reservation ∷ records) = ap (λ (rest : List Reservation). reservation ∷ rest) (same-reservations records)
 same-reservations (Settle settlement ∷ records) = same-reservations records
+same-reservations (Grant grant ∷ records) = same-reservations records
 
 bare-exhaustion : (outcome : Outcome) → is_exhaustion (Some (bare_outcome outcome)) ≡ is_exhaustion (Some outcome)
 bare-exhaustion (Answered value) = refl
@@ -34,6 +35,7 @@ bare-exhaustion Lost = refl
 same-exhausted : (records : List Record) (n : ℕ) → is_exhaustion (outcome_of (without_answers records) n) ≡ is_exhaustion (outcome_of records n)
 same-exhausted [] n = refl
 same-exhausted (Reserve reservation ∷ records) n = same-exhausted records n
+same-exhausted (Grant grant ∷ records) n = same-exhausted records n
 same-exhausted (Settle settlement ∷ records) n = by (same-exhausted records n) (n == settlement.number)
   where
     by : is_exhaustion (outcome_of (without_answers records) n) ≡ is_exhaustion (outcome_of records n) → (hit : Bool) → is_exhaustion (cond hit (Some (bare_outcome settlement.outcome)) (outcome_of (without_answers records) n)) ≡ is_exhaustion (cond hit (Some settlement.outcome) (outcome_of records n))
@@ -43,6 +45,15 @@ same-exhausted (Settle settlement ∷ records) n = by (same-exhausted records n)
 pub cost_of-without_answers : (entry : Entry) (records : List Record) → cost_of entry (without_answers records) ≡ cost_of entry records
 cost_of-without_answers entry records = cost_of-same entry (without_answers records) records
     (charges_in-same entry (without_answers records) records (same-reservations records) (λ n. ap (λ (b : Bool). (entry.version == 3) && b) (same-exhausted records n)))
+
+-- An answer grants nothing.
+pub budget_of-without_answers : (entry : Entry) (records : List Record) → budget_of entry (without_answers records) ≡ budget_of entry records
+budget_of-without_answers entry records = budget_of-same entry (without_answers records) records (sum_by-mapped amount_of amount_of bare_record same records)
+  where
+    same : (r : Record) → amount_of (bare_record r) ≡ amount_of r
+    same (Reserve reservation) = refl
+    same (Settle settlement) = refl
+    same (Grant grant) = refl
 
 pub cost_with-without_answers : (entry : Entry) (records : List Record) (ask : Ask) → cost_with entry (without_answers records) ask ≡ cost_with entry records ask
 cost_with-without_answers entry records ask =
@@ -54,6 +65,7 @@ pub reservations_of-without_answers : (records : List Record) → length (reserv
 reservations_of-without_answers [] = refl
 reservations_of-without_answers (Reserve reservation ∷ records) = omega (arith, reservations_of-without_answers records)
 reservations_of-without_answers (Settle settlement ∷ records) = reservations_of-without_answers records
+reservations_of-without_answers (Grant grant ∷ records) = reservations_of-without_answers records
 
 settled_step : {X : Type 0} → (hit : Bool) (v w : X) (old new : Option X) → is_some old ≡ is_some new → is_some (cond hit (Some v) old) ≡ is_some (cond hit (Some w) new)
 settled_step true v w old new same = refl
@@ -62,6 +74,7 @@ settled_step false v w old new same = same
 settled-without_answers : (records : List Record) (n : ℕ) → is_some (outcome_of (without_answers records) n) ≡ is_some (outcome_of records n)
 settled-without_answers [] n = refl
 settled-without_answers (Reserve reservation ∷ records) n = settled-without_answers records n
+settled-without_answers (Grant grant ∷ records) n = settled-without_answers records n
 settled-without_answers (Settle settlement ∷ records) n = settled_step (n == settlement.number) (bare_outcome settlement.outcome) settlement.outcome (outcome_of (without_answers records) n) (outcome_of records n) (settled-without_answers records n)
 
 pub open_from-without_answers : (start : ℕ) (records : List Record) → open_from start (without_answers records) ≡ open_from start records
@@ -70,7 +83,8 @@ open_from-without_answers start records = sum_by-mapped (λ r. one_if (is_open_i
     same : (r : Record) → one_if (is_open_in (without_answers records) start (bare_record r)) ≡ one_if (is_open_in records start r)
     same (Reserve reservation) = ap (λ b. one_if (nat_le start reservation.number && not b)) (settled-without_answers records reservation.number)
     same (Settle settlement) = refl
+    same (Grant grant) = refl
 
 pub money_verdict-without_answers : (entry : Entry) (start : ℕ) (records : List Record) (ask : Ask) → money_verdict entry start (without_answers records) ask ≡ money_verdict entry start records ask
 money_verdict-without_answers entry start records ask =
-    cc (cost_of-without_answers entry records, cost_with-without_answers entry records ask, reservations_of-without_answers records, open_from-without_answers start records, length-map records bare_record)
+    cc (cost_of-without_answers entry records, budget_of-without_answers entry records, cost_with-without_answers entry records ask, reservations_of-without_answers records, open_from-without_answers start records, length-map records bare_record)

@@ -14,17 +14,18 @@ use Rattle.journal_records.specs.declared.records.Outcome.{Outcome}
 use Rattle.journal_records.specs.declared.records.Outcome.TheVariants.{Answered, Exhausted, Lost}
 use Rattle.journal_records.specs.declared.records.Reservation.{Reservation}
 use Rattle.journal_records.specs.declared.records.Settlement.{Settlement}
+use Rattle.journal_records.specs.declared.records.BudgetGrant.{BudgetGrant}
 use Rattle.journal_records.specs.declared.records.Record.{Record}
-use Rattle.journal_records.specs.declared.records.Record.TheVariants.{Reserve, Settle}
+use Rattle.journal_records.specs.declared.records.Record.TheVariants.{Reserve, Settle, Grant}
 use Rattle.journal_records.specs.Encoding.{MayReturn}
 use Rattle.journal_records.specs.Records.{settling_back}
-use Rattle.budget_core.specs.Counts.{reservations_of, outcome_of, is_exhaustion, taken_of, returned_of}
-use Rattle.budget_core.specs.Entries.{Entry}
+use Rattle.budget_core.specs.Counts.{reservations_of, outcome_of, is_exhaustion, taken_of, returned_of, amount_of}
+use Rattle.budget_core.specs.Entries.{Entry, budget_limit}
 use Rattle.budget_core.specs.Legal.{MayFollow, IsSettlementAfter, IsHistory}
 use Rattle.budget_core.specs.Ledger.{returned_by, settlement_for}
 use Rattle.budget_core.proofs.Histories.{history-induction}
-use Rattle.budget_core.proofs.Numbers.{sum_by-le, reservations-with, reservations-settled, outcome_of-append-Reserve, outcome_of-append-Settle}
-use Rattle.budget_core.specs.Cost.{ceil_div, charge_by, comes_back, counts_in, charges_in, cost_of}
+use Rattle.budget_core.proofs.Numbers.{sum_by-le, reservations-with, reservations-settled, reservations-granted, outcome_of-append-Reserve, outcome_of-append-Settle, outcome_of-append-Grant}
+use Rattle.budget_core.specs.Cost.{ceil_div, charge_by, comes_back, counts_in, charges_in, cost_of, budget_of}
 
 -- division that rounds up, in std's words
 ceil_div_parts : (q b r : ℕ) → r < b → ceil_div (q * b + r) b ≡ q + min 1 r
@@ -240,6 +241,40 @@ returned-is entry records settlement may = omega (arith, may.fall, cost_of-appen
 pub cost_of-nil : (entry : Entry) → cost_of entry [] ≡ 0
 cost_of-nil entry = cost_of-charges entry [] ∙ cost-nil
 
+-- ---- one grant more
+
+-- A grant charges nothing.
+pub charges_in-append-Grant : (entry : Entry) (records : List Record) (grant : BudgetGrant) → charges_in entry (records ++ Grant grant ∷ []) ≡ charges_in entry records
+charges_in-append-Grant entry records grant =
+    charges_in-same entry (records ++ Grant grant ∷ []) records (reservations-granted records grant) (λ n. ap (comes_back entry) (outcome_of-append-Grant records grant n))
+
+pub cost_of-append-Grant : (entry : Entry) (records : List Record) (grant : BudgetGrant) → cost_of entry (records ++ Grant grant ∷ []) ≡ cost_of entry records
+cost_of-append-Grant entry records grant = cost_of-same entry (records ++ Grant grant ∷ []) records (charges_in-append-Grant entry records grant)
+
+-- the budget with one record more
+pub budget_of-append : (entry : Entry) (records : List Record) (next : Record) → budget_of entry (records ++ next ∷ []) ≡ budget_of entry records + amount_of next
+unfolding budget_of
+budget_of-append entry records next = omega (arith, sum_by_push amount_of records next)
+
+-- the budget of no records
+pub budget_of-nil : (entry : Entry) → budget_of entry [] ≡ entry.budget
+unfolding budget_of
+budget_of-nil entry = omega arith
+
+-- Lists that grant as much have the same budget.
+pub budget_of-same : (entry : Entry) (xs ys : List Record) → sum_by amount_of xs ≡ sum_by amount_of ys → budget_of entry xs ≡ budget_of entry ys
+unfolding budget_of
+budget_of-same entry xs ys same = ap (λ (n : ℕ). entry.budget + n) same
+
+-- The budget of a history is within the limit of all budgets.
+pub limited : (entry : Entry) (records : List Record) → entry.budget ≤ budget_limit → IsHistory entry records → budget_of entry records ≤ budget_limit
+limited entry records fits = history-induction entry (λ xs. budget_of entry xs ≤ budget_limit) (omega (arith, budget_of-nil entry, fits)) step records
+  where
+    step : (xs : List Record) (x : Record) → IsHistory entry xs → MayFollow entry xs x → budget_of entry xs ≤ budget_limit → budget_of entry (xs ++ x ∷ []) ≤ budget_limit
+    step xs (Reserve reservation) h may before = omega (arith, before, budget_of-append entry xs (Reserve reservation))
+    step xs (Settle settlement) h may before = omega (arith, before, budget_of-append entry xs (Settle settlement))
+    step xs (Grant grant) h may before = may.within
+
 -- What each reservation of a history took adds up to its cost and to what was given back.
 pub adds_up : (entry : Entry) (records : List Record) → IsHistory entry records → sum_by taken_of records ≡ cost_of entry records + sum_by returned_of records
 adds_up entry = history-induction entry (λ records. sum_by taken_of records ≡ cost_of entry records + sum_by returned_of records) (omega (arith, cost_of-nil entry)) step
@@ -250,3 +285,5 @@ adds_up entry = history-induction entry (λ records. sum_by taken_of records ≡
         omega (arith, before, may.rise, sum_by_push taken_of xs (Reserve reservation), sum_by_push returned_of xs (Reserve reservation))
     step xs (Settle settlement) h may before =
         omega (arith, before, may.fall, sum_by_push taken_of xs (Settle settlement), sum_by_push returned_of xs (Settle settlement))
+    step xs (Grant grant) h may before =
+        omega (arith, before, cost_of-append-Grant entry xs grant, sum_by_push taken_of xs (Grant grant), sum_by_push returned_of xs (Grant grant))

@@ -1,6 +1,6 @@
 -- what every list of events keeps
 use Rattle.std.specs.Prelude.{⊤}
-use Rattle.std.proofs.Common.{◌≡◌, ℕ, zero, suc, ◌+◌, ◌≤◌, ◌<◌, Bool, true, false, cond, ◌==◌, ◌&&◌, not, nat_le, List, [], ◌∷◌, ◌++◌, length, fold, Result, Ok, Err, Option, Some, None, is_some, is_none, IsTrue, true≢false, slice_index_or, if◌then◌else◌, refl, sym, ◌∙◌, ap, subst, arith}
+use Rattle.std.proofs.Common.{◌≡◌, ℕ, zero, suc, ◌+◌, ◌≤◌, ◌<◌, Bool, true, false, cond, ◌==◌, ◌&&◌, not, nat_le, List, [], ◌∷◌, ◌++◌, length, fold, Result, Ok, Err, is_ok, Option, Some, None, is_some, is_none, IsTrue, IsOk, true≢false, slice_index_or, if◌then◌else◌, refl, sym, ◌∙◌, ap, subst, arith}
 use Rattle.std.proofs.lemmas.Bool.{leb-true}
 use Rattle.std.specs.List.{list_any}
 use Rattle.journal_records.specs.declared.records.Outcome.{Outcome}
@@ -9,18 +9,22 @@ use Rattle.budget_core.specs.declared.entry.Ask.{Ask}
 use Rattle.budget_core.specs.declared.entry.Grant.{Grant}
 use Rattle.budget_core.specs.declared.entry.ReserveFault.{ReserveFault}
 use Rattle.budget_core.specs.declared.events.Event.{Event}
-use Rattle.budget_core.specs.declared.events.Event.TheVariants.{Reserve as ToReserve, Settle as ToSettle, Send, Stop, Open}
+use Rattle.budget_core.specs.declared.events.Event.TheVariants.{Reserve as ToReserve, Settle as ToSettle, Grant as ToGrant, Send, Stop, Open}
 use Rattle.budget_core.specs.Counts.{reservations_of, reservation_of, outcome_of, open_from}
-use Rattle.budget_core.specs.Entries.{Entry, IsEntry}
-use Rattle.budget_core.specs.Events.{World, first_world, is_ask_of, is_unsettled, is_answer, stepped, ran}
+use Rattle.budget_core.specs.Entries.{Entry, IsEntry, budget_limit}
+use Rattle.budget_core.specs.declared.answers.GrantRefusal.{GrantRefusal}
+use Rattle.budget_core.specs.declared.answers.Left.{Left}
+use Rattle.budget_core.specs.Granting.{grant_behind, with_grant, grant_verdict, records_granted, IsAmount}
+use Rattle.budget_core.specs.Events.{World, first_world, is_ask_of, is_unsettled, is_amount, is_answer, stepped, ran}
+use Rattle.journal_records.specs.declared.records.Record.TheVariants.{Grant as Granted}
 use Rattle.budget_core.specs.Ledger.{Ledger, start_of, reservation_for, money_verdict, records_after, settlement_of, settlement_for, IsAskOf, IsUnsettled}
 use Rattle.budget_core.specs.Safe.{IsSafe}
 use Rattle.budget_core.specs.Sound.{IsSound}
 use Rattle.budget_core.proofs.Histories.{history-nil}
 use Rattle.budget_core.proofs.Numbers.{numbered_in_order, settled_once, outcome_of-append-old}
-use Rattle.budget_core.proofs.SoundLemmas.{sound-history, sound-Reserve, sound-Settle, sound-found}
+use Rattle.budget_core.proofs.SoundLemmas.{sound-history, sound-Reserve, sound-Settle, sound-Grant, sound-found, may-raise}
 use Rattle.budget_core.proofs.LegalLemmas.{settlement-may}
-use Rattle.budget_core.proofs.Costs.{cost_of-nil}
+use Rattle.budget_core.proofs.Costs.{cost_of-nil, budget_of-nil}
 use Rattle.budget_core.proofs.Asks.{ask-from}
 
 -- each of these numbers is settled with an answer
@@ -64,7 +68,7 @@ answers-at records (number ∷ sent) all (suc k) d short = answers-at records se
 good-first : (entry : Entry) → IsEntry entry → IsGood entry first_world
 good-first entry valid = record {
   found = [];
-  sound = sound-found entry [] valid (history-nil entry) (omega (arith, cost_of-nil entry)) (omega arith);
+  sound = sound-found entry [] valid (history-nil entry) (omega (arith, cost_of-nil entry)) (omega (arith, budget_of-nil entry, valid.budget)) (omega arith);
   start = refl;
   answered = tt;
 }
@@ -103,6 +107,24 @@ good-settle entry world number outcome good holds =
       answered = answers-stay world.records (settlement_for entry world.records number outcome) world.sent good.answered;
     }
 
+amount-from : (amount : ℕ) → is_amount amount ≡ true → IsAmount amount
+amount-from amount holds =
+    let parts = test-both (nat_le 1 amount) (nat_le amount budget_limit) holds in
+    record { least = leb-true 1 amount parts.0; most = leb-true amount budget_limit parts.1 }
+
+good-grant : (entry : Entry) (world : World) (amount : ℕ) → IsGood entry world → IsAmount amount → (verdict : Result Left GrantRefusal)
+    → grant_verdict entry world.start world.records amount ≡ verdict → IsGood entry (record world { records = records_granted world.records amount verdict })
+good-grant entry world amount good valid (Err refusal) is = good
+good-grant entry world amount good valid (Ok left) is =
+    let ledger : Ledger = record { entry = entry; found = good.found; records = world.records } in
+    let made : grant_verdict entry (start_of ledger) world.records amount ≡ Ok left = ap (λ start. grant_verdict entry start world.records amount) (sym good.start) ∙ is in
+    record {
+      found = good.found;
+      sound = sound-Grant ledger (grant_behind world.records amount) good.sound (may-raise ledger amount valid (ap is_ok made));
+      start = good.start;
+      answered = answers-stay world.records (Granted (grant_behind world.records amount)) world.sent good.answered;
+    }
+
 -- a world that changes where a test holds
 good-if : (entry : Entry) (world after : World) (test : Bool) → IsGood entry world → (test ≡ true → IsGood entry after) → IsGood entry (if test then after else world)
 good-if entry world after true good then_good = then_good refl
@@ -115,6 +137,9 @@ good-stepped entry world (ToReserve ask) good =
 good-stepped entry world (ToSettle number outcome) good =
     good-if entry world (record world { records = world.records ++ settlement_for entry world.records number outcome ∷ [] }) (world.running && is_unsettled world.start world.records number) good
     (λ holds. good-settle entry world number outcome good (test-both world.running (is_unsettled world.start world.records number) holds).1)
+good-stepped entry world (ToGrant amount) good =
+    good-if entry world (record world { records = records_granted world.records amount (grant_verdict entry world.start world.records amount) }) (world.running && is_amount amount) good
+    (λ holds. good-grant entry world amount good (amount-from amount (test-both world.running (is_amount amount) holds).1) (grant_verdict entry world.start world.records amount) refl)
 good-stepped entry world (Send number) good =
     good-if entry world (record world { sent = world.sent ++ number ∷ [] })
     (world.running && is_answer (outcome_of world.records number) && not (list_any (λ sent. sent == number) world.sent)) good
@@ -131,7 +156,7 @@ good-stepped entry world Open good =
     let ledger : Ledger = record { entry = entry; found = good.found; records = world.records } in
     record {
       found = world.records;
-      sound = sound-found entry world.records good.sound.entry (sound-history ledger good.sound) good.sound.within (omega (arith, good.sound.room));
+      sound = sound-found entry world.records good.sound.entry (sound-history ledger good.sound) good.sound.within good.sound.limited (omega (arith, good.sound.room));
       start = refl;
       answered = good.answered;
     }
@@ -146,6 +171,7 @@ safe-good entry world good =
     let h = sound-history ledger good.sound in
     record {
       within = good.sound.within;
+      limited = good.sound.limited;
       numbered = numbered_in_order entry world.records h;
       once = λ number. omega (arith, settled_once entry world.records h number, at-most (is_some (outcome_of world.records number)));
       answered = λ number within. subst (λ n. IsTrue (is_answer (outcome_of world.records n))) within.2 (answers-at world.records world.sent good.answered within.0 number within.1);
@@ -177,3 +203,25 @@ pub reserved-step : (entry : Entry) (world : World) (ask : Ask) (grant : Grant) 
 reserved-step entry world ask grant on of is =
     ap (λ (verdict : Result Grant ReserveFault). record world { records = records_after world.records ask verdict }) (sym is)
     ∙ sym (if-left world.running (is_ask_of entry ask) (record world { records = records_after world.records ask (money_verdict entry world.start world.records ask) }) world on of)
+
+-- a grant that is made
+pub granted-step : (entry : Entry) (world : World) (amount : ℕ) → world.running ≡ true → is_amount amount ≡ true → IsOk (grant_verdict entry world.start world.records amount)
+    → record world { records = with_grant world.records amount } ≡ stepped entry world (ToGrant amount)
+granted-step entry world amount on valid ok =
+    made (grant_verdict entry world.start world.records amount) ok
+    ∙ sym (if-left world.running (is_amount amount) (record world { records = records_granted world.records amount (grant_verdict entry world.start world.records amount) }) world on valid)
+  where
+    made : (verdict : Result Left GrantRefusal) → IsOk verdict → record world { records = with_grant world.records amount } ≡ record world { records = records_granted world.records amount verdict }
+    made (Ok left) is = refl
+    made (Err refusal) is = absurd cc
+
+-- a grant that is refused
+pub refused-step : (entry : Entry) (world : World) (amount : ℕ) → (IsOk (grant_verdict entry world.start world.records amount) → ⊥) → world ≡ stepped entry world (ToGrant amount)
+refused-step entry world amount refused =
+    same (grant_verdict entry world.start world.records amount) refused (world.running && is_amount amount)
+  where
+    same : (verdict : Result Left GrantRefusal) → (IsOk verdict → ⊥) → (test : Bool)
+        → world ≡ (if test then record world { records = records_granted world.records amount verdict } else world)
+    same (Ok left) never test = absurd (never refl)
+    same (Err refusal) never true = refl
+    same (Err refusal) never false = refl

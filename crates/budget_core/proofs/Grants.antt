@@ -6,11 +6,11 @@ use mathlib.Core.Logic.{inl, inr}
 use mathlib.Core.List.{IsPrefix}
 use Rattle.journal_records.specs.declared.records.Reservation.{Reservation}
 use Rattle.journal_records.specs.declared.records.Record.{Record}
-use Rattle.journal_records.specs.declared.records.Record.TheVariants.{Reserve, Settle}
+use Rattle.journal_records.specs.declared.records.Record.TheVariants.{Reserve, Settle, Grant as Granted}
 use Rattle.budget_core.specs.declared.entry.Ask.{Ask}
 use Rattle.budget_core.specs.declared.entry.Grant.{Grant}
 use Rattle.budget_core.specs.declared.entry.ReserveFault.TheVariants.{OverBudget, Full}
-use Rattle.budget_core.specs.Cost.{cost_of}
+use Rattle.budget_core.specs.Cost.{cost_of, budget_of}
 use Rattle.journal_records.specs.Records.{reservation_in}
 use Rattle.budget_core.specs.Counts.{reservations_of, open_from}
 use Rattle.budget_core.specs.Entries.{Entry}
@@ -26,8 +26,10 @@ counts-behind [] j k one at lt = absurd cc
 counts-behind (x ∷ records) j zero one at lt = absurd (omega (arith, lt))
 counts-behind (Reserve first ∷ records) zero (suc k) one at lt = omega arith
 counts-behind (Settle settlement ∷ records) zero (suc k) one at lt = absurd cc
+counts-behind (Granted raised ∷ records) zero (suc k) one at lt = absurd cc
 counts-behind (Reserve first ∷ records) (suc j) (suc k) one at lt = omega (arith, counts-behind records j k one at (omega (arith, lt)))
 counts-behind (Settle settlement ∷ records) (suc j) (suc k) one at lt = counts-behind records j k one at (omega (arith, lt))
+counts-behind (Granted raised ∷ records) (suc j) (suc k) one at lt = counts-behind records j k one at (omega (arith, lt))
 
 pub never-shared : NumbersNeverShared
 never-shared entry records j k one other h first second same =
@@ -45,7 +47,7 @@ never-shared entry records j k one other h first second same =
 pub grant-number : (entry : Entry) (start : ℕ) (records : List Record) (ask : Ask) (grant : Grant) → money_verdict entry start records ask ≡ Ok grant → grant.number ≡ next_number records
 grant-number entry start records ask grant is =
     let used : ℕ = open_from start records in
-    let parts = chosen (nat_lt entry.budget (cost_with entry records ask)) (nat_lt entry.capacity (length records + used + 2)) (OverBudget (cost_of entry records) (cost_with entry records ask) entry.budget (length records)) (Full (length records) used entry.capacity) (record { number = next_number records; taken = rise_of entry records ask; seen = length records + 1 }) grant is in
+    let parts = chosen (nat_lt (budget_of entry records) (cost_with entry records ask)) (nat_lt entry.capacity (length records + used + 2)) (OverBudget (cost_of entry records) (cost_with entry records ask) (budget_of entry records) (length records)) (Full (length records) used entry.capacity) (record { number = next_number records; taken = rise_of entry records ask; seen = length records + 1 }) grant is in
     ap (λ (g : Grant). g.number) parts.2
 
 -- There are no fewer reservations in what begins with these records.

@@ -11,24 +11,25 @@ use Rattle.std.proofs.lemmas.List.Sums.{sum_by_push, count_by-le-length}
 use Rattle.journal_records.specs.declared.records.Outcome.{Outcome}
 use Rattle.journal_records.specs.declared.records.Reservation.{Reservation}
 use Rattle.journal_records.specs.declared.records.Settlement.{Settlement}
+use Rattle.journal_records.specs.declared.records.BudgetGrant.{BudgetGrant}
 use Rattle.journal_records.specs.declared.records.Record.{Record}
-use Rattle.journal_records.specs.declared.records.Record.TheVariants.{Reserve, Settle}
+use Rattle.journal_records.specs.declared.records.Record.TheVariants.{Reserve, Settle, Grant}
 use Rattle.journal_records.specs.Records.{settling_back}
 use Rattle.budget_core.specs.declared.totals.Row.{Row}
 use Rattle.budget_core.specs.declared.totals.Totals.{Totals}
-use Rattle.budget_core.specs.Cost.{charge_of, comes_back, counts_in, charges_in, cost_of}
+use Rattle.budget_core.specs.Cost.{charge_of, comes_back, counts_in, charges_in, cost_of, budget_of}
 use Rattle.budget_core.specs.Ledger.{returned_by}
-use Rattle.budget_core.specs.Legal.{IsReservationAfter, IsOpen, IsSettlementAfter, IsHistory}
+use Rattle.budget_core.specs.Legal.{IsReservationAfter, IsOpen, IsSettlementAfter, IsGrantAfter, IsHistory}
 use Rattle.budget_core.specs.Answers.{is_answered, is_exhausted}
-use Rattle.budget_core.specs.Counts.{reservations_of}
-use Rattle.budget_core.specs.Entries.{Entry, HasView}
+use Rattle.budget_core.specs.Counts.{reservations_of, grants_of}
+use Rattle.budget_core.specs.Entries.{Entry, HasView, budget_limit}
 use Rattle.budget_core.specs.Kept.{IsRowOf, HasRows, IsTotalOf}
 use Rattle.budget_core.proofs.Charging.{rises, view-valid}
-use Rattle.budget_core.proofs.Costs.{counts-unsettled, cost_of-charges, cost_of-append-Reserve, cost_of-append-returned, cost_of-le-Settle, charges_in-append-Reserve, charges_in-append-Settle, returned-is}
+use Rattle.budget_core.proofs.Costs.{counts-unsettled, cost_of-charges, cost_of-append-Reserve, cost_of-append-returned, cost_of-le-Settle, cost_of-append-Grant, budget_of-append, charges_in-append-Grant, charges_in-append-Reserve, charges_in-append-Settle, returned-is}
 use Rattle.budget_core.proofs.Backs.{back-rest}
 use Rattle.budget_core.proofs.Histories.{history-append}
-use Rattle.budget_core.proofs.Numbers.{one_if, outcome_past, reserved_below}
-use Rattle.budget_core.proofs.Standings.{reservations-within, new-row, rows-Reserve}
+use Rattle.budget_core.proofs.Numbers.{one_if, outcome_past, reserved_below, grants-append}
+use Rattle.budget_core.proofs.Standings.{reservations-within, new-row, rows-Reserve, rows-Grant}
 
 -- There are fewer rows than a u32 has numbers.
 pub kept-count : (entry : Entry) (records : List Record) (totals : Totals) → IsTotalOf entry records totals → length totals.rows.items ≤ 262144
@@ -38,7 +39,7 @@ kept-count entry records totals k = omega (arith, k.rows.count, reservations-wit
 pub kept-charging : (entry : Entry) (records : List Record) (totals : Totals) (view : View) (amount : ℕ) → IsTotalOf entry records totals → HasView entry view → amount ≤ 2 ^ 62 → HasRoom totals.costs view amount
 kept-charging entry records totals view amount k has bounded =
     let charges : List Charge = charges_in entry records in
-    (charges, k.costs, omega (arith, rises charges view amount (view-valid entry view k.valid has), cost_of-charges entry records, k.within, k.valid.budget))
+    (charges, k.costs, omega (arith, rises charges view amount (view-valid entry view k.valid has), cost_of-charges entry records, k.within, k.limited))
 
 pub kept-grows : (entry : Entry) (records : List Record) (view : View) (amount : ℕ) → cost_of entry records ≤ cost_of_charges (charges_in entry records ++ record { view = view; amount = amount } ∷ [])
 kept-grows entry records view amount = omega (arith, cost_of-charges entry records, never-falls (charges_in entry records) (record { view = view; amount = amount }))
@@ -57,7 +58,7 @@ with-one entry records r charge after h numbered is cost =
 -- Whether a reservation within its budget may follow goes by what it says of the cost.
 pub may-reserve : (entry : Entry) (records : List Record) (r : Reservation) (charge after spent : ℕ) → IsHistory entry records → r.number ≡ length (reservations_of records) → r.analyst < entry.analysts → HasView entry r.view
     → charge ≡ charge_of r.e r.p r.q → after ≡ cost_of_charges (charges_in entry records ++ record { view = r.view; amount = charge } ∷ [])
-    → cost_of entry records ≤ after → spent ≡ cost_of entry records → after ≤ entry.budget → IsTrue (nat_eq (after - spent) r.taken) ↔ IsReservationAfter entry records r
+    → cost_of entry records ≤ after → spent ≡ cost_of entry records → after ≤ budget_of entry records → IsTrue (nat_eq (after - spent) r.taken) ↔ IsReservationAfter entry records r
 may-reserve entry records r charge after spent h numbered asked viewed is cost grows was within =
     let now : cost_of entry (records ++ Reserve r ∷ []) ≡ after = with-one entry records r charge after h numbered is cost in (
       λ yes. record {
@@ -65,16 +66,16 @@ may-reserve entry records r charge after spent h numbered asked viewed is cost g
         asked_by = asked;
         looks_at = viewed;
         rise = omega (arith, now, eqb-true (after - spent) r.taken yes);
-        within = omega (arith, now);
+        within = omega (arith, now, budget_of-append entry records (Reserve r));
       },
       λ may. eq-eqb (after - spent) r.taken (omega (arith, now, may.rise)),
     )
 
 -- Above the budget none may.
 pub may-not-reserve : (entry : Entry) (records : List Record) (r : Reservation) (charge after : ℕ) → IsHistory entry records → charge ≡ charge_of r.e r.p r.q
-    → after ≡ cost_of_charges (charges_in entry records ++ record { view = r.view; amount = charge } ∷ []) → entry.budget < after → IsReservationAfter entry records r → ⊥
+    → after ≡ cost_of_charges (charges_in entry records ++ record { view = r.view; amount = charge } ∷ []) → budget_of entry records < after → IsReservationAfter entry records r → ⊥
 may-not-reserve entry records r charge after h is cost over may =
-    omega (arith, with-one entry records r charge after h may.numbered is cost, may.within)
+    omega (arith, with-one entry records r charge after h may.numbered is cost, may.within, budget_of-append entry records (Reserve r))
 
 -- after a reservation
 pub kept-Reserve : (entry : Entry) (records : List Record) (totals : Totals) (r : Reservation) (charge : ℕ) (costs : Costs) (rows : Vec Row Global) → IsTotalOf entry records totals
@@ -90,10 +91,13 @@ kept-Reserve entry records totals r charge costs rows k may is short stand lines
       valid = k.valid;
       history = history-append entry records (Reserve r) k.history may;
       within = may.within;
+      limited = omega (arith, k.limited, budget_of-append entry records (Reserve r));
       costs = subst (AreTotalsOf costs) charged stand;
       rows = subst (λ (ys : List Row). HasRows ys all) (sym lines) (rows-Reserve entry records totals.rows.items r k.history may k.rows);
       answered = k.answered ∙ sym (sum_by_push (λ x. one_if (is_answered x)) records (Reserve r) ∙ add-zero (count_by is_answered records));
       exhausted = k.exhausted ∙ sym (sum_by_push (λ x. one_if (is_exhausted x)) records (Reserve r) ∙ add-zero (count_by is_exhausted records));
+      grants = omega (arith, k.grants, grants-append records (Reserve r));
+      budget = omega (arith, k.budget, budget_of-append entry records (Reserve r));
       fits = omega (arith, length-append records (Reserve r ∷ []), short);
       row_room = omega (arith, k.row_room, broad);
     }
@@ -107,14 +111,43 @@ pub kept-Settle : (entry : Entry) (records : List Record) (totals : Totals) (set
 kept-Settle entry records totals settlement costs rows one other k may short stand has broad answers exhausts = record {
   valid = k.valid;
   history = history-append entry records (Settle settlement) k.history may;
-  within = omega (arith, k.within, may.fall);
+  within = omega (arith, k.within, may.fall, budget_of-append entry records (Settle settlement));
+  limited = omega (arith, k.limited, budget_of-append entry records (Settle settlement));
   costs = stand;
   rows = has;
   answered = omega (arith, k.answered, answers, sum_by_push (λ x. one_if (is_answered x)) records (Settle settlement));
   exhausted = omega (arith, k.exhausted, exhausts, sum_by_push (λ x. one_if (is_exhausted x)) records (Settle settlement));
+  grants = omega (arith, k.grants, grants-append records (Settle settlement));
+  budget = omega (arith, k.budget, budget_of-append entry records (Settle settlement));
   fits = omega (arith, length-append records (Settle settlement ∷ []), short);
   row_room = omega (arith, k.row_room, broad);
 }
+
+-- after a grant
+pub kept-Grant : (entry : Entry) (records : List Record) (totals : Totals) (grant : BudgetGrant) → IsTotalOf entry records totals → IsGrantAfter entry records grant
+    → length records < entry.capacity
+    → IsTotalOf entry (records ++ Grant grant ∷ []) (record totals { grants = totals.grants + 1; budget = totals.budget + grant.amount })
+kept-Grant entry records totals grant k may short = record {
+  valid = k.valid;
+  history = history-append entry records (Grant grant) k.history may;
+  within = omega (arith, k.within, cost_of-append-Grant entry records grant, budget_of-append entry records (Grant grant));
+  limited = may.within;
+  costs = subst (AreTotalsOf totals.costs) (sym (charges_in-append-Grant entry records grant)) k.costs;
+  rows = rows-Grant records totals.rows.items grant k.rows;
+  answered = k.answered ∙ sym (sum_by_push (λ x. one_if (is_answered x)) records (Grant grant) ∙ add-zero (count_by is_answered records));
+  exhausted = k.exhausted ∙ sym (sum_by_push (λ x. one_if (is_exhausted x)) records (Grant grant) ∙ add-zero (count_by is_exhausted records));
+  grants = omega (arith, k.grants, grants-append records (Grant grant));
+  budget = omega (arith, k.budget, budget_of-append entry records (Grant grant));
+  fits = omega (arith, length-append records (Grant grant ∷ []), short);
+  row_room = k.row_room;
+}
+
+-- There are no more grants than records.
+pub grants-within : (records : List Record) → length (grants_of records) ≤ length records
+grants-within [] = omega arith
+grants-within (Reserve reservation ∷ records) = omega (arith, grants-within records)
+grants-within (Settle settlement ∷ records) = omega (arith, grants-within records)
+grants-within (Grant grant ∷ records) = omega (arith, grants-within records)
 
 -- the totals of what is charged after a settlement
 pub settled-costs : (entry : Entry) (records : List Record) (totals : Totals) (number : ℕ) (outcome : Outcome) (returned : ℕ) (row : Row) (costs : Costs) → IsTotalOf entry records totals

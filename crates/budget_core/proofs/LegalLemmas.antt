@@ -9,28 +9,32 @@ use mathlib.Core.Logic.{inl, inr}
 use Rattle.journal_records.specs.declared.records.Outcome.{Outcome}
 use Rattle.journal_records.specs.declared.records.Reservation.{Reservation}
 use Rattle.journal_records.specs.declared.records.Record.{Record}
-use Rattle.journal_records.specs.declared.records.Record.TheVariants.{Reserve, Settle}
+use Rattle.journal_records.specs.declared.records.Record.TheVariants.{Reserve, Settle, Grant as Granted}
 use Rattle.journal_records.specs.declared.records.Settlement.{Settlement}
+use Rattle.journal_records.specs.declared.records.BudgetGrant.{BudgetGrant}
 use Rattle.journal_records.specs.Records.{reservation_in, settlement_in, settling_back, number_or_zero}
 use Rattle.budget_core.specs.declared.entry.Ask.{Ask}
 use Rattle.budget_core.specs.declared.entry.Grant.{Grant}
 use Rattle.budget_core.specs.declared.entry.ReserveFault.TheVariants.{OverBudget, Full}
-use Rattle.budget_core.specs.Cost.{cost_of}
+use Rattle.budget_core.specs.Cost.{cost_of, budget_of}
 use Rattle.budget_core.specs.Counts.{reservations_of, open_from}
 use Rattle.budget_core.specs.Entries.{Entry}
 use Rattle.budget_core.specs.Legal.{MayFollow, IsSettlementAfter, HasTerms, IsHistory, IsLegal}
+use Rattle.budget_core.specs.Granting.{MayGrant}
 use Rattle.budget_core.specs.Ledger.{Ledger, start_of, next_number, reservation_numbered, reservation_for, cost_with, rise_of, money_verdict, settlement_of, IsAskOf, MayReserve, MaySettle, IsUnsettled}
-use Rattle.budget_core.proofs.Costs.{cost_of-append-taken, cost_of-le-append, returned-falls}
+use Rattle.budget_core.proofs.Costs.{cost_of-append-taken, cost_of-le-append, cost_of-append-Grant, budget_of-append, returned-falls}
 use Rattle.budget_core.proofs.Histories.{push_cases, follows-push, prefix_split, legal-induction}
-use Rattle.budget_core.proofs.Numbers.{reserved_below, outcome_past, outcome_of-append-Reserve, outcome_of-append-Settle, reserved-append, reservation_of-next, open_from-append-Reserve, open_from-Settle}
+use Rattle.budget_core.proofs.Numbers.{reserved_below, outcome_past, outcome_of-append-Reserve, outcome_of-append-Settle, open_from-append-Grant, outcome_of-append-Grant, reserved-append, reservation_of-next, open_from-append-Reserve, open_from-Settle}
 
 -- Legal records cost at most the budget, where the found ones do.
-pub legal-cost : (entry : Entry) (found records : List Record) → cost_of entry found ≤ entry.budget → IsLegal entry found records → cost_of entry records ≤ entry.budget
-legal-cost entry found records base l = legal-induction entry found (λ xs. cost_of entry xs ≤ entry.budget) base step records l
+pub legal-cost : (entry : Entry) (found records : List Record) → cost_of entry found ≤ budget_of entry found → IsLegal entry found records
+    → cost_of entry records ≤ budget_of entry records
+legal-cost entry found records base l = legal-induction entry found (λ xs. cost_of entry xs ≤ budget_of entry xs) base step records l
   where
-    step : (xs : List Record) (x : Record) → MayFollow entry xs x → cost_of entry xs ≤ entry.budget → cost_of entry (xs ++ x ∷ []) ≤ entry.budget
+    step : (xs : List Record) (x : Record) → MayFollow entry xs x → cost_of entry xs ≤ budget_of entry xs → cost_of entry (xs ++ x ∷ []) ≤ budget_of entry (xs ++ x ∷ [])
     step xs (Reserve reservation) may known = may.within
-    step xs (Settle settlement) may known = omega (arith, known, may.fall)
+    step xs (Settle settlement) may known = omega (arith, known, may.fall, budget_of-append entry xs (Settle settlement))
+    step xs (Granted grant) may known = omega (arith, known, cost_of-append-Grant entry xs grant, budget_of-append entry xs (Granted grant))
 
 -- what was found is no longer than the records
 found_within : (found records : List Record) → take (length found) records ≡ found → length found ≤ length records
@@ -71,7 +75,7 @@ chosen false false e f v w h = (refl, refl, cc)
 
 -- what a grant says
 pub record IsGranted (ledger : Ledger) (ask : Ask) (grant : Grant) : Type 0 where
-  pub within : cost_with ledger.entry ledger.records ask ≤ ledger.entry.budget
+  pub within : cost_with ledger.entry ledger.records ask ≤ budget_of ledger.entry ledger.records
   pub fits : length ledger.records + open_from (start_of ledger) ledger.records + 2 ≤ ledger.entry.capacity
   pub is : grant ≡ record { number = next_number ledger.records; taken = rise_of ledger.entry ledger.records ask; seen = length ledger.records + 1 }
 
@@ -79,8 +83,8 @@ pub granted : (ledger : Ledger) (ask : Ask) (grant : Grant) → money_verdict le
 granted ledger ask grant is =
     let records : List Record = ledger.records in
     let used : ℕ = open_from (start_of ledger) records in
-    let parts = chosen (nat_lt ledger.entry.budget (cost_with ledger.entry records ask)) (nat_lt ledger.entry.capacity (length records + used + 2)) (OverBudget (cost_of ledger.entry records) (cost_with ledger.entry records ask) ledger.entry.budget (length records)) (Full (length records) used ledger.entry.capacity) (record { number = next_number records; taken = rise_of ledger.entry records ask; seen = length records + 1 }) grant is in
-    record { within = ltb-false ledger.entry.budget (cost_with ledger.entry records ask) parts.0; fits = ltb-false ledger.entry.capacity (length records + used + 2) parts.1; is = parts.2 }
+    let parts = chosen (nat_lt (budget_of ledger.entry records) (cost_with ledger.entry records ask)) (nat_lt ledger.entry.capacity (length records + used + 2)) (OverBudget (cost_of ledger.entry records) (cost_with ledger.entry records ask) (budget_of ledger.entry records) (length records)) (Full (length records) used ledger.entry.capacity) (record { number = next_number records; taken = rise_of ledger.entry records ask; seen = length records + 1 }) grant is in
+    record { within = ltb-false (budget_of ledger.entry records) (cost_with ledger.entry records ask) parts.0; fits = ltb-false ledger.entry.capacity (length records + used + 2) parts.1; is = parts.2 }
 
 -- what a granted reservation costs
 pub cost-granted : (ledger : Ledger) (ask : Ask) (taken : ℕ) → cost_of ledger.entry (ledger.records ++ reservation_for ledger.records ask taken ∷ []) ≡ cost_with ledger.entry ledger.records ask
@@ -95,7 +99,7 @@ may-grant ledger ask grant asked is =
     let grows : cost_of ledger.entry ledger.records ≤ cost_with ledger.entry ledger.records ask = cost_of-le-append ledger.entry ledger.records (reservation_numbered (next_number ledger.records) ask 0) in
     let taken : grant.taken ≡ rise_of ledger.entry ledger.records ask = ap (λ (x : Grant). x.taken) g.is in
     record {
-      follows = record { numbered = refl; asked_by = asked.analyst; looks_at = asked.view; rise = omega arith; within = omega (arith, g.within) };
+      follows = record { numbered = refl; asked_by = asked.analyst; looks_at = asked.view; rise = omega arith; within = omega (arith, g.within, budget_of-append ledger.entry ledger.records (Reserve (reservation_numbered (next_number ledger.records) ask grant.taken))) };
       terms = asked.terms;
       room = g.fits;
     }
@@ -120,6 +124,13 @@ pub legal-Reserve : (ledger : Ledger) (ask : Ask) (grant : Grant) → IsHistory 
 legal-Reserve ledger ask grant h l asked is =
     legal-reserved ledger (reservation_numbered (next_number ledger.records) ask grant.taken) h l (may-grant ledger ask grant asked is)
 
+-- A grant that may be made is legal.
+pub legal-granted : (ledger : Ledger) (grant : BudgetGrant) → IsLegal ledger.entry ledger.found ledger.records → MayGrant ledger grant
+    → IsLegal ledger.entry ledger.found (ledger.records ++ Granted grant ∷ [])
+legal-granted ledger grant l may =
+    legal-append ledger.entry ledger.found ledger.records (Granted grant) l may.follows tt
+    (λ settlement other. cc) (λ fits. omega (arith, open_from-append-Grant (start_of ledger) ledger.records grant, may.room))
+
 -- The reservation that a history makes next is of this run and unsettled.
 pub unsettled-Reserve : (ledger : Ledger) (reservation : Reservation) → IsHistory ledger.entry ledger.records → reservation.number ≡ next_number ledger.records
     → start_of ledger ≤ reservation.number → IsUnsettled (record ledger { records = ledger.records ++ Reserve reservation ∷ [] }) reservation.number
@@ -140,6 +151,14 @@ unsettled-append-Reserve ledger n reservation u = record {
   ours = u.ours;
   reserved = reserved-append ledger.records (Reserve reservation) n u.reserved;
   unsettled = outcome_of-append-Reserve ledger.records reservation n ∙ u.unsettled;
+}
+
+pub unsettled-append-Grant : (ledger : Ledger) (n : ℕ) (grant : BudgetGrant) → IsUnsettled ledger n
+    → IsUnsettled (record ledger { records = ledger.records ++ Granted grant ∷ [] }) n
+unsettled-append-Grant ledger n grant u = record {
+  ours = u.ours;
+  reserved = reserved-append ledger.records (Granted grant) n u.reserved;
+  unsettled = outcome_of-append-Grant ledger.records grant n ∙ u.unsettled;
 }
 
 pub unsettled-append-Settle : (ledger : Ledger) (n number : ℕ) (outcome : Outcome) (returned : ℕ) → n ≢ number → IsUnsettled ledger n

@@ -16,3 +16,4 @@ mod Examples
 mod LegalExamples
 mod EventExamples
 mod AnswerExamples
+mod GrantExamples

@@ -11,10 +11,11 @@ use Rattle.std.proofs.lemmas.List.{map-append}
 use Rattle.journal_records.specs.declared.records.Outcome.{Outcome}
 use Rattle.journal_records.specs.declared.records.Reservation.{Reservation}
 use Rattle.journal_records.specs.declared.records.Settlement.{Settlement}
+use Rattle.journal_records.specs.declared.records.BudgetGrant.{BudgetGrant}
 use Rattle.journal_records.specs.declared.records.Record.{Record}
-use Rattle.journal_records.specs.declared.records.Record.TheVariants.{Reserve, Settle}
-use Rattle.journal_records.specs.Records.{reservation_in, settling_back, is_some_and}
-use Rattle.budget_core.specs.Counts.{reservations_of, reservation_number, is_numbered, reservation_of, outcome_of, settles, is_open_in, open_from}
+use Rattle.journal_records.specs.declared.records.Record.TheVariants.{Reserve, Settle, Grant}
+use Rattle.journal_records.specs.Records.{reservation_in, settlement_in, grant_in, settling_back, is_some_and}
+use Rattle.budget_core.specs.Counts.{reservations_of, reservation_number, is_numbered, reservation_of, outcome_by, outcome_of, grants_of, settles, is_open_in, open_from}
 use Rattle.budget_core.specs.Entries.{Entry}
 use Rattle.budget_core.specs.Legal.{MayFollow, IsHistory}
 use Rattle.budget_core.proofs.Histories.{history-induction}
@@ -48,15 +49,30 @@ reservations-with records reservation = filter_map-append reservation_in records
 pub reservations-settled : (records : List Record) (settlement : Settlement) → reservations_of (records ++ Settle settlement ∷ []) ≡ reservations_of records
 reservations-settled records settlement = filter_map-append reservation_in records (Settle settlement ∷ []) ∙ append-nil (reservations_of records)
 
+pub reservations-granted : (records : List Record) (grant : BudgetGrant) → reservations_of (records ++ Grant grant ∷ []) ≡ reservations_of records
+reservations-granted records grant = filter_map-append reservation_in records (Grant grant ∷ []) ∙ append-nil (reservations_of records)
+
+pub reservations_of-append-Grant : (records : List Record) (grant : BudgetGrant) → length (reservations_of (records ++ Grant grant ∷ [])) ≡ length (reservations_of records)
+reservations_of-append-Grant records grant = ap length (reservations-granted records grant)
+
+-- how many grants there are with one record more
+pub grants-append : (records : List Record) (next : Record) → length (grants_of (records ++ next ∷ [])) ≡ length (grants_of records) + length (grants_of (next ∷ []))
+grants-append records next = ap length (filter_map-append grant_in records (next ∷ [])) ∙ length-append (grants_of records) (grants_of (next ∷ []))
+
 -- the reservation of a number with one record more
 pub reservation_of-append : (records more : List Record) (n : ℕ) → reservation_of (records ++ more) n ≡ option_or (reservation_of records n) (reservation_of more n)
 reservation_of-append records more n = ap (find (is_numbered n)) (filter_map-append reservation_in records more) ∙ find-append (is_numbered n) (reservations_of records) (reservations_of more)
 
--- A reservation settles nothing.
+-- A record that is no settlement settles nothing.
+unsettling : (records : List Record) (next : Record) (n : ℕ) → settlement_in next ≡ None → outcome_of (records ++ next ∷ []) n ≡ outcome_of records n
+unsettling [] next n none = ap (λ (s : Option Settlement). outcome_by n s None) none
+unsettling (first ∷ records) next n none = ap (outcome_by n (settlement_in first)) (unsettling records next n none)
+
 pub outcome_of-append-Reserve : (records : List Record) (reservation : Reservation) (n : ℕ) → outcome_of (records ++ Reserve reservation ∷ []) n ≡ outcome_of records n
-outcome_of-append-Reserve [] reservation n = refl
-outcome_of-append-Reserve (Reserve other ∷ records) reservation n = outcome_of-append-Reserve records reservation n
-outcome_of-append-Reserve (Settle settlement ∷ records) reservation n = ap (cond (n == settlement.number) (Some settlement.outcome)) (outcome_of-append-Reserve records reservation n)
+outcome_of-append-Reserve records reservation n = unsettling records (Reserve reservation) n refl
+
+pub outcome_of-append-Grant : (records : List Record) (grant : BudgetGrant) (n : ℕ) → outcome_of (records ++ Grant grant ∷ []) n ≡ outcome_of records n
+outcome_of-append-Grant records grant n = unsettling records (Grant grant) n refl
 
 option_or-cond : {X : Type 0} → (b : Bool) (x y z : Option X) (v : X) → option_or (cond b (Some v) y) z ≡ cond b (Some v) (option_or y z)
 option_or-cond true x y z v = refl
@@ -66,6 +82,7 @@ option_or-cond false x y z v = refl
 pub outcome_of-append-Settle : (records : List Record) (number : ℕ) (outcome : Outcome) (returned : ℕ) (n : ℕ) → outcome_of (records ++ settling_back number outcome returned ∷ []) n ≡ option_or (outcome_of records n) (cond (n == number) (Some outcome) None)
 outcome_of-append-Settle [] number outcome returned n = refl
 outcome_of-append-Settle (Reserve reservation ∷ records) number outcome returned n = outcome_of-append-Settle records number outcome returned n
+outcome_of-append-Settle (Grant grant ∷ records) number outcome returned n = outcome_of-append-Settle records number outcome returned n
 outcome_of-append-Settle (Settle settlement ∷ records) number outcome returned n =
     ap (cond (n == settlement.number) (Some settlement.outcome)) (outcome_of-append-Settle records number outcome returned n) ∙ sym (option_or-cond (n == settlement.number) None (outcome_of records n) (cond (n == number) (Some outcome) None) settlement.outcome)
 
@@ -99,6 +116,9 @@ reserved_below entry = history-induction entry (λ records. (n : ℕ) → is_som
     step xs (Settle settlement) h may before n =
         ap is_some (reservation_of-append xs (Settle settlement ∷ []) n) ∙ ap is_some (option_or-None (reservation_of xs n)) ∙ before n
         ∙ ap (nat_lt n) (sym (reservations_of-append-Settle xs settlement.number settlement.outcome settlement.returned))
+    step xs (Grant grant) h may before n =
+        ap is_some (reservation_of-append xs (Grant grant ∷ []) n) ∙ ap is_some (option_or-None (reservation_of xs n)) ∙ before n
+        ∙ ap (nat_lt n) (sym (reservations_of-append-Grant xs grant))
 
 none_from : {X : Type 0} → (o : Option X) → is_some o ≡ false → o ≡ None
 none_from None is = refl
@@ -126,6 +146,7 @@ reserved-append records next n is = ap is_some (reservation_of-append records (n
 
 pub outcome_of-append-old : (records : List Record) (next : Record) (n : ℕ) (old : Outcome) → outcome_of records n ≡ Some old → outcome_of (records ++ next ∷ []) n ≡ Some old
 outcome_of-append-old records (Reserve reservation) n old is = outcome_of-append-Reserve records reservation n ∙ is
+outcome_of-append-old records (Grant grant) n old is = outcome_of-append-Grant records grant n ∙ is
 outcome_of-append-old records (Settle settlement) n old is = outcome_of-append-Settle records settlement.number settlement.outcome settlement.returned n ∙ ap (λ o. option_or o (cond (n == settlement.number) (Some settlement.outcome) None)) is
 
 -- how a number was settled just now
@@ -141,6 +162,8 @@ outcome_past entry = history-induction entry (λ records. (n : ℕ) → length (
         → (n : ℕ) → length (reservations_of (xs ++ x ∷ [])) ≤ n → outcome_of (xs ++ x ∷ []) n ≡ None
     step xs (Reserve reservation) h may before n past =
         outcome_of-append-Reserve xs reservation n ∙ before n (omega (arith, reservations_of-append-Reserve xs reservation))
+    step xs (Grant grant) h may before n past =
+        outcome_of-append-Grant xs grant n ∙ before n (omega (arith, reservations_of-append-Grant xs grant))
     step xs (Settle settlement) h may before n past =
         let count : ℕ = length (reservations_of xs) in
         let beyond : count ≤ n = omega (arith, reservations_of-append-Settle xs settlement.number settlement.outcome settlement.returned) in
@@ -167,6 +190,22 @@ reserved_once entry = history-induction entry (λ records. (n : ℕ) → count_b
     step xs (Settle settlement) h may before n =
         sum_by_push (λ r. one_if (reserves n r)) xs (Settle settlement) ∙ add-zero (count_by (reserves n) xs) ∙ before n
         ∙ ap (λ m. one_if (nat_lt n m)) (sym (reservations_of-append-Settle xs settlement.number settlement.outcome settlement.returned))
+    step xs (Grant grant) h may before n =
+        sum_by_push (λ r. one_if (reserves n r)) xs (Grant grant) ∙ add-zero (count_by (reserves n) xs) ∙ before n
+        ∙ ap (λ m. one_if (nat_lt n m)) (sym (reservations_of-append-Grant xs grant))
+
+-- A grant opens and closes none.
+pub open_from-append-Grant : (start : ℕ) (records : List Record) (grant : BudgetGrant) → open_from start (records ++ Grant grant ∷ []) ≡ open_from start records
+open_from-append-Grant start records grant =
+    let next : Record = Grant grant in
+    let all : List Record = records ++ next ∷ [] in
+    sum_by_push (λ r. one_if (is_open_in all start r)) records next ∙ add-zero (count_by (is_open_in all start) records)
+    ∙ sum_by-same (λ r. one_if (is_open_in all start r)) (λ r. one_if (is_open_in records start r)) same records
+  where
+    same : (r : Record) → one_if (is_open_in (records ++ Grant grant ∷ []) start r) ≡ one_if (is_open_in records start r)
+    same (Reserve other) = ap (λ o. one_if (nat_le start other.number && is_none o)) (outcome_of-append-Grant records grant other.number)
+    same (Settle settlement) = refl
+    same (Grant other) = refl
 
 -- One reservation more is open where it is of this run and not settled.
 pub open_from-append-Reserve : (start : ℕ) (records : List Record) (reservation : Reservation) → start ≤ reservation.number → outcome_of records reservation.number ≡ None
@@ -182,6 +221,7 @@ open_from-append-Reserve start records reservation ours fresh =
     same : (r : Record) → one_if (is_open_in (records ++ Reserve reservation ∷ []) start r) ≡ one_if (is_open_in records start r)
     same (Reserve other) = ap (λ o. one_if (nat_le start other.number && is_none o)) (outcome_of-append-Reserve records reservation other.number)
     same (Settle settlement) = refl
+    same (Grant grant) = refl
 
 -- A reservation numbered below start isn't counted.
 pub open_from-early : (start : ℕ) (records : List Record) (reservation : Reservation) → reservation.number < start
@@ -197,6 +237,7 @@ open_from-early start records reservation early =
     same : (r : Record) → one_if (is_open_in (records ++ Reserve reservation ∷ []) start r) ≡ one_if (is_open_in records start r)
     same (Reserve other) = ap (λ o. one_if (nat_le start other.number && is_none o)) (outcome_of-append-Reserve records reservation other.number)
     same (Settle settlement) = refl
+    same (Grant grant) = refl
 
 pub sum_by-le : {X : Type 0} → (f g : X → ℕ) → ((x : X) → f x ≤ g x) → (xs : List X) → sum_by f xs ≤ sum_by g xs
 sum_by-le f g below [] = omega arith
@@ -224,6 +265,7 @@ open_from-le-Settle start records number outcome returned =
         (sym (outcome_of-append-Settle records number outcome returned reservation.number))
         (still (nat_le start reservation.number) (outcome_of records reservation.number) (cond (reservation.number == number) (Some outcome) None))
     fewer (Settle settlement) = omega arith
+    fewer (Grant grant) = omega arith
 
 pub eqb_turned : (n m : ℕ) → (n == m) ≡ (m == n)
 eqb_turned n m = grind (arith, nat_tests)
@@ -254,6 +296,7 @@ open_from-append-Settle start records number outcome returned ours fresh =
         ap (λ o. one_if (nat_le start m && is_none o) + one_if (number == m)) settled
         ∙ closes (nat_le start m) (number == m) (outcome_of records m) outcome (λ hit. le-leb start m (omega (arith, eqb-true number m hit))) (λ hit. ap (outcome_of records) (sym (eqb-true number m hit)) ∙ fresh)
     parts (Settle settlement) = refl
+    parts (Grant grant) = refl
 
 -- In a history a settlement closes just one reservation.
 pub open_from-Settle : (entry : Entry) (start : ℕ) (records : List Record) (number : ℕ) (outcome : Outcome) (returned : ℕ) → IsHistory entry records → start ≤ number
@@ -286,6 +329,27 @@ numbered_in_order entry = history-induction entry (λ records. map reservation_n
     step xs (Settle settlement) h may before =
         let next : Record = Settle settlement in
         ap (map reservation_number) (filter_map-append reservation_in xs (next ∷ []) ∙ append-nil (reservations_of xs)) ∙ before ∙ ap (range_with_len 0) (sym (reservations_of-append-Settle xs settlement.number settlement.outcome settlement.returned))
+    step xs (Grant grant) h may before =
+        ap (map reservation_number) (reservations-granted xs grant) ∙ before ∙ ap (range_with_len 0) (sym (reservations_of-append-Grant xs grant))
+
+-- the grants are numbered 0, 1, 2, .. in order
+abbrev AreNumbered : List BudgetGrant → Type 0
+AreNumbered grants = map (λ (grant : BudgetGrant). grant.number) grants ≡ range_with_len 0 (length grants)
+
+-- The grants of a history are numbered 0, 1, 2, .. in order.
+pub granted_in_order : (entry : Entry) (records : List Record) → IsHistory entry records
+    → map (λ (grant : BudgetGrant). grant.number) (grants_of records) ≡ range_with_len 0 (length (grants_of records))
+granted_in_order entry = history-induction entry (λ records. map (λ (grant : BudgetGrant). grant.number) (grants_of records) ≡ range_with_len 0 (length (grants_of records))) refl step
+  where
+    step : (xs : List Record) (x : Record) → IsHistory entry xs → MayFollow entry xs x → AreNumbered (grants_of xs) → AreNumbered (grants_of (xs ++ x ∷ []))
+    step xs (Reserve reservation) h may before = subst AreNumbered (sym (filter_map-append grant_in xs (Reserve reservation ∷ []) ∙ append-nil (grants_of xs))) before
+    step xs (Settle settlement) h may before = subst AreNumbered (sym (filter_map-append grant_in xs (Settle settlement ∷ []) ∙ append-nil (grants_of xs))) before
+    step xs (Grant grant) h may before =
+        let count : ℕ = length (grants_of xs) in
+        subst AreNumbered (sym (filter_map-append grant_in xs (Grant grant ∷ [])))
+        (map-append (λ (g : BudgetGrant). g.number) (grants_of xs) (grant ∷ [])
+        ∙ ap (λ all. all ++ grant.number ∷ []) before ∙ ap (λ m. range_with_len 0 count ++ m ∷ []) (may.numbered ∙ sym (zero-add count))
+        ∙ sym (range-push 0 count) ∙ ap (range_with_len 0) (sym (length-append (grants_of xs) (grant ∷ []))))
 
 settles_more : {X : Type 0} → (old : Option X) (hit : Bool) (v : X) → (hit ≡ true → old ≡ None) → one_if (is_some old) + one_if hit ≡ one_if (is_some (option_or old (cond hit (Some v) None)))
 settles_more None true v fresh = refl
@@ -302,6 +366,9 @@ settled_once entry = history-induction entry (λ records. (n : ℕ) → count_by
     step xs (Reserve reservation) h may before n =
         sum_by_push (λ r. one_if (settles n r)) xs (Reserve reservation) ∙ add-zero (count_by (settles n) xs) ∙ before n
         ∙ ap (λ o. one_if (is_some o)) (sym (outcome_of-append-Reserve xs reservation n))
+    step xs (Grant grant) h may before n =
+        sum_by_push (λ r. one_if (settles n r)) xs (Grant grant) ∙ add-zero (count_by (settles n) xs) ∙ before n
+        ∙ ap (λ o. one_if (is_some o)) (sym (outcome_of-append-Grant xs grant n))
     step xs (Settle settlement) h may before n =
         sum_by_push (λ r. one_if (settles n r)) xs (Settle settlement) ∙ ap (λ k. k + one_if (n == settlement.number)) (before n)
         ∙ settles_more (outcome_of xs n) (n == settlement.number) settlement.outcome (λ hit. ap (outcome_of xs) (eqb-true n settlement.number hit) ∙ may.unsettled)

@@ -4,17 +4,20 @@ use Rattle.std.proofs.lemmas.List.{take-append-le}
 use Rattle.std.proofs.Math.Seq.{take-length}
 use Rattle.journal_records.specs.declared.records.Reservation.{Reservation}
 use Rattle.journal_records.specs.declared.records.Settlement.{Settlement}
+use Rattle.journal_records.specs.declared.records.BudgetGrant.{BudgetGrant}
 use Rattle.journal_records.specs.declared.records.Record.{Record}
-use Rattle.journal_records.specs.declared.records.Record.TheVariants.{Reserve, Settle}
+use Rattle.journal_records.specs.declared.records.Record.TheVariants.{Reserve, Settle, Grant}
 use Rattle.budget_core.specs.declared.ledger.Ledger.TheInside.{Inside}
 use Rattle.budget_core.specs.Counts.{reservations_of, open_from}
+use Rattle.budget_core.specs.Granting.{MayGrant}
 use Rattle.budget_core.specs.Ledger.{Ledger, start_of, next_number, MayReserve, MaySettle, IsUnsettled}
 use Rattle.budget_core.specs.History.{History}
 use Rattle.budget_core.specs.Run.{ledger_in, HoldsRun}
 use Rattle.budget_core.specs.Sound.{IsSound}
 use Rattle.budget_core.proofs.LegalLemmas.{open-reserved, unsettled-Reserve, reservations_within}
+use Rattle.budget_core.proofs.Numbers.{open_from-append-Grant}
 use Rattle.budget_core.proofs.Standings.{open-past}
-use Rattle.budget_core.proofs.SoundLemmas.{sound-history, sound-reserved, sound-Settle, open-settled, sound-found}
+use Rattle.budget_core.proofs.SoundLemmas.{sound-history, sound-reserved, sound-Settle, sound-Grant, open-settled, sound-found}
 
 -- how many are open
 pub run-open : (l : Inside) → HoldsRun l → l.unsettled ≡ open_from (start_of (ledger_in l)) l.history.records
@@ -54,6 +57,14 @@ run-Settle l history settlement k may grew =
     let kept = run-append l (Settle settlement) (l.unsettled - 1) k sound (omega (arith, run-open l k, count)) in
     subst (λ (h : History). HoldsRun (record l { history = h; unsettled = l.unsettled - 1 })) (sym grew) kept
 
+pub run-Grant : (l : Inside) (history : History) (grant : BudgetGrant) → HoldsRun l → MayGrant (ledger_in l) grant → Grew l.history history (Grant grant)
+    → HoldsRun (record l { history = history })
+run-Grant l history grant k may grew =
+    let sound = sound-Grant (ledger_in l) grant k.sound may in
+    let count = open_from-append-Grant (start_of (ledger_in l)) l.history.records grant in
+    let kept = run-append l (Grant grant) l.unsettled k sound (run-open l k ∙ sym count) in
+    subst (λ (h : History). HoldsRun (record l { history = h })) (sym grew) kept
+
 -- a ledger all of whose records were found
 pub run-found : (history : History) (found start : ℕ) → IsSound (record { entry = history.entry; found = history.records; records = history.records })
     → found ≡ length history.records → start ≡ length (reservations_of history.records)
@@ -86,4 +97,4 @@ run-unsettled l history reservation unsettled k may grew =
 
 -- All records of a ledger may count as found.
 pub sound-reopened : (l : Inside) → HoldsRun l → IsSound (record { entry = l.history.entry; found = l.history.records; records = l.history.records })
-sound-reopened l k = sound-found l.history.entry l.history.records k.sound.entry (sound-history (ledger_in l) k.sound) k.sound.within (omega (arith, k.sound.room))
+sound-reopened l k = sound-found l.history.entry l.history.records k.sound.entry (sound-history (ledger_in l) k.sound) k.sound.within k.sound.limited (omega (arith, k.sound.room))

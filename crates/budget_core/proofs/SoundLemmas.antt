@@ -1,6 +1,6 @@
 -- a sound ledger with one record more
-use Rattle.std.proofs.Common.{◌≡◌, ℕ, ◌+◌, ◌-◌, ◌≤◌, ◌<◌, nat_lt, List, [], ◌∷◌, ◌++◌, length, length-append, Ok, Err, sym, ◌∙◌, ap, arith}
-use Rattle.std.proofs.lemmas.Bool.{cond-true, cond-false, lt-ltb, le-ltb}
+use Rattle.std.proofs.Common.{◌≡◌, ℕ, ◌+◌, ◌-◌, ◌≤◌, ◌<◌, Bool, true, false, cond, IsOk, nat_lt, refl, List, [], ◌∷◌, ◌++◌, length, length-append, Ok, Err, sym, ◌∙◌, ap, arith}
+use Rattle.std.proofs.lemmas.Bool.{cond-true, cond-false, lt-ltb, le-ltb, ltb-false}
 use Rattle.std.proofs.lemmas.Option.{slice_get_within}
 use Rattle.std.proofs.Math.Seq.{take-length}
 use Rattle.partition_charge.specs.Cost.{cost_of_charges}
@@ -8,22 +8,27 @@ use Rattle.journal_records.specs.declared.records.Outcome.{Outcome}
 use Rattle.journal_records.specs.declared.records.Outcome.TheVariants.{Lost}
 use Rattle.journal_records.specs.declared.records.Reservation.{Reservation}
 use Rattle.journal_records.specs.declared.records.Settlement.{Settlement}
+use Rattle.journal_records.specs.declared.records.BudgetGrant.{BudgetGrant}
 use Rattle.journal_records.specs.declared.records.Record.{Record}
-use Rattle.journal_records.specs.declared.records.Record.TheVariants.{Reserve, Settle}
+use Rattle.journal_records.specs.declared.records.Record.TheVariants.{Reserve, Settle, Grant as Granted}
 use Rattle.journal_records.specs.Records.{settling_back}
 use Rattle.budget_core.specs.declared.entry.Ask.{Ask}
 use Rattle.budget_core.specs.declared.entry.Grant.{Grant}
 use Rattle.budget_core.specs.declared.entry.ReserveFault.TheVariants.{OverBudget, Full}
-use Rattle.budget_core.specs.Cost.{charge_of, charges_in, cost_of}
+use Rattle.budget_core.specs.Cost.{charge_of, charges_in, cost_of, budget_of}
 use Rattle.budget_core.specs.Counts.{open_from}
-use Rattle.budget_core.specs.Entries.{Entry, IsEntry}
+use Rattle.budget_core.specs.Entries.{Entry, IsEntry, budget_limit}
 use Rattle.budget_core.specs.Legal.{IsHistory, IsLegal}
+use Rattle.budget_core.specs.declared.answers.GrantRefusal.TheVariants.{TooLarge, Full as IsFull}
+use Rattle.budget_core.specs.declared.answers.Left.{Left}
+use Rattle.budget_core.specs.Answers.{left_by}
+use Rattle.budget_core.specs.Granting.{grant_behind, with_grant, grant_verdict, IsAmount, MayGrant}
 use Rattle.budget_core.specs.Ledger.{Ledger, start_of, next_number, reservation_numbered, reservation_for, cost_with, money_verdict, IsAskOf, MayReserve, MaySettle, IsUnsettled}
 use Rattle.budget_core.specs.Sound.{IsSound}
-use Rattle.budget_core.proofs.Costs.{cost_of-append-Reserve, counts-unsettled}
+use Rattle.budget_core.proofs.Costs.{cost_of-append-Reserve, cost_of-append-Grant, budget_of-append, counts-unsettled}
 use Rattle.budget_core.proofs.Histories.{legal-history}
-use Rattle.budget_core.proofs.Numbers.{open_from-Settle, outcome_past}
-use Rattle.budget_core.proofs.LegalLemmas.{may-grant, may-settle, open-reserved, legal-reserved, legal-Settle}
+use Rattle.budget_core.proofs.Numbers.{open_from-Settle, open_from-append-Grant, outcome_past}
+use Rattle.budget_core.proofs.LegalLemmas.{chosen, may-grant, may-settle, open-reserved, legal-reserved, legal-granted, legal-Settle}
 use Rattle.budget_core.proofs.Standings.{open-past}
 
 pub sound-history : (ledger : Ledger) → IsSound ledger → IsHistory ledger.entry ledger.records
@@ -38,6 +43,7 @@ sound-reserved ledger reservation s may =
       found = s.found;
       legal = legal-reserved ledger reservation h s.legal may;
       within = may.follows.within;
+      limited = omega (arith, s.limited, budget_of-append ledger.entry ledger.records (Reserve reservation));
       room = omega (arith, may.room, open-reserved ledger reservation h s.legal may.follows.numbered, length-append ledger.records (Reserve reservation ∷ []));
     }
 
@@ -62,8 +68,21 @@ sound-Settle ledger settlement s may = record {
   entry = s.entry;
   found = s.found;
   legal = legal-Settle ledger settlement (sound-history ledger s) s.legal may;
-  within = omega (arith, s.within, (may-settle ledger settlement may).fall);
+  within = omega (arith, s.within, (may-settle ledger settlement may).fall, budget_of-append ledger.entry ledger.records (Settle settlement));
+  limited = omega (arith, s.limited, budget_of-append ledger.entry ledger.records (Settle settlement));
   room = omega (arith, s.room, open-settled ledger settlement.number settlement.outcome settlement.returned s may.unsettled, length-append ledger.records (Settle settlement ∷ []));
+}
+
+-- one grant more
+pub sound-Grant : (ledger : Ledger) (grant : BudgetGrant) → IsSound ledger → MayGrant ledger grant
+    → IsSound (record ledger { records = ledger.records ++ Granted grant ∷ [] })
+sound-Grant ledger grant s may = record {
+  entry = s.entry;
+  found = s.found;
+  legal = legal-granted ledger grant s.legal may;
+  within = omega (arith, s.within, cost_of-append-Grant ledger.entry ledger.records grant, budget_of-append ledger.entry ledger.records (Granted grant));
+  limited = may.follows.within;
+  room = omega (arith, may.room, open_from-append-Grant (start_of ledger) ledger.records grant, length-append ledger.records (Granted grant ∷ []));
 }
 
 -- records that were all found
@@ -76,13 +95,14 @@ legal-found entry records = record {
   terms = λ k next past at. absurd (omega (arith, slice_get_within records k next at, past));
 }
 
-pub sound-found : (entry : Entry) (records : List Record) → IsEntry entry → IsHistory entry records → cost_of entry records ≤ entry.budget → length records ≤ entry.capacity
+pub sound-found : (entry : Entry) (records : List Record) → IsEntry entry → IsHistory entry records → cost_of entry records ≤ budget_of entry records → budget_of entry records ≤ budget_limit → length records ≤ entry.capacity
     → IsSound (record { entry = entry; found = records; records = records })
-sound-found entry records valid h within fits = record {
+sound-found entry records valid h within limited fits = record {
   entry = valid;
   found = h;
   legal = legal-found entry records;
   within = within;
+  limited = limited;
   room = omega (arith, fits, open-past entry records h);
 }
 
@@ -95,22 +115,81 @@ with-ask entry records ask charge after h is cost =
     ∙ sym (cost_of-append-Reserve entry records (reservation_numbered (next_number records) ask 0)
     (counts-unsettled entry records (reservation_numbered (next_number records) ask 0) (outcome_past entry records h (next_number records) (omega arith))))
 
-module _ (entry : Entry) (start : ℕ) (records : List Record) (ask : Ask) (spent after used open_now : ℕ)
-    (is_spent : spent ≡ cost_of entry records) (is_after : after ≡ cost_with entry records ask) (is_used : used ≡ length records) (is_open : open_now ≡ open_from start records) where
-  pub verdict-over : entry.budget < after → money_verdict entry start records ask ≡ Err (OverBudget spent after entry.budget used)
+module _ (entry : Entry) (start : ℕ) (records : List Record) (ask : Ask) (spent after budget used open_now : ℕ)
+    (is_spent : spent ≡ cost_of entry records) (is_after : after ≡ cost_with entry records ask) (is_budget : budget ≡ budget_of entry records) (is_used : used ≡ length records) (is_open : open_now ≡ open_from start records) where
+  pub verdict-over : budget < after → money_verdict entry start records ask ≡ Err (OverBudget spent after budget used)
   verdict-over over =
-      cond-true (nat_lt entry.budget (cost_with entry records ask)) _ _ (lt-ltb entry.budget (cost_with entry records ask) (omega (arith, over, is_after)))
-      ∙ (λ i. Err (OverBudget (sym is_spent i) (sym is_after i) entry.budget (sym is_used i)))
+      cond-true (nat_lt (budget_of entry records) (cost_with entry records ask)) _ _ (lt-ltb (budget_of entry records) (cost_with entry records ask) (omega (arith, over, is_after, is_budget)))
+      ∙ (λ i. Err (OverBudget (sym is_spent i) (sym is_after i) (sym is_budget i) (sym is_used i)))
 
-  pub verdict-full : after ≤ entry.budget → entry.capacity < used + open_now + 2 → money_verdict entry start records ask ≡ Err (Full used open_now entry.capacity)
+  pub verdict-full : after ≤ budget → entry.capacity < used + open_now + 2 → money_verdict entry start records ask ≡ Err (Full used open_now entry.capacity)
   verdict-full within over =
-      cond-false (nat_lt entry.budget (cost_with entry records ask)) _ _ (le-ltb entry.budget (cost_with entry records ask) (omega (arith, within, is_after)))
+      cond-false (nat_lt (budget_of entry records) (cost_with entry records ask)) _ _ (le-ltb (budget_of entry records) (cost_with entry records ask) (omega (arith, within, is_after, is_budget)))
       ∙ cond-true (nat_lt entry.capacity (length records + open_from start records + 2)) _ _ (lt-ltb entry.capacity (length records + open_from start records + 2) (omega (arith, over, is_used, is_open)))
       ∙ (λ i. Err (Full (sym is_used i) (sym is_open i) entry.capacity))
 
-  pub verdict-grant : (number : ℕ) → number ≡ next_number records → after ≤ entry.budget → used + open_now + 2 ≤ entry.capacity
+  pub verdict-grant : (number : ℕ) → number ≡ next_number records → after ≤ budget → used + open_now + 2 ≤ entry.capacity
       → money_verdict entry start records ask ≡ Ok (record { number = number; taken = after - spent; seen = used + 1 })
   verdict-grant number numbered within fits =
-      cond-false (nat_lt entry.budget (cost_with entry records ask)) _ _ (le-ltb entry.budget (cost_with entry records ask) (omega (arith, within, is_after)))
+      cond-false (nat_lt (budget_of entry records) (cost_with entry records ask)) _ _ (le-ltb (budget_of entry records) (cost_with entry records ask) (omega (arith, within, is_after, is_budget)))
       ∙ cond-false (nat_lt entry.capacity (length records + open_from start records + 2)) _ _ (le-ltb entry.capacity (length records + open_from start records + 2) (omega (arith, fits, is_used, is_open)))
       ∙ (λ i. Ok (record { number = sym numbered i; taken = sym is_after i - sym is_spent i; seen = sym is_used i + 1 }))
+
+-- ---- grants
+
+module _ (entry : Entry) (start : ℕ) (records : List Record) (amount budget used open_now : ℕ)
+    (is_budget : budget ≡ budget_of entry records) (is_used : used ≡ length records) (is_open : open_now ≡ open_from start records) where
+  pub grant-large : budget_limit < budget + amount → grant_verdict entry start records amount ≡ Err (TooLarge budget amount)
+  grant-large over =
+      cond-true (nat_lt budget_limit (budget_of entry records + amount)) _ _ (lt-ltb budget_limit (budget_of entry records + amount) (omega (arith, over, is_budget)))
+      ∙ (λ i. Err (TooLarge (sym is_budget i) amount))
+
+  pub grant-full : budget + amount ≤ budget_limit → entry.capacity < used + open_now + 1 → grant_verdict entry start records amount ≡ Err (IsFull used open_now entry.capacity)
+  grant-full within over =
+      cond-false (nat_lt budget_limit (budget_of entry records + amount)) _ _ (le-ltb budget_limit (budget_of entry records + amount) (omega (arith, within, is_budget)))
+      ∙ cond-true (nat_lt entry.capacity (length records + open_from start records + 1)) _ _ (lt-ltb entry.capacity (length records + open_from start records + 1) (omega (arith, over, is_used, is_open)))
+      ∙ (λ i. Err (IsFull (sym is_used i) (sym is_open i) entry.capacity))
+
+  pub grant-made : (spent : ℕ) → spent ≡ cost_of entry records → budget + amount ≤ budget_limit → used + open_now + 1 ≤ entry.capacity
+      → grant_verdict entry start records amount ≡ Ok (record { spent = spent; budget = budget + amount; seen = used + 1 })
+  grant-made spent is_spent within fits =
+      cond-false (nat_lt budget_limit (budget_of entry records + amount)) _ _ (le-ltb budget_limit (budget_of entry records + amount) (omega (arith, within, is_budget)))
+      ∙ cond-false (nat_lt entry.capacity (length records + open_from start records + 1)) _ _ (le-ltb entry.capacity (length records + open_from start records + 1) (omega (arith, fits, is_used, is_open)))
+      ∙ (λ i. Ok (record { spent = sym is_spent i; budget = sym is_budget i + amount; seen = sym is_used i + 1 }))
+
+-- which way two tests went
+passed : {T E : Type 0} → (over full : Bool) (e f : E) (v : T) → IsOk (cond over (Err e) (cond full (Err f) (Ok v))) → (over ≡ false) × (full ≡ false)
+passed true full e f v h = absurd cc
+passed false true e f v h = absurd cc
+passed false false e f v h = (refl, refl)
+
+-- An amount that is granted may be granted.
+pub may-raise : (ledger : Ledger) (amount : ℕ) → IsAmount amount → IsOk (grant_verdict ledger.entry (start_of ledger) ledger.records amount) → MayGrant ledger (grant_behind ledger.records amount)
+may-raise ledger amount valid ok =
+    let records : List Record = ledger.records in
+    let used : ℕ = open_from (start_of ledger) records in
+    let parts = passed (nat_lt budget_limit (budget_of ledger.entry records + amount)) (nat_lt ledger.entry.capacity (length records + used + 1)) (TooLarge (budget_of ledger.entry records) amount) (IsFull (length records) used ledger.entry.capacity)
+    (record { spent = cost_of ledger.entry records; budget = budget_of ledger.entry records + amount; seen = length records + 1 }) ok in
+    record {
+      follows = record {
+        numbered = refl;
+        some = valid.least;
+        within = omega (
+          arith,
+          ltb-false budget_limit (budget_of ledger.entry records + amount) parts.0,
+          budget_of-append ledger.entry records (Granted (grant_behind records amount)),
+        );
+      };
+      room = ltb-false ledger.entry.capacity (length records + used + 1) parts.1;
+    }
+
+-- What is told of a grant is what its records leave.
+pub grant-left : (entry : Entry) (start : ℕ) (records : List Record) (amount : ℕ) (left : Left) → grant_verdict entry start records amount ≡ Ok left → left ≡ left_by entry (with_grant records amount)
+grant-left entry start records amount left is =
+    let used : ℕ = open_from start records in
+    let parts = chosen (nat_lt budget_limit (budget_of entry records + amount)) (nat_lt entry.capacity (length records + used + 1)) (TooLarge (budget_of entry records) amount) (IsFull (length records) used entry.capacity) (record { spent = cost_of entry records; budget = budget_of entry records + amount; seen = length records + 1 }) left is in
+    parts.2 ∙ (λ i. record {
+      spent = sym (cost_of-append-Grant entry records (grant_behind records amount)) i;
+      budget = sym (budget_of-append entry records (Granted (grant_behind records amount))) i;
+      seen = sym (length-append records (Granted (grant_behind records amount) ∷ [])) i;
+    })

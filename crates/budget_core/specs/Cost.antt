@@ -1,11 +1,11 @@
 -- What records cost.
-use Rattle.std.specs.Prelude.{ℕ, ◌+◌, ◌*◌, ◌-◌, ◌/◌, ◌==◌, ◌&&◌, Bool, not, List, map, Option}
+use Rattle.std.specs.Prelude.{ℕ, ◌+◌, ◌*◌, ◌-◌, ◌/◌, ◌==◌, ◌&&◌, Bool, not, List, map, sum_by, Option}
 use Rattle.std.specs.List.{filter}
 use Rattle.partition_charge.specs.Cost.{Charge, cost_of_charges}
 use Rattle.journal_records.specs.declared.records.Outcome.{Outcome}
 use Rattle.journal_records.specs.declared.records.Record.{Record}
 use Rattle.journal_records.specs.declared.records.Reservation.{Reservation}
-use Rattle.budget_core.specs.Counts.{reservations_of, outcome_of, is_exhaustion}
+use Rattle.budget_core.specs.Counts.{reservations_of, outcome_of, is_exhaustion, amount_of}
 use Rattle.budget_core.specs.Entries.{Entry}
 
 -- the least whole number that isn't below a/b
@@ -37,6 +37,6 @@ charges_in entry records = map charge_by (filter (counts_in entry records) (rese
 unfoldable pub cost_of : Entry → List Record → ℕ
 cost_of entry records = cost_of_charges (charges_in entry records)
 
--- the budget that the cost of these records is held against
-abbrev pub budget_of : Entry → List Record → ℕ
-budget_of entry records = entry.budget
+-- the budget that the cost of these records is held against: the entry's, and all that these records grant
+unfoldable pub budget_of : Entry → List Record → ℕ
+budget_of entry records = entry.budget + sum_by amount_of records

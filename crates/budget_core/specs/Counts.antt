@@ -2,10 +2,11 @@
 use Rattle.std.specs.Prelude.{ℕ, Bool, true, false, ◌==◌, ◌&&◌, nat_le, List, [], ◌∷◌, filter_map, find, count_by, Option, Some, None, is_none, option_map, if◌then◌else◌}
 use Rattle.journal_records.specs.declared.records.Reservation.{Reservation}
 use Rattle.journal_records.specs.declared.records.Settlement.{Settlement}
+use Rattle.journal_records.specs.declared.records.BudgetGrant.{BudgetGrant}
 use Rattle.journal_records.specs.declared.records.Record.{Record}
 use Rattle.journal_records.specs.declared.records.Outcome.{Outcome}
 use Rattle.journal_records.specs.declared.records.Outcome.TheVariants.{Answered, Exhausted, Lost}
-use Rattle.journal_records.specs.Records.{reservation_in, settlement_in, is_some_and, number_or_zero}
+use Rattle.journal_records.specs.Records.{reservation_in, settlement_in, grant_in, is_some_and, number_or_zero}
 
 -- the reservations, in order
 abbrev pub reservations_of : List Record → List Reservation
@@ -54,6 +55,14 @@ taken_of next = number_or_zero (λ (reservation : Reservation). reservation.take
 -- how much a record says that it gives back of the cost
 abbrev pub returned_of : Record → ℕ
 returned_of next = number_or_zero (λ (settlement : Settlement). settlement.returned) (settlement_in next)
+
+-- the grants, in order
+abbrev pub grants_of : List Record → List BudgetGrant
+grants_of records = filter_map grant_in records
+
+-- how much a record adds to the budget
+abbrev pub amount_of : Record → ℕ
+amount_of next = number_or_zero (λ (grant : BudgetGrant). grant.amount) (grant_in next)
 
 -- the reservation is numbered from start on, and isn't settled in these records
 abbrev pub is_unsettled_in : List Record → ℕ → Reservation → Bool

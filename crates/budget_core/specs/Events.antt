@@ -9,9 +9,10 @@ use Rattle.journal_records.specs.declared.records.Outcome.TheVariants.{Answered,
 use Rattle.journal_records.specs.declared.records.Record.{Record}
 use Rattle.budget_core.specs.declared.entry.Ask.{Ask}
 use Rattle.budget_core.specs.declared.events.Event.{Event}
-use Rattle.budget_core.specs.declared.events.Event.TheVariants.{Reserve as ToReserve, Settle as ToSettle, Send, Stop, Open}
+use Rattle.budget_core.specs.declared.events.Event.TheVariants.{Reserve as ToReserve, Settle as ToSettle, Grant as ToGrant, Send, Stop, Open}
 use Rattle.budget_core.specs.Counts.{reservation_of, outcome_of}
-use Rattle.budget_core.specs.Entries.{Entry}
+use Rattle.budget_core.specs.Entries.{Entry, budget_limit}
+use Rattle.budget_core.specs.Granting.{grant_verdict, records_granted}
 use Rattle.budget_core.specs.Ledger.{next_number, money_verdict, records_after, settlement_for}
 
 -- the records, the first number of this run, whether the machine runs, and the numbers whose answers were sent
@@ -54,6 +55,10 @@ is_ask_of entry ask = nat_lt ask.analyst entry.analysts && has_view entry ask.vi
 abbrev pub is_unsettled : (start : ℕ) → List Record → ℕ → Bool
 is_unsettled start records number = nat_le start number && is_some (reservation_of records number) && is_none (outcome_of records number)
 
+-- the amount may be granted at once
+abbrev pub is_amount : ℕ → Bool
+is_amount amount = nat_le 1 amount && nat_le amount budget_limit
+
 abbrev pub is_answer : Option Outcome → Bool
 is_answer (Some (Answered value)) = true
 is_answer (Some Exhausted) = false
@@ -64,6 +69,7 @@ is_answer None = false
 -- but open.
 -- Reserve: an ask of the entry that is neither over budget nor full adds its reservation.
 -- Settle: a number of this run that is reserved and unsettled is settled, and its record says by how much the cost falls.
+-- Grant: an amount that may be granted at once, and is neither too large nor finds the journal full, adds its grant.
 -- Send: a number that is settled with an answer is sent, once.
 -- Stop: the machine stops, and the records stay.
 -- Open: the machine runs, and what is reserved from here on is of a new run.
@@ -75,6 +81,10 @@ stepped entry world (ToReserve ask) =
 stepped entry world (ToSettle number outcome) =
     if world.running && is_unsettled world.start world.records number
     then record world { records = world.records ++ settlement_for entry world.records number outcome ∷ [] }
+    else world
+stepped entry world (ToGrant amount) =
+    if world.running && is_amount amount
+    then record world { records = records_granted world.records amount (grant_verdict entry world.start world.records amount) }
     else world
 stepped entry world (Send number) =
     if world.running && is_answer (outcome_of world.records number) && not (list_any (λ sent. sent == number) world.sent)

@@ -7,8 +7,8 @@ use Rattle.budget_core.specs.declared.totals.Totals.{Totals}
 use Rattle.budget_core.specs.declared.history.History.TheInside.{Inside}
 use Rattle.budget_core.specs.Answers.{is_answered, is_exhausted}
 use Rattle.budget_core.specs.Cost.{charge_by, charges_in, cost_of, budget_of}
-use Rattle.budget_core.specs.Counts.{reservations_of, reservation_of, asker_of, outcome_of}
-use Rattle.budget_core.specs.Entries.{Entry, IsEntry}
+use Rattle.budget_core.specs.Counts.{reservations_of, reservation_of, asker_of, outcome_of, grants_of}
+use Rattle.budget_core.specs.Entries.{Entry, IsEntry, budget_limit}
 use Rattle.budget_core.specs.Legal.{MayFollow, IsOpen, IsHistory}
 
 -- The row says who reserved the number, what it charged which view, and how it was settled.
@@ -27,10 +27,13 @@ pub record IsTotalOf (entry : Entry) (records : List Record) (totals : Totals) :
   pub valid : IsEntry entry
   pub history : IsHistory entry records
   pub within : cost_of entry records ≤ budget_of entry records
+  pub limited : budget_of entry records ≤ budget_limit
   pub costs : AreTotalsOf totals.costs (charges_in entry records)
   pub rows : HasRows totals.rows.items records
   pub answered : totals.answered ≡ count_by is_answered records
   pub exhausted : totals.exhausted ≡ count_by is_exhausted records
+  pub grants : totals.grants ≡ length (grants_of records)
+  pub budget : totals.budget ≡ budget_of entry records
   pub fits : length records ≤ entry.capacity
   pub row_room : entry.capacity ≤ vec_capacity totals.rows
 

@@ -5,15 +5,19 @@ use Rattle.std.specs.List.{range_with_len}
 use Rattle.journal_records.specs.declared.records.Record.{Record}
 use Rattle.journal_records.specs.declared.records.Reservation.{Reservation}
 use Rattle.journal_records.specs.declared.records.Settlement.{Settlement}
-use Rattle.journal_records.specs.declared.records.Record.TheVariants.{Reserve, Settle}
+use Rattle.journal_records.specs.declared.records.BudgetGrant.{BudgetGrant}
+use Rattle.journal_records.specs.declared.records.Record.TheVariants.{Reserve, Settle, Grant as Granted}
 use Rattle.budget_core.specs.declared.entry.Ask.{Ask}
 use Rattle.budget_core.specs.declared.entry.Grant.{Grant}
 use Rattle.budget_core.specs.Bare.{without_answers}
 use Rattle.budget_core.specs.Cost.{comes_back, cost_of, budget_of}
-use Rattle.budget_core.specs.Counts.{reservations_of, settles, reservation_number, taken_of, returned_of, open_from}
-use Rattle.budget_core.specs.Entries.{Entry, IsEntry}
+use Rattle.budget_core.specs.Counts.{reservations_of, grants_of, settles, reservation_number, taken_of, returned_of, open_from}
+use Rattle.budget_core.specs.Entries.{Entry, IsEntry, budget_limit}
 use Rattle.budget_core.specs.declared.events.Event.{Event}
 use Rattle.budget_core.specs.Events.{is_ask_of, ran}
+use Rattle.budget_core.specs.declared.answers.Left.{Left}
+use Rattle.budget_core.specs.Answers.{left_by}
+use Rattle.budget_core.specs.Granting.{grant_verdict, with_grant}
 use Rattle.budget_core.specs.Safe.{IsSafe}
 use Rattle.budget_core.specs.Legal.{IsSettlementAfter, IsHistory, IsLegal}
 use Rattle.budget_core.specs.Ledger.{money_verdict, records_after, IsAskOf}
@@ -61,6 +65,26 @@ OnlyExhaustedGiveBack = (entry : Entry) (records : List Record) (settlement : Se
 -- A settlement never raises the cost.
 abbrev pub SettlementsNeverRaise : Type 0
 SettlementsNeverRaise = (entry : Entry) (records : List Record) (settlement : Settlement) → cost_of entry (records ++ Settle settlement ∷ []) ≤ cost_of entry records
+
+-- A grant costs nothing, and raises the budget by its amount.
+abbrev pub GrantsRaise : Type 0
+GrantsRaise = (entry : Entry) (records : List Record) (grant : BudgetGrant)
+    → (cost_of entry (records ++ Granted grant ∷ []) ≡ cost_of entry records)
+    × (budget_of entry (records ++ Granted grant ∷ []) ≡ budget_of entry records + grant.amount)
+
+-- The grants of a history are numbered 0, 1, 2, .. in order.
+abbrev pub GrantsInOrder : Type 0
+GrantsInOrder = (entry : Entry) (records : List Record) → IsHistory entry records
+    → map (λ (grant : BudgetGrant). grant.number) (grants_of records) ≡ range_with_len 0 (length (grants_of records))
+
+-- The budget of a history is within the limit of all budgets.
+abbrev pub BudgetsAreLimited : Type 0
+BudgetsAreLimited = (entry : Entry) (records : List Record) → IsEntry entry → IsHistory entry records → budget_of entry records ≤ budget_limit
+
+-- What is told of a grant is what its records leave.
+abbrev pub GrantsTellWhatIsLeft : Type 0
+GrantsTellWhatIsLeft = (entry : Entry) (start : ℕ) (records : List Record) (amount : ℕ) (left : Left)
+    → grant_verdict entry start records amount ≡ Ok left → left ≡ left_by entry (with_grant records amount)
 
 -- There is always room to settle what is open.
 abbrev pub KeepsRoom : Type 0

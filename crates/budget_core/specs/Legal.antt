@@ -3,11 +3,12 @@ use Rattle.std.specs.Prelude.{◌≡◌, ℕ, ◌+◌, ◌≤◌, ◌<◌, List,
 use Rattle.journal_records.specs.declared.records.Reservation.{Reservation}
 use Rattle.journal_records.specs.declared.records.Record.{Record}
 use Rattle.journal_records.specs.declared.records.Settlement.{Settlement}
-use Rattle.journal_records.specs.declared.records.Record.TheVariants.{Reserve, Settle}
-use Rattle.journal_records.specs.Records.{reservation_in, settlement_in}
+use Rattle.journal_records.specs.declared.records.BudgetGrant.{BudgetGrant}
+use Rattle.journal_records.specs.declared.records.Record.TheVariants.{Reserve, Settle, Grant}
+use Rattle.journal_records.specs.Records.{reservation_in, settlement_in, grant_in}
 use Rattle.budget_core.specs.Cost.{cost_of, budget_of}
-use Rattle.budget_core.specs.Counts.{reservations_of, reservation_of, outcome_of, open_from}
-use Rattle.budget_core.specs.Entries.{Entry, HasView}
+use Rattle.budget_core.specs.Counts.{reservations_of, reservation_of, outcome_of, grants_of, open_from}
+use Rattle.budget_core.specs.Entries.{Entry, HasView, budget_limit}
 use Rattle.journal_records.specs.Encoding.{AreChargeTerms}
 
 -- A reservation is numbered by those before it, names an analyst and a view of the entry, says by how much
@@ -30,10 +31,17 @@ pub record IsSettlementAfter (entry : Entry) (records : List Record) (settlement
   pub unsettled : outcome_of records settlement.number ≡ None
   pub fall : cost_of entry (records ++ Settle settlement ∷ []) + settlement.returned ≡ cost_of entry records
 
+-- A grant is numbered by those before it, adds something, and the budget with it is within the limit of all budgets.
+pub record IsGrantAfter (entry : Entry) (records : List Record) (grant : BudgetGrant) : Type 0 where
+  pub numbered : grant.number ≡ length (grants_of records)
+  pub some : 1 ≤ grant.amount
+  pub within : budget_of entry (records ++ Grant grant ∷ []) ≤ budget_limit
+
 -- the record may follow these records
 abbrev pub MayFollow : Entry → List Record → Record → Type 0
 MayFollow entry records next =
-    MatchOption (reservation_in next) (IfSome (settlement_in next) (IsSettlementAfter entry records))
+    MatchOption (reservation_in next)
+    (MatchOption (settlement_in next) (IfSome (grant_in next) (IsGrantAfter entry records)) (IsSettlementAfter entry records))
     (IsReservationAfter entry records)
 
 -- each record may follow those before it

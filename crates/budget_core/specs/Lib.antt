@@ -3,6 +3,7 @@ pub mod Entries
 pub mod Counts
 pub mod Legal
 pub mod Ledger
+pub mod Granting
 pub mod Answers
 pub mod Sound
 pub mod History

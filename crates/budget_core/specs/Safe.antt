@@ -3,14 +3,15 @@ use Rattle.std.specs.Prelude.{◌≡◌, ℕ, ◌+◌, ◌≤◌, length, map, c
 use Rattle.std.specs.List.{range_with_len}
 use Rattle.budget_core.specs.Cost.{cost_of, budget_of}
 use Rattle.budget_core.specs.Counts.{reservations_of, outcome_of, settles, reservation_number, open_from}
-use Rattle.budget_core.specs.Entries.{Entry}
+use Rattle.budget_core.specs.Entries.{Entry, budget_limit}
 use Rattle.budget_core.specs.Events.{World, is_answer}
 
--- The cost is within the budget, reservations are numbered 0, 1, 2, .. in order, each number is settled at most once,
+-- The cost is within the budget, and the budget within its limit; reservations are numbered 0, 1, 2, .. in order, each number is settled at most once,
 -- each sent number is settled with an answer, and the records and a settlement for each open reservation of this run
 -- fit into the capacity.
 pub record IsSafe (entry : Entry) (world : World) : Type 0 where
   pub within : cost_of entry world.records ≤ budget_of entry world.records
+  pub limited : budget_of entry world.records ≤ budget_limit
   pub numbered : map reservation_number (reservations_of world.records) ≡ range_with_len 0 (length (reservations_of world.records))
   pub once : (number : ℕ) → count_by (settles number) world.records ≤ 1
   pub answered : (number : ℕ) → Contains world.sent number → IsTrue (is_answer (outcome_of world.records number))

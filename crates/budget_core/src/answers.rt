@@ -36,6 +36,22 @@ pub struct Counts {
     pub lost: u32,
 }
 
+/// Why no grant was made.
+#[derive(Clone, Copy, Debug, Drop, PartialEq, Eq)]
+pub enum GrantRefusal {
+    /// The budget with this amount would exceed the limit of all budgets.
+    TooLarge {
+        budget: u64,
+        amount: u64,
+    },
+    /// The records, a settlement for each open reservation and the new record would exceed the capacity.
+    Full {
+        used: u32,
+        unsettled: u32,
+        capacity: u32,
+    },
+}
+
 /// Why found records make no ledger.
 #[derive(Clone, Copy, Debug, Drop, PartialEq, Eq)]
 pub enum FoundFault {

@@ -77,6 +77,9 @@ pub enum ReserveFault {
     },
 }
 
+/// The greatest budget, and the greatest amount that may be granted at once, in millionths of epsilon.
+pub const BUDGET_LIMIT: u64 = 1_000_000_000_000_000_000;
+
 // Thirty-two bytes are a digest. The look at them tells the proof that each is a byte.
 fn are_bytes(digest: [u8; 32])
     ensures { IsByteList 32 digest }

@@ -1,13 +1,13 @@
 //! The machine of reservations, settlements and stops, without a disk.
 
 ghost use Rattle.std.specs.Prelude.{◌≡◌, IfOk};
-ghost use Rattle.budget_core.specs.declared.events.Event.TheVariants.{Reserve, Settle, Send};
+ghost use Rattle.budget_core.specs.declared.events.Event.TheVariants.{Reserve, Settle, Grant, Send};
 ghost use Rattle.budget_core.specs.Entries.{IsEntry};
 ghost use Rattle.budget_core.specs.Events.{stepped, ran};
 ghost use Rattle.budget_core.specs.Machine.{world_of};
 ghost use Rattle.budget_core.specs.Safe.{IsSafe};
 
-use crate::entry::{Ask, Entry};
+use crate::entry::{Ask, BUDGET_LIMIT, Entry};
 use crate::ledger::Ledger;
 use journal_records::records::{Outcome, Record};
 use std::alloc::{AllocError, Global};
@@ -20,6 +20,8 @@ pub enum Event {
     Reserve(Ask),
     /// The reservation of that number is settled.
     Settle(u32, Outcome),
+    /// The owner grants this amount, in millionths of epsilon.
+    Grant(u64),
     /// The answer of that number is sent.
     Send(u32),
     /// The machine stops.
@@ -80,6 +82,20 @@ impl Machine {
         }
     }
 
+    // Grants an amount that is neither too large nor finds the journal full.
+    fn grant(&mut self, amount: u64)
+        ensures stepped { world_of self.new ≡ stepped self.old.ledger.entry (world_of self.old) (Grant amount) }
+        ensures entry { self.new.ledger.entry ≡ self.old.ledger.entry }
+    {
+        if !self.running || amount == 0 || amount > BUDGET_LIMIT {
+            return;
+        }
+        if self.ledger.grant_verdict(amount).is_ok() {
+            let grant = self.ledger.grant_of(amount);
+            self.ledger.grant(&grant);
+        }
+    }
+
     // Sends an answer, once.
     fn send(&mut self, number: u32) -> Result<(), AllocError>
         ensures stepped { IfOk result (λ _. world_of self.new ≡ stepped self.old.ledger.entry (world_of self.old) (Send number)) }
@@ -99,6 +115,7 @@ impl Machine {
         match event {
             Event::Reserve(ask) => self.reserve(ask),
             Event::Settle(number, outcome) => self.settle(*number, *outcome),
+            Event::Grant(amount) => self.grant(*amount),
             Event::Send(number) => self.send(*number)?,
             Event::Stop => self.running = false,
             Event::Open => {

@@ -6,8 +6,8 @@ ghost use Rattle.partition_charge.specs.Cost.{cost_of_charges};
 ghost use Rattle.journal_records.specs.Encoding.{IsValid};
 ghost use Rattle.budget_core.specs.Answers.{counts_of, IsFoundFault};
 ghost use Rattle.budget_core.specs.Cost.{charges_in, cost_of, budget_of};
-ghost use Rattle.budget_core.specs.Counts.{reservations_of, asker_of, outcome_of};
-ghost use Rattle.budget_core.specs.Entries.{IsEntry, HasView};
+ghost use Rattle.budget_core.specs.Counts.{reservations_of, asker_of, outcome_of, grants_of};
+ghost use Rattle.budget_core.specs.Entries.{IsEntry, HasView, budget_limit};
 ghost use Rattle.budget_core.specs.Ledger.{returned_by};
 ghost use Rattle.budget_core.specs.Legal.{MayFollow, HasTerms, IsOpen, IsHistory};
 
@@ -62,6 +62,7 @@ impl History {
         ensures found { IfOk result (λ history. history ≡ record { entry = entry; records = records.items }) }
         ensures history { IfOk result (λ _. IsHistory entry records.items) }
         ensures within { IfOk result (λ _. cost_of entry records.items ≤ budget_of entry records.items) }
+        ensures limited { IfOk result (λ _. budget_of entry records.items ≤ budget_limit) }
         ensures refused { IfErr result (IsFoundFault entry records.items) }
         ensures valid { IsEntry entry }
     {
@@ -107,6 +108,21 @@ impl History {
         ensures { result ≡ length (reservations_of self.now.records) }
     {
         self.totals.rows.len() as u32
+    }
+
+    /// How many grants there are.
+    pub fn grants(&self) -> u32
+        ensures { result ≡ length (grants_of self.now.records) }
+    {
+        self.totals.grants
+    }
+
+    /// The budget, with all that was granted.
+    pub fn budget(&self) -> u64
+        ensures budget { result ≡ budget_of self.now.entry self.now.records }
+        ensures limited { result ≤ budget_limit }
+    {
+        self.totals.budget
     }
 
     /// What the records cost.

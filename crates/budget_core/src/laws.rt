@@ -1,6 +1,7 @@
 //! The laws of legal records. Each function does nothing: its contract is the law.
 
-ghost use Rattle.budget_core.specs.Laws.{StaysWithinBudget, StaysHistory, NumbersInOrder, NumbersNeverShared, NumbersGrow, SettlesOnce, AddsUp, OnlyExhaustedGiveBack, SettlementsNeverRaise, KeepsRoom, IgnoresAnswers, AsksAreTested, EventsAreSafe};
+ghost use Rattle.budget_core.specs.Laws.{StaysWithinBudget, StaysHistory, NumbersInOrder, NumbersNeverShared, NumbersGrow, SettlesOnce, AddsUp, OnlyExhaustedGiveBack, SettlementsNeverRaise};
+ghost use Rattle.budget_core.specs.Laws.{GrantsRaise, GrantsInOrder, BudgetsAreLimited, GrantsTellWhatIsLeft, KeepsRoom, IgnoresAnswers, AsksAreTested, EventsAreSafe};
 
 /// Legal records cost at most the budget, where those found at the start do.
 pub fn stays_within_budget()
@@ -45,6 +46,26 @@ pub fn only_exhausted_give_back()
 /// A settlement never raises the cost.
 pub fn settlements_never_raise()
     ensures { SettlementsNeverRaise }
+{}
+
+/// A grant costs nothing, and raises the budget by its amount.
+pub fn grants_raise()
+    ensures { GrantsRaise }
+{}
+
+/// Grants are numbered 0, 1, 2, .. in order.
+pub fn grants_in_order()
+    ensures { GrantsInOrder }
+{}
+
+/// The budget is within the limit of all budgets.
+pub fn budgets_are_limited()
+    ensures { BudgetsAreLimited }
+{}
+
+/// What is told of a grant is what its records leave.
+pub fn grants_tell_what_is_left()
+    ensures { GrantsTellWhatIsLeft }
 {}
 
 /// The records and a settlement for each open reservation fit into the capacity.

@@ -1,22 +1,23 @@
 //! One owner's records in memory: what may be reserved and settled, and what is told of it.
 
-ghost use Rattle.std.specs.Prelude.{◌≡◌, ℕ, ◌<◌, ◌≤◌, ◌∷◌, ◌++◌, [], ◌↔◌, length, IsTrue, IfOk, IfErr, Ok};
+ghost use Rattle.std.specs.Prelude.{◌≡◌, ℕ, ◌<◌, ◌≤◌, ◌∷◌, ◌++◌, [], ◌↔◌, length, IsTrue, IsOk, IfOk, IfErr, Ok};
 ghost use Rattle.std.specs.List.{All};
-ghost use Rattle.journal_records.specs.declared.records.Record.TheVariants.{Reserve, Settle};
-ghost use Rattle.journal_records.specs.Encoding.{IsReservation, IsSettlement, IsValid};
+ghost use Rattle.journal_records.specs.declared.records.Record.TheVariants.{Reserve, Settle, Grant as Granted};
+ghost use Rattle.journal_records.specs.Encoding.{IsReservation, IsSettlement, IsGrant, IsValid};
 ghost use Rattle.budget_core.specs.Answers.{standing, recalled, left_of, counts_of, IsFoundFault};
 ghost use Rattle.budget_core.specs.Cost.{cost_of};
 ghost use Rattle.budget_core.specs.Counts.{outcome_of};
-ghost use Rattle.budget_core.specs.Entries.{IsEntry};
+ghost use Rattle.budget_core.specs.Entries.{IsEntry, budget_limit};
 ghost use Rattle.budget_core.specs.Events.{is_answer};
+ghost use Rattle.budget_core.specs.Granting.{grant_behind, grant_verdict, IsAmount, MayGrant};
 ghost use Rattle.budget_core.specs.Ledger.{start_of, money_verdict, next_number, reservation_numbered, settlement_of, IsAskOf, MayReserve, MaySettle, IsUnsettled};
 ghost use Rattle.budget_core.specs.Sound.{IsSound};
 
-use crate::answers::{Counts, FoundFault, Left, Recall};
-use crate::entry::{Ask, Entry, Grant, ReserveFault};
+use crate::answers::{Counts, FoundFault, GrantRefusal, Left, Recall};
+use crate::entry::{Ask, BUDGET_LIMIT, Entry, Grant, ReserveFault};
 use crate::history::History;
 use crate::totals::charge_for;
-use journal_records::records::{Outcome, Record, Reservation, Settlement};
+use journal_records::records::{BudgetGrant, Outcome, Record, Reservation, Settlement};
 use std::alloc::{AllocError, Global};
 use std::marker::Model;
 
@@ -90,7 +91,7 @@ impl Ledger {
             .history
             .cost_after(ask.view, charge_for(ask.e, ask.p, ask.q));
         let seen = self.history.len();
-        let budget = self.history.entry().budget();
+        let budget = self.history.budget();
         let capacity = self.history.entry().capacity();
         if after > budget {
             return Err(ReserveFault::OverBudget {
@@ -175,6 +176,54 @@ impl Ledger {
         self.history.len()
     }
 
+    /// Whether an amount is granted: too large comes first, then full. Gives what is left with it.
+    pub fn grant_verdict(&self, amount: u64) -> Result<Left, GrantRefusal>
+        requires { amount ≤ budget_limit }
+        ensures verdict { result ≡ grant_verdict self.now.entry (start_of self.now) self.now.records amount }
+        ensures sound { IsSound self.now }
+    {
+        let (budget, used) = (self.history.budget(), self.history.len());
+        let capacity = self.history.entry().capacity();
+        if budget + amount > BUDGET_LIMIT {
+            return Err(GrantRefusal::TooLarge { budget, amount });
+        }
+        if used + self.unsettled + 1 > capacity {
+            return Err(GrantRefusal::Full {
+                used,
+                unsettled: self.unsettled,
+                capacity,
+            });
+        }
+        Ok(Left {
+            spent: self.history.spent(),
+            budget: budget + amount,
+            seen: used + 1,
+        })
+    }
+
+    /// The grant of an amount.
+    pub fn grant_of(&self, amount: u64) -> BudgetGrant
+        requires amount { IsAmount amount }
+        requires granted { IsOk (grant_verdict self.now.entry (start_of self.now) self.now.records amount) }
+        ensures grant { result ≡ grant_behind self.now.records amount }
+        ensures valid { IsGrant result }
+        ensures may { MayGrant self.now result }
+    {
+        BudgetGrant {
+            number: self.history.grants(),
+            amount,
+        }
+    }
+
+    /// Adds a grant that may be added.
+    pub fn grant(&mut self, grant: &BudgetGrant)
+        requires { MayGrant self.old grant.now }
+        ensures after { self.new ≡ record self.old { records = self.old.records ++ Granted grant.now ∷ [] } }
+        ensures sound { IsSound self.new }
+    {
+        self.history.add(&Record::Grant(*grant));
+    }
+
     /// What an analyst is told of a number.
     pub fn recall(&self, number: u32, analyst: u16) -> Recall
         ensures { result ≡ recalled self.now number analyst }
@@ -207,7 +256,7 @@ impl Ledger {
     {
         Left {
             spent: self.history.spent(),
-            budget: self.history.entry().budget(),
+            budget: self.history.budget(),
             seen: self.history.len(),
         }
     }

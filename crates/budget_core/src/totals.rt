@@ -2,9 +2,9 @@
 
 ghost use Rattle.std.specs.Prelude.{◌≡◌, ℕ, ◌<◌, ◌≤◌, ◌∷◌, ◌++◌, [], ◌↔◌, ◌^◌, List, length, slice_get, Some, true, false, IsTrue, IfOk, IfErr};
 ghost use Rattle.std.specs.List.{All};
-ghost use Rattle.journal_records.specs.Encoding.{AreChargeTerms, IsReservation, IsValid};
+ghost use Rattle.journal_records.specs.Encoding.{AreChargeTerms, IsReservation, IsGrant, IsValid};
 ghost use Rattle.journal_records.specs.declared.records.Record.{Record as Entered};
-ghost use Rattle.journal_records.specs.declared.records.Record.TheVariants.{Reserve, Settle};
+ghost use Rattle.journal_records.specs.declared.records.Record.TheVariants.{Reserve, Settle, Grant};
 ghost use Rattle.budget_core.specs.declared.totals.Row.{Row as Known};
 ghost use Rattle.budget_core.specs.Counts.{is_exhaustion};
 ghost use Rattle.budget_core.specs.Events.{is_answer};
@@ -15,10 +15,10 @@ ghost use Rattle.partition_charge.specs.Totals.{AreTotalsOf, HasCharged, IsRest}
 ghost use Rattle.partition_charge.specs.Views.{IsView};
 ghost use Rattle.budget_core.specs.Entries.{Entry as Terms};
 ghost use Rattle.budget_core.specs.Kept.{IsTotalOf, IsTotal, IsOpenIn, MayCount, HasCounted};
-ghost use Rattle.budget_core.specs.Legal.{MayFollow, HasTerms, IsReservationAfter, IsOpen, IsSettlementAfter, IsFirstAstray};
+ghost use Rattle.budget_core.specs.Legal.{MayFollow, HasTerms, IsReservationAfter, IsOpen, IsSettlementAfter, IsGrantAfter, IsFirstAstray};
 
-use crate::entry::Entry;
-use journal_records::records::{Outcome, Record, Reservation, Settlement};
+use crate::entry::{BUDGET_LIMIT, Entry};
+use journal_records::records::{BudgetGrant, Outcome, Record, Reservation, Settlement};
 use partition_charge::costs::Costs;
 use partition_charge::view::View;
 use std::alloc::{AllocError, Global};
@@ -40,6 +40,10 @@ pub(crate) struct Totals {
     pub(crate) rows: Vec<Row>,
     pub(crate) answered: u32,
     pub(crate) exhausted: u32,
+    /// How many grants there are.
+    pub(crate) grants: u32,
+    /// The entry's budget, and all that was granted.
+    pub(crate) budget: u64,
 }
 
 /// What a query of sensitivity p/q costs at epsilon e, in millionths: p * e / q, rounded up.
@@ -105,6 +109,8 @@ impl Totals {
             rows,
             answered: 0,
             exhausted: 0,
+            grants: 0,
+            budget: entry.budget(),
         })
     }
 
@@ -123,7 +129,7 @@ impl Totals {
         let charge = charge_for(reservation.e, reservation.p, reservation.q);
         let spent = self.costs.spent();
         let after = self.costs.after(reservation.view, charge);
-        after <= entry.budget() && after - spent == reservation.taken
+        after <= self.budget && after - spent == reservation.taken
     }
 
     // Whether this number is reserved and isn't settled.
@@ -159,6 +165,18 @@ impl Totals {
         self.returned(entry, settlement.number, settlement.outcome) == settlement.returned
     }
 
+    // Whether this grant may follow.
+    fn may_grant(&self, grant: &BudgetGrant) -> bool
+        requires total { (entry : Terms) × IsTotal entry self.now }
+        requires valid { IsGrant grant.now }
+        ensures { (entry : Terms) (records : List Entered) → IsTotalOf entry records self.now → (IsTrue result ↔ IsGrantAfter entry records grant.now) }
+    {
+        if grant.number != self.grants || grant.amount == 0 {
+            return false;
+        }
+        grant.amount <= BUDGET_LIMIT - self.budget
+    }
+
     // Whether this record may follow.
     fn may_follow(&self, entry: &Entry, next: &Record) -> bool
         requires total { IsTotal entry.now self.now }
@@ -168,6 +186,7 @@ impl Totals {
         match next {
             Record::Reserve(reservation) => self.may_reserve(entry, reservation),
             Record::Settle(settlement) => self.may_settle(entry, settlement),
+            Record::Grant(grant) => self.may_grant(grant),
         }
     }
 
@@ -199,6 +218,15 @@ impl Totals {
         self.exhausted += u32::from(is_exhaustion(settlement.outcome));
     }
 
+    // Counts a grant.
+    fn count_grant(&mut self, grant: &BudgetGrant)
+        requires { (entry : Terms) × MayCount entry self.old (Grant grant.now) }
+        ensures { (entry : Terms) → HasCounted entry self.old (Grant grant.now) self.new }
+    {
+        self.grants += 1;
+        self.budget += grant.amount;
+    }
+
     /// Counts a record that may follow.
     pub fn count(&mut self, entry: &Entry, next: &Record)
         requires follows { MayCount entry.now self.old next.now }
@@ -208,6 +236,7 @@ impl Totals {
         match next {
             Record::Reserve(reservation) => self.count_reservation(entry, reservation),
             Record::Settle(settlement) => self.count_settlement(entry, settlement),
+            Record::Grant(grant) => self.count_grant(grant),
         }
     }
 

@@ -5,9 +5,9 @@ use Rattle.std.proofs.lemmas.Nat.Gcd.{IsGcd-from_zero, IsGcd-from_mod, same_from
 use Rattle.partition_charge.specs.declared.view.View.TheVariants.{Whole, Part}
 use Rattle.journal_records.specs.declared.records.Outcome.TheVariants.{Answered, Exhausted, Lost}
 use Rattle.journal_records.specs.declared.records.Reservation.{Reservation}
-use Rattle.journal_records.specs.declared.records.Record.TheVariants.{Reserve}
-use Rattle.journal_records.specs.Records.{reservation_in, settlement_in, outcome_in, settling_back, settling, is_some_and, number_or_zero}
-use Rattle.journal_records.specs.Encoding.{encoded, encoded_header, AreChargeTerms, IsReservation, IsSettlement, IsHeader}
+use Rattle.journal_records.specs.declared.records.Record.TheVariants.{Reserve, Grant}
+use Rattle.journal_records.specs.Records.{reservation_in, settlement_in, grant_in, outcome_in, settling_back, settling, is_some_and, number_or_zero}
+use Rattle.journal_records.specs.Encoding.{encoded, encoded_header, AreChargeTerms, IsReservation, IsSettlement, IsGrant, IsHeader}
 use Rattle.journal_records.proofs.Shapes.{digest-replicate}
 
 -- ---- reservations
@@ -75,6 +75,17 @@ returned_bytes = refl
 lost_bytes : encoded (settling 4294967295 Lost) ≡ (165 ∷ 2 ∷ 3 ∷ 0 ∷ []) ++ replicate 4 255 ++ replicate 56 0
 lost_bytes = refl
 
+-- ---- grants
+
+granted_bytes : encoded (Grant (record { number = 16909060; amount = 72623859790382856 })) ≡
+    (165 ∷ 3 ∷ 0 ∷ 0 ∷ 1 ∷ 2 ∷ 3 ∷ 4 ∷ []) ++ (1 ∷ 2 ∷ 3 ∷ 4 ∷ 5 ∷ 6 ∷ 7 ∷ 8 ∷ []) ++ replicate 48 0
+granted_bytes = refl
+
+-- 10^18 millionths
+greatest_grant : encoded (Grant (record { number = 0; amount = 1000000000000000000 })) ≡
+    (165 ∷ 3 ∷ []) ++ replicate 6 0 ++ (13 ∷ 224 ∷ 182 ∷ 179 ∷ 167 ∷ 100 ∷ 0 ∷ 0 ∷ []) ++ replicate 48 0
+greatest_grant = refl
+
 -- ---- what a record is of
 
 reserves_the_first : reservation_in (Reserve first) ≡ Some first
@@ -88,6 +99,21 @@ settles_five = refl
 
 reserves_nothing : reservation_in (settling 5 Lost) ≡ None
 reserves_nothing = refl
+
+grants_seven : grant_in (Grant (record { number = 0; amount = 7 })) ≡ Some (record { number = 0; amount = 7 })
+grants_seven = refl
+
+grants_by_no_reservation : grant_in (Reserve first) ≡ None
+grants_by_no_reservation = refl
+
+grants_by_no_settlement : grant_in (settling 5 Lost) ≡ None
+grants_by_no_settlement = refl
+
+reserves_by_no_grant : reservation_in (Grant (record { number = 0; amount = 7 })) ≡ None
+reserves_by_no_grant = refl
+
+settles_by_no_grant : settlement_in (Grant (record { number = 0; amount = 7 })) ≡ None
+settles_by_no_grant = refl
 
 settled_so : outcome_in (settling 5 (Answered (negsuc 0))) ≡ Some (Answered (negsuc 0))
 settled_so = refl
@@ -198,6 +224,15 @@ too_great_a_settled_number valid = let h = valid.numbered in omega (arith, h)
 
 too_great_an_answer : IsSettlement (record { number = 0; outcome = Answered (pos 9223372036854775808); returned = 0 }) → ⊥
 too_great_an_answer valid = let h = valid.settled in omega (arith, h)
+
+widest_grant : IsGrant (record { number = 4294967295; amount = 18446744073709551615 })
+widest_grant = record { numbered = omega arith; bounded = omega arith }
+
+too_great_a_grant_number : IsGrant (record { number = 4294967296; amount = 1 }) → ⊥
+too_great_a_grant_number valid = let h = valid.numbered in omega (arith, h)
+
+too_wide_an_amount : IsGrant (record { number = 0; amount = 18446744073709551616 }) → ⊥
+too_wide_an_amount valid = let h = valid.bounded in omega (arith, h)
 
 full_header : IsHeader (record { owner = 4294967295; budget = 18446744073709551615; capacity = 4294967295; digest = replicate 32 255; version = 3 })
 full_header = record { owner = omega arith; budget = omega arith; capacity = omega arith; digest = digest-replicate 255 (omega arith); version = (omega arith, omega arith) }

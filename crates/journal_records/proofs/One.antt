@@ -10,7 +10,7 @@ use Rattle.partition_charge.specs.Views.{IsView}
 use Rattle.journal_records.specs.declared.records.Outcome.{Outcome}
 use Rattle.journal_records.specs.declared.records.Outcome.TheVariants.{Answered, Exhausted, Lost}
 use Rattle.journal_records.specs.declared.records.Record.{Record}
-use Rattle.journal_records.specs.declared.records.Record.TheVariants.{Reserve, Settle}
+use Rattle.journal_records.specs.declared.records.Record.TheVariants.{Reserve, Settle, Grant}
 
 view-one : (v w : View) → IsView v → IsView w → partition_byte v ≡ partition_byte w → part_byte v ≡ part_byte w → v ≡ w
 view-one Whole Whole a b p q = refl
@@ -44,8 +44,8 @@ outcome-one Lost Exhausted a b p q = absurd (omega arith)
 four : (m n : ℕ) → m < 2 ^ 32 → n < 2 ^ 32 → to_be_bytes w32 m ≡ to_be_bytes w32 n → m ≡ n
 four m n fits fits' same = sym (from_be_bytes-to_be_bytes_4 m fits) ∙ ap (from_be_bytes w32) same ∙ from_be_bytes-to_be_bytes_4 n fits'
 
-kinds : (m n : ℕ) → m ≡ n → m ≡ 1 → n ≡ 2 → ⊥
-kinds m n same one two = omega arith
+kinds : (k l m n : ℕ) → m ≡ n → m ≡ k → n ≡ l → k < l → ⊥
+kinds k l m n same one other below = omega arith
 
 pub record-one : (r s : Record) → IsValid r → IsValid s → encoded r ≡ encoded s → r ≡ s
 record-one (Reserve r) (Reserve s) x y is =
@@ -69,5 +69,14 @@ record-one (Settle s) (Settle t) x y is =
     let i4 : s.returned ≡ t.returned = sym (from_be_bytes-to_be_bytes_8 s.returned x.bounded) ∙ ap (λ (b : List ℕ). from_be_bytes w64 (take 8 (drop 16 b))) is
     ∙ from_be_bytes-to_be_bytes_8 t.returned y.bounded in
     λ i. Settle (record { number = i1 i; outcome = i3 i; returned = i4 i })
-record-one (Reserve r) (Settle s) x y is = absurd (kinds _ _ (ap (λ (b : List ℕ). slice_index b 1) is) refl refl)
-record-one (Settle s) (Reserve r) x y is = absurd (kinds _ _ (ap (λ (b : List ℕ). slice_index b 1) (sym is)) refl refl)
+record-one (Grant g) (Grant h) x y is =
+    let i1 = four g.number h.number x.numbered y.numbered (ap (λ (b : List ℕ). take 4 (drop 4 b)) is) in
+    let i2 : g.amount ≡ h.amount = sym (from_be_bytes-to_be_bytes_8 g.amount x.bounded) ∙ ap (λ (b : List ℕ). from_be_bytes w64 (take 8 (drop 8 b))) is
+    ∙ from_be_bytes-to_be_bytes_8 h.amount y.bounded in
+    λ i. Grant (record { number = i1 i; amount = i2 i })
+record-one (Reserve r) (Settle s) x y is = absurd (kinds 1 2 _ _ (ap (λ (b : List ℕ). slice_index b 1) is) refl refl (omega arith))
+record-one (Settle s) (Reserve r) x y is = absurd (kinds 1 2 _ _ (ap (λ (b : List ℕ). slice_index b 1) (sym is)) refl refl (omega arith))
+record-one (Reserve r) (Grant g) x y is = absurd (kinds 1 3 _ _ (ap (λ (b : List ℕ). slice_index b 1) is) refl refl (omega arith))
+record-one (Grant g) (Reserve r) x y is = absurd (kinds 1 3 _ _ (ap (λ (b : List ℕ). slice_index b 1) (sym is)) refl refl (omega arith))
+record-one (Settle s) (Grant g) x y is = absurd (kinds 2 3 _ _ (ap (λ (b : List ℕ). slice_index b 1) is) refl refl (omega arith))
+record-one (Grant g) (Settle s) x y is = absurd (kinds 2 3 _ _ (ap (λ (b : List ℕ). slice_index b 1) (sym is)) refl refl (omega arith))

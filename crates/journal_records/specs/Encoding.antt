@@ -8,8 +8,9 @@ use Rattle.journal_records.specs.declared.records.Outcome.{Outcome}
 use Rattle.journal_records.specs.declared.records.Outcome.TheVariants.{Answered, Exhausted, Lost}
 use Rattle.journal_records.specs.declared.records.Reservation.{Reservation}
 use Rattle.journal_records.specs.declared.records.Settlement.{Settlement}
+use Rattle.journal_records.specs.declared.records.BudgetGrant.{BudgetGrant}
 use Rattle.journal_records.specs.declared.records.Record.{Record}
-use Rattle.journal_records.specs.declared.records.Record.TheVariants.{Reserve, Settle}
+use Rattle.journal_records.specs.declared.records.Record.TheVariants.{Reserve, Settle, Grant}
 use Rattle.journal_records.specs.declared.records.Header.{Header}
 
 -- the byte that opens a header or a slot
@@ -47,6 +48,7 @@ encoded (Reserve r) =
 encoded (Settle s) =
     (gate ∷ 2 ∷ outcome_byte s.outcome ∷ 0 ∷ []) ++ to_be_bytes w32 s.number ++ to_be_bytes w64 (answer_number s.outcome)
     ++ to_be_bytes w64 s.returned ++ replicate 40 0
+encoded (Grant g) = (gate ∷ 3 ∷ 0 ∷ 0 ∷ []) ++ to_be_bytes w32 g.number ++ to_be_bytes w64 g.amount ++ replicate 48 0
 
 abbrev pub IsOutcome : Outcome → Type 0
 IsOutcome (Answered z) = FitsSigned w64 z
@@ -87,9 +89,15 @@ pub record IsSettlement (s : Settlement) : Type 0 where
   pub bounded : s.returned < 2 ^ 64
   pub gives_back : MayReturn s.outcome s.returned
 
+-- what a grant's fields may be
+pub record IsGrant (g : BudgetGrant) : Type 0 where
+  pub numbered : g.number < 2 ^ 32
+  pub bounded : g.amount < 2 ^ 64
+
 abbrev pub IsValid : Record → Type 0
 IsValid (Reserve r) = IsReservation r
 IsValid (Settle s) = IsSettlement s
+IsValid (Grant g) = IsGrant g
 
 -- ---- headers
 

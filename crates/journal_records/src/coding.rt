@@ -1,11 +1,11 @@
 //! Encoding and decoding.
 
 ghost use Rattle.std.specs.Prelude.{◌≡◌};
-ghost use Rattle.journal_records.specs.declared.records.Record.TheVariants.{Reserve, Settle};
+ghost use Rattle.journal_records.specs.declared.records.Record.TheVariants.{Reserve, Settle, Grant};
 ghost use Rattle.journal_records.specs.Encoding.{encoded, encoded_header, partition_byte, part_byte, outcome_byte, answer_number};
 
 use crate::fields::put;
-use crate::records::{Header, Outcome, Record, Reservation, Settlement};
+use crate::records::{BudgetGrant, Header, Outcome, Record, Reservation, Settlement};
 use partition_charge::view::View;
 
 /// The length of a record.
@@ -66,6 +66,16 @@ fn encode_settlement(settlement: &Settlement, out: &mut [u8; 64])
     put(out, 24, &[0; 40]);
 }
 
+// The encoding of a grant.
+fn encode_grant(grant: &BudgetGrant, out: &mut [u8; 64])
+    ensures { out.new ≡ encoded (Grant grant.now) }
+{
+    put(out, 0, &[GATE, 3, 0, 0]);
+    put(out, 4, &grant.number.to_be_bytes());
+    put(out, 8, &grant.amount.to_be_bytes());
+    put(out, 16, &[0; 48]);
+}
+
 /// Writes the encoding of a record.
 pub fn encode(record_in: &Record, out: &mut [u8; 64])
     ensures { out.new ≡ encoded record_in.now }
@@ -73,6 +83,7 @@ pub fn encode(record_in: &Record, out: &mut [u8; 64])
     match record_in {
         Record::Reserve(reservation) => encode_reservation(reservation, out),
         Record::Settle(settlement) => encode_settlement(settlement, out),
+        Record::Grant(grant) => encode_grant(grant, out),
     }
 }
 

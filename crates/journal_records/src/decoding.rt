@@ -7,13 +7,15 @@ ghost use Rattle.journal_records.specs.declared.records.Outcome.{Outcome as Outc
 ghost use Rattle.journal_records.specs.declared.records.Record.{Record as Records};
 ghost use Rattle.journal_records.specs.declared.records.Reservation.{Reservation as Reservations};
 ghost use Rattle.journal_records.specs.declared.records.Settlement.{Settlement as Settlements};
+ghost use Rattle.journal_records.specs.declared.records.BudgetGrant.{BudgetGrant as BudgetGrants};
 ghost use Rattle.journal_records.specs.declared.records.Header.{Header as Headers};
-ghost use Rattle.journal_records.specs.declared.records.Record.TheVariants.{Reserve, Settle};
-ghost use Rattle.journal_records.specs.Encoding.{encoded, encoded_header, IsVersion, IsHeader, partition_byte, part_byte, outcome_byte, answer_number, IsOutcome, MayReturn, AreChargeTerms, IsReservation, IsSettlement, IsValid};
+ghost use Rattle.journal_records.specs.declared.records.Record.TheVariants.{Reserve, Settle, Grant};
+ghost use Rattle.journal_records.specs.Encoding.{encoded, encoded_header, IsVersion, IsHeader, partition_byte, part_byte, outcome_byte, answer_number};
+ghost use Rattle.journal_records.specs.Encoding.{IsOutcome, MayReturn, AreChargeTerms, IsReservation, IsSettlement, IsGrant, IsValid};
 
 use crate::coding::{encode, encode_header};
 use crate::fields::{common_divisor, digest_at, u16_at, u32_at, u64_at};
-use crate::records::{Header, Outcome, Record, Reservation, Settlement};
+use crate::records::{BudgetGrant, Header, Outcome, Record, Reservation, Settlement};
 use partition_charge::view::{PARTITIONS, PARTS, View};
 
 // The view of these two bytes.
@@ -109,6 +111,17 @@ fn settlement_of(bytes: &[u8; 64]) -> Option<Record>
     }))
 }
 
+// The grant that these bytes would be.
+fn grant_of(bytes: &[u8; 64]) -> Record
+    ensures valid { IsValid result }
+    ensures only { (g : BudgetGrants) → IsGrant g → bytes.now ≡ encoded (Grant g) → result ≡ Grant g }
+{
+    Record::Grant(BudgetGrant {
+        number: u32_at(bytes, 4),
+        amount: u64_at(bytes, 8),
+    })
+}
+
 // What the bytes would be.
 fn record_of(bytes: &[u8; 64]) -> Option<Record>
     ensures valid { IfSome result IsValid }
@@ -117,6 +130,7 @@ fn record_of(bytes: &[u8; 64]) -> Option<Record>
     match bytes[1] {
         1 => reservation_of(bytes),
         2 => settlement_of(bytes),
+        3 => Some(grant_of(bytes)),
         _ => None,
     }
 }

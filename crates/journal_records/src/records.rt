@@ -41,11 +41,21 @@ pub struct Settlement {
     pub returned: u64,
 }
 
+/// What an owner adds to the budget.
+#[derive(Clone, Copy, Debug, Drop, PartialEq, Eq)]
+pub struct BudgetGrant {
+    /// How many grants came before.
+    pub number: u32,
+    /// In millionths of epsilon.
+    pub amount: u64,
+}
+
 /// One record.
 #[derive(Clone, Copy, Debug, Drop, PartialEq, Eq)]
 pub enum Record {
     Reserve(Reservation),
     Settle(Settlement),
+    Grant(BudgetGrant),
 }
 
 /// The version of new journals.

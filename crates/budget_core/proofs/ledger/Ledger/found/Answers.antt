@@ -8,7 +8,7 @@ use Rattle.budget_core.proofs.ledger.Ledger.found.Goals as goal
 pub invariant_of-result : goal.invariant_of-result
 invariant_of-result c =
     let known = c.in_ok-history.ensures in
-    let sound = sound-found c.args.entry c.args.records.items c.found.ensures.valid known.history known.within c.requires.room in
+    let sound = sound-found c.args.entry c.args.records.items c.found.ensures.valid known.history known.within known.limited c.requires.room in
     run-found c.in_ok-history.history c.len.result c.reservations.result
     (subst (λ (p : History). IsSound (record { entry = p.entry; found = p.records; records = p.records })) (sym known.found) sound) c.len.ensures c.reservations.ensures
 

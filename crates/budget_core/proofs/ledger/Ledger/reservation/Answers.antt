@@ -21,7 +21,7 @@ returns-clause-valid c =
       viewed = view-valid c.args.self.now.entry c.args.ask.now.view s.entry c.requires.asked.view;
       terms = c.requires.asked.terms;
       narrow = (omega arith, omega arith);
-      charged = omega (arith, g.within, ap (λ (x : Grant). x.taken) g.is, s.entry.budget);
+      charged = omega (arith, g.within, ap (λ (x : Grant). x.taken) g.is, s.limited);
       asked = omega (arith, c.requires.asked.analyst, s.entry.analysts);
       hashed = c.requires.asked.digest;
     }

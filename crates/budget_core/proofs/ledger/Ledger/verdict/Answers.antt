@@ -10,28 +10,25 @@ pub returns-then-after-budget-clause-verdict : goal.returns-then-after-budget-cl
 returns-then-after-budget-clause-verdict c =
     let h = c.self.inside.history in
     let after = with-ask h.entry h.records c.args.ask.now c.charge_for.result c.cost_after-after.result (sound-history (ledger_in c.self.inside) c.self.invariant.sound) c.charge_for.ensures.charge c.cost_after-after.ensures.cost in
-    let budget : c.budget-budget.result ≡ h.entry.budget = c.budget-budget.ensures ∙ ap (λ (e : Entry). e.budget) c.entry.ensures in
-    let v = verdict-over h.entry (start_of (ledger_in c.self.inside)) h.records c.args.ask.now c.spent-spent.result c.cost_after-after.result c.len-seen.result c.self.inside.unsettled
-    c.spent-spent.ensures after c.len-seen.ensures (run-open c.self.inside c.self.invariant) (omega (arith, c.if-after-budget.true, budget)) in
+    let v = verdict-over h.entry (start_of (ledger_in c.self.inside)) h.records c.args.ask.now c.spent-spent.result c.cost_after-after.result c.budget-budget.result c.len-seen.result c.self.inside.unsettled
+    c.spent-spent.ensures after c.budget-budget.ensures.budget c.len-seen.ensures (run-open c.self.inside c.self.invariant) c.if-after-budget.true in
     rw (← c.self.view_is) cc
 
 pub returns-then-seen-self-clause-verdict : goal.returns-then-seen-self-clause-verdict
 returns-then-seen-self-clause-verdict c =
     let h = c.self.inside.history in
     let after = with-ask h.entry h.records c.args.ask.now c.charge_for.result c.cost_after-after.result (sound-history (ledger_in c.self.inside) c.self.invariant.sound) c.charge_for.ensures.charge c.cost_after-after.ensures.cost in
-    let budget : c.budget-budget.result ≡ h.entry.budget = c.budget-budget.ensures ∙ ap (λ (e : Entry). e.budget) c.entry.ensures in
-    let capacity : c.capacity-capacity.result ≡ h.entry.capacity = c.capacity-capacity.ensures.capacity ∙ ap (λ (e : Entry). e.capacity) c.entry-2.ensures in
-    let v = verdict-full h.entry (start_of (ledger_in c.self.inside)) h.records c.args.ask.now c.spent-spent.result c.cost_after-after.result c.len-seen.result c.self.inside.unsettled
-    c.spent-spent.ensures after c.len-seen.ensures (run-open c.self.inside c.self.invariant) (omega (arith, c.if-after-budget.false, budget)) (omega (arith, c.if-seen-self.true, capacity)) in
+    let capacity : c.capacity-capacity.result ≡ h.entry.capacity = c.capacity-capacity.ensures.capacity ∙ ap (λ (e : Entry). e.capacity) c.entry.ensures in
+    let v = verdict-full h.entry (start_of (ledger_in c.self.inside)) h.records c.args.ask.now c.spent-spent.result c.cost_after-after.result c.budget-budget.result c.len-seen.result c.self.inside.unsettled
+    c.spent-spent.ensures after c.budget-budget.ensures.budget c.len-seen.ensures (run-open c.self.inside c.self.invariant) c.if-after-budget.false (omega (arith, c.if-seen-self.true, capacity)) in
     rw (← c.self.view_is) cc
 
 pub returns-clause-verdict : goal.returns-clause-verdict
 returns-clause-verdict c =
     let h = c.self.inside.history in
     let after = with-ask h.entry h.records c.args.ask.now c.charge_for.result c.cost_after-after.result (sound-history (ledger_in c.self.inside) c.self.invariant.sound) c.charge_for.ensures.charge c.cost_after-after.ensures.cost in
-    let budget : c.budget-budget.result ≡ h.entry.budget = c.budget-budget.ensures ∙ ap (λ (e : Entry). e.budget) c.entry.ensures in
-    let capacity : c.capacity-capacity.result ≡ h.entry.capacity = c.capacity-capacity.ensures.capacity ∙ ap (λ (e : Entry). e.capacity) c.entry-2.ensures in
-    let v = verdict-grant h.entry (start_of (ledger_in c.self.inside)) h.records c.args.ask.now c.spent-spent.result c.cost_after-after.result c.len-seen.result c.self.inside.unsettled
-    c.spent-spent.ensures after c.len-seen.ensures (run-open c.self.inside c.self.invariant) c.reservations-number.result c.reservations-number.ensures
-    (omega (arith, c.if-after-budget.false, budget)) (omega (arith, c.if-seen-self.false, capacity)) in
+    let capacity : c.capacity-capacity.result ≡ h.entry.capacity = c.capacity-capacity.ensures.capacity ∙ ap (λ (e : Entry). e.capacity) c.entry.ensures in
+    let v = verdict-grant h.entry (start_of (ledger_in c.self.inside)) h.records c.args.ask.now c.spent-spent.result c.cost_after-after.result c.budget-budget.result c.len-seen.result c.self.inside.unsettled
+    c.spent-spent.ensures after c.budget-budget.ensures.budget c.len-seen.ensures (run-open c.self.inside c.self.invariant) c.reservations-number.result c.reservations-number.ensures
+    c.if-after-budget.false (omega (arith, c.if-seen-self.false, capacity)) in
     rw (← c.self.view_is) cc

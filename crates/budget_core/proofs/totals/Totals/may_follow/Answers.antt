@@ -7,3 +7,8 @@ pub returns-in-Settle : goal.returns-in-Settle
 returns-in-Settle c records told =
     subst (λ (r : Record). (IsTrue c.may_settle.result → MayFollow c.args.entry.now records r) × (MayFollow c.args.entry.now records r → IsTrue c.may_settle.result))
     (sym c.in-Settle.is) (c.may_settle.ensures records told)
+
+pub returns-in-Grant : goal.returns-in-Grant
+returns-in-Grant c records told =
+    subst (λ (r : Record). (IsTrue c.may_grant.result → MayFollow c.args.entry.now records r) × (MayFollow c.args.entry.now records r → IsTrue c.may_grant.result))
+    (sym c.in-Grant.is) (c.may_grant.ensures c.args.entry.now records told)

@@ -21,18 +21,18 @@ overflow_sub-result c =
       kept-grows c.args.entry.now total.0 c.args.reservation.now.view c.charge_for-charge.result,
     )
 
-pub returns-then-after-budget : goal.returns-then-after-budget
-returns-then-after-budget c records told =
+pub returns-then-after-self : goal.returns-then-after-self
+returns-then-after-self c records told =
     let many : c.len.result ≡ length c.args.self.now.rows.items = search rules in
     let cost = c.after-after.ensures (charges_in c.args.entry.now records) told.costs in
     may-reserve c.args.entry.now records c.args.reservation.now c.charge_for-charge.result c.after-after.result c.spent-spent.result told.history
     (omega (arith, c.if-reservation-len.false, many, told.rows.count)) (omega (arith, c.if-reservation-analysts.false, c.analysts.ensures)) (c.has_view.ensures.0 c.if-not-has_view.false)
     c.charge_for-charge.ensures.charge cost (omega (arith, cost, kept-grows c.args.entry.now records c.args.reservation.now.view c.charge_for-charge.result))
-    (omega (arith, c.spent-spent.ensures (charges_in c.args.entry.now records) told.costs, cost_of-charges c.args.entry.now records)) (omega (arith, c.if-after-budget.true, c.budget.ensures))
+    (omega (arith, c.spent-spent.ensures (charges_in c.args.entry.now records) told.costs, cost_of-charges c.args.entry.now records)) (omega (arith, c.if-after-self.true, told.budget))
 
-pub returns-else-after-budget : goal.returns-else-after-budget
-returns-else-after-budget c records told = (
-  λ yes. absurd (omega (arith, leb-true c.after-after.result c.budget.result yes, c.if-after-budget.false)),
+pub returns-else-after-self : goal.returns-else-after-self
+returns-else-after-self c records told = (
+  λ yes. absurd (omega (arith, leb-true c.after-after.result c.args.self.now.budget yes, c.if-after-self.false)),
   λ may. absurd (may-not-reserve c.args.entry.now records c.args.reservation.now c.charge_for-charge.result c.after-after.result told.history
-      c.charge_for-charge.ensures.charge (c.after-after.ensures (charges_in c.args.entry.now records) told.costs) (omega (arith, c.if-after-budget.false, c.budget.ensures)) may),
+      c.charge_for-charge.ensures.charge (c.after-after.ensures (charges_in c.args.entry.now records) told.costs) (omega (arith, c.if-after-self.false, told.budget)) may),
 )

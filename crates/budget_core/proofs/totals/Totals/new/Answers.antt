@@ -1,7 +1,7 @@
-use Rattle.std.proofs.Common.{List, [], sym, subst, arith, refl}
+use Rattle.std.proofs.Common.{List, [], ◌∙◌, sym, subst, arith, refl}
 use Rattle.budget_core.specs.declared.totals.Row.{Row}
 use Rattle.budget_core.specs.Kept.{HasRows}
-use Rattle.budget_core.proofs.Costs.{cost_of-nil}
+use Rattle.budget_core.proofs.Costs.{cost_of-nil, budget_of-nil}
 use Rattle.budget_core.proofs.Histories.{history-nil}
 use Rattle.budget_core.proofs.totals.Totals.new.Goals as goal
 
@@ -14,10 +14,13 @@ returns c =
       valid = c.capacity.ensures.valid;
       history = history-nil c.args.entry.now;
       within = omega (arith, cost_of-nil c.args.entry.now);
+      limited = omega (arith, budget_of-nil c.args.entry.now, c.capacity.ensures.valid.budget);
       costs = c.new.ensures;
       rows = subst (λ (rows : List Row). HasRows rows []) (sym c.in_ok-rows.ensures.items) no-rows;
       answered = refl;
       exhausted = refl;
+      grants = refl;
+      budget = c.budget.ensures ∙ sym (budget_of-nil c.args.entry.now);
       fits = omega arith;
       row_room = omega (arith, c.capacity.ensures.capacity, c.in_ok-rows.ensures.capacity);
     }
