@@ -1,17 +1,20 @@
 -- A book is the pure machine of budgets.
-use Rattle.std.proofs.Common.{◌≡◌, ℕ, Bool, true, List, [], ◌∷◌, ◌++◌, Result, Ok, is_none, if◌then◌else◌, refl, sym, ◌∙◌, ap}
+use Rattle.std.proofs.Common.{◌≡◌, ℕ, Bool, true, List, [], ◌∷◌, ◌++◌, Result, Ok, Err, IsOk, is_ok, is_none, if◌then◌else◌, refl, sym, ◌∙◌, ap}
 use Rattle.std.proofs.lemmas.Bool.{and_from, le-leb}
 use Rattle.journal_records.specs.declared.records.Outcome.{Outcome}
 use Rattle.journal_records.specs.declared.records.Record.{Record}
 use Rattle.budget_core.specs.declared.entry.ReserveFault.{ReserveFault}
 use Rattle.budget_core.specs.declared.entry.Grant.{Grant}
-use Rattle.budget_core.specs.declared.events.Event.TheVariants.{Reserve as ToReserve, Settle as ToSettle}
-use Rattle.budget_core.specs.Events.{World, is_ask_of, is_unsettled, stepped}
+use Rattle.budget_core.specs.declared.events.Event.TheVariants.{Reserve as ToReserve, Settle as ToSettle, Grant as ToGrant}
+use Rattle.journal_records.specs.declared.records.Record.TheVariants.{Grant as Granted}
+use Rattle.budget_core.specs.Entries.{budget_limit}
+use Rattle.budget_core.specs.Granting.{IsAmount, grant_behind, grant_verdict}
+use Rattle.budget_core.specs.Events.{World, is_ask_of, is_unsettled, is_amount, stepped}
 use Rattle.budget_core.specs.Ledger.{Ledger, start_of, reservation_for, money_verdict, records_after, settlement_for, IsUnsettled}
 use Rattle.budget_core.proofs.Asks.{ask-test}
-use Rattle.budget_core.proofs.EventLemmas.{if-left, reserved-step}
+use Rattle.budget_core.proofs.EventLemmas.{if-left, reserved-step, granted-step, refused-step}
 use Rattle.budget_ledger.specs.Account.{Account}
-use Rattle.budget_ledger.specs.Machine.{world_by, ReservesAsTheMachine, RefusesAsTheMachine, SettlesAsTheMachine, OpensAsTheMachine}
+use Rattle.budget_ledger.specs.Machine.{world_by, ReservesAsTheMachine, RefusesAsTheMachine, SettlesAsTheMachine, GrantsAsTheMachine, RefusesGrantsAsTheMachine, OpensAsTheMachine}
 
 -- the world of a book with one record more
 with_record : (old : Account) (ledger : Ledger) (next : Record) (sent : List ℕ) → ledger ≡ record old.ledger { records = old.ledger.records ++ next ∷ [] }
@@ -41,6 +44,21 @@ settles old new number seen outcome sent unsettled (gained, counted) =
     if-left true (is_unsettled world.start world.records number) (record world { records = world.records ++ settlement_for old.ledger.entry world.records number outcome ∷ [] }) world refl
     (unsettled_test old.ledger number unsettled)
     ∙ with_record old new.ledger (settlement_for old.ledger.entry old.ledger.records number outcome) sent gained.ledger
+
+amount_test : (amount : ℕ) → IsAmount amount → is_amount amount ≡ true
+amount_test amount is = and_from _ _ (le-leb 1 amount is.least) (le-leb amount budget_limit is.most)
+
+pub grants : GrantsAsTheMachine
+grants old new amount left sent valid (verdict, gained) =
+    sym (granted-step old.ledger.entry (world_by old sent) amount refl (amount_test amount valid) (ap is_ok verdict))
+    ∙ with_record old new.ledger (Granted (grant_behind old.ledger.records amount)) sent gained.ledger
+
+pub refuses_grants : RefusesGrantsAsTheMachine
+refuses_grants old new amount refusal sent valid (verdict, same) =
+    sym (refused-step old.ledger.entry (world_by old sent) amount (λ ok. not-granted verdict ok)) ∙ ap (λ (a : Account). world_by a sent) (sym same)
+  where
+    not-granted : {T E : Type 0} → {answer : Result T E} {e : E} → answer ≡ Err e → IsOk answer → ⊥
+    not-granted is ok = cc
 
 pub opens : OpensAsTheMachine
 opens entry found start running sent book is = ap (λ (l : Ledger). record { records = l.records; start = start_of l; running = true; sent = sent }) (sym is)

@@ -2,6 +2,10 @@
 use Rattle.std.specs.Prelude.{◌≡◌, ℕ, [], ◌∷◌, ◌++◌, length, Result, Ok, Err, None, Some}
 use Rattle.journal_records.specs.declared.records.Outcome.{Outcome}
 use Rattle.journal_records.specs.declared.records.Record.{Record}
+use Rattle.journal_records.specs.declared.records.Record.TheVariants.{Grant as Granted}
+use Rattle.budget_core.specs.declared.answers.Left.{Left}
+use Rattle.budget_core.specs.declared.answers.GrantRefusal.{GrantRefusal}
+use Rattle.budget_core.specs.Granting.{grant_behind, grant_verdict}
 use Rattle.budget_core.specs.declared.entry.Ask.{Ask}
 use Rattle.budget_core.specs.declared.entry.Grant.{Grant}
 use Rattle.budget_core.specs.declared.entry.ReserveFault.{ReserveFault}
@@ -11,6 +15,8 @@ use Rattle.budget_ledger.specs.declared.book.AppendFault.{AppendFault}
 use Rattle.budget_ledger.specs.declared.book.AppendFault.TheVariants.{Closed, DiskFault}
 use Rattle.budget_ledger.specs.declared.book.BookFault.{BookFault}
 use Rattle.budget_ledger.specs.declared.book.BookFault.TheVariants.{Refused, Unwritten}
+use Rattle.budget_ledger.specs.declared.book.GrantFault.{GrantFault}
+use Rattle.budget_ledger.specs.declared.book.GrantFault.TheVariants.{Refused as NotGranted, Unwritten as NotWritten}
 
 -- One record more was written, to a book that wasn't closed and isn't.
 pub record HasGained (old : Account) (next : Record) (new : Account) : Type 0 where
@@ -45,3 +51,15 @@ IsReserved old ask (Err (Unwritten fault)) new = (grant : Grant) × HasVerdict o
 abbrev pub IsSettlementOf : Account → (number : ℕ) → Outcome → Result ℕ AppendFault → Account → Type 0
 IsSettlementOf old number outcome (Ok seen) new = HasGained old (settlement_for old.ledger.entry old.ledger.records number outcome) new × (seen ≡ length new.ledger.records)
 IsSettlementOf old number outcome (Err fault) new = IsUnwritten old (settlement_for old.ledger.entry old.ledger.records number outcome) fault new
+
+-- the verdict on a grant of this amount
+abbrev pub HasGrantVerdict : Account → (amount : ℕ) → Result Left GrantRefusal → Type 0
+HasGrantVerdict account amount verdict =
+    grant_verdict account.ledger.entry (start_of account.ledger) account.ledger.records amount ≡ verdict
+
+-- A grant is answered by its verdict: Ok where its record was written, which a closed book doesn't do.
+abbrev pub IsRaised : Account → (amount : ℕ) → Result Left GrantFault → Account → Type 0
+IsRaised old amount (Ok left) new = HasGrantVerdict old amount (Ok left) × HasGained old (Granted (grant_behind old.ledger.records amount)) new
+IsRaised old amount (Err (NotGranted refusal)) new = HasGrantVerdict old amount (Err refusal) × (new ≡ old)
+IsRaised old amount (Err (NotWritten fault)) new = ((left : Left) × HasGrantVerdict old amount (Ok left))
+    × IsUnwritten old (Granted (grant_behind old.ledger.records amount)) fault new

@@ -5,13 +5,17 @@ use Rattle.journal_records.specs.declared.records.Record.{Record}
 use Rattle.budget_core.specs.declared.entry.Ask.{Ask}
 use Rattle.budget_core.specs.declared.entry.Grant.{Grant}
 use Rattle.budget_core.specs.declared.entry.ReserveFault.{ReserveFault}
-use Rattle.budget_core.specs.declared.events.Event.TheVariants.{Reserve as ToReserve, Settle as ToSettle, Open}
+use Rattle.budget_core.specs.declared.events.Event.TheVariants.{Reserve as ToReserve, Settle as ToSettle, Grant as ToGrant, Open}
 use Rattle.budget_core.specs.Entries.{Entry}
 use Rattle.budget_core.specs.Events.{World, stepped}
+use Rattle.budget_core.specs.declared.answers.Left.{Left}
+use Rattle.budget_core.specs.declared.answers.GrantRefusal.{GrantRefusal}
+use Rattle.budget_core.specs.Granting.{IsAmount}
 use Rattle.budget_core.specs.Ledger.{start_of, IsAskOf, IsUnsettled}
 use Rattle.budget_ledger.specs.Account.{Account}
-use Rattle.budget_ledger.specs.Booked.{IsReserved, IsSettlementOf}
+use Rattle.budget_ledger.specs.Booked.{IsReserved, IsSettlementOf, IsRaised}
 use Rattle.budget_ledger.specs.declared.book.BookFault.TheVariants.{Refused}
+use Rattle.budget_ledger.specs.declared.book.GrantFault.TheVariants.{Refused as NotGranted}
 
 -- the machine's world that a book is in, where these numbers' answers were sent
 abbrev pub world_by : Account → (sent : List ℕ) → World
@@ -32,6 +36,15 @@ abbrev pub SettlesAsTheMachine : Type 0
 SettlesAsTheMachine = (old new : Account) (number seen : ℕ) (outcome : Outcome) (sent : List ℕ) → IsUnsettled old.ledger number
     → IsSettlementOf old number outcome (Ok seen) new
     → stepped old.ledger.entry (world_by old sent) (ToSettle number outcome) ≡ world_by new sent
+
+-- so is a grant, and one that is refused,
+abbrev pub GrantsAsTheMachine : Type 0
+GrantsAsTheMachine = (old new : Account) (amount : ℕ) (left : Left) (sent : List ℕ) → IsAmount amount → IsRaised old amount (Ok left) new
+    → stepped old.ledger.entry (world_by old sent) (ToGrant amount) ≡ world_by new sent
+
+abbrev pub RefusesGrantsAsTheMachine : Type 0
+RefusesGrantsAsTheMachine = (old new : Account) (amount : ℕ) (refusal : GrantRefusal) (sent : List ℕ) → IsAmount amount
+    → IsRaised old amount (Err (NotGranted refusal)) new → stepped old.ledger.entry (world_by old sent) (ToGrant amount) ≡ world_by new sent
 
 -- and an opening, of whatever was found and whatever ran before.
 abbrev pub OpensAsTheMachine : Type 0

@@ -8,15 +8,16 @@ ghost use Rattle.budget_journal.specs.Journals.{disk_of, used, is_closed, capaci
 ghost use Rattle.budget_journal.specs.declared.opening.OpenFault.TheVariants.{DiskFault};
 ghost use Rattle.budget_core.specs.Answers.{recalled, left_of, counts_of};
 ghost use Rattle.budget_core.specs.Cost.{cost_of};
+ghost use Rattle.budget_core.specs.Granting.{IsAmount};
 ghost use Rattle.budget_core.specs.Ledger.{IsAskOf, IsUnsettled};
 ghost use Rattle.budget_core.specs.Sound.{IsSound};
 ghost use Rattle.budget_ledger.specs.Account.{IsKeptNow, IsBook, Went};
-ghost use Rattle.budget_ledger.specs.Booked.{IsReserved, IsSettlementOf};
+ghost use Rattle.budget_ledger.specs.Booked.{IsReserved, IsSettlementOf, IsRaised};
 ghost use Rattle.budget_ledger.specs.Kept.{HasWritten, IsUnappended};
 ghost use Rattle.budget_ledger.specs.Opened.{IsBookFault};
 
 use crate::failure::Failure;
-use budget_core::answers::{Counts, Left, Recall};
+use budget_core::answers::{Counts, GrantRefusal, Left, Recall};
 use budget_core::entry::{Ask, Grant, ReserveFault};
 use budget_core::ledger::Ledger;
 use budget_journal::journal::Journal;
@@ -39,6 +40,15 @@ pub enum BookFault {
     /// The budget or the room doesn't allow it.
     Refused(ReserveFault),
     /// It was granted, and its record wasn't appended.
+    Unwritten(AppendFault),
+}
+
+/// Why no grant was made.
+#[derive(Clone, Copy, Debug, Drop, PartialEq, Eq)]
+pub enum GrantFault {
+    /// The limit of all budgets or the room doesn't allow it.
+    Refused(GrantRefusal),
+    /// It is allowed, and its record wasn't appended.
     Unwritten(AppendFault),
 }
 
@@ -128,6 +138,29 @@ impl<D: Disk> Book<D> {
         let next = Record::Settle(settlement);
         write_down(&mut self.journal, &mut self.failure, &next)?;
         Ok(self.ledger.settle(&settlement))
+    }
+
+    /// Grants an amount, in millionths of epsilon, or says why not. Gives what is left with it. After Ok a stop at any
+    /// moment leaves the grant.
+    pub fn grant(&mut self, amount: u64) -> Result<Left, GrantFault>
+        requires { IsAmount amount }
+        ensures answer { IsRaised self.old amount result self.new }
+        ensures went { Went self.old.ledger.records self.new.ledger.records self.old.storage self.new.storage }
+        ensures kept { IsBook self.new }
+    {
+        let left = match self.ledger.grant_verdict(amount) {
+            Ok(left) => left,
+            Err(refusal) => return Err(GrantFault::Refused(refusal)),
+        };
+        let grant = self.ledger.grant_of(amount);
+        let next = Record::Grant(grant);
+        match write_down(&mut self.journal, &mut self.failure, &next) {
+            Ok(()) => {
+                self.ledger.grant(&grant);
+                Ok(left)
+            }
+            Err(fault) => Err(GrantFault::Unwritten(fault)),
+        }
     }
 
     /// What an analyst is told of a number, by the records that were acknowledged.

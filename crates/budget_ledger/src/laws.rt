@@ -2,6 +2,7 @@
 
 ghost use Rattle.budget_ledger.specs.Laws.{FollowsItself, FollowOn, LeavesMoments, OpensWhatStands, GrantsNeverShare};
 ghost use Rattle.budget_ledger.specs.Machine.{OpensAsTheMachine, RefusesAsTheMachine, ReservesAsTheMachine, SettlesAsTheMachine};
+ghost use Rattle.budget_ledger.specs.Machine.{GrantsAsTheMachine, RefusesGrantsAsTheMachine};
 
 /// Each state follows itself.
 pub fn a_state_follows_itself()
@@ -28,10 +29,12 @@ pub fn grants_never_share_a_number()
     ensures { GrantsNeverShare }
 {}
 
-/// A book is the pure machine of budgets: its reservations, refusals, settlements and openings are the machine's.
+/// A book is the pure machine of budgets: its reservations, settlements, grants, refusals and openings are the machine's.
 pub fn books_are_the_machine()
     ensures reserves { ReservesAsTheMachine }
     ensures refuses { RefusesAsTheMachine }
     ensures settles { SettlesAsTheMachine }
+    ensures grants { GrantsAsTheMachine }
+    ensures refuses_grants { RefusesGrantsAsTheMachine }
     ensures opens { OpensAsTheMachine }
 {}
