@@ -10,7 +10,7 @@ use Rattle.budget_core.specs.declared.entry.Grant.{Grant}
 use Rattle.budget_core.specs.declared.entry.ReserveFault.{ReserveFault}
 use Rattle.budget_core.specs.declared.entry.ReserveFault.TheVariants.{OverBudget, Full}
 use Rattle.budget_core.specs.Entries.{Entry}
-use Rattle.budget_core.specs.Cost.{cost_of}
+use Rattle.budget_core.specs.Cost.{cost_of, budget_of}
 use Rattle.budget_core.specs.Counts.{open_from}
 use Rattle.budget_core.specs.Ledger.{money_verdict, reservation_for, reservation_numbered, next_number, cost_with, rise_of}
 use Rattle.fz_ast.specs.Terms.{Term}
@@ -57,13 +57,13 @@ abbrev given : Entry → ℕ → List Record → Ask → Grant
 given entry start records asking = record { number = next_number records; taken = rise_of entry records asking; seen = length records + 1 }
 
 pub grant_number : (entry : Entry) (start : ℕ) (records : List Record) (asking : Ask) (grant : Grant) → money_verdict entry start records asking ≡ Ok grant → grant.number ≡ next_number records
-grant_number entry start records asking grant is = over (nat_lt entry.budget (cost_with entry records asking)) is
+grant_number entry start records asking grant is = over (nat_lt (budget_of entry records) (cost_with entry records asking)) is
   where
     full : (b : Bool) → cond {A = Result Grant ReserveFault} b (Err (Full (length records) (open_from start records) entry.capacity)) (Ok (given entry start records asking)) ≡ Ok grant → grant.number ≡ next_number records
     full true is = cc
     full false is = let same : given entry start records asking ≡ grant = cc in ap (λ (g : Grant). g.number) (sym same)
 
-    over : (b : Bool) → cond {A = Result Grant ReserveFault} b (Err (OverBudget (cost_of entry records) (cost_with entry records asking) entry.budget (length records)))
+    over : (b : Bool) → cond {A = Result Grant ReserveFault} b (Err (OverBudget (cost_of entry records) (cost_with entry records asking) (budget_of entry records) (length records)))
         (cond (nat_lt entry.capacity (length records + open_from start records + 2)) (Err (Full (length records) (open_from start records) entry.capacity)) (Ok (given entry start records asking))) ≡ Ok grant
         → grant.number ≡ next_number records
     over true is = cc

@@ -2,11 +2,11 @@
 use Rattle.std.proofs.Common.{◌≡◌, ℕ, List, [], ◌∷◌, ◌++◌, length, length-append, Option, Some, None, codes, refl, sym, ◌∙◌, ap, subst, arith, pos, inl, inr}
 use Rattle.journal_records.specs.declared.records.Outcome.TheVariants.{Answered, Exhausted, Lost}
 use Rattle.journal_records.specs.declared.records.Record.{Record}
-use Rattle.journal_records.specs.declared.records.Record.TheVariants.{Reserve, Settle}
+use Rattle.journal_records.specs.declared.records.Record.TheVariants.{Reserve, Settle, Grant as Raise}
 use Rattle.journal_records.specs.Records.{settling}
 use Rattle.budget_core.specs.declared.entry.Ask.{Ask}
 use Rattle.budget_core.specs.declared.entry.Grant.{Grant}
-use Rattle.budget_core.specs.Cost.{cost_of}
+use Rattle.budget_core.specs.Cost.{cost_of, budget_of}
 use Rattle.sha2.specs.Sha256.{sha256}
 use Rattle.partition_charge.specs.Cost.{cost_of_charges, partition_cost}
 use Rattle.budget_ledger.specs.declared.failure.Failure.{Failure}
@@ -42,10 +42,11 @@ failed next = record { failed_at = 3; pending = next }
 abbrev settled_number : Record → ℕ
 settled_number (Settle settlement) = settlement.number
 settled_number (Reserve reservation) = 0
+settled_number (Raise grant) = 0
 
 -- 52 at the reservation: nothing was added, and the book is closed with that reservation pending.
 fault_at_reservation : (draws : ℕ → ℕ → ℕ) → IsAsked (owner 9000000 100) draws 0 query [] (refused (by_disk Fault)) [] before
-unfolding IsAsked cost_of cost_of_charges partition_cost signature_in
+unfolding IsAsked cost_of cost_of_charges partition_cost budget_of signature_in
 fault_at_reservation draws = (
   before,
   (before, refl),
@@ -62,13 +63,13 @@ closed_at_reservation draws = (failed (reserved 1), refl, refl, (1, 1, charged, 
 
 -- That reservation is what is due: number 1, which raises the cost by 1000000. No other number or charge is.
 due_at_reservation : IsGrantPending (owner 9000000 100) 0 query (refused (by_disk Fault)) [] before (Some (failed (reserved 1)))
-unfolding cost_of cost_of_charges partition_cost signature_in
+unfolding cost_of cost_of_charges partition_cost budget_of signature_in
 due_at_reservation = (failed (reserved 1), refl, (an_ask, a_grant 1 1000000 3, money_says (owner 9000000 100) 0 before query 1 1 _ charged refl, refl))
 
 -- what the verdict grants here
 granted_once : (asking : Ask) (grant : Grant) → IsVerdict (owner 9000000 100).entry (people ∷ []) 0 before query (granted asking grant)
     → granted asking grant ≡ granted an_ask (a_grant 1 1000000 3)
-unfolding IsVerdict cost_of cost_of_charges partition_cost
+unfolding IsVerdict cost_of cost_of_charges partition_cost budget_of
 granted_once asking grant (reading, reads, by) =
     subst (λ (j : Judgement). IsVerdictBy (owner 9000000 100).entry 0 before query j (granted asking grant)) (judged_at_one reading reads) by
 
@@ -84,6 +85,7 @@ pending_is next (failure, shut, (asking, grant, is, made)) =
 number_of : Record → ℕ
 number_of (Reserve reservation) = reservation.number
 number_of (Settle settlement) = settlement.number
+number_of (Raise grant) = grant.number
 
 not_due_of_another_number : IsGrantPending (owner 9000000 100) 0 query (refused (by_disk Fault)) [] before (Some (failed (reserved 2))) → ⊥
 unfolding number_of
@@ -92,6 +94,7 @@ not_due_of_another_number due = let same : 2 ≡ 1 = ap number_of (pending_is (r
 rise_by : Record → ℕ
 rise_by (Reserve reservation) = reservation.taken
 rise_by (Settle settlement) = 0
+rise_by (Raise grant) = 0
 
 not_due_at_another_charge : IsGrantPending (owner 9000000 100) 0 query (refused (by_disk Fault)) [] before (Some (failed (granted_record an_ask (a_grant 1 999999 3)))) → ⊥
 unfolding rise_by
@@ -100,7 +103,7 @@ not_due_at_another_charge due =
 
 -- 52 at the settlement: the reservation was added, and its settlement is pending.
 fault_at_settlement : (draws : ℕ → ℕ → ℕ) → IsAsked (owner 9000000 100) draws 0 query [] (refused (by_disk Fault)) ((2, reserved 1) ∷ []) (before ++ reserved 1 ∷ [])
-unfolding IsAsked cost_of cost_of_charges partition_cost signature_in
+unfolding IsAsked cost_of cost_of_charges partition_cost budget_of signature_in
 fault_at_settlement draws = (
   before,
   (before, refl),
@@ -112,7 +115,7 @@ fault_at_settlement draws = (
 )
 
 fault_alone : (draws : ℕ → ℕ → ℕ) → IsAnswered (owner 9000000 100) draws 0 before query (refused (by_disk Fault)) (reserved 1 ∷ [])
-unfolding IsAnswered cost_of cost_of_charges partition_cost signature_in
+unfolding IsAnswered cost_of cost_of_charges partition_cost budget_of signature_in
 fault_alone draws = (
   granted an_ask (a_grant 1 1000000 3),
   money_says (owner 9000000 100) 0 before query 1 1 _ charged refl,
@@ -121,7 +124,7 @@ fault_alone draws = (
 
 closed_at_settlement :
     Closes (owner 9000000 100) (λ number. draws_of_minus_one) query (refused (by_disk Fault)) ((2, reserved 1) ∷ []) None (Some (failed (settling 1 (Answered (pos 2)))))
-unfolding cost_of cost_of_charges partition_cost
+unfolding cost_of cost_of_charges partition_cost budget_of
 closed_at_settlement = (failed (settling 1 (Answered (pos 2))), refl, refl, (Answered (pos 2), before ++ reserved 1 ∷ [], settled_by_three minus_one, refl))
 
 -- 42 after it: the count of then is said, and nothing changes.
@@ -158,6 +161,7 @@ refused_closed draws next = refl
 digest_of : Record → List ℕ
 digest_of (Reserve reservation) = reservation.digest
 digest_of (Settle settlement) = []
+digest_of (Raise grant) = []
 
 carries_the_digest : (grant : Grant) → digest_of (granted_record (ask_for query 1 1) grant) ≡ sha256 size_people
 unfolding digest_of
@@ -212,11 +216,11 @@ recalled_of_before = (history, ([], refl), refl, refl)
 
 -- what is spent and left, and before any record
 left_of_it : IsBalance (owner 9000000 100).entry before (remaining 1000000 9000000 2) before
-unfolding IsBalance cost_of cost_of_charges partition_cost signature_in
+unfolding IsBalance cost_of cost_of_charges partition_cost budget_of signature_in
 left_of_it = (before, ([], refl), refl, refl)
 
 left_at_first : IsBalance (owner 9000000 100).entry [] (remaining 0 9000000 0) []
-unfolding IsBalance cost_of cost_of_charges partition_cost signature_in
+unfolding IsBalance cost_of cost_of_charges partition_cost budget_of signature_in
 left_at_first = ([], ([], refl), refl, refl)
 
 not_left_unseen : IsBalance (owner 9000000 100).entry before (remaining 0 9000000 0) [] → ⊥

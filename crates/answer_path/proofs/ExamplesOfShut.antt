@@ -3,9 +3,9 @@ use Rattle.std.proofs.Common.{◌≡◌, ℕ, List, [], ◌∷◌, ◌++◌, len
 use Rattle.std.specs.List.{enumerate_from}
 use Rattle.journal_records.specs.declared.records.Outcome.TheVariants.{Answered, Exhausted, Lost}
 use Rattle.journal_records.specs.declared.records.Record.{Record}
-use Rattle.journal_records.specs.declared.records.Record.TheVariants.{Reserve, Settle}
+use Rattle.journal_records.specs.declared.records.Record.TheVariants.{Reserve, Settle, Grant as Raise}
 use Rattle.journal_records.specs.Records.{settling}
-use Rattle.budget_core.specs.Cost.{cost_of}
+use Rattle.budget_core.specs.Cost.{cost_of, budget_of}
 use Rattle.partition_charge.specs.Cost.{cost_of_charges, partition_cost}
 use Rattle.budget_ledger.specs.declared.failure.Failure.{Failure}
 use Rattle.wire_lines.specs.Reply.{answered, recalled, remaining, refused}
@@ -48,6 +48,7 @@ shut_elsewhere next = record { failure = Some (failed next); own = [] }
 abbrev settled_number : Record → ℕ
 settled_number (Settle settlement) = settlement.number
 settled_number (Reserve reservation) = 0
+settled_number (Raise grant) = 0
 
 -- which replies are for the disk
 word_of_closed : disk_word (refused (by_disk (Closed 3))) ≡ Some (Some 3)
@@ -69,7 +70,7 @@ unfolding signature_in
 fault_of_a_reservation = (failed (reserved 1), refl, refl, (1, 1, charged, a_grant 1 1000000 3, refl), refl)
 
 fault_of_a_settlement : FailsBy one_owner draws query (Some None) ((2, reserved 1) ∷ []) unshut (shut_here (settling 1 (Answered (pos 2))))
-unfolding cost_of cost_of_charges partition_cost
+unfolding cost_of cost_of_charges partition_cost budget_of
 fault_of_a_settlement = (failed (settling 1 (Answered (pos 2))), refl, refl, (Answered (pos 2), before ++ reserved 1 ∷ [], settled_by_three minus_one, refl), refl)
 
 -- it isn't another pass's, nor told where the book was seen shut, nor where it stays open, nor of another number
@@ -163,7 +164,7 @@ unfolding IsMet
 recall_adds_nothing first (is, none) = absurd (cc none)
 
 balance_met : IsMet one_owner draws 4 balances [] (remaining 1000000 9000000 2) [] before
-unfolding IsMet IsBalance cost_of cost_of_charges partition_cost
+unfolding IsMet IsBalance cost_of cost_of_charges partition_cost budget_of
 balance_met = ((before, (before, refl), refl, refl), refl)
 
 balance_adds_nothing : (first : Told) → IsMet one_owner draws 4 balances [] (remaining 1000000 9000000 2) (first ∷ []) before → ⊥
@@ -184,7 +185,7 @@ unfolding IsMetExactly
 not_exactly_on_later_ones (is, none, rest) = let two : 2 ≡ 1 = ap length rest in omega (arith, two)
 
 balance_met_exactly : IsMetExactly one_owner draws 4 balances before (remaining 1000000 9000000 2) [] before
-unfolding IsMetExactly cost_of cost_of_charges partition_cost
+unfolding IsMetExactly cost_of cost_of_charges partition_cost budget_of
 balance_met_exactly = (refl, refl, refl)
 
 query_met_exactly : IsMetExactly one_owner draws 0 (asks query) before (refused no_memory) [] before

@@ -11,7 +11,7 @@ use Rattle.budget_core.specs.declared.entry.Ask.{Ask}
 use Rattle.budget_core.specs.declared.entry.Grant.{Grant}
 use Rattle.budget_core.specs.declared.entry.ReserveFault.TheVariants.{OverBudget}
 use Rattle.budget_core.specs.Answers.{left_by}
-use Rattle.budget_core.specs.Cost.{cost_of}
+use Rattle.budget_core.specs.Cost.{cost_of, budget_of}
 use Rattle.budget_core.specs.Ledger.{Ledger, reservation_for}
 use Rattle.budget_ledger.specs.Account.{Account}
 use Rattle.budget_ledger.specs.declared.failure.Failure.{Failure}
@@ -85,7 +85,7 @@ grant number seen = record { number = number; taken = 6; seen = seen }
 
 -- It is granted on the records g that are there, and stands right behind them.
 reserves : HasReserved (pass found None [] []) one (Ok (grant 2 4)) (pass (others ++ reserved 2 ∷ []) None ((3, reserved 2) ∷ []) [])
-unfolding cost_of cost_of_charges partition_cost
+unfolding cost_of cost_of_charges partition_cost budget_of
 reserves = (others, (reserved 1 ∷ [], refl), (refl, record { open_before = refl; open_after = refl; seen = refl; own = refl; faults = refl }))
 
 -- nor may it stand elsewhere, be forgotten, or be granted on the records found where more are there
@@ -113,12 +113,12 @@ abbrev full : List Record
 full = others ++ reserved 2 ∷ []
 
 refuses : HasReserved (pass found None [] []) one (Err (Refused (OverBudget 18 24 20 4))) (pass full None [] [])
-unfolding cost_of cost_of_charges partition_cost
+unfolding cost_of cost_of_charges partition_cost budget_of
 refuses = (full, (reserved 1 ∷ reserved 2 ∷ [], refl), (refl, record { seen = refl; own = refl; faults = refl; closed = λ failure was. was }))
 
 -- The append fails: the pass has one fault more, which shut the book, and no record more.
 breaks : HasReserved (pass found None [] []) one (Err (Unwritten DiskFault)) (pass found (Some (failed (reserved 1))) [] (failed (reserved 1) ∷ []))
-unfolding cost_of cost_of_charges partition_cost
+unfolding cost_of cost_of_charges partition_cost budget_of
 breaks = (
   found,
   ([], refl),
@@ -133,7 +133,7 @@ not_after_a_failure (g, begins, (given, verdict, fails)) = let no : Some (failed
 
 -- Another pass's append has failed: this pass learns of it, with its count, and it isn't a fault of its own.
 learns : HasReserved (pass found None [] []) one (Err (Unwritten (Closed 3))) (pass found (Some (failed (reserved 1))) [] [])
-unfolding cost_of cost_of_charges partition_cost
+unfolding cost_of cost_of_charges partition_cost budget_of
 learns = (
   found,
   ([], refl),
@@ -172,7 +172,7 @@ not_granted_twice h = h.unsettled 3 Lost 0 (inr (inl refl))
 -- A settlement goes to the records that are there by then.
 settles : HasSettled (pass (found ++ reserved 1 ∷ []) None ((2, reserved 1) ∷ []) []) 1 Exhausted (Ok 5)
     (pass (found ++ reserved 1 ∷ reserved 2 ∷ settling 1 Exhausted ∷ []) None ((2, reserved 1) ∷ (4, settling 1 Exhausted) ∷ []) [])
-unfolding cost_of cost_of_charges partition_cost
+unfolding cost_of cost_of_charges partition_cost budget_of
 settles = (
   found ++ reserved 1 ∷ reserved 2 ∷ [],
   (reserved 2 ∷ [], refl),
@@ -188,7 +188,7 @@ not_as_another_outcome (g, begins, (adds, counted)) =
 
 -- What is left is told by all records that are there, and is none of a state before those seen.
 looks : HasLooked (pass found None [] []) (λ ledger. left_by ledger.entry ledger.records ≡ record { spent = 12; budget = 20; seen = 3 }) (pass others None [] [])
-unfolding cost_of cost_of_charges partition_cost
+unfolding cost_of cost_of_charges partition_cost budget_of
 looks = (others, (reserved 1 ∷ [], refl), refl, record { seen = refl; own = refl; faults = refl; closed = λ failure was. was })
 
 not_a_look_back : (IsTold : Ledger → Type 0) → HasLooked (pass others None [] []) IsTold (pass found None [] []) → ⊥

@@ -7,7 +7,7 @@ use Rattle.journal_records.specs.declared.records.Outcome.{Outcome}
 use Rattle.journal_records.specs.declared.records.Reservation.{Reservation}
 use Rattle.journal_records.specs.declared.records.Settlement.{Settlement}
 use Rattle.journal_records.specs.declared.records.Record.{Record}
-use Rattle.journal_records.specs.declared.records.Record.TheVariants.{Reserve, Settle}
+use Rattle.journal_records.specs.declared.records.Record.TheVariants.{Reserve, Settle, Grant}
 use Rattle.journal_records.specs.Records.{settling_back}
 use Rattle.budget_core.specs.Counts.{reservations_of, reservation_of, outcome_of}
 use Rattle.budget_core.specs.Entries.{Entry}
@@ -94,4 +94,5 @@ module _ (opened : Account) (v : Known Noted Account) (x : Watched) (k : IsPassK
       let alike : Reserve other ≡ Reserve reserved = cc in
       subst (λ (z : ℕ × Noted). Has z v.own) (λ i. (sym here i, Added (sym alike i))) mine
   closes_own number outcome returned is p (Added (Settle other)) past at closes = absurd closes
+  closes_own number outcome returned is p (Added (Grant other)) past at closes = absurd closes
   closes_own number outcome returned is p (Failed failure) past at closes = absurd closes

@@ -12,7 +12,7 @@ use Rattle.journal_records.specs.declared.records.Record.{Record}
 use Rattle.journal_records.specs.declared.records.Record.TheVariants.{Reserve}
 use Rattle.journal_records.specs.Records.{settling}
 use Rattle.journal_records.specs.declared.records.Header.{Header}
-use Rattle.budget_core.specs.Cost.{cost_of}
+use Rattle.budget_core.specs.Cost.{cost_of, budget_of}
 use Rattle.budget_core.specs.Entries.{Entry}
 use Rattle.budget_journal.specs.Journals.{Stands}
 use Rattle.budget_journal.proofs.Fills.{journal-long}
@@ -88,11 +88,11 @@ kept_in version = record { budget = 10000000; capacity = 100; analysts = 1; keys
 
 -- in version 2 each counts, and in version 3 the exhausted one's charge has come back
 line_of_three : counted_line (kept_in 2) (owner census 10000000 100) three ≡ codes "census reservations 3 answered 1 exhausted 1 lost 1 spent 6 budget 10000000\n"
-unfolding digits cost_of cost_of_charges partition_cost
+unfolding digits cost_of cost_of_charges partition_cost budget_of
 line_of_three = refl
 
 line_of_three_later : counted_line (kept_in 3) (owner census 10000000 100) three ≡ codes "census reservations 3 answered 1 exhausted 1 lost 1 spent 4 budget 10000000\n"
-unfolding digits cost_of cost_of_charges partition_cost
+unfolding digits cost_of cost_of_charges partition_cost budget_of
 line_of_three_later = refl
 
 -- each owner's line is of its own records
@@ -101,7 +101,7 @@ of_the_second o = replicate o (made 0)
 
 lines_of_both : counted_text loading of_the_second
     ≡ codes "census reservations 0 answered 0 exhausted 0 lost 0 spent 0 budget 10000000\nb reservations 1 answered 0 exhausted 0 lost 1 spent 2 budget 3\n"
-unfolding digits cost_of cost_of_charges partition_cost
+unfolding digits cost_of cost_of_charges partition_cost budget_of
 lines_of_both = refl
 
 -- ---- headers
@@ -126,7 +126,7 @@ later_entry = refl
 -- each owner's line is by the version of its own journal
 spent_by_version : counted_text later_and_older (λ o. made 0 ∷ settling 0 Exhausted ∷ [])
     ≡ codes "census reservations 1 answered 0 exhausted 1 lost 0 spent 0 budget 10000000\nb reservations 1 answered 0 exhausted 1 lost 0 spent 2 budget 3\n"
-unfolding digits cost_of cost_of_charges partition_cost
+unfolding digits cost_of cost_of_charges partition_cost budget_of
 spent_by_version = refl
 
 -- ---- what the disks show

@@ -9,7 +9,7 @@ use Rattle.journal_records.specs.declared.records.Outcome.{Outcome}
 use Rattle.journal_records.specs.declared.records.Outcome.TheVariants.{Answered, Exhausted, Lost}
 use Rattle.journal_records.specs.declared.records.Record.{Record}
 use Rattle.journal_records.specs.Records.{settling}
-use Rattle.budget_core.specs.Cost.{cost_of}
+use Rattle.budget_core.specs.Cost.{cost_of, budget_of}
 use Rattle.budget_ledger.specs.Account.{Account, Storage}
 use Rattle.budget_ledger.specs.declared.failure.Failure.{Failure}
 use Rattle.wire_lines.specs.Lines.{lines_of}
@@ -102,7 +102,7 @@ no_other o owner at =
     cc (none)
 
 first_leads : (draws : ℕ → ℕ → ℕ → ℕ) → LeadExactly house draws 0 0 [] (first_lines (outcome_at draws)) (made (outcome_at draws))
-unfolding meant_by request_of cost_of cost_of_charges partition_cost signature_in rows_in IsMetExactly IsAnswered
+unfolding meant_by request_of cost_of cost_of_charges partition_cost budget_of signature_in rows_in IsMetExactly IsAnswered
 first_leads draws =
     let outcome = outcome_at draws in (
       made outcome,
