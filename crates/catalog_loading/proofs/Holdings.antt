@@ -21,6 +21,14 @@ owner_holds held old new catalog o owned lawful within read =
     let one = read some.0 some.1 in
     (owner_loaded_for (owner_entry_at catalog o) one.0 owned (lawful.owners o _ within) one.2.given).held.rows
 
+-- each table's file has its SHA-256
+pub owner_hashes : (held : Option Contents) (old new : List (List ℕ)) (catalog : Catalog) (o : ℕ) (owned : LoadedOwner) → IsCatalog catalog → o < length catalog.owners
+    → IsDone held old new (owner_read (owner_entry_at catalog o)) owned → length owned.hashes ≡ length (owner_entry_at catalog o).tables
+owner_hashes held old new catalog o owned lawful within read =
+    let some = any_reads held in
+    let one = read some.0 some.1 in
+    (owner_loaded_for (owner_entry_at catalog o) one.0 owned (lawful.owners o _ within) one.2.given).hashed
+
 -- all owners' tables that were read
 pub all_hold : (held : Option Contents) (old new : List (List ℕ)) (catalog : Catalog) (owned : List LoadedOwner) → IsCatalog catalog → IsDone held old new (one_by_one owner_read catalog.owners) owned
     → IsLoading (loading_with catalog owned)

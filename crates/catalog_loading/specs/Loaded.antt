@@ -6,7 +6,7 @@ use Rattle.journal_records.specs.Encoding.{newest_version}
 use Rattle.budget_core.specs.Entries.{Entry}
 use Rattle.metric_values.specs.Values.{Flat}
 use Rattle.table_store.specs.Table.{table_in_file}
-use Rattle.owner_catalog.specs.Catalog.{Catalog, OwnerEntry, TableEntry, catalog_in_file, owner_signature}
+use Rattle.owner_catalog.specs.Catalog.{Catalog, IsCatalog, OwnerEntry, TableEntry, catalog_in_file, owner_signature}
 use Rattle.owner_catalog.specs.Digest.{digest_of}
 use Rattle.owner_catalog.specs.Entries.{owner_entry_at}
 use Rattle.part_views.specs.Holding.{Holding}
@@ -168,3 +168,51 @@ abbrev pub owner_loaded : Catalog → (name : List ℕ) → FileStep Holding
 owner_loaded catalog name = do
   loading ← loaded catalog
   from (holding_in loading.register name)
+
+-- its number in the catalog
+abbrev pub number_named : Catalog → (name : List ℕ) → Result ℕ (List ℕ)
+number_named catalog name = ok_or (position (λ owner. bytes_eq name owner.name) catalog.owners) name
+
+-- ---- one owner, for its journal alone
+
+-- a catalog, the number of an owner in it, the SHA-256 of each of that owner's table files, and a key
+pub record KeyedOwner : Type 0 where
+  pub catalog : Catalog
+  pub number : ℕ
+  pub hashes : List (List ℕ)
+  pub key : List ℕ
+
+-- the owner's name, what is kept of its budget, and the header of its journal, both for a new one
+abbrev pub its_name : KeyedOwner → List ℕ
+its_name one = (owner_entry_at one.catalog one.number).name
+
+abbrev pub its_entry : KeyedOwner → Entry
+its_entry one = entry_of one.catalog (owner_entry_at one.catalog one.number)
+
+abbrev pub its_header : KeyedOwner → Header
+its_header one = record {
+  owner = one.number;
+  budget = (owner_entry_at one.catalog one.number).budget;
+  capacity = (owner_entry_at one.catalog one.number).capacity;
+  digest = digest_of one.catalog one.number one.key one.hashes;
+  version = newest_version;
+}
+
+-- an owner that may be opened
+pub record IsKeyedOwner (one : KeyedOwner) : Type 0 where
+  pub catalog : IsCatalog one.catalog
+  pub known : one.number < length one.catalog.owners
+  pub hashed : length one.hashes ≡ length (owner_entry_at one.catalog one.number).tables
+  pub whole_key : length one.key ≡ 32
+
+-- what is to be done with one owner's journal: CATALOG, then KEY, then the tables of that owner
+abbrev pub with_owner : {A : Type 0} → (KeyedOwner → A) → (catalog key owner : List ℕ) → FileStep A
+with_owner work catalog key owner = do
+  house ← catalog_read catalog
+  bytes ← key_read key
+  number ← from (number_named house owner)
+  loaded ← owner_read (owner_entry_at house number)
+  done (work (record { catalog = house; number = number; hashes = loaded.hashes; key = bytes }))
+
+abbrev pub keyed_owner_read : (catalog key owner : List ℕ) → FileStep KeyedOwner
+keyed_owner_read = with_owner (λ one. one)

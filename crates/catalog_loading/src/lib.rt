@@ -5,6 +5,7 @@ mod fitting;
 mod headers;
 mod loading;
 mod opening;
+mod owner;
 mod reading;
 mod stops;
 
@@ -12,5 +13,6 @@ pub use crate::fitting::find_fitting;
 pub use crate::headers::headers_of;
 pub use crate::loading::{load_for, open_catalog};
 pub use crate::opening::{Opened, find_owner, open_house};
+pub use crate::owner::{OpenedOwner, open_owner};
 pub use crate::reading::read_file;
 pub use crate::stops::Stop;

@@ -30,9 +30,9 @@ struct LoadedTable {
 
 /// An owner's tables, and the SHA-256 of each one's file, in order.
 #[derive(Drop)]
-struct LoadedTables {
-    tables: Tables,
-    hashes: Vec<[u8; 32]>,
+pub(crate) struct LoadedTables {
+    pub(crate) tables: Tables,
+    pub(crate) hashes: Vec<[u8; 32]>,
 }
 
 /// What an owner holds, and the SHA-256 of each of its table files.
@@ -106,7 +106,7 @@ fn load_table<F: Files>(
 }
 
 /// All tables of an owner, in order.
-fn load_tables<F: Files>(
+pub(crate) fn load_tables<F: Files>(
     alloc: Global,
     files: &mut F,
     catalog: &Catalog,

@@ -3,8 +3,8 @@
 ghost use Rattle.std.specs.Prelude.{◌≡◌, ◌<◌, [], get_or, length, slice_set, IsErrOf, MatchResult, OnOk};
 ghost use Rattle.owner_catalog.specs.Entries.{owner_entry_at};
 ghost use Rattle.fz_outside.specs.Faults.{HasCause};
-ghost use Rattle.catalog_loading.specs.Loaded.{IsKeyedHouse, entry_named, house_read, in_versions, keyed, owners_in};
-ghost use Rattle.catalog_loading.specs.Given.{IsOwnerAt, IsRefusedBy, IsStep};
+ghost use Rattle.catalog_loading.specs.Loaded.{IsKeyedHouse, entry_named, house_read, in_versions, keyed, number_named, owners_in};
+ghost use Rattle.catalog_loading.specs.Given.{IsDecided, IsOwnerAt, IsRefusedBy, IsStep};
 
 use crate::loading::{load_all, open_catalog};
 use crate::reading::read_key;
@@ -106,6 +106,7 @@ pub fn open_house<F: Files>(
 /// The number of the owner of this name.
 pub fn find_owner(alloc: Global, catalog: &Catalog, name: &str) -> Result<u32, Stop>
     ensures owner { MatchResult result (IsOwnerAt catalog.now name.now) (IsRefusedBy (entry_named catalog.now name.now)) }
+    ensures number { IsDecided (number_named catalog.now name.now) (λ owner. owner) result }
 {
     match catalog.owner(name.as_bytes()) {
         Some(owner) => Ok(owner),

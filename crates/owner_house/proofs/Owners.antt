@@ -9,7 +9,7 @@ use Rattle.std.proofs.lemmas.List.Quantifiers.{position-Some}
 use Rattle.std.specs.List.{All, position, position_from}
 use Rattle.fz_ast.specs.Signature.{Signature}
 use Rattle.owner_catalog.specs.Entries.{Catalog, OwnerEntry, TableEntry, PartitionEntry, owner_entry_at as listed_at}
-use Rattle.owner_catalog.specs.Lawful.{IsOwner, IsPartition}
+use Rattle.owner_catalog.specs.Lawful.{IsCatalog, IsOwner, IsPartition}
 use Rattle.partition_charge.specs.declared.view.View.TheVariants.{Part}
 use Rattle.journal_records.specs.Encoding.{newest_version}
 use Rattle.budget_core.specs.Entries.{Entry, IsEntry, HasView}
@@ -90,16 +90,16 @@ keys_legal tables (partition ∷ partitions) each = here (keys_legal tables part
     here rest zero d less = let first : IsPartition tables partition = each 0 partition (omega arith) in (first.some, first.few)
     here rest (suc k) d less = rest k d (omega (arith, less))
 
-pub entry_legal : (register : Register) → IsRegister register → (o : ℕ) → o < length (house_of register).owners → IsEntry (entry_of register.catalog (listed_at register.catalog o))
-entry_legal register of o within =
-    let owner : OwnerEntry = listed_at register.catalog o in
-    let said : IsOwner owner = of.catalog.owners o _ (in_catalog register of o within) in record {
+pub entry_lawful : (catalog : Catalog) → IsCatalog catalog → (o : ℕ) → o < length catalog.owners → IsEntry (entry_of catalog (listed_at catalog o))
+entry_lawful catalog of o within =
+    let owner : OwnerEntry = listed_at catalog o in
+    let said : IsOwner owner = of.owners o _ within in record {
       some_budget = said.least_budget;
       budget = said.most_budget;
       some_room = said.least_capacity;
       capacity = said.most_capacity;
-      some_analyst = of.catalog.some_analysts;
-      analysts = of.catalog.few_analysts;
+      some_analyst = of.some_analysts;
+      analysts = of.few_analysts;
       partitions = omega (arith, length-map owner.partitions (λ (partition : PartitionEntry). length partition.keys), said.few_partitions);
       keys = keys_legal owner.tables owner.partitions (λ p d less. said.partitions p d less);
     }

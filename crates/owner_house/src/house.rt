@@ -9,6 +9,7 @@ ghost use Rattle.owner_house.specs.Owner.{Owner};
 ghost use Rattle.owner_catalog.specs.Entries.{owner_entry_at};
 ghost use Rattle.owner_house.specs.House.{IsRegister, register_with, house_of, keys_of, analyst_named, owner_named, partition_named, partition_at, key_named, numbered, owner_at};
 
+use crate::entry::new_entry;
 use budget_core::entry::Entry;
 use journal_records::records::NEWEST_VERSION;
 use owner_catalog::Catalog;
@@ -69,32 +70,12 @@ impl House {
         &self.catalog
     }
 
-    // How many keys each of an owner's partitions has.
-    fn keys(&self, alloc: Global, owner: u32) -> Result<Vec<u16>, AllocError>
-        requires { owner < length (house_of self.now).owners }
-        ensures { IfOk result (λ keys. keys.items ≡ keys_of (owner_entry_at self.now.catalog owner)) }
-    {
-        let partitions = self.catalog.partitions(owner);
-        let mut keys = Vec::new(alloc);
-        for partition in 0..partitions {
-            keys.push(self.catalog.keys(owner, partition as u8) as u16)?;
-        }
-        Ok(keys)
-    }
-
     /// What is kept of an owner's budget.
     pub fn entry(&self, alloc: Global, owner: u32) -> Result<Entry, AllocError>
         requires { owner < length (house_of self.now).owners }
         ensures { IfOk result (λ entry. (asked : Owner) → slice_get (house_of self.now).owners owner ≡ Some asked → entry ≡ asked.entry) }
     {
-        let analysts = self.catalog.analysts() as u16;
-        let keys = self.keys(alloc, owner)?;
-        let entry = Entry::new(
-            self.catalog.budget(owner),
-            self.catalog.capacity(owner),
-            analysts,
-            keys,
-        );
+        let entry = new_entry(alloc, &self.catalog, owner)?;
         Ok(entry.with_version(self.versions[owner as usize]))
     }
 

@@ -1,26 +1,13 @@
 use Rattle.std.proofs.Common.{◌≡◌, ◌<◌, ◌∙◌, length, slice_get, get_or, Some, sym, ap, subst, arith}
-use Rattle.budget_core.specs.Entries.{Entry, IsEntry}
-use Rattle.owner_catalog.specs.Entries.{owner_entry_at}
-use Rattle.owner_house.specs.House.{Register, register_by, house_of, keys_of}
-use Rattle.owner_house.proofs.Owners.{in_catalog, entry_made, entry_legal, entry_said}
+use Rattle.budget_core.specs.Entries.{Entry}
+use Rattle.owner_house.specs.House.{Register, register_by, house_of}
+use Rattle.owner_house.proofs.Owners.{in_catalog, entry_said}
 use Rattle.owner_house.proofs.house.House.entry.Goals as goal
 
-pub budget-requires : goal.budget-requires
-budget-requires c =
+pub new_entry-requires : goal.new_entry-requires
+new_entry-requires c =
     in_catalog (register_by c.self.inside.catalog c.self.inside.datasets.items c.self.inside.versions) c.self.invariant c.args.owner
     (subst (λ (r : Register). c.args.owner < length (house_of r).owners) (sym c.self.view_is) c.requires)
-
-pub capacity-requires : goal.capacity-requires
-capacity-requires c =
-    in_catalog (register_by c.self.inside.catalog c.self.inside.datasets.items c.self.inside.versions) c.self.invariant c.args.owner
-    (subst (λ (r : Register). c.args.owner < length (house_of r).owners) (sym c.self.view_is) c.requires)
-
-pub new-entry-requires : goal.new-entry-requires
-new-entry-requires c =
-    let register = register_by c.self.inside.catalog c.self.inside.datasets.items c.self.inside.versions in
-    let keys = c.in_ok-keys.ensures ∙ ap (λ (r : Register). keys_of (owner_entry_at r.catalog c.args.owner)) (sym c.self.view_is) in
-    subst (λ (e : Entry). IsEntry e) (sym (entry_made c.self.inside.catalog c.args.owner _ _ _ _ c.budget.ensures c.capacity.ensures c.analysts-analysts.ensures keys))
-    (entry_legal register c.self.invariant c.args.owner (subst (λ (r : Register). c.args.owner < length (house_of r).owners) (sym c.self.view_is) c.requires))
 
 pub bounds-self-inside-owner : goal.bounds-self-inside-owner
 bounds-self-inside-owner c =
@@ -32,7 +19,5 @@ bounds-self-inside-owner c =
 pub returns : goal.returns
 returns c = λ asked at.
     let register = register_by c.self.inside.catalog c.self.inside.datasets.items c.self.inside.versions in
-    let keys = c.in_ok-keys.ensures ∙ ap (λ (r : Register). keys_of (owner_entry_at r.catalog c.args.owner)) (sym c.self.view_is) in
-    let made = c.new-entry.ensures ∙ entry_made c.self.inside.catalog c.args.owner _ _ _ _ c.budget.ensures c.capacity.ensures c.analysts-analysts.ensures keys in
-    c.with_version.ensures ∙ ap (λ (e : Entry). record e { version = get_or c.self.inside.versions c.args.owner 0 }) made
+    c.with_version.ensures ∙ ap (λ (e : Entry). record e { version = get_or c.self.inside.versions c.args.owner 0 }) c.in_ok-entry.ensures
     ∙ entry_said register c.args.owner asked 0 (subst (λ (r : Register). slice_get (house_of r).owners c.args.owner ≡ Some asked) (sym c.self.view_is) at)
