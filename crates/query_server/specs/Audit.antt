@@ -3,7 +3,7 @@ use Rattle.std.specs.Prelude.{◌≡◌, ◌⊎◌, true, false, ℕ, List, None
 use Rattle.std.specs.List.{enumerate_from, flat_map}
 use Rattle.journal_records.specs.declared.records.Record.{Record}
 use Rattle.budget_core.specs.Answers.{counts_of}
-use Rattle.budget_core.specs.Cost.{cost_of}
+use Rattle.budget_core.specs.Cost.{cost_of, budget_of}
 use Rattle.budget_core.specs.Entries.{Entry}
 use Rattle.owner_catalog.specs.Entries.{OwnerEntry}
 use Rattle.session_core.specs.Transcript.{Journals}
@@ -23,12 +23,12 @@ audit_steps catalog key = with_house to_count catalog key
 abbrev pub audit_kind : (catalog key : List ℕ) → Kind
 audit_kind catalog key = record { steps = audit_steps catalog key; source = false; disks = true; doors = false; program = false }
 
--- the line of an owner with this budget's entry and these records
+-- the line of an owner with this budget's entry and these records, which may have raised it
 abbrev pub counted_line : Entry → OwnerEntry → List Record → List ℕ
 counted_line entry owner records =
     owner.name ++ codes " reservations " ++ decimal (counts_of records).reservations ++ codes " answered " ++ decimal (counts_of records).answered
     ++ codes " exhausted " ++ decimal (counts_of records).exhausted ++ codes " lost " ++ decimal (counts_of records).lost
-    ++ codes " spent " ++ decimal (cost_of entry records) ++ codes " budget " ++ decimal owner.budget ++ codes "\n"
+    ++ codes " spent " ++ decimal (cost_of entry records) ++ codes " budget " ++ decimal (budget_of entry records) ++ codes "\n"
 
 -- the lines of all owners, in order
 abbrev pub counted_text : Loading → (found : Journals) → List ℕ

@@ -9,7 +9,7 @@ use Rattle.budget_ledger.specs.Account.{Account, IsBook, Went}
 use Rattle.owner_desk.specs.Passes.{Pass, ledger_on}
 use Rattle.session_core.specs.Code.{IsClosedWith, fresh_pass, pass_at}
 use Rattle.catalog_loading.specs.Loaded.{Loading, new_header, new_entry, owner_name_at}
-use Rattle.query_server.specs.Shelves.{Shelf, IsOnlySynced, bytes_on}
+use Rattle.query_server.specs.Shelves.{Shelf, OneDisk, IsOnlySynced, bytes_on}
 use Rattle.query_server.specs.Opened.{IsDiskNamed, IsRefusedAt, IsUnopened}
 use Rattle.query_server.specs.Status.{disk_text, journal_text}
 use Rattle.query_server.specs.declared.refusals.JournalRefusal.{JournalRefusal}
@@ -33,9 +33,8 @@ pub record IsNewBook (entry : Entry) (header : Header) (before : Option Shown) (
 abbrev pub TookDisk : (o : ℕ) → (old new : Shelf) → Type 0
 TookDisk o old new = (new o ≡ None) × ((p : ℕ) → (p ≡ o → ⊥) → new p ≡ old p)
 
-pub record LeftDisk (o : ℕ) (old new : Shelf) : Type 0 where
-  pub here : (before : Shown) → old o ≡ Some before → (after : Shown) × (new o ≡ Some after) × IsOnlySynced before after
-  pub elsewhere : (p : ℕ) → (p ≡ o → ⊥) → new p ≡ old p
+abbrev pub LeftDisk : (o : ℕ) → (old new : Shelf) → Type 0
+LeftDisk o old new = OneDisk o IsOnlySynced old new
 
 -- the line of a disk or of a journal, or memory ran out
 abbrev pub IsDiskStop : (owner : List ℕ) → Stop → Type 0
@@ -56,13 +55,17 @@ IsBookFaultStop owner (open_fault.NotInitialised n) stop = IsJournalStop owner (
 IsBookFaultStop owner (open_fault.Changed kept found) stop = IsJournalStop owner Changed stop
 IsBookFaultStop owner (open_fault.Damaged slot) stop = IsJournalStop owner (Damaged slot) stop
 
--- why a book wasn't opened
+-- why the book of an owner of this name, entry and header wasn't opened on a disk of these bytes
+abbrev pub IsUnopenedStop : (owner : List ℕ) → Entry → Header → (bytes : Option (List ℕ)) → Stop → Type 0
+IsUnopenedStop owner entry header bytes (Journal line) =
+    (refusal : JournalRefusal) × IsUnopened entry header bytes refusal × (line.items ≡ journal_text owner refusal)
+IsUnopenedStop owner entry header bytes (Disk line) = line.items ≡ disk_text owner
+IsUnopenedStop owner entry header bytes NoMemory = ⊤
+IsUnopenedStop owner entry header bytes stop = ⊥
+
+-- the same of an owner of a house
 abbrev pub IsBookStop : Loading → (key : List ℕ) → Shelf → (o : ℕ) → Stop → Type 0
-IsBookStop loading key old o (Journal line) = (refusal : JournalRefusal)
-    × IsUnopened (new_entry loading o) (new_header loading key o) (bytes_on old o) refusal × (line.items ≡ journal_text (owner_name_at loading o) refusal)
-IsBookStop loading key old o (Disk line) = line.items ≡ disk_text (owner_name_at loading o)
-IsBookStop loading key old o NoMemory = ⊤
-IsBookStop loading key old o stop = ⊥
+IsBookStop loading key old o stop = IsUnopenedStop (owner_name_at loading o) (new_entry loading o) (new_header loading key o) (bytes_on old o) stop
 
 -- why not all books were opened
 abbrev pub IsOpenStop : Loading → (key : List ℕ) → (old new : Shelf) → Stop → Type 0

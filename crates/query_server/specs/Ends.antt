@@ -46,11 +46,15 @@ abbrev pub end_status : End → Status
 end_status (Done lines) = code.Done
 end_status (ProgramRefused line) = code.ProgramRefused
 end_status ScriptTooLong = code.ScriptTooLong
+end_status (TooLarge line) = code.TooLarge
+end_status (JournalFull line) = code.JournalFull
 
 abbrev pub end_text : End → List ℕ
 end_text (Done lines) = lines.items
 end_text (ProgramRefused line) = line.items
 end_text ScriptTooLong = too_long_text
+end_text (TooLarge line) = line.items
+end_text (JournalFull line) = line.items
 
 -- a command's end, or what stopped it before
 abbrev pub Ended : Type 0
@@ -101,6 +105,8 @@ IsScriptEnd house draws workers script old new (Ok (Done replies)) =
     (length script ≤ script_limit) × HasWorked house draws workers script replies.items old new
 IsScriptEnd house draws workers script old new (Ok ScriptTooLong) = (script_limit < length script) × HaveAddedNone house old new
 IsScriptEnd house draws workers script old new (Ok (ProgramRefused line)) = ⊥
+IsScriptEnd house draws workers script old new (Ok (TooLarge line)) = ⊥
+IsScriptEnd house draws workers script old new (Ok (JournalFull line)) = ⊥
 IsScriptEnd house draws workers script old new (Err stop) = IsFailing stop × HaveAddedNone house old new
 
 -- The end's text is written with its status; or a prefix of it, and something failed.

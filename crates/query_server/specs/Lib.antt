@@ -11,11 +11,13 @@ pub mod Check
 pub mod Gap
 pub mod Serve
 pub mod Gen
+pub mod Grant
 pub mod Due
 pub mod Promise
 pub mod Valid
 pub mod Found
 pub mod Ends
+pub mod Granted
 pub mod Service
 pub mod Books
 pub mod Making

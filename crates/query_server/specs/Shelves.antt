@@ -29,6 +29,11 @@ pub record EachDisk (owners : ℕ) (Goes : (o : ℕ) → Shown → Shown → Typ
   pub owned : (o : ℕ) (before : Shown) → o < owners → old o ≡ Some before → (after : Shown) × (new o ≡ Some after) × Goes o before after
   pub others : (o : ℕ) → owners ≤ o → new o ≡ old o
 
+-- One owner's disk, which was at home, is so again, and went on like this; the others are as they were.
+pub record OneDisk (o : ℕ) (Goes : Shown → Shown → Type 0) (old new : Shelf) : Type 0 where
+  pub here : (before : Shown) → old o ≡ Some before → (after : Shown) × (new o ≡ Some after) × Goes before after
+  pub elsewhere : (p : ℕ) → (p ≡ o → ⊥) → new p ≡ old p
+
 -- Nothing was written to the disk: it was synced, or that wasn't done or failed.
 pub record IsOnlySynced (before after : Shown) : Type 0 where
   pub synced : MayHaveSynced before.trace after.trace

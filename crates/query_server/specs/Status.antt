@@ -15,6 +15,8 @@ status_code Fault = 5
 status_code DiskFault = 6
 status_code NoMemory = 7
 status_code ScriptTooLong = 8
+status_code TooLarge = 9
+status_code JournalFull = 10
 
 abbrev pub usage_text : List ℕ
 usage_text = codes "usage\n"

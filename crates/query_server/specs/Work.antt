@@ -2,7 +2,7 @@
 use Rattle.std.specs.Prelude.{ℕ, List, Result, Ok, Err}
 use Rattle.fz_ast.specs.Signature.{Signature}
 use Rattle.metric_values.specs.Tables.{Dataset}
-use Rattle.catalog_loading.specs.Loaded.{Loading}
+use Rattle.catalog_loading.specs.Loaded.{KeyedOwner, Loading}
 
 -- Faulty words; a name that is refused; or work to be done, a case a command.
 pub data Work : Type 0 where
@@ -20,6 +20,8 @@ pub data Work : Type 0 where
   to_generate : (seed asks : ℕ) → Work
   -- by `check`: a program is to be checked over these tables
   to_check : (tables : Signature) (program : List ℕ) → Work
+  -- by `grant`: so much is to be granted to one owner's budget, under this key
+  to_grant : (amount : ℕ) → KeyedOwner → Work
   -- by `gap`: a program is to be run over two datasets of these tables
   to_compare : (tables : Signature) (X Y : Dataset) (program : List ℕ) → Work
 

@@ -40,8 +40,9 @@ fn put_counted<D: Disk>(
     put_field(lines, b" answered ", u64::from(counts.answered))?;
     put_field(lines, b" exhausted ", u64::from(counts.exhausted))?;
     put_field(lines, b" lost ", u64::from(counts.lost))?;
-    put_field(lines, b" spent ", book.spent())?;
-    put_field(lines, b" budget ", catalog.budget(owner))?;
+    let left = book.left();
+    put_field(lines, b" spent ", left.spent)?;
+    put_field(lines, b" budget ", left.budget)?;
     lines.extend_from_slice(b"\n")
 }
 

@@ -8,12 +8,13 @@ ghost use Rattle.session_core.specs.Bundles.{bundle_of};
 ghost use Rattle.session_core.specs.Code.{ArePasses};
 ghost use Rattle.owner_catalog.specs.Limits.{owner_limit};
 ghost use Rattle.catalog_loading.specs.Loaded.{entry_at, entry_in, header_in, header_of, in_versions, keyed, new_header, owners_in};
-ghost use Rattle.query_server.specs.Shelves.{AreAtHome, EachDisk, IsOnlySynced};
+ghost use Rattle.query_server.specs.Shelves.{AreAtHome, EachDisk, IsOnlySynced, bytes_on};
 ghost use Rattle.query_server.specs.Outside.{HasDiskCause, KeepsBay};
 ghost use Rattle.query_server.specs.Books.{ArePassesOn, ArePutBack, IsNewBook, IsNewPass, LeftDisk, TookDisk};
-ghost use Rattle.query_server.specs.Books.{IsBookFaultStop, IsBookStop, IsDiskStop, IsJournalStop, IsOpenStop};
+ghost use Rattle.query_server.specs.Books.{IsBookFaultStop, IsBookStop, IsDiskStop, IsJournalStop, IsOpenStop, IsUnopenedStop};
 
 use crate::refusals::{JournalRefusal, disk_line, journal_line};
+use budget_core::entry::Entry;
 use budget_journal::opening::OpenFault;
 use budget_ledger::book::Book;
 use catalog_loading::{Opened, Stop, headers_of};
@@ -62,6 +63,39 @@ fn open_stop(alloc: Global, owner: &str, fault: &OpenFault) -> Stop
     }
 }
 
+/// Opens the book of this entry and header on an owner's disk. Where it isn't opened, the disk is put back.
+pub(crate) fn open_on<B: Bay>(
+    alloc: Global,
+    bay: &mut B,
+    name: &str,
+    entry: Entry,
+    header: &Header,
+    owner: u32,
+) -> Result<Book<B::D>, Stop>
+    requires budget { header.now.budget ≡ entry.budget }
+    requires capacity { header.now.capacity ≡ entry.capacity }
+    requires known { owner < B.owners bay.old }
+    requires home { IsSome (B.shelf bay.old owner) }
+    ensures book { IfOk result (λ book. IsNewBook (record entry { version = book.storage.header.version })
+        (record header.now { version = book.storage.header.version }) (B.shelf bay.old owner) book) }
+    ensures taken { OnOk result (TookDisk owner (B.shelf bay.old) (B.shelf bay.new)) }
+    ensures left { OnErr result (LeftDisk owner (B.shelf bay.old) (B.shelf bay.new)) }
+    ensures stop { IfErr result (IsUnopenedStop name.now entry header.now (bytes_on (B.shelf bay.old) owner)) }
+    ensures bay { KeepsBay B.shelf B.owners B.faults bay.old bay.new }
+    ensures cause { HasDiskCause B.shelf B.owners B.faults bay.old bay.new result }
+{
+    let Ok(disk) = bay.take(owner) else {
+        return Err(disk_stop(alloc, name));
+    };
+    match Book::open(alloc, disk, entry, header) {
+        Ok(book) => Ok(book),
+        Err((disk, fault)) => {
+            bay.put_back(owner, disk);
+            Err(open_stop(alloc, name, &fault))
+        }
+    }
+}
+
 /// Opens an owner's book on its disk. Where it isn't opened, the disk is put back.
 pub(crate) fn open_book<B: Bay>(
     alloc: Global,
@@ -85,16 +119,7 @@ pub(crate) fn open_book<B: Bay>(
     let house = opened.house();
     let entry = house.entry(alloc, owner)?;
     let name = opened.catalog().owner_name(owner);
-    let Ok(disk) = bay.take(owner) else {
-        return Err(disk_stop(alloc, name));
-    };
-    match Book::open(alloc, disk, entry, header) {
-        Ok(book) => Ok(book),
-        Err((disk, fault)) => {
-            bay.put_back(owner, disk);
-            Err(open_stop(alloc, name, &fault))
-        }
-    }
+    open_on(alloc, bay, name, entry, header, owner)
 }
 
 /// The owners' desks, in order, and the first pass on each.

@@ -22,12 +22,16 @@ pub enum Status {
     JournalRefused,
     /// 5: files, source, sink or a door have failed.
     Fault,
-    /// 6: the bay has failed, or an owner's disk as its journal was opened or made.
+    /// 6: the bay has failed, or an owner's disk as its journal was opened or made, or as a grant was appended.
     DiskFault,
     /// 7: memory ran out.
     NoMemory,
     /// 8: over 2^24 bytes of script were taken.
     ScriptTooLong,
+    /// 9: the budget with a grant would exceed the limit of all budgets.
+    TooLarge,
+    /// 10: an owner's journal has no room for a grant.
+    JournalFull,
 }
 
 impl Status {
@@ -45,6 +49,8 @@ impl Status {
             Status::DiskFault => 6,
             Status::NoMemory => 7,
             Status::ScriptTooLong => 8,
+            Status::TooLarge => 9,
+            Status::JournalFull => 10,
         }
     }
 }
@@ -58,6 +64,10 @@ pub(crate) enum End {
     ProgramRefused(Vec<u8>),
     /// The script of a `run` has over 2^24 bytes.
     ScriptTooLong,
+    /// The budget with a grant would exceed the limit: the line of that.
+    TooLarge(Vec<u8>),
+    /// There is no room for a grant: the line of that.
+    JournalFull(Vec<u8>),
 }
 
 impl End {
@@ -70,6 +80,8 @@ impl End {
             End::Done(_) => Status::Done,
             End::ProgramRefused(_) => Status::ProgramRefused,
             End::ScriptTooLong => Status::ScriptTooLong,
+            End::TooLarge(_) => Status::TooLarge,
+            End::JournalFull(_) => Status::JournalFull,
         }
     }
 
@@ -78,7 +90,7 @@ impl End {
     {
         match self {
             End::Done(lines) => lines,
-            End::ProgramRefused(line) => line,
+            End::ProgramRefused(line) | End::TooLarge(line) | End::JournalFull(line) => line,
             End::ScriptTooLong => b"script too long\n",
         }
     }

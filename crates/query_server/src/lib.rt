@@ -7,6 +7,7 @@ mod check;
 mod end;
 mod gap;
 mod generated;
+mod grant;
 mod init;
 mod laws;
 mod listing;

@@ -20,6 +20,7 @@ use crate::check::check_file;
 use crate::end::{End, Status};
 use crate::gap::compare_files;
 use crate::generated::generate;
+use crate::grant::grant_budget;
 use crate::listing::{Listing, list_owners};
 use crate::run::run_script;
 use crate::serve::{Post, serve_doors};
@@ -95,6 +96,14 @@ where
             list_owners(alloc, files, bay, catalog, key, Listing::Counted)
         }
         Ok(
+            Command::Grant {
+                catalog,
+                key,
+                owner,
+                amount,
+            },
+        ) => grant_budget(alloc, files, bay, catalog, key, owner, amount),
+        Ok(
             Command::Run {
                 catalog,
                 key,
@@ -139,7 +148,7 @@ where
     }
 }
 
-/// Does one of seven commands. Each owner's budget is kept in a journal on its own disk of the bay.
+/// Does one of eight commands. Each owner's budget is kept in a journal on its own disk of the bay.
 ///
 /// - `init CATALOG KEY`: CATALOG is a catalog, KEY a file of 32 bytes. Each owner's journal is made on its disk, which has to be
 ///   empty, and a line for each goes to the sink.
@@ -148,6 +157,9 @@ where
 ///   another, each on records of the owner that it asks which begin with all that the worker saw and added before: with one worker on
 ///   the records so far. What a line adds is kept before it is answered.
 /// - `audit CATALOG KEY`: the owners' journals are opened, and what their records come to goes to the sink, a line for each.
+/// - `grant CATALOG KEY OWNER AMOUNT`: OWNER is an owner of the catalog, and AMOUNT goes to its budget, in millionths of epsilon, 1 to 10^18.
+///   The owner's journal is opened, a record of the grant is kept in it, and the budget with it goes to the sink; or the line that refuses
+///   it, where the budget would be above 10^18 or the journal has no room.
 /// - `check CATALOG OWNER FILE`: OWNER is an owner of the catalog, and FILE holds a program. Its sensitivity, or the line that
 ///   refuses it, goes to the sink. Nothing is taken of the source, and no disk.
 /// - `gap CATALOG OWNER CATALOG2 FILE`: CATALOG2 is a catalog too, whose owner of that name has the same tables. How far the two
@@ -160,7 +172,7 @@ where
 /// - `gen SEED N`, perhaps with WORKERS: in memory, and over no file, one analyst asks one owner N times. What that comes to follows from
 ///   SEED and N, and goes to the sink.
 ///
-/// Each but `gen` reads the tables of all owners of its catalogs, in order. At another status than Done the status's line goes to the sink.
+/// Each but `gen` and `grant` reads the tables of all owners of its catalogs, in order, and `grant` those of its owner. At another status than Done the status's line goes to the sink.
 /// Files, source, sink and disks tell what they hold, or don't; what is said of their contents holds where they do. Want of memory
 /// (`NoMemory`) may be answered at any time, at faulty words too; in a script that is answered, and in a session, it may be the reply to a
 /// line that asks: 90 before a reservation, and 51 after it. The runtime is for workers: each has a thread, and waits for the owners'
@@ -214,7 +226,7 @@ where
         IfFinished result ((text : List ℕ)
         × IsDue (work_of (map string_bytes words.now) (always held)) (B.shelf bay.old) (B.shelf bay.new) script result text) }
     // Where all that a command takes is valid and no count of faults rises, it ends well, or memory runs out: `init` and `audit` with
-    // Done, `run` with Done or with ScriptTooLong, `check` and `gap` with Done or ProgramRefused, `serve` and `gen` with Done.
+    // Done, `grant` with Done, TooLarge or JournalFull, `run` with Done or with ScriptTooLong, `check` and `gap` with Done or ProgramRefused, `serve` and `gen` with Done.
     ensures complete { let given = map string_bytes words.now in (held : Contents) → F.held files.old ≡ Some held →
         IsValidFor (work_of given (always held)) (B.shelf bay.old) →
         (HasRisen (F.faults files.old) (F.faults files.new) → ⊥) → (HasRisen (S.faults source.old) (S.faults source.new) → ⊥) →
