@@ -65,7 +65,8 @@ fn copy_chunk<D: Disk>(
     disk.write_at(to.place(slot), chunk)
 }
 
-// Writes the next area behind this one: its slots as they are, and then zeros.
+// Writes the next area behind this one: its slots as they are, and then zeros. No frame but its own has the chunk.
+#[inline(never)]
 fn copy_area<D: Disk>(disk: &mut D, from: &Area, to: &Area) -> Result<(), Failed>
     requires { to.now.begin ≡ from.now.begin + 64 * from.now.slots }
     ensures copied { OnOk result (WhereTold (AreaCopied from.now.begin from.now.slots to.now.slots) (D.trace disk.old) (D.trace disk.new)) }
