@@ -1,8 +1,8 @@
 #!/usr/bin/env python3
 """Two workers over three owners, of whose journals one fails or stops at each of its calls in turn.
 
-usage: bench/failing_workers.py [--quick]    (PROGRAM=FILE tries another build than tools/build's). Needs cc. --quick tries every twelfth call of a run,
-and of a service every fortieth.
+usage: bench/failing_workers.py [--quick]    (PROGRAM=FILE tries another build than tools/build's). Needs cc. --quick tries every eighth call of a run,
+and every twelfth of an audit and of a service.
 The owners' journals are of versions 1, 2 and 3, and each is so full that the lines that are tried open its next area, where the version has areas. The
 calls of each owner's file are counted in turn (bench/fail_disk.c), and the same lines are answered again with one call that fails, with all from
 that one on, and with a kill in the place of the call, by
@@ -273,9 +273,10 @@ def main():
     with tempfile.TemporaryDirectory(dir=place()) as folder, tempfile.TemporaryDirectory() as library:
         room = Room(folder, library)
         try:
-            counts = runs(room, 12 if quick else 1)
+            # Of every eighth one is the write of an area's gate.
+            counts = runs(room, 8 if quick else 1)
             opened = audits(room, 12 if quick else 1)
-            services(room, 40 if quick else 1, counts)
+            services(room, 12 if quick else 1, counts)
         except Wrong as fault:
             print(f"WRONG: {fault}")
             sys.exit(1)

@@ -1,13 +1,12 @@
 -- An area that is written behind another: what a stop leaves meanwhile, and what is read afterwards.
-use Rattle.std.proofs.Common.{◌≡◌, ℕ, ◌+◌, ◌*◌, ◌<◌, ◌≤◌, List, length, replicate, slice_index, refl, sym, ◌∙◌, ap, subst, arith, inl, inr, ⊎_elim, Option, None, Some, IfSome}
-use Rattle.std.proofs.lemmas.Bool.{cases_eq}
-use Rattle.outside_disks.specs.Disks.{Trace, after, noted, moment, seen_of, overlaid, IsImageOf, Torn, Gives, Only, Leaves, Passes, WhereTold, MayHaveWritten}
+use Rattle.std.proofs.Common.{◌≡◌, ℕ, ◌+◌, ◌-◌, ◌*◌, ◌<◌, ◌≤◌, List, length, slice_index, refl, sym, ◌∙◌, ap, subst, arith, inl, inr, ⊎_elim, Option, None, Some}
+use Rattle.std.proofs.lemmas.Bool.{cases_lt}
+use Rattle.outside_disks.specs.Disks.{Trace, after, moment, seen_of, overlaid, IsImageOf, Torn, Only, Leaves, Passes, WhereTold, MayHaveWritten}
 use Rattle.outside_disks.specs.Disks.Step.{Wrote, Synced}
 use Rattle.outside_disks.proofs.Told.{told-is, told-both}
 use Rattle.outside_disks.proofs.Overlaid.{length-overlaid, overlaid-before, overlaid-at}
 use Rattle.outside_disks.proofs.Images.{seen-image, now-was, passes-none, passes-step}
-use Rattle.budget_journal.proofs.Gates.{all-zero}
-use Rattle.budget_journal.specs.Growth.{HasFront, HasCopy, SlotCopied, AreaCopied, AreaCopyFailed}
+use Rattle.budget_journal.specs.Growth.{HasFront, HasCopy, IsChunk, ChunkCopied, AreaCopied, AreaCopyFailed}
 
 -- ---- told or not
 
@@ -27,16 +26,6 @@ told-then-tried R Q place size kept tried old mid new told (inr wrote) =
     told-both R (λ u v. v ≡ after (Wrote place wrote.0) u) Q
     (λ t u v r same. subst (λ (w : Trace). Q t w) (sym same) (tried t u wrote.0 wrote.1 r)) old mid new told
     (told-is (λ u v. v ≡ after (Wrote place wrote.0) u) (after (Wrote place wrote.0)) mid new wrote.2 (λ t. refl))
-
--- one slot's write, where it is told
-pub told-slot : (begin slots k : ℕ) (bytes : List ℕ) (place : ℕ) (old mid new : Option Trace) → length bytes ≡ 64
-    → IfSome old (λ t. k < slots → Gives (seen_of t) (begin + 64 * k) bytes) → (slots ≤ k → bytes ≡ replicate 64 0) → mid ≡ old
-    → place ≡ begin + 64 * slots + 64 * k → new ≡ noted (Wrote place bytes) mid → WhereTold (SlotCopied begin slots k) old new
-told-slot begin slots k bytes place None mid new long gives none same here wrote =
-    subst (λ (o : Option Trace). WhereTold (SlotCopied begin slots k) None o) (sym (wrote ∙ ap (noted (Wrote place bytes)) same)) tt
-told-slot begin slots k bytes place (Some t) mid new long gives none same here wrote =
-    subst (λ (o : Option Trace). WhereTold (SlotCopied begin slots k) (Some t) o) (sym (wrote ∙ ap (noted (Wrote place bytes)) same))
-    (bytes, long, gives, none, ap (λ (n : ℕ). after (Wrote n bytes) t) here)
 
 -- ---- the first bytes
 
@@ -74,7 +63,7 @@ module _ (size : ℕ) (t u : Trace) (p : Passes (HasFront size (seen_of t)) t u)
   front-synced = passes-step (HasFront size (seen_of t)) t u Synced p
       (λ c image. subst (λ (e : List ℕ). HasFront size (seen_of t) e) (sym image) front-seen)
 
--- ---- slot by slot
+-- ---- chunk by chunk
 
 module _ (begin slots : ℕ) where
   abbrev end : ℕ
@@ -86,9 +75,9 @@ module _ (begin slots : ℕ) where
     record { long = omega arith; copied = λ k i in_slots lt within. absurd (omega arith); zeros = λ k i past lt within. absurd (omega arith) },
   )
 
-  -- what reads give after one slot more
-  module _ (k : ℕ) (old mid bytes : List ℕ) (front : HasFront end old mid) (copy : HasCopy begin slots k old mid) (long : length bytes ≡ 64)
-      (gives : k < slots → Gives mid (begin + 64 * k) bytes) (none : slots ≤ k → bytes ≡ replicate 64 0) where
+  -- what reads give after so many slots more
+  module _ (k count : ℕ) (old mid bytes : List ℕ) (front : HasFront end old mid) (copy : HasCopy begin slots k old mid) (long : length bytes ≡ 64 * count)
+      (chunk : IsChunk begin slots k mid bytes) where
     abbrev place : ℕ
     place = end + 64 * k
 
@@ -98,35 +87,39 @@ module _ (begin slots : ℕ) where
     before : (j i : ℕ) → j < k → i < 64 → slice_index now (end + 64 * j + i) ≡ slice_index mid (end + 64 * j + i)
     before j i lt within = overlaid-before mid place bytes (end + 64 * j + i) (omega arith)
 
-    here : (j i : ℕ) → j ≡ k → i < 64 → slice_index now (end + 64 * j + i) ≡ slice_index bytes i
-    here j i is within = let there : end + 64 * j + i ≡ place + i = omega arith in
-        ap (slice_index now) there ∙ overlaid-at mid place bytes i (omega arith)
+    -- the byte of the chunk that stands for byte i of slot j
+    abbrev in-chunk : (j i : ℕ) → ℕ
+    in-chunk j i = 64 * (j - k) + i
 
-    from-old : (j i : ℕ) → j ≡ k → j < slots → i < 64 → slice_index bytes i ≡ slice_index old (begin + 64 * j + i)
-    from-old j i is lt within = let there : begin + 64 * k + i ≡ begin + 64 * j + i = omega arith in
-        gives (omega arith) i (omega arith) ∙ ap (slice_index mid) there ∙ front.same (begin + 64 * j + i) (omega arith)
+    here : (j i : ℕ) → k ≤ j → j < k + count → i < 64 → slice_index now (end + 64 * j + i) ≡ slice_index bytes (in-chunk j i)
+    here j i le lt within = let there : end + 64 * j + i ≡ place + in-chunk j i = omega arith in
+        ap (slice_index now) there ∙ overlaid-at mid place bytes (in-chunk j i) (omega arith)
 
-    copy-more : HasCopy begin slots (k + 1) old now
+    from-old : (j i : ℕ) → k ≤ j → j < k + count → j < slots → i < 64 → slice_index bytes (in-chunk j i) ≡ slice_index old (begin + 64 * j + i)
+    from-old j i le lt in_slots within = let there : begin + 64 * k + in-chunk j i ≡ begin + 64 * j + i = omega arith in
+        chunk.copied (in-chunk j i) (omega arith) (omega arith) ∙ ap (slice_index mid) there ∙ front.same (begin + 64 * j + i) (omega arith)
+
+    copy-more : HasCopy begin slots (k + count) old now
     copy-more = record {
       long = omega (arith, length-overlaid mid place bytes, copy.long);
       copied = λ j i in_slots lt within. ⊎_elim
-          (λ is. here j i is within ∙ from-old j i is in_slots within)
-          (λ other. before j i (omega (arith, other)) within ∙ copy.copied j i in_slots (omega (arith, other)) within)
-          (cases_eq j k);
+          (λ earlier. before j i earlier within ∙ copy.copied j i in_slots earlier within)
+          (λ le. here j i le lt within ∙ from-old j i le lt in_slots within)
+          (cases_lt j k);
       zeros = λ j i past lt within. ⊎_elim
-          (λ is. here j i is within ∙ ap (λ (b : List ℕ). slice_index b i) (none (omega arith)) ∙ all-zero 64 i)
-          (λ other. before j i (omega (arith, other)) within ∙ copy.zeros j i past (omega (arith, other)) within)
-          (cases_eq j k);
+          (λ earlier. before j i earlier within ∙ copy.zeros j i past earlier within)
+          (λ le. here j i le lt within ∙ chunk.zeros (in-chunk j i) (omega arith) (omega arith))
+          (cases_lt j k);
     }
 
-  pub copied-more : (k : ℕ) (t u v : Trace) → AreaCopied begin slots k t u → SlotCopied begin slots k u v → AreaCopied begin slots (k + 1) t v
-  copied-more k t u v area slot le stable =
+  pub copied-more : (k count : ℕ) (t u v : Trace) → AreaCopied begin slots k t u → ChunkCopied begin slots k (64 * count) u v → AreaCopied begin slots (k + count) t v
+  copied-more k count t u v area chunk le stable =
       let so_far = area le stable in
-      let bytes : List ℕ = slot.0 in
+      let bytes : List ℕ = chunk.0 in
       let wrote : Trace = after (Wrote (end + 64 * k) bytes) u in
-      subst (λ (w : Trace). Passes (HasFront end (seen_of t)) t w × HasCopy begin slots (k + 1) (seen_of t) (seen_of w)) (sym slot.4) (
+      subst (λ (w : Trace). Passes (HasFront end (seen_of t)) t w × HasCopy begin slots (k + count) (seen_of t) (seen_of w)) (sym chunk.3) (
         front-wrote end t u so_far.0 (end + 64 * k) bytes (omega arith),
-        copy-more k (seen_of t) (seen_of u) bytes (front-seen end t u so_far.0) so_far.1 slot.1 slot.2 slot.3,
+        copy-more k count (seen_of t) (seen_of u) bytes (front-seen end t u so_far.0) so_far.1 chunk.1 chunk.2,
       )
 
   pub copied-tried : (k : ℕ) (t u : Trace) (bytes : List ℕ) → AreaCopied begin slots k t u → AreaCopyFailed begin slots t (after (Wrote (end + 64 * k) bytes) u)

@@ -1,6 +1,6 @@
 -- Within an append: an area more, a slot filled, and what a stop leaves.
-use Rattle.std.specs.Prelude.{◌≡◌, ℕ, suc, ◌+◌, ◌*◌, ◌<◌, ◌≤◌, List, [], ◌∷◌, ◌++◌, length, take, replicate, slice_index}
-use Rattle.outside_disks.specs.Disks.{Trace, after, seen_of, Gives, Only, Passes}
+use Rattle.std.specs.Prelude.{◌≡◌, ℕ, suc, ◌+◌, ◌*◌, ◌<◌, ◌≤◌, List, [], ◌∷◌, ◌++◌, length, take, slice_index}
+use Rattle.outside_disks.specs.Disks.{Trace, after, seen_of, Only, Passes}
 use Rattle.outside_disks.specs.Disks.Step.{Wrote}
 use Rattle.journal_records.specs.declared.records.Record.{Record}
 use Rattle.journal_records.specs.declared.records.Header.{Header}
@@ -39,10 +39,15 @@ pub record HasCopy (begin slots count : ℕ) (old new : List ℕ) : Type 0 where
   pub copied : (k i : ℕ) → k < slots → k < count → i < 64 → slice_index new (begin + 64 * slots + 64 * k + i) ≡ slice_index old (begin + 64 * k + i)
   pub zeros : (k i : ℕ) → slots ≤ k → k < count → i < 64 → slice_index new (begin + 64 * slots + 64 * k + i) ≡ 0
 
--- Slot k behind an area was written: with what the area's slot k holds, or with zeros.
-abbrev pub SlotCopied : (begin slots k : ℕ) → Trace → Trace → Type 0
-SlotCopied begin slots k t u = (bytes : List ℕ) × (length bytes ≡ 64) × (k < slots → Gives (seen_of t) (begin + 64 * k) bytes)
-    × (slots ≤ k → bytes ≡ replicate 64 0) × (u ≡ after (Wrote (begin + 64 * slots + 64 * k) bytes) t)
+-- What goes behind an area, from the place of its slot k on: what the area's slots hold, and then zeros.
+pub record IsChunk (begin slots k : ℕ) (file bytes : List ℕ) : Type 0 where
+  pub copied : (i : ℕ) → i < length bytes → 64 * k + i < 64 * slots → slice_index bytes i ≡ slice_index file (begin + 64 * k + i)
+  pub zeros : (i : ℕ) → i < length bytes → 64 * slots ≤ 64 * k + i → slice_index bytes i ≡ 0
+
+-- So many bytes of it were written, from the place of slot k behind the area on.
+abbrev pub ChunkCopied : (begin slots k size : ℕ) → Trace → Trace → Type 0
+ChunkCopied begin slots k size t u = (bytes : List ℕ) × (length bytes ≡ size) × IsChunk begin slots k (seen_of t) bytes
+    × (u ≡ after (Wrote (begin + 64 * slots + 64 * k) bytes) t)
 
 -- Each file that a stop may have left since then has what stands up to the area's end, and what reads give has the copy.
 abbrev pub AreaCopied : (begin slots count : ℕ) → Trace → Trace → Type 0

@@ -1,10 +1,10 @@
 //! An area more.
 
-ghost use Rattle.std.specs.Prelude.{◌≡◌, ◌+◌, ◌*◌, ◌<◌, ◌≤◌, suc, length, replicate, IsErr, IfOk, IfSome, OnOk, OnErr};
+ghost use Rattle.std.specs.Prelude.{◌≡◌, ◌+◌, ◌*◌, ◌<◌, ◌≤◌, suc, length, IsErr, IfOk, IfSome, OnOk, OnErr};
 ghost use Rattle.fz_outside.specs.Faults.{HasCause};
-ghost use Rattle.outside_disks.specs.Disks.{seen_of, noted, Gives, WhereTold, MayHaveWritten};
+ghost use Rattle.outside_disks.specs.Disks.{seen_of, noted, WhereTold, MayHaveWritten};
 ghost use Rattle.outside_disks.specs.Disks.Step.{Wrote, Synced};
-ghost use Rattle.budget_journal.specs.Growth.{SlotCopied, AreaCopied, AreaCopyFailed, AreaAdded, AreaAddFailed, RoomMade, RoomNotMade};
+ghost use Rattle.budget_journal.specs.Growth.{IsChunk, ChunkCopied, AreaCopied, AreaCopyFailed, AreaAdded, AreaAddFailed, RoomMade, RoomNotMade};
 ghost use Rattle.budget_journal.specs.Journals.{mark_at};
 ghost use Rattle.budget_journal.specs.declared.form.Form.TheVariants.{Many};
 
@@ -24,34 +24,49 @@ pub(crate) fn put_stable<D: Disk>(disk: &mut D, place: u64, bytes: &[u8]) -> Res
     disk.sync()
 }
 
-// What goes into a slot of the next area: what this one has there, and behind its slots zeros.
-fn slot_bytes<D: Disk>(disk: &mut D, from: &Area, slot: u32) -> Result<[u8; 64], Failed>
-    ensures copied { IfOk result (λ bytes. IfSome (D.trace disk.old) (λ t. slot < from.now.slots → Gives (seen_of t) (from.now.begin + 64 * slot) bytes)) }
-    ensures zeros { IfOk result (λ bytes. from.now.slots ≤ slot → bytes ≡ replicate 64 0) }
+/// How many slots are copied at once, by way of the stack.
+const CHUNK_SLOTS: u32 = 256;
+
+/// How many bytes those have.
+const CHUNK_BYTES: usize = 64 * CHUNK_SLOTS as usize;
+
+// Fills a chunk with what goes into the next area from a slot on: what this one has there, and behind its slots zeros.
+fn fill_chunk<D: Disk>(disk: &mut D, from: &Area, slot: u32, chunk: &mut [u8]) -> Result<(), Failed>
+    ensures filled { OnOk result (IfSome (D.trace disk.old) (λ t. IsChunk from.now.begin from.now.slots slot (seen_of t) chunk.new)) }
     ensures same { D.trace disk.new ≡ D.trace disk.old }
     ensures cause { HasCause (D.faults disk.old) (D.faults disk.new) (IsErr result) }
     ensures passed { OnOk result (D.faults disk.new ≡ D.faults disk.old) }
 {
-    let mut bytes = [0u8; 64];
-    if slot < from.slots {
-        disk.read_at(from.place(slot), &mut bytes)?;
+    let held = chunk
+        .len()
+        .min(64 * from.slots.saturating_sub(slot) as usize);
+    chunk[held..].fill(0);
+    if held != 0 {
+        disk.read_at(from.place(slot), &mut chunk[..held])?;
     }
-    Ok(bytes)
+    Ok(())
 }
 
-// Writes one slot of the next area.
-fn copy_slot<D: Disk>(disk: &mut D, from: &Area, to: &Area, slot: u32) -> Result<(), Failed>
+// Writes the slots of the next area that a chunk has room for, from one on.
+fn copy_chunk<D: Disk>(
+    disk: &mut D,
+    from: &Area,
+    to: &Area,
+    slot: u32,
+    chunk: &mut [u8],
+) -> Result<(), Failed>
     requires { to.now.begin ≡ from.now.begin + 64 * from.now.slots }
-    ensures copied { OnOk result (WhereTold (SlotCopied from.now.begin from.now.slots slot) (D.trace disk.old) (D.trace disk.new)) }
-    ensures err { OnErr result (MayHaveWritten (to.now.begin + 64 * slot) 64 (D.trace disk.old) (D.trace disk.new)) }
+    ensures copied { OnOk result (WhereTold (ChunkCopied from.now.begin from.now.slots slot (length chunk.old)) (D.trace disk.old) (D.trace disk.new)) }
+    ensures err { OnErr result (MayHaveWritten (to.now.begin + 64 * slot) (length chunk.old) (D.trace disk.old) (D.trace disk.new)) }
     ensures cause { HasCause (D.faults disk.old) (D.faults disk.new) (IsErr result) }
     ensures passed { OnOk result (D.faults disk.new ≡ D.faults disk.old) }
 {
-    let bytes = slot_bytes(disk, from, slot)?;
-    disk.write_at(to.place(slot), &bytes)
+    fill_chunk(disk, from, slot, chunk)?;
+    disk.write_at(to.place(slot), chunk)
 }
 
-// Writes the next area behind this one: its slots as they are, and then zeros.
+// Writes the next area behind this one: its slots as they are, and then zeros. No frame but its own has the chunk.
+#[inline(never)]
 fn copy_area<D: Disk>(disk: &mut D, from: &Area, to: &Area) -> Result<(), Failed>
     requires { to.now.begin ≡ from.now.begin + 64 * from.now.slots }
     ensures copied { OnOk result (WhereTold (AreaCopied from.now.begin from.now.slots to.now.slots) (D.trace disk.old) (D.trace disk.new)) }
@@ -59,8 +74,12 @@ fn copy_area<D: Disk>(disk: &mut D, from: &Area, to: &Area) -> Result<(), Failed
     ensures cause { HasCause (D.faults disk.old) (D.faults disk.new) (IsErr result) }
     ensures passed { OnOk result (D.faults disk.new ≡ D.faults disk.old) }
 {
-    for slot in 0..to.slots {
-        copy_slot(disk, from, to, slot)?;
+    let mut chunk = [0u8; CHUNK_BYTES];
+    let mut slot = 0;
+    while slot < to.slots {
+        let count = CHUNK_SLOTS.min(to.slots - slot);
+        copy_chunk(disk, from, to, slot, &mut chunk[..64 * count as usize])?;
+        slot += count;
     }
     Ok(())
 }
