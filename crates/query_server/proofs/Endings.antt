@@ -4,15 +4,17 @@ use Rattle.std.specs.Prelude.{Result, Ok, Err}
 use Rattle.fz_ast.specs.Signature.{Signature}
 use Rattle.metric_values.specs.Tables.{Dataset}
 use Rattle.owner_catalog.specs.Catalog.{Catalog}
-use Rattle.command_words.specs.Command.{Command, init, run, audit, check, gap, serve, gen, command_of}
+use Rattle.command_words.specs.Command.{Command, init, run, audit, grant, check, gap, serve, gen, command_of}
 use Rattle.catalog_loading.specs.Files.{ReadsToCome}
 use Rattle.catalog_loading.specs.Steps.{FileStep, ◌>>=◌, continued, done, file_read, from}
-use Rattle.catalog_loading.specs.Loaded.{Loading, IsKeyedHouse, catalog_read, house_read, key_read, keyed, loaded, entry_named, owner_loaded, with_house}
+use Rattle.owner_catalog.specs.Entries.{owner_entry_at}
+use Rattle.catalog_loading.specs.Loaded.{KeyedOwner, Loading, IsKeyedHouse, number_named, owner_read, catalog_read, house_read, key_read, keyed, loaded, entry_named, owner_loaded, with_house}
 use Rattle.catalog_loading.specs.Fit.{fitting}
-use Rattle.query_server.specs.Work.{Work, ended, usage, refused, to_answer, to_make, to_count, to_check, to_compare, to_serve, to_generate}
+use Rattle.query_server.specs.Work.{Work, ended, usage, refused, to_answer, to_make, to_count, to_grant, to_check, to_compare, to_serve, to_generate}
 use Rattle.query_server.specs.Run.{run_steps}
 use Rattle.query_server.specs.Init.{init_steps}
 use Rattle.query_server.specs.Audit.{audit_steps}
+use Rattle.query_server.specs.Grant.{grant_steps}
 use Rattle.query_server.specs.Check.{check_steps}
 use Rattle.query_server.specs.Gap.{gap_steps}
 use Rattle.query_server.specs.Serve.{serve_steps}
@@ -50,6 +52,7 @@ pub data ComesTo : Option Command → Work → Type 0 where
   answers : {catalog name : List ℕ} {workers : ℕ} {loading : Loading} {key : List ℕ} → ComesTo (Some (run catalog name workers)) (to_answer workers loading key)
   makes : {catalog name : List ℕ} {loading : Loading} {key : List ℕ} → ComesTo (Some (init catalog name)) (to_make loading key)
   counts : {catalog name : List ℕ} {loading : Loading} {key : List ℕ} → ComesTo (Some (audit catalog name)) (to_count loading key)
+  grants : {catalog key owner : List ℕ} {amount : ℕ} {one : KeyedOwner} → ComesTo (Some (grant catalog key owner amount)) (to_grant amount one)
   checks : {catalog owner file : List ℕ} {tables : Signature} {program : List ℕ} → ComesTo (Some (check catalog owner file)) (to_check tables program)
   compares : {catalog owner second_catalog file : List ℕ} {tables : Signature} {X Y : Dataset} {program : List ℕ}
       → ComesTo (Some (gap catalog owner second_catalog file)) (to_compare tables X Y program)
@@ -72,6 +75,15 @@ check_comes catalog owner file =
     (λ entry. then_cases comes refuses (owner_loaded house owner) _
     (λ holding. then_cases comes refuses (file_read file) (λ program. done (to_check holding.tables program)) (λ program reads. checks))))
 
+grant_comes : (catalog key owner : List ℕ) (amount : ℕ) (reads : ReadsToCome) → ComesTo (Some (grant catalog key owner amount)) (ended (grant_steps catalog key owner amount reads).given)
+grant_comes catalog key owner amount =
+    let comes = ComesTo (Some (grant catalog key owner amount)) in
+    then_cases comes refuses (catalog_read catalog) _
+    (λ house. then_cases comes refuses (key_read key) _
+    (λ bytes. then_cases comes refuses (from (number_named house owner)) _
+    (λ number. then_cases comes refuses (owner_read (owner_entry_at house number))
+    (λ loaded. done (to_grant amount (record { catalog = house; number = number; hashes = loaded.hashes; key = bytes }))) (λ loaded reads. grants))))
+
 gap_comes : (catalog owner second_catalog file : List ℕ) (reads : ReadsToCome)
     → ComesTo (Some (gap catalog owner second_catalog file)) (ended (gap_steps catalog owner second_catalog file reads).given)
 gap_comes catalog owner second_catalog file =
@@ -90,6 +102,7 @@ comes_to None reads = no_command
 comes_to (Some (run catalog key workers)) reads = house_comes _ (to_answer workers) (λ loading bytes. answers) catalog key reads
 comes_to (Some (init catalog key)) reads = house_comes _ to_make (λ loading bytes. makes) catalog key reads
 comes_to (Some (audit catalog key)) reads = house_comes _ to_count (λ loading bytes. counts) catalog key reads
+comes_to (Some (grant catalog key owner amount)) reads = grant_comes catalog key owner amount reads
 comes_to (Some (check catalog owner file)) reads = check_comes catalog owner file reads
 comes_to (Some (gap catalog owner second_catalog file)) reads = gap_comes catalog owner second_catalog file reads
 comes_to (Some (serve catalog key address port workers each)) reads = house_comes _ (to_serve workers each) (λ loading bytes. serves) catalog key reads

@@ -2,7 +2,11 @@
 use Rattle.std.proofs.Common.{arith, ◌≡◌, ℕ, ◌≤◌, Bool, true, false, List, [], ◌∷◌, ◌++◌, append-nil, length, Option, Some, None, refl, sym, ap, subst, ◌∙◌}
 use Rattle.fz_ast.specs.Signature.{Signature}
 use Rattle.std.specs.Io.KnownBytes.{append_known}
-use Rattle.std.specs.Prelude.{Err, IsSome, MatchBool}
+use Rattle.std.specs.Prelude.{Result, Ok, Err, IsSome, MatchBool}
+use Rattle.budget_core.specs.declared.answers.Left.{Left}
+use Rattle.budget_core.specs.declared.answers.GrantRefusal.{GrantRefusal}
+use Rattle.budget_core.specs.declared.answers.GrantRefusal.TheVariants.{TooLarge, Full}
+use Rattle.query_server.specs.Grant.{verdict_on, verdict_status}
 use mathlib.Core.Logic.{◌⊎◌, inl, inr}
 use Rattle.word_streams.specs.Draws.{draws_of}
 use Rattle.answer_path.specs.Reading.{Reading, IsReading}
@@ -11,7 +15,7 @@ use Rattle.answer_path.proofs.Readings.{one_reading}
 use Rattle.metric_values.specs.Tables.{Dataset}
 use Rattle.session_core.specs.Transcript.{Journals}
 use Rattle.command_words.specs.Command.{Command, command_of}
-use Rattle.query_server.specs.Work.{Work, usage, refused, to_answer, to_make, to_count, to_check, to_compare, to_serve, to_generate}
+use Rattle.query_server.specs.Work.{Work, usage, refused, to_answer, to_make, to_count, to_grant, to_check, to_compare, to_serve, to_generate}
 use Rattle.catalog_loading.specs.Files.{Contents, ReadsToCome, always}
 use Rattle.catalog_loading.specs.Steps.{done}
 use Rattle.catalog_loading.specs.Loaded.{Loading, in_versions}
@@ -21,7 +25,7 @@ use Rattle.query_server.specs.Run.{IsScriptAnswered, script_limit}
 use Rattle.query_server.specs.Check.{status_by}
 use Rattle.query_server.specs.Gap.{IsGapDue}
 use Rattle.query_server.specs.Status.{refused_text, memory_text}
-use Rattle.query_server.specs.Due.{AreRead, ForContents, IfFinished, IsDiskLine, IsDue, IsForProgram, IsOfDisks, IsOfProgram, IsOfRun, IsBeginning, IsStopLine, IsToWrite, IsWrittenAt, MayStop, work_of, files_of, command_steps, duty_of, command_kind}
+use Rattle.query_server.specs.Due.{AreRead, ForContents, IfFinished, IsDiskLine, IsDue, IsForProgram, IsOfDisks, IsOfGrant, IsOfProgram, IsOfRun, IsBeginning, IsStopLine, IsToWrite, IsWrittenAt, MayStop, work_of, files_of, command_steps, duty_of, command_kind}
 use Rattle.query_server.specs.Promise.{IsAnsweredScript, IsRunLeft}
 use Rattle.query_server.specs.Ends.{Ended, IsCut, IsEndOf, IsEndingWith, IsStepEnd, status_at, text_at}
 use Rattle.query_server.specs.Taken.{IsTaken, IsTakenAt}
@@ -32,7 +36,7 @@ use Rattle.query_server.proofs.Judged.{gap_status}
 use Rattle.query_server.proofs.Contents.{at_held, at_some, at_told, for_contents}
 use Rattle.query_server.proofs.Prefixes.{prefix_empty, prefix_of_prefix, prefix_whole}
 use Rattle.query_server.proofs.Ends.{took_passed}
-use Rattle.query_server.proofs.Endings.{ComesTo, answers, checks, compares, counts, makes, no_command, refuses, serves, house_by, work_comes}
+use Rattle.query_server.proofs.Endings.{ComesTo, answers, checks, compares, counts, grants, makes, no_command, refuses, serves, house_by, work_comes}
 use Rattle.query_server.proofs.Disks.{may_stop_same}
 use Rattle.query_server.proofs.Owed.{histories}
 use Rattle.query_server.proofs.Versions.{lawful_in}
@@ -95,6 +99,13 @@ gap_verdict : (tables : Signature) (X Y : Dataset) (program : List ℕ) (status 
 gap_verdict tables X Y program status text due =
     no_verdict (judgement_of tables due.reading) status (gap_status (judgement_of tables due.reading) tables X Y program status text due.due)
 
+-- the status of a grant that is answered
+verdict_ends : (verdict : Result Left GrantRefusal) (status : Status) → status ≡ verdict_status verdict
+    → (status ≡ code.Done) ⊎ ((status ≡ code.TooLarge) ⊎ ((status ≡ code.JournalFull) ⊎ (status ≡ code.JournalRefused)))
+verdict_ends (Ok left) status is = inl is
+verdict_ends (Err (TooLarge budget amount)) status is = inr (inl is)
+verdict_ends (Err (Full used unsettled capacity)) status is = inr (inr (inl is))
+
 -- the statuses of each work
 abbrev pub IsStatusOf : Work → Status → Type 0
 IsStatusOf work = (duty_of work).statuses
@@ -112,6 +123,8 @@ due_status (to_count loading key) b a script status text (inr (versions, found, 
 due_status (to_serve workers each loading key) b a script status text (inl due) = inr due.is_status
 due_status (to_serve workers each loading key) b a script status text (inr (versions, found, opened, is, none, held)) = inl is
 due_status (to_generate seed asks) b a script status text due = due.0
+due_status (to_grant amount one) b a script status text (inl due) = inr (inr (inr due.is_status))
+due_status (to_grant amount one) b a script status text (inr due) = verdict_ends (verdict_on one due.version due.found amount) status due.is_status
 due_status (to_check tables program) b a script status text due = no_verdict (judgement_of tables due.reading) status due.is_status
 due_status (to_compare tables X Y program) b a script status text due = gap_verdict tables X Y program status text due
 
@@ -187,12 +200,18 @@ pub run_of : (command : Option Command) (work : Work) → ComesTo command work �
 run_of command work answers is = refl
 run_of command work other is = absurd (grind (arith, is))
 
+pub grant_of : (command : Option Command) (work : Work) → ComesTo command work → IsStatusOf work code.TooLarge ⊎ IsStatusOf work code.JournalFull → IsOfGrant command
+grant_of command work (grants {catalog = catalog} {key = key} {owner = owner} {amount = amount}) is = (catalog, key, owner, amount, refl)
+grant_of command work other (inl is) = absurd (grind (arith, is))
+grant_of command work other (inr is) = absurd (grind (arith, is))
+
 -- a journal is refused to a command that takes the owners' disks
 pub disks_of : (command : Option Command) (work : Work) → ComesTo command work → IsStatusOf work code.JournalRefused → IsOfDisks command
 disks_of command work answers is = refl
 disks_of command work makes is = refl
 disks_of command work counts is = refl
 disks_of command work serves is = refl
+disks_of command work grants is = refl
 disks_of command work other is = absurd (grind (arith, is))
 
 -- a script that is answered

@@ -2,11 +2,11 @@
 use Rattle.std.proofs.Common.{ℕ, ◌≤◌, List, [], ◌∷◌, ◌++◌, sym, subst, arith}
 use Rattle.std.proofs.lemmas.Option.{slice_get_within}
 use Rattle.journal_records.specs.declared.records.Record.{Record}
-use Rattle.journal_records.specs.declared.records.Record.TheVariants.{Reserve, Settle}
+use Rattle.journal_records.specs.declared.records.Record.TheVariants.{Reserve, Settle, Grant as Granted}
 use Rattle.budget_core.specs.Cost.{cost_of, budget_of}
 use Rattle.budget_core.specs.Entries.{Entry}
 use Rattle.budget_core.specs.Legal.{IsHistory, MayFollow}
-use Rattle.budget_core.proofs.Costs.{cost_of-le-Settle, cost_of-nil}
+use Rattle.budget_core.proofs.Costs.{cost_of-le-Settle, cost_of-append-Grant, budget_of-append, cost_of-nil}
 use Rattle.budget_core.proofs.Histories.{history-induction}
 use Rattle.owner_history.specs.Sound.{MayBeFound}
 use Rattle.session_core.specs.Headline.{AreHistories}
@@ -24,7 +24,9 @@ history_within entry = history-induction entry (λ records. cost_of entry record
   where
     step : (xs : List Record) (x : Record) → IsHistory entry xs → MayFollow entry xs x → cost_of entry xs ≤ budget_of entry xs → cost_of entry (xs ++ x ∷ []) ≤ budget_of entry (xs ++ x ∷ [])
     step xs (Reserve reservation) history may within = may.within
-    step xs (Settle settlement) history may within = omega (arith, within, cost_of-le-Settle entry xs settlement.number settlement.outcome settlement.returned)
+    step xs (Settle settlement) history may within =
+        omega (arith, within, cost_of-le-Settle entry xs settlement.number settlement.outcome settlement.returned, budget_of-append entry xs (Settle settlement))
+    step xs (Granted grant) history may within = omega (arith, within, cost_of-append-Grant entry xs grant, budget_of-append entry xs (Granted grant))
 
 -- What the owners' journals are opened with may be found.
 pub histories : (loading : Loading) (key : List ℕ) (shelf : Shelf) (versions : List ℕ) (found : Journals) → IsLoading loading → AreOpened loading key shelf versions found

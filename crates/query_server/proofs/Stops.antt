@@ -25,7 +25,7 @@ use Rattle.catalog_loading.specs.Loaded.{IsLoading, Loading, entry_at, header_of
 use Rattle.query_server.specs.Shelves.{Shelf, NoOtherRose, bytes_on}
 use Rattle.query_server.specs.Opened.{AreOpenedBefore, IsOpened, IsUnopened}
 use Rattle.query_server.specs.Status.{disk_text, journal_text}
-use Rattle.query_server.specs.Books.{ArePassesOn, IsBookFaultStop, IsBookStop, IsDiskStop, IsJournalStop, IsNewBook, IsNewPass, IsOpenStop}
+use Rattle.query_server.specs.Books.{ArePassesOn, IsBookFaultStop, IsBookStop, IsDiskStop, IsJournalStop, IsNewBook, IsNewPass, IsOpenStop, IsUnopenedStop}
 use Rattle.catalog_loading.proofs.Reached.{IsStopped, any_reads}
 use Rattle.query_server.specs.declared.refusals.JournalRefusal.TheVariants.{Uninitialised, Changed, Damaged}
 use Rattle.query_server.specs.declared.refusals.JournalRefusal.{JournalRefusal}
@@ -68,30 +68,30 @@ book_stopped loading key k old mid new stop within same before others is = is
 
 -- ---- one book
 
-pub disk_stopped : (loading : Loading) (key : List ℕ) (shelf : Shelf) (o : ℕ) (name : List ℕ) (stop : Stop) → name ≡ owner_name_at loading o → IsDiskStop name stop → IsBookStop loading key shelf o stop
-disk_stopped loading key shelf o name (Journal line) named is = absurd is
-disk_stopped loading key shelf o name (Disk line) named is = is ∙ ap disk_text named
-disk_stopped loading key shelf o name stop named is = is
+disk_stopped : (name : List ℕ) (entry : Entry) (header : Header) (bytes : Option (List ℕ)) (stop : Stop) → IsDiskStop name stop → IsUnopenedStop name entry header bytes stop
+disk_stopped name entry header bytes (Journal line) is = absurd is
+disk_stopped name entry header bytes (Disk line) is = is
+disk_stopped name entry header bytes stop is = is
 
-journal_stopped : (loading : Loading) (key : List ℕ) (shelf : Shelf) (o : ℕ) (name : List ℕ) (refusal : JournalRefusal) (stop : Stop) → name ≡ owner_name_at loading o
-    → IsUnopened (new_entry loading o) (new_header loading key o) (bytes_on shelf o) refusal → IsJournalStop name refusal stop → IsBookStop loading key shelf o stop
-journal_stopped loading key shelf o name refusal (Journal line) named unopened is = (refusal, unopened, is ∙ ap (λ n. journal_text n refusal) named)
-journal_stopped loading key shelf o name refusal (Disk line) named unopened is = absurd is
-journal_stopped loading key shelf o name refusal stop named unopened is = is
+journal_stopped : (name : List ℕ) (entry : Entry) (header : Header) (bytes : Option (List ℕ)) (refusal : JournalRefusal) (stop : Stop)
+    → IsUnopened entry header bytes refusal → IsJournalStop name refusal stop → IsUnopenedStop name entry header bytes stop
+journal_stopped name entry header bytes refusal (Journal line) unopened is = (refusal, unopened, is)
+journal_stopped name entry header bytes refusal (Disk line) unopened is = absurd is
+journal_stopped name entry header bytes refusal stop unopened is = is
 
 if_some : {A : Type 0} (P Q : A → Type 0) (x : Option A) → ((a : A) → P a → Q a) → IfSome x P → IfSome x Q
 if_some P Q (Some a) f p = f a p
 if_some P Q None f p = tt
 
-pub fault_stopped : (loading : Loading) (key : List ℕ) (shelf : Shelf) (o : ℕ) (name : List ℕ) (fault : OpenFault) (stop : Stop) → name ≡ owner_name_at loading o
-    → IfSome (bytes_on shelf o) (λ bytes. IsBookFault (entry_at loading o) (new_header loading key o) bytes fault) → IsBookFaultStop name fault stop → IsBookStop loading key shelf o stop
-fault_stopped loading key shelf o name open_fault.DiskFault stop named told is = disk_stopped loading key shelf o name stop named is
-fault_stopped loading key shelf o name open_fault.NoMemory stop named told is = subst (IsBookStop loading key shelf o) (sym is) tt
-fault_stopped loading key shelf o name (open_fault.NotInitialised n) stop named told is = journal_stopped loading key shelf o name (Uninitialised n) stop named told is
-fault_stopped loading key shelf o name (open_fault.Changed kept found) stop named told is =
-    journal_stopped loading key shelf o name Changed stop named
-    (if_some (λ bytes. IsBookFault (entry_at loading o) (new_header loading key o) bytes (open_fault.Changed kept found)) _ (bytes_on shelf o) (λ bytes p. (kept, found, p)) told) is
-fault_stopped loading key shelf o name (open_fault.Damaged slot) stop named told is = journal_stopped loading key shelf o name (Damaged slot) stop named told is
+pub fault_stopped : (name : List ℕ) (entry : Entry) (header : Header) (bytes : Option (List ℕ)) (fault : OpenFault) (stop : Stop)
+    → IfSome bytes (λ b. IsBookFault entry header b fault) → IsBookFaultStop name fault stop → IsUnopenedStop name entry header bytes stop
+fault_stopped name entry header bytes open_fault.DiskFault stop told is = disk_stopped name entry header bytes stop is
+fault_stopped name entry header bytes open_fault.NoMemory stop told is = subst (IsUnopenedStop name entry header bytes) (sym is) tt
+fault_stopped name entry header bytes (open_fault.NotInitialised n) stop told is = journal_stopped name entry header bytes (Uninitialised n) stop told is
+fault_stopped name entry header bytes (open_fault.Changed kept found) stop told is =
+    journal_stopped name entry header bytes Changed stop
+    (if_some (λ b. IsBookFault entry header b (open_fault.Changed kept found)) _ bytes (λ b p. (kept, found, p)) told) is
+fault_stopped name entry header bytes (open_fault.Damaged slot) stop told is = journal_stopped name entry header bytes (Damaged slot) stop told is
 
 -- what is said of a told disk
 pub told_shown : (P : List ℕ → Type 0) (shown : Option Shown) (trace : Option Trace) (faults : ℕ) → shown ≡ Some (record { trace = trace; faults = faults }) → ((t : Trace) → trace ≡ Some t → P (seen_of t))

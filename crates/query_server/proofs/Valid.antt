@@ -1,19 +1,23 @@
 -- commands of which nothing is in the way
 use Rattle.std.proofs.Common.{◌≡◌, ℕ, ◌<◌, ◌≤◌, List, [], length, Option, Some, None, refl, subst, arith}
-use Rattle.std.specs.Prelude.{Err, IfSome, IsSome}
+use Rattle.std.specs.Prelude.{Result, Ok, Err, IfSome, IsSome}
+use Rattle.budget_core.specs.declared.answers.Left.{Left}
+use Rattle.budget_core.specs.declared.answers.GrantRefusal.{GrantRefusal}
+use Rattle.budget_core.specs.declared.answers.GrantRefusal.TheVariants.{TooLarge, Full}
 use mathlib.Core.Logic.{◌⊎◌, inl, inr}
 use Rattle.journal_records.specs.declared.records.Header.{Header}
 use Rattle.journal_records.specs.declared.records.Record.{Record}
 use Rattle.budget_core.specs.Entries.{Entry}
 use Rattle.command_words.specs.Command.{Command, command_of}
 use Rattle.catalog_loading.specs.Files.{ReadsToCome}
-use Rattle.catalog_loading.specs.Loaded.{Loading, entry_in, header_in, in_versions, new_entry, new_header, owners_in, version_at}
-use Rattle.query_server.specs.Work.{Work, usage, refused, to_answer, to_make, to_count, to_check, to_compare, to_serve, to_generate}
+use Rattle.catalog_loading.specs.Loaded.{KeyedOwner, Loading, its_entry, its_header, entry_in, header_in, in_versions, new_entry, new_header, owners_in, version_at}
+use Rattle.query_server.specs.Work.{Work, usage, refused, to_answer, to_make, to_count, to_grant, to_check, to_compare, to_serve, to_generate}
 use Rattle.query_server.specs.Shelves.{Shelf, bytes_on}
 use Rattle.query_server.specs.Outside.{NoCallFailed, Outside}
+use Rattle.query_server.specs.Grant.{entry_in as grant_entry, header_in as grant_header, verdict_on, verdict_status}
 use Rattle.query_server.specs.Opened.{IsOpened, IsRefusedAt, IsUnopened}
 use Rattle.query_server.specs.Due.{AreRead, IfFinished, IsDue, IsWrittenAt, SomeFailed, files_of, work_of}
-use Rattle.query_server.specs.Valid.{AreEmpty, EndsWell, HoldJournals, IsValidFor, MayEndWell}
+use Rattle.query_server.specs.Valid.{AreEmpty, EndsWell, HoldsJournal, HoldJournals, IsValidFor, MayEndWell}
 use Rattle.query_server.specs.Laws.{ValidCommandsEndWell}
 use Rattle.query_server.specs.Ends.{Ended}
 use Rattle.query_server.specs.declared.refusals.JournalRefusal.{JournalRefusal}
@@ -33,25 +37,36 @@ unrefused entry header None found (Exists n) told same opened isnt = isnt
 unrefused entry header None found refusal told same opened isnt = cc
 
 -- why a journal isn't opened doesn't hang on the version that it is looked for in
-in_version : (loading : Loading) (key : List ℕ) (o version : ℕ) (bytes : Option (List ℕ)) (refusal : JournalRefusal) → IsUnopened (new_entry loading o) (new_header loading key o) bytes refusal
-    → IsUnopened (entry_in loading o version) (header_in loading key o version) bytes refusal
-in_version loading key o version bytes (Uninitialised n) is = is
-in_version loading key o version bytes Changed is = is
-in_version loading key o version bytes (Damaged slot) is = is
-in_version loading key o version bytes (Exists n) is = is
+in_version : (entry : Entry) (header : Header) (version : ℕ) (bytes : Option (List ℕ)) (refusal : JournalRefusal) → IsUnopened entry header bytes refusal
+    → IsUnopened (record entry { version = version }) (record header { version = version }) bytes refusal
+in_version entry header version bytes (Uninitialised n) is = is
+in_version entry header version bytes Changed is = is
+in_version entry header version bytes (Damaged slot) is = is
+in_version entry header version bytes (Exists n) is = is
 
 -- journals that are told, and stand for records that may follow one another, aren't refused
 never_refused : (loading : Loading) (key : List ℕ) (b : Shelf) (o : ℕ) (refusal : JournalRefusal) → HoldJournals loading key b → IsRefusedAt loading key b o refusal → ⊥
 never_refused loading key b o refusal (told, (versions, found, opened)) at =
     let version = version_at (in_versions loading versions) o in
     unrefused (entry_in loading o version) (header_in loading key o version) (bytes_on b o) (found o) refusal (told o at.known) refl (opened.each o at.known)
-    (in_version loading key o version (bytes_on b o) refusal at.refused)
+    (in_version (new_entry loading o) (new_header loading key o) version (bytes_on b o) refusal at.refused)
 
 -- no journal is there on an empty disk
 never_there : (loading : Loading) (b : Shelf) (o n : ℕ) → AreEmpty (owners_in loading) b → o < owners_in loading → 1 ≤ n → IfSome (bytes_on b o) (λ bytes. length bytes ≡ n) → ⊥
 never_there loading b o n empty known some long =
     let none : length {A = ℕ} [] ≡ n = subst (λ (bytes : Option (List ℕ)). IfSome bytes (λ (w : List ℕ). length w ≡ n)) (empty o known) long in
     omega (arith, some, none)
+
+-- nor is the journal of one owner that is there
+never_unopened : (one : KeyedOwner) (b : Shelf) (refusal : JournalRefusal) → HoldsJournal one b → IsUnopened (its_entry one) (its_header one) (bytes_on b one.number) refusal → ⊥
+never_unopened one b refusal (told, (version, found, opened)) at =
+    unrefused (grant_entry one version) (grant_header one version) (bytes_on b one.number) found refusal told refl opened
+    (in_version (its_entry one) (its_header one) version (bytes_on b one.number) refusal at)
+
+granted_well : (verdict : Result Left GrantRefusal) (status : Status) → status ≡ verdict_status verdict → (status ≡ code.Done) ⊎ ((status ≡ code.TooLarge) ⊎ (status ≡ code.JournalFull))
+granted_well (Ok left) status is = inl is
+granted_well (Err (TooLarge budget amount)) status is = inr (inl is)
+granted_well (Err (Full used unsettled capacity)) status is = inr (inr is)
 
 pub ends_well : (work : Work) (b a : Shelf) (script : List ℕ) (status : Status) (text : List ℕ) → IsValidFor work b → IsDue work b a script status text → EndsWell work status
 ends_well usage b a script status text valid due = absurd valid
@@ -67,6 +82,8 @@ ends_well (to_check tables program) b a script status text valid due = due_statu
 ends_well (to_serve workers each loading key) b a script status text valid (inl r) = absurd (never_refused loading key b r.o r.refusal valid r.at)
 ends_well (to_serve workers each loading key) b a script status text valid (inr (versions, found, opened, done, none, held)) = done
 ends_well (to_generate seed asks) b a script status text valid due = due.0
+ends_well (to_grant amount one) b a script status text valid (inl due) = absurd (never_unopened one b due.refusal valid due.refused)
+ends_well (to_grant amount one) b a script status text valid (inr due) = granted_well (verdict_on one due.version due.found amount) status due.is_status
 ends_well (to_compare tables X Y program) b a script status text valid due = due_status (to_compare tables X Y program) b a script status text due
 
 pub complete_by : (work : Work) (b a : Shelf) (script : List ℕ) (status : Status) (text : List ℕ) → IsValidFor work b → (status ≡ code.Fault → ⊥) → (status ≡ code.DiskFault → ⊥)

@@ -3,16 +3,17 @@ use Rattle.std.specs.Prelude.{◌≡◌, ◌⊎◌, ℕ, List, ◌++◌, Option,
 use Rattle.std.specs.Io.KnownBytes.{append_known}
 use Rattle.fz_outside.specs.Faults.{HasRisen}
 use Rattle.fz_ast.specs.Signature.{Signature}
-use Rattle.command_words.specs.Command.{Command, init, run, audit, check, gap, serve, gen, command_of}
+use Rattle.command_words.specs.Command.{Command, init, run, audit, grant, check, gap, serve, gen, command_of}
 use Rattle.catalog_loading.specs.Files.{Contents, ReadsToCome, AreTold}
 use Rattle.catalog_loading.specs.Steps.{FileStep}
-use Rattle.query_server.specs.Work.{Work, ended, usage, refused, to_answer, to_make, to_count, to_check, to_compare, to_serve, to_generate}
+use Rattle.query_server.specs.Work.{Work, ended, usage, refused, to_answer, to_make, to_count, to_grant, to_check, to_compare, to_serve, to_generate}
 use Rattle.query_server.specs.Duty.{Duty, Kind, line_duty, no_kind}
 use Rattle.query_server.specs.Shelves.{Shelf}
 use Rattle.query_server.specs.Outside.{Outside, SomeDoorRose}
 use Rattle.query_server.specs.Init.{init_duty, init_kind}
 use Rattle.query_server.specs.Run.{run_duty, run_kind}
 use Rattle.query_server.specs.Audit.{audit_duty, audit_kind}
+use Rattle.query_server.specs.Grant.{grant_duty, grant_kind}
 use Rattle.query_server.specs.Check.{check_duty, check_kind}
 use Rattle.query_server.specs.Gap.{gap_duty, gap_kind}
 use Rattle.query_server.specs.Serve.{serve_duty, serve_kind}
@@ -63,6 +64,9 @@ IsOfDoors command = IsTrue (command_kind command).doors
 
 abbrev pub IsOfProgram : Option Command → Type 0
 IsOfProgram command = IsTrue (command_kind command).program
+
+abbrev pub IsOfGrant : Option Command → Type 0
+IsOfGrant command = (catalog key owner : List ℕ) × (amount : ℕ) × (command ≡ Some (grant catalog key owner amount))
 
 -- What words come to over what files hold when they are read.
 unfoldable pub work_of : (words : List (List ℕ)) → ReadsToCome → Work

@@ -21,7 +21,7 @@ use Rattle.query_server.specs.declared.end.Status.TheVariants as code
 use Rattle.catalog_loading.specs.declared.stops.Stop.{Stop}
 use Rattle.catalog_loading.specs.declared.stops.Stop.TheVariants.{Usage, Refused, Journal, Disk, Fault, NoMemory}
 use Rattle.query_server.specs.declared.end.End.{End}
-use Rattle.query_server.specs.declared.end.End.TheVariants.{Done, ProgramRefused, ScriptTooLong}
+use Rattle.query_server.specs.declared.end.End.TheVariants.{Done, ProgramRefused, ScriptTooLong, TooLarge, JournalFull}
 use Rattle.query_server.specs.declared.listing.Listing.{Listing}
 use Rattle.query_server.specs.declared.listing.Listing.TheVariants.{Made, Counted}
 

@@ -31,14 +31,14 @@ use Rattle.query_server.specs.Outside.{DisksFailed, NoCallFailed, Outside, Stays
 use Rattle.query_server.specs.Run.{IsScriptAnswered}
 use Rattle.query_server.specs.Check.{status_by}
 use Rattle.query_server.specs.Status.{refused_text}
-use Rattle.query_server.specs.Due.{IsOfDisks, IsOfProgram, IsOfRun, SomeFailed, files_of, work_of}
+use Rattle.query_server.specs.Due.{IsOfDisks, IsOfGrant, IsOfProgram, IsOfRun, SomeFailed, files_of, work_of}
 use Rattle.query_server.specs.Due.{AreRead, ForContents, IfFinished, IsBeginning, IsDue, IsFaultyWordsEnd, IsForProgram, IsLine, IsWrittenAt}
 use Rattle.query_server.specs.Promise.{IsAnsweredScript, IsRunLeft}
 use Rattle.query_server.specs.Service.{IsServiceDone, IsServiceLeft}
 use Rattle.query_server.specs.Valid.{IsValidFor, MayEndWell}
 use Rattle.query_server.specs.Found.{AreKept}
 use Rattle.query_server.specs.declared.end.Status.{Status}
-use Rattle.query_server.specs.declared.end.Status.TheVariants.{DiskFault as DiskFailed, Done, Fault, JournalRefused, ProgramRefused, Refused, ScriptTooLong, Usage}
+use Rattle.query_server.specs.declared.end.Status.TheVariants.{DiskFault as DiskFailed, Done, Fault, JournalFull, JournalRefused, ProgramRefused, Refused, ScriptTooLong, TooLarge, Usage}
 
 -- What follows from the clauses of the top call. Where files, source and sink tell what they hold, its clause `line` is exact: what
 -- is written is due, and the names that were read are those that are due, in order.
@@ -71,13 +71,14 @@ VerdictsAreExact = (words : List (List ℕ)) (before after : Outside) (status : 
     → IsForProgram tables program (work_of words (always held)) → IsReading program reading
     → IfFinished status (status ≡ status_by (judgement_of tables reading))
 
--- Usage comes only where the words are no command, status 1 of a check or a gap alone, 8 of a run, and 4 of a command that takes the
--- owners' disks, whatever files and source tell.
+-- Usage comes only where the words are no command, status 1 of a check or a gap alone, 8 of a run, 9 and 10 of a grant, and 4 of a command
+-- that takes the owners' disks, whatever files and source tell.
 abbrev pub StatusesAreOfCommands : Type 0
 StatusesAreOfCommands = (words : List (List ℕ)) (before after : Outside) (status : Status) (text : List ℕ) → IsLine words before after status text
     → (status ≡ Usage → command_of words ≡ None)
     × (status ≡ ProgramRefused → IsOfProgram (command_of words))
     × (status ≡ ScriptTooLong → IsOfRun (command_of words))
+    × ((status ≡ TooLarge) ⊎ (status ≡ JournalFull) → IsOfGrant (command_of words))
     × (status ≡ JournalRefused → IsOfDisks (command_of words))
 
 -- At faulty words the line of Usage is written, unless memory ran out or the sink failed: from `line` and `fault`.

@@ -1,12 +1,14 @@
 -- What some work takes where nothing is in the way, and how it ends then.
-use Rattle.std.specs.Prelude.{◌≡◌, ◌⊎◌, ℕ, ◌<◌, List, [], Some, ⊤}
+use Rattle.std.specs.Prelude.{◌≡◌, ◌⊎◌, ℕ, ◌<◌, List, [], Some, IsSome, ⊤}
+use Rattle.journal_records.specs.declared.records.Record.{Record}
 use Rattle.session_core.specs.Transcript.{Journals}
-use Rattle.catalog_loading.specs.Loaded.{Loading, owners_in}
-use Rattle.query_server.specs.Work.{Work, usage, refused, to_answer, to_make, to_count, to_check, to_compare, to_serve, to_generate}
+use Rattle.catalog_loading.specs.Loaded.{KeyedOwner, Loading, owners_in}
+use Rattle.query_server.specs.Work.{Work, usage, refused, to_answer, to_make, to_count, to_grant, to_check, to_compare, to_serve, to_generate}
 use Rattle.query_server.specs.Shelves.{Shelf, TellBytes, bytes_on}
-use Rattle.query_server.specs.Opened.{AreOpened}
+use Rattle.query_server.specs.Grant.{entry_in, header_in}
+use Rattle.query_server.specs.Opened.{AreOpened, IsOpened}
 use Rattle.query_server.specs.declared.end.Status.{Status}
-use Rattle.query_server.specs.declared.end.Status.TheVariants.{Done, ProgramRefused, NoMemory, ScriptTooLong}
+use Rattle.query_server.specs.declared.end.Status.TheVariants.{Done, ProgramRefused, NoMemory, ScriptTooLong, TooLarge, JournalFull}
 
 -- The first owners' disks are empty.
 abbrev pub AreEmpty : (owners : ℕ) → Shelf → Type 0

@@ -79,12 +79,7 @@ fn grant_over<D: Disk>(
 }
 
 /// Opens an owner's book, grants an amount over it, and puts the disk back.
-fn grant<B: Bay>(
-    alloc: Global,
-    bay: &mut B,
-    opened: &OpenedOwner,
-    amount: u64,
-) -> Result<End, Stop>
+fn grant<B: Bay>(alloc: Global, bay: &mut B, opened: &OpenedOwner, amount: u64) -> Result<End, Stop>
     requires home { AreAtHome (B.owners bay.old) (B.shelf bay.old) }
     requires amount { IsAmount amount }
     ensures end { (script : List ℕ) → IsEndOf (to_grant amount opened.now) (B.shelf bay.old) (B.shelf bay.new) script result }

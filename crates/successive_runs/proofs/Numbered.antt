@@ -9,13 +9,13 @@ use Rattle.journal_records.specs.declared.records.Outcome.{Outcome}
 use Rattle.journal_records.specs.declared.records.Outcome.TheVariants.{Answered}
 use Rattle.journal_records.specs.declared.records.Reservation.{Reservation}
 use Rattle.journal_records.specs.declared.records.Record.{Record}
-use Rattle.journal_records.specs.declared.records.Record.TheVariants.{Reserve, Settle}
+use Rattle.journal_records.specs.declared.records.Record.TheVariants.{Reserve, Settle, Grant as Granted}
 use Rattle.journal_records.specs.Records.{reservation_in}
 use Rattle.budget_core.specs.Counts.{reservations_of, reservation_of, outcome_of}
 use Rattle.budget_core.specs.Entries.{Entry}
 use Rattle.budget_core.specs.Legal.{MayFollow, IsHistory}
 use Rattle.budget_core.proofs.Histories.{history-induction, slice_get-append-lt, slice_get-append-seam}
-use Rattle.budget_core.proofs.Numbers.{reservation_of-append, option_or-None}
+use Rattle.budget_core.proofs.Numbers.{reservation_of-append, option_or-None, reservations-granted}
 use Rattle.wire_lines.specs.Reply.{Replied}
 use Rattle.owner_house.specs.Owner.{Owner}
 use Rattle.owner_history.specs.Explains.{IsNoisedValue, ExplainsOutcome}
@@ -38,6 +38,9 @@ listed_at entry = history-induction entry (λ records. (n : ℕ) (r : Reservatio
         let same : reservations_of (xs ++ Settle s ∷ []) ≡ reservations_of xs = filter_map-append reservation_in xs (Settle s ∷ []) ∙ append-nil (reservations_of xs) in
         let old : reservation_of xs n ≡ Some r = sym (option_or-None (reservation_of xs n)) ∙ sym (reservation_of-append xs (Settle s ∷ []) n) ∙ is in
         ap (λ (rs : List Reservation). slice_get rs n) same ∙ before n r old
+    step xs (Granted g) h may before n r is =
+        let old : reservation_of xs n ≡ Some r = sym (option_or-None (reservation_of xs n)) ∙ sym (reservation_of-append xs (Granted g ∷ []) n) ∙ is in
+        ap (λ (rs : List Reservation). slice_get rs n) (reservations-granted xs g) ∙ before n r old
     step xs (Reserve s) h may before n r is = here (reservation_of xs n) refl (n == s.number) refl (sym (reservation_of-append xs (Reserve s ∷ []) n) ∙ is)
       where
         more : reservations_of (xs ++ Reserve s ∷ []) ≡ reservations_of xs ++ s ∷ []

@@ -1,5 +1,5 @@
 use Rattle.std.proofs.Common.{◌∙◌, ℕ, [], Some, refl, ap, subst, map, string_bytes, arith}
-use Rattle.command_words.specs.Command.{audit, check, command_of, gap, gen, init, run, serve}
+use Rattle.command_words.specs.Command.{audit, check, command_of, gap, gen, grant, init, run, serve}
 use Rattle.command_words.specs.Meant.{command_meant}
 use Rattle.command_words.proofs.Accepted.{in_range}
 use Rattle.query_server.proofs.Diskless.{command_no_disk}
@@ -27,6 +27,20 @@ returns-in-Ok-Init-clause-end g c =
 pub returns-in-Ok-Audit-clause-end : goal.returns-in-Ok-Audit-clause-end
 returns-in-Ok-Audit-clause-end g c =
     let r = c.in-Ok-Audit in command_end _ (Some (audit r.catalog.now r.key.now)) _ _ _ _ _ _ _ (r.ensures.read ∙ ap (λ command. Some (command_meant command)) r.field-0-is) (c.list_owners-in-Ok-Audit.ensures.end (g.S.Source.left c.args.source.now))
+
+pub grant_budget-requires-clause-amount : goal.grant_budget-requires-clause-amount
+grant_budget-requires-clause-amount g c κs _ =
+    let r = c.in-Ok-Grant in
+    let within = in_range (map string_bytes c.args.words.now) (grant r.catalog.now r.key.now r.owner.now r.amount) (r.ensures.read ∙ ap (λ command. Some (command_meant command)) r.field-0-is) in
+    record { least = omega (arith, within.0); most = omega (arith, within.1) }
+
+pub returns-in-Ok-Grant-clause-end : goal.returns-in-Ok-Grant-clause-end
+returns-in-Ok-Grant-clause-end g c =
+    let r = c.in-Ok-Grant in command_end _ (Some (grant r.catalog.now r.key.now r.owner.now r.amount)) _ _ _ _ _ _ _ (r.ensures.read ∙ ap (λ command. Some (command_meant command)) r.field-0-is) (c.grant_budget.ensures.end (g.S.Source.left c.args.source.now))
+
+pub returns-in-Ok-Grant-clause-service : goal.returns-in-Ok-Grant-clause-service
+returns-in-Ok-Grant-clause-service g c =
+    let r = c.in-Ok-Grant in doorless _ (Some (grant r.catalog.now r.key.now r.owner.now r.amount)) (r.ensures.read ∙ ap (λ command. Some (command_meant command)) r.field-0-is) (λ listens. cc listens)
 
 pub returns-in-Ok-Run-clause-end : goal.returns-in-Ok-Run-clause-end
 returns-in-Ok-Run-clause-end g c =
