@@ -23,8 +23,8 @@ use Rattle.clap.specs.declared.error.kind.ErrorKind.{ErrorKind}
 use Rattle.clap.specs.declared.error.kind.ErrorKind.TheVariants as kind
 use Rattle.clap.proofs.CallerReads.{signed_reads}
 use Rattle.clap.proofs.ValueTestLemmas.{accepts-Accepts}
-use Rattle.command_words.specs.Program.{address_option, from_to, audit_app, check_app, gap_app, gen_app, greatest_asks, greatest_each, greatest_port, greatest_seed, greatest_workers, init_app, number_rule, program_app, run_app, required_word, serve_app}
-use Rattle.command_words.specs.Command.{Command, check, init, run, audit, gap, serve, gen, audit_found_in, audit_of, check_found_in, check_of, command_met, command_of, gap_found_in, gap_of, gen_found_in, gen_of, init_found_in, init_of, number_in, number_written, run_found_in, run_of, serve_found_in, serve_of}
+use Rattle.command_words.specs.Program.{address_option, from_to, audit_app, check_app, gap_app, gen_app, grant_app, greatest_amount, greatest_asks, greatest_each, greatest_port, greatest_seed, greatest_workers, init_app, number_rule, program_app, run_app, required_word, serve_app}
+use Rattle.command_words.specs.Command.{Command, check, init, run, audit, grant, gap, serve, gen, audit_found_in, audit_of, check_found_in, check_of, command_met, command_of, gap_found_in, gap_of, gen_found_in, gen_of, grant_found_in, grant_of, init_found_in, init_of, number_of_bits, run_found_in, run_of, serve_found_in, serve_of}
 use Rattle.command_words.proofs.Kept.{both_empty, holds_of_found, AllFine, DefaultKeeps, UseKeeps, level_keeps}
 use Rattle.command_words.proofs.Numbers.{number_reads}
 use Rattle.command_words.proofs.Parses.{command_refused, command_taken}
@@ -63,6 +63,9 @@ seed_parser = from_to 0 greatest_seed
 abbrev pub asks_parser : ValueParser
 asks_parser = from_to 1 greatest_asks
 
+abbrev pub amount_parser : ValueParser
+amount_parser = from_to 1 greatest_amount
+
 -- the parser of the number of this name
 abbrev parser_named : Text → Option ValueParser
 parser_named name =
@@ -71,6 +74,7 @@ parser_named name =
     else if bytes_eq name (codes "each") then Some each_parser
     else if bytes_eq name (codes "seed") then Some seed_parser
     else if bytes_eq name (codes "asks") then Some asks_parser
+    else if bytes_eq name (codes "amount") then Some amount_parser
     else None
 
 -- ---- rows with a value
@@ -310,27 +314,28 @@ either_there id false rows there = there
 abbrev pub IsBetween : (low high n : ℕ) → Type 0
 IsBetween low high n = (low ≤ n) × (n ≤ high)
 
-pub count_read : (low high : ℕ) → high < 2 ^ 32 → (text : Text) → accepts false (from_to low high) text ≡ true
-    → (n : ℕ) × (number_written (without_minus text) ≡ Some n) × IsBetween low high n
-count_read low high small text ok =
-    let read = signed_reads ⊤ (ParsesUnsigned 32 10) 32 low high text (number_written (without_minus text)) (number_reads (without_minus text))
+pub count_read : (bits low high : ℕ) → high < 2 ^ bits → (text : Text) → accepts false (from_to low high) text ≡ true
+    → (n : ℕ) × (number_of_bits bits (without_minus text) ≡ Some n) × IsBetween low high n
+count_read bits low high small text ok =
+    let read = signed_reads ⊤ (ParsesUnsigned bits 10) bits low high text (number_of_bits bits (without_minus text)) (number_reads bits (without_minus text))
     (λ u x given. given) small (accepts-Accepts false (from_to low high) text ok) in
     (read.0, read.1, (read.2, read.3))
 
-number_there : (name : Text) (low high : ℕ) → high < 2 ^ 32 → parser_named name ≡ Some (from_to low high)
-    → (rows : List Row) → AllFine Fine rows → has_row name rows ≡ true → (n : ℕ) × (number_in name rows ≡ Some n) × IsBetween low high n
-number_there name low high small named rows fine there =
+number_there : (bits : ℕ) (name : Text) (low high : ℕ) → high < 2 ^ bits → parser_named name ≡ Some (from_to low high)
+    → (rows : List Row) → AllFine Fine rows → has_row name rows ≡ true → (n : ℕ) × (option_and_then (number_of_bits bits) (one_of name rows) ≡ Some n) × IsBetween low high n
+number_there bits name low high small named rows fine there =
     let found = found_row name rows fine there in
     let same : found.0.id ≡ name = (bytes_eq-Decides found.0.id name).0 found.3 in
     let accepted = found.2.2 (from_to low high) (ap parser_named same ∙ named) in
-    let count = count_read low high small found.2.0 accepted.0 in
+    let count = count_read bits low high small found.2.0 accepted.0 in
     (count.0, rw (found.1, found.2.1, accepted.1) count.1, count.2)
 
 -- ---- each command
 
--- a command, with workers in range
+-- a command, with its numbers in range
 abbrev pub InRange : Command → Type 0
 InRange (run catalog key workers) = IsBetween 1 greatest_workers workers
+InRange (grant catalog key owner amount) = IsBetween 1 greatest_amount amount
 InRange (serve catalog key address port workers each) =
     IsBetween 1 greatest_port port × IsBetween 1 greatest_workers workers × IsBetween 1 greatest_each each
 InRange (gen seed asks workers) = IsBetween 0 greatest_seed seed × IsBetween 1 greatest_asks asks × IsBetween 1 greatest_workers workers
@@ -350,6 +355,10 @@ audit_met a b x y e f = (audit x y, rw (e, f) refl, tt)
 
 run_met : (a b : Option Text) (c : Option ℕ) (x y : Text) (z : ℕ) → a ≡ Some x → b ≡ Some y → c ≡ Some z → IsBetween 1 greatest_workers z → IsMet (run_of a b c)
 run_met a b c x y z e f g count = (run x y z, rw (e, f, g) refl, count)
+
+grant_met : (a b c : Option Text) (d : Option ℕ) (x y z : Text) (n : ℕ) → a ≡ Some x → b ≡ Some y → c ≡ Some z → d ≡ Some n → IsBetween 1 greatest_amount n
+    → IsMet (grant_of a b c d)
+grant_met a b c d x y z n e f g h within = (grant x y z n, rw (e, f, g, h) refl, within)
 
 gap_met : (a b c d : Option Text) (x y z w : Text) → a ≡ Some x → b ≡ Some y → c ≡ Some z → d ≡ Some w → IsMet (gap_of a b c d)
 gap_met a b c d x y z w e f g h = (gap x y z w, rw (e, f, g, h) refl, tt)
@@ -381,6 +390,9 @@ run_shape = built_leaf (inherited program_app.top run_app.top)
 
 abbrev pub audit_shape : Shape
 audit_shape = built_leaf (inherited program_app.top audit_app.top)
+
+abbrev pub grant_shape : Shape
+grant_shape = built_leaf (inherited program_app.top grant_app.top)
 
 abbrev pub gap_shape : Shape
 gap_shape = built_leaf (inherited program_app.top gap_app.top)
@@ -425,7 +437,7 @@ run_accepted words e =
     let catalog = given_has (codes "catalog") rows fine first.0 in
     let key = given_has (codes "key") rows fine second.0 in
     let named = with_default (with_default (settled run_shape.rules (walk run_shape.rules [] nothing_held words).held).rows (word_at 1 (codes "catalog"))) (word_at 2 (codes "key")) in
-    let workers = number_there WORKERS 1 greatest_workers (omega arith) refl rows fine (with_row_there WORKERS workers_parser (codes "1") named refl) in
+    let workers = number_there 32 WORKERS 1 greatest_workers (omega arith) refl rows fine (with_row_there WORKERS workers_parser (codes "1") named refl) in
     run_met _ _ _ catalog.0 key.0 workers.0 catalog.1 key.1 workers.1 workers.2
 
 audit_accepted : (words : List Text) → level_fault audit_shape [] nothing_held words false [] ≡ [] → IsMet (audit_found_in (rows_after audit_shape.rules [] words))
@@ -438,6 +450,33 @@ audit_accepted words e =
     let catalog = given_has (codes "catalog") rows fine first.0 in
     let key = given_has (codes "key") rows fine second.0 in
     audit_met _ _ catalog.0 key.0 catalog.1 key.1
+
+grant_accepted : (words : List Text) → level_fault grant_shape [] nothing_held words false [] ≡ [] → IsMet (grant_found_in (rows_after grant_shape.rules [] words))
+grant_accepted words e =
+    let rows = rows_after grant_shape.rules [] words in
+    let fine = level_keeps Fine grant_shape [] (
+      word_use 1 (codes "catalog") refl,
+      (
+        word_use 2 (codes "key") refl,
+        (word_use 3 (codes "owner") refl, (number_use 4 (codes "amount") None amount_parser true [] refl, tt)),
+      ),
+    ) (λ x. refl)
+    words false [] (
+      word_default 1 (codes "catalog"),
+      (
+        word_default 2 (codes "key"),
+        (word_default 3 (codes "owner"), (number_default 4 (codes "amount") None amount_parser, tt)),
+      ),
+    ) e in
+    let first = given_first (is_given (codes "catalog") rows) _ (none_missing _ (checked grant_shape words e)) in
+    let second = given_first (is_given (codes "key") rows) _ first.1 in
+    let third = given_first (is_given (codes "owner") rows) _ second.1 in
+    let fourth = given_first (is_given (codes "amount") rows) _ third.1 in
+    let catalog = given_has (codes "catalog") rows fine first.0 in
+    let key = given_has (codes "key") rows fine second.0 in
+    let owner = given_has (codes "owner") rows fine third.0 in
+    let amount = number_there 64 (codes "amount") 1 greatest_amount (omega arith) refl rows fine (given_there (codes "amount") rows fourth.0) in
+    grant_met _ _ _ _ catalog.0 key.0 owner.0 amount.0 catalog.1 key.1 owner.1 amount.1 amount.2
 
 gap_accepted : (words : List Text) → level_fault gap_shape [] nothing_held words false [] ≡ [] → IsMet (gap_found_in (rows_after gap_shape.rules [] words))
 gap_accepted words e =
@@ -496,8 +535,8 @@ serve_accepted words e =
     let fourth = given_first (is_given (codes "each") rows) _ third.1 in
     let catalog = given_has (codes "catalog") rows fine first.0 in
     let key = given_has (codes "key") rows fine second.0 in
-    let port = number_there (codes "port") 1 greatest_port (omega arith) refl rows fine (given_there (codes "port") rows third.0) in
-    let each = number_there (codes "each") 1 greatest_each (omega arith) refl rows fine (given_there (codes "each") rows fourth.0) in
+    let port = number_there 32 (codes "port") 1 greatest_port (omega arith) refl rows fine (given_there (codes "port") rows third.0) in
+    let each = number_there 32 (codes "each") 1 greatest_each (omega arith) refl rows fine (given_there (codes "each") rows fourth.0) in
     let named = with_default (with_default (settled serve_shape.rules (walk serve_shape.rules [] nothing_held words).held).rows (word_at 1 (codes "catalog"))) (word_at 2 (codes "key")) in
     let addressed = with_row (codes "addr") parser.String (codes "127.0.0.1") named in
     let ported = cond (has_row (codes "port") addressed) addressed addressed in
@@ -505,7 +544,7 @@ serve_accepted words e =
     let address = there_has (codes "addr") rows fine
     (either_there (codes "addr") (has_row (codes "each") worked) worked (with_row_stays (codes "addr") WORKERS workers_parser (codes "1") ported
     (either_there (codes "addr") (has_row (codes "port") addressed) addressed (with_row_there (codes "addr") parser.String (codes "127.0.0.1") named refl)))) in
-    let workers = number_there WORKERS 1 greatest_workers (omega arith) refl rows fine
+    let workers = number_there 32 WORKERS 1 greatest_workers (omega arith) refl rows fine
     (either_there WORKERS (has_row (codes "each") worked) worked (with_row_there WORKERS workers_parser (codes "1") ported refl)) in
     serve_met _ _ _ _ _ _ catalog.0 key.0 address.0 port.0 workers.0 each.0 catalog.1 key.1 address.1 port.1 workers.1 each.1 (port.2, workers.2, each.2)
 
@@ -525,12 +564,12 @@ gen_accepted words e =
     ) e in
     let first = given_first (is_given (codes "seed") rows) _ (none_missing _ (checked gen_shape words e)) in
     let second = given_first (is_given (codes "asks") rows) _ first.1 in
-    let seed = number_there (codes "seed") 0 greatest_seed (omega arith) refl rows fine (given_there (codes "seed") rows first.0) in
-    let asks = number_there (codes "asks") 1 greatest_asks (omega arith) refl rows fine (given_there (codes "asks") rows second.0) in
+    let seed = number_there 32 (codes "seed") 0 greatest_seed (omega arith) refl rows fine (given_there (codes "seed") rows first.0) in
+    let asks = number_there 32 (codes "asks") 1 greatest_asks (omega arith) refl rows fine (given_there (codes "asks") rows second.0) in
     let before = (settled gen_shape.rules (walk gen_shape.rules [] nothing_held words).held).rows in
     let seeded = cond (has_row (codes "seed") before) before before in
     let asked = cond (has_row (codes "asks") seeded) seeded seeded in
-    let workers = number_there WORKERS 1 greatest_workers (omega arith) refl rows fine (with_row_there WORKERS workers_parser (codes "1") asked refl) in
+    let workers = number_there 32 WORKERS 1 greatest_workers (omega arith) refl rows fine (with_row_there WORKERS workers_parser (codes "1") asked refl) in
     gen_met _ _ _ seed.0 asks.0 workers.0 seed.1 asks.1 workers.1 (seed.2, asks.2, workers.2)
 
 -- ---- the program
@@ -540,24 +579,25 @@ stop_accepted : (rows : List Row) (stop : Option (Text × List Text)) → entere
 stop_accepted rows None below e = cc e
 stop_accepted rows (Some (name, words)) below e =
     go (answers_to name (codes "check", [])) (answers_to name (codes "init", [])) (answers_to name (codes "run", [])) (answers_to name (codes "audit", []))
-    (answers_to name (codes "gap", [])) (answers_to name (codes "serve", [])) (answers_to name (codes "gen", [])) below e
+    (answers_to name (codes "grant", [])) (answers_to name (codes "gap", [])) (answers_to name (codes "serve", [])) (answers_to name (codes "gen", [])) below e
   where
-    met : (a b c d g s n : Bool) → Option Shape
-    met a b c d g s n = cond a (Some check_shape) (cond b (Some init_shape) (cond c (Some run_shape) (cond d (Some audit_shape) (cond g (Some gap_shape)
-        (cond s (Some serve_shape) (cond n (Some gen_shape) None))))))
+    met : (a b c d m g s n : Bool) → Option Shape
+    met a b c d m g s n = cond a (Some check_shape) (cond b (Some init_shape) (cond c (Some run_shape) (cond d (Some audit_shape) (cond m (Some grant_shape)
+        (cond g (Some gap_shape) (cond s (Some serve_shape) (cond n (Some gen_shape) None)))))))
 
-    go : (a b c d g s n : Bool)
-        → option_map_or (λ s. level_fault s [] nothing_held words false []) (met a b c d g s n) [] ≡ []
-        → check_fault (built program_app).top rows (is_some (option_map (λ s. rows_at s words) (met a b c d g s n))) ≡ []
-        → IsMet (command_met (option_map (λ s. rows_at s words) (met a b c d g s n)))
-    go true b c d g s n below e = check_accepted words below
-    go false true c d g s n below e = init_accepted words below
-    go false false true d g s n below e = run_accepted words below
-    go false false false true g s n below e = audit_accepted words below
-    go false false false false true s n below e = gap_accepted words below
-    go false false false false false true n below e = serve_accepted words below
-    go false false false false false false true below e = gen_accepted words below
-    go false false false false false false false below e = cc e
+    go : (a b c d m g s n : Bool)
+        → option_map_or (λ s. level_fault s [] nothing_held words false []) (met a b c d m g s n) [] ≡ []
+        → check_fault (built program_app).top rows (is_some (option_map (λ s. rows_at s words) (met a b c d m g s n))) ≡ []
+        → IsMet (command_met (option_map (λ s. rows_at s words) (met a b c d m g s n)))
+    go true b c d m g s n below e = check_accepted words below
+    go false true c d m g s n below e = init_accepted words below
+    go false false true d m g s n below e = run_accepted words below
+    go false false false true m g s n below e = audit_accepted words below
+    go false false false false true g s n below e = grant_accepted words below
+    go false false false false false true s n below e = gap_accepted words below
+    go false false false false false false true n below e = serve_accepted words below
+    go false false false false false false false true below e = gen_accepted words below
+    go false false false false false false false false below e = cc e
 
 pub accepted : (words : List Text) → fault_of program_app words ≡ [] → IsMet (command_of words)
 accepted words e =

@@ -1,7 +1,7 @@
 -- worked examples of the command that words are, from the written rules
 use Rattle.std.proofs.Common.{◌≡◌, refl, [], ◌∷◌, Some, None, codes}
 use Rattle.clap.proofs.OnLiterals.{clap_on_literals}
-use Rattle.command_words.specs.Command.{check, init, run, audit, gap, serve, gen, command_of, number_written}
+use Rattle.command_words.specs.Command.{check, init, run, audit, grant, gap, serve, gen, amount_written, command_of, number_written}
 
 -- each command
 a_check : command_of (codes "check" ∷ codes "c" ∷ codes "o" ∷ codes "f" ∷ []) ≡ Some (check (codes "c") (codes "o") (codes "f"))
@@ -656,3 +656,80 @@ generated_with_a_word_more = refl
 generated_with_an_option : command_of (codes "gen" ∷ codes "0" ∷ codes "1" ∷ codes "--workers" ∷ codes "2" ∷ []) ≡ None
 unfolding command_of clap_on_literals
 generated_with_an_option = refl
+
+-- a grant: its amount is a word, a number on both sides of its range, one past 64 bits, and none
+
+a_grant : command_of (codes "grant" ∷ codes "c" ∷ codes "k" ∷ codes "o" ∷ codes "1" ∷ []) ≡ Some (grant (codes "c") (codes "k") (codes "o") 1)
+unfolding command_of clap_on_literals
+a_grant = refl
+
+greatest_grant : command_of (codes "grant" ∷ codes "c" ∷ codes "k" ∷ codes "o" ∷ codes "1000000000000000000" ∷ []) ≡ Some (grant (codes "c") (codes "k") (codes "o") 1000000000000000000)
+unfolding command_of clap_on_literals
+greatest_grant = refl
+
+grant_past_the_other_numbers : command_of (codes "grant" ∷ codes "c" ∷ codes "k" ∷ codes "o" ∷ codes "4294967296" ∷ []) ≡ Some (grant (codes "c") (codes "k") (codes "o") 4294967296)
+unfolding command_of clap_on_literals
+grant_past_the_other_numbers = refl
+
+grant_in_another_form : command_of (codes "grant" ∷ codes "c" ∷ codes "k" ∷ codes "o" ∷ codes "+0250000" ∷ []) ≡ Some (grant (codes "c") (codes "k") (codes "o") 250000)
+unfolding command_of clap_on_literals
+grant_in_another_form = refl
+
+grant_behind_hyphens : command_of (codes "grant" ∷ codes "c" ∷ codes "--" ∷ codes "-k" ∷ codes "--" ∷ codes "7" ∷ []) ≡ Some (grant (codes "c") (codes "-k") (codes "--") 7)
+unfolding command_of clap_on_literals
+grant_behind_hyphens = refl
+
+grant_of_nothing : command_of (codes "grant" ∷ codes "c" ∷ codes "k" ∷ codes "o" ∷ codes "0" ∷ []) ≡ None
+unfolding command_of clap_on_literals
+grant_of_nothing = refl
+
+grant_past_the_greatest : command_of (codes "grant" ∷ codes "c" ∷ codes "k" ∷ codes "o" ∷ codes "1000000000000000001" ∷ []) ≡ None
+unfolding command_of clap_on_literals
+grant_past_the_greatest = refl
+
+grant_past_all_numbers : command_of (codes "grant" ∷ codes "c" ∷ codes "k" ∷ codes "o" ∷ codes "18446744073709551617" ∷ []) ≡ None
+unfolding command_of clap_on_literals
+grant_past_all_numbers = refl
+
+grant_below_nothing : command_of (codes "grant" ∷ codes "--" ∷ codes "c" ∷ codes "k" ∷ codes "o" ∷ codes "-1" ∷ []) ≡ None
+unfolding command_of clap_on_literals
+grant_below_nothing = refl
+
+grant_of_no_number : command_of (codes "grant" ∷ codes "c" ∷ codes "k" ∷ codes "o" ∷ codes "x" ∷ []) ≡ None
+unfolding command_of clap_on_literals
+grant_of_no_number = refl
+
+grant_of_a_number_and_more : command_of (codes "grant" ∷ codes "c" ∷ codes "k" ∷ codes "o" ∷ codes "1x" ∷ []) ≡ None
+unfolding command_of clap_on_literals
+grant_of_a_number_and_more = refl
+
+grant_of_an_empty_word : command_of (codes "grant" ∷ codes "c" ∷ codes "k" ∷ codes "o" ∷ codes "" ∷ []) ≡ None
+unfolding command_of clap_on_literals
+grant_of_an_empty_word = refl
+
+grant_alone : command_of (codes "grant" ∷ []) ≡ None
+unfolding command_of clap_on_literals
+grant_alone = refl
+
+grant_without_an_amount : command_of (codes "grant" ∷ codes "c" ∷ codes "k" ∷ codes "o" ∷ []) ≡ None
+unfolding command_of clap_on_literals
+grant_without_an_amount = refl
+
+grant_with_a_word_more : command_of (codes "grant" ∷ codes "c" ∷ codes "k" ∷ codes "o" ∷ codes "1" ∷ codes "1" ∷ []) ≡ None
+unfolding command_of clap_on_literals
+grant_with_a_word_more = refl
+
+grant_with_an_option : command_of (codes "grant" ∷ codes "c" ∷ codes "k" ∷ codes "o" ∷ codes "1" ∷ codes "--workers" ∷ codes "1" ∷ []) ≡ None
+unfolding command_of clap_on_literals
+grant_with_an_option = refl
+
+help_behind_grant : command_of (codes "grant" ∷ codes "c" ∷ codes "k" ∷ codes "o" ∷ codes "1" ∷ codes "--help" ∷ []) ≡ None
+unfolding command_of clap_on_literals
+help_behind_grant = refl
+
+-- amounts are below 2^64
+amount_largest : amount_written (codes "18446744073709551615") ≡ Some 18446744073709551615
+amount_largest = refl
+
+amount_too_large : amount_written (codes "18446744073709551616") ≡ None
+amount_too_large = refl

@@ -13,12 +13,12 @@ use Rattle.clap.specs.Faults.{bundle_fault, check_fault, defaults_fault, entered
 use Rattle.clap.specs.Kinds.{Kinds, or_else}
 use Rattle.clap.specs.declared.error.kind.ErrorKind.TheVariants as kind
 use Rattle.clap.proofs.WalkLemmas.{walk_stopped}
-use Rattle.command_words.specs.Program.{from_to, greatest_asks, greatest_seed, greatest_workers, program_app}
-use Rattle.command_words.specs.Command.{Command, command_met, command_named, command_of, gen_of, number_written, unless_fault}
-use Rattle.command_words.specs.Table.{begins_with_hyphen, number_said, plain_command}
+use Rattle.command_words.specs.Program.{from_to, greatest_amount, greatest_asks, greatest_seed, greatest_workers, program_app}
+use Rattle.command_words.specs.Command.{Command, command_met, command_named, command_of, gen_of, grant_of, number_of_bits, unless_fault}
+use Rattle.command_words.specs.Table.{begins_with_hyphen, plain_command, said_within}
 use Rattle.command_words.proofs.Kept.{both_empty, holds_of_found}
 use Rattle.command_words.proofs.Parses.{command_refused}
-use Rattle.command_words.proofs.Accepted.{asks_parser, audit_shape, check_shape, gap_shape, gen_shape, init_shape, run_shape, seed_parser, serve_shape, workers_parser}
+use Rattle.command_words.proofs.Accepted.{amount_parser, asks_parser, audit_shape, check_shape, gap_shape, gen_shape, grant_shape, init_shape, run_shape, seed_parser, serve_shape, workers_parser}
 use Rattle.command_words.proofs.Said.{IsPlainWord, accepted_says, refused_says}
 
 abbrev pub ArePlain : List Text → Type 0
@@ -210,16 +210,43 @@ serve_leaf (catalog ∷ key ∷ more ∷ []) = refl
 serve_leaf (catalog ∷ key ∷ more ∷ word ∷ []) = refl
 serve_leaf (catalog ∷ key ∷ more ∷ word ∷ next ∷ words) = refl
 
+-- the number of a word, by whether its text is accepted
+abbrev number_by : (bits : ℕ) → Bool → Text → Option ℕ
+number_by bits accepted text = cond accepted (number_of_bits bits (without_minus text)) None
+
+said_by : (bits low high : ℕ) → high < 2 ^ bits → high < 2 ^ 63 → (text : Text) → IsPlainWord text → (b : Bool) → accepts false (from_to low high) text ≡ b
+    → number_by bits b text ≡ said_within low high (number_of_bits bits text)
+said_by bits low high small fits text plain true e = let says = accepted_says bits low high small fits text plain e in says.1 ∙ sym says.2
+said_by bits low high small fits text plain false e = sym (refused_says bits low high small fits text plain e)
+
+-- a grant, by whether its amount is accepted
+grant_four : (a b c d : Text) (x : Bool) → accepts false amount_parser d ≡ x
+    → plain_leaf grant_shape (a ∷ b ∷ c ∷ d ∷ []) ≡ grant_of (Some a) (Some b) (Some c) (number_by 64 x d)
+unfolding defaults_fault
+grant_four a b c d true e = rw e refl
+grant_four a b c d false e = rw e refl
+
+grant_five : (a b c d more : Text) (words : List Text) (x : Bool) → accepts false amount_parser d ≡ x
+    → plain_leaf grant_shape (a ∷ b ∷ c ∷ d ∷ more ∷ words) ≡ None
+unfolding defaults_fault
+grant_five a b c d more words true e = rw e refl
+grant_five a b c d more words false e = rw e refl
+
+grant_leaf : (words : List Text) → ArePlain words → plain_leaf grant_shape words ≡ plain_command (codes "grant" ∷ words)
+unfolding defaults_fault
+grant_leaf [] plain = refl
+grant_leaf (a ∷ []) plain = refl
+grant_leaf (a ∷ b ∷ []) plain = refl
+grant_leaf (a ∷ b ∷ c ∷ []) plain = refl
+grant_leaf (a ∷ b ∷ c ∷ d ∷ []) plain =
+    let x = accepts false amount_parser d in
+    let amount = said_by 64 1 greatest_amount (omega arith) (omega arith) d plain.1.1.1.0 x refl in
+    grant_four a b c d x refl ∙ (λ j. grant_of (Some a) (Some b) (Some c) (amount j))
+grant_leaf (a ∷ b ∷ c ∷ d ∷ more ∷ words) plain = grant_five a b c d more words (accepts false amount_parser d) refl
+
 -- the numbers of a `gen`, by whether each text is accepted
-abbrev number_by : Bool → Text → Option ℕ
-number_by accepted text = cond accepted (number_written (without_minus text)) None
 
-said_by : (low high : ℕ) → high < 2 ^ 32 → (text : Text) → IsPlainWord text → (b : Bool) → accepts false (from_to low high) text ≡ b
-    → number_by b text ≡ number_said low high text
-said_by low high small text plain true e = let says = accepted_says low high small text plain e in says.1 ∙ sym says.2
-said_by low high small text plain false e = sym (refused_says low high small text plain e)
-
-unsaid : (b : Bool) (text : Text) → b ≡ false → number_by b text ≡ None
+unsaid : (b : Bool) (text : Text) → b ≡ false → number_by 32 b text ≡ None
 unsaid b text e = rw e refl
 
 gen_one : (a : Text) (x : Bool) → accepts false seed_parser a ≡ x → plain_leaf gen_shape (a ∷ []) ≡ None
@@ -232,14 +259,14 @@ abbrev gen_by : (x y z : Bool) (seed asks workers : Option ℕ) → Option Comma
 gen_by x y z seed asks workers = unless_fault (cond (x && (y && z)) [] (kind.ValueValidation ∷ [])) (gen_of seed asks workers)
 
 gen_two : (a b : Text) (x y : Bool) → accepts false seed_parser a ≡ x → accepts false asks_parser b ≡ y
-    → plain_leaf gen_shape (a ∷ b ∷ []) ≡ gen_by x y true (number_by x a) (number_by y b) (Some 1)
+    → plain_leaf gen_shape (a ∷ b ∷ []) ≡ gen_by x y true (number_by 32 x a) (number_by 32 y b) (Some 1)
 unfolding defaults_fault
 gen_two a b true true e f = rw (e, f) refl
 gen_two a b true false e f = rw (e, f) refl
 gen_two a b false y e f = rw e refl
 
 gen_three : (a b c : Text) (x y z : Bool) → accepts false seed_parser a ≡ x → accepts false asks_parser b ≡ y → accepts false workers_parser c ≡ z
-    → plain_leaf gen_shape (a ∷ b ∷ c ∷ []) ≡ gen_by x y z (number_by x a) (number_by y b) (number_by z c)
+    → plain_leaf gen_shape (a ∷ b ∷ c ∷ []) ≡ gen_by x y z (number_by 32 x a) (number_by 32 y b) (number_by 32 z c)
 unfolding defaults_fault
 gen_three a b c true true true e f g = rw (e, f, g) refl
 gen_three a b c true true false e f g = rw (e, f, g) refl
@@ -271,19 +298,19 @@ gen_leaf (a ∷ []) plain = gen_one a (accepts false seed_parser a) refl
 gen_leaf (a ∷ b ∷ []) plain =
     let x = accepts false seed_parser a in
     let y = accepts false asks_parser b in
-    let seed = said_by 0 greatest_seed (omega arith) a plain.0 x refl in
-    let asks = said_by 1 greatest_asks (omega arith) b plain.1.0 y refl in
-    gen_two a b x y refl refl ∙ none_of x y true (number_by x a) (number_by y b) (Some 1) (unsaid x a) (unsaid y b) (λ e. cc e)
+    let seed = said_by 32 0 greatest_seed (omega arith) (omega arith) a plain.0 x refl in
+    let asks = said_by 32 1 greatest_asks (omega arith) (omega arith) b plain.1.0 y refl in
+    gen_two a b x y refl refl ∙ none_of x y true (number_by 32 x a) (number_by 32 y b) (Some 1) (unsaid x a) (unsaid y b) (λ e. cc e)
     ∙ (λ j. gen_of (seed j) (asks j) (Some 1))
 gen_leaf (a ∷ b ∷ c ∷ []) plain =
     let x = accepts false seed_parser a in
     let y = accepts false asks_parser b in
     let z = accepts false workers_parser c in
-    let seed = said_by 0 greatest_seed (omega arith) a plain.0 x refl in
-    let asks = said_by 1 greatest_asks (omega arith) b plain.1.0 y refl in
-    let workers = said_by 1 greatest_workers (omega arith) c plain.1.1.0 z refl in
+    let seed = said_by 32 0 greatest_seed (omega arith) (omega arith) a plain.0 x refl in
+    let asks = said_by 32 1 greatest_asks (omega arith) (omega arith) b plain.1.0 y refl in
+    let workers = said_by 32 1 greatest_workers (omega arith) (omega arith) c plain.1.1.0 z refl in
     gen_three a b c x y z refl refl refl
-    ∙ none_of x y z (number_by x a) (number_by y b) (number_by z c) (unsaid x a) (unsaid y b) (unsaid z c)
+    ∙ none_of x y z (number_by 32 x a) (number_by 32 y b) (number_by 32 z c) (unsaid x a) (unsaid y b) (unsaid z c)
     ∙ (λ j. gen_of (seed j) (asks j) (workers j))
 gen_leaf (a ∷ b ∷ c ∷ more ∷ []) plain = gen_four a b c more [] (accepts false seed_parser a) (accepts false asks_parser b) refl refl
 gen_leaf (a ∷ b ∷ c ∷ more ∷ word ∷ words) plain =
@@ -357,6 +384,11 @@ unfolding walked defaults_fault
 audit_is words plain = named (codes "audit") words refl refl ∙ left_to audit_shape (level_fault audit_shape [] nothing_held words false []) words
     ∙ leaf_is audit_shape ((refl, refl), ((refl, refl), tt)) words plain ∙ audit_leaf words
 
+grant_is : (words : List Text) → ArePlain words → command_of (codes "grant" ∷ words) ≡ plain_command (codes "grant" ∷ words)
+unfolding walked defaults_fault
+grant_is words plain = named (codes "grant") words refl refl ∙ left_to grant_shape (level_fault grant_shape [] nothing_held words false []) words
+    ∙ leaf_is grant_shape ((refl, refl), ((refl, refl), ((refl, refl), ((refl, refl), tt)))) words plain ∙ grant_leaf words plain
+
 gap_is : (words : List Text) → ArePlain words → command_of (codes "gap" ∷ words) ≡ plain_command (codes "gap" ∷ words)
 unfolding walked defaults_fault
 gap_is words plain = named (codes "gap") words refl refl ∙ left_to gap_shape (level_fault gap_shape [] nothing_held words false []) words
@@ -383,8 +415,8 @@ stray_is name words plain unnamed = command_refused (name ∷ words) (λ well.
 
 -- the word is no command's name
 abbrev IsNone : (name : Text) → Type 0
-IsNone name = (bytes_eq (codes "check") name ≡ false) × (bytes_eq (codes "init") name ≡ false) × (bytes_eq (codes "run") name ≡ false) × (bytes_eq (codes "audit") name ≡ false) × (bytes_eq (codes "gap") name ≡ false)
-    × (bytes_eq (codes "serve") name ≡ false) × (bytes_eq (codes "gen") name ≡ false)
+IsNone name = (bytes_eq (codes "check") name ≡ false) × (bytes_eq (codes "init") name ≡ false) × (bytes_eq (codes "run") name ≡ false) × (bytes_eq (codes "audit") name ≡ false) × (bytes_eq (codes "grant") name ≡ false)
+    × (bytes_eq (codes "gap") name ≡ false) × (bytes_eq (codes "serve") name ≡ false) × (bytes_eq (codes "gen") name ≡ false)
 
 flipped : (a b : Text) → bytes_eq a a ≡ true → bytes_eq a b ≡ false → bytes_eq b a ≡ false
 flipped a b same apart = go (bytes_eq b a) refl
@@ -404,14 +436,14 @@ untabled name (x ∷ y ∷ []) none =
       flipped (codes "init") name refl none.1,
       flipped (codes "run") name refl none.2,
       flipped (codes "audit") name refl none.3,
-      flipped (codes "gen") name refl none.6,
+      flipped (codes "gen") name refl none.7,
     ) refl
-untabled name (x ∷ y ∷ z ∷ []) none = rw (flipped (codes "check") name refl none.0, flipped (codes "gen") name refl none.6) refl
-untabled name (x ∷ y ∷ z ∷ w ∷ []) none = rw (flipped (codes "gap") name refl none.4) refl
+untabled name (x ∷ y ∷ z ∷ []) none = rw (flipped (codes "check") name refl none.0, flipped (codes "gen") name refl none.7) refl
+untabled name (x ∷ y ∷ z ∷ w ∷ []) none = rw (flipped (codes "grant") name refl none.4, flipped (codes "gap") name refl none.5) refl
 untabled name (x ∷ y ∷ z ∷ w ∷ v ∷ words) none = refl
 
 unmet : (name : Text) → IsNone name → subcommand_met names idle name ≡ None
-unmet name none = rw (none.0, none.1, none.2, none.3, none.4, none.5, none.6) refl
+unmet name none = rw (none.0, none.1, none.2, none.3, none.4, none.5, none.6, none.7) refl
 
 abbrev IsTabled : List Text → Type 0
 IsTabled words = command_of words ≡ plain_command words
@@ -421,22 +453,23 @@ unfolding command_of walk_fault defaults_fault
 plain_is_tabled [] plain = refl
 plain_is_tabled (name ∷ words) plain =
     go (bytes_eq (codes "check") name) refl (bytes_eq (codes "init") name) refl (bytes_eq (codes "run") name) refl (bytes_eq (codes "audit") name) refl
-    (bytes_eq (codes "gap") name) refl (bytes_eq (codes "serve") name) refl (bytes_eq (codes "gen") name) refl
+    (bytes_eq (codes "grant") name) refl (bytes_eq (codes "gap") name) refl (bytes_eq (codes "serve") name) refl (bytes_eq (codes "gen") name) refl
   where
     -- the word is that name
     by : (other : Text) → bytes_eq other name ≡ true → IsTabled (other ∷ words) → IsTabled (name ∷ words)
     by other e tabled = subst (λ (n : Text). IsTabled (n ∷ words)) ((bytes_eq-Decides other name).0 e) tabled
 
     go : (a : Bool) → bytes_eq (codes "check") name ≡ a → (b : Bool) → bytes_eq (codes "init") name ≡ b → (c : Bool) → bytes_eq (codes "run") name ≡ c
-        → (d : Bool) → bytes_eq (codes "audit") name ≡ d → (g : Bool) → bytes_eq (codes "gap") name ≡ g → (s : Bool) → bytes_eq (codes "serve") name ≡ s
+        → (d : Bool) → bytes_eq (codes "audit") name ≡ d → (m : Bool) → bytes_eq (codes "grant") name ≡ m → (g : Bool) → bytes_eq (codes "gap") name ≡ g → (s : Bool) → bytes_eq (codes "serve") name ≡ s
         → (n : Bool) → bytes_eq (codes "gen") name ≡ n → IsTabled (name ∷ words)
-    go true e b f c h d i g j s k n l = by (codes "check") e (check_is words plain.1)
-    go false e true f c h d i g j s k n l = by (codes "init") f (init_is words plain.1)
-    go false e false f true h d i g j s k n l = by (codes "run") h (run_is words plain.1)
-    go false e false f false h true i g j s k n l = by (codes "audit") i (audit_is words plain.1)
-    go false e false f false h false i true j s k n l = by (codes "gap") j (gap_is words plain.1)
-    go false e false f false h false i false j true k n l = by (codes "serve") k (serve_is words plain.1)
-    go false e false f false h false i false j false k true l = by (codes "gen") l (gen_is words plain.1)
-    go false e false f false h false i false j false k false l =
-        let none : IsNone name = (e, f, h, i, j, k, l) in
+    go true e b f c h d i m o g j s k n l = by (codes "check") e (check_is words plain.1)
+    go false e true f c h d i m o g j s k n l = by (codes "init") f (init_is words plain.1)
+    go false e false f true h d i m o g j s k n l = by (codes "run") h (run_is words plain.1)
+    go false e false f false h true i m o g j s k n l = by (codes "audit") i (audit_is words plain.1)
+    go false e false f false h false i true o g j s k n l = by (codes "grant") o (grant_is words plain.1)
+    go false e false f false h false i false o true j s k n l = by (codes "gap") j (gap_is words plain.1)
+    go false e false f false h false i false o false j true k n l = by (codes "serve") k (serve_is words plain.1)
+    go false e false f false h false i false o false j false k true l = by (codes "gen") l (gen_is words plain.1)
+    go false e false f false h false i false o false j false k false l =
+        let none : IsNone name = (e, f, h, i, o, j, k, l) in
         stray_is name words plain.0 (unmet name none) ∙ sym (untabled name words none)

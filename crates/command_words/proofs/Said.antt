@@ -10,8 +10,8 @@ use Rattle.clap.specs.ValueTests.{accepts}
 use Rattle.clap.proofs.ValueTestLemmas.{Accepts-accepts}
 use Rattle.clap.proofs.WalkLemmas.{both}
 use Rattle.command_words.specs.Program.{from_to}
-use Rattle.command_words.specs.Command.{number_written}
-use Rattle.command_words.specs.Table.{begins_with_hyphen, number_said}
+use Rattle.command_words.specs.Command.{number_of_bits}
+use Rattle.command_words.specs.Table.{begins_with_hyphen, said_within}
 use Rattle.command_words.proofs.Numbers.{number_reads}
 use Rattle.command_words.proofs.Accepted.{IsBetween, count_read}
 
@@ -26,38 +26,38 @@ no_minus : (text : Text) → IsPlainWord text → starts_with_minus text ≡ fal
 no_minus [] plain = refl
 no_minus (x ∷ xs) plain = plain
 
-module _ (low high : ℕ) (small : high < 2 ^ 32) (text : Text) (plain : IsPlainWord text) where
+module _ (bits low high : ℕ) (small : high < 2 ^ bits) (fits : high < 2 ^ 63) (text : Text) (plain : IsPlainWord text) where
   abbrev is_accepted : Bool
   is_accepted = accepts false (from_to low high) text
 
-  in_range : (n : ℕ) → number_written text ≡ Some n → IsBetween low high n → is_accepted ≡ true
+  in_range : (n : ℕ) → number_of_bits bits text ≡ Some n → IsBetween low high n → is_accepted ≡ true
   in_range n is within =
-      let read : ReadsOne {T = ℕ} {E = ⊤} (ParsesUnsigned 32 10) text (Some n) = subst (λ (o : Option ℕ). ReadsOne {T = ℕ} {E = ⊤} (ParsesUnsigned 32 10) text o) is (number_reads text) in
+      let read : ReadsOne {T = ℕ} {E = ⊤} (ParsesUnsigned bits 10) text (Some n) = subst (λ (o : Option ℕ). ReadsOne {T = ℕ} {E = ⊤} (ParsesUnsigned bits 10) text o) is (number_reads bits text) in
       let value : n ≡ digits_value 10 (without_leading_plus text) = read.1 in
       Accepts-accepts false (from_to low high) text
-      (rw (no_minus text plain) (read.0.0, record { sfits = omega (arith, value, within.1, small) }, omega (arith, ints, value, within.0), omega (arith, ints, value, within.1)))
+      (rw (no_minus text plain) (read.0.0, record { sfits = omega (arith, value, within.1, fits) }, omega (arith, ints, value, within.0), omega (arith, ints, value, within.1)))
 
   abbrev within : ℕ → Option ℕ
   within n = cond (nat_le low n && nat_le n high) (Some n) None
 
-  outside : (n : ℕ) → number_written text ≡ Some n → is_accepted ≡ false → (r : Bool) → (nat_le low n && nat_le n high) ≡ r → cond r (Some n) None ≡ None
+  outside : (n : ℕ) → number_of_bits bits text ≡ Some n → is_accepted ≡ false → (r : Bool) → (nat_le low n && nat_le n high) ≡ r → cond r (Some n) None ≡ None
   outside n is e false f = refl
   outside n is e true f =
       let parts = both _ _ f in
       let yes = in_range n is (leb-true _ _ parts.0, leb-true _ _ parts.1) in
       cc (e, yes)
 
-  unread : (o : Option ℕ) → number_written text ≡ o → is_accepted ≡ false → option_and_then within o ≡ None
+  unread : (o : Option ℕ) → number_of_bits bits text ≡ o → is_accepted ≡ false → option_and_then within o ≡ None
   unread None is e = refl
   unread (Some n) is e = outside n is e (nat_le low n && nat_le n high) refl
 
   -- what an accepted text says
-  pub accepted_says : is_accepted ≡ true → (n : ℕ) × (number_written (without_minus text) ≡ Some n) × (number_said low high text ≡ Some n)
+  pub accepted_says : is_accepted ≡ true → (n : ℕ) × (number_of_bits bits (without_minus text) ≡ Some n) × (said_within low high (number_of_bits bits text) ≡ Some n)
   accepted_says e =
-      let count = count_read low high small text e in
-      let here : number_written text ≡ Some count.0 = ap number_written (sym (same_text text plain)) ∙ count.1 in
+      let count = count_read bits low high small text e in
+      let here : number_of_bits bits text ≡ Some count.0 = ap (number_of_bits bits) (sym (same_text text plain)) ∙ count.1 in
       let counted : within count.0 ≡ Some count.0 = rw (le-leb low count.0 count.2.0, le-leb count.0 high count.2.1) refl in
       (count.0, count.1, ap (λ (o : Option ℕ). option_and_then within o) here ∙ counted)
 
-  pub refused_says : is_accepted ≡ false → number_said low high text ≡ None
-  refused_says e = unread (number_written text) refl e
+  pub refused_says : is_accepted ≡ false → said_within low high (number_of_bits bits text) ≡ None
+  refused_says e = unread (number_of_bits bits text) refl e

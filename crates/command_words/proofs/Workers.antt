@@ -111,6 +111,6 @@ workers_are_said catalog key text a b c =
   where
     go : (r : Bool) → accepts false workers_parser text ≡ r → said_by catalog key r (number_written (without_minus text)) ≡ option_map (run catalog key) (workers_said text)
     go true e =
-        let says = accepted_says 1 greatest_workers (omega arith) text c e in
+        let says = accepted_says 32 1 greatest_workers (omega arith) (omega arith) text c e in
         ap (λ (o : Option ℕ). run_of (Some catalog) (Some key) o) says.1 ∙ sym (ap (λ (o : Option ℕ). option_map (run catalog key) o) says.2)
-    go false e = sym (ap (λ (o : Option ℕ). option_map (run catalog key) o) (refused_says 1 greatest_workers (omega arith) text c e))
+    go false e = sym (ap (λ (o : Option ℕ). option_map (run catalog key) o) (refused_says 32 1 greatest_workers (omega arith) (omega arith) text c e))

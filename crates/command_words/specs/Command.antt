@@ -15,6 +15,8 @@ pub data Command : Type 0 where
   run : (catalog key : List ℕ) (workers : ℕ) → Command
   -- `audit CATALOG KEY`: the names of two files
   audit : (catalog key : List ℕ) → Command
+  -- `grant CATALOG KEY OWNER AMOUNT`: the names of two files and of an owner, and an amount in millionths of epsilon
+  grant : (catalog key owner : List ℕ) (amount : ℕ) → Command
   -- `gap CATALOG OWNER CATALOG2 FILE`: the names of a file, of an owner and of two other files
   gap : (catalog owner second_catalog file : List ℕ) → Command
   -- `serve CATALOG KEY --addr A --port P --workers W --each N`: the names of two files, an address, and three numbers
@@ -22,10 +24,16 @@ pub data Command : Type 0 where
   -- `gen SEED N WORKERS`: three numbers
   gen : (seed asks workers : ℕ) → Command
 
--- The number that a text is: digits, perhaps after a plus, below 2^32.
+-- The number that a text is: digits, perhaps after a plus, below this power of two.
+abbrev pub number_of_bits : (bits : ℕ) → Text → Option ℕ
+number_of_bits bits text = let digits = without_leading_plus text in
+    if is_numeral digits && nat_lt (digits_value 10 digits) (2 ^ bits) then Some (digits_value 10 digits) else None
+
 abbrev pub number_written : Text → Option ℕ
-number_written text = let digits = without_leading_plus text in
-    if is_numeral digits && nat_lt (digits_value 10 digits) (2 ^ 32) then Some (digits_value 10 digits) else None
+number_written text = number_of_bits 32 text
+
+abbrev pub amount_written : Text → Option ℕ
+amount_written text = number_of_bits 64 text
 
 -- a command of its words, where all are there
 abbrev pub check_of : (catalog owner file : Option Text) → Option Command
@@ -44,6 +52,10 @@ abbrev pub audit_of : (catalog key : Option Text) → Option Command
 audit_of (Some catalog) (Some key) = Some (audit catalog key)
 audit_of _ _ = None
 
+abbrev pub grant_of : (catalog key owner : Option Text) (amount : Option ℕ) → Option Command
+grant_of (Some catalog) (Some key) (Some owner) (Some amount) = Some (grant catalog key owner amount)
+grant_of _ _ _ _ = None
+
 abbrev pub gap_of : (catalog owner second_catalog file : Option Text) → Option Command
 gap_of (Some catalog) (Some owner) (Some second_catalog) (Some file) = Some (gap catalog owner second_catalog file)
 gap_of _ _ _ _ = None
@@ -60,6 +72,10 @@ gen_of _ _ _ = None
 abbrev pub number_in : Text → List Row → Option ℕ
 number_in name found = option_and_then number_written (one_of name found)
 
+-- and the amount
+abbrev pub amount_in : Text → List Row → Option ℕ
+amount_in name found = option_and_then amount_written (one_of name found)
+
 -- each command, of what clap found for it
 abbrev pub check_found_in : List Row → Option Command
 check_found_in found = check_of (first_of (codes "catalog") found) (first_of (codes "owner") found) (first_of (codes "file") found)
@@ -72,6 +88,10 @@ run_found_in found = run_of (first_of (codes "catalog") found) (first_of (codes 
 
 abbrev pub audit_found_in : List Row → Option Command
 audit_found_in found = audit_of (first_of (codes "catalog") found) (first_of (codes "key") found)
+
+abbrev pub grant_found_in : List Row → Option Command
+grant_found_in found = grant_of (first_of (codes "catalog") found) (first_of (codes "key") found) (first_of (codes "owner") found)
+    (amount_in (codes "amount") found)
 
 abbrev pub gap_found_in : List Row → Option Command
 gap_found_in found = gap_of (first_of (codes "catalog") found) (first_of (codes "owner") found)
@@ -91,6 +111,7 @@ command_named name found =
     else if bytes_eq name (codes "init") then init_found_in found
     else if bytes_eq name (codes "run") then run_found_in found
     else if bytes_eq name (codes "audit") then audit_found_in found
+    else if bytes_eq name (codes "grant") then grant_found_in found
     else if bytes_eq name (codes "gap") then gap_found_in found
     else if bytes_eq name (codes "serve") then serve_found_in found
     else if bytes_eq name (codes "gen") then gen_found_in found

@@ -8,6 +8,10 @@ use Rattle.clap.specs.declared.builder.value_parser.ValueParser.TheVariants as p
 abbrev pub greatest_workers : ℕ
 greatest_workers = 16
 
+-- the greatest amount of a grant, in millionths of epsilon
+abbrev pub greatest_amount : ℕ
+greatest_amount = 10 ^ 18
+
 -- The last port that a service's first worker may listen at: those of the others follow it, up to 65,535.
 abbrev pub greatest_port : ℕ
 greatest_port = 65520
@@ -76,6 +80,10 @@ run_app = with_rule (files_app (codes "run")) workers_option
 abbrev pub audit_app : App
 audit_app = files_app (codes "audit")
 
+-- its last word is a number
+abbrev pub grant_app : App
+grant_app = with_rule (with_word (files_app (codes "grant")) (codes "owner")) (required_number (codes "amount") (from_to 1 greatest_amount))
+
 abbrev pub gap_app : App
 gap_app = with_word (with_word (with_word (with_word (new_app (codes "gap")) (codes "catalog")) (codes "owner"))
     (codes "second_catalog")) (codes "file")
@@ -106,5 +114,5 @@ bare_program = let app = new_app (codes "hitchseason") in record app {
 }
 
 abbrev pub program_app : App
-program_app = with_subcommand (with_subcommand (with_subcommand (with_subcommand (with_subcommand (with_subcommand (with_subcommand bare_program check_app.top)
-    init_app.top) run_app.top) audit_app.top) gap_app.top) serve_app.top) gen_app.top
+program_app = with_subcommand (with_subcommand (with_subcommand (with_subcommand (with_subcommand (with_subcommand (with_subcommand (with_subcommand
+    bare_program check_app.top) init_app.top) run_app.top) audit_app.top) grant_app.top) gap_app.top) serve_app.top) gen_app.top

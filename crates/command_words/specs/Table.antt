@@ -1,16 +1,23 @@
 -- The commands of words without options, as a table.
 use Rattle.std.specs.Prelude.{◌==◌, ◌&&◌, ℕ, Bool, false, List, [], ◌∷◌, Option, Some, None, codes, bytes_eq, if◌then◌else◌, nat_le, option_and_then}
-use Rattle.command_words.specs.Command.{Command, check, init, run, audit, gap, gen_of, number_written}
-use Rattle.command_words.specs.Program.{greatest_asks, greatest_seed, greatest_workers}
+use Rattle.command_words.specs.Command.{Command, check, init, run, audit, gap, amount_written, gen_of, grant_of, number_written}
+use Rattle.command_words.specs.Program.{greatest_amount, greatest_asks, greatest_seed, greatest_workers}
 
 -- the word begins with `-` (45), as options do
 abbrev pub begins_with_hyphen : List ℕ → Bool
 begins_with_hyphen [] = false
 begins_with_hyphen (byte ∷ bytes) = byte == 45
 
--- the number that a text says, where it is in this range
+-- a number that is written, where it is in this range
+abbrev pub said_within : (low high : ℕ) → Option ℕ → Option ℕ
+said_within low high written = option_and_then (λ n. if nat_le low n && nat_le n high then Some n else None) written
+
+-- the number that a text says, and the amount
 abbrev pub number_said : (low high : ℕ) → List ℕ → Option ℕ
-number_said low high text = option_and_then (λ n. if nat_le low n && nat_le n high then Some n else None) (number_written text)
+number_said low high text = said_within low high (number_written text)
+
+abbrev pub amount_said : List ℕ → Option ℕ
+amount_said text = said_within 1 greatest_amount (amount_written text)
 
 abbrev pub workers_said : List ℕ → Option ℕ
 workers_said text = number_said 1 greatest_workers text
@@ -18,6 +25,10 @@ workers_said text = number_said 1 greatest_workers text
 -- a generated run, where each number is in its range
 abbrev pub gen_said : (seed asks workers : List ℕ) → Option Command
 gen_said seed asks workers = gen_of (number_said 0 greatest_seed seed) (number_said 1 greatest_asks asks) (workers_said workers)
+
+-- a grant, where its amount is in range
+abbrev pub grant_said : (catalog key owner amount : List ℕ) → Option Command
+grant_said catalog key owner amount = grant_of (Some catalog) (Some key) (Some owner) (amount_said amount)
 
 -- A `serve` has options that must be given, so it is none of these.
 abbrev pub plain_command : List (List ℕ) → Option Command
@@ -35,5 +46,7 @@ plain_command (name ∷ catalog ∷ owner ∷ file ∷ []) =
     else if bytes_eq name (codes "gen") then gen_said catalog owner file
     else None
 plain_command (name ∷ catalog ∷ owner ∷ second_catalog ∷ file ∷ []) =
-    if bytes_eq name (codes "gap") then Some (gap catalog owner second_catalog file) else None
+    if bytes_eq name (codes "grant") then grant_said catalog owner second_catalog file
+    else if bytes_eq name (codes "gap") then Some (gap catalog owner second_catalog file)
+    else None
 plain_command (name ∷ catalog ∷ owner ∷ second_catalog ∷ file ∷ more ∷ words) = None

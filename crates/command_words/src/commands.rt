@@ -3,7 +3,7 @@
 ghost use Rattle.std.specs.Prelude.{◌≡◌, IfOk, Ok, codes, false};
 ghost use Rattle.clap.specs.Words.{AddsSubcommand, app_of, rule_of};
 ghost use Rattle.clap.specs.declared.builder.command.Command.TheViews.{out-Command};
-ghost use Rattle.command_words.specs.Program.{address_option, bare_program, check_app, files_app, gap_app, gen_app, number_rule, or_else_is, program_app, required_number, required_option, required_word, run_app, serve_app, workers_option, workers_rule};
+ghost use Rattle.command_words.specs.Program.{address_option, bare_program, check_app, files_app, gap_app, gen_app, grant_app, number_rule, or_else_is, program_app, required_number, required_option, required_word, run_app, serve_app, workers_option, workers_rule};
 
 use clap::builder::ValueParser;
 use clap::{Arg, Command};
@@ -11,6 +11,9 @@ use std::alloc::{AllocError, Global};
 
 /// The most workers of a run, a service or a generated run.
 const GREATEST_WORKERS: i64 = 16;
+
+/// The greatest amount of a grant, in millionths of epsilon.
+const GREATEST_AMOUNT: i64 = 1_000_000_000_000_000_000;
 
 /// The last port that a service's first worker may listen at: those of the others follow it.
 const GREATEST_PORT: i64 = 65_520;
@@ -110,6 +113,16 @@ fn run_command<'a>(alloc: Global) -> Result<Command<'a>, AllocError>
     files_command(alloc, "run")?.arg(workers_option(alloc))
 }
 
+/// `grant CATALOG KEY OWNER AMOUNT`.
+fn grant_command<'a>(alloc: Global) -> Result<Command<'a>, AllocError>
+    ensures shape { IfOk result (λ c. app_of c ≡ grant_app) }
+    ensures local { IfOk result (λ c. (out-Command c).has_globals ≡ false) }
+{
+    files_command(alloc, "grant")?
+        .arg(word(alloc, "owner"))?
+        .arg(required_number(alloc, "amount", ValueParser::signed(1, GREATEST_AMOUNT)))
+}
+
 /// `gap CATALOG OWNER CATALOG2 FILE`.
 fn gap_command<'a>(alloc: Global) -> Result<Command<'a>, AllocError>
     ensures shape { IfOk result (λ c. app_of c ≡ gap_app) }
@@ -177,6 +190,7 @@ pub fn program_command<'a>(alloc: Global) -> Result<Command<'a>, AllocError>
     let program = with_command(program, files_command(alloc, "init"))?;
     let program = with_command(program, run_command(alloc))?;
     let program = with_command(program, files_command(alloc, "audit"))?;
+    let program = with_command(program, grant_command(alloc))?;
     let program = with_command(program, gap_command(alloc))?;
     let program = with_command(program, serve_command(alloc))?;
     with_command(program, gen_command(alloc))

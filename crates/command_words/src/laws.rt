@@ -3,8 +3,8 @@
 ghost use Rattle.std.specs.Prelude.{◌≡◌, ◌≢◌, ◌↔◌, ◌≤◌, ℕ, List, [], ◌∷◌, None, Some, codes, false, option_map};
 ghost use Rattle.std.specs.List.{AllByRecursion};
 ghost use Rattle.clap.specs.Words.{fault_of};
-ghost use Rattle.command_words.specs.Command.{command_of, gen, run, serve};
-ghost use Rattle.command_words.specs.Program.{greatest_asks, greatest_each, greatest_port, greatest_seed, greatest_workers, program_app};
+ghost use Rattle.command_words.specs.Command.{command_of, gen, grant, run, serve};
+ghost use Rattle.command_words.specs.Program.{greatest_amount, greatest_asks, greatest_each, greatest_port, greatest_seed, greatest_workers, program_app};
 ghost use Rattle.command_words.specs.Table.{begins_with_hyphen, plain_command, workers_said};
 
 /// Words are no command exactly where clap's parse of them answers a fault.
@@ -16,6 +16,12 @@ pub fn faults_alone_are_no_command()
 pub fn workers_are_in_range()
     ensures { (words : List (List ℕ)) (catalog key : List ℕ) (workers : ℕ) → command_of words ≡ Some (run catalog key workers) →
         (1 ≤ workers) × (workers ≤ greatest_workers) }
+{}
+
+/// The amount of a grant is in range.
+pub fn grants_are_in_range()
+    ensures { (words : List (List ℕ)) (catalog key owner : List ℕ) (amount : ℕ) → command_of words ≡ Some (grant catalog key owner amount) →
+        (1 ≤ amount) × (amount ≤ greatest_amount) }
 {}
 
 /// The numbers of a service are in range: its workers listen at ports below 2^16.

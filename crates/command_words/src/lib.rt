@@ -6,7 +6,8 @@ mod laws;
 mod words;
 
 pub use crate::laws::{
-    faults_alone_are_no_command, generated_runs_are_in_range, plain_words_are_a_table,
-    services_are_in_range, workers_are_in_range, workers_are_said_by_a_number,
+    faults_alone_are_no_command, generated_runs_are_in_range, grants_are_in_range,
+    plain_words_are_a_table, services_are_in_range, workers_are_in_range,
+    workers_are_said_by_a_number,
 };
 pub use crate::words::{Command, WordsFault, read_words};

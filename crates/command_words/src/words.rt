@@ -2,7 +2,7 @@
 
 ghost use Rattle.std.specs.Prelude.{◌≡◌, ◌≢◌, [], IfErr, IfOk, None, Some, map, option_map, string_bytes};
 ghost use Rattle.clap.specs.Words.{fault_of, first_of, found_of, rows_of, subcommand_of, subcommand_rows_of};
-ghost use Rattle.command_words.specs.Command.{audit_found_in, check_found_in, command_met, command_of, gap_found_in, gen_found_in, init_found_in, number_in, run_found_in, serve_found_in};
+ghost use Rattle.command_words.specs.Command.{amount_in, audit_found_in, check_found_in, command_met, command_of, gap_found_in, gen_found_in, grant_found_in, init_found_in, number_in, run_found_in, serve_found_in};
 ghost use Rattle.command_words.specs.Program.{program_app};
 ghost use Rattle.command_words.specs.Meant.{command_meant};
 
@@ -31,6 +31,12 @@ pub enum Command<'a> {
     Audit {
         catalog: &'a str,
         key: &'a str,
+    },
+    Grant {
+        catalog: &'a str,
+        key: &'a str,
+        owner: &'a str,
+        amount: u64,
     },
     Gap {
         catalog: &'a str,
@@ -93,6 +99,13 @@ fn number_found(found: &ArgMatches, name: &str) -> Option<u32>
     found.get_one::<u32>(name)
 }
 
+/// The amount that was found under this name.
+fn amount_found(found: &ArgMatches, name: &str) -> Option<u64>
+    ensures { result ≡ amount_in name.now (rows_of (found_of found.now)) }
+{
+    found.get_one::<u64>(name)
+}
+
 /// `check`, with what was found for it.
 fn check_found<'a>(found: &ArgMatches<'a>) -> Option<Command<'a>>
     ensures { option_map command_meant result ≡ check_found_in (rows_of (found_of found.now)) }
@@ -132,6 +145,18 @@ fn audit_found<'a>(found: &ArgMatches<'a>) -> Option<Command<'a>>
     Some(Command::Audit {
         catalog: text_found(found, "catalog")?,
         key: text_found(found, "key")?,
+    })
+}
+
+/// `grant`, with what was found for it.
+fn grant_found<'a>(found: &ArgMatches<'a>) -> Option<Command<'a>>
+    ensures { option_map command_meant result ≡ grant_found_in (rows_of (found_of found.now)) }
+{
+    Some(Command::Grant {
+        catalog: text_found(found, "catalog")?,
+        key: text_found(found, "key")?,
+        owner: text_found(found, "owner")?,
+        amount: amount_found(found, "amount")?,
     })
 }
 
@@ -181,6 +206,7 @@ fn command_found<'a>(matches: &ArgMatches<'a>) -> Option<Command<'a>>
         Some(("init", found)) => init_found(found),
         Some(("run", found)) => run_found(found),
         Some(("audit", found)) => audit_found(found),
+        Some(("grant", found)) => grant_found(found),
         Some(("gap", found)) => gap_found(found),
         Some(("serve", found)) => serve_found(found),
         Some(("gen", found)) => gen_found(found),
@@ -194,6 +220,7 @@ fn command_found<'a>(matches: &ArgMatches<'a>) -> Option<Command<'a>>
 /// - `init CATALOG KEY`
 /// - `run CATALOG KEY`, perhaps with `--workers W`: W is from 1 to 16, and 1 where it isn't given.
 /// - `audit CATALOG KEY`
+/// - `grant CATALOG KEY OWNER AMOUNT`: AMOUNT is from 1 to 10^18.
 /// - `gap CATALOG OWNER CATALOG2 FILE`
 /// - `serve CATALOG KEY --port P --each N`, perhaps with `--addr A` and `--workers W`: P is from 1 to 65,520, N from 1 to 1,000,000,
 ///   and A is 127.0.0.1 where it isn't given.

@@ -11,6 +11,6 @@ returns c =
     let go : (o : Option (List ℕ)) → one_text (found_of c.args.found.now) c.args.name.now ≡ o → c.get_one.result ≡ option_and_then number_written o =
     λ o is. elim o as (λ w. one_text (found_of c.args.found.now) c.args.name.now ≡ w → c.get_one.result ≡ option_and_then number_written w) [
       | None ↦ λ is. c.get_one.ensures.none is
-      | Some t ↦ λ is. number_read t c.get_one.result (c.get_one.ensures.value t is)
+      | Some t ↦ λ is. number_read 32 t c.get_one.result (c.get_one.ensures.value t is)
     ] is in
     go _ refl ∙ ap (option_and_then number_written) (one_text-rows (found_of c.args.found.now) c.args.name.now)
