@@ -1,9 +1,10 @@
 -- what is done with a house changes nothing of how it is read
 use Rattle.std.proofs.Common.{◌≡◌, ℕ, List, ◌++◌, Option, refl, sym, ◌∙◌, ap, subst}
 use Rattle.std.specs.Prelude.{Result, Ok, Err}
+use Rattle.owner_catalog.specs.Entries.{owner_entry_at}
 use Rattle.catalog_loading.specs.Files.{Contents, ReadsToCome}
-use Rattle.catalog_loading.specs.Steps.{StepOutcome, FileStep, ◌>>=◌, behind, continued, done}
-use Rattle.catalog_loading.specs.Loaded.{KeyedHouse, Loading, catalog_read, house_read, key_read, keyed, loaded, with_house}
+use Rattle.catalog_loading.specs.Steps.{StepOutcome, FileStep, ◌>>=◌, behind, continued, done, from}
+use Rattle.catalog_loading.specs.Loaded.{KeyedHouse, KeyedOwner, Loading, catalog_read, house_read, key_read, keyed, keyed_owner_read, loaded, number_named, owner_read, with_house, with_owner}
 use Rattle.catalog_loading.specs.Given.{IsStopAt}
 use Rattle.catalog_loading.specs.declared.stops.Stop.{Stop}
 use Rattle.catalog_loading.specs.declared.stops.Stop.TheVariants.{Usage, Refused, Journal, Disk, Fault, NoMemory}
@@ -68,4 +69,39 @@ house_stopped {A} held old new work catalog key stop is = λ rest told.
       one.0,
       one.1,
       subst (λ (o : StepOutcome A). IsStopAt o old new stop) (sym (house_valued work catalog key one.0)) (valued_stop f (house_read catalog key one.0) old new stop one.2),
+    )
+
+-- ---- the same of one owner
+
+owner_valued : {A : Type 0} (work : KeyedOwner → A) (catalog key owner : List ℕ) (reads : ReadsToCome)
+    → with_owner work catalog key owner reads ≡ valued work (keyed_owner_read catalog key owner reads)
+owner_valued {A} work catalog key owner reads =
+    then_valued work (catalog_read catalog) _ _
+    (λ house. then_valued work (key_read key) _ _
+    (λ bytes. then_valued work (from (number_named house owner)) _ _
+    (λ number. then_valued work (owner_read (owner_entry_at house number))
+    (λ loaded. done (record { catalog = house; number = number; hashes = loaded.hashes; key = bytes }))
+    (λ loaded. done (work (record { catalog = house; number = number; hashes = loaded.hashes; key = bytes }))) (λ loaded rest. refl)))) reads
+
+pub owner_done : {A : Type 0} (held : Option Contents) (old new : List (List ℕ)) (work : KeyedOwner → A) (catalog key owner : List ℕ) (one : KeyedOwner)
+    → IsDone held old new (keyed_owner_read catalog key owner) one → IsDone held old new (with_owner work catalog key owner) (work one)
+owner_done {A} held old new work catalog key owner one is = λ rest told.
+    let read = is rest told in
+    let same = owner_valued work catalog key owner read.0 in (
+      read.0,
+      read.1,
+      record {
+        given = ap (λ (o : StepOutcome A). o.given) same ∙ ap (with_value work) read.2.given;
+        rests = ap (λ (o : StepOutcome A). o.rest) same ∙ read.2.rests;
+        names = read.2.names ∙ ap (λ (o : StepOutcome A). old ++ o.names) (sym same);
+      },
+    )
+
+pub owner_stopped : {A : Type 0} (held : Option Contents) (old new : List (List ℕ)) (work : KeyedOwner → A) (catalog key owner : List ℕ) (stop : Stop)
+    → IsStopped held old new (keyed_owner_read catalog key owner) stop → IsStopped held old new (with_owner work catalog key owner) stop
+owner_stopped {A} held old new work catalog key owner stop is = λ rest told.
+    let read = is rest told in (
+      read.0,
+      read.1,
+      subst (λ (o : StepOutcome A). IsStopAt o old new stop) (sym (owner_valued work catalog key owner read.0)) (valued_stop work (keyed_owner_read catalog key owner read.0) old new stop read.2),
     )

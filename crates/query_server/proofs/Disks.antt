@@ -4,8 +4,8 @@ use mathlib.Core.Logic.{◌⊎◌, inl, inr}
 use Rattle.std.proofs.lemmas.Bool.{cases_lt}
 use Rattle.fz_outside.specs.Faults.{HasRisen}
 use Rattle.outside_disks.specs.Disks.{Shown}
-use Rattle.query_server.specs.Work.{Work, to_answer, to_make, to_count, to_serve}
-use Rattle.query_server.specs.Shelves.{Shelf, EachDisk, IsOnlySynced, NothingWritten, StandsStill}
+use Rattle.query_server.specs.Work.{Work, to_answer, to_make, to_count, to_grant, to_serve}
+use Rattle.query_server.specs.Shelves.{Shelf, EachDisk, IsOnlySynced, NothingWritten, OneDisk, StandsStill}
 use Rattle.query_server.specs.Due.{MayStop}
 
 pub synced_same : (shown : Shown) → IsOnlySynced shown shown
@@ -26,11 +26,16 @@ nothing_written n b a each o before at = here (cases_lt o n)
     here (inl less) = each.owned o before less at
     here (inr past) = (before, each.others o past ∙ at, synced_same before)
 
+-- a disk that is as it was
+one_same : (o : ℕ) (Goes : Shown → Shown → Type 0) (shelf : Shelf) → ((before : Shown) → Goes before before) → OneDisk o Goes shelf shelf
+one_same o Goes shelf goes = record { here = λ before at. (before, at, goes before); elsewhere = λ p isnt. refl }
+
 pub may_stop_same : (ending : Work) (shelf : Shelf) → MayStop ending shelf shelf
 may_stop_same (to_answer workers loading key) shelf = became_same _ shelf
 may_stop_same (to_make loading key) shelf = inl (λ n. refl)
 may_stop_same (to_count loading key) shelf = became_same _ shelf
 may_stop_same (to_serve workers each loading key) shelf = inl (became_same _ shelf)
+may_stop_same (to_grant amount one) shelf = inl (one_same _ _ shelf (λ before. synced_same before))
 may_stop_same work shelf = λ n. refl
 
 -- the count of a disk that is as it was, or of which it is known what it shows

@@ -9,11 +9,11 @@ use Rattle.command_words.specs.Command.{Command, command_of}
 use Rattle.catalog_loading.specs.Files.{ReadsToCome}
 use Rattle.catalog_loading.specs.Loaded.{Loading, new_header}
 use Rattle.query_server.specs.Work.{Work}
-use Rattle.query_server.specs.Shelves.{Shelf, AreAtHome, EachDisk}
+use Rattle.query_server.specs.Shelves.{Shelf, AreAtHome, EachDisk, OneDisk}
 use Rattle.query_server.specs.Init.{AreMadeBefore, IsMade}
 use Rattle.query_server.specs.Due.{IsOfDisks, work_of}
 use Rattle.query_server.specs.Ends.{Ended, IsEndOf}
-use Rattle.query_server.proofs.Endings.{ComesTo, answers, counts, makes, refuses, serves, work_comes}
+use Rattle.query_server.proofs.Endings.{ComesTo, answers, counts, grants, makes, refuses, serves, work_comes}
 
 abbrev pub AreBack : (old new : Shelf) → Type 0
 AreBack old new = (o : ℕ) → IsSome (old o) → IsSome (new o)
@@ -41,6 +41,17 @@ became_back n Goes b a became o home = here (cases_lt o n)
     here (inl less) = went_back b a o (Goes o) (λ before at. became.owned o before less at) home
     here (inr past) = subst IsSome (sym (became.others o past)) home
 
+one_back : (k : ℕ) (Goes : Shown → Shown → Type 0) (b a : Shelf) → OneDisk k Goes b a → AreBack b a
+one_back k Goes b a went o home = here (cases_order o k)
+  where
+    elsewhere : (o ≡ k → ⊥) → IsSome (a o)
+    elsewhere isnt = subst IsSome (sym (went.elsewhere o isnt)) home
+
+    here : (o ≡ k) ⊎ ((o < k) ⊎ (k < o)) → IsSome (a o)
+    here (inl same) = subst (λ (n : ℕ). IsSome (a n)) (sym same) (went_back b a k Goes went.here (subst (λ (n : ℕ). IsSome (b n)) same home))
+    here (inr (inl less)) = elsewhere (λ same. omega (arith, less, same))
+    here (inr (inr past)) = elsewhere (λ same. omega (arith, past, same))
+
 made_back : (loading : Loading) (key : List ℕ) (k : ℕ) (Goes : Shown → Shown → Type 0) (b a : Shelf) → AreMadeBefore loading key k Goes b a → AreBack b a
 made_back loading key k Goes b a made o home = here (cases_order o k)
   where
@@ -67,6 +78,10 @@ work_back command work b a script end serves takes (inl (inl refusal)) = became_
 work_back command work b a script end serves takes (inl (inr (versions, found, opened, done, text, held))) = became_back _ _ b a held.over.disks
 work_back command work b a script end serves takes (inr (cut, inl disks)) = became_back _ _ b a disks
 work_back command work b a script end serves takes (inr (cut, inr (versions, found, opened, held))) = became_back _ _ b a held.over.disks
+work_back command work b a script end grants takes (inl (inl refusal)) = one_back _ _ b a refusal.disk
+work_back command work b a script end grants takes (inl (inr answered)) = one_back _ _ b a answered.disk
+work_back command work b a script end grants takes (inr (cut, inl disk)) = one_back _ _ b a disk
+work_back command work b a script end grants takes (inr (cut, inr unwritten)) = one_back _ _ b a unwritten.disk
 work_back command work b a script end other takes due = cc takes
 
 -- Every disk is at home again.

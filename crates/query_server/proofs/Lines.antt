@@ -21,7 +21,7 @@ use Rattle.session_laws.proofs.Scripts.{transcript_of}
 use Rattle.query_server.proofs.Doors.{doors_stay, doors_stay_on}
 use Rattle.query_server.proofs.Contents.{at_held, at_told, for_contents}
 use Rattle.query_server.proofs.Endings.{counted_lawful, house_by, house_served_by, made_lawful, work_by, work_comes}
-use Rattle.query_server.proofs.Outcomes.{Comes, comparison_by, disks_of, finished_due, finished_map, left_by_run, name_by, program_by, program_of, run_of, status_written, usage_of, verdict_by}
+use Rattle.query_server.proofs.Outcomes.{Comes, comparison_by, disks_of, grant_of, finished_due, finished_map, left_by_run, name_by, program_by, program_of, run_of, status_written, usage_of, verdict_by}
 
 pub lines_exact : LinesAreExact
 lines_exact words before after status text line held files =
@@ -73,6 +73,10 @@ statuses_of_commands words before after status text (written, (reads, script, to
       λ same. usage_of (command_of words) work comes (has code.Usage text due same (λ w. cc) (λ w. cc) (λ w. cc)),
       λ same. program_of (command_of words) work comes (has code.ProgramRefused text due same (λ w. cc) (λ w. cc) (λ w. cc)),
       λ same. run_of (command_of words) work comes (has code.ScriptTooLong text due same (λ w. cc) (λ w. cc) (λ w. cc)),
+      λ either. grant_of (command_of words) work comes (elim either [
+        | inl same ↦ inl (has code.TooLarge text due same (λ w. cc) (λ w. cc) (λ w. cc))
+        | inr same ↦ inr (has code.JournalFull text due same (λ w. cc) (λ w. cc) (λ w. cc))
+      ]),
       λ same. disks_of (command_of words) work comes (has code.JournalRefused text due same (λ w. cc) (λ w. cc) (λ w. cc)),
     )
 

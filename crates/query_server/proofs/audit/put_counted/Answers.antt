@@ -1,7 +1,7 @@
 use Rattle.std.proofs.Common.{◌++◌, ◌∷◌, [], codes}
 use Rattle.std.specs.Prelude.{decimal}
 use Rattle.budget_core.specs.Answers.{counts_of}
-use Rattle.budget_core.specs.Cost.{cost_of}
+use Rattle.budget_core.specs.Cost.{cost_of, budget_of}
 use Rattle.owner_catalog.specs.Entries.{owner_entry_at}
 use Rattle.query_server.specs.Audit.{counted_line}
 use Rattle.query_server.proofs.Counted.{last_piece, one_line}
@@ -29,9 +29,8 @@ returns g c =
       c.from-3.ensures,
       c.from-4.ensures,
       c.counts-counts.ensures,
-      c.spent.ensures.spent,
-      c.budget.ensures,
+      c.left-left.ensures,
     )
     (one_line c.args.lines.now.items owner.name (codes " reservations ") (decimal (counts_of records).reservations) (codes " answered ") (decimal (counts_of records).answered)
     (codes " exhausted ") (decimal (counts_of records).exhausted) (codes " lost ") (decimal (counts_of records).lost) (codes " spent ") (decimal (cost_of entry records))
-    (codes " budget ") (decimal owner.budget) (10 ∷ [])))
+    (codes " budget ") (decimal (budget_of entry records)) (10 ∷ [])))

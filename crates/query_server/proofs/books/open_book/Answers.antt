@@ -23,12 +23,12 @@ entry-requires g c =
     omega (arith, c.requires.owner, owners_length c.args.opened.now.loading.register c.house-house.ensures.lawful.lawful.register, ap (λ (r : Register). length (house_of r).owners) c.house-house.ensures.house)
 
 pub open_on-requires-clause-budget : goal.open_on-requires-clause-budget
-open_on-requires-clause-budget g c =
+open_on-requires-clause-budget g c κs _ =
     let found = entry_found c.args.opened.now.loading c.house-house.result.now c.args.owner c.in_ok-entry.entry c.house-house.ensures.house c.house-house.ensures.lawful.lawful c.requires.owner c.in_ok-entry.ensures in
     ap (λ (h : Header). h.budget) c.requires.header ∙ sym (ap (λ (e : Entry). e.budget) found)
 
 pub open_on-requires-clause-capacity : goal.open_on-requires-clause-capacity
-open_on-requires-clause-capacity g c =
+open_on-requires-clause-capacity g c κs _ =
     let found = entry_found c.args.opened.now.loading c.house-house.result.now c.args.owner c.in_ok-entry.entry c.house-house.ensures.house c.house-house.ensures.lawful.lawful c.requires.owner c.in_ok-entry.ensures in
     ap (λ (h : Header). h.capacity) c.requires.header ∙ sym (ap (λ (e : Entry). e.capacity) found)
 
