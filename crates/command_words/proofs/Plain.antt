@@ -219,18 +219,25 @@ said_by : (bits low high : ℕ) → high < 2 ^ bits → high < 2 ^ 63 → (text 
 said_by bits low high small fits text plain true e = let says = accepted_says bits low high small fits text plain e in says.1 ∙ sym says.2
 said_by bits low high small fits text plain false e = sym (refused_says bits low high small fits text plain e)
 
--- a grant, by whether its amount is accepted
+-- a grant of four words, behind what the settling of its amount answers
+abbrev grant_by : (a b c d : Text) → Kinds → Option Command
+grant_by a b c d fault =
+    let end = plain_walk grant_shape.rules (walk_from nothing_held) (a ∷ b ∷ c ∷ d ∷ []) in
+    unless_fault (or_else fault (or_else (defaults_fault (settled grant_shape.rules end.held).rows grant_shape.rules)
+    (check_fault grant_shape (finished grant_shape.rules end.held) false))) (command_named grant_shape.name (finished grant_shape.rules end.held))
+
+abbrev amount_fault : Bool → Kinds
+amount_fault accepted = or_else (cond accepted [] (kind.ValueValidation ∷ [])) []
+
+grant_end : (a b c d : Text) (x : Bool) → grant_by a b c d (amount_fault x) ≡ grant_of (Some a) (Some b) (Some c) (number_by 64 x d)
+unfolding defaults_fault
+grant_end a b c d true = refl
+grant_end a b c d false = refl
+
 grant_four : (a b c d : Text) (x : Bool) → accepts false amount_parser d ≡ x
     → plain_leaf grant_shape (a ∷ b ∷ c ∷ d ∷ []) ≡ grant_of (Some a) (Some b) (Some c) (number_by 64 x d)
 unfolding defaults_fault
-grant_four a b c d true e = rw e refl
-grant_four a b c d false e = rw e refl
-
-grant_five : (a b c d more : Text) (words : List Text) (x : Bool) → accepts false amount_parser d ≡ x
-    → plain_leaf grant_shape (a ∷ b ∷ c ∷ d ∷ more ∷ words) ≡ None
-unfolding defaults_fault
-grant_five a b c d more words true e = rw e refl
-grant_five a b c d more words false e = rw e refl
+grant_four a b c d x e = ap (λ (r : Bool). grant_by a b c d (amount_fault r)) e ∙ grant_end a b c d x
 
 grant_leaf : (words : List Text) → ArePlain words → plain_leaf grant_shape words ≡ plain_command (codes "grant" ∷ words)
 unfolding defaults_fault
@@ -242,7 +249,7 @@ grant_leaf (a ∷ b ∷ c ∷ d ∷ []) plain =
     let x = accepts false amount_parser d in
     let amount = said_by 64 1 greatest_amount (omega arith) (omega arith) d plain.1.1.1.0 x refl in
     grant_four a b c d x refl ∙ (λ j. grant_of (Some a) (Some b) (Some c) (amount j))
-grant_leaf (a ∷ b ∷ c ∷ d ∷ more ∷ words) plain = grant_five a b c d more words (accepts false amount_parser d) refl
+grant_leaf (a ∷ b ∷ c ∷ d ∷ more ∷ words) plain = refl
 
 -- the numbers of a `gen`, by whether each text is accepted
 
