@@ -64,7 +64,7 @@ synced_trace header found None (Some u) f = absurd f
 synced_trace header found (Some t) None f = absurd f
 synced_trace header found (Some t) (Some u) f = inr (ap Some f.0)
 
-book_synced : (entry : Entry) (header : Header) (before : Shown) (shown : Option Shown) (book : Account) → shown ≡ Some before → IsNewBook entry header shown book → IsOnlySynced before (shown_by book)
+pub book_synced : (entry : Entry) (header : Header) (before : Shown) (shown : Option Shown) (book : Account) → shown ≡ Some before → IsNewBook entry header shown book → IsOnlySynced before (shown_by book)
 book_synced entry header before shown book at new =
     let on = subst (λ (s : Option Shown). IfSome s (λ b. WhereTold (Found header book.ledger.found) b.trace book.storage.trace × (book.storage.faults ≡ b.faults))) at new.on in
     record { synced = synced_trace header book.ledger.found before.trace book.storage.trace on.0; counts = omega (arith, on.1) }

@@ -38,7 +38,7 @@ use Rattle.query_server.specs.Books.{ArePassesOn, ArePutBack, GaveBook, IsNewPas
 use Rattle.query_server.specs.Ends.{Ended, IsScriptEnd, IsEndOf}
 use Rattle.catalog_loading.specs.declared.stops.Stop.{Stop}
 use Rattle.catalog_loading.specs.declared.stops.Stop.TheVariants.{Journal, Disk, NoMemory}
-use Rattle.query_server.specs.declared.end.End.TheVariants.{Done, ProgramRefused, ScriptTooLong}
+use Rattle.query_server.specs.declared.end.End.TheVariants.{Done, ProgramRefused, ScriptTooLong, TooLarge, JournalFull}
 use Rattle.query_server.specs.declared.end.Status.TheVariants as code
 use Rattle.query_server.proofs.Bundled.{many_known}
 use Rattle.query_server.proofs.Passes.{all_back, fresh_none}
@@ -204,6 +204,8 @@ module _ (loading : Loading) (key : List ℕ) (versions : List ℕ) (counted : l
   run_ends workers old mid new passes after books script (Ok (Done replies)) some on (short, h) back =
       inl (inr (versions, found_by passes, all_opened old mid passes on, inl (refl, short, answered_over house_found key found_lawful workers old mid new passes after books script replies.items some on h back)))
   run_ends workers old mid new passes after books script (Ok (ProgramRefused line)) some on wrong back = absurd wrong
+  run_ends workers old mid new passes after books script (Ok (TooLarge line)) some on wrong back = absurd wrong
+  run_ends workers old mid new passes after books script (Ok (JournalFull line)) some on wrong back = absurd wrong
   run_ends workers old mid new passes after books script (Ok ScriptTooLong) some on (long, none) back =
       inl (inr (versions, found_by passes, all_opened old mid passes on, inr (refl, long, refl, unserved_back house_found key found_lawful old mid new passes after books on none back)))
   run_ends workers old mid new passes after books script (Err stop) some on (inl is, none) back = inr (inl (ap Err is), unserved_back house_found key found_lawful old mid new passes after books on none back)
