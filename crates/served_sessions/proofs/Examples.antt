@@ -239,9 +239,11 @@ may_all records o owner failure at is = absurd (cc (is))
 both_run : (draws : ℕ → ℕ → ℕ → ℕ)
     → AreRuns house draws 0 clinic [] (run_of house draws (both draws) (made (outcome_at draws)) None (is_sent house draws (both draws)) (made (outcome_at draws)) ∷ []) (made (outcome_at draws))
 both_run draws = (
+  [],
+  ([], refl),
   ended_run house draws (both draws) begun (behind (outcome_at draws)) (only (made (outcome_at draws))) not_closed (both_held draws) (may_all (only (made (outcome_at draws)))) 0 clinic refl (made (outcome_at draws))
       (inl ((made (outcome_at draws), refl), ([], refl))) ([], refl),
-  refl,
+  ([], refl),
 )
 
 -- stopped behind the greeting, with the reservation alone
@@ -323,8 +325,8 @@ quiet_service draws = record {
   is = refl;
 }
 
-two_services : (draws : ℕ → ℕ → ℕ → ℕ) → AreServiceRuns house draws 0 [] (early_run draws ∷ quiet_run draws ∷ []) reserved
-two_services draws = (first_service draws, (quiet_service draws, refl))
+two_services : (draws : ℕ → ℕ → ℕ → ℕ) → AreServiceRuns house draws 0 clinic [] (early_run draws ∷ quiet_run draws ∷ []) reserved
+two_services draws = ([], ([], refl), first_service draws, (reserved, ([], refl), quiet_service draws, ([], refl)))
 
 -- a run on books that hold something else isn't the next one
 not_on_other_records : (draws : ℕ → ℕ → ℕ → ℕ) → (r : IsServiceRun house draws 0 reserved (quiet_run draws)) → found_by r.before 0 ≡ [] → ⊥

@@ -205,7 +205,8 @@ service_run house draws o owner here found run r =
     (subst (λ (rs : List Record). IsStoppedBehind house o rs xs (r.records o) (r.closed o) r.n run.left) (sym r.begins) r.stop) in
     subst (λ (rs : List Record). IsRun house draws o owner rs run) r.begins (subst (λ (v : Run). IsRun house draws o owner (found_by r.before o) v) (sym r.is) is_run)
 
-pub service_runs : (house : House) (draws : ℕ → ℕ → ℕ → ℕ) (o : ℕ) (owner : Owner) → slice_get house.owners o ≡ Some owner → (runs : List Run) (found last : List Record) → AreServiceRuns house draws o found runs last
+pub service_runs : (house : House) (draws : ℕ → ℕ → ℕ → ℕ) (o : ℕ) (owner : Owner) → slice_get house.owners o ≡ Some owner → (runs : List Run) (found last : List Record) → AreServiceRuns house draws o owner found runs last
     → AreRuns house draws o owner found runs last
-service_runs house draws o owner here [] found last is = is
-service_runs house draws o owner here (run ∷ runs) found last (r, rest) = (service_run house draws o owner here found run r, service_runs house draws o owner here runs run.left last rest)
+service_runs house draws o owner here [] found last granted = granted
+service_runs house draws o owner here (run ∷ runs) found last (start, granted, r, rest) =
+    (start, granted, service_run house draws o owner here start run r, service_runs house draws o owner here runs run.left last rest)

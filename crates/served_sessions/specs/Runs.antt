@@ -13,7 +13,7 @@ use Rattle.session_core.specs.Served.{AnswersOn}
 use Rattle.session_core.specs.Transcript.{Journals, first_new}
 use Rattle.session_core.specs.Code.{found_by}
 use Rattle.successive_runs.specs.Left.{IsLeft}
-use Rattle.successive_runs.specs.Life.{Run}
+use Rattle.successive_runs.specs.Life.{Run, MayHaveGranted}
 use Rattle.held_sessions.specs.Sittings.{Sitting, all_exchanges}
 use Rattle.held_sessions.specs.Kept.{AreHeld}
 
@@ -75,7 +75,8 @@ module _ (house : House) (draws : ℕ → ℕ → ℕ → ℕ) where
     pub stop : IsStoppedBehind house o found (all_exchanges house draws sittings) (records o) (closed o) n run.left
     pub is : run ≡ run_of sittings (records o) (closed o) run.sent run.left
 
-  -- One such run after another, each on what the one before it left.
-  abbrev pub AreServiceRuns : (o : ℕ) → (found : List Record) → List Run → (last : List Record) → Type 0
-  AreServiceRuns o found [] last = last ≡ found
-  AreServiceRuns o found (run ∷ runs) last = IsServiceRun o found run × AreServiceRuns o run.left runs last
+  -- One such run after another, each on what the one before it left and what was granted since.
+  abbrev pub AreServiceRuns : (o : ℕ) → Owner → (found : List Record) → List Run → (last : List Record) → Type 0
+  AreServiceRuns o owner found [] last = MayHaveGranted owner.entry found last
+  AreServiceRuns o owner found (run ∷ runs) last = (start : List Record) × MayHaveGranted owner.entry found start
+      × IsServiceRun o start run × AreServiceRuns o owner run.left runs last

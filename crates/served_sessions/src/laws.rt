@@ -83,15 +83,15 @@ pub fn sessions_are_runs()
 {}
 
 /// Any number of a server's runs, one after another from the journals' making on, each of which has sessions one after another and ended
-/// or was stopped behind any of their lines, keep the promise over all of them; and so do those that go on from whatever records
+/// or was stopped behind any of their lines, with grants between them, keep the promise over all of them; and so do those that go on from whatever records
 /// programs explain.
 pub fn served_runs_keep_the_promise()
     ensures first { (house : House) (draws : ℕ → ℕ → ℕ → ℕ) (o : ℕ) (owner : Owner) (runs : List Run) (last : List Record) →
-        AreOwners house → slice_get house.owners o ≡ Some owner → AreServiceRuns house draws o [] runs last →
+        AreOwners house → slice_get house.owners o ≡ Some owner → AreServiceRuns house draws o owner [] runs last →
         KeepThePromise house draws o owner [] [] runs last }
     ensures later { (house : House) (draws : ℕ → ℕ → ℕ → ℕ) (o : ℕ) (owner : Owner) (found : List Record) (earlier : List (List ℕ)) →
         (runs : List Run) (last : List Record) → AreOwners house → slice_get house.owners o ≡ Some owner → IsFound owner (draws o) earlier found →
-        AreServiceRuns house draws o found runs last → KeepThePromise house draws o owner found earlier runs last }
+        AreServiceRuns house draws o owner found runs last → KeepThePromise house draws o owner found earlier runs last }
 {}
 
 /// A service is a run of each owner's, by however many workers, and however it ended: each file that a stop may have left since an owner's

@@ -9,6 +9,7 @@ use Rattle.journal_records.specs.declared.records.Record.{Record}
 use Rattle.journal_records.specs.Records.{settling}
 use Rattle.budget_core.specs.declared.entry.Grant.{Grant}
 use Rattle.budget_core.specs.Cost.{cost_of, budget_of}
+use Rattle.budget_core.specs.Granting.{with_grant}
 use Rattle.budget_core.specs.Counts.{reservations_of, outcome_of}
 use Rattle.budget_core.specs.Legal.{MayFollow}
 use Rattle.budget_ledger.specs.declared.failure.Failure.{Failure}
@@ -41,7 +42,7 @@ use Rattle.session_laws.specs.Growing.{IsMetOn}
 use Rattle.session_laws.proofs.Added.{IsKind, kind_met, number_is, told_stands}
 use Rattle.session_laws.proofs.Once.{kind_at}
 use Rattle.successive_runs.specs.Left.{IsLeft}
-use Rattle.successive_runs.specs.Life.{Run, IsRun, AreRuns, none_sent, all_sent}
+use Rattle.successive_runs.specs.Life.{Run, IsRun, AreGranted, AreRuns, none_sent, all_sent}
 use Rattle.successive_runs.proofs.Files.{met_on_all}
 use Rattle.successive_runs.proofs.Fronts.{counts_on}
 use Rattle.successive_runs.proofs.Sent.{speaks_of}
@@ -234,7 +235,23 @@ second_run draws = record {
 
 -- Two runs, one after the other: the first one's answer wasn't sent, and its number stays taken.
 two_runs : (draws : ℕ → ℕ → ℕ → ℕ) → AreRuns house draws 0 clinic [] (stopped (outcome_at draws 0) ∷ second (outcome_at draws 1) ∷ []) (both_runs (outcome_at draws 1))
-two_runs draws = (stopped_run draws, (second_run draws, refl))
+two_runs draws = ([], ([], refl), stopped_run draws, (opened, ([], refl), second_run draws, ([], refl)))
+
+-- The owner grants 5 before the first run, and 3 and 2 behind the second; each counts among the records.
+abbrev raised_before : List Record
+raised_before = with_grant [] 5
+
+granted_five : AreGranted clinic.entry [] (5 ∷ []) raised_before
+unfolding budget_of
+granted_five = (record { numbered = refl; some = omega arith; within = omega arith }, refl)
+
+granted_twice : AreGranted clinic.entry raised_before (3 ∷ 2 ∷ []) (with_grant (with_grant raised_before 3) 2)
+unfolding budget_of
+granted_twice = (record { numbered = refl; some = omega arith; within = omega arith }, record { numbered = refl; some = omega arith; within = omega arith }, refl)
+
+-- A grant of nothing is none.
+nothing_granted : (after : List Record) → AreGranted clinic.entry [] (0 ∷ []) after → ⊥
+nothing_granted after (may, rest) = let h = may.some in omega (arith, h)
 
 next_number : (outcome : Outcome) → told_settlement (again outcome).reply ≡ Some (1, outcome)
 next_number outcome = outcome_said next_grant outcome

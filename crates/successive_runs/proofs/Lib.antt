@@ -1,5 +1,6 @@
 pub mod Fronts
 mod Numbered
+mod Granted
 mod Ran
 mod Sent
 pub mod Lives

@@ -25,6 +25,7 @@ use Rattle.query_server.proofs.Owed.{history_within}
 use Rattle.successive_runs.specs.Life.{Run, IsRun, AreRuns, WasSent}
 use Rattle.successive_runs.specs.Kept.{KeepThePromise}
 use Rattle.successive_runs.proofs.Fronts.{counts_on}
+use Rattle.successive_runs.proofs.Granted.{found_granted, granted_prefix}
 use Rattle.successive_runs.proofs.Numbered.{answer_stands, recall_stands, borne_on}
 use Rattle.successive_runs.proofs.Ran.{IsGoneOn, gone_on}
 use Rattle.successive_runs.proofs.Sent.{number_of_run, one_line, borne_left}
@@ -78,6 +79,18 @@ module _ (house : House) (draws : ℕ → ℕ → ℕ → ℕ) (o : ℕ) (owner 
     borne = λ i place demand reply w. none_sent_yet found i place demand reply w;
     new = λ i place query reply n outcome w said. none_sent_yet found i place (asks query) reply w;
     once = λ i j place other query and reply also n outcome other_outcome w v said tells. none_sent_yet found i place (asks query) reply w;
+  }
+
+  -- what is kept since some records is kept since those that they begin with
+  kept_since : (found start : List Record) (earlier : List (List ℕ)) (runs : List Run) (last : List Record) → IsPrefix found start → AreKept start earlier runs last → AreKept found earlier runs last
+  kept_since found start earlier runs last begins k = record {
+    begins = prefix_trans found start last begins k.begins;
+    programs = k.programs;
+    goes_on = k.goes_on;
+    explained = k.explained;
+    borne = k.borne;
+    new = λ i place query reply n outcome w said. omega (arith, counts_on found start begins, k.new i place query reply n outcome w said);
+    once = k.once;
   }
 
   module _ (found : List Record) (earlier : List (List ℕ)) (run : Run) (runs : List Run) (last : List Record) (f : IsFound owner (draws o) earlier found) (r : IsRun house draws o owner found run)
@@ -144,10 +157,14 @@ module _ (house : House) (draws : ℕ → ℕ → ℕ → ℕ) (o : ℕ) (owner 
     }
 
   kept_by : (runs : List Run) (found : List Record) (earlier : List (List ℕ)) (last : List Record) → IsFound owner (draws o) earlier found → AreRuns house draws o owner found runs last → AreKept found earlier runs last
-  kept_by [] found earlier last f is = subst (λ (w : List Record). AreKept found earlier [] w) (sym is) (kept_by_none found earlier f)
-  kept_by (run ∷ runs) found earlier last f (r, rest) =
-      let g = gone_on house draws o owner found earlier run here inside f r run.left r.leaves in
-      kept_by_more found earlier run runs last f r g (kept_by runs run.left g.programs last g.explained rest)
+  kept_by [] found earlier last f (amounts, granted) =
+      kept_since found last earlier [] last (granted_prefix owner.entry found amounts last granted)
+      (kept_by_none last earlier (found_granted owner (draws o) earlier found amounts last f granted))
+  kept_by (run ∷ runs) found earlier last f (start, (amounts, granted), r, rest) =
+      let from_here = found_granted owner (draws o) earlier found amounts start f granted in
+      let g = gone_on house draws o owner start earlier run here inside from_here r run.left r.leaves in
+      kept_since found start earlier (run ∷ runs) last (granted_prefix owner.entry found amounts start granted)
+      (kept_by_more start earlier run runs last from_here r g (kept_by runs run.left g.programs last g.explained rest))
 
   promise : (runs : List Run) (found : List Record) (earlier : List (List ℕ)) (last : List Record) → AreKept found earlier runs last → KeepThePromise house draws o owner found earlier runs last
   promise runs found earlier last k = record {

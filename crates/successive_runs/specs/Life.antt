@@ -1,6 +1,9 @@
 -- One owner's journal from run to run.
 use Rattle.std.specs.Prelude.{◌≡◌, ℕ, Bool, true, false, List, [], ◌∷◌, slice_get, Option, Some}
 use Rattle.journal_records.specs.declared.records.Record.{Record}
+use Rattle.journal_records.specs.declared.records.Record.TheVariants.{Grant}
+use Rattle.budget_core.specs.Entries.{Entry}
+use Rattle.budget_core.specs.Granting.{grant_behind, with_grant}
 use Rattle.budget_core.specs.Legal.{MayFollow}
 use Rattle.budget_ledger.specs.declared.failure.Failure.{Failure}
 use Rattle.wire_lines.specs.Reply.{Replied}
@@ -45,11 +48,23 @@ none_sent place = false
 abbrev pub all_sent : ℕ → Bool
 all_sent place = true
 
--- One run after another, each on what the one before it left; the first on these records.
+-- The owner granted these amounts behind some records, one after another. Each grant may follow.
+abbrev pub AreGranted : Entry → (found : List Record) → (amounts : List ℕ) → (after : List Record) → Type 0
+AreGranted entry found [] after = after ≡ found
+AreGranted entry found (amount ∷ amounts) after =
+    MayFollow entry found (Grant (grant_behind found amount)) × AreGranted entry (with_grant found amount) amounts after
+
+-- The owner granted some amounts, or none.
+abbrev pub MayHaveGranted : Entry → (found after : List Record) → Type 0
+MayHaveGranted entry found after = (amounts : List ℕ) × AreGranted entry found amounts after
+
+-- One run after another, each on what the one before it left and what was granted since; the first on these records and what was
+-- granted then.
 abbrev pub AreRuns :
     House → (draws : ℕ → ℕ → ℕ → ℕ) → (o : ℕ) → Owner → (found : List Record) → List Run → (last : List Record) → Type 0
-AreRuns house draws o owner found [] last = last ≡ found
-AreRuns house draws o owner found (run ∷ runs) last = IsRun house draws o owner found run × AreRuns house draws o owner run.left runs last
+AreRuns house draws o owner found [] last = MayHaveGranted owner.entry found last
+AreRuns house draws o owner found (run ∷ runs) last = (start : List Record) × MayHaveGranted owner.entry found start
+    × IsRun house draws o owner start run × AreRuns house draws o owner run.left runs last
 
 -- The line at this place of this run demands this of the owner, and was sent this reply.
 pub record WasSent (house : House) (o : ℕ) (owner : Owner) (runs : List Run) (i place : ℕ) (demand : Demand) (reply : Replied) : Type 0 where

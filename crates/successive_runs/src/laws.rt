@@ -39,8 +39,8 @@ pub fn files_stand_for_what_is_left()
         IsMoment header found records closed bytes → Stands header left bytes → IsLeft found records closed left }
 {}
 
-/// Any number of runs, one after another, of scripts or sessions, that ended or were stopped, keep the promise, from the first on,
-/// which found no records; and so do those that go on from whatever records programs explain.
+/// Any number of runs, one after another, of scripts or sessions, that ended or were stopped, with grants between them, keep the promise, from
+/// the first on, which found no records; and so do those that go on from whatever records programs explain.
 pub fn runs_keep_the_promise()
     ensures first { (house : House) (draws : ℕ → ℕ → ℕ → ℕ) (o : ℕ) (owner : Owner) (runs : List Run) (last : List Record) →
         AreOwners house → slice_get house.owners o ≡ Some owner → AreRuns house draws o owner [] runs last →
