@@ -25,10 +25,15 @@ macro_rules! catalog {
     };
 }
 
-// What stands in the catalogs but cat.json: three records at most, a larger budget, one analyst, another file, and a second owner.
+// What stands in the catalogs but cat.json: three records at most, a larger budget, a smaller one, that with two records at most, one analyst,
+// another file, and a second owner.
 const THREE: &str = catalog!("\"ann\",\"bob\"", "10000000", "3", "people.csv", "");
 
 const RAISED: &str = catalog!("\"ann\",\"bob\"", "20000000", "100", "people.csv", "");
+
+const SMALLER: &str = catalog!("\"ann\",\"bob\"", "1000000", "100", "people.csv", "");
+
+const TIGHT: &str = catalog!("\"ann\",\"bob\"", "1000000", "2", "people.csv", "");
 
 const FEWER: &str = catalog!("\"ann\"", "10000000", "100", "people.csv", "");
 
@@ -40,11 +45,13 @@ const TWO: &str = catalog!("\"ann\",\"bob\"", "10000000", "100", "people.csv",
     \"columns\":[{\"name\":\"age\",\"type\":\"num\"}]}],\"partitions\":[]}");
 
 /// The catalogs, the tables and two keys.
-pub fn held() -> [MemFile<'static>; 10] {
+pub fn held() -> [MemFile<'static>; 12] {
     [
         file("cat.json", CATALOG),
         file("three.json", THREE.as_bytes()),
         file("raised.json", RAISED.as_bytes()),
+        file("smaller.json", SMALLER.as_bytes()),
+        file("tight.json", TIGHT.as_bytes()),
         file("fewer.json", FEWER.as_bytes()),
         file("other.json", OTHER.as_bytes()),
         file("two.json", TWO.as_bytes()),

@@ -10,8 +10,8 @@ use std::sync::Wait;
 use std::test::Fail;
 use std::thread::Threads;
 
-// Words and script, how the command ends, and what it writes.
-type Step<'a> = (&'a [&'a str], &'a [u8], Status, &'a [u8]);
+/// Words and script, how the command ends, and what it writes.
+pub type Step<'a> = (&'a [&'a str], &'a [u8], Status, &'a [u8]);
 
 const ASK: &[u8] = b"hello ann\nask census 1 size people\n";
 
@@ -90,8 +90,8 @@ static TWO_JOURNALS: [Step<'static>; 6] = [
     (AUDIT, b"", Status::Done, b"census reservations 2 answered 2 exhausted 0 lost 0 spent 2000000 budget 10000000\n"),
 ];
 
-// How many of these commands on the same disks end and write what is wanted, before the first that doesn't.
-fn as_wanted<R: Threads + Wait + Sync>(
+/// How many of these commands on the same disks end and write what is wanted, before the first that doesn't.
+pub fn as_wanted<R: Threads + Wait + Sync>(
     rt: &R,
     alloc: Global,
     steps: &[Step<'_>],

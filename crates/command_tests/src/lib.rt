@@ -7,6 +7,8 @@ mod commands;
 #[cfg(test)]
 mod failing;
 #[cfg(test)]
+mod grants;
+#[cfg(test)]
 mod histories;
 #[cfg(test)]
 mod kept;
