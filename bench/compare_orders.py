@@ -29,7 +29,8 @@ from reference import Server, key_words, lines_of
 STEPS = 100_000
 SHARE = 100
 MEETINGS = ("behind records of another worker", "settled behind another line's record", "recall open", "no 41 with some that aren't settled")
-ARE_RUNS = [name for name in WANTED if name not in ("a run that goes on", "a record without its gate")]
+OF_SCRIPTS = ("a run that goes on", "a record without its gate", "a grant behind 40", "an ask of 40 that is granted", "granted to nobody")
+ARE_RUNS = [name for name in WANTED if name not in OF_SCRIPTS]
 
 
 class Orders(Case):
@@ -168,15 +169,15 @@ class Plants:
             for place in self.answers:
                 if self.order_of(place) == order and int(self.replies[place].split(" ")[1]) == last.number:
                     spent = sum(one.taken for one in records[:-2] if isinstance(one, Reservation))
-                    told = f"no 40 {spent} {spent + records[-2].taken} {entry['budget']} {len(records) - 2}"
+                    told = f"no 40 {spent} {spent + records[-2].taken} {self.books[order].budget} {len(records) - 2}"
                     self.refused("a refused ask that the budget allows", self.changed(place, told), self.with_records(order, records[:-2]))
 
     def stale(self):
         """A worker is told what was left before its own earlier answer."""
         for at, reply in enumerate(self.replies):
             if reply.startswith("left ") and any(self.order_of(before) == self.order_of(at) for before in self.own_before(at)):
-                book, entry = self.books[self.order_of(at)], self.case.entries[self.order_of(at)]
-                self.refused("a balance behind too few records", self.changed(at, f"left {book.spent} {entry['budget']} {len(book.records)}"))
+                book = self.books[self.order_of(at)]
+                self.refused("a balance behind too few records", self.changed(at, f"left {book.spent} {book.budget} {len(book.records)}"))
 
     def own_before(self, at):
         """The answers that the worker of a line had before it."""

@@ -86,7 +86,7 @@ def judge_watch(room, copy, books):
     text, lines = watched(room, copy), watched(room, copy, "--prometheus").splitlines()
     for book in books:
         name, unsettled = book.entry["name"], len(book.reserved) - len(book.settled)
-        wanted = {"spent_millionths": book.spent, "budget_millionths": book.entry["budget"], "records": len(book.records), "open": unsettled, "lost": 0}
+        wanted = {"spent_millionths": book.spent, "budget_millionths": book.budget, "records": len(book.records), "open": unsettled, "lost": 0}
         for what, value in wanted.items():
             if told[name][what] != value or f'hitchseason_{what}{{owner="{name}"}} {value}' not in lines:
                 raise Wrong(f"tools/watch: {what} of {name} isn't {value}")
