@@ -31,6 +31,7 @@ TOP = os.path.dirname(os.path.dirname(os.path.abspath(__file__)))
 PROGRAM = os.path.abspath(os.environ.get("PROGRAM", f"{TOP}/out/hitchseason"))
 KEPT = f"{TOP}/out/compare_journals"
 sys.path.insert(0, f"{TOP}/tools")
+from beginning import begin  # noqa: E402
 from catalog import catalog, owner  # noqa: E402
 from journal import GATE, GATES_AT, HEAD, MOST_AREAS, MOST_BUDGET, SLOT, VERSION_AT, VERSIONS, Book, Grant, Refused, Settlement  # noqa: E402
 from journal import appended, areas, book_of, contents, header, live_area, live_number, made, put, version_of  # noqa: E402
@@ -409,12 +410,7 @@ WANTED = [f"version {version} {what}" for version in VERSIONS for what in KINDS]
 
 
 def main():
-    if sys.argv[1:] == ["--help"]:
-        print(__doc__.strip())
-        return
-    if "PROGRAM" not in os.environ:
-        subprocess.run([f"{TOP}/tools/build"], check=True)
-    count, seed, first = (int(word) for word in (sys.argv[1:] + ["5000", "1", "0"][len(sys.argv) - 1 :]))
+    count, seed, first = begin(__doc__, 5000, 1, 0)
     came, begun = Counter(), time.monotonic()
     if not all(compare(seed, number, came) for number in range(first, first + count)):
         sys.exit(1)

@@ -15,10 +15,10 @@ With --plant wrong replies and records are planted in copies of what each run wr
 """
 import os
 import random
-import subprocess
 import sys
 from collections import Counter
 
+from beginning import begin
 from compare_scripts import TOP, WANTED, Case, Differs, is_same
 from journal import Refused, Reservation, Settlement, appended, book_of, contents
 from orders import Wrong, blocks_of, check, judged
@@ -220,12 +220,8 @@ def told(seed, came):
 
 
 def main():
-    if "PROGRAM" not in os.environ:
-        subprocess.run([f"{TOP}/tools/build"], check=True)
-    words = sys.argv[1:]
-    Orders.plants = "--plant" in words
-    words = [word for word in words if word != "--plant"]
-    count, seed, number = (int(word) for word in (words + ["5000", "1", "0"][len(words) :]))
+    Orders.plants = "--plant" in sys.argv
+    count, seed, number = begin(__doc__, 5000, 1, 0, words=[word for word in sys.argv[1:] if word != "--plant"])
     os.makedirs(f"{TOP}/out", exist_ok=True)
     check()
     came, same = Counter(), True

@@ -30,6 +30,7 @@ TOP = os.path.dirname(os.path.dirname(os.path.abspath(__file__)))
 PROGRAM = os.path.abspath(os.environ.get("PROGRAM", f"{TOP}/out/hitchseason"))
 KEPT = f"{TOP}/out/compare_scripts"
 sys.path.insert(0, f"{TOP}/tools")
+from beginning import begin  # noqa: E402
 from journal import GATE, SLOT, VERSIONS, Area, Book, Settlement, appended, area_slots, book_of, contents, header, in_version, live_area, made  # noqa: E402
 from random_scripts import amount_at_random, house_at_random, lay_records, script_of  # noqa: E402
 from programs import deep  # noqa: E402
@@ -311,9 +312,7 @@ def told(seed, came):
 
 
 def main():
-    if "PROGRAM" not in os.environ:
-        subprocess.run([f"{TOP}/tools/build"], check=True)
-    count, seed, first = (int(word) for word in (sys.argv[1:] + ["1000", "1", "0"][len(sys.argv) - 1 :]))
+    count, seed, first = begin(__doc__, 1000, 1, 0)
     came = Counter()
     same = deep(lambda: all(compare(seed, number, came) for number in range(first, first + count)))
     sys.exit(0 if same and told(seed, came) else 1)

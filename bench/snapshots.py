@@ -23,6 +23,7 @@ import tempfile
 import threading
 import time
 
+from beginning import numbers
 from served import TOP, Caller, Room, Service, Wrong, contents, need_program, place
 from journal import HEAD, SLOT, Book, Refused, book_of, check_header, live_area, remade, slots
 
@@ -205,11 +206,8 @@ def other_files():
 
 
 def main():
-    if sys.argv[1:] == ["--help"]:
-        print(__doc__.strip())
-        return
+    count, seed = numbers(__doc__, 50, 1)
     need_program()
-    count, seed = (int(word) for word in (sys.argv[1:] + ["50", "1"][len(sys.argv) - 1 :]))
     try:
         other_files()
         beside_a_service(random.Random(f"snapshots {seed}"), count)

@@ -9,7 +9,7 @@ from collections import Counter
 from math import exp
 from xml.etree import ElementTree
 
-from common import PROGRAM, TOP, Place, rows_of, survey
+from common import PROGRAM, TOP, Place, published, rows_of, survey
 from hitchseason import Refused, connect, pictures
 from hitchseason.answers import short
 
@@ -153,10 +153,7 @@ class Register(unittest.TestCase):
         rows = rows_of(f"{REGISTER}/people.csv")
         groups = Counter(row[4] for row in rows[1:])
         with Place(catalog, {"people.csv": rows}) as place:
-            public = f"{place.folder}/public.json"
-            with open(public, "w") as file:
-                file.write(tool("public", "--json", f"{place.folder}/catalog.json").stdout)
-            client = connect(place.folder, "ann", program=PROGRAM, public=public)
+            client = connect(place.folder, "ann", program=PROGRAM, public=published(place))
             forecast = client.forecast("crosstab", "group", eps="0.5")
             self.assertEqual((forecast.charge, forecast.left, forecast.too_much()), (500_000, None, []))
             totals = {("a row's total", 5): 13, ("a column's total", 3): 10, ("the total", 15): 21}
@@ -165,7 +162,7 @@ class Register(unittest.TestCase):
                 self.assertTrue(within(0.5, count, margin - 1) < 0.95 <= within(0.5, count, margin), count)
             self.assertEqual(str(forecast).splitlines()[2], "a row's total, of 5 answers: 50 of 100 ±4, 95 of 100 ±13, 99.9 of 100 ±24")
             self.assertEqual(forecast.as_dict()["sums"][1]["margins"], {"50": 3, "95": 10, "99.9": 20})
-            self.assertEqual(client.forecast("crosstab", "group", eps=2).too_much(), ["But the whole budget is 1: it may be refused."])
+            self.assertEqual(client.forecast("crosstab", "group", eps=2).too_much(), ["But the budget is 1, unless the owner has granted more: it may be refused."])
             table = client.crosstab("group", eps="0.5")
             self.assertEqual([short(table.row_total("f")), short(table.column_total("from_18")), short(table.total())],
                 [f"{known.value} ±{margin}" for known, margin in zip((table.row_total("f"), table.column_total("from_18"), table.total()), totals.values())])
