@@ -20,7 +20,7 @@ from collections import Counter
 
 from beginning import begin
 from compare_scripts import TOP, WANTED, Case, Differs, is_same
-from journal import Refused, Reservation, Settlement, appended, book_of, contents
+from journal import Grant, Refused, Reservation, Settlement, appended, book_of, contents
 from orders import Wrong, blocks_of, check, judged
 from programs import deep
 from random_scripts import blocks_at_random
@@ -164,6 +164,7 @@ class Plants:
             number = sum(isinstance(one, Reservation) for one in records)
             more = Reservation(number, (255, 0), 1, 0, 1, 0, 0, bytes(32))
             self.refused("a record that nobody asked", None, self.with_records(order, [*records, more]))
+            self.refused("a grant by a run", None, self.with_records(order, [*records, Grant(len(self.books[order].grants), 1)]))
         # The last two records are one line's, which is told that the budget doesn't allow it, without them.
         if len(records) >= 2 + len(self.books[order].records) and isinstance(records[-2], Reservation) and records[-2].number == last.number:
             for place in self.answers:
