@@ -399,7 +399,7 @@ def compare(seed, number, came):
 
 
 # What is said of a wrong grant, by which kind it is.
-OF_GRANTS = {"it is grant number": "another number", "with its grant of": "a sum above", "the amount of a grant": "an amount outside",
+OF_GRANTS = {"it is grant number": "another number", "with its grant of": "a sum above", "its grant is of": "an amount outside",
     "of a grant are": "bytes 2 and 3 of a grant", "a grant has other bytes": "bytes behind a grant's"}  # fmt: skip
 KINDS = ("open, area 0", "changed", "damaged", "uninitialised", "gives back wrongly", "with grants", *OF_GRANTS.values())
 WANTED = [f"version {version} {what}" for version in VERSIONS for what in KINDS] + [f"a grant that ends with {status}" for status in (0, 2, 4, 9, 10)] + [

@@ -255,7 +255,7 @@ MADE = [
     (lambda: copy_slot(1, 9), AUDIT, "", 4, ["slot 9 (from 0): it is open behind slot 4, which is closed", "all of it is zeros"]),
     (lambda: put_in_slot(1, 1, b"\4"), AUDIT, "", 4, ["slot 1 (from 0): it is open, and holds no record: its kind (byte 1) is 4"]),
     (lambda: put_in_slot(1, 1, b"\3"), AUDIT, "", 4, ["slot 1 (from 0): it is open, and holds no record: bytes 2 and 3 of a grant are 1 and 0, where zeros"]),
-    (given((0, 0)), AUDIT, "", 4, [f"slot 4 (from 0): it is open, and holds no record: the amount of a grant is 0, and 1 to {MOST} are allowed"]),
+    (given((0, 0)), AUDIT, "", 4, [f"slot 4 (from 0): its record may not stand there: its grant is of 0 millionths, and 1 to {MOST} are allowed"]),
     (both(given((0, 7)), lambda: put_in_slot(4, 16, b"\1")), AUDIT, "", 4, ["a grant has other bytes behind its amount, where zeros belong"]),
     (given((0, 7), (2, 7)), AUDIT, "", 4, ["slot 5 (from 0): its record may not stand there: it is grant number 2, and 1 is the next one"]),
     (both(older, given((0, MOST))), AUDIT, "", 4, [f"with its grant of {MOST} the budget is {MOST + 10**7}, and {MOST} at most"]),

@@ -117,8 +117,6 @@ def decoded(slot):
             return None
     elif kind == 3:
         found = Grant(number, int.from_bytes(slot[8:16], "big"))
-        if not 1 <= found.amount <= MOST_BUDGET:
-            return None
     else:
         return None
     return found if found.encoded() == slot else None
@@ -151,9 +149,7 @@ def no_record(slot):
 
 def no_grant(slot):
     """The same of a slot whose kind is a grant's."""
-    amount = int.from_bytes(slot[8:16], "big")
     wrong = {
-        f"the amount of a grant is {amount}, and 1 to {MOST_BUDGET} are allowed": not 1 <= amount <= MOST_BUDGET,
         f"bytes 2 and 3 of a grant are {slot[2]} and {slot[3]}, where zeros belong": any(slot[2:4]),
         "a grant has other bytes behind its amount, where zeros belong": any(slot[16:]),
     }
@@ -410,6 +406,8 @@ class Book:
     def why_no_grant(self, one):
         if one.number != len(self.grants):
             return f"it is grant number {one.number}, and {len(self.grants)} is the next one"
+        if not 1 <= one.amount <= MOST_BUDGET:
+            return f"its grant is of {one.amount} millionths, and 1 to {MOST_BUDGET} are allowed"
         after = self.budget + one.amount
         return f"with its grant of {one.amount} the budget is {after}, and {MOST_BUDGET} at most" if after > MOST_BUDGET else None
 
@@ -692,11 +690,11 @@ def check_grants(entry, head):
     """A grant of half of an epsilon, and what may follow it, in each version."""
     grant, hundred = Grant(0, 500_000), lambda *records: b"".join(one.encoded() for one in records) + bytes(SLOT * (100 - len(records)))
     assert grant.encoded().hex() == "a50300000000000000000000" "0007a120" + "00" * 48 and len(grant.encoded()) == SLOT
-    for place, byte in ((1, 4), (2, 1), (3, 1), (8, 0xFF), (16, 1), (63, 1)):
+    for place, byte in ((1, 4), (2, 1), (3, 1), (16, 1), (63, 1)):
         slot = with_bytes(grant.encoded(), {place: byte})
         assert decoded(slot) is None and no_record(slot), place
-    for amount in (0, 10**18 + 1):
-        assert decoded(Grant(0, amount).encoded()) is None and no_record(Grant(0, amount).encoded())
+    for amount in (0, 10**18 + 1, 2**64 - 1):
+        assert decoded(Grant(0, amount).encoded()).amount == amount and "and 1 to 1" in Book(entry, 2).why_not(Grant(0, amount))
     for version in VERSIONS:
         book = Book({**entry, "budget": 10**6}, 2, version)
         more = Reservation(1, WHOLE, 500_000, 1, 1, 500_000, 0, ONE)
