@@ -2,10 +2,10 @@
 """Compares what the program does with whole scripts, and with grants between them, with what a second server says (tools/reference.py, tools/journal.py).
 
 usage: bench/compare_scripts.py [COUNT [SEED [FIRST]]]     (PROGRAM=FILE compares another build than tools/build's)
-COUNT random houses (1,000 where none is said), from case FIRST (0) of SEED (1) on. Each is a catalog of 1 to 4 owners with their tables, a
-key, and 1 to 3 scripts by good and hostile analysts (random_scripts.py): `init`, then a run a script over the same journals, and `audit`. Before and
-behind each run some owners are granted something: good amounts, ones that are too large, ones for which there is no room, and words that are no amount;
-where a line was told 40 often just what it lacked, and then the next script asks it again.
+COUNT random houses (1,000 where none is said; 5,000 are some 10,000 runs), from case FIRST (0) of SEED (1) on. Each is a catalog of 1 to 4 owners with
+their tables, a key, and 1 to 3 scripts by good and hostile analysts (random_scripts.py): `init`, then a run a script over the same journals, and `audit`.
+Before and behind each run some owners are granted something: good amounts, ones that are too large, ones for which there is no room, and words that are no
+amount; where a line was told 40 often just what it lacked, and then the next script asks it again.
 Before the first run a journal may be made an older one, of version 1 or 2, and be given records that runs could have left. Between runs one may be left
 as a stop leaves it, with its last record, or its next area, behind no gate, or a settlement be made an exhausted or a lost one. The next run finds
 them. Compared are, byte by byte:
