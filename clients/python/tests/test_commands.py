@@ -144,6 +144,40 @@ def within(eps, count, margin):
     return sum(found[k] for k in range(-margin, margin + 1))
 
 
+def has_grant():
+    """Whether the program has the command: then it wants a catalog."""
+    said = subprocess.run([PROGRAM, "grant", "no catalog", "no key", "labour", "1"], stdin=subprocess.DEVNULL, capture_output=True, timeout=60)
+    return said.returncode == 3
+
+
+@unittest.skipUnless(has_grant(), "the program has no grant")
+class Grants(unittest.TestCase):
+    """An owner grants more of the budget, whose record stands among those of answers."""
+
+    def test_granted(self):
+        with survey(budget=1_000_000, capacity=300) as place:
+            run = lambda *words: subprocess.run(words, cwd=place.folder, capture_output=True, text=True)
+            grant = lambda amount: run(PROGRAM, "grant", "catalog.json", "key", "labour", str(amount)).stdout
+            client = place.client()
+            client.count("persons", eps=1)
+            with self.assertRaises(Refused):
+                client.count("persons", eps="0.5")
+            self.assertEqual(client.forecast("count", "persons", eps="0.5").too_much(), ["But 0 is left: it is refused."])
+            self.assertEqual(grant(500_000), "granted labour 1500000 3\n")
+            left = client.left()
+            self.assertEqual((left.left, left.spent, left.budget, left.records), (500_000, 1_000_000, 1_500_000, 3))
+            self.assertEqual(client.forecast("count", "persons", eps="0.5").too_much(), [])
+            self.assertEqual(client.count("persons", eps="0.5").number, 1)
+            # Of 205 records 201 are grants: whoever comes new finds the next number, and a forecast knows the budget behind a balance.
+            for turn in range(200):
+                self.assertEqual(grant(1), f"granted labour {1_500_001 + turn} {6 + turn}\n")
+            other = place.client("tom")
+            self.assertEqual(other.count("persons", charge="0.0001").number, 2)
+            self.assertEqual(other.forecast("count", "persons", eps="0.0002").too_much(), ["But 0.0001 is left: it is refused."])
+            self.assertEqual(run(f"{TOP}/tools/snapshot", "copy").returncode, 0)
+            self.assertIn("labour: spent 1500100 of 1500200 (100.0 of 100), records 207 of 300", run(f"{TOP}/tools/watch", "catalog.json", "copy").stdout)
+
+
 class Register(unittest.TestCase):
     """A cross table by a joint column, and the client beside a file that tools/public wrote."""
 
