@@ -175,7 +175,8 @@ class Grants(unittest.TestCase):
             self.assertEqual(other.count("persons", charge="0.0001").number, 2)
             self.assertEqual(other.forecast("count", "persons", eps="0.0002").too_much(), ["But 0.0001 is left: it is refused."])
             self.assertEqual(run(f"{TOP}/tools/snapshot", "copy").returncode, 0)
-            self.assertIn("labour: spent 1500100 of 1500200 (100.0 of 100), records 207 of 300", run(f"{TOP}/tools/watch", "catalog.json", "copy").stdout)
+            watched = run(f"{TOP}/tools/watch", "catalog.json", "copy").stdout
+            self.assertIn("labour: spent 1500100 of 1500200 (100.0 of 100), records 207 of 300", watched)
 
 
 class Register(unittest.TestCase):
