@@ -197,7 +197,8 @@ class Register(unittest.TestCase):
                 self.assertTrue(within(0.5, count, margin - 1) < 0.95 <= within(0.5, count, margin), count)
             self.assertEqual(str(forecast).splitlines()[2], "a row's total, of 5 answers: 50 of 100 ±4, 95 of 100 ±13, 99.9 of 100 ±24")
             self.assertEqual(forecast.as_dict()["sums"][1]["margins"], {"50": 3, "95": 10, "99.9": 20})
-            self.assertEqual(client.forecast("crosstab", "group", eps=2).too_much(), ["But the budget is 1, unless the owner has granted more: it may be refused."])
+            too_much = ["But the budget is 1, unless the owner has granted more: it may be refused."]
+            self.assertEqual(client.forecast("crosstab", "group", eps=2).too_much(), too_much)
             table = client.crosstab("group", eps="0.5")
             self.assertEqual([short(table.row_total("f")), short(table.column_total("from_18")), short(table.total())],
                 [f"{known.value} ±{margin}" for known, margin in zip((table.row_total("f"), table.column_total("from_18"), table.total()), totals.values())])
