@@ -1,5 +1,5 @@
 #!/usr/bin/env bash
-# The program on whatever stands in the place of a journal: status and output beside what is wanted, and the file as it was.
+# The program on whatever stands in the place of a journal: status and output beside what is wanted, and the file as it was. And grants.
 # usage: bench/bad_journals.sh    (PROGRAM=FILE tries another build than tools/build's)
 # As root it also tries a read-only file and a full disk, as the user nobody and on a small tmpfs in a mount of its own. It ends with
 # status 1 where one differs.
@@ -42,6 +42,17 @@ with open("journals/0.bud", "wb") as file:
     file.write(remade(data, 1))
 END
 }
+# lay NUMBER AMOUNT: a grant behind the records of the journal of census, as it is, whether or not it may stand there.
+lay() {
+    python3 - "$top/tools" "$@" <<'END'
+import sys
+sys.path.insert(0, sys.argv[1])
+from journal import Grant, appended, capacity_in, contents
+data = contents("journals/0.bud")
+with open("journals/0.bud", "wb") as file:
+    file.write(appended(data, capacity_in(data), [Grant(*map(int, sys.argv[2:]))]))
+END
+}
 # sums: what stands in journals.
 sums() { find journals -type f -exec sha256sum {} + 2>/dev/null | sort; ls -ld journals journals/* 2>/dev/null | cut -c1-10; }
 # refused NAME STATUS OUTPUT [CATALOG [KEY]]: `run` and `audit` refuse what is there, and leave it as it is.
@@ -52,6 +63,13 @@ refused() {
     over_journals "    and by audit" "$2" "$3" audit "${4:-cat.json}" "${5:-key}"
     after=$(sums)
     [ "$before" = "$after" ] || { echo "the files aren't as they were"; passed=1; }
+}
+# refused_grant NAME STATUS OUTPUT WORD..: `grant` on these words is refused, and leaves what is there as it is.
+refused_grant() {
+    local before
+    before=$(sums)
+    over_journals "$1" "$2" "$3" grant "${@:4}"
+    [ "$before" = "$(sums)" ] || { echo "the files aren't as they were"; passed=1; }
 }
 # put PLACE BYTES: writes bytes, with printf's escapes, into the journal of census.
 put() { printf "$2" | dd of=journals/0.bud bs=1 seek="$1" conv=notrunc status=none; }
@@ -98,7 +116,8 @@ anew && put 97 '\245\245' && refused "an area opened that the capacity hasn't" 4
 older && put 127 '\001' && refused "version 1: a byte of the header's end" 4 'journal census changed/'
 anew && put 128 '\045' && refused "the first gate torn, behind it a slot" 4 'journal census damaged 1/'
 anew && put 192 '\045' && over_journals "the last gate torn" 0 "$again" run cat.json key
-anew && put 193 '\003' && refused "no such kind of record" 4 'journal census damaged 1/'
+anew && put 193 '\004' && refused "no such kind of record" 4 'journal census damaged 1/'
+anew && put 193 '\003' && refused "a settlement called a grant" 4 'journal census damaged 1/'
 anew && put 135 '\001' && refused "another number" 4 'journal census damaged 0/'
 anew && put 158 '\001' && refused "bytes where zeros belong" 4 'journal census damaged 0/'
 anew && put 157 '\002' && refused "an analyst that isn't there" 4 'journal census damaged 0/'
@@ -111,6 +130,42 @@ anew && copy 1 63 && refused "the last slot open" 4 'journal census damaged 63/'
 anew && copy 1 64 && over_journals "a record behind the live area" 0 "$again" run cat.json key
 older && copy 1 99 && refused "version 1: the last slot open" 4 'journal census damaged 99/'
 anew && copy 0 3 && refused "a slot open behind a closed one" 4 'journal census damaged 3/'
+
+counted='census reservations 1 answered 1 exhausted 0 lost 0 spent 1000000 budget'
+for version in anew older; do
+    $version && lay 0 7 && over_journals "$version: a grant" 0 "$counted 10000007/" audit cat.json key
+    over_journals "    and a run goes on" 0 "$again" run cat.json key
+    lay 1 5 && refused_grant "    and behind a second one" 9 'too large 10000012/' cat.json key census 999999999990000000
+    $version && lay 0 999999999990000000 && over_journals "a grant up to 10^18" 0 "$counted 1000000000000000000/" audit cat.json key
+    refused_grant "    and no more" 9 'too large 1000000000000000000/' cat.json key census 1
+    $version && lay 1 7 && refused "a grant of another number" 4 'journal census damaged 2/'
+    $version && lay 0 7 && copy 2 3 && refused "a grant twice" 4 'journal census damaged 3/'
+    $version && lay 0 0 && refused "a grant of nothing" 4 'journal census damaged 2/'
+    $version && lay 0 1000000000000000001 && refused "a grant of more than 10^18" 4 'journal census damaged 2/'
+    $version && lay 0 999999999990000001 && refused "a grant by which it is more" 4 'journal census damaged 2/'
+    for place in 258 259 272 319; do
+        $version && lay 0 7 && put $place '\001' && refused "a grant with byte $((place - 256))" 4 'journal census damaged 2/'
+    done
+    $version && over_journals "grant" 0 'granted census 10500000 3/' grant cat.json key census 500000
+    over_journals "    and once more" 0 'granted census 10500001 4/' grant cat.json key census 1
+    over_journals "    and what it counts" 0 "$counted 10500001/" audit cat.json key
+    refused_grant "grant: too much" 9 'too large 10500001/' cat.json key census 1000000000000000000
+done
+anew
+for amount in 0 -1 1.5 x '' 1000000000000000001 18446744073709551616; do
+    refused_grant "grant: no amount, '$amount'" 2 'usage/' cat.json key census "$amount"
+done
+refused_grant "grant: no amount at all" 2 'usage/' cat.json key census
+refused_grant "grant: a word more" 2 'usage/' cat.json key census 5 5
+refused_grant "grant: nobody" 3 'refused nobody/' cat.json key nobody 5
+refused_grant "grant: no catalog" 3 'refused nothing/' nothing key census 5
+refused_grant "grant: no key" 3 'refused nothing/' cat.json nothing census 5
+sed 's/"capacity": 100/"capacity": 2/' cat.json >small.json
+anew small.json && refused_grant "grant: no room" 10 'full 2 2/' small.json key census 1
+refused_grant "grant: neither room nor so much" 9 'too large 10000000/' small.json key census 1000000000000000000
+anew two.json && rm journals/1.bud && over_journals "grant: another owner's isn't there" 0 'granted census 10000005 3/' grant two.json key census 5
+refused_grant "    and to that one" 4 'journal second uninitialised 0/' two.json key second 5
+anew && lay 1 7 && refused_grant "grant: a damaged journal" 4 'journal census damaged 2/' cat.json key census 5
 
 anew two.json && cp journals/1.bud journals/0.bud && refused "another owner's" 4 'journal census changed/' two.json
 anew two.json && rm journals/1.bud && refused "no journal of the second owner" 4 'journal second uninitialised 0/' two.json
@@ -134,6 +189,7 @@ printf 'age\n1.5\n' >bad.csv && catalog bad.json bad.csv
 refused "a table that isn't one" 3 'refused bad.csv/' bad.json
 
 rm -rf journals && mkdir -p journals/0.bud && refused "a folder in its place" 6 'disk census/'
+refused_grant "    and for grant" 6 'disk census/' cat.json key census 5
 over_journals "    and for init" 6 'disk census/' init cat.json key
 rm -rf journals && : >journals && refused "a file in the folder's place" 6 'disk census/'
 over_journals "    and for init" 6 'disk census/' init cat.json key

@@ -19,6 +19,7 @@ from concurrent.futures import ThreadPoolExecutor
 TOP = os.path.dirname(os.path.dirname(os.path.abspath(__file__)))
 PROGRAM = os.path.abspath(os.environ.get("PROGRAM", f"{TOP}/out/hitchseason"))
 sys.path.insert(0, f"{TOP}/tools")
+from beginning import begin  # noqa: E402
 from catalog import BadCatalog, read  # noqa: E402
 from programs import WORDS  # noqa: E402
 from tables import BadTable, held  # noqa: E402
@@ -286,10 +287,8 @@ def wanted(rng, data, name):
 
 
 def main():
-    if "PROGRAM" not in os.environ:
-        subprocess.run([f"{TOP}/tools/build"], check=True)
-    count = int(sys.argv[1]) if len(sys.argv) > 1 else 5_000
-    rng = random.Random(int(sys.argv[2]) if len(sys.argv) > 2 else 1)
+    count, seed = begin(__doc__, 5_000, 1)
+    rng = random.Random(seed)
     came, differences = Counter(), 0
     with tempfile.TemporaryDirectory() as folder, ThreadPoolExecutor(2) as pool:
         room = Room(folder)

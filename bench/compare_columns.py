@@ -7,11 +7,11 @@ COUNT random programs (2,000 where none is said), some 50 to a script. It ends w
 """
 import os
 import random
-import subprocess
 import sys
 
 sys.path.insert(0, os.path.dirname(os.path.abspath(__file__)))
 import compare_runs  # noqa: E402
+from beginning import begin  # noqa: E402
 
 ROWS = [0, 1, 5, 1023, 1024, 1025, 2047, 2048, 2049]
 NUMBERS = "0 1 2 3 5 7 10 99 100 1000 1125899906842624".split()
@@ -181,14 +181,12 @@ def dataset_of(rng):
 
 
 def main():
-    count = int(sys.argv[1]) if len(sys.argv) > 1 else 2_000
-    rng = random.Random(int(sys.argv[2]) if len(sys.argv) > 2 else 1)
+    count, seed = begin(__doc__, 2_000, 1)
+    rng = random.Random(seed)
     sys.setrecursionlimit(20_000)
     compare_runs.dataset_of = dataset_of
     compare_runs.accepted_of = lambda rng: Flat(rng).program().encode("latin-1")
     compare_runs.STEPS = 2_000_000
-    if "PROGRAM" not in os.environ:
-        subprocess.run([f"{compare_runs.TOP}/tools/build"], check=True)
     counts = compare_runs.beside_the_program(rng, count)
     print(f"{counts.programs} programs: " + ", ".join(f"{code} {many}" for code, many in sorted(counts.codes.items())))
 

@@ -15,6 +15,7 @@ import time
 TOP = os.path.dirname(os.path.dirname(os.path.abspath(__file__)))
 PROGRAM = os.path.abspath(os.environ.get("PROGRAM", f"{TOP}/out/hitchseason"))
 sys.path.insert(0, f"{TOP}/tools")
+from beginning import begin  # noqa: E402
 from meanings import meaning  # noqa: E402
 from reference import generated  # noqa: E402
 
@@ -38,12 +39,7 @@ def said(seed, asks, workers):
 
 
 def main():
-    if sys.argv[1:] == ["--help"]:
-        print(__doc__.strip())
-        return
-    if "PROGRAM" not in os.environ:
-        subprocess.run([f"{TOP}/tools/build"], check=True)
-    count, seed = (int(word) for word in (sys.argv[1:] + ["50", "1"][len(sys.argv) - 1 :]))
+    count, seed = begin(__doc__, 50, 1)
     rng, begun, asked, runs = random.Random(f"gen {seed}"), time.monotonic(), 0, 0
     for number, (key, asks) in enumerate(cases(rng, count)):
         due = generated(key, asks)

@@ -7,12 +7,14 @@ build than tools/build's)
 Each case is a catalog of one or two owners with journals of version 1, 2 or 3, of 0 records up to all that have room, of one area up to five. Earlier areas,
 and what stands behind the live one, mostly hold what runs leave there, and now and then any bytes. Most journals are spoilt then: bytes changed, in the
 header, at gates, in records; cut off or made longer; pieces repeated, put in or taken out; slots exchanged; areas exchanged, opened and closed; the
-version changed; records that may not follow those before them, such as a settlement that gives back too much, too little, or in an older version;
-another owner's journal, or that of another key.
+version changed; records that may not follow those before them, such as a settlement that gives back too much, too little, or in an older version, or a
+grant of another number, or one by which the budget is over 10^18; an amount of 0 or over 10^18, and bytes among a grant's zeros; another owner's journal,
+or that of another key.
 
 - `audit` writes the counts of each, with status 0, or with 4 the first refusal, and leaves the files as they are.
-- Where all open, the program goes on with a few asks, recalls and balances, and is told what the second server (tools/reference.py) says; what it
-  leaves is, byte for byte, what journal.py says that a server leaves.
+- Where all open, the program goes on with a few asks, recalls and balances, or with a grant, and is told what the second server (tools/reference.py)
+  says; what it leaves is, byte for byte, what journal.py says that a server leaves. A grant reads the journal of its owner alone, so it goes on where
+  another one's is refused.
 - Now and then tools/journal.py itself, by its words, says the same, and has words for what is damaged.
 It ends with status 1 at the first difference, with the case kept in out/compare_journals, and where some kind of file was never met.
 """
@@ -29,11 +31,12 @@ TOP = os.path.dirname(os.path.dirname(os.path.abspath(__file__)))
 PROGRAM = os.path.abspath(os.environ.get("PROGRAM", f"{TOP}/out/hitchseason"))
 KEPT = f"{TOP}/out/compare_journals"
 sys.path.insert(0, f"{TOP}/tools")
+from beginning import begin  # noqa: E402
 from catalog import catalog, owner  # noqa: E402
-from journal import GATE, GATES_AT, HEAD, MOST_AREAS, SLOT, VERSION_AT, VERSIONS, Book, Refused, Reservation, Settlement  # noqa: E402
+from journal import GATE, GATES_AT, HEAD, MOST_AREAS, MOST_BUDGET, SLOT, VERSION_AT, VERSIONS, Book, Grant, Refused, Settlement  # noqa: E402
 from journal import appended, areas, book_of, contents, header, live_area, live_number, made, put, version_of  # noqa: E402
-from random_scripts import reservation_at_random  # noqa: E402
-from reference import Server, house_of, key_words  # noqa: E402
+from random_scripts import amount_at_random, grant_at_random, reservation_at_random  # noqa: E402
+from reference import Server, grant_by_words, house_of, key_words  # noqa: E402
 
 CAPACITIES = [2, 3, 8, 40, 63, 64, 65, 66, 100, 127, 128, 129, 200, 256, 300, 600, 1100]
 BUDGETS = [1, 100, 10**6, 10**7, 10**12, 10**18]
@@ -41,7 +44,7 @@ PARTS = [(), (("area", "people", "town", ("A", "B")),), (("area", "people", "tow
 TABLES = (("people", "people.csv", (("town", "text"), ("age", "num"))),)
 PEOPLE = b"town,age\nA,20\nB,30\nA,40\n"
 ANALYSTS = ("ann", "bob", "eve")
-TELLING = (0, 0, 1, 2, 3, GATE, GATE, GATE, 0x25, 0xFF)
+TELLING = (0, 0, 1, 2, 3, 3, 4, GATE, GATE, GATE, 0x25, 0xFF)
 ASKS = ["ask {} 0.000001 size people", "ask {} 0.000002 2 * size people", "askpart {} area A 0.000001 size people", "left {}", "recall {} 0", "recall {} 7"]
 
 
@@ -63,6 +66,8 @@ def fill(rng, book, many):
             outcome = rng.choice([1, 1, 1, 2, 3])
             answer = rng.choice([0, -1, 2**63 - 1, -(2**63), rng.randint(-(2**50), 2**50)])
             book.keep(book.settlement(rng.choice(unsettled), outcome, answer if outcome == 1 else 0))
+        elif rng.random() < 0.08:
+            book.add(grant_at_random(rng, book))
         else:
             book.add(reservation_at_random(rng, book, parts))
 
@@ -71,7 +76,9 @@ def wrong_record(rng, book):
     """A record that may not follow, mostly."""
     number = len(book.reserved)
     one = reservation_at_random(rng, book)
-    kind = rng.randrange(8)
+    kind = rng.randrange(14)
+    if kind > 7:
+        return wrong_grant(rng, book)
     if kind < 3 or not number:
         changes = [("number", number + rng.choice([1, -1]) if number else 1), ("taken", one.taken + rng.choice([1, -1]) if one.taken else 1),
             ("analyst", rng.choice([book.analysts, 65535])), ("view", rng.choice([(0, 249), (7, 0), (2, 0), (0, 3)])), ("e", 10**9), ("program", bytes(32))]  # fmt: skip
@@ -85,6 +92,33 @@ def wrong_record(rng, book):
     if kind < 6 and unsettled:
         return gives_back_wrongly(rng, book, rng.choice(unsettled))
     return Settlement(rng.choice([number, number + 1, 2**32 - 1, *book.settled]), rng.choice([1, 2, 3]))
+
+
+class Bytes:
+    """A record that stands in its slot as these bytes."""
+
+    def __init__(self, data):
+        self.data = data
+
+    def encoded(self):
+        return self.data
+
+
+def wrong_grant(rng, book):
+    """A grant whose number, amount or zeros are others than may be, mostly; or one that is allowed just so."""
+    number, most = len(book.grants), MOST_BUDGET - book.budget
+    way = rng.randrange(6)
+    if way == 0:
+        return Grant(rng.choice([number + 1, number - 1 if number else 2, len(book.records) + 1, 2**32 - 1]), 1)
+    if way == 1:
+        return Grant(number, rng.choice([0, MOST_BUDGET + 1, 2**63, 2**64 - 1]))
+    if way == 2:
+        return Grant(number, rng.choice([most + 1, MOST_BUDGET, rng.randint(most + 1, MOST_BUDGET)]))
+    if way == 3:
+        return Grant(number, max(1, most))
+    data = bytearray(Grant(number, rng.randint(1, MOST_BUDGET)).encoded())
+    data[rng.choice([2, 3, 2, 3, 16, 63, rng.randrange(16, SLOT)])] = rng.choice([1, 0x80, 0xFF])
+    return Bytes(bytes(data))
 
 
 def gives_back_wrongly(rng, book, number):
@@ -217,20 +251,22 @@ class Case:
     def journal(self, order):
         """A journal of this owner, with records, and perhaps spoilt."""
         rng, entry = self.rng, self.entries[order]
-        capacity, version = entry["capacity"], rng.choice([1, 2, 3, 3, 3])
+        capacity, version = entry["capacity"], rng.choice([1, 1, 2, 2, 3, 3, 3])
         book = Book(entry, len(self.analysts), version)
         fill(rng, book, min(capacity, rng.choice([0, 2, 20, 64, 65, 128, 129, capacity, rng.randint(0, capacity)])))
         records = list(book.records)
-        if rng.random() < 0.1 and len(records) < capacity:
+        wrong = rng.random() < 0.3 and len(records) < capacity
+        if wrong:
             records.append(wrong_record(rng, book))
             self.came["a last record that may not follow, perhaps"] += 1
         self.came["settlements that give back"] += sum(isinstance(one, Settlement) and one.returned > 0 for one in book.records)
+        self.came[f"version {version} with grants"] += bool(book.grants)
         self.came["exhausted in an older version"] += version < 3 and any(one.outcome == 2 for one in book.settled.values())
         key = bytes(32) if rng.random() < 0.02 else None
         data = bytearray(appended(made(self.head(order if rng.random() < 0.98 else 0, version, key), capacity), capacity, records))
         if version > 1 and rng.random() < 0.4:
             self.around(data, capacity)
-        for _ in range(rng.choice([0, 1, 1, 1, 2])):
+        for _ in range(rng.choice([0, 0, 0, 0, 1] if wrong else [0, 1, 1, 1, 2])):
             spoil = rng.choice(SPOILS)
             area = live_area(data, capacity) if len(data) >= HEAD else areas(2, capacity)[0]
             if area.number < len(areas(version_of(data) if len(data) > VERSION_AT else 2, capacity)):
@@ -275,6 +311,8 @@ class Case:
             self.by_words(due[1], refused)
         if not refused and self.rng.random() < 0.5:
             self.goes_on(books)
+        elif self.rng.random() < 0.5:
+            self.grants(books)
 
     def same_files(self, what):
         for order, data in enumerate(self.journals):
@@ -290,6 +328,7 @@ class Case:
                 self.came["a record that may not stand there"] += "may not stand there" in book.how
                 if "gives back" in book.how:
                     self.came[f"version {version} gives back wrongly"] += 1
+                self.came.update(f"version {version} {what}" for how, what in OF_GRANTS.items() if how in book.how)
             else:
                 area = live_number(data) if version != 1 else 0
                 self.came[f"version {version} open, area {area}"] += 1
@@ -307,6 +346,23 @@ class Case:
             if words and any(line.endswith(": it isn't") for line in lines):
                 raise Differs(f"tools/journal.py has no words for {refused[0][1]}")
         self.came["tools/journal.py by its words"] += 1
+
+    def grants(self, books):
+        """A grant to one of the owners, whatever the other's journal is."""
+        order = self.rng.randrange(len(books))
+        book, name = books[order], self.entries[order]["name"]
+        if isinstance(book, Refused):
+            word, status, due, records = "1", 4, f"journal {name} {book}\n", []
+        else:
+            word = amount_at_random(self.rng, book)
+            status, due, records = grant_by_words(book, word)
+        ran = subprocess.run([PROGRAM, "grant", "cat.json", "key", name, word], stdin=subprocess.DEVNULL, capture_output=True)
+        said = (ran.returncode, ran.stdout.decode(errors="replace"), ran.stderr)
+        if said != (status, due, b""):
+            raise Differs(f"grant {name} {word}: {said}, and {(status, due)} is due")
+        self.journals[order] = appended(self.journals[order], self.entries[order]["capacity"], records) if records else self.journals[order]
+        self.same_files("grant")
+        self.came[f"a grant that ends with {status}"] += 1
 
     def goes_on(self, books):
         """A few lines more, by the program and the second server."""
@@ -342,7 +398,11 @@ def compare(seed, number, came):
             os.chdir(TOP)
 
 
-WANTED = [f"version {version} {what}" for version in VERSIONS for what in ("open, area 0", "changed", "damaged", "uninitialised", "gives back wrongly")] + [
+# What is said of a wrong grant, by which kind it is.
+OF_GRANTS = {"it is grant number": "another number", "with its grant of": "a sum above", "its grant is of": "an amount outside",
+    "of a grant are": "bytes 2 and 3 of a grant", "a grant has other bytes": "bytes behind a grant's"}  # fmt: skip
+KINDS = ("open, area 0", "changed", "damaged", "uninitialised", "gives back wrongly", "with grants", *OF_GRANTS.values())
+WANTED = [f"version {version} {what}" for version in VERSIONS for what in KINDS] + [f"a grant that ends with {status}" for status in (0, 2, 4, 9, 10)] + [
     "version none changed", "version none uninitialised", *(f"version {version} open, area {area}" for version, most in ((2, 2), (3, 3)) for area in range(1, most + 1)),
     "other bytes around the live area", "settlements that give back", "exhausted in an older version", "a record that may not stand there",
     "tools/journal.py by its words", "an area that a run opened", "runs that go on",
@@ -350,18 +410,13 @@ WANTED = [f"version {version} {what}" for version in VERSIONS for what in ("open
 
 
 def main():
-    if sys.argv[1:] == ["--help"]:
-        print(__doc__.strip())
-        return
-    if "PROGRAM" not in os.environ:
-        subprocess.run([f"{TOP}/tools/build"], check=True)
-    count, seed, first = (int(word) for word in (sys.argv[1:] + ["5000", "1", "0"][len(sys.argv) - 1 :]))
+    count, seed, first = begin(__doc__, 5000, 1, 0)
     came, begun = Counter(), time.monotonic()
     if not all(compare(seed, number, came) for number in range(first, first + count)):
         sys.exit(1)
     print(", ".join(f"{what} {came[what]}" for what in sorted(came)))
     lacking = [what for what in WANTED if not came[what]]
-    if lacking and count >= 2000:
+    if lacking and count >= 5000:
         print("never met: " + ", ".join(lacking))
         sys.exit(1)
     print(f"{count} cases of seed {seed} in {time.monotonic() - begun:.0f} s: no difference")

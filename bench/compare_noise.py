@@ -8,7 +8,6 @@ stream), two words each, low half first, from the stream that has the answer's n
 import os
 import random
 import struct
-import subprocess
 import sys
 import tempfile
 from fractions import Fraction
@@ -17,6 +16,7 @@ TOP = os.path.dirname(os.path.dirname(os.path.abspath(__file__)))
 PROGRAM = os.path.abspath(os.environ.get("PROGRAM", f"{TOP}/out/hitchseason"))
 sys.path.insert(0, f"{TOP}/tools")
 from afresh import run_afresh  # noqa: E402
+from beginning import begin  # noqa: E402
 from catalog import census  # noqa: E402
 
 BUDGET, CAPACITY, MOST_DRAWS = 10_000_000, 100, 4096
@@ -121,10 +121,8 @@ def written(epsilon, random):
 
 
 def main():
-    if "PROGRAM" not in os.environ:
-        subprocess.run([f"{TOP}/tools/build"], check=True)
-    runs = int(sys.argv[1]) if len(sys.argv) > 1 else 50
-    rng = random.Random(int(sys.argv[2]) if len(sys.argv) > 2 else 1)
+    runs, seed = begin(__doc__, 50, 1)
+    rng = random.Random(seed)
     compared = 0
     with tempfile.TemporaryDirectory() as room:
         with open(f"{room}/cat.json", "wb") as file:

@@ -15,12 +15,12 @@ With --plant wrong replies and records are planted in copies of what each run wr
 """
 import os
 import random
-import subprocess
 import sys
 from collections import Counter
 
+from beginning import begin
 from compare_scripts import TOP, WANTED, Case, Differs, is_same
-from journal import Refused, Reservation, Settlement, appended, book_of, contents
+from journal import Grant, Refused, Reservation, Settlement, appended, book_of, contents
 from orders import Wrong, blocks_of, check, judged
 from programs import deep
 from random_scripts import blocks_at_random
@@ -29,7 +29,8 @@ from reference import Server, key_words, lines_of
 STEPS = 100_000
 SHARE = 100
 MEETINGS = ("behind records of another worker", "settled behind another line's record", "recall open", "no 41 with some that aren't settled")
-ARE_RUNS = [name for name in WANTED if name not in ("a run that goes on", "a record without its gate")]
+OF_SCRIPTS = ("a run that goes on", "a record without its gate", "a grant behind 40", "an ask of 40 that is granted", "granted to nobody")
+ARE_RUNS = [name for name in WANTED if name not in OF_SCRIPTS]
 
 
 class Orders(Case):
@@ -163,20 +164,21 @@ class Plants:
             number = sum(isinstance(one, Reservation) for one in records)
             more = Reservation(number, (255, 0), 1, 0, 1, 0, 0, bytes(32))
             self.refused("a record that nobody asked", None, self.with_records(order, [*records, more]))
+            self.refused("a grant by a run", None, self.with_records(order, [*records, Grant(len(self.books[order].grants), 1)]))
         # The last two records are one line's, which is told that the budget doesn't allow it, without them.
         if len(records) >= 2 + len(self.books[order].records) and isinstance(records[-2], Reservation) and records[-2].number == last.number:
             for place in self.answers:
                 if self.order_of(place) == order and int(self.replies[place].split(" ")[1]) == last.number:
                     spent = sum(one.taken for one in records[:-2] if isinstance(one, Reservation))
-                    told = f"no 40 {spent} {spent + records[-2].taken} {entry['budget']} {len(records) - 2}"
+                    told = f"no 40 {spent} {spent + records[-2].taken} {self.books[order].budget} {len(records) - 2}"
                     self.refused("a refused ask that the budget allows", self.changed(place, told), self.with_records(order, records[:-2]))
 
     def stale(self):
         """A worker is told what was left before its own earlier answer."""
         for at, reply in enumerate(self.replies):
             if reply.startswith("left ") and any(self.order_of(before) == self.order_of(at) for before in self.own_before(at)):
-                book, entry = self.books[self.order_of(at)], self.case.entries[self.order_of(at)]
-                self.refused("a balance behind too few records", self.changed(at, f"left {book.spent} {entry['budget']} {len(book.records)}"))
+                book = self.books[self.order_of(at)]
+                self.refused("a balance behind too few records", self.changed(at, f"left {book.spent} {book.budget} {len(book.records)}"))
 
     def own_before(self, at):
         """The answers that the worker of a line had before it."""
@@ -219,12 +221,8 @@ def told(seed, came):
 
 
 def main():
-    if "PROGRAM" not in os.environ:
-        subprocess.run([f"{TOP}/tools/build"], check=True)
-    words = sys.argv[1:]
-    Orders.plants = "--plant" in words
-    words = [word for word in words if word != "--plant"]
-    count, seed, number = (int(word) for word in (words + ["5000", "1", "0"][len(words) :]))
+    Orders.plants = "--plant" in sys.argv
+    count, seed, number = begin(__doc__, 5000, 1, 0, words=[word for word in sys.argv[1:] if word != "--plant"])
     os.makedirs(f"{TOP}/out", exist_ok=True)
     check()
     came, same = Counter(), True

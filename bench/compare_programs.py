@@ -20,6 +20,7 @@ TOP = os.path.dirname(os.path.dirname(os.path.abspath(__file__)))
 PROGRAM = os.path.abspath(os.environ.get("PROGRAM", f"{TOP}/out/hitchseason"))
 sys.path.insert(0, f"{TOP}/tools")
 from afresh import run_afresh  # noqa: E402
+from beginning import begin  # noqa: E402
 from programs import Node, Refused, sensitivity_text  # noqa: E402
 from random_programs import CATALOG, TABLES, program_of  # noqa: E402
 from runs import asked  # noqa: E402
@@ -105,10 +106,8 @@ class Comparison:
 
 
 def main():
-    if "PROGRAM" not in os.environ:
-        subprocess.run([f"{TOP}/tools/build"], check=True)
-    count = int(sys.argv[1]) if len(sys.argv) > 1 else 20_000
-    rng = random.Random(int(sys.argv[2]) if len(sys.argv) > 2 else 1)
+    count, seed = begin(__doc__, 20_000, 1)
+    rng = random.Random(seed)
     with tempfile.TemporaryDirectory() as room, ThreadPoolExecutor(3) as pool:
         for name, data in (("key", bytes(32)), ("cat.json", CATALOG), *FILES):
             with open(f"{room}/{name}", "wb") as file:

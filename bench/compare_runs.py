@@ -23,6 +23,7 @@ TOP = os.path.dirname(os.path.dirname(os.path.abspath(__file__)))
 PROGRAM = os.path.abspath(os.environ.get("PROGRAM", f"{TOP}/out/hitchseason"))
 sys.path.insert(0, f"{TOP}/tools")
 from afresh import renew  # noqa: E402
+from beginning import begin, numbers  # noqa: E402
 from programs import RULES, Refused, sensitivity_text  # noqa: E402
 from random_programs import CATALOG, TABLES, accepted_of  # noqa: E402
 from reference import BUDGET, CAPACITY, Exhausted, key_draws, noise  # noqa: E402
@@ -227,16 +228,10 @@ def beside_the_program(rng, count):
 
 
 def main():
-    given = [word for word in sys.argv[1:] if word != "--alone"]
-    count = int(given[0]) if given else 50_000
-    rng = random.Random(int(given[1]) if len(given) > 1 else 1)
+    without = "--alone" in sys.argv
+    count, seed = (numbers if without else begin)(__doc__, 50_000, 1, words=[word for word in sys.argv[1:] if word != "--alone"])
     sys.setrecursionlimit(20_000)
-    if len(given) < len(sys.argv) - 1:
-        counts = alone(rng, count)
-    else:
-        if "PROGRAM" not in os.environ:
-            subprocess.run([f"{TOP}/tools/build"], check=True)
-        counts = beside_the_program(rng, count)
+    counts = (alone if without else beside_the_program)(random.Random(seed), count)
     sys.exit(0 if counts.told() else 1)
 
 

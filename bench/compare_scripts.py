@@ -1,15 +1,17 @@
 #!/usr/bin/env python3
-"""Compares what the program does with whole scripts with what a second server says (tools/reference.py, tools/journal.py).
+"""Compares what the program does with whole scripts, and with grants between them, with what a second server says (tools/reference.py, tools/journal.py).
 
 usage: bench/compare_scripts.py [COUNT [SEED [FIRST]]]     (PROGRAM=FILE compares another build than tools/build's)
-COUNT random houses (1,000 where none is said), from case FIRST (0) of SEED (1) on. Each is a catalog of 1 to 4 owners with their tables, a
-key, and 1 to 3 scripts by good and hostile analysts (random_scripts.py): `init`, then a run a script over the same journals, and `audit`.
+COUNT random houses (1,000 where none is said; 5,000 are some 10,000 runs), from case FIRST (0) of SEED (1) on. Each is a catalog of 1 to 4 owners with
+their tables, a key, and 1 to 3 scripts by good and hostile analysts (random_scripts.py): `init`, then a run a script over the same journals, and `audit`.
+Before and behind each run some owners are granted something: good amounts, ones that are too large, ones for which there is no room, and words that are no
+amount; where a line was told 40 often just what it lacked, and then the next script asks it again.
 Before the first run a journal may be made an older one, of version 1 or 2, and be given records that runs could have left. Between runs one may be left
 as a stop leaves it, with its last record, or its next area, behind no gate, or a settlement be made an exhausted or a lost one. The next run finds
 them. Compared are, byte by byte:
 
 - what each of these commands writes, the second server going on behind the records that it finds in the journals;
-- each owner's journal after `init` and after each run, whole, with the records that the second server adds.
+- each owner's journal after `init`, after each run and after each grant, whole, with the records that the second server adds.
 
 It ends with status 1 at the first difference, with the case kept in out/compare_scripts, and where one of the replies that should come
 came in fewer than one of fifty cases. 42 and 52 want a disk that fails, and 51 and 90 an allocation: these have benches of their own. 50 wants
@@ -28,15 +30,17 @@ TOP = os.path.dirname(os.path.dirname(os.path.abspath(__file__)))
 PROGRAM = os.path.abspath(os.environ.get("PROGRAM", f"{TOP}/out/hitchseason"))
 KEPT = f"{TOP}/out/compare_scripts"
 sys.path.insert(0, f"{TOP}/tools")
+from beginning import begin  # noqa: E402
 from journal import GATE, SLOT, VERSIONS, Area, Book, Settlement, appended, area_slots, book_of, contents, header, in_version, live_area, made  # noqa: E402
-from random_scripts import house_at_random, lay_records, script_of  # noqa: E402
+from random_scripts import amount_at_random, house_at_random, lay_records, script_of  # noqa: E402
 from programs import deep  # noqa: E402
-from reference import Server, house_of, key_words, lines_of  # noqa: E402
+from reference import Server, grant_by_words, house_of, key_words, lines_of  # noqa: E402
 from runs import TooManySteps  # noqa: E402
 
 STEPS = 100_000
 SHARE = 50
 REPLIES = ("hello", "answer", "recall", "left", "bye", "no")
+GRANTS = ["granted", "too large", "full", "usage", "granted to nobody"]
 KINDS = [b"hello", b"ask", b"askpart", b"recall", b"left", b"bye"]
 WANTED = (
     ["hello", "answer", "answer of a part", "answer of a part that took 0", "recall answer", "recall exhausted", "recall lost", "left", "bye"]
@@ -44,7 +48,7 @@ WANTED = (
     + [f"no 30 {kind}" for kind in ("unbound", "mismatch", "notground", "notflat")]
     + [f"no {code}" for code in (11, 13, 14, 20, 21, 22, 31, 32, 33, 34, 35, 36, 37, 40, 41, 60, 61)]
     + ["a run that goes on", "a record without its gate", "recall of an earlier run's", "journals of version 1", "journals of version 2"]
-    + ["journals with records that gave back", "an area that was opened"]
+    + ["journals with records that gave back", "an area that was opened", "a grant behind 40", "an ask of 40 that is granted", *GRANTS]
 )  # fmt: skip
 
 
@@ -83,6 +87,8 @@ class Case:
         self.house = house_of(catalog, files.__getitem__)
         self.entries = self.house.catalog["owners"]
         self.heads = [header(catalog, order, self.key, files.__getitem__, VERSIONS[-1]) for order in range(len(self.entries))]
+        # Of owners by their names a line that was told 40, who asked it, and what it lacked; lines that the next script asks again.
+        self.over, self.again = {}, set()
         said = "".join(f"owner {entry['name']} budget {entry['budget']} capacity {entry['capacity']}\n" for entry in self.entries)
         self.same("init", self.ran("init"), said.encode())
         self.kept = [made(head, entry["capacity"]) for head, entry in zip(self.heads, self.entries)]
@@ -121,7 +127,9 @@ class Case:
 
     def run(self, turn):
         books = self.books()
-        self.answered(turn, script_of(self.rng, self.house.catalog, self.made(books)), books)
+        again = b"".join(b"hello %s\n%s\n" % (who, line) for who, line, _ in self.over.values())
+        self.again, self.over = {line for _, line, _ in self.over.values()}, {}
+        self.answered(turn, again + script_of(self.rng, self.house.catalog, self.made(books)), books)
 
     def put(self, turn, script):
         """Keeps the script and the journals as they are before it."""
@@ -132,18 +140,54 @@ class Case:
         """Answers a script by both. Nothing is compared where a program takes the second server too long."""
         self.put(turn, script)
         server, lines = Server(self.house, key_words(self.key), books, STEPS), lines_of(script)
-        replies = [server.reply(line) for line in lines]
+        replies = [self.heard(server, line) for line in lines]
         self.same(f"run {turn}", self.ran("run", script, words), "".join(reply + "\n" for reply in replies).encode())
         for order, owner in enumerate(server.owners.values()):
             self.kept[order] = self.with_records(order, owner.added)
         self.same_journals()
         self.count(server, lines, replies, turn)
 
+    def heard(self, server, line):
+        """The reply to a line. Of each owner the first line is kept that is told 40."""
+        reply = server.reply(line)
+        name = line.split(b" ", 2)[1] if reply.startswith("no 40 ") else None
+        if name is not None and name not in self.over:
+            self.over[name] = (server.who, line, int(reply.split(" ")[3]) - server.owners[name].budget)
+        return reply
+
+    def grants(self):
+        """Some owners are granted something; nobody is now and then."""
+        for order, book in enumerate(self.books()):
+            name, near = book.entry["name"].encode(), len(book.records) + 1 >= book.entry["capacity"]
+            if self.rng.random() < (0.7 if name in self.over else 0.4 if near else 0.2):
+                self.grant(order, book)
+        if self.rng.random() < 0.05:
+            self.ends("grant to nobody", ["nobody", "1"], (3, "refused nobody\n"))
+            self.came["granted to nobody"] += 1
+
+    def grant(self, order, book):
+        name = book.entry["name"]
+        lacks = self.over[name.encode()][2] if name.encode() in self.over and self.rng.random() < 0.6 else None
+        word = str(lacks) if lacks else amount_at_random(self.rng, book)
+        status, said, records = grant_by_words(book, word)
+        self.ends(f"grant {name} {word}", [name, word], (status, said))
+        self.kept[order] = self.with_records(order, records)
+        self.same_journals()
+        self.came["too large" if status == 9 else said.split()[0]] += 1
+        self.came["a grant behind 40"] += bool(lacks) and status == 0
+
+    def ends(self, what, words, due):
+        """A grant that is refused has no other words either."""
+        ran = subprocess.run([PROGRAM, "grant", "cat.json", "key", *words], stdin=subprocess.DEVNULL, capture_output=True)
+        if (ran.returncode, ran.stdout.decode(errors="replace"), ran.stderr) != (*due, b""):
+            raise Differs(f"{what} ended with {ran.returncode}, {ran.stdout[:200]!r} and {ran.stderr[:200]!r}, and {due} is due")
+
     def count(self, server, lines, replies, turn):
         for line, reply in zip(lines, replies):
             words = line.split(b" ", 3)
             self.came[f"line {words[0].decode()}" if words[0] in KINDS else "line of no kind"] += 1
             self.came[kind_of(line, reply)] += 1
+            self.came["an ask of 40 that is granted"] += line in self.again and reply.startswith("answer ")
             if reply.startswith("recall ") and int(words[2]) < server.owners[words[1]].start:
                 self.came["recall of an earlier run's"] += 1
         self.came["runs"] += 1
@@ -208,7 +252,9 @@ class Case:
         for turn in range(runs):
             if turn:
                 self.stop()
+            self.grants()
             self.run(turn)
+        self.grants()
         said = "".join(f"{book.counts()}\n" for book in self.books())
         self.same("audit", self.ran("audit"), said.encode())
         self.same_journals()
@@ -266,9 +312,7 @@ def told(seed, came):
 
 
 def main():
-    if "PROGRAM" not in os.environ:
-        subprocess.run([f"{TOP}/tools/build"], check=True)
-    count, seed, first = (int(word) for word in (sys.argv[1:] + ["1000", "1", "0"][len(sys.argv) - 1 :]))
+    count, seed, first = begin(__doc__, 1000, 1, 0)
     came = Counter()
     same = deep(lambda: all(compare(seed, number, came) for number in range(first, first + count)))
     sys.exit(0 if same and told(seed, came) else 1)

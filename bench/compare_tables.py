@@ -18,6 +18,7 @@ from concurrent.futures import ThreadPoolExecutor
 TOP = os.path.dirname(os.path.dirname(os.path.abspath(__file__)))
 PROGRAM = os.path.abspath(os.environ.get("PROGRAM", f"{TOP}/out/hitchseason"))
 sys.path.insert(0, f"{TOP}/tools")
+from beginning import begin  # noqa: E402
 from catalog import catalog, owner, read  # noqa: E402
 from tables import NUMBER_LIMIT, BadTable, cells, rows_of  # noqa: E402
 
@@ -143,12 +144,7 @@ def said(folder, case):
 
 
 def main():
-    if sys.argv[1:] == ["--help"]:
-        print(__doc__.strip())
-        return
-    if "PROGRAM" not in os.environ:
-        subprocess.run([f"{TOP}/tools/build"], check=True)
-    count, seed = (int(word) for word in (sys.argv[1:] + ["5000", "1"][len(sys.argv) - 1 :]))
+    count, seed = begin(__doc__, 5000, 1)
     rng, came, differences = random.Random(f"tables {seed}"), Counter(), 0
     with tempfile.TemporaryDirectory(dir="/dev/shm" if os.path.isdir("/dev/shm") else None) as folder, ThreadPoolExecutor(2) as pool:
         for first in range(0, count, 200):

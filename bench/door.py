@@ -27,6 +27,7 @@ import tempfile
 import threading
 import time
 
+from beginning import numbers
 from served import PROGRAM, TOP, Caller, Room, Service, Wrong, free_ports, is_listened_at, need_program
 from lines import LINE_LIMIT
 
@@ -373,14 +374,11 @@ def tried(rng, count):
 
 
 def main():
-    if sys.argv[1:] == ["--help"]:
-        print(__doc__.strip())
-        return
+    count, seed = numbers(__doc__, 40, 1)
     if not all(shutil.which(name, path=f"{os.environ['PATH']}:/usr/sbin:/sbin") for name in ("sshd", "ssh", "ssh-keygen")):
         print("there is no sshd or no ssh: apt-get install -y openssh-server openssh-client", file=sys.stderr)
         sys.exit(2)
     need_program()
-    count, seed = (int(word) for word in (sys.argv[1:] + ["40", "1"][len(sys.argv) - 1 :]))
     try:
         tried(random.Random(f"door {seed}"), count)
     except Wrong as fault:

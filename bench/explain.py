@@ -253,7 +253,7 @@ PARTS = [
     ("size persons + size stays", "30 unbound 20 25", "areas", ["A part of `areas` shows"]),
     ("size nobody", "30 unbound 5 11", "areas", ["!Asked of a part"]),
 ]
-STATUS_WORDS = "all was done|refuses the program|no command|absent|journal|standard output|disk|memory|2^24"
+STATUS_WORDS = "all was done|refuses the program|no command|absent|journal|standard output|disk|memory|2^24|over 10^18|no room for a grant"
 # Lines that the program writes, and words that are said of them: every code, every status, and what is no line.
 LINES = [
     ("no 10 2", "malformed at its word 2"), ("no 11", "over 16384 bytes"), ("no 12 1", "the owner isn't in the catalog"), ("no 12 2", "no partition of this "
@@ -271,13 +271,16 @@ LINES = [
     ("usage", "no command"), ("refused key", "'key' is the file, or the owner"), ("journal labour uninitialised 0", "it has 0 bytes"),
     ("journal labour damaged 3", "slot 3"), ("journal labour changed", "the entry of labour"), ("journal labour exists 12", "a file of 12 bytes"),
     ("disk labour", "disk of the journal of labour"), ("memory", "memory ran out"), ("script too long", "over 2^24 bytes"), ("bye", "ended"),
+    ("granted labour 1500000 3", "the budget of labour is 1500000 millionths now; its journal has 3 records"), ("too large 7", "would be over 10^18"),
+    ("full 2 2", "2 of 2 are taken"),
     ("ok 3/2", "a sensitivity of 3/2"), ("answer 3 -7 0", "the noisy value -7"), ("recall 1 open 4", "no answer yet"), ("recall 1 lost 4", "charged and has "
         "no answer"),
     ("recall 1 exhausted 4", "4096 draws"), ("recall 1 answer 5 4", "answered with 5"), ("left 1 2 3", "1 of 2 millionths"), ("hello mia", "mia speaks"),
     *[(f"status {status}", words) for status, words in enumerate(STATUS_WORDS.split("|"))],
     ("124", "timeout"), ("126", "may not be run"), ("127", "no such program"), ("137", "signal 9"), ("99", "never ends so"),
 ]  # fmt: skip
-NO_LINES = ["no", "no 40 1", "no 15", "no 10", "answer 1 2", "no 33 a b", "journal labour", "foo", "no 010"]
+NO_LINES = ["no", "no 40 1", "no 15", "no 10", "answer 1 2", "no 33 a b", "journal labour", "foo", "no 010", "granted labour 1", "granted 1 2 3",
+    "too large", "full 2"]  # fmt: skip
 # A program beside a line that isn't the program's refusal: what is said of the line.
 OTHERS = [
     ("no 13", "write 0.5"), ("answer 0 1 2", "noisy value 1"),

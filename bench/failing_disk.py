@@ -4,14 +4,15 @@
 usage: bench/failing_disk.py [--quick]    (PROGRAM=FILE tries another build than tools/build's). Needs cc. --quick tries every fourth or twelfth call of
 all runs but the first.
 It counts the calls of `init`, and of a run of three asks that goes on behind one earlier answer, of one that goes on behind 31 and so opens the
-journal's next area, and of such runs over journals of versions 1 and 2; and then runs each again with one call that fails, with all from that one
-on, and with a kill in the place of the call (a write has then put half of its bytes). Judged by a second reader (tools/journal.py) and the second implementation of
-lines (tools/reference.py):
+journal's next area, of such runs over journals of versions 1 and 2, and of grants over the same, one of which opens an area; and then runs each again with
+one call that fails, with all from that one on, and with a kill in the place of the call (a write has then put half of its bytes). Judged by a second reader
+(tools/journal.py) and the second implementation of lines (tools/reference.py):
 
 - `init` ends with 6 and its line, or is killed; what is left is no journal, or an empty one;
 - an opening that fails ends with 6 and its line, and leaves the file as it was;
 - where a record can't be written its ask is told 52 and all later ones 42; the lines behind, which recall and ask what is left, tell
   of the acknowledged records alone;
+- a grant ends with 6 and its line, or is killed: its record is there whole or not at all, and a grant behind it has the next number;
 - whatever happened, the next opening finds every record that was acknowledged, at most one more, and `audit` counts them;
 - an answer that was printed stands settled with its value.
 
@@ -30,8 +31,8 @@ TOP = os.path.dirname(os.path.dirname(os.path.abspath(__file__)))
 PROGRAM = os.path.abspath(os.environ.get("PROGRAM", f"{TOP}/out/hitchseason"))
 sys.path.insert(0, f"{TOP}/tools")
 from catalog import census, read  # noqa: E402
-from journal import VERSION_AT, VERSIONS, Refused, appended, book_of, contents, header, in_version, made  # noqa: E402
-from reference import ROWS, Server, key_words, with_rows  # noqa: E402
+from journal import VERSION_AT, VERSIONS, Grant, Refused, appended, book_of, contents, header, in_version, made  # noqa: E402
+from reference import ROWS, Server, granted, key_words, with_rows  # noqa: E402
 
 E = 100_000
 ASK = "ask census 0.1 size people"
@@ -42,6 +43,8 @@ NEWEST = VERSIONS[-1]
 # The runs: behind so many answers, over a journal of this version. Those of the last version are over one that an `init` has made.
 RUNS = ((FEW, NEWEST), (MANY, NEWEST), (FEW, 1), (FEW, 2), (MANY, 2))
 QUICK = (1, 4, 4, 12, 12)
+# The grants: the same. Behind 32 answers all of the first area is taken.
+GRANTS, AMOUNT = ((FEW, NEWEST), (32, NEWEST), (FEW, 1), (32, 2)), 500_000
 
 
 def asked(first):
@@ -66,11 +69,17 @@ class Room:
         subprocess.run(["cc", "-O1", "-shared", "-fPIC", "-o", self.library, f"{TOP}/bench/fail_disk.c", "-ldl"], check=True)
         self.head, self.entry = header(census(), 0, bytes(32), contents, NEWEST), read(census())["owners"][0]
 
-    def ran(self, command, script="", **faults):
+    def ran(self, command, script="", words=(), **faults):
         given = {**os.environ, **faults}
         if faults:
             given["LD_PRELOAD"] = self.library
-        return subprocess.run([PROGRAM, command, "cat.json", "key"], input=script, capture_output=True, text=True, env=given)
+        return subprocess.run([PROGRAM, command, "cat.json", "key", *words], input=script, capture_output=True, text=True, env=given)
+
+    def grant(self):
+        """A grant that goes well, behind whatever is there."""
+        book, ran = self.book(), self.ran("grant", words=("census", "1"))
+        if (ran.returncode, ran.stdout) != granted(book, 1)[:2]:
+            raise Wrong(f"the next grant ended with {ran.returncode} and {ran.stdout!r}")
 
     def made(self, first, version=NEWEST):
         """One journal with so many earlier answers."""
@@ -175,6 +184,20 @@ def judge_run(room, ran):
     goes_on(room, now, book)
 
 
+def judge_grant(room, ran):
+    before = book_of(room.before, room.head, room.entry, 2).records
+    if (ran.returncode, ran.stdout) not in (DISK, (-9, "")):
+        raise Wrong(f"status {ran.returncode} and {ran.stdout!r}")
+    now, book = contents("journals/0.bud"), room.counted()
+    more = [one.encoded() for one in book.records[len(before) :]]
+    if [one.encoded() for one in book.records[: len(before)]] != [one.encoded() for one in before] or more not in ([], [Grant(0, AMOUNT).encoded()]):
+        raise Wrong(f"{len(book.records)} records")
+    room.came[f"grant: {'killed' if ran.returncode == -9 else 'refused'}, {'written' if more else 'not written'}"] += 1
+    told_of_areas(room, now, book, len(before))
+    room.grant()
+    goes_on(room, contents("journals/0.bud"), room.book())
+
+
 def told_of_areas(room, now, book, first):
     """What there is of a next area: it, its gate, and records in it, or a part of it without the gate."""
     room.came[f"version {now[VERSION_AT]}"] += 1
@@ -196,15 +219,15 @@ def goes_on(room, now, book):
         raise Wrong("the next run left something else")
 
 
-def turns(room, command, script, prepare, judge, step=1):
+def turns(room, command, script, prepare, judge, step=1, words=()):
     prepare()
-    ran = room.ran(command, script, TELL="1")
+    ran = room.ran(command, script, words, TELL="1")
     count = int(ran.stderr)
     for faults in ({"FAIL": ""}, {"FAIL": "", "FAIL_ALL": "1"}, {"STOP": ""}):
         for number in range(1, count + 1, step):
             prepare()
             try:
-                judge(room, room.ran(command, script, **{name: value or str(number) for name, value in faults.items()}))
+                judge(room, room.ran(command, script, words, **{name: value or str(number) for name, value in faults.items()}))
             except (Wrong, Refused) as fault:
                 print(f"{command}, call {number} of {count}, {' '.join(faults)}: {fault}")
                 sys.exit(1)
@@ -259,7 +282,7 @@ def in_order(log, wanted):
 
 ENDS = ["init: no file", "init: a file to be removed", "run: not opened", "run: 52 of a reservation", "run: 52 of a settlement", "killed", "one record more",
     *(f"version {version}" for version in VERSIONS), "an area that was opened, with no record more", "an area that was opened, with records",
-    "an area, or a part of one, without its gate"]  # fmt: skip
+    "an area, or a part of one, without its gate", "grant: killed, written", "grant: killed, not written", "grant: refused, not written"]  # fmt: skip
 
 
 def main():
@@ -274,12 +297,17 @@ def main():
         for (first, version), every in zip(RUNS, steps):
             room.made(first, version)
             calls.append(turns(room, "run", "".join(f"{line}\n" for line in asked(first)), room.anew, judge_run, every))
+        of_grants = []
+        for first, version in GRANTS:
+            room.made(first, version)
+            of_grants.append(turns(room, "grant", "", room.anew, judge_grant, words=("census", str(AMOUNT))))
         short_writes(room)
         order_of_syncs(room)
         os.chdir(TOP)
     print("short writes, and the order of syncs: as wanted")
     runs = (f"{calls} of a run{' that opens an area' * (first == MANY)}, version {version}" for (first, version), calls in zip(RUNS, calls[1:]))
-    said = f"{calls[0]} calls of init, {', '.join(runs)}"
+    grants = (f"{calls} of a grant behind {2 * first} records, version {version}" for (first, version), calls in zip(GRANTS, of_grants))
+    said = f"{calls[0]} calls of init, {', '.join((*runs, *grants))}"
     print(f"{said}, each failing, failing with all later ones, and killed: as wanted")
     print(", ".join(f"{end} {many}" for end, many in sorted(room.came.items())))
     lacking = [end for end in ENDS if not room.came[end]]

@@ -16,6 +16,7 @@ import tempfile
 import threading
 import time
 
+from beginning import numbers
 from served import NAMES, Room, Service, Wrong, need_program, place
 
 # So many asks of one owner have room in its journal, twice over.
@@ -61,11 +62,8 @@ def beside(service, name):
 
 
 def main():
-    if sys.argv[1:] == ["--help"]:
-        print(__doc__.strip())
-        return
+    rows, asks = numbers(__doc__, 8192, 400)
     need_program()
-    rows, asks = (int(word) for word in (sys.argv[1:] + ["8192", "400"][len(sys.argv) - 1 :]))
     people = b"town,age\n" + b"".join(b"A,%d\n" % (number % 90) for number in range(rows))
     print(f"{rows} rows, {os.cpu_count()} processors, load {os.getloadavg()[0]:.1f}")
     print(f"{'asks':<44} {'answered':>8} {'median ms':>10} {'95 of 100':>10} {'greatest':>10}")

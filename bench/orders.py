@@ -26,7 +26,7 @@ from itertools import repeat
 
 sys.path.insert(0, f"{os.path.dirname(os.path.dirname(os.path.abspath(__file__)))}/tools")
 from catalog import catalog, owner  # noqa: E402
-from journal import WHOLE, Book, Reservation  # noqa: E402
+from journal import WHOLE, Book, Grant, Reservation  # noqa: E402
 from lines import lines_of  # noqa: E402
 from reference import Server, house_of, key_words  # noqa: E402
 
@@ -58,6 +58,8 @@ class Log:
         self.name = owner.entry["name"]
         if list(map(vars, found.records)) != list(map(vars, self.records[: self.first])):
             raise Wrong(f"{self.name}: the records found aren't the first ones now")
+        if len(found.grants) < len(book.grants):
+            raise Wrong(f"{self.name}: a run has granted something")
         self.start, self.places, self.settled, self.claimed = len(found.reserved), {}, {}, set()
         reservations, self.behind = [], []
         behind = Book(book.entry, book.analysts, book.version)
@@ -68,7 +70,7 @@ class Log:
             if isinstance(one, Reservation):
                 reservations.append((analysts[one.analyst], None))
                 self.places[one.number] = place
-            elif one:
+            elif one and not isinstance(one, Grant):
                 reservations[one.number] = (reservations[one.number][0], one.standing())
                 self.settled[one.number] = place
             if one:

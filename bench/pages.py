@@ -22,6 +22,7 @@ SURVEY = "examples/survey"
 WORDS = {
     "SEED N WORKERS": "7 20 2", "CATALOG2": "catalog.json", "CATALOG": "catalog.json", "KEY": "key", "SCRIPT": f"{SURVEY}/first",
     "REPLIES": "replies", "OWNER": "labour", "FILE": f"{SURVEY}/programs/everyone", "ANALYST": "mia", "EPS": "0.5", "SERVICE": "service",
+    "AMOUNT": "500000",
 }  # fmt: skip
 OWN = {
     "query": f"{SURVEY}/programs/everyone", "catalog.json": f"{SURVEY}/catalog.json", "persons.csv": f"{SURVEY}/persons.csv",

@@ -5,12 +5,13 @@
                                     of all kinds and by any analysts; MADE says how many reservations there are of each owner, by its name
     blocks_at_random(RNG, CATALOG, MADE)   a script of 2 to 30 blocks, each made so
     program_for(RNG, TABLES)        one line's program over these tables: accepted ones, mostly, and refused ones of each code
-    lay_records(RNG, BOOK)          records that runs could have left, added to an empty book (journal.py)
+    lay_records(RNG, BOOK)          records that runs and grants could have left, added to an empty book (journal.py)
+    amount_at_random(RNG, BOOK)     the amount of a grant behind a book's records, as it is written: good ones, mostly
 """
 import math
 from fractions import Fraction
 
-from journal import WHOLE, Reservation
+from journal import MOST_BUDGET, WHOLE, Grant, Reservation
 from random_programs import NUM, Writer, candidate, catalog, mutated, near_limit, owner, program_of, scratched, spaced
 from reference import KNOWN_PROGRAMS, LINE_LIMIT
 from tables import signature
@@ -80,7 +81,7 @@ def house_at_random(rng):
 
 def reservation_at_random(rng, book, parts=(2, 10, 50)):
     """It takes the rise of the cost, and is over the budget, perhaps; its epsilon is at most one of so many parts of the budget."""
-    partitions, budget, r = book.entry["partitions"], book.entry["budget"], Fraction(rng.randint(0, 9), rng.choice([1, 1, 2, 3]))
+    partitions, budget, r = book.entry["partitions"], book.budget, Fraction(rng.randint(0, 9), rng.choice([1, 1, 2, 3]))
     view = WHOLE
     if partitions and rng.random() < 0.5:
         partition = rng.randrange(len(partitions))
@@ -91,8 +92,30 @@ def reservation_at_random(rng, book, parts=(2, 10, 50)):
     return made
 
 
+def grant_at_random(rng, book):
+    """It may follow, but where the budget can't grow any more."""
+    most = max(1, MOST_BUDGET - book.budget)
+    return Grant(len(book.grants), min(most, rng.choice([1, 1, 10**6, book.entry["budget"], rng.randint(1, most), most if rng.random() < 0.05 else 7])))
+
+
+# Words that are no amount.
+NO_AMOUNTS = "0 00 1000000000000000001 18446744073709551615 18446744073709551616 99999999999999999999 -1 1.0 1.5 1e6 0x10 x 1_000 1,000 +-1 -".split()
+NO_AMOUNTS += ["", " 1", "1 ", "\uff11"]
+
+
+def amount_at_random(rng, book):
+    """The amount of a grant as it is written: mostly one that raises the budget by a good part, now and then one that is too much, or no amount."""
+    if rng.random() < 0.12:
+        return rng.choice(NO_AMOUNTS)
+    most = MOST_BUDGET - book.budget
+    edges = [most + rng.choice([0, 1, 1]), MOST_BUDGET, rng.randint(most + 1, MOST_BUDGET)]
+    amount = rng.choice(edges) if rng.random() < 0.15 else rng.choice([1, 10**6, book.entry["budget"], book.spent, rng.randint(1, 2 * book.entry["budget"])])
+    amount = max(1, min(MOST_BUDGET, amount))
+    return rng.choice(["", "", "", "", "", "0", "000"]) + str(amount)
+
+
 def lay_records(rng, book):
-    """Reservations and settlements in any order that is allowed, some never settled; of a large journal often as many as fill an area, or nearly."""
+    """Reservations, settlements and grants in any order that is allowed, some never settled; of a large journal often as many as fill an area, or nearly."""
     many, capacity = rng.choice([4, 20, 200]), book.entry["capacity"]
     fills = capacity > 64 and rng.random() < 0.7
     many = min(capacity, rng.choice([60, 62, 63, 64, 124, 126, 128])) if fills else rng.randint(1, min(capacity, many))
@@ -102,6 +125,8 @@ def lay_records(rng, book):
             outcome = rng.choice([1, 1, 2, 3])
             answer = rng.choice([0, 7, -1, 2**63 - 1, -(2**63), rng.randint(-(2**50), 2**50)])
             book.add(book.settlement(rng.choice(unsettled), outcome, answer if outcome == 1 else 0))
+        elif len(book.records) < many and rng.random() < 0.1:
+            book.add(grant_at_random(rng, book))
         elif len(book.records) < many:
             book.add(reservation_at_random(rng, book, [1000] if fills else [2, 10, 50]))
         if len(book.records) == many:

@@ -19,6 +19,7 @@ import time
 from statistics import median
 
 os.environ.setdefault("PROGRAM", f"{os.path.dirname(os.path.dirname(os.path.abspath(__file__)))}/crates/hitchseason/out/hitchseason")
+from beginning import numbers  # noqa: E402
 from served import MEMORY, PROGRAM, TOP, Room, Service, Wrong, free_ports, is_listened_at  # noqa: E402
 
 LONG = "sum[0,100] (map (fn (p : text * num) => let (t, age) = p in age + 1) (filter (fn (p : text * num) => let (t, age) = p in age <= 50) people))"
@@ -100,13 +101,10 @@ def many_workers(loop, rounds, asks):
 
 
 def main():
-    if sys.argv[1:] == ["--help"]:
-        print(__doc__.strip())
-        return
+    rounds, asks = numbers(__doc__, 9, 4000)
     if not os.access(PROGRAM, os.X_OK) or not os.access(MEMORY, os.W_OK):
         print(f"there is no {PROGRAM}, which `rt run` in crates/hitchseason proves and builds, or no {MEMORY}", file=sys.stderr)
         sys.exit(2)
-    rounds, asks = (int(word) for word in (sys.argv[1:] + ["9", "4000"][len(sys.argv) - 1 :]))
     print(f"{os.cpu_count()} processors, load {os.getloadavg()[0]:.1f}, {rounds} rounds")
     with tempfile.TemporaryDirectory() as folder:
         loop = Loop(folder)

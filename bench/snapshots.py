@@ -23,6 +23,7 @@ import tempfile
 import threading
 import time
 
+from beginning import numbers
 from served import TOP, Caller, Room, Service, Wrong, contents, need_program, place
 from journal import HEAD, SLOT, Book, Refused, book_of, check_header, live_area, remade, slots
 
@@ -86,7 +87,7 @@ def judge_watch(room, copy, books):
     text, lines = watched(room, copy), watched(room, copy, "--prometheus").splitlines()
     for book in books:
         name, unsettled = book.entry["name"], len(book.reserved) - len(book.settled)
-        wanted = {"spent_millionths": book.spent, "budget_millionths": book.entry["budget"], "records": len(book.records), "open": unsettled, "lost": 0}
+        wanted = {"spent_millionths": book.spent, "budget_millionths": book.budget, "records": len(book.records), "open": unsettled, "lost": 0}
         for what, value in wanted.items():
             if told[name][what] != value or f'hitchseason_{what}{{owner="{name}"}} {value}' not in lines:
                 raise Wrong(f"tools/watch: {what} of {name} isn't {value}")
@@ -205,11 +206,8 @@ def other_files():
 
 
 def main():
-    if sys.argv[1:] == ["--help"]:
-        print(__doc__.strip())
-        return
+    count, seed = numbers(__doc__, 50, 1)
     need_program()
-    count, seed = (int(word) for word in (sys.argv[1:] + ["50", "1"][len(sys.argv) - 1 :]))
     try:
         other_files()
         beside_a_service(random.Random(f"snapshots {seed}"), count)

@@ -1,5 +1,5 @@
 #!/usr/bin/env python3
-"""Two processes on one folder at once, in all pairs of the commands init, run and audit, and each of these, and a second `serve`, beside a `serve`.
+"""Two processes on one folder at once, in all pairs of the commands init, run, audit and grant, and each of these, and a second `serve`, beside a `serve`.
 
 usage: bench/two_processes.py [COUNT [SEED]]     (PROGRAM=FILE tries another build than tools/build's); 20 times each pair, unless said.
 A journal is one process's at a time. Whatever the other one does:
@@ -7,7 +7,7 @@ A journal is one process's at a time. Whatever the other one does:
 - a process ends with 0; or with 6 and the line `disk OWNER` where the other one has the journal; or with 4 where an `init` was too early or too late;
 - one of the two ends with 0, save where a journal was just being made;
 - no number is told twice, each answer that was told is settled with its value (by a second reader, tools/journal.py), and what is spent is
-  the sum of what the answers say that they took;
+  the sum of what the answers say that they took; each grant of 1 that was told made a budget of its own, and the budget is the greatest of them;
 - beside a `serve` that listens every other one ends with 6, the connection's asks are answered, and at its end, or behind a kill, the folder is free;
 - `audit` then counts what is there, in the very words: a process that has ended, or was killed, has left no lock.
 
@@ -33,9 +33,9 @@ from catalog import catalog, owner, read  # noqa: E402
 from journal import Refused, book_of, contents, header  # noqa: E402
 from served import free_ports, is_listened_at  # noqa: E402
 
-COMMANDS = ("init", "run", "audit")
+COMMANDS = ("init", "run", "audit", "grant")
 ASKS = 40
-BUDGET = 10**18
+BUDGET = 10**17
 
 
 class Wrong(Exception):
@@ -49,10 +49,10 @@ def check(holds, what):
 
 class Trial:
     def __init__(self, folder, count, rng):
-        self.rng, self.came, self.told, self.taken = rng, Counter(), {}, 0
+        self.rng, self.came, self.told, self.granted = rng, Counter(), {}, []
         os.chdir(folder)
         tables = (("people", "people.csv", (("age", "num"),)),)
-        made = catalog(owner(tables=tables, budget=BUDGET, capacity=2 * ASKS * (5 * count + 2)))
+        made = catalog(owner(tables=tables, budget=BUDGET, capacity=2 * ASKS * (5 * count + 2) + 9 * count))
         script = b"hello ann\n" + b"ask census 1 size people\n" * ASKS
         for name, data in (("cat.json", made), ("key", rng.randbytes(32)), ("people.csv", b"age\n20\n30\n40\n"), ("script", script)):
             with open(name, "wb") as file:
@@ -61,7 +61,7 @@ class Trial:
 
     def begin(self, command):
         script = open("script") if command == "run" else subprocess.DEVNULL
-        more = ["--port", str(free_ports(1)), "--each", "1"] if command == "serve" else []
+        more = ["--port", str(free_ports(1)), "--each", "1"] if command == "serve" else ["census", "1"] if command == "grant" else []
         return subprocess.Popen([PROGRAM, command, "cat.json", "key", *more], stdin=script, stdout=subprocess.PIPE, stderr=subprocess.STDOUT, text=True)
 
     def ended(self, command, process):
@@ -77,6 +77,10 @@ class Trial:
             check(status == 0, f"{command} ended with {status} and said {said[:200]}")
         if command == "run" and status == 0:
             self.keep(said)
+        if command == "grant" and status == 0:
+            words = said.split()
+            check(words[:2] == ["granted", "census"] and len(words) == 4, f"grant said {said[:200]}")
+            self.granted.append(int(words[2]))
         return {0: "done", 4: "too early or too late", 6: "refused"}[status]
 
     def keep(self, said):
@@ -93,6 +97,7 @@ class Trial:
             settled = book.settled.get(int(number))
             check(settled is not None and (settled.outcome, settled.answer) == (1, value), f"number {number} isn't settled with {value}")
             check(book.reserved[int(number)].taken == taken, f"number {number} hasn't taken {taken}")
+        check(sorted(self.granted) == list(range(BUDGET + 1, book.budget + 1)), f"the budget is {book.budget}, and {self.granted} were told")
         if not killed:
             check(book.spent == sum(taken for _, taken in self.told.values()), f"{book.spent} is spent, and what was told has taken another sum")
         said = self.begin("audit").communicate()[0]
@@ -100,7 +105,7 @@ class Trial:
 
     def afresh(self):
         shutil.rmtree("journals", ignore_errors=True)
-        self.told = {}
+        self.told, self.granted = {}, []
 
     def pair(self, one, other):
         first = self.begin(one)

@@ -5,7 +5,7 @@ usage: bench/why.py [--quick]    (PROGRAM=FILE tries another build than tools/bu
 Each case is a folder that is made ready twice: in the one the program runs by itself, in the other by tools/why. Output and status must be
 the same, and standard error must have the words that are wanted, and none that aren't. Of journals that are damaged at random the line that is
 found must be the program's, and damage must have a sentence. As root it also tries what a user without rights meets, a full disk and a read-only one.
-It ends with status 1 where one differs, or where a status from 2 to 8 never came.
+It ends with status 1 where one differs, or where a status from 0 to 10 never came.
 """
 import json
 import os
@@ -21,7 +21,7 @@ PROGRAM = os.path.abspath(os.environ.get("PROGRAM", f"{TOP}/out/hitchseason"))
 sys.path.insert(0, f"{TOP}/tools")
 from catalog import catalog, owner  # noqa: E402
 from causes import Command, Journals  # noqa: E402
-from journal import GATE, HEAD, SLOT, VERSIONS, Refused, contents, remade  # noqa: E402
+from journal import GATE, HEAD, SLOT, VERSIONS, Grant, Refused, appended, capacity_in, contents, remade  # noqa: E402
 
 TABLES = (("people", "people.csv", (("town", "text"), ("age", "num"))),)
 SECOND = (("stays", "stays.csv", (("ward", "text"), ("nights", "num"))),)
@@ -37,6 +37,7 @@ FILES = {
 MORE = {"name": "more", "table": "people", "column": "town", "keys": ["A"]}
 RUN, INIT, AUDIT = (f"{command} catalog.json key" for command in ("run", "init", "audit"))
 CHECK = "check catalog.json census program"
+GRANT, MOST = "grant catalog.json key census", 10**18
 
 
 def write(name, data):
@@ -60,6 +61,14 @@ def copy_slot(source, target):
     with open("journals/0.bud", "rb") as file:
         file.seek(HEAD + SLOT * source)
         put_in_slot(target, 0, file.read(SLOT))
+
+
+def given(*grants, number=0):
+    """Grants behind a journal's records, each a number and an amount."""
+    def lay():
+        data = contents(f"journals/{number}.bud")
+        write(f"journals/{number}.bud", appended(data, capacity_in(data), [Grant(*one) for one in grants]))
+    return lay
 
 
 def older(number=0):
@@ -123,6 +132,28 @@ def nothing():
     pass
 
 
+GRANTS = [
+    (nothing, GRANT, "", 2, ["`grant` takes 4 words, CATALOG KEY OWNER AMOUNT, and 3 stand there", "hitchseason grant CATALOG KEY OWNER AMOUNT"]),
+    (nothing, f"{GRANT} 0", "", 2, [f"`0`: AMOUNT is a whole number of millionths from 1 to {MOST}, such as 500000"]),
+    (nothing, f"{GRANT} {MOST + 1}", "", 2, [f"`{MOST + 1}`: AMOUNT is a whole number"]),
+    (nothing, f"{GRANT} 1.5", "", 2, ["`1.5`: AMOUNT is a whole number"]),
+    (nothing, f"{GRANT} -1", "", 2, ["`-1` begins with a hyphen and is taken for an option, which `grant` hasn't", "!a file of this name"]),
+    (nothing, "grant catalog.json key labour 5", "", 3, ["refused labour: the catalog has no owner of this name; it has census, health"]),
+    (lambda: os.remove("people.csv"), f"{GRANT} 5", "", 3, ["refused people.csv: there is no such file"]),
+    (lambda: os.remove("stays.csv"), f"{GRANT} 5", "", 0, []),
+    (lambda: os.remove("journals/0.bud"), f"{GRANT} 5", "", 4, ["journal census uninitialised 0", "There is no journals/0.bud"]),
+    (lambda: os.remove("journals/1.bud"), f"{GRANT} 5", "", 0, []),
+    (lambda: write("key", bytes([1] * 32)), f"{GRANT} 5", "", 4, ["journal census changed"]),
+    (given((1, 7)), f"{GRANT} 5", "", 4, ["journal census damaged 4", "it is grant number 1, and 0 is the next one"]),
+    (nothing, f"{GRANT} 500000", "> /dev/full", 5, ["Standard output is /dev/full", "the record of grant 0, of 500000 millionths: it stands"]),
+    (nothing, "grant . key census 5", "", 5, ["Is a directory", "nothing was granted"]),
+    (made_file, f"{GRANT} 5", "", 6, ["disk census", "`journals` is a file, where a folder belongs", "nothing was granted"]),
+    (nothing, f"{GRANT} {MOST}", "", 9, [f"The budget of census is 10000000 millionths, and {MOST} is the greatest: at most {MOST - 10**7} more may be"]),
+    (given((0, MOST - 10**7)), f"{GRANT} 1", "", 9, [f"The budget of census is {MOST} millionths", "nothing more may be granted"]),
+    (given(*((number, 1) for number in range(10)), number=1), "grant catalog.json key health 1", "", 10,
+     ["The journal of health has 10 records, and room for 10"]),
+    (given((0, 7)), f"{GRANT} 500000", "", 0, []),
+]  # fmt: skip
 # What is done to a folder with journals that have an answered ask, the program's words, the shell's words behind them, the status, and words
 # that are said. A word with ! in front of it must not be said. Cases behind "more" are left out of the quick form.
 MADE = [
@@ -222,7 +253,13 @@ MADE = [
     (lambda: put_in_slot(0, 0, b"\x25"), AUDIT, "", 4, ["slot 1 (from 0): it is open behind slot 0, which is closed: its first byte is 0x25", "the rest of "
         "it is a whole record"]),
     (lambda: copy_slot(1, 9), AUDIT, "", 4, ["slot 9 (from 0): it is open behind slot 4, which is closed", "all of it is zeros"]),
-    (lambda: put_in_slot(1, 1, b"\3"), AUDIT, "", 4, ["slot 1 (from 0): it is open, and holds no record: its kind (byte 1) is 3"]),
+    (lambda: put_in_slot(1, 1, b"\4"), AUDIT, "", 4, ["slot 1 (from 0): it is open, and holds no record: its kind (byte 1) is 4"]),
+    (lambda: put_in_slot(1, 1, b"\3"), AUDIT, "", 4, ["slot 1 (from 0): it is open, and holds no record: bytes 2 and 3 of a grant are 1 and 0, where zeros"]),
+    (given((0, 0)), AUDIT, "", 4, [f"slot 4 (from 0): its record may not stand there: its grant is of 0 millionths, and 1 to {MOST} are allowed"]),
+    (both(given((0, 7)), lambda: put_in_slot(4, 16, b"\1")), AUDIT, "", 4, ["a grant has other bytes behind its amount, where zeros belong"]),
+    (given((0, 7), (2, 7)), AUDIT, "", 4, ["slot 5 (from 0): its record may not stand there: it is grant number 2, and 1 is the next one"]),
+    (both(older, given((0, MOST))), AUDIT, "", 4, [f"with its grant of {MOST} the budget is {MOST + 10**7}, and {MOST} at most"]),
+    (given((0, 7)), INIT, "", 4, ["journal census exists 4224", "census reservations 2 answered 2 exhausted 0 lost 0", "budget 10000007"]),
     (lambda: put_in_slot(1, 2, b"\4"), AUDIT, "", 4, ["the outcome of a settlement (byte 2) is 4"]),
     (lambda: put_in_slot(1, 63, b"\4"), AUDIT, "", 4, ["a settlement has other bytes than its own, where zeros belong"]),
     (lambda: put_in_slot(0, 2, b"\x09"), AUDIT, "", 4, ["a reservation's partition and part (bytes 2 and 3) are 9 and 0"]),
@@ -253,6 +290,7 @@ MADE = [
     (made_file, INIT, "", 6, ["disk census", "`journals` is a file, where a folder belongs"]),
     (lambda: write("long", b"\n" * 2**24), RUN, "< long", 7, ["Its memory is limited to 140000 KiB", "nothing was asked"]),
     (lambda: os.system("truncate -s 16777217 long"), RUN, "< long", 8, ["It has 16777217 bytes, and 16777216 are allowed", "nothing was asked"]),
+    *GRANTS,
     (nothing, RUN, "< script", 0, []),
     (nothing, CHECK, "", 0, []),
     (nothing, "gen 0 2 2", "", 0, []),
@@ -362,6 +400,7 @@ class Trial:
         asks = "".join(f"ask{part} 0.1 {program}\n" for program in ("size people", "2 * size people") for part in (" census", "part census areas A", "part "
             "census areas B"))
         subprocess.run([PROGRAM, *RUN.split()], input=f"hello ann\n{asks}hello bob\n{asks}".encode(), cwd=folder, capture_output=True, check=True)
+        given((0, 7), (1, 10**6))()
         whole = [remade(contents("journals/0.bud"), version) for version in VERSIONS]
         kinds = Counter()
         for number in range(count):
@@ -467,7 +506,7 @@ def main():
         trial.at_random(40 if quick else 150)
         os.chdir(TOP)
     print(f"{trial.tried} ends of the program, {trial.differences} differences")
-    lacking = [status for status in range(9) if not trial.came[status]]
+    lacking = [status for status in range(11) if not trial.came[status]]
     if lacking:
         print(f"never met: status {lacking}")
     sys.exit(1 if trial.differences or lacking else 0)

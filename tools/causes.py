@@ -18,16 +18,18 @@ import socket
 import stat
 
 from faults import Fault, Unreadable, bytes_of, catalog_of, check_key, survey_lines, table_of, whoever
-from journal import GATE, HEAD, SLOT, VERSION_AT, Area, Refused, Reservation, begun, book_of, capacity_in, contents, decoded, fields, header, live_area, version_of
+from journal import GATE, HEAD, MOST_BUDGET, SLOT, VERSION_AT, Area, Grant, Refused, Reservation, Settlement, begun, book_of, capacity_in, contents, decoded
+from journal import fields, header, live_area, version_of
 from holders import holders
 from journal_changes import House, changes
+from lines import amount_of
 from meanings import COMMANDS, STATUSES
 
 OWNERS = 16
 SCRIPT_LIMIT = 2**24
 MOST_TOLD = 10
 IN_SERVICE = "Don't run `init`, which would begin the budget anew: go on as with `damaged`, its budget counts as spent."
-SERVICE = ("init", "run", "serve", "audit")
+SERVICE = ("init", "run", "serve", "audit", "grant")
 ONE_PROCESS = (
     "One process at a time works on a folder of journals, and it keeps them until it ends. Nothing was written. To look at journals beside it, copy them "
     "by tools/snapshot."
@@ -117,14 +119,21 @@ def about_numbers(found):
             yield f"`{shown(word)}`: {name} is a whole number from {least} to {most}."
 
 
+def about_amount(found):
+    """Of `grant`: whether AMOUNT is one."""
+    for word in found.words[3:4]:
+        if amount_of(word) is None:
+            yield f"`{shown(word)}`: AMOUNT is a whole number of millionths from 1 to {MOST_BUDGET}, such as 500000 for half an epsilon."
+
+
 def about_rest(found):
     wanted, most = found.wanted(), len(COMMANDS[found.name].split()) if found.name == "gen" else 0
     if not len(wanted) <= len(found.words) <= max(len(wanted), most):
         given = f"{len(found.words)} stand there" if found.words else "none stands there"
         takes = f"{len(wanted)} or {most} words, {COMMANDS[found.name]}" if most else f"{len(wanted)} words, {' '.join(wanted)}"
         yield f"`{found.name}` takes {takes}, and {given}."
-    if found.name == "gen":
-        yield from about_numbers(found)
+    if found.name in ("gen", "grant"):
+        yield from about_numbers(found) if found.name == "gen" else about_amount(found)
     for option in ("--port", "--each") if found.name == "serve" else ():
         if found.option(option) is None:
             yield f"`{option}` is missing: `serve` wants it."
@@ -133,7 +142,7 @@ def about_rest(found):
         if found.name in commands:
             yield f"`{shown(option)}`: `{option.replace('=', ' ', 1).split(' ')[0]}` stands once, and takes {takes}."
         else:
-            file = "" if found.name == "gen" else f": a file of this name is written `./{shown(option)}`"
+            file = "" if found.name == "gen" or re.fullmatch("-[0-9.]+", option) else f": a file of this name is written `./{shown(option)}`"
             yield f"`{shown(option)}` begins with a hyphen and is taken for an option, which `{found.name}` hasn't{file}."
 
 
@@ -183,7 +192,8 @@ class Files:
         return self.one(table["file"], call)
 
     def tables(self):
-        return [self.table(owner, table) for catalog in self.catalogs for owner in catalog["owners"] for table in owner["tables"]]
+        owners = [catalog["owners"][number] for catalog in self.catalogs for number in numbers_of(self.command, catalog["owners"])]
+        return [self.table(owner, table) for owner in owners for table in owner["tables"]]
 
     def owner(self, catalog, name):
         for one in catalog["owners"]:
@@ -205,6 +215,8 @@ class Files:
         yield self.catalog(words[0])
         if not self.catalogs:
             return
+        if name == "grant":
+            yield self.one(words[2], lambda: self.owner(self.catalogs[0], words[2]) and None)
         if name in SERVICE:
             yield self.one(words[1], lambda: check_key(plain(words[1])))
             yield from self.tables()
@@ -217,6 +229,11 @@ class Files:
             yield self.one(words[1], lambda: self.fitting(words[1]))
         yield from self.tables()
         yield self.one(words[-1], lambda: bytes_of(plain(words[-1])) and None)
+
+
+def numbers_of(command, entries):
+    """The numbers of the owners whose tables and journals a command opens: of a grant its own owner's alone."""
+    return [number for number, entry in enumerate(entries) if command.name != "grant" or entry["name"] in command.words[2:3]]
 
 
 class BadTable(Fault):
@@ -281,7 +298,7 @@ class Before:
     """The length of each journal, and how many of its first slots are open, as they are now."""
 
     def __init__(self, command):
-        self.found = {number: seen(number) for number in range(OWNERS)} if command in ("init", "run", "serve") else {}
+        self.found = {number: seen(number) for number in range(OWNERS)} if command in ("init", "run", "serve", "grant") else {}
 
     def length(self, number):
         return self.found.get(number, (0, 0))[0]
@@ -315,7 +332,8 @@ def length_due(data, capacity):
 
 
 class Journals:
-    """The owners' journals as they are now: of each its bytes, or nothing where it isn't there, and its book or why it has none."""
+    """The owners' journals as they are now: of each its bytes, or nothing where it isn't there, and its book or why it has none. A grant reads no table of
+    another owner, so one may not be there."""
 
     def __init__(self, command):
         self.house = House(*command.words[:2])
@@ -336,6 +354,8 @@ class Journals:
             return book_of(kept, self.head(number), entry, len(self.house.catalog["analysts"]))
         except Refused as refusal:
             return refusal
+        except OSError as fault:
+            return Refused(f"{fault.filename} can't be read")
 
     def opened(self):
         return [number for number, book in enumerate(self.books) if not isinstance(book, Refused)]
@@ -405,11 +425,12 @@ def about_journals(command, before):
     if command.name == "init":
         yield from about_existing(found, before)
         return
-    for number, book in enumerate(found.books):
+    for number in numbers_of(command, found.entries):
+        book = found.books[number]
         if isinstance(book, Refused):
             yield f"journal {found.entries[number]['name']} {book}"
             yield from found.about(number)
-            yield from about_others(found, number)
+            yield from about_others(found, number) if command.name != "grant" else ()
             return
     yield NOTHING_FOUND
 
@@ -488,8 +509,8 @@ def about_disk(command, before):
     except Fault as fault:
         yield f"The catalog can't be read now: {fault}."
         return
-    for number, entry in enumerate(entries):
-        fault = opening_fault(number)
+    for number in numbers_of(command, entries):
+        entry, fault = entries[number], opening_fault(number)
         if fault:
             yield f"disk {entry['name']}"
             yield about_error(fault, path_of(number))
@@ -553,7 +574,7 @@ def about_asked(command, before):
         if number in more:
             records = [decoded(slot) for slot in open_slots(data)]
             asked = [record.number for record in records[before.slots(number) :] if isinstance(record, Reservation)]
-            settled = {record.number for record in records if record and not isinstance(record, Reservation)}
+            settled = {record.number for record in records if isinstance(record, Settlement)}
             lost = [str(one) for one in asked if one not in settled]
             told = f", numbers {asked[0]} to {asked[-1]}" if asked else ""
             yield (
@@ -562,6 +583,40 @@ def about_asked(command, before):
             )
     if command.name == "run":
         yield "Don't run the script again, which would ask and pay once more; see 'After a stop' in docs/operators-guide.md."
+
+
+# Grants.
+
+
+def about_grant(command, before):
+    """Whether a grant that ended early stands, by what stood in its journal before it."""
+    for number, data in journals_now():
+        records = [decoded(slot) for slot in open_slots(data)[before.slots(number) :]]
+        for one in records:
+            if isinstance(one, Grant):
+                yield f"{path_of(number)} has the record of grant {one.number}, of {one.amount} millionths: it stands. Don't grant it again."
+                return
+    yield "No journal has a grant more than before: nothing was granted."
+
+
+def about_limit(command, status):
+    """Of statuses 9 and 10: the budget, or the room, by the journal as it is now."""
+    found, why = journals_of(command)
+    if why:
+        yield why
+        return
+    for number in numbers_of(command, found.entries):
+        book, entry = found.books[number], found.entries[number]
+        if isinstance(book, Refused):
+            yield NOTHING_FOUND
+        elif status == 9:
+            more = f"at most {MOST_BUDGET - book.budget} more may be granted" if book.budget < MOST_BUDGET else "nothing more may be granted"
+            yield f"The budget of {entry['name']} is {book.budget} millionths, and {MOST_BUDGET} is the greatest: {more}."
+        else:
+            yield (
+                f"The journal of {entry['name']} has {len(book.records)} records, and room for {entry['capacity']}, which is fixed at init: no grant and no "
+                f"ask has room any more. `left` and `recall` are answered still."
+            )
 
 
 def names_of_owners(command):
@@ -669,7 +724,7 @@ def about_length(script):
 
 
 def causes(status, words, before, script, told=lambda rows: None):
-    """Sentences about a command that ended with a status from 2 to 8."""
+    """Sentences about a command that ended with a status from 2 to 10."""
     command = Command(words)
     yield f"status {status}: {STATUSES[status]}."
     if status == 2:
@@ -684,8 +739,12 @@ def causes(status, words, before, script, told=lambda rows: None):
         yield from about_disk(command, before)
     elif status == 7:
         yield from about_memory()
-    else:
+    elif status == 8:
         yield from about_length(script)
+    else:
+        yield from about_limit(command, status)
+    if command.name == "grant" and status in (5, 6, 7):
+        yield from about_grant(command, before)
     if command.name in ("run", "serve") and status in (5, 7, 8):
         yield from about_asked(command, before)
 
@@ -697,5 +756,7 @@ def killed(signal_name, words, before):
         yield f"{signal_name} ended it: what was being answered is `lost`, if it was reserved; it is charged, and `recall` tells so."
     else:
         yield f"{signal_name} ended it: it has written nothing, or a part of what was due."
+    if command.name == "grant":
+        yield from about_grant(command, before)
     if command.name in ("run", "serve"):
         yield from about_asked(command, before)

@@ -3,14 +3,14 @@
 
     journal.py CATALOG KEY [FOLDER]     each owner's journal in FOLDER/journals (in ./journals), or N.bud in FOLDER itself, as in a copy of
                                         tools/snapshot: its records, and the line of an audit. A reservation's charge is r times e, rounded up;
-                                        taken is by how much the owner's spent grew
+                                        taken is by how much the owner's spent grew. A grant's budget is the owner's with it
     journal.py --areas CATALOG KEY [FOLDER]  each journal's version, its areas and which of them is live, or in words why it is refused
     journal.py --compare COPY CATALOG KEY   whether each journal in ./journals begins with the records of its copy in the folder COPY: records
                                         are only ever added, so any other change was made by somebody, or by the disk. It ends with status 1
                                         where one is changed or gone
     journal.py --audits FILE            whether a figure ever fell in FILE, in which audits were kept one behind the other, as it does where an
-                                        old journal is put back; only what is spent may fall, where there are more exhausted numbers. It
-                                        ends with status 1 where one did
+                                        old journal is put back; only what is spent may fall, where there are more exhausted numbers. A budget
+                                        is raised by grants, and never falls. It ends with status 1 where one did
     journal.py --check                  the values that are known from outside
 
 It shares nothing with the server but the rules (docs/journal-format.md). A journal is the file N.bud of owner N: a header of 128 bytes
@@ -27,6 +27,7 @@ import signal
 import sys
 from math import gcd
 
+from audits import check_audits, fallen
 from catalog import BadCatalog, census, json_value, read
 
 GATE = 0xA5
@@ -36,6 +37,7 @@ VERSIONS = (1, 2, 3)
 FIRST_SLOTS = 64
 WHOLE = (255, 0)
 OUTCOMES = {1: "answered", 2: "exhausted", 3: "lost"}
+MOST_BUDGET = 10**18
 MOST_TOLD = 10
 
 
@@ -86,6 +88,19 @@ class Settlement:
         return f"settlement {self.number} {self.standing()}{back}"
 
 
+class Grant:
+    """It raises the owner's budget by an amount of millionths. Its number is how many grants are before it."""
+
+    def __init__(self, number, amount):
+        self.number, self.amount = number, amount
+
+    def encoded(self):
+        return bytes([GATE, 3, 0, 0]) + self.number.to_bytes(4, "big") + self.amount.to_bytes(8, "big") + bytes(48)
+
+    def said(self, entry, analysts):
+        return f"grant {self.number} amount {self.amount}"
+
+
 def decoded(slot):
     """The record that an open slot holds, or None: the bytes are read, and must be those that the record is written as."""
     kind, number = slot[1], int.from_bytes(slot[4:8], "big")
@@ -100,6 +115,8 @@ def decoded(slot):
         found = Settlement(number, slot[2], int.from_bytes(slot[8:16], "big", signed=True), int.from_bytes(slot[16:24], "big"))
         if (found.outcome != 1 and found.answer != 0) or (found.outcome != 2 and found.returned != 0):
             return None
+    elif kind == 3:
+        found = Grant(number, int.from_bytes(slot[8:16], "big"))
     else:
         return None
     return found if found.encoded() == slot else None
@@ -108,8 +125,10 @@ def decoded(slot):
 def no_record(slot):
     """Why an open slot holds no record: what is wrong with its bytes, in words; nothing where it holds one."""
     numbers = {name: int.from_bytes(slot[a:b], "big") for name, a, b in NUMBERS}
-    if slot[1] not in (1, 2):
-        return [f"its kind (byte 1) is {slot[1]}, and a record is 1, a reservation, or 2, a settlement"]
+    if slot[1] not in (1, 2, 3):
+        return [f"its kind (byte 1) is {slot[1]}, and a record is 1, a reservation, 2, a settlement, or 3, a grant"]
+    if slot[1] == 3:
+        return no_grant(slot)
     if slot[1] == 2:
         tail = slot[16:] if slot[2] == 1 else slot[8:16] + slot[24:] if slot[2] == 2 else slot[8:]
         wrong = {
@@ -124,6 +143,15 @@ def no_record(slot):
         f"a reservation's epsilon is {numbers['e']} millionths, and 1 to 1000000000 are allowed": not 1 <= numbers["e"] <= 10**9,
         f"a reservation's sensitivity is {numbers['p']}/{numbers['q']}, no fraction in lowest terms": gcd(numbers["p"], numbers["q"]) != 1 or numbers["q"] == 0,
         "bytes 30 and 31 of a reservation aren't zeros": numbers["end"] != 0,
+    }
+    return [said for said, holds in wrong.items() if holds]
+
+
+def no_grant(slot):
+    """The same of a slot whose kind is a grant's."""
+    wrong = {
+        f"bytes 2 and 3 of a grant are {slot[2]} and {slot[3]}, where zeros belong": any(slot[2:4]),
+        "a grant has other bytes behind its amount, where zeros belong": any(slot[16:]),
     }
     return [said for said, holds in wrong.items() if holds]
 
@@ -326,6 +354,7 @@ class Book:
     def __init__(self, entry, analysts, version=VERSIONS[-1]):
         self.entry, self.analysts, self.version, self.records = entry, analysts, version, []
         self.sums, self.dearest, self.spent, self.reserved, self.settled = {}, {}, 0, [], {}
+        self.budget, self.grants = entry["budget"], []
 
     def sum_with(self, one):
         return self.sums.get(one.view, 0) + one.charge()
@@ -361,6 +390,8 @@ class Book:
                 return f"it settles number {one.number}, which is settled already"
             back = self.settlement(one.number, one.outcome).returned
             return f"its settlement gives back {one.returned}, and the cost falls by {back}" if one.returned != back else None
+        if isinstance(one, Grant):
+            return self.why_no_grant(one)
         after = self.spent_with(one)
         if one.number != len(self.reserved):
             return f"it reserves number {one.number}, and {len(self.reserved)} is the next one"
@@ -370,7 +401,15 @@ class Book:
             return f"it is a reservation of partition {one.view[0]}, part {one.view[1]} (from 0), which the owner hasn't"
         if one.taken != after - self.spent:
             return f"its reservation says that it took {one.taken}, and by the records before it took {after - self.spent}"
-        return f"with its reservation {after} are spent of {self.entry['budget']}" if after > self.entry["budget"] else None
+        return f"with its reservation {after} are spent of {self.budget}" if after > self.budget else None
+
+    def why_no_grant(self, one):
+        if one.number != len(self.grants):
+            return f"it is grant number {one.number}, and {len(self.grants)} is the next one"
+        if not 1 <= one.amount <= MOST_BUDGET:
+            return f"its grant is of {one.amount} millionths, and 1 to {MOST_BUDGET} are allowed"
+        after = self.budget + one.amount
+        return f"with its grant of {one.amount} the budget is {after}, and {MOST_BUDGET} at most" if after > MOST_BUDGET else None
 
     def add(self, one):
         """Adds a record, or says that it may not follow."""
@@ -385,6 +424,9 @@ class Book:
             self.settled[one.number], self.sums = one, self.sums_with(one)
             if one.returned:
                 self.spent, self.dearest = self.spent - one.returned, dearest(self.sums)
+        elif isinstance(one, Grant):
+            self.budget += one.amount
+            self.grants.append(one)
         else:
             self.spent, self.sums[one.view] = self.spent_with(one), self.sum_with(one)
             self.dearest[one.view[0]] = max(self.dearest.get(one.view[0], 0), self.sums[one.view])
@@ -398,8 +440,15 @@ class Book:
         lost = len(self.reserved) - answered - exhausted
         return (
             f"{self.entry['name']} reservations {len(self.reserved)} answered {answered} exhausted {exhausted} lost {lost} "
-            f"spent {self.spent} budget {self.entry['budget']}"
+            f"spent {self.spent} budget {self.budget}"
         )
+
+    def said(self, analysts):
+        """Each record in words, behind a grant the budget with it."""
+        budget = self.entry["budget"]
+        for one in self.records:
+            budget += one.amount if isinstance(one, Grant) else 0
+            yield one.said(self.entry, analysts) + (f" budget {budget}" if isinstance(one, Grant) else "")
 
 
 def book_of(data, head, entry, analysts):
@@ -512,28 +561,6 @@ def about_changed(copy, now, counts, changed, said):
         yield f"and {len(changed) - MOST_TOLD} more, up to slot {changed[-1]}"
 
 
-# Audits that were kept.
-
-FIGURES = ("reservations", "answered", "exhausted", "lost", "spent")
-AUDIT = re.compile(r"(\w+) " + " ".join(f"{name} ([0-9]+)" for name in FIGURES) + " budget [0-9]+")
-
-
-def fallen(lines):
-    """A sentence for each figure of an owner that is less than in the audit before. What is spent may fall where there are more exhausted
-    numbers, and no other figure does."""
-    last = {}
-    for number, line in enumerate(lines, 1):
-        found = AUDIT.fullmatch(line.strip())
-        if not found:
-            continue
-        figures = dict(zip(FIGURES, map(int, found.groups()[1:])))
-        for name, before in last.get(found[1], {}).items():
-            back = name == "spent" and figures["exhausted"] > last[found[1]]["exhausted"]
-            if figures[name] < before and not back:
-                yield f"line {number}: {found[1]} {name} fell from {before} to {figures[name]}: an old journal was put back, or somebody has changed it"
-        last[found[1]] = figures
-
-
 # Known values.
 
 ONE = hashlib.sha256(b"size people").digest()
@@ -545,9 +572,10 @@ def check():
     assert reservation.encoded().hex().startswith("a501ff0000000000000f4240000000010000000100000000000f424000000000")
     assert settlement.encoded().hex() == "a5020100000000000000000000000005" + "00" * 48
     assert len(reservation.encoded()) == len(settlement.encoded()) == SLOT
-    for record in (reservation, settlement, Settlement(7, 1, -(2**50)), Settlement(2**32 - 1, 3), Settlement(5, 2, 0, 7), Reservation(9, (7, 249), 10**9, 0, 1, 0, 63, ONE)):
+    settled = (settlement, Settlement(7, 1, -(2**50)), Settlement(2**32 - 1, 3), Settlement(5, 2, 0, 7))
+    for record in (reservation, Reservation(9, (7, 249), 10**9, 0, 1, 0, 63, ONE), *settled, Grant(0, 1), Grant(2**32 - 1, 10**18)):
         assert decoded(record.encoded()).encoded() == record.encoded()
-    for change in [(1, 3), (2, 8), (3, 1), (19, 0), (15, 2), (30, 1)]:
+    for change in [(1, 3), (1, 4), (2, 8), (3, 1), (19, 0), (15, 2), (30, 1)]:
         slot = bytearray(reservation.encoded())
         slot[change[0]] = change[1]
         if change == (15, 2):
@@ -579,11 +607,8 @@ def check():
         (head + reservation.encoded() + settlement.encoded() * 2 + bytes(64 * 97), "damaged 2"),
     ]
     check_sums(entry)
-    audits = ["census reservations 2 answered 1 exhausted 0 lost 1 spent 9 budget 10", "a day", "health reservations 1 answered 1 exhausted 0 lost 0 spent 3 "
-        "budget 9", "census reservations 2 answered 2 exhausted 0 lost 0 spent 9 budget 10"]  # fmt: skip
-    back = ["a reservations 1 answered 0 exhausted 0 lost 1 spent 5 budget 9", "a reservations 1 answered 0 exhausted 1 lost 0 spent 0 budget 9"]
-    assert len(list(fallen(back))) == 1 and " lost fell" in list(fallen(back))[0]
-    assert [line.split(":")[1] for line in fallen(audits)] == [" census lost fell from 1 to 0"] and not list(fallen(audits[:3] * 2))
+    check_grants(entry, head)
+    check_audits()
     # A copy of a reservation alone, beside what it became, and beside changes of it and of the header.
     copy, grown = head + reservation.encoded() + bytes(64 * 99), head + reservation.encoded() + settlement.encoded() + bytes(64 * 98)
     since = lambda one, other: changes_since(one, other, 100)
@@ -661,6 +686,29 @@ def check_sums(entry):
         assert not book.add(Settlement(0, 2, 0, 1)) and book.add(book.settlement(0, 2)) and book.spent == spent
 
 
+def check_grants(entry, head):
+    """A grant of half of an epsilon, and what may follow it, in each version."""
+    grant, hundred = Grant(0, 500_000), lambda *records: b"".join(one.encoded() for one in records) + bytes(SLOT * (100 - len(records)))
+    assert grant.encoded().hex() == "a50300000000000000000000" "0007a120" + "00" * 48 and len(grant.encoded()) == SLOT
+    for place, byte in ((1, 4), (2, 1), (3, 1), (16, 1), (63, 1)):
+        slot = with_bytes(grant.encoded(), {place: byte})
+        assert decoded(slot) is None and no_record(slot), place
+    for amount in (0, 10**18 + 1, 2**64 - 1):
+        assert decoded(Grant(0, amount).encoded()).amount == amount and "and 1 to 1" in Book(entry, 2).why_not(Grant(0, amount))
+    for version in VERSIONS:
+        book = Book({**entry, "budget": 10**6}, 2, version)
+        more = Reservation(1, WHOLE, 500_000, 1, 1, 500_000, 0, ONE)
+        assert book.add(Reservation(0, WHOLE, 10**6, 1, 1, 10**6, 0, ONE)) and book.add(Settlement(0, 1, 5)) and not book.add(more)
+        assert not book.add(Grant(1, 1)) and not book.add(Grant(0, 10**18 - 10**6 + 1)) and book.add(grant)
+        assert book.add(more) and book.add(Settlement(1, 1, 5)) and not book.add(grant) and book.add(Grant(1, 10**18 - 1_500_000))
+        assert book.counts().endswith("spent 1500000 budget 1000000000000000000") and not book.add(Grant(2, 1))
+        assert [line for line in book.said(["ann"]) if "grant" in line] == ["grant 0 amount 500000 budget 1500000",
+            "grant 1 amount 999999999998500000 budget 1000000000000000000"]  # fmt: skip
+    assert book_of(head + hundred(grant, Grant(1, 1)), head, entry, 2).budget == 10_500_001
+    wrong = [([grant, grant], "damaged 1"), ([Grant(0, 10**18)], "damaged 0"), ([grant, Grant(1, 0)], "damaged 1")]
+    check_refusals([(head + hundred(*records), said) for records, said in wrong], head, entry)
+
+
 def read_audits(name):
     with open(name, encoding="utf-8", errors="replace") as file:
         found = list(fallen(file))
@@ -676,9 +724,7 @@ def show(words):
             print(book)
             refused = True
             continue
-        for record in book.records:
-            print(record.said(book.entry, analysts))
-        print(book.counts())
+        print("\n".join([*book.said(analysts), book.counts()]))
     return not refused
 
 

@@ -1,20 +1,23 @@
 """Lines of scripts by their rules: what one asks, or why it is refused before its program is looked at.
 
     lines_of(SCRIPT)                  the lines of a script's bytes
+    amount_of(WORD)                   the AMOUNT of a `grant`, or None
     Line(BYTES, CATALOG, ANALYST)     a line, by a catalog and whoever has said hello: its `refusal` (`10 2`) or nothing, `why` in words, and of
                                       an ask the `owner`, the `partition` or nothing, `e` in millionths and the `program`
 
 The server is compared with reference.py, which shares the forms of numbers with this file.
 """
 import difflib
+import re
 from fractions import Fraction
 
 LINE_LIMIT = 16_384
 SCRIPT_LIMIT = 2**24
+AMOUNT_LIMIT = 10**18
 FORMS = {
     "hello": "ANALYST", "ask": "OWNER EPS PROGRAM", "askpart": "OWNER PARTITION KEY EPS PROGRAM", "recall": "OWNER N", "left": "OWNER", "bye": "",
 }  # fmt: skip
-COMMANDS = (b"init", b"run", b"serve", b"audit", b"check", b"gap", b"gen")
+COMMANDS = (b"init", b"run", b"serve", b"audit", b"grant", b"check", b"gap", b"gen")
 WORDS = b"size sum fst snd least greatest let if case in then else map filter split union".split()
 
 
@@ -41,6 +44,11 @@ def whole_number(text):
     if not 1 <= len(text) <= 10 or any(b not in b"0123456789" for b in text):
         return None
     return int(text) if int(text) < 2**32 else None
+
+
+def amount_of(word):
+    """A whole number of millionths from 1 to 10^18, as `clap` reads one, or None."""
+    return int(word) if re.fullmatch("[+]?[0-9]+", word) and 1 <= int(word) <= AMOUNT_LIMIT else None
 
 
 def said(data):

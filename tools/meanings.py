@@ -8,8 +8,8 @@ import re
 
 COMMANDS = {
     "init": "CATALOG KEY", "run": "CATALOG KEY [--workers W] < SCRIPT",
-    "serve": "CATALOG KEY [--addr A] --port P [--workers W] --each N", "audit": "CATALOG KEY", "check": "CATALOG OWNER FILE",
-    "gap": "CATALOG OWNER CATALOG2 FILE", "gen": "SEED N [WORKERS]",
+    "serve": "CATALOG KEY [--addr A] --port P [--workers W] --each N", "audit": "CATALOG KEY", "grant": "CATALOG KEY OWNER AMOUNT",
+    "check": "CATALOG OWNER FILE", "gap": "CATALOG OWNER CATALOG2 FILE", "gen": "SEED N [WORKERS]",
 }  # fmt: skip
 STATUSES = {
     0: "all was done; replies of a run may still be refusals, which are the analyst's, but for `no 42` and `no 52`",
@@ -18,9 +18,12 @@ STATUSES = {
     3: "a file that the words or a catalog names is absent, too long or not what it should be, or OWNER isn't in the catalog, or `gap`'s entries don't fit",
     4: "an owner's journal isn't the one that belongs there; nothing was read of the script",
     5: "a file, standard input or standard output failed; what was written is a part of what was due, or nothing; or a port of `serve` couldn't be listened at",
-    6: "the disk, or the folder `journals`, failed while an owner's journal was made or opened, or another process has that journal; nothing was asked",
+    6: "the disk, or the folder `journals`, failed while an owner's journal was made or opened, or another process has that journal; nothing was asked; of "
+        "`grant` also while its record was written, which may be there or not",
     7: "memory ran out before anything was answered; of `serve` and `gen` it may be later",
     8: "the script has over 2^24 bytes, and nothing of it was answered",
+    9: "`grant` would raise the budget over 10^18 millionths; nothing changed",
+    10: "the owner's journal has no room for a grant's record; nothing changed",
 }
 ENDINGS = {
     124: "`timeout` ended it: it has written nothing, or a part of what was due; `audit` shows by its reservations what was asked",
@@ -78,6 +81,9 @@ LINES = {
     "journal W changed": "the entry of {0}, the analysts, the key or a table isn't what it was when the journal was made, or it is another owner's",
     "journal W exists N": "`init` finds a file of {1} bytes in the place of the journal of {0}",
     "disk W": "the disk of the journal of {0}, or the folder `journals`, failed, or another process has the journal",
+    "granted W N N": "the budget of {0} is {1} millionths now; its journal has {2} records",
+    "too large N": "the budget is {0} millionths, and with the grant it would be over 10^18; nothing changed",
+    "full N N": "there is no room for a grant's record: {0} of {1} are taken; nothing changed",
     "bye": "the session ended",
     "hello W": "{0} speaks from here on",
     "answer N V N": "reservation {0} has the noisy value {1}, and took {2} millionths",

@@ -3,6 +3,7 @@
 
     reference.py [--key FILE] [--catalog FILE] < SCRIPT          the transcript of a script
     reference.py --key FILE --catalog FILE --found FOLDER        the same, behind the records of the journals in FOLDER/journals
+    reference.py --key FILE --catalog FILE --found FOLDER --grant AMOUNT OWNER   the line of a grant behind these records, and its status
     reference.py --program [--catalog FILE] [OWNER] < PROGRAM    what is said of a program
     reference.py --gen SEED N                                    the line of `gen SEED N`, whatever the number of its workers
     reference.py --check                                         the values that are known from outside
@@ -30,8 +31,8 @@ from math import ceil
 from cryptography.hazmat.primitives.ciphers import Cipher, algorithms
 
 from catalog import catalog, census, owner, read
-from journal import VERSIONS, WHOLE, Book, Reservation, Settlement, books
-from lines import LINE_LIMIT, SCRIPT_LIMIT, lines_of, millionths, whole_number
+from journal import MOST_BUDGET, VERSIONS, WHOLE, Book, Grant, Reservation, Settlement, books
+from lines import LINE_LIMIT, SCRIPT_LIMIT, amount_of, lines_of, millionths, whole_number
 from programs import Refused
 from runs import Run, asked, chain, judgement, unions, value
 from tables import cells, held, signature
@@ -113,13 +114,13 @@ def cost_of(charges):
 class Owner:
     """An owner's entry, tables and rows, and what was charged and recorded: of each reservation who made it, and what became of it.
 
-    From version 3 of its journal on an exhausted number's charge comes back.
+    From version 3 of its journal on an exhausted number's charge comes back. The budget is the entry's and all grants.
     A view is None for the whole, else a partition's number and a key's. `added` has the records that its journal got in this run, and
     `unsettled` says how many reservations of this run have no settlement yet: none where one line is answered after another."""
 
     def __init__(self, entry, rows):
         self.entry, self.rows, self.tables = entry, rows, signature(entry)
-        self.version, self.charges, self.records, self.start = VERSIONS[-1], {}, 0, 0
+        self.version, self.budget, self.charges, self.records, self.start = VERSIONS[-1], entry["budget"], {}, 0, 0
         self.reservations, self.added, self.unsettled = [], [], 0
 
     def goes_on(self, charges, records, reservations):
@@ -130,7 +131,7 @@ class Owner:
 
     def found(self, book, analysts):
         """From here on a run is answered behind the records of a journal (journal.py)."""
-        self.version = book.version
+        self.version, self.budget = book.version, book.budget
         charges = {None if view == WHOLE else view: amount for view, amount in book.sums.items()}
         standings = [book.settled[number].standing() if number in book.settled else None for number in range(len(book.reserved))]
         self.goes_on(charges, len(book.records), [(analysts[one.analyst], said) for one, said in zip(book.reserved, standings)])
@@ -260,7 +261,7 @@ class Server:
         if fault:
             return fault
         owner = self.owners[words[1]]
-        return f"left {owner.spent} {owner.entry['budget']} {owner.records}"
+        return f"left {owner.spent} {owner.budget} {owner.records}"
 
     def hello(self, words):
         fault = self.fault_of_one(words, self.analysts)
@@ -296,7 +297,7 @@ class Server:
         return self.query(owner, view, e, program, term, sensitivity)
 
     def query(self, owner, view, e, program, term, sensitivity):
-        charges, budget, capacity = owner.with_charge(view, ceil(sensitivity * e)), owner.entry["budget"], owner.entry["capacity"]
+        charges, budget, capacity = owner.with_charge(view, ceil(sensitivity * e)), owner.budget, owner.entry["capacity"]
         spent, after = owner.spent, cost_of(charges)
         if after > budget:
             return f"no 40 {spent} {after} {budget} {owner.records}"
@@ -327,6 +328,25 @@ def transcript(script, house=with_rows(ROWS), draws=key_words(bytes(32)), found=
     return "".join(server.reply(line) + "\n" for line in lines_of(script))
 
 
+# Grants.
+
+
+def granted(book, amount):
+    """What `grant` does behind the records of a journal: its status, its line, and the records that it adds. Nothing is unsettled of its own run."""
+    used, capacity = len(book.records), book.entry["capacity"]
+    if book.budget + amount > MOST_BUDGET:
+        return 9, f"too large {book.budget}\n", []
+    if used + 1 > capacity:
+        return 10, f"full {used} {capacity}\n", []
+    return 0, f"granted {book.entry['name']} {book.budget + amount} {used + 1}\n", [Grant(len(book.grants), amount)]
+
+
+def grant_by_words(book, word):
+    """The same of AMOUNT as it was written."""
+    amount = amount_of(word)
+    return granted(book, amount) if amount is not None else (2, "usage\n", [])
+
+
 # Runs that are generated.
 
 GENERATED_ROWS = 1000
@@ -339,21 +359,21 @@ def generated_key(seed):
     return seed.to_bytes(4, "big") * 8
 
 
-def granted(asks):
+def paid_for(asks):
     """How many asks the budget pays for: half of them, rounded up."""
     return -(-asks // 2)
 
 
 def generated_line(asks, answers, exhausted):
     """The line of a generated run, by its answers and how many asks have none."""
-    spent = granted(asks) * ONE_EPSILON
-    return f"asks {asks} answered {len(answers)} exhausted {exhausted} over {asks - granted(asks)} spent {spent} sum {sum(answers)}"
+    spent = paid_for(asks) * ONE_EPSILON
+    return f"asks {asks} answered {len(answers)} exhausted {exhausted} over {asks - paid_for(asks)} spent {spent} sum {sum(answers)}"
 
 
 def generated(seed, asks):
     """The line of `gen`: whichever worker asks first, the numbers that the budget pays for are answered, each with its own noise."""
     answers, exhausted = [], 0
-    for number in range(granted(asks)):
+    for number in range(paid_for(asks)):
         try:
             answers.append(GENERATED_ROWS + noise(ONE_EPSILON, key_draws(generated_key(seed), 0, number)))
         except Exhausted:
@@ -363,14 +383,14 @@ def generated(seed, asks):
 
 def generated_by_lines(seed, asks):
     """The same, by a server that answers each line of the script that `gen` makes: blocks of ten asks."""
-    made = read(catalog(owner("gen", budget=granted(asks) * ONE_EPSILON, capacity=max(2, 2 * asks)), analysts=("ann",)))
+    made = read(catalog(owner("gen", budget=paid_for(asks) * ONE_EPSILON, capacity=max(2, 2 * asks)), analysts=("ann",)))
     rows = [(seed + 31 * row) % 100 for row in range(GENERATED_ROWS)]
     blocks = [min(GENERATED_BLOCK, asks - first) for first in range(0, asks, GENERATED_BLOCK)]
     script = "".join(f"hello ann\n{GENERATED_ASK * many}bye\n" for many in blocks)
     told = transcript(script.encode(), House(made, [{"people": rows}]), key_words(generated_key(seed))).splitlines()
     answers = [int(line.split()[2]) for line in told if line.startswith("answer ")]
     over = sum(line.startswith("no 40 ") for line in told)
-    assert len(answers) + over + 2 * len(blocks) == len(told) and over == asks - granted(asks)
+    assert len(answers) + over + 2 * len(blocks) == len(told) and over == asks - paid_for(asks)
     return generated_line(asks, answers, 0)
 
 
@@ -498,6 +518,7 @@ def check():
     ]:
         assert transcript(line.encode() + b"\n", house) == said + "\n", line
     check_found(hello, one)
+    check_grants(hello)
     check_generated()
     # Programs worked by hand.
     for program, said in KNOWN_PROGRAMS:
@@ -541,6 +562,26 @@ def check_found(hello, one):
     assert [record.encoded() for record in server.owners[b"census"].added] == [reservation.encoded(), Settlement(0, 1, 5).encoded()]
 
 
+def check_grants(hello):
+    """The budget is spent, and raised; the most that it may be; no room."""
+    entry, rows = read(catalog(owner(budget=10**6, capacity=10)))["owners"][0], [{"people": list(ROWS)}]
+    house = House({"analysts": ["ann", "bob"], "owners": [entry]}, rows)
+    more = hello + b"ask census 0.5 size people\nleft census\n"
+    for version in VERSIONS:
+        book = Book(entry, 2, version)
+        assert book.add(Reservation(0, WHOLE, 10**6, 1, 1, 10**6, 0, bytes(32))) and book.add(Settlement(0, 1, 5))
+        assert transcript(more, house, found=[book]).splitlines()[1] == "no 40 1000000 1500000 1000000 2"
+        assert granted(book, 10**18) == (9, "too large 1000000\n", []) and grant_by_words(book, "0") == (2, "usage\n", [])
+        status, line, records = grant_by_words(book, "500000")
+        assert (status, line) == (0, "granted census 1500000 3\n") and all(map(book.add, records))
+        said = transcript(more, house, found=[book]).splitlines()
+        assert said[1].startswith("answer 1 ") and said[1].endswith(" 500000") and said[2] == "left 1500000 1500000 5"
+        assert granted(book, 10**18 - 1_500_000)[:2] == (0, "granted census 1000000000000000000 4\n")
+    full = Book({**entry, "capacity": 2}, 2)
+    assert full.add(Reservation(0, WHOLE, 1, 1, 1, 1, 0, bytes(32))) and full.add(Settlement(0, 1, 5))
+    assert granted(full, 1) == (10, "full 2 2\n", []) and granted(full, 10**18) == (9, "too large 1000000\n", [])
+
+
 def check_generated():
     """At a key of zeros the first number's noise is 2, and of two asks the budget pays for one."""
     assert generated(0, 1) == "asks 1 answered 1 exhausted 0 over 0 spent 1000000 sum 1002"
@@ -561,6 +602,7 @@ def main():
     words.add_argument("--catalog")
     words.add_argument("--found")
     words.add_argument("--program", action="store_true")
+    words.add_argument("--grant")
     words.add_argument("--gen", nargs=2, type=int)
     words.add_argument("--check", action="store_true")
     words.add_argument("owner", nargs="?", default="census")
@@ -579,6 +621,10 @@ def main():
     found = list(books(given.catalog, given.key, given.found)) if given.found else ()
     if any(isinstance(book, str) for book in found):
         sys.exit(next(book for book in found if isinstance(book, str)))
+    if given.grant:
+        status, line, _ = grant_by_words(next(book for book in found if book.entry["name"] == given.owner), given.grant)
+        sys.stdout.write(line)
+        sys.exit(status)
     sys.stdout.write(transcript(sys.stdin.buffer.read(), house, key_words(key), found))
 
 

@@ -198,12 +198,13 @@ class Forecast:
         return [(name, count, {percent: noise.sum_margin([e] * count, noise.level_of(percent)) for percent in PERCENTS}) for name, count in self.sums]
 
     def too_much(self):
-        """What is said where it takes more than what was left, or than the whole budget."""
+        """What is said where it takes more than what was left, or than the catalog's budget, beside which the owner may have granted more."""
         most = self.budget if self.left is None else self.left
         if most is None or self.charge <= most:
             return []
-        there = f"the whole budget is {units(most)}" if self.left is None else f"{units(most)} is left"
-        return [f"But {there}: it {'may be' if self.at_most() else 'is'} refused."]
+        if self.left is None:
+            return [f"But the budget is {units(most)}, unless the owner has granted more: it may be refused."]
+        return [f"But {units(most)} is left: it {'may be' if self.at_most() else 'is'} refused."]
 
     def as_dict(self):
         kinds = [

@@ -14,7 +14,7 @@ from . import statistics
 from .answers import Answer, Left, units
 from .asks import Forecast, Forgotten, View, charge_of, price
 from .borrowed import meanings
-from .cuts import Kept, Pending
+from .cuts import Kept, Pending, least_of
 from .faults import BadCall, Cut, Failed, Fault, Refused, Unanswered, known, of_reply
 from .transport import Stopped, Waited, transport_of
 
@@ -157,7 +157,7 @@ class Client:
 
     def forecast(self, name, *words, **more):
         """What a call would be charged, and how far its answers are off: forecast("count", "people", eps=0.5). It asks nothing. What is left is known
-        from the last answer or the last left(); else it is compared with the whole budget."""
+        from the last answer or the last left(); else it is compared with the catalog's budget, which the owner may have raised since."""
         return Forecast(self.plan(name, *words, **more), self.known.left if self.known else None, self.view.entry["budget"])
 
     def sent(self, program):
@@ -252,9 +252,19 @@ class Client:
     # After a run that was cut.
 
     def learn(self):
-        """The next number: each that there is has one record or two."""
-        least = (self.left().records + 1) // 2
-        self.next, _, self.before = unasked(lambda: self.numbers_from(least))
+        """The next number."""
+        self.next, _, self.before = unasked(lambda: self.numbers_from(self.reserved(self.left())))
+
+    def reserved(self, left):
+        """How many numbers there are at least. Each has one record or two, and all records are theirs but those of grants; where the owner has granted
+        something the numbers are tried, since those that are there are the first ones."""
+        least, most = least_of(left, self.view.entry), left.records
+        while left.budget > self.view.entry["budget"] and most - least > RECALLS:
+            tried = range(least, most, -(-(most - least) // RECALLS))
+            replies = self.transport.replies([self.hello(), *(f"recall {self.view.name} {number}" for number in tried), f"left {self.view.name}"])
+            gone = [number for number, reply in zip(tried, replies[1:]) if reply.startswith("no 60 ")]
+            least, most = max([least, *(number + 1 for number in tried if number not in gone)]), min([most, *gone])
+        return least
 
     def numbers_from(self, first):
         """The next number, those of the analyst from the first on with what `recall` says of each, and what is left."""
@@ -299,7 +309,7 @@ class Client:
             none = f"None of the {len(rest)} asks was reserved: nothing is charged for them, and they" if len(rest) > 1 else (
                 "The ask wasn't reserved: nothing is charged for it, and it")
             raise next(iter(heard), Failed(f"{why}{none} may be asked again."))
-        if not found or len(found) < len(rest) and pending.none_refused(after, found, self.view.entry, getattr(self.transport, "judged", False)):
+        if not found or len(found) < len(rest) and pending.none_refused(after, found, left, self.view.entry, getattr(self.transport, "judged", False)):
             unasked = rest[len(found) :]
             raise Cut(f"{why}{pending.told(recalled, unasked)}", found, [one for one in recalled if isinstance(one, Answer)], unasked)
         told = "; ".join(f"{number} {' '.join(said)}" for number, said in found)

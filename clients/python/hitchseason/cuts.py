@@ -2,6 +2,7 @@
 
     Pending(ASKS, FIRST, LEFT)    asks that may have been answered: which of them were heard, and whether new numbers are surely theirs
     Kept(ANSWERS, SEND)           sends what isn't answered yet
+    least_of(LEFT, ENTRY)         how many numbers there are at least, by what was left
 """
 from collections import deque
 from collections.abc import Iterable
@@ -43,6 +44,11 @@ class Kept:
         return answers.popleft() if answers else None
 
 
+def least_of(left, entry):
+    """How many numbers there are at least: half as many as records, where none of these is a grant's. Those raise the budget."""
+    return (left.records + 1) // 2 if left.budget <= entry["budget"] else 0
+
+
 class Pending:
     """Asks that may have been answered, the number from which on the analyst had none, and what was left at a time before them. HEARD is what came of
     the first of them, as far as their replies were heard."""
@@ -71,14 +77,15 @@ class Pending:
         """The number behind the last one that was heard."""
         return max([self.first - 1, *self.numbers()]) + 1
 
-    def none_refused(self, after, found, entry, judged):
-        """Whether surely none of the asks was refused: what was left before them was enough for all, and nobody else has reserved since."""
-        if self.left is None or not all(isinstance(one, (Answer, Unanswered)) for one in self.heard):
+    def none_refused(self, after, found, now, entry, judged):
+        """Whether surely none of the asks was refused: what was left before them was enough for all, and nobody else has reserved since, nor the owner
+        granted anything, which takes room."""
+        if self.left is None or now.budget != self.left.budget or not all(isinstance(one, (Answer, Unanswered)) for one in self.heard):
             return False
         if judged and len({(ask.sent, ask.part and ask.part[0]) for ask in self.asks}) > 1:
             return False
-        # At that time there were at least half as many numbers as records, and each open one was still to take another.
-        since, own = range(max(self.first, (self.left.records + 1) // 2), after), {*self.numbers(), *(number for number, _ in found)}
+        # At that time there were at least so many numbers, and each open one was still to take another record.
+        since, own = range(max(self.first, least_of(self.left, entry)), after), {*self.numbers(), *(number for number, _ in found)}
         room = self.left.records + OPEN + 2 * len(self.asks) <= entry["capacity"]
         return own.issuperset(since) and room and charge_of(self.asks) <= self.left.left
 

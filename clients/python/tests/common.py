@@ -92,6 +92,14 @@ def survey(budget=BUDGET, capacity=CAPACITY, key="a key of the tests"):
     return Place(catalog, {name: rows_of(f"{SURVEY}/{name}") for name in ("persons.csv", "stays.csv")}, key)
 
 
+def published(place):
+    """The name of a file in a place's folder that tools/public wrote of its catalog."""
+    name = f"{place.folder}/public.json"
+    with open(name, "wb") as file:
+        subprocess.run([f"{TOP}/tools/public", "--json", "catalog.json"], cwd=place.folder, check=True, stdout=file)
+    return name
+
+
 def rows_of(name):
     with open(name, newline="") as file:
         return list(csv.reader(file))

@@ -9,7 +9,7 @@ from collections import Counter
 from math import exp
 from xml.etree import ElementTree
 
-from common import PROGRAM, TOP, Place, rows_of, survey
+from common import PROGRAM, TOP, Place, published, rows_of, survey
 from hitchseason import Refused, connect, pictures
 from hitchseason.answers import short
 
@@ -144,6 +144,41 @@ def within(eps, count, margin):
     return sum(found[k] for k in range(-margin, margin + 1))
 
 
+def has_grant():
+    """Whether the program has the command: then it wants a catalog."""
+    said = subprocess.run([PROGRAM, "grant", "no catalog", "no key", "labour", "1"], stdin=subprocess.DEVNULL, capture_output=True, timeout=60)
+    return said.returncode == 3
+
+
+@unittest.skipUnless(has_grant(), "the program has no grant")
+class Grants(unittest.TestCase):
+    """An owner grants more of the budget, whose record stands among those of answers."""
+
+    def test_granted(self):
+        with survey(budget=1_000_000, capacity=300) as place:
+            run = lambda *words: subprocess.run(words, cwd=place.folder, capture_output=True, text=True)
+            grant = lambda amount: run(PROGRAM, "grant", "catalog.json", "key", "labour", str(amount)).stdout
+            client = place.client()
+            client.count("persons", eps=1)
+            with self.assertRaises(Refused):
+                client.count("persons", eps="0.5")
+            self.assertEqual(client.forecast("count", "persons", eps="0.5").too_much(), ["But 0 is left: it is refused."])
+            self.assertEqual(grant(500_000), "granted labour 1500000 3\n")
+            left = client.left()
+            self.assertEqual((left.left, left.spent, left.budget, left.records), (500_000, 1_000_000, 1_500_000, 3))
+            self.assertEqual(client.forecast("count", "persons", eps="0.5").too_much(), [])
+            self.assertEqual(client.count("persons", eps="0.5").number, 1)
+            # Of 205 records 201 are grants: whoever comes new finds the next number, and a forecast knows the budget behind a balance.
+            for turn in range(200):
+                self.assertEqual(grant(1), f"granted labour {1_500_001 + turn} {6 + turn}\n")
+            other = place.client("tom")
+            self.assertEqual(other.count("persons", charge="0.0001").number, 2)
+            self.assertEqual(other.forecast("count", "persons", eps="0.0002").too_much(), ["But 0.0001 is left: it is refused."])
+            self.assertEqual(run(f"{TOP}/tools/snapshot", "copy").returncode, 0)
+            watched = run(f"{TOP}/tools/watch", "catalog.json", "copy").stdout
+            self.assertIn("labour: spent 1500100 of 1500200 (100.0 of 100), records 207 of 300", watched)
+
+
 class Register(unittest.TestCase):
     """A cross table by a joint column, and the client beside a file that tools/public wrote."""
 
@@ -153,10 +188,7 @@ class Register(unittest.TestCase):
         rows = rows_of(f"{REGISTER}/people.csv")
         groups = Counter(row[4] for row in rows[1:])
         with Place(catalog, {"people.csv": rows}) as place:
-            public = f"{place.folder}/public.json"
-            with open(public, "w") as file:
-                file.write(tool("public", "--json", f"{place.folder}/catalog.json").stdout)
-            client = connect(place.folder, "ann", program=PROGRAM, public=public)
+            client = connect(place.folder, "ann", program=PROGRAM, public=published(place))
             forecast = client.forecast("crosstab", "group", eps="0.5")
             self.assertEqual((forecast.charge, forecast.left, forecast.too_much()), (500_000, None, []))
             totals = {("a row's total", 5): 13, ("a column's total", 3): 10, ("the total", 15): 21}
@@ -165,7 +197,8 @@ class Register(unittest.TestCase):
                 self.assertTrue(within(0.5, count, margin - 1) < 0.95 <= within(0.5, count, margin), count)
             self.assertEqual(str(forecast).splitlines()[2], "a row's total, of 5 answers: 50 of 100 ±4, 95 of 100 ±13, 99.9 of 100 ±24")
             self.assertEqual(forecast.as_dict()["sums"][1]["margins"], {"50": 3, "95": 10, "99.9": 20})
-            self.assertEqual(client.forecast("crosstab", "group", eps=2).too_much(), ["But the whole budget is 1: it may be refused."])
+            too_much = ["But the budget is 1, unless the owner has granted more: it may be refused."]
+            self.assertEqual(client.forecast("crosstab", "group", eps=2).too_much(), too_much)
             table = client.crosstab("group", eps="0.5")
             self.assertEqual([short(table.row_total("f")), short(table.column_total("from_18")), short(table.total())],
                 [f"{known.value} ±{margin}" for known, margin in zip((table.row_total("f"), table.column_total("from_18"), table.total()), totals.values())])

@@ -254,6 +254,23 @@ class Told:
         return [*said, *["no 60 9 4"] * (len(lines) - len(said) - 1), "left 1000000 20000000 4"]
 
 
+class Granted:
+    """A transport over a journal of so many numbers with two records, and so many grants of 1."""
+
+    def __init__(self, numbers, grants, entry):
+        self.numbers, self.left, self.runs = numbers, f"left 0 {entry['budget'] + grants} {2 * numbers + grants}", 0
+
+    def replies(self, lines):
+        self.runs += 1
+        return [self.reply(line.split(" ")) for line in lines]
+
+    def reply(self, words):
+        if words[0] != "recall":
+            return self.left if words[0] == "left" else " ".join(words)
+        number = int(words[2])
+        return f"no 60 {number} 1" if number >= self.numbers else f"recall {number} answer 5 1" if number % 3 else f"no 61 {number} 1"
+
+
 class Servers(unittest.TestCase):
     """What another transport may tell: a reservation that is still open in the server's run, and one that is lost."""
 
@@ -342,6 +359,27 @@ class Servers(unittest.TestCase):
             self.assertEqual([answer.number for answer in cut.answers], [3] if what is None else [])
             self.assertEqual("which is whose isn't known" in str(cut), what is not None)
             self.assertEqual(([number for number, _ in cut.numbers], len(cut.unasked)), ([4 if what == "others" else 3], 1 if what is None else 0))
+
+    def test_granted(self):
+        """One new number of two asks, behind grants or without: where something was granted meanwhile, which took room, nothing is sure."""
+        one = [HELLO, "recall 3 answer -60 6"]
+        for budget, before, sure in ((20_000_000, 20_000_000, True), (10**6, 20_000_000, True), (10**6, 19_000_000, False), (20_000_000, 19_000_000, False)):
+            client, call = self.mean(Stopped("cut", [HELLO]), one)
+            client.view.entry["budget"] = budget
+            call_left = client.left
+            client.left = lambda call_left=call_left, before=before: Left("labour", 10**6, before, 4, call_left().time)
+            cut = self.cut_of(call)
+            self.assertEqual([answer.number for answer in cut.answers], [3] if sure else [], (budget, before))
+
+    def test_learns_behind_grants(self):
+        """Of some records many are grants, and the rest of numbers with two: the next number is found, by few runs, whoever made them."""
+        for numbers, grants in ((0, 0), (7, 0), (0, 1), (1, 1), (2, 300), (100, 5000), (131_000, 1), (0, 262_144), (65_000, 100_000)):
+            client = self.client()
+            client.transport = Granted(numbers, grants, client.view.entry)
+            client.next = None
+            client.learn()
+            self.assertEqual(client.next, numbers)
+            self.assertLess(client.transport.runs, 7)
 
     def test_groups_heard(self):
         """Of five parts two were heard, one is recalled, and two weren't reserved. Where the budget wasn't surely enough before them, the third may be any."""

@@ -12,7 +12,7 @@ import time
 import unittest
 from contextlib import redirect_stderr
 
-from common import PROGRAM, TOP, Between, often, survey
+from common import PROGRAM, TOP, Between, often, published, survey
 from hitchseason import Cut, Failed, Refused, connect, server
 from hitchseason.answers import Left
 
@@ -91,10 +91,7 @@ class Silent(Between):
 class Served(unittest.TestCase):
     def setUp(self):
         self.place = survey(capacity=4000)
-        ran = subprocess.run([f"{TOP}/tools/public", "--json", "catalog.json"], cwd=self.place.folder, check=True, stdout=subprocess.PIPE)
-        self.public = f"{self.place.folder}/public.json"
-        with open(self.public, "wb") as file:
-            file.write(ran.stdout)
+        self.public = published(self.place)
         self.port = free_ports(WORKERS)
         self.start()
         self.proxy = Proxy(self.port)
@@ -381,10 +378,7 @@ class OtherPrograms(unittest.TestCase):
     @classmethod
     def setUpClass(cls):
         cls.place = survey(capacity=10)
-        ran = subprocess.run([f"{TOP}/tools/public", "--json", "catalog.json"], cwd=cls.place.folder, check=True, stdout=subprocess.PIPE)
-        cls.public = f"{cls.place.folder}/public.json"
-        with open(cls.public, "wb") as file:
-            file.write(ran.stdout)
+        cls.public = published(cls.place)
 
     @classmethod
     def tearDownClass(cls):
