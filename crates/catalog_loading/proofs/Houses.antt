@@ -77,9 +77,9 @@ owner_valued : {A : Type 0} (work : KeyedOwner → A) (catalog key owner : List 
     → with_owner work catalog key owner reads ≡ valued work (keyed_owner_read catalog key owner reads)
 owner_valued {A} work catalog key owner reads =
     then_valued work (catalog_read catalog) _ _
-    (λ house. then_valued work (key_read key) _ _
-    (λ bytes. then_valued work (from (number_named house owner)) _ _
-    (λ number. then_valued work (owner_read (owner_entry_at house number))
+    (λ house. then_valued work (from (number_named house owner)) _ _
+    (λ number. then_valued work (key_read key) _ _
+    (λ bytes. then_valued work (owner_read (owner_entry_at house number))
     (λ loaded. done (record { catalog = house; number = number; hashes = loaded.hashes; key = bytes }))
     (λ loaded. done (work (record { catalog = house; number = number; hashes = loaded.hashes; key = bytes }))) (λ loaded rest. refl)))) reads
 

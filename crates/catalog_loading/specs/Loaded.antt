@@ -205,12 +205,12 @@ pub record IsKeyedOwner (one : KeyedOwner) : Type 0 where
   pub hashed : length one.hashes ≡ length (owner_entry_at one.catalog one.number).tables
   pub whole_key : length one.key ≡ 32
 
--- what is to be done with one owner's journal: CATALOG, then KEY, then the tables of that owner
+-- what is to be done with one owner's journal: CATALOG, that has OWNER, then KEY, then the tables of that owner
 abbrev pub with_owner : {A : Type 0} → (KeyedOwner → A) → (catalog key owner : List ℕ) → FileStep A
 with_owner work catalog key owner = do
   house ← catalog_read catalog
-  bytes ← key_read key
   number ← from (number_named house owner)
+  bytes ← key_read key
   loaded ← owner_read (owner_entry_at house number)
   done (work (record { catalog = house; number = number; hashes = loaded.hashes; key = bytes }))
 

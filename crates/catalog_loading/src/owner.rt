@@ -77,7 +77,7 @@ impl OpenedOwner {
     }
 }
 
-/// Opens the owner of this name: its catalog, the key, and then the owner's tables.
+/// Opens the owner of this name: a catalog that has it, the key, and then the owner's tables.
 pub fn open_owner<F: Files>(
     alloc: Global,
     files: &mut F,
@@ -92,8 +92,8 @@ pub fn open_owner<F: Files>(
     ensures passed { OnOk result (F.faults files.new ≡ F.faults files.old) }
 {
     let catalog = open_catalog(alloc, files, catalog)?;
-    let key = read_key(alloc, files, key)?;
     let number = find_owner(alloc, &catalog, owner)?;
+    let key = read_key(alloc, files, key)?;
     let loaded = load_tables(alloc, files, &catalog, number)?;
     Ok(OpenedOwner {
         catalog,

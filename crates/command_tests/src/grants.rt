@@ -33,8 +33,8 @@ static RAISED: [Step<'static>; 24] = [
     (&["grant", "smaller.json", "key", "census", "0.5"], b"", Status::Usage, b"usage\n"),
     (&["grant", "smaller.json", "key", "census", "1", "1"], b"", Status::Usage, b"usage\n"),
     (&["grant", "none", "nokey", "nobody", "1"], b"", Status::Refused, b"refused none\n"),
-    (&["grant", "smaller.json", "nokey", "nobody", "1"], b"", Status::Refused, b"refused nokey\n"),
-    (&["grant", "smaller.json", "key", "nobody", "1"], b"", Status::Refused, b"refused nobody\n"),
+    (&["grant", "smaller.json", "nokey", "nobody", "1"], b"", Status::Refused, b"refused nobody\n"),
+    (&["grant", "smaller.json", "nokey", "census", "1"], b"", Status::Refused, b"refused nokey\n"),
     (&["grant", "raised.json", "key", "census", "1"], b"", Status::JournalRefused, b"journal census changed\n"),
     (&["grant", "smaller.json", "ones", "census", "1"], b"", Status::JournalRefused, b"journal census changed\n"),
     // of all of these nothing is left

@@ -13,7 +13,7 @@ use Rattle.query_server.specs.declared.end.Status.{Status}
 use Rattle.query_server.specs.declared.end.Status.TheVariants as code
 use Rattle.query_server.specs.declared.end.End.TheVariants.{Done}
 use Rattle.catalog_loading.specs.declared.stops.Stop.TheVariants.{Disk}
-use Rattle.query_server.proofs.Endings.{ComesTo, answers, comes_to, counts, makes, serves}
+use Rattle.query_server.proofs.Endings.{ComesTo, answers, comes_to, counts, grants, makes, serves}
 use Rattle.query_server.proofs.Outcomes.{due_status}
 
 -- An end that names no disk: of a `check` and of a `gap`.
@@ -27,6 +27,7 @@ no_disk command work b a script line answers diskless due = diskless refl
 no_disk command work b a script line makes diskless due = diskless refl
 no_disk command work b a script line counts diskless due = diskless refl
 no_disk command work b a script line serves diskless due = diskless refl
+no_disk command work b a script line grants diskless due = diskless refl
 no_disk command work b a script line other diskless (inr (cut, may)) = no_line work b a line (λ text names. names) cut
 no_disk command work b a script line other diskless (inl due) = let is = due_status work b a script code.DiskFault line.items due in absurd (grind (arith, is))
 

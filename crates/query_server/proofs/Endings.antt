@@ -79,9 +79,9 @@ grant_comes : (catalog key owner : List ℕ) (amount : ℕ) (reads : ReadsToCome
 grant_comes catalog key owner amount =
     let comes = ComesTo (Some (grant catalog key owner amount)) in
     then_cases comes refuses (catalog_read catalog) _
-    (λ house. then_cases comes refuses (key_read key) _
-    (λ bytes. then_cases comes refuses (from (number_named house owner)) _
-    (λ number. then_cases comes refuses (owner_read (owner_entry_at house number))
+    (λ house. then_cases comes refuses (from (number_named house owner)) _
+    (λ number. then_cases comes refuses (key_read key) _
+    (λ bytes. then_cases comes refuses (owner_read (owner_entry_at house number))
     (λ loaded. done (to_grant amount (record { catalog = house; number = number; hashes = loaded.hashes; key = bytes }))) (λ loaded reads. grants))))
 
 gap_comes : (catalog owner second_catalog file : List ℕ) (reads : ReadsToCome)

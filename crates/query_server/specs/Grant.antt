@@ -23,7 +23,7 @@ use Rattle.query_server.specs.declared.refusals.JournalRefusal.{JournalRefusal}
 use Rattle.query_server.specs.declared.end.Status.{Status}
 use Rattle.query_server.specs.declared.end.Status.TheVariants as code
 
--- CATALOG, then KEY, then the tables of OWNER
+-- CATALOG, that has OWNER, then KEY, then the tables of OWNER
 abbrev pub grant_steps : (catalog key owner : List ℕ) → (amount : ℕ) → FileStep Work
 grant_steps catalog key owner amount = with_owner (to_grant amount) catalog key owner
 
