@@ -4,11 +4,11 @@ ghost use Rattle.std.specs.Prelude.{◌≡◌, ◌≤◌, IfOk};
 ghost use Rattle.journal_records.specs.Encoding.{IsHeader, IsValid};
 ghost use Rattle.budget_core.specs.Ledger.{IsUnsettled};
 
-use budget_core::answers::{Counts, Left, Recall};
+use budget_core::answers::{Counts, GrantRefusal, Left, Recall};
 use budget_core::entry::{Ask, Entry, Grant, ReserveFault};
 use budget_journal::journal::Journal;
 use budget_journal::opening::OpenFault;
-use budget_ledger::book::{AppendFault, Book, BookFault};
+use budget_ledger::book::{AppendFault, Book, BookFault, GrantFault};
 use journal_records::coding::encode;
 use journal_records::records::{Header, Outcome, Record, Settlement};
 use outside_disks::disk::Disk;
@@ -279,6 +279,71 @@ fn a_fault_at_each_call(rt: HostRuntime) {
         let disk = left_at(rt.alloc(), *call).expect(&rt, "one disk");
         assert!(rt; stands(rt.alloc(), disk, *standing));
     }
+}
+
+// What a grant answers, and what is left with it; a reservation that is open takes a place of its own.
+#[test]
+fn grants(rt: HostRuntime) {
+    let alloc = rt.alloc();
+    let mut book = opened(alloc, made(alloc, 100).expect(&rt, "a journal"), 100)
+        .ok()
+        .expect(&rt, "a book");
+    let asked = ask(&mut book);
+    let large = book.grant(1_000_000_000_000_000_000);
+    let granted = book.grant(5);
+    let again = opened(alloc, book.into_disk(), 100)
+        .ok()
+        .expect(&rt, "a book");
+    assert!(rt; asked == Ok(GRANT) && granted == Ok(RAISED));
+    assert!(rt; large == Err(GrantFault::Refused(TOO_LARGE)));
+    assert!(rt; again.left() == RAISED && again.recall(0, 0) == (Recall::Lost { seen: 2 }));
+}
+
+const RAISED: Left = Left {
+    spent: 1_000_000,
+    budget: 10_000_005,
+    seen: 2,
+};
+
+const TOO_LARGE: GrantRefusal = GrantRefusal::TooLarge {
+    budget: 10_000_000,
+    amount: 1_000_000_000_000_000_000,
+};
+
+const FULL: GrantRefusal = GrantRefusal::Full {
+    used: 2,
+    unsettled: 1,
+    capacity: 3,
+};
+
+// Where the record isn't appended the book is closed; a refusal of the amount or the room comes before.
+#[test]
+fn grants_that_fail(rt: HostRuntime) {
+    let alloc = rt.alloc();
+    let disk = made(alloc, 100).expect(&rt, "a journal");
+    let mut book = opened(alloc, BlipDisk::new(disk, 68), 100)
+        .ok()
+        .expect(&rt, "a book");
+    let failed = book.grant(5);
+    let closed = book.grant(5);
+    let large = book.grant(1_000_000_000_000_000_000);
+    assert!(rt; failed == Err(GrantFault::Unwritten(AppendFault::DiskFault)));
+    assert!(rt; closed == Err(GrantFault::Unwritten(AppendFault::Closed { failed_at: 1 })));
+    assert!(rt; large == Err(GrantFault::Refused(TOO_LARGE)) && is_closed_and_empty(&book));
+}
+
+// Two places are the open reservation's; the third one is the grant's, and then there is none.
+#[test]
+fn grants_that_fill_a_journal(rt: HostRuntime) {
+    let alloc = rt.alloc();
+    let mut book = opened(alloc, made(alloc, 3).expect(&rt, "a journal"), 3)
+        .ok()
+        .expect(&rt, "a book");
+    let asked = ask(&mut book);
+    let granted = book.grant(5);
+    let full = book.grant(5);
+    assert!(rt; asked == Ok(GRANT) && granted == Ok(RAISED));
+    assert!(rt; full == Err(GrantFault::Refused(FULL)));
 }
 
 // A second settlement of a number may not follow the first.

@@ -1,8 +1,8 @@
 //! Words of each kind that pass, and each kind of fault.
 
 use command_words::{
-    Command, WordsFault, faults_alone_are_no_command, plain_words_are_a_table, read_words,
-    workers_are_in_range, workers_are_said_by_a_number,
+    Command, WordsFault, faults_alone_are_no_command, grants_are_in_range, plain_words_are_a_table,
+    read_words, workers_are_in_range, workers_are_said_by_a_number,
 };
 use std::alloc::{AllocError, Global};
 
@@ -16,13 +16,18 @@ fn words_of(alloc: Global, texts: &[&str]) -> Result<Vec<String>, AllocError> {
 
 // Words, and the command that they are.
 #[rattlefmt::skip]
-const COMMANDS: [(&[&str], Command<'static>); 14] = [
+const COMMANDS: [(&[&str], Command<'static>); 18] = [
     // each command
     (&["check", "c", "o", "f"], Command::Check { catalog: "c", owner: "o", file: "f" }),
     (&["init", "c", "k"], Command::Init { catalog: "c", key: "k" }),
     (&["run", "c", "k"], RUN),
     (&["audit", "c", "k"], Command::Audit { catalog: "c", key: "k" }),
     (&["gap", "c", "o", "d", "f"], Command::Gap { catalog: "c", owner: "o", second_catalog: "d", file: "f" }),
+    (&["grant", "c", "k", "o", "5"], Command::Grant { catalog: "c", key: "k", owner: "o", amount: 5 }),
+    // the least and the greatest grant, and another numeral
+    (&["grant", "c", "k", "o", "1"], Command::Grant { catalog: "c", key: "k", owner: "o", amount: 1 }),
+    (&["grant", "c", "k", "o", "1000000000000000000"], Command::Grant { catalog: "c", key: "k", owner: "o", amount: 1_000_000_000_000_000_000 }),
+    (&["grant", "c", "k", "-", "+07"], Command::Grant { catalog: "c", key: "k", owner: "-", amount: 7 }),
     // the option, at each place, in both forms, with each numeral of 1
     (&["run", "c", "k", "--workers", "1"], RUN),
     (&["run", "c", "--workers", "1", "k"], RUN),
@@ -45,7 +50,7 @@ const RUN: Command<'static> = Command::Run {
 
 // Words that are no command.
 #[rattlefmt::skip]
-const OTHER_WORDS: [&[&str]; 33] = [
+const OTHER_WORDS: [&[&str]; 41] = [
     // other numbers, and no number
     &["run", "c", "k", "--workers", "0"],
     &["run", "c", "k", "--workers", "17"],
@@ -70,6 +75,15 @@ const OTHER_WORDS: [&[&str]; 33] = [
     &["run", "c", "k", "l"],
     &["gap", "c", "o", "d"],
     &["gap", "c", "o", "d", "f", "g"],
+    &["grant", "c", "k", "o"],
+    &["grant", "c", "k", "o", "1", "2"],
+    // amounts out of range, and no amounts
+    &["grant", "c", "k", "o", "0"],
+    &["grant", "c", "k", "o", "1000000000000000001"],
+    &["grant", "c", "k", "o", "18446744073709551617"],
+    &["grant", "c", "k", "o", "0.5"],
+    &["grant", "c", "k", "o", "-1"],
+    &["grant", "c", "k", "o", ""],
     // options that aren't there
     &["check", "c", "o", "f", "--workers", "1"],
     &["init", "c", "k", "--workers", "1"],
@@ -111,6 +125,7 @@ fn refuses_other_words(rt: HostRuntime) -> Result<(), AllocError> {
 #[test]
 fn laws_are_there(_rt: HostRuntime) {
     faults_alone_are_no_command();
+    grants_are_in_range();
     workers_are_in_range();
     workers_are_said_by_a_number();
     plain_words_are_a_table();

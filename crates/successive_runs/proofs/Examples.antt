@@ -247,7 +247,7 @@ granted_five = (record { numbered = refl; some = omega arith; within = omega ari
 
 granted_twice : AreGranted clinic.entry raised_before (3 ∷ 2 ∷ []) (with_grant (with_grant raised_before 3) 2)
 unfolding budget_of
-granted_twice = (record { numbered = refl; some = omega arith; within = omega arith }, record { numbered = refl; some = omega arith; within = omega arith }, refl)
+granted_twice = (record { numbered = refl; some = omega arith; within = omega arith }, (record { numbered = refl; some = omega arith; within = omega arith }, refl))
 
 -- A grant of nothing is none.
 nothing_granted : (after : List Record) → AreGranted clinic.entry [] (0 ∷ []) after → ⊥

@@ -61,24 +61,24 @@ met_on_all house draws count crew o found xs records left all ends place x asked
     let m = (growing house draws o found (part_of crew (crew place) 0 xs) records (all.workers (crew place) (all.crews place))).each p.0 x asked demand p.1 meant in
     record { seen = m.seen; after = m.after; begins = m.begins; meets = m.meets; stands = prefix_trans m.after records left m.stands ends }
 
-told_weaker : (P Q : List ℕ → Type 0) → ((bytes : List ℕ) → P bytes → Q bytes) → (old new : Option Trace) → WhereTold (Passes P) old new → WhereTold (Passes Q) old new
+pub told_weaker : (P Q : List ℕ → Type 0) → ((bytes : List ℕ) → P bytes → Q bytes) → (old new : Option Trace) → WhereTold (Passes P) old new → WhereTold (Passes Q) old new
 told_weaker P Q weaker None None p = tt
 told_weaker P Q weaker None (Some u) p = p
 told_weaker P Q weaker (Some t) None p = p
 told_weaker P Q weaker (Some t) (Some u) p = passes-weaker P Q t u weaker p
 
-leaves_weaker : (P Q : List ℕ → Type 0) → ((bytes : List ℕ) → P bytes → Q bytes) → (told : Option Trace) → IfSome told (Leaves P) → IfSome told (Leaves Q)
+pub leaves_weaker : (P Q : List ℕ → Type 0) → ((bytes : List ℕ) → P bytes → Q bytes) → (told : Option Trace) → IfSome told (Leaves P) → IfSome told (Leaves Q)
 leaves_weaker P Q weaker None p = tt
 leaves_weaker P Q weaker (Some t) p = λ bytes image. weaker bytes (p bytes image)
 
 -- a file of records that are all there, and perhaps that one whose append failed
-record HasAll (header : Header) (found records : List Record) (closed : Option Failure) (bytes : List ℕ) : Type 0 where
+pub record HasAll (header : Header) (found records : List Record) (closed : Option Failure) (bytes : List ℕ) : Type 0 where
   pub left : List Record
   pub stands : Stands header left bytes
   pub leaves : IsLeft found records closed left
   pub all : IsPrefix records left
 
-kept_has_all : (header : Header) (found records : List Record) (closed : Option Failure) → IsPrefix found records → (told : Option Trace) → IfSome told (IsKeptNow header records closed) → IfSome told (Leaves (HasAll header found records closed))
+pub kept_has_all : (header : Header) (found records : List Record) (closed : Option Failure) → IsPrefix found records → (told : Option Trace) → IfSome told (IsKeptNow header records closed) → IfSome told (Leaves (HasAll header found records closed))
 kept_has_all header found records closed begins None kept = tt
 kept_has_all header found records None begins (Some t) rest = λ bytes image.
     record { left = records; stands = subst (Stands header records) (sym (rest.stable bytes image)) rest.stands; leaves = inl (begins, prefix_self records); all = prefix_self records }

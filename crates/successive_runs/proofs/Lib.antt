@@ -5,4 +5,5 @@ mod Ran
 mod Sent
 pub mod Lives
 pub mod Files
+mod Raised
 mod Examples

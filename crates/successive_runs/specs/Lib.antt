@@ -1,4 +1,5 @@
 pub mod Left
 pub mod Life
 pub mod Kept
+pub mod Raised
 pub mod Script

@@ -1,12 +1,13 @@
 //! The laws. Each function does nothing: its contract is the law.
 
-ghost use Rattle.std.specs.Prelude.{◌≡◌, ℕ, Bool, List, [], Option, Some, IfSome, slice_get};
+ghost use Rattle.std.specs.Prelude.{◌≡◌, ℕ, Bool, List, [], Option, Some, IfSome, IsOk, slice_get};
 ghost use mathlib.Core.List.{IsPrefix};
 ghost use Rattle.outside_disks.specs.Disks.{Leaves, Passes, Shown, WhereTold, noted};
 ghost use Rattle.outside_disks.specs.Disks.Step.{Synced};
 ghost use Rattle.journal_records.specs.declared.records.Header.{Header};
 ghost use Rattle.journal_records.specs.declared.records.Record.{Record};
 ghost use Rattle.budget_journal.specs.Journals.{Stands};
+ghost use Rattle.budget_core.specs.Granting.{IsAmount};
 ghost use Rattle.budget_ledger.specs.Account.{IsMoment};
 ghost use Rattle.budget_ledger.specs.declared.failure.Failure.{Failure};
 ghost use Rattle.word_streams.specs.Draws.{draws_of};
@@ -15,12 +16,15 @@ ghost use Rattle.owner_house.specs.House.{House, AreOwners, house_of};
 ghost use Rattle.owner_history.specs.Sound.{IsFound};
 ghost use Rattle.session_core.specs.Transcript.{Journals};
 ghost use Rattle.session_core.specs.Headline.{Programs, AreFound};
-ghost use Rattle.catalog_loading.specs.Loaded.{IsLoading, Loading, header_of};
+ghost use Rattle.catalog_loading.specs.Loaded.{IsLoading, KeyedOwner, Loading, header_of};
 ghost use Rattle.query_server.specs.Shelves.{Shelf};
+ghost use Rattle.query_server.specs.Grant.{IsGrantAnswered, IsGrantUnwritten, verdict_on};
 ghost use Rattle.query_server.specs.Run.{IsScriptAnswered};
+ghost use Rattle.query_server.specs.declared.end.Status.{Status};
 ghost use Rattle.successive_runs.specs.Left.{IsLeft};
 ghost use Rattle.successive_runs.specs.Life.{Run, AreRuns, IsRun, none_sent};
 ghost use Rattle.successive_runs.specs.Kept.{KeepThePromise, MayBeGoneOnFrom};
+ghost use Rattle.successive_runs.specs.Raised.{LeavesRaised};
 ghost use Rattle.successive_runs.specs.Script.{IsLeftOf};
 
 /// A run over records that programs explain leaves records that programs explain, which begin with the earlier ones: so the next run
@@ -70,4 +74,14 @@ pub fn answered_scripts_leave_what_may_be_found()
         slice_get (house_of loading.register).owners o ≡ Some owner → old o ≡ Some before → new o ≡ Some after →
         WhereTold (Passes (λ bytes. MayBeGoneOnFrom owner (draws_of key o) (header_of loading key o) (earlier o) bytes)) (noted Synced before.trace) after.trace
         × IfSome after.trace (Leaves (λ bytes. MayBeGoneOnFrom owner (draws_of key o) (header_of loading key o) (earlier o) bytes)) }
+{}
+
+/// What the program grants is granted between runs: each file that a stop may have left since the owner's journal was opened, and each that a
+/// stop leaves now, stands for the records found or for these and the grant, whether it was written or its append failed.
+pub fn grants_are_made_between_runs()
+    ensures made { (one : KeyedOwner) (amount : ℕ) (old new : Shelf) (status : Status) (text : List ℕ) → IsAmount amount →
+        (done : IsGrantAnswered one amount old new status text) → IsOk (verdict_on one done.version done.found amount) →
+        LeavesRaised one done.version done.found old new }
+    ensures unwritten { (one : KeyedOwner) (amount : ℕ) (old new : Shelf) → IsAmount amount → (fails : IsGrantUnwritten one amount old new) →
+        LeavesRaised one fails.version fails.found old new }
 {}
