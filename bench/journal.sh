@@ -2,21 +2,24 @@
 # What the journal costs: asks of `size people` beside a plain C loop with the same writes and syncs, in turn; `audit` of a full journal, of all
 # versions; asks behind many records and behind few; an ask that opens the last area.
 # usage: bench/journal.sh [ROUNDS [FOLDER]]    (PROGRAM=FILE measures another build). FOLDER lies on a real disk: out/ here, unless said
-# Bars: a run of 2,000 asks takes at most 1.25 times the loop's wall time on the disk, and on tmpfs, less the run of no ask, at most 10
-# microseconds an answer above the loop; `audit` of 131,072 reservations with their settlements under 2 seconds; at most 128 bytes of
-# memory a record; an ask behind 100,000 records at most 1.2 times as long as one behind 4,100, where as few areas are opened, namely none. Each time is
-# the least of the rounds. It ends with status 1 where one isn't met.
+#        bench/journal.sh long [FOLDER]        one round of 100,000 asks on the disk alone, all growths of the journal among them: some minutes
+# Bars: a run of 2,000 asks, and of 100,000, takes at most 1.25 times the loop's wall time on the disk, and on tmpfs, less the run of no ask, at most 10
+# microseconds an answer above the loop; `init` of a journal for 262,144 records at most twice that of one for 64; an ask behind 200,000 records at most
+# 1.1 times as long as one behind none; the dearest ask, which opens the area of 262,144 slots, at most 1.5 times the loop's; `audit` of 131,072
+# reservations with their settlements under 0.25 seconds; at most 128 bytes of memory a record. Each time is the least of the rounds. It ends with
+# status 1 where one isn't met.
 . "$(dirname "$0")/common.sh"
 rounds=${1:-7}
 disk=${2:-$top/out}
+answers=2000
+[ "$rounds" != long ] || { rounds=1; answers=100000; }
 need_program
 need_tool /usr/bin/time time
 need_tool cc gcc
 need_tool python3 python3
 mkdir -p "$disk"
 make_room
-answers=2000
-behind=1000
+behind=20000
 passed=0
 cc -O2 -o loop "$top/bench/journal_loop.c" || exit 2
 printf 'age\n20\n30\n40\n' >people.csv
@@ -24,6 +27,7 @@ printf 'age\n20\n30\n40\n' >people.csv
 deep() { catalog "$1" people.csv && sed -i "s/10000000/1000000000000000000/; s/\"capacity\": 100/\"capacity\": $2/" "$1"; }
 deep short.json $((2 * answers))
 deep full.json 262144
+deep small.json 64
 deep least.json 2
 # asks COUNT: a script of so many asks.
 asks() { echo "hello ann" && yes "ask census 1 size people" | head -n "$1"; }
@@ -102,6 +106,15 @@ printf '%-44s %26s %26s\n' what figure bar
 beside "$disk"
 bar "$answers asks on $(stat -f -c %T "$disk")" "$ours s" "1.25 * $theirs s" "$ours <= 1.25 * $theirs"
 echo "    $(awk "BEGIN { printf \"%d answers a second, the loop %d\", $answers / $ours, $answers / $theirs }")"
+[ "$answers" = 2000 ] || exit $passed
+rm -f ./*.times
+for ((round = 0; round < rounds; round++)); do
+    for catalog in full small; do
+        rm -f journals/0.bud
+        seconds $catalog.times "$program" init $catalog.json key
+    done
+done
+bar "init for 262,144 records" "$(least full.times) s" "2 * $(least small.times) s" "$(least full.times) <= 2 * $(least small.times)"
 if [ -d /dev/shm ]; then
     beside /dev/shm
     above=$(awk "BEGIN { printf \"%.2f\", ($ours - $empty - $theirs) * 1000000 / $answers }")
@@ -112,10 +125,10 @@ if [ -d /dev/shm ]; then
     cp full.json least.json people.csv key none some "$memory"
     cd "$memory" || exit 2
 fi
-few=$(one_behind 4100)
-many=$(one_behind 100000)
-bar "an ask behind 100,000 records" "$many us" "1.2 * $few us" "$many <= 1.2 * $few"
-echo "    behind 100, where five areas are opened, $(one_behind 100) us"
+few=$(one_behind 0)
+many=$(one_behind 200000)
+bar "an ask behind 200,000 records" "$many us" "1.1 * $few us" "$many <= 1.1 * $few"
+echo "    behind 4,100, where no area is opened as behind 200,000, $(one_behind 4100) us; behind none six are opened"
 filled 131072 filled.bud
 echo "hello ann
 ask census 1 size people" >one
@@ -127,13 +140,15 @@ for ((round = 0; round < rounds; round++)); do
     "$room/loop" journals/grown grow 262144 >>theirs.times
     rm journals/grown
 done
-echo "    one that opens the area of 262,144 slots: $(awk -v ours="$(least ours.times)" -v empty="$(least empty.times)" 'BEGIN { printf "%.1f", (ours - empty) * 1000 }') ms, the loop $(awk -v theirs="$(least theirs.times)" 'BEGIN { printf "%.1f", theirs * 1000 }') ms"
+growing=$(awk -v ours="$(least ours.times)" -v empty="$(least empty.times)" 'BEGIN { printf "%.2f", (ours - empty) * 1000 }')
+loop=$(awk -v theirs="$(least theirs.times)" 'BEGIN { printf "%.2f", theirs * 1000 }')
+bar "one that opens the area of 262,144 slots" "$growing ms" "1.5 * $loop ms" "$growing <= 1.5 * $loop"
 for version in 1 2 3; do
     filled 262144 journals/0.bud "$version"
     rm -f ./*.times
     for ((round = 0; round < rounds; round++)); do seconds audit.times "$program" audit full.json key; done
     [ "$(cat output)" = "census reservations 131072 answered 131072 exhausted 0 lost 0 spent 131072000000 budget 1000000000000000000" ] || { cat output; passed=1; }
-    bar "audit of 131,072 reservations, version $version" "$(least audit.times) s" "2 s" "$(least audit.times) < 2"
+    bar "audit of 131,072 reservations, version $version" "$(least audit.times) s" "0.25 s" "$(least audit.times) < 0.25"
 done
 full=$(peak full.json)
 renew least.json key

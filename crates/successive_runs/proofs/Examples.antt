@@ -249,6 +249,11 @@ granted_twice : AreGranted clinic.entry raised_before (3 ∷ 2 ∷ []) (with_gra
 unfolding budget_of
 granted_twice = (record { numbered = refl; some = omega arith; within = omega arith }, (record { numbered = refl; some = omega arith; within = omega arith }, refl))
 
+-- A run that was stopped, and 7 granted behind it.
+granted_behind_a_run : (draws : ℕ → ℕ → ℕ → ℕ) → AreRuns house draws 0 clinic [] (stopped (outcome_at draws 0) ∷ []) (with_grant opened 7)
+unfolding budget_of
+granted_behind_a_run draws = ([], ([], refl), stopped_run draws, (7 ∷ [], (record { numbered = refl; some = omega arith; within = omega arith }, refl)))
+
 -- A grant of nothing is none.
 nothing_granted : (after : List Record) → AreGranted clinic.entry [] (0 ∷ []) after → ⊥
 nothing_granted after (may, rest) = let h = may.some in omega (arith, h)

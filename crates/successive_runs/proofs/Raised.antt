@@ -23,7 +23,7 @@ use Rattle.query_server.specs.Run.{WentOn}
 use Rattle.query_server.specs.Shelves.{Shelf, OneDisk}
 use Rattle.query_server.specs.declared.end.Status.{Status}
 use Rattle.successive_runs.specs.Left.{IsLeft}
-use Rattle.successive_runs.specs.Life.{MayHaveGranted}
+use Rattle.successive_runs.specs.Life.{AreGranted}
 use Rattle.successive_runs.specs.Raised.{IsRaisedFrom, LeavesRaised}
 use Rattle.successive_runs.proofs.Files.{HasAll, kept_has_all, leaves_weaker, moment_stands, told_weaker}
 
@@ -49,28 +49,31 @@ same_as found left (some, is) (rest, all) =
     sym is ∙ ap (λ w. found ++ w) (none_of_none some rest (append_cancel_left found (some ++ rest) [] (sym (append_assoc found some rest) ∙ ap (λ w. w ++ rest) is ∙ all ∙ sym (append-nil found)))) ∙ append-nil found
 
 module _ (entry : Entry) (header : Header) (found : List Record) (amount : ℕ) (may : MayFollow entry found (Grant (grant_behind found amount))) where
-  raised : (left : List Record) → (left ≡ found) ⊎ (left ≡ with_grant found amount) → MayHaveGranted entry found left
-  raised left (inl none) = ([], none)
-  raised left (inr one) = (amount ∷ [], (may, one))
+  abbrev IsRaised : (left : List Record) → Type 0
+  IsRaised left = (left ≡ found) ⊎ AreGranted entry found (amount ∷ []) left
 
-  with_it : (left : List Record) → IsLeft found (with_grant found amount) None left → MayHaveGranted entry found left
+  raised : (left : List Record) → (left ≡ found) ⊎ (left ≡ with_grant found amount) → IsRaised left
+  raised left (inl none) = inl none
+  raised left (inr one) = inr (may, one)
+
+  with_it : (left : List Record) → IsLeft found (with_grant found amount) None left → IsRaised left
   with_it left (inl (begins, ends)) = raised left (between found left (Grant (grant_behind found amount)) begins ends)
   with_it left (inr (failure, shut, is)) = cc (shut)
 
-  perhaps : (failure : Failure) → failure.pending ≡ Grant (grant_behind found amount) → (left : List Record) → IsLeft found found (Some failure) left → MayHaveGranted entry found left
+  perhaps : (failure : Failure) → failure.pending ≡ Grant (grant_behind found amount) → (left : List Record) → IsLeft found found (Some failure) left → IsRaised left
   perhaps failure which left (inl (begins, ends)) = raised left (inl (same_as found left begins ends))
   perhaps failure which left (inr (other, shut, is)) =
       let one : failure ≡ other = cc (shut) in
       raised left (inr (is ∙ ap (λ (f : Failure). found ++ f.pending ∷ []) (sym one) ∙ ap (λ (r : Record). found ++ r ∷ []) which))
 
   -- a disk that went on to such records
-  on_disk : (records : List Record) (closed : Option Failure) (before after : Shown) → ((left : List Record) → IsLeft found records closed left → MayHaveGranted entry found left)
+  on_disk : (records : List Record) (closed : Option Failure) (before after : Shown) → ((left : List Record) → IsLeft found records closed left → IsRaised left)
       → WentOn entry header found records closed before after
-      → WhereTold (Passes (IsRaisedFrom entry header found)) (noted Synced before.trace) after.trace × IfSome after.trace (Leaves (IsRaisedFrom entry header found))
+      → WhereTold (Passes (IsRaisedFrom entry header found amount)) (noted Synced before.trace) after.trace × IfSome after.trace (Leaves (IsRaisedFrom entry header found amount))
   on_disk records closed before after leaves went = (
-    told_weaker (IsMoment header found records closed) (IsRaisedFrom entry header found)
+    told_weaker (IsMoment header found records closed) (IsRaisedFrom entry header found amount)
         (λ bytes moment. let m = moment_stands header found records closed bytes moment in (m.0, m.1, leaves m.0 m.2)) (noted Synced before.trace) after.trace went.moments,
-    leaves_weaker (HasAll header found records closed) (IsRaisedFrom entry header found) (λ bytes h. (h.left, h.stands, leaves h.left h.leaves)) after.trace
+    leaves_weaker (HasAll header found records closed) (IsRaisedFrom entry header found amount) (λ bytes h. (h.left, h.stands, leaves h.left h.leaves)) after.trace
         (kept_has_all header found records closed went.begins after.trace went.kept),
   )
 
@@ -82,7 +85,7 @@ went_to o Goes old new before after disk was is =
     subst (Goes before) same w.2
 
 pub granted_leaves : (one : KeyedOwner) (amount : ℕ) (old new : Shelf) (status : Status) (text : List ℕ) → IsAmount amount → (done : IsGrantAnswered one amount old new status text)
-    → IsOk (verdict_on one done.version done.found amount) → LeavesRaised one done.version done.found old new
+    → IsOk (verdict_on one done.version done.found amount) → LeavesRaised one done.version done.found amount old new
 granted_leaves one amount old new status text valid done ok before after was is =
     let entry = entry_in one done.version in
     let header = header_in one done.version in
@@ -96,7 +99,7 @@ granted_leaves one amount old new status text valid done ok before after was is 
     by_verdict (Ok left) ok went = went
     by_verdict (Err refusal) ok went = absurd (cc (ok))
 
-pub unwritten_leaves : (one : KeyedOwner) (amount : ℕ) (old new : Shelf) → IsAmount amount → (fails : IsGrantUnwritten one amount old new) → LeavesRaised one fails.version fails.found old new
+pub unwritten_leaves : (one : KeyedOwner) (amount : ℕ) (old new : Shelf) → IsAmount amount → (fails : IsGrantUnwritten one amount old new) → LeavesRaised one fails.version fails.found amount old new
 unwritten_leaves one amount old new valid fails before after was is =
     let entry = entry_in one fails.version in
     let header = header_in one fails.version in

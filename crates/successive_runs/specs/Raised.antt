@@ -1,5 +1,5 @@
 -- What a grant leaves of the owner's journal.
-use Rattle.std.specs.Prelude.{◌≡◌, ℕ, List, Some, IsOk, IfSome}
+use Rattle.std.specs.Prelude.{◌≡◌, ◌⊎◌, ℕ, List, [], ◌∷◌, Some, IfSome}
 use Rattle.outside_disks.specs.Disks.{Shown, Leaves, Passes, WhereTold, noted}
 use Rattle.outside_disks.specs.Disks.Step.{Synced}
 use Rattle.journal_records.specs.declared.records.Header.{Header}
@@ -9,14 +9,15 @@ use Rattle.budget_core.specs.Entries.{Entry}
 use Rattle.catalog_loading.specs.Loaded.{KeyedOwner}
 use Rattle.query_server.specs.Grant.{entry_in, header_in}
 use Rattle.query_server.specs.Shelves.{Shelf}
-use Rattle.successive_runs.specs.Life.{MayHaveGranted}
+use Rattle.successive_runs.specs.Life.{AreGranted}
 
--- A file stands for these records, or for them and grants that the owner may have made.
-abbrev pub IsRaisedFrom : Entry → Header → (found : List Record) → (bytes : List ℕ) → Type 0
-IsRaisedFrom entry header found bytes = (left : List Record) × Stands header left bytes × MayHaveGranted entry found left
+-- A file stands for these records, or for them and the grant of this amount, which the owner may make.
+abbrev pub IsRaisedFrom : Entry → Header → (found : List Record) → (amount : ℕ) → (bytes : List ℕ) → Type 0
+IsRaisedFrom entry header found amount bytes =
+    (left : List Record) × Stands header left bytes × ((left ≡ found) ⊎ AreGranted entry found (amount ∷ []) left)
 
 -- So does each file that a stop may have left since the owner's journal was opened with these records, and each that a stop leaves now.
-abbrev pub LeavesRaised : KeyedOwner → (version : ℕ) → (found : List Record) → (old new : Shelf) → Type 0
-LeavesRaised one version found old new = (before after : Shown) → old one.number ≡ Some before → new one.number ≡ Some after →
-    WhereTold (Passes (IsRaisedFrom (entry_in one version) (header_in one version) found)) (noted Synced before.trace) after.trace
-    × IfSome after.trace (Leaves (IsRaisedFrom (entry_in one version) (header_in one version) found))
+abbrev pub LeavesRaised : KeyedOwner → (version : ℕ) → (found : List Record) → (amount : ℕ) → (old new : Shelf) → Type 0
+LeavesRaised one version found amount old new = (before after : Shown) → old one.number ≡ Some before → new one.number ≡ Some after →
+    WhereTold (Passes (IsRaisedFrom (entry_in one version) (header_in one version) found amount)) (noted Synced before.trace) after.trace
+    × IfSome after.trace (Leaves (IsRaisedFrom (entry_in one version) (header_in one version) found amount))

@@ -81,7 +81,7 @@ pub fn answered_scripts_leave_what_may_be_found()
 pub fn grants_are_made_between_runs()
     ensures made { (one : KeyedOwner) (amount : ℕ) (old new : Shelf) (status : Status) (text : List ℕ) → IsAmount amount →
         (done : IsGrantAnswered one amount old new status text) → IsOk (verdict_on one done.version done.found amount) →
-        LeavesRaised one done.version done.found old new }
+        LeavesRaised one done.version done.found amount old new }
     ensures unwritten { (one : KeyedOwner) (amount : ℕ) (old new : Shelf) → IsAmount amount → (fails : IsGrantUnwritten one amount old new) →
-        LeavesRaised one fails.version fails.found old new }
+        LeavesRaised one fails.version fails.found amount old new }
 {}
