@@ -32,5 +32,4 @@ pub mod Examples
 pub mod ExamplesOfOrder
 pub mod ExamplesOfDisks
 pub mod ExamplesOfService
-pub mod ExamplesOfGrants
 pub mod Granting
