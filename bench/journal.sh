@@ -19,7 +19,7 @@ need_tool cc gcc
 need_tool python3 python3
 mkdir -p "$disk"
 make_room
-behind=20000
+behind=30000
 passed=0
 cc -O2 -o loop "$top/bench/journal_loop.c" || exit 2
 printf 'age\n20\n30\n40\n' >people.csv
