@@ -8,8 +8,8 @@
 It shares nothing with the server but the rules, and stands on programs.py, which reads and checks.
 
 A value is an int (a number), bytes (a text), () (unit), a tuple of two (a pair of either kind), an Injection, a Bang, a list
-(a bag, in the order of its elements), or a Closure. A shape is an int, the greatest width of a ground value's bags, a tuple
-of two, a Bang or a Closure. Both are shared wherever a name is used twice, so they stay as small as the run is long.
+(a bag, in the order of its elements), or a Closure. A shape is a Ground, the greatest width of a ground value's bags and the walks that
+their functions take for a row, a tuple of two, a Bang or a Closure. Both are shared wherever a name is used twice, so they stay as small as the run is long.
 """
 from programs import PEOPLE, Node, Refused, checked, sensitivity_text
 
@@ -17,6 +17,7 @@ NUMBER_LIMIT = 2**50
 DEPTH_LIMIT = 128
 TURN_LIMIT = 20_000
 WIDTH_LIMIT = 64
+WALK_LIMIT = 64
 
 
 class Closure:
@@ -48,9 +49,26 @@ class Injection:
 # The run without data.
 
 
+class Ground(int):
+    """How many tables wide a ground value's bags are, and how many walks of bags their functions take for a row."""
+
+    def __new__(cls, width, walks=0):
+        made = super().__new__(cls, width)
+        made.walks = walks
+        return made
+
+
+def walks_in(shape):
+    return getattr(shape, "walks", 0)
+
+
+def widest(left, right):
+    return Ground(max(left, right), max(walks_in(left), walks_in(right)))
+
+
 class Plan:
     def __init__(self):
-        self.turns = self.depth = self.width = 0
+        self.turns = self.depth = self.width = self.walks = 0
 
     def visit(self, node, scope, depth):
         """The shape of a term that is visited at this depth."""
@@ -72,12 +90,17 @@ class Plan:
         for part in parts:
             if isinstance(part, Node):
                 self.visit(part, scope, depth)
-        return 0
+        return Ground(0)
+
+    def tally(self, node, scope, depth, *parts):
+        """A bag's size or sum: a walk, with those inside it."""
+        self.walks += 1 + walks_in(self.visit(parts[-1], scope, depth))
+        return Ground(0)
 
     def pair(self, node, scope, depth, a, b):
         left, right = self.visit(a, scope, depth), self.visit(b, scope, depth)
         both_ground = isinstance(left, int) and isinstance(right, int)
-        return max(left, right) if both_ground else (left, right)
+        return widest(left, right) if both_ground else (left, right)
 
     def half(self, node, scope, depth, e):
         return halves(self.visit(e, scope, depth))[0 if node.form == "fst" else 1]
@@ -93,13 +116,13 @@ class Plan:
         condition = self.visit(e, scope, depth)
         left = self.visit(a, {**scope, x: condition}, depth)
         right = self.visit(b, {**scope, y: condition}, depth)
-        return max(left, right)
+        return widest(left, right)
 
     def choice(self, node, scope, depth, e, a, b):
         self.visit(e, scope, depth)
         left = self.visit(a, scope, depth)
         right = self.visit(b, scope, depth)
-        return max(left, right)
+        return widest(left, right)
 
     def function(self, node, scope, depth, *_):
         return Closure(node, scope)
@@ -122,22 +145,28 @@ class Plan:
         return self.visit(b, {**scope, x: self.visit(e, scope, depth)}, depth)
 
     def union(self, node, scope, depth, a, b):
-        width = self.visit(a, scope, depth) + self.visit(b, scope, depth)
+        left, right = self.visit(a, scope, depth), self.visit(b, scope, depth)
+        width = left + right
         if width > WIDTH_LIMIT:
             raise Refused(f"37 {node.span()} {width}")
-        return width
+        return Ground(width, max(walks_in(left), walks_in(right)))
 
     def over_bag(self, node, scope, depth, f, b):
         function = self.visit(f, scope, depth)
         bag = self.visit(b, scope, depth)
-        self.visit(*function.entered(0), depth)
-        return bag
+        before, self.walks = self.walks, 0
+        self.visit(*function.entered(Ground(0)), depth)
+        inside, self.walks = self.walks, before
+        if walks_in(bag) + inside >= WALK_LIMIT:
+            raise Refused("90")
+        return Ground(bag, walks_in(bag) + inside)
 
 
 SHAPES = {
     "name": "name", "pair": "pair", "with": "pair", "fst": "half", "snd": "half", "let,": "let_pair", "inl": "injection",
     "inr": "injection", "case": "case", "if": "choice", "fun": "function", "fn": "function", "apply": "apply", "!": "bang",
     "let!": "let_bang", "let": "let", "union": "union", "map": "over_bag", "filter": "over_bag", "split": "over_bag",
+    "size": "tally", "sum": "tally",
 }  # fmt: skip
 
 
@@ -151,7 +180,7 @@ def halves(shape):
 
 def plan(term, tables=PEOPLE):
     found = Plan()
-    found.visit(term, {name: 1 for name, _ in tables}, 1)
+    found.visit(term, {name: Ground(1) for name, _ in tables}, 1)
     return found
 
 

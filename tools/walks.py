@@ -45,9 +45,9 @@ class Walks(Plan):
             self.deepest = (*self.around, node)
         return rows
 
-    def number(self, node, scope, depth, *parts):
+    def tally(self, node, scope, depth, *parts):
         if node.form != "sum":
-            return super().number(node, scope, depth, *parts)
+            return super().tally(node, scope, depth, *parts)
         self.walk(node, self.visit(parts[-1], scope, depth))
         return 0
 
