@@ -9,7 +9,7 @@ use Rattle.flow_values.specs.Views.{AllKnown, IsFlow, IsKnown, flow_of, step_of,
 use Rattle.flow_values.specs.declared.value.Branch.{Branch}
 use Rattle.flow_values.specs.declared.value.Closure.{Closure}
 use Rattle.flow_values.specs.declared.value.Stage.{Stage}
-use Rattle.flow_values.proofs.Gone.{all_more, go_more, go_left, go_right, through_both}
+use Rattle.flow_values.proofs.Gone.{all_more, go_left, go_more, go_none, go_right, through_both, through_none}
 
 pub steps_more : (ss : List Stage) (s : Stage) → steps_of (ss ++ s ∷ []) ≡ steps_of ss ++ step_of s ∷ []
 steps_more [] s = refl
@@ -68,7 +68,6 @@ taken : (bs : List Branch) (i : ℕ) (b : Branch) → i < length bs → b ≡ ge
 taken bs i b h e = take_more bs i b h ∙ ap (λ x. take i bs ++ x ∷ []) (sym e)
 
 module _ (c : Closure) (l : ℕ) (k : Option Bool) where
-
   longer_elements : (a b : Branch) → IsLonger a b c l k → branch_of a ≡ all_through (step_by c l k ∷ []) (branch_of b)
   longer_elements a b h = (λ i. all_through (h.steps i) (h.table i)) ∙ all_more (steps_of b.stages.items) (step_by c l k) b.table.value
 
@@ -120,3 +119,14 @@ pub appended_more : (bs : List Branch) (i : ℕ) (x : Branch) → i < length bs 
 appended_more bs i x h e start out more b inv p is =
     subst (λ (xs : List Branch). AreAppended start xs more) (sym (taken bs i x h e))
     (subst (λ (ys : List Branch). AreAppended start (take i bs ++ x ∷ []) ys) (sym p) (appended_one start out (take i bs) x b inv is))
+
+-- the one branch of a table
+pub one_walked : (bs out : List Branch) (b : Branch) → bs ≡ [] → out ≡ bs ++ b ∷ [] → b.stages.items ≡ [] → IsFlow out
+one_walked bs out b p q e =
+    let o : out ≡ b ∷ [] = q ∙ ap (λ xs. xs ++ b ∷ []) p in
+    subst IsFlow (sym o) (subst AllKnown (sym e) tt, subst (λ (ss : List Stage). AllGo (steps_of ss) b.table.value) (sym e) (go_none b.table.value), tt)
+
+pub one_rows : (bs out : List Branch) (b : Branch) → bs ≡ [] → out ≡ bs ++ b ∷ [] → b.stages.items ≡ [] → flow_of out ≡ b.table.value
+one_rows bs out b p q e =
+    let o : out ≡ b ∷ [] = q ∙ ap (λ xs. xs ++ b ∷ []) p in
+    ap flow_of o ∙ append-nil (branch_of b) ∙ ap (λ ss. all_through (steps_of ss) b.table.value) e ∙ through_none b.table.value

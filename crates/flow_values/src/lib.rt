@@ -1,6 +1,7 @@
 //! Values while a program runs: bags are made where they are walked.
 #![tactic(auto)]
 
+pub mod plain;
 pub mod scope;
 pub mod stages;
 pub mod value;

@@ -9,7 +9,7 @@ ghost use Rattle.run_values.specs.Parts.{IsPair, first_in, rebound, second_in};
 
 use crate::value::{Closure, Element, Frame, Halves, Link, Scope, Value};
 use fz_ast::{Name, NoMemory};
-use run_values::plain::Plain;
+use run_values::Plain;
 use std::alloc::Global;
 use std::rc::Rc;
 

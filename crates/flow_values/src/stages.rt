@@ -40,13 +40,20 @@ fn stage_of(function: &Rc<Closure>, left: u32, keeps: Option<bool>) -> Result<St
     })
 }
 
+// The same stage once more.
+fn copied(stage: &Stage) -> Result<Stage, NoMemory>
+    ensures { IfOk result (λ s. IsSameStage s stage.now.function.value stage.now.left stage.now.keeps) }
+{
+    stage_of(&stage.function, stage.left, stage.keeps)
+}
+
 // The same stages once more.
 fn copies(alloc: Global, stages: &[Stage]) -> Result<Vec<Stage>, NoMemory>
     ensures { IfOk result (λ out. AreSameStages out.items stages.now) }
 {
     let mut out = Vec::new(alloc);
     for i in 0..stages.len() {
-        let stage = stage_of(&stages[i].function, stages[i].left, stages[i].keeps)?;
+        let stage = copied(&stages[i])?;
         put(&mut out, stage)?;
     }
     Ok(out)

@@ -11,10 +11,11 @@ ghost use Rattle.run_values.specs.Views.{IsFunction, IsTextCell, function_of, te
 ghost use Rattle.flow_values.specs.Steps.{AllGo, all_through};
 ghost use Rattle.flow_values.specs.Views.{IsClosureAt, IsFlow, IsKnown, closure_value, flow_of};
 
+use crate::plain::{last_plain, plain_at};
 use crate::stages::{all_staged, one_branch, put_all};
 use fz_ast::{Name, NoMemory, Nodes, Text};
 use metric_values::{Cell, Table};
-use run_values::plain::{Plain, last_plain, plain_at};
+use run_values::Plain;
 use std::alloc::Global;
 use std::marker::Model;
 use std::rc::Rc;

@@ -13,7 +13,7 @@ ghost use Rattle.run_values.specs.Parts.{IsBag, elements};
 ghost use Rattle.flow_values.specs.Steps.{all_through, stepped, through};
 ghost use Rattle.flow_values.specs.Views.{AllKnown, steps_of};
 ghost use Rattle.row_kernels.specs.Gathers.{AllWeighed, gathered};
-ghost use Rattle.fuzz_eval.specs.Steps.{Can2, CanApply, Gives2, HasFormWithin, HasValueWithin};
+ghost use Rattle.fuzz_eval.specs.Steps.{Can1, Can2, CanApply, CanRanged, Gives1, Gives2, GivesRanged, HasFormWithin, HasValueWithin};
 ghost use Rattle.fuzz_eval.specs.Walks.{AllKnownWorkers, AreSameWorkers, CanGather, CanPass, CanStep, IsKnownWorker, IsSameWorker, IsTotal, means_in, values_in, worker_step, worker_steps};
 ghost use Rattle.fuzz_eval.specs.Loops.{function_inside};
 
@@ -249,6 +249,37 @@ fn tally(alloc: Global, b: &Value, gather: Gather, walks: u32) -> Result<Value, 
     Ok(Value::num(narrowed(total)))
 }
 
+// What a word with one part gives.
+#[cycle(evaluating)]
+fn word(alloc: Global, form: Unary, u: &Value, walks: u32) -> Result<Value, NoMemory>
+    requires { Can1 form u.now.means }
+    ensures { IfOk result (λ v. Gives1 form u.now.means v.means) }
+{
+    match form {
+        Unary::Size => tally(alloc, u, Gather::Size, walks),
+        _ => unary(form, u),
+    }
+}
+
+// What a word with bounds gives.
+#[cycle(evaluating)]
+fn bounded(
+    alloc: Global,
+    form: Ranged,
+    lo: i64,
+    hi: i64,
+    u: &Value,
+    walks: u32,
+) -> Result<Value, NoMemory>
+    requires { CanRanged form lo hi u.now.means }
+    ensures { IfOk result (λ v. GivesRanged form lo hi u.now.means v.means) }
+{
+    match form {
+        Ranged::Sum => tally(alloc, u, Gather::Sum(lo, hi), walks),
+        Ranged::Clip => Ok(clip(lo, hi, u)),
+    }
+}
+
 // What a word or sign of two parts gives for their values.
 #[cycle(evaluating)]
 #[inline(never)]
@@ -408,26 +439,18 @@ fn eval_other(
         Form::Num(z) => Ok(Value::num(z)),
         Form::Text(text) => Value::text(alloc, text),
         Form::Unit => Ok(Value::unit()),
-        Form::Unary(Unary::Size, e) => {
-            let u = eval(alloc, nodes, scope, e, below, walks)?;
-            tally(alloc, &u, Gather::Size, walks)
-        }
         Form::Unary(form, e) => {
             let u = eval(alloc, nodes, scope, e, below, walks)?;
-            unary(form, &u)
+            word(alloc, form, &u, walks)
         }
         Form::Binary(form, a, b) => eval_two(alloc, nodes, scope, form, a, b, below, walks),
         Form::Times(k, e) => {
             let u = eval(alloc, nodes, scope, e, below, walks)?;
             Ok(scale(k, &u))
         }
-        Form::Ranged(Ranged::Sum, lo, hi, e) => {
+        Form::Ranged(form, lo, hi, e) => {
             let u = eval(alloc, nodes, scope, e, below, walks)?;
-            tally(alloc, &u, Gather::Sum(lo, hi), walks)
-        }
-        Form::Ranged(Ranged::Clip, lo, hi, e) => {
-            let u = eval(alloc, nodes, scope, e, below, walks)?;
-            Ok(clip(lo, hi, &u))
+            bounded(alloc, form, lo, hi, &u, walks)
         }
         Form::Inject(side, _, _, e) => {
             let u = eval(alloc, nodes, scope, e, below, walks)?;

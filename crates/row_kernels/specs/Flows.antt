@@ -1,9 +1,8 @@
 -- Rows of a chunk on their way through the stages of a bag.
-use Rattle.std.specs.Prelude.{◌≡◌, ◌<◌, ◌≤◌, ◌+◌, ◌&&◌, ◌+ℤ◌, Bool, List, None, Option, Some, [], ◌∷◌, drop, false, get_or, length, pos, take, true, ℕ, ℤ, suc, zero}
+use Rattle.std.specs.Prelude.{◌≡◌, ◌<◌, ◌≤◌, ◌+◌, ◌+ℤ◌, Bool, List, None, Option, Some, false, get_or, length, pos, take, true, ℕ, ℤ, suc, zero}
 use Rattle.metric_law.specs.Means.{Applies, MeansIn}
 use Rattle.metric_values.specs.Cells.{row_at}
 use Rattle.metric_values.specs.Values.{BangV, Flat, Value, value_of}
-use Rattle.flow_values.specs.Computed.{agree}
 use Rattle.flow_values.specs.Steps.{Answers, Step, all_through, stepped, through}
 use Rattle.row_kernels.specs.declared.flows.Passed.{Passed}
 use Rattle.row_kernels.specs.declared.gather.Gather.{Gather}
@@ -37,15 +36,10 @@ AreRowsThere rows first n p = AreAll (λ j. Some (row_at rows (first + j))) n p
 abbrev pub ArePassed : List Step → List Flat → ℕ → ℕ → Passed → Type 0
 ArePassed ss rows first n p = AreAll (λ j. through ss (Some (row_at rows (first + j)))) n p
 
--- for each row whatever the step's function gives for its lane
-pub record AreImaged (s : Step) (n : ℕ) (l k : Lanes) : Type 0 where
+-- for each row whatever the function gives for its lane
+pub record AreImaged (c : Value) (n : ℕ) (l k : Lanes) : Type 0 where
   pub long : IsLong n k
-  pub each : (j : ℕ) → j < n → (m : ℕ) (v : Value) → Applies (MeansIn m) s.function (BangV (lane_at l j)) v → v ≡ lane_at k j
-
--- those of both, where the other says k
-abbrev pub both_there : Bool → List Bool → List Bool → List Bool
-both_there k (a ∷ xs) (b ∷ bs) = (a && agree k b) ∷ both_there k xs bs
-both_there k xs bs = []
+  pub each : (j : ℕ) → j < n → (m : ℕ) (v : Value) → Applies (MeansIn m) c (BangV (lane_at l j)) v → v ≡ lane_at k j
 
 -- what a row becomes by one step, where the step's function gives something for it
 abbrev pub RowSteps : Step → Bool → Value → Bool → Value → Type 0
@@ -69,9 +63,9 @@ added_up g o (suc n) = added_up g o n +ℤ weigh_some g (o n)
 abbrev pub IsLanesTotal : Gather → ℕ → Passed → ℤ → Type 0
 IsLanesTotal g n p z = (o : ℕ → Option Flat) → AreAll o n p → z ≡ added_up g o n
 
--- n rows from a row on, behind the steps
+-- what n rows from a row on add to those before it
 abbrev pub IsChunkTotal : Gather → List Step → List Flat → ℕ → ℕ → ℤ → Type 0
-IsChunkTotal g ss rows first n z = z ≡ gathered g (all_through ss (take n (drop first rows)))
+IsChunkTotal g ss rows first n z = gathered g (all_through ss (take first rows)) +ℤ z ≡ gathered g (all_through ss (take (first + n) rows))
 
 -- the first n rows
 pub record IsFlatTotal (g : Gather) (ss : List Step) (rows : List Flat) (n : ℕ) (z : ℤ) : Type 0 where

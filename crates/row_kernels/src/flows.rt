@@ -1,17 +1,19 @@
 //! What rows of a table become behind the stages of a bag, a chunk at a time.
-ghost use Rattle.std.specs.Prelude.{◌≡◌, ◌≤◌, ◌<◌, ◌+◌, ◌^◌, [], IfOk, IfSome, None, Some, length, ℕ};
+ghost use Rattle.std.specs.Prelude.{◌≡◌, ◌≤◌, ◌<◌, ◌+◌, ◌^◌, ◌&&◌, IfOk, IfSome, Some, false, get_or, length, ℕ};
 ghost use Rattle.metric_values.specs.Cells.{row_at};
+ghost use Rattle.flow_values.specs.Computed.{agree};
 ghost use Rattle.flow_values.specs.Steps.{AllGo, Goes};
-ghost use Rattle.flow_values.specs.Views.{AllKnown, IsKnown, step_of, steps_of};
-ghost use Rattle.row_kernels.specs.Flows.{ArePassed, AreImaged, AreJudged, AreRowsThere, AreStepped, IsChunkTotal, IsFlatTotal, IsLanesTotal, IsLongPassed, both_there};
+ghost use Rattle.flow_values.specs.Views.{AllKnown, IsKnown, closure_value, step_of, steps_of};
+ghost use Rattle.row_kernels.specs.Flows.{ArePassed, AreImaged, AreJudged, AreRowsThere, AreStepped, IsChunkTotal, IsFlatTotal, IsLanesTotal, IsLongPassed};
+ghost use Rattle.row_kernels.specs.Lanes.{IsLong};
 
-use crate::columns::repeated_truth;
-use crate::frames::{Frame, only};
+use crate::columns::{blank, repeated_truth};
+use crate::frames::only;
 use crate::gather::{Gather, add_total, sum_of, there_in};
 use crate::lanes::{Lanes, rows_from};
 use crate::meant::lanes_of;
-use flow_values::Stage;
-use fz_ast::{Arrow, Form, Name, NoMemory};
+use flow_values::{Closure, Stage};
+use fz_ast::{Arrow, Form, NoMemory};
 use metric_values::Table;
 use std::alloc::Global;
 use std::rc::Rc;
@@ -44,15 +46,15 @@ fn rows_there(
 // What a function gives for each row, by terms at most `left` deep, if it is flat.
 fn stage_lanes(
     alloc: Global,
-    stage: &Stage,
+    function: &Closure,
+    left: u32,
     lanes: Lanes,
     len: usize,
 ) -> Result<Option<Lanes>, NoMemory>
-    requires known { IsKnown stage.now.function.value }
-    requires long { Rattle.row_kernels.specs.Lanes.IsLong len lanes }
-    ensures { IfOk result (λ o. IfSome o (AreImaged (step_of stage.now) len lanes)) }
+    requires known { IsKnown function.now }
+    requires long { IsLong len lanes }
+    ensures { IfOk result (λ o. IfSome o (AreImaged (closure_value function.now) len lanes)) }
 {
-    let function = &stage.function;
     let Form::Lambda(arrow, name, _, _, body) = &function.nodes.node(function.lambda).form else {
         return Ok(None);
     };
@@ -67,17 +69,27 @@ fn stage_lanes(
         &function.scope,
         len,
         *body,
-        stage.left,
+        left,
     )
 }
 
-// Those that were there and of which it is told.
-fn keep_both(there: &mut [bool], told: &[bool], keep: bool)
-    requires { length told.now ≡ length there.old }
-    ensures { there.new ≡ both_there keep there.old told.now }
+// Whether what is told is what keeps a row.
+fn says(told: bool, keep: bool) -> bool
+    ensures { result ≡ agree keep told }
 {
-    for j in 0..there.len() {
-        there[j] = there[j] && told[j] == keep;
+    if keep { told } else { !told }
+}
+
+// Those that were there and of which it is told.
+#[inline(never)]
+fn keep_both(out: &mut [bool], there: &[bool], told: &[bool], keep: bool)
+    requires there_long { length there.now ≡ length out.old }
+    requires told_long { length told.now ≡ length out.old }
+    ensures len { length out.new ≡ length out.old }
+    ensures each { (j : ℕ) → j < length out.old → get_or out.new j false ≡ (get_or there.now j false && agree keep (get_or told.now j false)) }
+{
+    for i in 0..out.len() {
+        out[i] = there[i] && says(told[i], keep);
     }
 }
 
@@ -94,15 +106,15 @@ fn judged(
     ensures { IfOk result (λ o. IfSome o (AreJudged (step_of stage.now) keep len passed)) }
 {
     let again = passed.lanes.copy(alloc)?;
-    let Some(told) = stage_lanes(alloc, stage, again, len)? else {
+    let Some(told) = stage_lanes(alloc, &stage.function, stage.left, again, len)? else {
         return Ok(None);
     };
     let Lanes::Truth(told) = told else {
         return Ok(None);
     };
+    let mut there = blank(alloc, len)?;
+    keep_both(&mut there, &passed.there, &told, keep);
     let lanes = passed.lanes;
-    let mut there = passed.there;
-    keep_both(&mut there, &told, keep);
     Ok(Some(Passed { lanes, there }))
 }
 
@@ -120,7 +132,8 @@ fn stepped(
     match stage.keeps {
         Some(keep) => judged(alloc, stage, keep, passed, len),
         None => {
-            let Some(lanes) = stage_lanes(alloc, stage, passed.lanes, len)? else {
+            let Some(lanes) = stage_lanes(alloc, &stage.function, stage.left, passed.lanes, len)?
+            else {
                 return Ok(None);
             };
             let there = passed.there;

@@ -14,8 +14,8 @@ pub enum Plain<'a> {
     Other,
 }
 
-/// The cell of a row and a column.
-pub fn plain_at(table: &Table, i: u32, k: usize) -> Plain<'_>
+// The cell of a row and a column.
+pub(crate) fn plain_at(table: &Table, i: u32, k: usize) -> Plain<'_>
     requires row { i < length table.now }
     requires column { k < columns_in (row_at table.now i) }
     ensures { plain_of result ≡ plain_in (value_of (cell_at k (row_at table.now i))) }
@@ -26,8 +26,8 @@ pub fn plain_at(table: &Table, i: u32, k: usize) -> Plain<'_>
     }
 }
 
-/// The cell of a row and a column, if no other stands behind it.
-pub fn last_plain(table: &Table, i: u32, k: usize) -> Plain<'_>
+// The cell of a row and a column, if no other stands behind it.
+pub(crate) fn last_plain(table: &Table, i: u32, k: usize) -> Plain<'_>
     requires row { i < length table.now }
     requires column { k < columns_in (row_at table.now i) }
     ensures { plain_of result ≡ plain_in (value_of (from_column k (row_at table.now i))) }
