@@ -22,7 +22,7 @@ use crate::nodes::{Body, bind_element, body_of, look};
 use crate::operands::{at_once, taken_apart};
 use crate::totals::{add_some, count_at_once};
 use crate::words::{clip, equal, inject, is_text, plain, scale, unary};
-use crate::workers::{Worker, workers_of};
+use crate::workers::{Worker, is_kept, workers_of};
 use bag_ops::numbers::narrowed;
 use flow_values::{Branch, Scope, Value};
 use fz_ast::{Arrow, Binary, Form, Name, NoMemory, Nodes, Ranged, Unary};
@@ -141,7 +141,7 @@ fn step(alloc: Global, worker: &mut Worker, x: Value, walks: u32) -> Result<Opti
                 worker.left,
                 walks,
             )?;
-            if answer.is_left() == keep {
+            if is_kept(&answer, keep) {
                 Ok(Some(again))
             } else {
                 Ok(None)

@@ -1,10 +1,12 @@
 //! Stages at work: each with the scope inside its function's name, which is one for all elements.
 ghost use Rattle.std.specs.Prelude.{◌≡◌, ◌++◌, ◌∷◌, [], IfOk, OnOk};
+ghost use Rattle.run_values.specs.Parts.{IsSum};
+ghost use Rattle.flow_values.specs.Computed.{agree, is_true};
 ghost use Rattle.flow_values.specs.Views.{AllKnown, IsKnown, step_of, steps_of};
 ghost use Rattle.fuzz_eval.specs.Walks.{AllKnownWorkers, IsKnownWorker, worker_step, worker_steps};
 
 use crate::nodes::{Body, body_of, element_scope};
-use flow_values::{Scope, Stage};
+use flow_values::{Scope, Stage, Value};
 use fz_ast::{NoMemory, Nodes};
 use std::alloc::Global;
 use std::rc::Rc;
@@ -45,6 +47,18 @@ fn put(out: &mut Vec<Worker>, worker: Worker) -> Result<(), NoMemory>
     match out.push(worker) {
         Ok(()) => Ok(()),
         Err(_) => Err(NoMemory),
+    }
+}
+
+/// Whether an answer is the truth of which elements are kept.
+pub fn is_kept(answer: &Value, keep: bool) -> bool
+    requires { IsSum answer.now.means }
+    ensures { result ≡ agree keep (is_true answer.now.means) }
+{
+    if keep {
+        answer.is_left()
+    } else {
+        !answer.is_left()
     }
 }
 
