@@ -6,7 +6,7 @@ use fz_ast::{Column as Kind, Name, NoMemory, Text};
 use fz_lexer::lex;
 use fz_parser::parse;
 use metric_values::{Cell, Table};
-use row_kernels::{Gather, Lanes, Passed, flat_total, passed};
+use row_kernels::{Gather, Lanes, Passed, flat_total, pass_stages};
 use std::alloc::{AllocError, Global};
 use std::rc::Rc;
 use std::test::Fail;
@@ -76,7 +76,7 @@ fn stage_of(alloc: Global, outer: &Scope, body: &[u8], keeps: Option<bool>) -> O
 fn passed_last(alloc: Global, table: &Rc<Table>, stages: &[Stage]) -> Option<(usize, Passed)> {
     let rows = table.len();
     let first = if rows > 1024 { rows - 1024 } else { 0 };
-    match passed(alloc, table, first, rows - first, stages) {
+    match pass_stages(alloc, table, first, rows - first, stages) {
         Ok(Some(rows)) => Some((first, rows)),
         _ => None,
     }
@@ -303,7 +303,7 @@ fn filters(
 // Whether no row is gone through at once.
 fn neither(alloc: Global, outer: &Scope, table: &Rc<Table>, body: &[u8]) -> Option<bool> {
     let stages = one(alloc, stage_of(alloc, outer, body, None)?)?;
-    let by_map = passed(alloc, table, 0, table.len(), &stages).ok()?;
+    let by_map = pass_stages(alloc, table, 0, table.len(), &stages).ok()?;
     let (done, total) = flat_total(alloc, Gather::Sum(0, 9), table, &stages).ok()?;
     Some(by_map.is_none() && done == 0 && total == 0)
 }

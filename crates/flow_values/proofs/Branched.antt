@@ -27,7 +27,7 @@ known_last : (ss : List Stage) (s : Stage) → AllKnown (ss ++ s ∷ []) → IsK
 known_last [] s h = h.0
 known_last (t ∷ ss) s h = known_last ss s h.1
 
-same_step : (s : Stage) (c : Closure) (l : ℕ) (k : Option Bool) → IsSameStage s c l k → step_of s ≡ step_by c l k
+pub same_step : (s : Stage) (c : Closure) (l : ℕ) (k : Option Bool) → IsSameStage s c l k → step_of s ≡ step_by c l k
 same_step s c l k h = λ i. step_by (h.closure i) (h.left i) (h.keeps i)
 
 -- one stage more was copied

@@ -1,3 +1,4 @@
 pub mod Computed
 pub mod Gone
 pub mod Branched
+pub mod Closures

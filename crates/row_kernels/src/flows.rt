@@ -143,7 +143,7 @@ fn stepped(
 }
 
 /// What rows of a table, from a row on, become behind the stages, if the functions are flat.
-pub fn passed(
+pub fn pass_stages(
     alloc: Global,
     table: &Rc<Table>,
     first: usize,
@@ -202,7 +202,7 @@ fn chunk_total(
     requires goes { AllGo (steps_of stages.now) table.now.value }
     ensures { IfOk result (λ o. IfSome o (IsChunkTotal gather (steps_of stages.now) table.now.value first len)) }
 {
-    let Some(rows) = passed(alloc, table, first, len, stages)? else {
+    let Some(rows) = pass_stages(alloc, table, first, len, stages)? else {
         return Ok(None);
     };
     lanes_total(alloc, gather, rows, len)

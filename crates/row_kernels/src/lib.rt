@@ -11,7 +11,7 @@ pub mod meant;
 pub mod numbers;
 pub mod texts;
 
-pub use flows::{Passed, flat_total, passed};
+pub use flows::{Passed, flat_total, pass_stages};
 pub use frames::Frame;
 pub use gather::{Gather, add_total, share};
 pub use lanes::Lanes;

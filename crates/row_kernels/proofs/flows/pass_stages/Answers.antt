@@ -3,7 +3,7 @@ use Rattle.std.specs.Prelude.{drop}
 use Rattle.flow_values.specs.Views.{step_of, steps_of}
 use Rattle.row_kernels.specs.Flows.{AreStepped}
 use Rattle.row_kernels.proofs.Passing.{along_end, along_next, along_start, known_at, none_left, steps_left}
-use Rattle.row_kernels.proofs.flows.passed.Goals as goal
+use Rattle.row_kernels.proofs.flows.pass_stages.Goals as goal
 
 pub loop-i-init : goal.loop-i-init
 loop-i-init c = along_start (steps_of c.args.stages.now) c.args.table.now.value c.args.first c.args.len c.in_ok-rows.rows c.in_ok-rows.ensures c.requires.goes
