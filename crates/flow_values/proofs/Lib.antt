@@ -2,3 +2,4 @@ pub mod Computed
 pub mod Gone
 pub mod Branched
 pub mod Closures
+pub mod Examples

@@ -1,5 +1,5 @@
 -- Stages at work, and what a walk makes of a table's rows.
-use Rattle.std.specs.Prelude.{Bool, List, None, Option, Some, [], length, ℕ, ℤ, ◌<◌, ◌≤◌, ◌≡◌, ◌∷◌, ⊤, take}
+use Rattle.std.specs.Prelude.{Bool, List, None, Option, Some, [], length, ◌<◌, ◌≡◌, ◌∷◌, ⊤}
 use Rattle.fz_ast.specs.TermNodes.{term_at}
 use Rattle.metric_values.specs.Values.{Flat, Value, value_of}
 use Rattle.run_values.specs.Flats.{IsFlat, flat_of}
@@ -8,7 +8,7 @@ use Rattle.flow_values.specs.Held.{Held}
 use Rattle.flow_values.specs.Steps.{AllGo, Answers, Goes, Step, all_through}
 use Rattle.row_kernels.specs.declared.gather.Gather.{Gather}
 use Rattle.row_kernels.specs.declared.gather.Gather.TheVariants.{Size, Sum}
-use Rattle.row_kernels.specs.Gathers.{AllWeighed, gathered}
+use Rattle.row_kernels.specs.Gathers.{AllWeighed}
 use Rattle.fuzz_eval.specs.Loops.{function_inside}
 use Rattle.fuzz_eval.specs.declared.workers.Worker.{Worker}
 
@@ -61,11 +61,6 @@ pub record CanPass (ss : List Step) (v : Value) : Type 0 where
 pub record CanGather (g : Gather) (ss : List Step) (rows : List Flat) : Type 0 where
   pub goes : AllGo ss rows
   pub weighed : AllWeighed g (all_through ss rows)
-
--- what is made of the first n rows
-pub record IsTotal (g : Gather) (ss : List Step) (rows : List Flat) (n : ℕ) (z : ℤ) : Type 0 where
-  pub within : n ≤ length rows
-  pub total : z ≡ gathered g (all_through ss (take n rows))
 
 -- no step leaves elements out
 abbrev pub AreAllMaps : List Step → Type 0

@@ -12,9 +12,10 @@ ghost use Rattle.run_values.specs.Flats.{flat_of};
 ghost use Rattle.run_values.specs.Parts.{IsBag, elements};
 ghost use Rattle.flow_values.specs.Steps.{all_through, stepped, through};
 ghost use Rattle.flow_values.specs.Views.{AllKnown, steps_of};
+ghost use Rattle.row_kernels.specs.Flows.{IsFlatTotal};
 ghost use Rattle.row_kernels.specs.Gathers.{AllWeighed, gathered};
 ghost use Rattle.fuzz_eval.specs.Steps.{Can1, Can2, CanApply, CanRanged, Gives1, Gives2, GivesRanged, HasFormWithin, HasValueWithin};
-ghost use Rattle.fuzz_eval.specs.Walks.{AllKnownWorkers, AreSameWorkers, CanGather, CanPass, CanStep, IsKnownWorker, IsSameWorker, IsTotal, means_in, values_in, worker_step, worker_steps};
+ghost use Rattle.fuzz_eval.specs.Walks.{AllKnownWorkers, AreSameWorkers, CanGather, CanPass, CanStep, IsKnownWorker, IsSameWorker, means_in, values_in, worker_step, worker_steps};
 ghost use Rattle.fuzz_eval.specs.Loops.{function_inside};
 
 use crate::bags::{split, staged};
@@ -186,8 +187,8 @@ fn walk_rows(
 ) -> Result<i128, NoMemory>
     requires known { AllKnown branch.now.stages.items }
     requires can { CanGather gather (steps_of branch.now.stages.items) branch.now.table.value }
-    requires start { IsTotal gather (steps_of branch.now.stages.items) branch.now.table.value first start }
-    ensures { IfOk result (λ z. IsTotal gather (steps_of branch.now.stages.items) branch.now.table.value (length branch.now.table.value) z) }
+    requires start { IsFlatTotal gather (steps_of branch.now.stages.items) branch.now.table.value first start }
+    ensures { IfOk result (λ z. IsFlatTotal gather (steps_of branch.now.stages.items) branch.now.table.value (length branch.now.table.value) z) }
 {
     let mut workers = workers_of(alloc, &branch.stages)?;
     let mut total = start;

@@ -2,6 +2,7 @@
 ghost use Rattle.std.specs.Prelude.{◌≡◌, ◌+ℤ◌, IfOk, OnOk, length, pos};
 ghost use Rattle.metric_values.specs.Numbers.{clip};
 ghost use Rattle.metric_values.specs.Values.{NumF};
+ghost use Rattle.row_kernels.specs.declared.gather.Gather.TheVariants.{Sum};
 ghost use Rattle.row_kernels.specs.Gathers.{count_there, sum_there, weigh};
 
 use crate::numbers::clipped;
@@ -16,7 +17,7 @@ pub enum Gather {
 
 /// What a number adds to a sum.
 pub fn share(lo: i64, hi: i64, z: i64) -> i128
-    ensures { result ≡ weigh (Rattle.row_kernels.specs.declared.gather.Gather.TheVariants.Sum lo hi) (NumF z) }
+    ensures { result ≡ weigh (Sum lo hi) (NumF z) }
 {
     clipped(lo, hi, z) as i128
 }

@@ -2,7 +2,7 @@ use Rattle.std.proofs.Common.{◌+◌, ◌*◌, ◌≡◌}
 use Rattle.std.specs.Prelude.{take}
 use Rattle.flow_values.specs.Views.{flow_of, steps_of}
 use Rattle.row_kernels.specs.Gathers.{gathered}
-use Rattle.fuzz_eval.specs.Walks.{IsTotal}
+use Rattle.row_kernels.specs.Flows.{IsFlatTotal}
 use Rattle.fuzz_eval.proofs.Walked.{AreAtWork, Remains}
 use Rattle.fuzz_eval.proofs.eval.+evaluating.Given as goal
 
@@ -63,7 +63,7 @@ abbrev pub invariant-pass-loop-i : goal.invariant-pass-loop-i
 invariant-pass-loop-i l = Remains l.fn.workers.items l.workers.items l.x.means l.i l.at.means
 
 abbrev pub invariant-walk_rows-loop-i : goal.invariant-walk_rows-loop-i
-invariant-walk_rows-loop-i l = AreAtWork l.workers.items (steps_of l.branch.stages.items) × IsTotal l.gather (steps_of l.branch.stages.items) l.branch.table.value l.i l.total
+invariant-walk_rows-loop-i l = AreAtWork l.workers.items (steps_of l.branch.stages.items) × IsFlatTotal l.gather (steps_of l.branch.stages.items) l.branch.table.value l.i l.total
 
 abbrev pub invariant-walk-loop-i : goal.invariant-walk-loop-i
 invariant-walk-loop-i l = l.total ≡ gathered l.gather (flow_of (take l.i l.branches))
