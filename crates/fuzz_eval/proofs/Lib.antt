@@ -6,5 +6,8 @@ pub mod Forms
 pub mod TwoParts
 pub mod AtOnce
 pub mod Walked
+pub mod Tallied
+pub mod Maps
+pub mod AtWork
 pub mod Programs
 pub mod Examples

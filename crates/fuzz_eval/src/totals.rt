@@ -1,5 +1,5 @@
 //! What is made of elements, but for those that a function is applied to.
-ghost use Rattle.std.specs.Prelude.{◌≡◌, ◌+ℤ◌, IfOk, IfSome, IsTrue, length};
+ghost use Rattle.std.specs.Prelude.{◌≡◌, ◌+ℤ◌, IfOk, IfSome, IsTrue, None};
 ghost use Rattle.flow_values.specs.Steps.{all_through};
 ghost use Rattle.flow_values.specs.Views.{steps_of};
 ghost use Rattle.row_kernels.specs.Gathers.{gathered, weigh_some};
@@ -9,12 +9,19 @@ use flow_values::{Branch, Stage, Value};
 use fz_ast::NoMemory;
 use row_kernels::{Gather, add_total, share};
 
+// Whether a stage tells which elements are kept.
+fn tells(stage: &Stage) -> bool
+    ensures { (IsTrue result → ⊥) → stage.now.keeps ≡ None }
+{
+    matches!(stage.keeps, Some(_))
+}
+
 // Whether no stage leaves elements out.
 fn are_all_maps(stages: &[Stage]) -> bool
     ensures { IsTrue result → AreAllMaps (steps_of stages.now) }
 {
     for i in 0..stages.len() {
-        if let Some(_) = stages[i].keeps {
+        if tells(&stages[i]) {
             return false;
         }
     }

@@ -1,5 +1,5 @@
-use Rattle.std.proofs.Common.{rules, ◌≡◌, ◌<◌, ◌+◌, ◌-◌, arith, ap, sym, subst, ◌∙◌, length, List, [], ℤ, to_z, of_z, w64}
-use Rattle.std.specs.Prelude.{IfOk, IfSome, Option, Some}
+use Rattle.std.proofs.Common.{rules, ◌≡◌, ◌<◌, ◌+◌, ◌-◌, arith, ap, sym, subst, ◌∙◌, length, List, ℤ, to_z, of_z, w64}
+use Rattle.std.specs.Prelude.{IfOk, IfSome, None, Option, Some, [], ◌∷◌, false, take, true}
 use Rattle.fz_ast.specs.Names.{name_of, text_of}
 use Rattle.fz_ast.specs.Parts.{Parts}
 use Rattle.fz_ast.specs.TermNodes.{IsKnown, binary, term_at, term_of}
@@ -21,6 +21,8 @@ use Rattle.row_kernels.proofs.Held.{high_held, low_held, num_held, times_held}
 use Rattle.fuzz_eval.proofs.Forms.{bang_has, bang_means, case_can, case_has, case_left, case_left_means, case_right, case_right_means, form_has, form_means, if_can, if_has, if_left, if_left_means, if_right, if_right_means, inject_has, inject_means, lambda_function, lambda_means, let_bang_can, let_bang_has, let_bang_inside, let_bang_means, let_has, let_inside, let_means, num_means, ranged_can, ranged_has, ranged_means, text_means, times_can, times_has, times_means, unary_can, unary_has, unary_means, unit_means, var_known, var_means}
 use Rattle.fuzz_eval.proofs.AtOnce.{apart_inside, apart_means, at_once_means}
 use Rattle.fuzz_eval.proofs.Steps.{above}
+use Rattle.fuzz_eval.proofs.Walked.{branch_added, branch_can, branch_known, branches_added, can_apply, passing_can, passing_end, passing_known, passing_left_out, passing_next, passing_same, passing_start, row_added, row_passes, row_weighed, rows_added, step_drops, step_keeps, step_maps, step_tells, whole}
+use Rattle.fuzz_eval.proofs.Tallied.{size_bag, size_gives, size_weighed, sum_bag, sum_gives, sum_weighed, walks_not}
 use Rattle.fuzz_eval.proofs.TwoParts.{binary_can, binary_means, can_compare, compared, first_has, form_here, left_compared, left_has, left_text, means_here, pair_can, pair_has, pair_inside, pair_means, right_compared, right_has, right_text, second_has}
 use Rattle.fuzz_eval.proofs.eval.+evaluating.Goals as goal
 
@@ -418,3 +420,43 @@ eval_pair-eval-requires-3 t c = (omega arith, (c.requires.b_known, pair_inside c
 
 pub eval_pair-returns : goal.eval_pair-returns
 eval_pair-returns t c = if_ok c.eval-3.result (λ v. MeansIn c.args.left c.in_ok-inner-2.inner.means (term_at c.args.nodes.now.value.terms c.args.b) v) (λ v. Rules (MeansIn c.args.left) c.args.scope.now.means (LetPairE (name_of c.args.x.now) (name_of c.args.y.now) (term_at c.args.nodes.now.value.terms c.args.e) (term_at c.args.nodes.now.value.terms c.args.b)) v) c.eval-3.ensures (pair_means c.args.left c.args.scope.now.means (name_of c.args.x.now) (name_of c.args.y.now) (term_at c.args.nodes.now.value.terms c.args.e) (term_at c.args.nodes.now.value.terms c.args.b) c.requires.has c.in_ok-u.u.means c.in_ok-u.ensures c.in_ok-inner-2.inner.means c.in_ok-inner-2.ensures)
+
+pub word-tally-requires : goal.word-tally-requires
+word-tally-requires t c = (omega arith, (size_bag c.args.form c.args.u.now.means c.in-Size.is c.requires, size_weighed c.args.u.now.means))
+
+pub word-returns-in-Size : goal.word-returns-in-Size
+word-returns-in-Size t c = if_ok c.tally.result _ (λ v. Gives1 c.args.form c.args.u.now.means v) c.tally.ensures (size_gives c.args.form c.args.u.now.means c.in-Size.is c.requires)
+
+pub word-unary-requires : goal.word-unary-requires
+word-unary-requires t c = record { walks = walks_not c.args.form c.in_default.not-Size; can = c.requires }
+
+pub word-returns-in_default : goal.word-returns-in_default
+word-returns-in_default t c = c.unary.ensures
+
+pub combine-staged-requires : goal.combine-staged-requires
+combine-staged-requires t c = record {
+  bag = map_bag c.args.left c.args.form c.args.u.means c.args.w.means c.requires c.in-Map.is;
+  goes = map_goes c.args.left c.args.form c.args.u.means c.args.w.means c.requires c.in-Map.is;
+}
+
+pub combine-returns-in-Map : goal.combine-returns-in-Map
+combine-returns-in-Map t c = if_ok c.staged.result _ (λ v. Gives2 (MeansIn c.args.left) c.args.form c.args.u.means c.args.w.means v) c.staged.ensures (map_gives c.args.left c.args.form c.args.u.means c.args.w.means c.requires c.in-Map.is)
+
+pub combine-staged-requires-in-Filter : goal.combine-staged-requires-in-Filter
+combine-staged-requires-in-Filter t c = record {
+  bag = filter_bag c.args.left c.args.form c.args.u.means c.args.w.means c.requires c.in-Filter.is;
+  goes = filter_goes c.args.left c.args.form c.args.u.means c.args.w.means c.requires c.in-Filter.is;
+}
+
+pub combine-returns-in-Filter : goal.combine-returns-in-Filter
+combine-returns-in-Filter t c = if_ok c.staged-in-Filter.result _ (λ v. Gives2 (MeansIn c.args.left) c.args.form c.args.u.means c.args.w.means v) c.staged-in-Filter.ensures (filter_gives c.args.left c.args.form c.args.u.means c.args.w.means c.requires c.in-Filter.is)
+
+pub combine-split-requires : goal.combine-split-requires
+combine-split-requires t c = record {
+  bag = split_bag c.args.left c.args.form c.args.u.means c.args.w.means c.requires c.in-Split.is;
+  kept = split_goes c.args.left c.args.form c.args.u.means c.args.w.means c.requires true c.in-Split.is;
+  others = split_goes c.args.left c.args.form c.args.u.means c.args.w.means c.requires false c.in-Split.is;
+}
+
+pub combine-returns-in-Split : goal.combine-returns-in-Split
+combine-returns-in-Split t c = if_ok c.split.result _ (λ v. Gives2 (MeansIn c.args.left) c.args.form c.args.u.means c.args.w.means v) c.split.ensures (split_gives c.args.left c.args.form c.args.u.means c.args.w.means c.requires c.in-Split.is)
