@@ -8,7 +8,7 @@ use Rattle.metric_values.specs.Numbers.{clamp, clipped_sum}
 use Rattle.metric_values.specs.Values.{NumF, NumV, Value}
 use Rattle.run_values.specs.Parts.{IsBag, elements}
 use Rattle.row_kernels.specs.declared.gather.Gather.TheVariants.{Size, Sum}
-use Rattle.row_kernels.specs.Gathers.{AllWeighed, gathered}
+use Rattle.row_kernels.specs.Gathers.{AllWeighed, gathered, held}
 use Rattle.row_kernels.proofs.Gathered.{all_sized, all_summed, counted, summed}
 use Rattle.fuzz_eval.specs.Steps.{Can1, CanRanged, Gives1, GivesRanged, WalksNot}
 
@@ -39,10 +39,13 @@ module _ (o : Ranged) (lo hi : ℤ) (u : Value) (e : o ≡ Summed) (k : CanRange
   pub sum_bag : IsBag u
   sum_bag = subst IsBag (sym sum_said.1) refl
 
-  pub sum_weighed : AllWeighed (Sum lo hi) (elements u)
-  sum_weighed = subst (λ (u : Value). AllWeighed (Sum lo hi) (elements u)) (sym sum_said.1) (all_summed lo hi sum_said.0)
+  pub sum_weighed : (p q : ℤ) → AllWeighed (Sum p q) (elements u)
+  sum_weighed p q = subst (λ (u : Value). AllWeighed (Sum p q) (elements u)) (sym sum_said.1) (all_summed p q sum_said.0)
 
-  pub sum_gives : (v : Value) → v ≡ NumV (clamp (gathered (Sum lo hi) (elements u))) → GivesRanged o lo hi u v
-  sum_gives v h =
-      subst (λ (o : Ranged). GivesRanged o lo hi u v) (sym e)
-      (sum_said.0, sum_said.1, h ∙ ap (λ n. NumV (clamp n)) (ap (λ u. gathered (Sum lo hi) (elements u)) sum_said.1 ∙ summed lo hi sum_said.0))
+  pub sum_gives : (p q : ℤ) → held p ≡ lo → held q ≡ hi → (v : Value) → v ≡ NumV (clamp (gathered (Sum p q) (elements u))) → GivesRanged o lo hi u v
+  sum_gives p q low high v h =
+      subst (λ (o : Ranged). GivesRanged o lo hi u v) (sym e) (
+        sum_said.0,
+        sum_said.1,
+        h ∙ ap (λ n. NumV (clamp n)) (ap (λ u. gathered (Sum p q) (elements u)) sum_said.1 ∙ summed p q sum_said.0 ∙ (λ i. clipped_sum (low i) (high i) sum_said.0)),
+      )

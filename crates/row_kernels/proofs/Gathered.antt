@@ -11,7 +11,7 @@ use Rattle.flow_values.proofs.Gone.{through_both}
 use Rattle.row_kernels.specs.declared.gather.Gather.{Gather}
 use Rattle.row_kernels.specs.declared.gather.Gather.TheVariants.{Size, Sum}
 use Rattle.row_kernels.specs.Flows.{IsChunkTotal, IsFlatTotal, added_up}
-use Rattle.row_kernels.specs.Gathers.{AllWeighed, IsWeighed, gathered, weigh, weigh_some}
+use Rattle.row_kernels.specs.Gathers.{AllWeighed, IsWeighed, gathered, held, weigh, weigh_some}
 
 pub gathered_both : (g : Gather) (xs ys : List Flat) → gathered g (xs ++ ys) ≡ gathered g xs +ℤ gathered g ys
 gathered_both g [] ys = omega (arith, ints)
@@ -25,9 +25,9 @@ pub counted : (xs : List Flat) → gathered Size xs ≡ pos (length xs)
 counted [] = refl
 counted (x ∷ xs) = omega (arith, ints, counted xs)
 
-pub summed : (lo hi : ℤ) (zs : List ℤ) → gathered (Sum lo hi) (map NumF zs) ≡ clipped_sum lo hi zs
+pub summed : (lo hi : ℤ) (zs : List ℤ) → gathered (Sum lo hi) (map NumF zs) ≡ clipped_sum (held lo) (held hi) zs
 summed lo hi [] = refl
-summed lo hi (z ∷ zs) = ap (λ s. clip lo hi z +ℤ s) (summed lo hi zs)
+summed lo hi (z ∷ zs) = ap (λ s. clip (held lo) (held hi) z +ℤ s) (summed lo hi zs)
 
 pub all_sized : (xs : List Flat) → AllWeighed Size xs
 all_sized [] = tt
@@ -69,9 +69,12 @@ chunk_more g ss rows first (suc n) h =
 pub flat_none : (g : Gather) (ss : List Step) (rows : List Flat) → IsFlatTotal g ss rows 0 (pos 0)
 flat_none g ss rows = record { within = omega arith; total = refl }
 
-pub flat_more : (g : Gather) (ss : List Step) (rows : List Flat) (first n all : ℕ) (total more after : ℤ) → first + n ≡ all → all ≤ length rows
-    → IsFlatTotal g ss rows first total → IsChunkTotal g ss rows first n more → after ≡ total +ℤ more → IsFlatTotal g ss rows all after
-flat_more g ss rows first n all total more after e w t h a = record {
+pub flat_at : (g : Gather) (ss : List Step) (rows : List Flat) (k n : ℕ) → k ≡ n → {total : ℤ} → IsFlatTotal g ss rows k total → IsFlatTotal g ss rows n total
+flat_at g ss rows k n e {total} t = subst (λ (n : ℕ). IsFlatTotal g ss rows n total) e t
+
+pub flat_more : (g : Gather) (ss : List Step) (rows : List Flat) (first n all : ℕ) → first + n ≡ all → all ≤ length rows
+    → (more : ℤ) {total after : ℤ} → IsFlatTotal g ss rows first total → IsChunkTotal g ss rows first n more → after ≡ total +ℤ more → IsFlatTotal g ss rows all after
+flat_more g ss rows first n all e w more {total} {after} t h a = record {
   within = w;
   total = a ∙ ap (λ s. s +ℤ more) t.total ∙ h ∙ ap (λ k. gathered g (all_through ss (take k rows))) e;
 }

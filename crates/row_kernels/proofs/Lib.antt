@@ -4,5 +4,6 @@ pub mod Changed
 pub mod Framed
 pub mod Grown
 pub mod Gathered
+pub mod Counted
 pub mod Passing
 pub mod Examples

@@ -31,7 +31,7 @@ use Rattle.row_kernels.specs.declared.gather.Gather.{Gather}
 use Rattle.row_kernels.specs.declared.gather.Gather.TheVariants.{Size, Sum}
 use Rattle.row_kernels.specs.declared.lanes.Lanes.{Lanes}
 use Rattle.row_kernels.specs.Flows.{AreAll, AreImaged, AreJudged, ArePassed, AreStepped, IsLanesTotal, IsLongPassed, IsRow, RowSteps, added_up, is_there}
-use Rattle.row_kernels.specs.Gathers.{count_there, sum_there, weigh, weigh_some}
+use Rattle.row_kernels.specs.Gathers.{count_there, held, sum_there, weigh, weigh_some}
 use Rattle.row_kernels.specs.Lanes.{AreMeant, AreNumbers, AreSameNames, IsLong, lane_at}
 
 pub known_at : (ss : List Stage) (i : ℕ) (s : Stage) → i < length ss → s ≡ get_or ss i s → AllKnown ss → IsKnown s.function.value
@@ -181,7 +181,7 @@ count_rows (b ∷ bs) o h =
     let z = h zero (omega arith) in let f = added_front Size o (length bs) in omega (arith, ints, k, z, f)
 
 sum_rows : (lo hi : ℤ) (zs : List ℤ) (bs : List Bool) (o : ℕ → Option Flat) → length zs ≡ length bs
-    → ((j : ℕ) → j < length bs → weigh_some (Sum lo hi) (o j) ≡ cond (get_or bs j false) (clip lo hi (get_or zs j (pos 0))) (pos 0)) → sum_there lo hi zs bs ≡ added_up (Sum lo hi) o (length bs)
+    → ((j : ℕ) → j < length bs → weigh_some (Sum lo hi) (o j) ≡ cond (get_or bs j false) (clip (held lo) (held hi) (get_or zs j (pos 0))) (pos 0)) → sum_there (held lo) (held hi) zs bs ≡ added_up (Sum lo hi) o (length bs)
 sum_rows lo hi [] [] o e h = refl
 sum_rows lo hi [] (b ∷ bs) o e h = absurd (omega (arith, e))
 sum_rows lo hi (z ∷ zs) [] o e h = absurd (omega (arith, e))
@@ -193,9 +193,9 @@ one_counted : (b : Bool) (v : Value) (o : Option Flat) → IsRow b v o → weigh
 one_counted true v o r = ap (weigh_some Size) r.1
 one_counted false v o r = ap (weigh_some Size) r
 
-one_summed : (lo hi z : ℤ) (b : Bool) (v : Value) (o : Option Flat) → v ≡ NumV z → IsRow b v o → weigh_some (Sum lo hi) o ≡ cond b (clip lo hi z) (pos 0)
+one_summed : (lo hi z : ℤ) (b : Bool) (v : Value) (o : Option Flat) → v ≡ NumV z → IsRow b v o → weigh_some (Sum lo hi) o ≡ cond b (clip (held lo) (held hi) z) (pos 0)
 one_summed lo hi z true v o e r =
-    let y : r.0 ≡ NumF z = sym (flat_of_value r.0) ∙ ap flat_of (sym r.2 ∙ e) in ap (weigh_some (Sum lo hi)) r.1 ∙ ap (λ x. clip lo hi (flat_number x)) y
+    let y : r.0 ≡ NumF z = sym (flat_of_value r.0) ∙ ap flat_of (sym r.2 ∙ e) in ap (weigh_some (Sum lo hi)) r.1 ∙ ap (λ x. clip (held lo) (held hi) (flat_number x)) y
 one_summed lo hi z false v o e r = ap (weigh_some (Sum lo hi)) r
 
 pub size_total : (n : ℕ) (p : Passed) → IsLanesTotal Size n p (count_there p.there.items)
@@ -203,8 +203,21 @@ size_total n p = λ o a.
     count_rows p.there.items o (λ j l. one_counted (is_there p j) (lane_at p.lanes j) (o j) (a.each j (omega (arith, l, a.long.there))))
     ∙ ap (added_up Size o) a.long.there
 
-pub sum_total : (lo hi : ℤ) (n : ℕ) (p : Passed) (zs : List ℤ) → AreNumbers n p.lanes zs → IsLanesTotal (Sum lo hi) n p (sum_there lo hi zs p.there.items)
+pub sum_total : (lo hi : ℤ) (n : ℕ) (p : Passed) (zs : List ℤ) → AreNumbers n p.lanes zs → IsLanesTotal (Sum lo hi) n p (sum_there (held lo) (held hi) zs p.there.items)
 sum_total lo hi n p zs h = λ o a.
     sum_rows lo hi zs p.there.items o (h.long ∙ sym a.long.there)
     (λ j l. let lt : j < n = omega (arith, l, a.long.there) in one_summed lo hi (get_or zs j (pos 0)) (is_there p j) (lane_at p.lanes j) (o j) (h.each j lt) (a.each j lt))
     ∙ ap (added_up (Sum lo hi) o) a.long.there
+
+pub is_size_total : (g : Gather) (n : ℕ) (p : Passed) (z : ℤ) → g ≡ Size → z ≡ count_there p.there.items → IsLanesTotal g n p z
+is_size_total g n p z e h = λ o a. h ∙ size_total n p o a ∙ ap (λ g. added_up g o n) (sym e)
+
+pub is_sum_total : (g : Gather) (lo hi : ℤ) (n : ℕ) (p : Passed) (zs : List ℤ) (bs : List Bool) (z : ℤ) → g ≡ Sum lo hi → AreNumbers n p.lanes zs → bs ≡ p.there.items
+    → z ≡ sum_there (held lo) (held hi) zs bs → IsLanesTotal g n p z
+is_sum_total g lo hi n p zs bs z e h t q = λ o a. q ∙ ap (sum_there (held lo) (held hi) zs) t ∙ sum_total lo hi n p zs h o a ∙ ap (λ g. added_up g o n) (sym e)
+
+-- the copied mask
+pub kept_there : (n : ℕ) (there told out before : List Bool) (k : Bool) → length there ≡ n → length told ≡ n → length before ≡ n → length out ≡ length before
+    → ((j : ℕ) → j < length before → get_or out j false ≡ (get_or there j false && agree k (get_or told j false)))
+    → (length out ≡ n) × ((j : ℕ) → j < n → get_or out j false ≡ (get_or there j false && agree k (get_or told j false)))
+kept_there n there told out before k a b c l h = (l ∙ c, λ j lt. h j (omega (arith, lt, c)))

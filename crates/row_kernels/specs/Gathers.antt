@@ -1,15 +1,20 @@
 -- What is made of a bag's elements.
 use Rattle.std.specs.Prelude.{Bool, List, None, Option, Some, [], cond, false, pos, true, ℤ, ◌+ℤ◌, ◌∷◌, ◌≡◌, ⊤}
+use Rattle.std.proofs.Common.{of_z, to_z, w64}
 use Rattle.metric_values.specs.Numbers.{clip}
 use Rattle.metric_values.specs.Values.{Flat, NumF}
 use Rattle.flow_values.specs.Computed.{flat_number}
 use Rattle.row_kernels.specs.declared.gather.Gather.{Gather}
 use Rattle.row_kernels.specs.declared.gather.Gather.TheVariants.{Size, Sum}
 
+-- as 64 bits hold it
+abbrev pub held : ℤ → ℤ
+held z = to_z w64 (of_z w64 z)
+
 -- what an element adds
 abbrev pub weigh : Gather → Flat → ℤ
 weigh Size x = pos 1
-weigh (Sum lo hi) x = clip lo hi (flat_number x)
+weigh (Sum lo hi) x = clip (held lo) (held hi) (flat_number x)
 
 abbrev pub weigh_some : Gather → Option Flat → ℤ
 weigh_some g None = pos 0

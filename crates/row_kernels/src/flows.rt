@@ -177,7 +177,7 @@ fn lanes_total(
     ensures { IfOk result (λ o. IfSome o (IsLanesTotal gather len rows)) }
 {
     match gather {
-        Gather::Size => Ok(Some(there_in(&rows.there))),
+        Gather::Size => Ok(Some(there_in(&rows.there) as i128)),
         Gather::Sum(lo, hi) => {
             let Some(zs) = rows.lanes.numbers(alloc, len)? else {
                 return Ok(None);

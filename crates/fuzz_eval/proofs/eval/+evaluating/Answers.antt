@@ -1,5 +1,6 @@
 use Rattle.std.proofs.Common.{rules, ◌≡◌, ◌<◌, ◌+◌, ◌-◌, arith, ap, sym, subst, ◌∙◌, length, List, ℤ, to_z, of_z, w64}
 use Rattle.std.specs.Prelude.{IfOk, IfSome, None, Option, Some, [], ◌∷◌, false, take, true}
+use Rattle.std.proofs.lemmas.Int.{ints}
 use Rattle.fz_ast.specs.Names.{name_of, text_of}
 use Rattle.fz_ast.specs.Parts.{Parts}
 use Rattle.fz_ast.specs.TermNodes.{IsKnown, binary, term_at, term_of}
@@ -460,3 +461,10 @@ combine-split-requires t c = record {
 
 pub combine-returns-in-Split : goal.combine-returns-in-Split
 combine-returns-in-Split t c = if_ok c.split.result _ (λ v. Gives2 (MeansIn c.args.left) c.args.form c.args.u.means c.args.w.means v) c.split.ensures (split_gives c.args.left c.args.form c.args.u.means c.args.w.means c.requires c.in-Split.is)
+
+pub bounded-tally-requires : goal.bounded-tally-requires
+bounded-tally-requires t c = (omega arith, (sum_bag c.args.form c.args.lo c.args.hi c.args.u.now.means c.in-Sum.is c.requires, sum_weighed c.args.form c.args.lo c.args.hi c.args.u.now.means c.in-Sum.is c.requires _ _))
+
+pub bounded-returns-in-Sum : goal.bounded-returns-in-Sum
+bounded-returns-in-Sum t c = if_ok c.tally.result _ (λ v. GivesRanged c.args.form c.args.lo c.args.hi c.args.u.now.means v) c.tally.ensures
+    (sum_gives c.args.form c.args.lo c.args.hi c.args.u.now.means c.in-Sum.is c.requires _ _ (omega (arith, ints, c.ranges.lo)) (omega (arith, ints, c.ranges.hi)))

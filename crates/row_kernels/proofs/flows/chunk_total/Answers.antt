@@ -7,7 +7,7 @@ use Rattle.row_kernels.proofs.Gathered.{chunk_total, go_at}
 use Rattle.row_kernels.proofs.Given.{by_answer}
 use Rattle.row_kernels.proofs.flows.chunk_total.Goals as goal
 
-pub pass_stages-requires-clause-goes : goal.passed-requires-clause-goes
+pub pass_stages-requires-clause-goes : goal.pass_stages-requires-clause-goes
 pass_stages-requires-clause-goes c = λ j l. go_at (steps_of c.args.stages.now) c.args.table.now.value (c.args.first + j) (omega (arith, l, c.requires.within)) c.requires.goes
 
 pub lanes_total-requires : goal.lanes_total-requires

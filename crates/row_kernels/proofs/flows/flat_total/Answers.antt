@@ -1,15 +1,14 @@
-use Rattle.std.proofs.Common.{rules, arith, ◌≡◌, ◌+◌, ◌*◌, min, length, sym, subst, ℕ, ℤ}
-use Rattle.std.specs.Prelude.{◌+ℤ◌}
+use Rattle.std.proofs.Common.{rules, arith, ◌≡◌, ◌+◌, ◌*◌, min, length, sym}
 use Rattle.flow_values.specs.Views.{steps_of}
-use Rattle.row_kernels.specs.Flows.{IsChunkTotal, IsFlatTotal}
-use Rattle.row_kernels.proofs.Gathered.{flat_more, flat_none}
+use Rattle.row_kernels.specs.Flows.{IsChunkTotal}
+use Rattle.row_kernels.proofs.Gathered.{flat_at, flat_more, flat_none}
 use Rattle.row_kernels.proofs.flows.flat_total.Goals as goal
 
 pub loop-chunk-init : goal.loop-chunk-init
 loop-chunk-init c =
     let rows = c.args.table.now.value in
     let e : 0 ≡ min (0 * 1024) (length rows) = grind arith in
-    subst (λ (n : ℕ). IsFlatTotal c.args.gather (steps_of c.args.stages.now) rows n _) e (flat_none c.args.gather (steps_of c.args.stages.now) rows)
+    flat_at c.args.gather (steps_of c.args.stages.now) rows 0 (min (0 * 1024) (length rows)) e (flat_none c.args.gather (steps_of c.args.stages.now) rows)
 
 pub loop-chunk-preserved : goal.loop-chunk-preserved
 loop-chunk-preserved c =
@@ -22,5 +21,5 @@ loop-chunk-preserved c =
     let here : first ≡ min (c.loop-chunk.chunk * 1024) (length rows) = search (rules, arith) in
     let sum : first + n ≡ all = grind arith in
     let h : IsChunkTotal g ss rows first n c.in-Some.more = search rules in
-    let t : IsFlatTotal g ss rows first c.loop-chunk.total = subst (λ (k : ℕ). IsFlatTotal g ss rows k c.loop-chunk.total) (sym here) c.loop-chunk.invariant in
-    flat_more g ss rows first n all c.loop-chunk.total c.in-Some.more c.in_ok-total.total sum (grind arith) t h c.in_ok-total.ensures
+    let t = flat_at g ss rows (min (c.loop-chunk.chunk * 1024) (length rows)) first (sym here) c.loop-chunk.invariant in
+    flat_more g ss rows first n all sum (grind arith) c.in-Some.more t h c.in_ok-total.ensures
