@@ -24,7 +24,7 @@ from first_programs import CATALOG as SURVEY, PAGE, page_script, text_of  # noqa
 from language import rows_of_tables  # noqa: E402
 from programs import NUM, Refused, checked, deep  # noqa: E402
 from random_programs import TABLES, Writer, accepted_of  # noqa: E402
-from runs import Run, TooManySteps, plan  # noqa: E402
+from runs import Bang, Run, TooManySteps, clamp, clipped, plan  # noqa: E402
 from walks import count, walks  # noqa: E402
 
 CATALOG = "examples/language/catalog.json"
@@ -111,7 +111,8 @@ TURNS = [
 
 
 class Counting(Run):
-    """A run on data that counts visits of rows, and keeps how deep they came to be within one another."""
+    """A run on data that counts visits of rows, and keeps how deep they came to be within one another. A bag is a list of tables, each with the stages behind
+    it: whether a function gives elements, or tells which are kept, and which those are."""
 
     def __init__(self):
         super().__init__(STEPS)
@@ -121,21 +122,57 @@ class Counting(Run):
     def turns(self):
         return STEPS - self.steps
 
-    def walked(self, bag):
-        self.visits += len(bag)
-        self.depth = max(self.depth, self.around + 1)
-        return bag
+    def name(self, node, scope, name):
+        found = super().name(node, scope, name)
+        return [(found, ())] if name in FULL and isinstance(found, Rows) else found
 
-    def images(self, function, bag):
-        self.around += 1
-        found = super().images(function, bag)
-        self.around -= 1
-        return found
+    def union(self, node, scope, a, b):
+        left = self.value(a, scope)
+        return left + self.value(b, scope)
+
+    def over_bag(self, node, scope, f, b):
+        function = self.value(f, scope)
+        bag = self.value(b, scope)
+        behind = lambda keeps: [(rows, (*stages, (function, keeps))) for rows, stages in bag]  # noqa: E731
+        if node.form == "map":
+            return behind(None)
+        return behind(True) if node.form == "filter" else (behind(True), behind(False))
+
+    def walked(self, rows, stages):
+        """What the rows are behind the stages."""
+        self.depth = max(self.depth, self.around + 1)
+        for row in rows:
+            self.visits += 1
+            self.around += 1
+            passed = self.passed(row, stages)
+            self.around -= 1
+            yield from passed
+
+    def passed(self, row, stages):
+        for function, keeps in stages:
+            given = self.value(*function.entered(Bang(row)))
+            if keeps is None:
+                row = given
+            elif given.left != keeps:
+                return []
+        return [row]
+
+    def size(self, node, scope, e):
+        lessened = lambda stages: any(keeps is not None for _, keeps in stages)  # noqa: E731
+        many = [sum(1 for _ in self.walked(rows, stages)) if lessened(stages) else len(rows) for rows, stages in self.value(e, scope)]
+        return clamp(sum(many))
+
+    def clipped_sum(self, node, scope, low, high, e):
+        return clamp(sum(clipped(low, high, row) for rows, stages in self.value(e, scope) for row in self.walked(rows, stages)))
+
+
+class Rows(list):
+    """A table."""
 
 
 def counted(term, rows):
     run = Counting()
-    run.value(term, dict(rows))
+    run.value(term, {name: Rows(table) for name, table in rows.items()})
     return run
 
 

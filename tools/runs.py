@@ -58,12 +58,6 @@ class Ground(int):
         return made
 
 
-def walks_in(shape):
-    return getattr(shape, "walks", 0)
-
-
-def widest(left, right):
-    return Ground(max(left, right), max(walks_in(left), walks_in(right)))
 
 
 class Plan:
@@ -94,13 +88,16 @@ class Plan:
 
     def tally(self, node, scope, depth, *parts):
         """A bag's size or sum: a walk, with those inside it."""
-        self.walks += 1 + walks_in(self.visit(parts[-1], scope, depth))
+        self.walks += 1 + self.visit(parts[-1], scope, depth).walks
         return Ground(0)
 
     def pair(self, node, scope, depth, a, b):
         left, right = self.visit(a, scope, depth), self.visit(b, scope, depth)
         both_ground = isinstance(left, int) and isinstance(right, int)
-        return widest(left, right) if both_ground else (left, right)
+        return self.widest(left, right) if both_ground else (left, right)
+
+    def widest(self, left, right):
+        return Ground(max(left, right), max(left.walks, right.walks))
 
     def half(self, node, scope, depth, e):
         return halves(self.visit(e, scope, depth))[0 if node.form == "fst" else 1]
@@ -116,13 +113,13 @@ class Plan:
         condition = self.visit(e, scope, depth)
         left = self.visit(a, {**scope, x: condition}, depth)
         right = self.visit(b, {**scope, y: condition}, depth)
-        return widest(left, right)
+        return self.widest(left, right)
 
     def choice(self, node, scope, depth, e, a, b):
         self.visit(e, scope, depth)
         left = self.visit(a, scope, depth)
         right = self.visit(b, scope, depth)
-        return widest(left, right)
+        return self.widest(left, right)
 
     def function(self, node, scope, depth, *_):
         return Closure(node, scope)
@@ -145,21 +142,28 @@ class Plan:
         return self.visit(b, {**scope, x: self.visit(e, scope, depth)}, depth)
 
     def union(self, node, scope, depth, a, b):
-        left, right = self.visit(a, scope, depth), self.visit(b, scope, depth)
-        width = left + right
-        if width > WIDTH_LIMIT:
-            raise Refused(f"37 {node.span()} {width}")
-        return Ground(width, max(walks_in(left), walks_in(right)))
+        return self.joined(node, self.visit(a, scope, depth), self.visit(b, scope, depth))
+
+    def joined(self, node, left, right):
+        if left + right > WIDTH_LIMIT:
+            raise Refused(f"37 {node.span()} {left + right}")
+        return Ground(left + right, max(left.walks, right.walks))
 
     def over_bag(self, node, scope, depth, f, b):
         function = self.visit(f, scope, depth)
         bag = self.visit(b, scope, depth)
         before, self.walks = self.walks, 0
-        self.visit(*function.entered(Ground(0)), depth)
+        behind = self.behind(node, bag, lambda: self.visit(*function.entered(Ground(0)), depth))
         inside, self.walks = self.walks, before
-        if walks_in(bag) + inside >= WALK_LIMIT:
+        if bag.walks + inside >= WALK_LIMIT:
             raise Refused("90")
-        return Ground(bag, walks_in(bag) + inside)
+        behind.walks = bag.walks + inside
+        return behind
+
+    def behind(self, node, bag, enter):
+        """The bag with one stage more, whose function is entered once."""
+        enter()
+        return Ground(bag)
 
 
 SHAPES = {
@@ -200,9 +204,7 @@ class TooManySteps(Exception):
 
 
 class Run:
-    """Evaluates terms. It keeps the forms that were met, and ends with TooManySteps after so many nodes, if it is told how many.
-
-    A form that visits each row of a bag hands the bag through `walked`, and works out what its function gives of each by `images`."""
+    """Evaluates terms. It keeps the forms that were met, and ends with TooManySteps after so many nodes, if it is told how many. Bags are lists."""
 
     def __init__(self, steps=None):
         self.forms, self.steps = set(), steps
@@ -292,15 +294,15 @@ class Run:
         return clamp(len(self.value(e, scope)))
 
     def clipped_sum(self, node, scope, low, high, e):
-        return clamp(sum(clipped(low, high, element) for element in self.walked(self.value(e, scope))))
+        return clamp(sum(clipped(low, high, element) for element in self.value(e, scope)))
 
     def union(self, node, scope, a, b):
         left = self.value(a, scope)
-        return self.walked(left + self.value(b, scope))
+        return left + self.value(b, scope)
 
     def over_bag(self, node, scope, f, b):
         function = self.value(f, scope)
-        bag = self.walked(self.value(b, scope))
+        bag = self.value(b, scope)
         images = self.images(function, bag)
         if node.form == "map":
             return images
@@ -308,9 +310,6 @@ class Run:
         if node.form == "filter":
             return kept
         return (kept, [element for element, image in zip(bag, images) if not image.left])
-
-    def walked(self, bag):
-        return bag
 
     def images(self, function, bag):
         return [self.value(*function.entered(Bang(element))) for element in bag]

@@ -8,6 +8,7 @@ use Rattle.flow_values.specs.Computed.{computed, given}
 use Rattle.flow_values.specs.Steps.{Step, all_through, listed, outcome, stepped, through}
 use Rattle.flow_values.specs.Views.{step_of, steps_of}
 use Rattle.flow_values.specs.declared.value.Stage.{Stage}
+use Rattle.row_kernels.specs.declared.gather.Gather.{Gather}
 use Rattle.row_kernels.specs.declared.gather.Gather.TheVariants.{Size}
 use Rattle.row_kernels.specs.Gathers.{gathered}
 use Rattle.row_kernels.proofs.Gathered.{gathered_both, gathered_listed}
@@ -43,3 +44,8 @@ maps_count ss m (x ∷ rows) =
     let one : gathered Size (listed (through ss (Some x))) ≡ pos 1 = ap (λ o. gathered Size (listed o)) r.1 in
     let both = gathered_both Size (listed (through ss (Some x))) (all_through ss rows) in
     omega (arith, ints, one, both, maps_count ss m rows)
+
+pub maps_count_is : (g : Gather) (ss : List Stage) (rows : List Flat) (ts : List Stage) (z : ℤ) → g ≡ Size → AreAllMaps (steps_of ts) → ts ≡ ss → z ≡ pos (length rows)
+    → z ≡ gathered g (all_through (steps_of ss) rows)
+maps_count_is g ss rows ts z e m t h =
+    h ∙ sym (maps_count (steps_of ss) (subst (λ (ts : List Stage). AreAllMaps (steps_of ts)) t m) rows) ∙ ap (λ g. gathered g (all_through (steps_of ss) rows)) (sym e)

@@ -1,7 +1,8 @@
 -- What `map` and `filter` give, by steps.
 use Rattle.std.proofs.Common.{◌≡◌, ℕ, List, [], ◌∷◌, ◌++◌, Bool, true, false, Option, Some, None, refl, ap, sym, subst, ◌∙◌, inl, inr}
 use Rattle.std.specs.Prelude.{cond}
-use Rattle.metric_law.specs.Means.{Applies, Maps, MeansIn, Splits}
+use Rattle.metric_law.specs.Means.{Applies, Maps, MeansIn, Splits, apply, apply_fn}
+use Rattle.run_values.specs.Parts.{IsClosure, is_fn, is_fun}
 use Rattle.metric_values.specs.Values.{Flat, InlV, InrV, UnitV, Value, truth, value_of}
 use Rattle.run_values.proofs.TableParts.{flat_of_value}
 use Rattle.flow_values.specs.Computed.{agree, applied, chosen, computed, given, images, is_true}
@@ -46,3 +47,12 @@ kept_through n c xs ys zs h = through_chosen n true c xs ∙ sym (splits_are (Me
 
 pub others_through : (n : ℕ) (c : Value) (xs ys zs : List Flat) → Splits (MeansIn n) c xs ys zs → all_through (record { function = c; left = n; keeps = Some false } ∷ []) xs ≡ zs
 others_through n c xs ys zs h = through_chosen n false c xs ∙ sym (splits_are (MeansIn n) (computed n) (λ γ e v m. means_computed n γ e v m) c xs ys zs h).1
+
+-- what isn't a function gives nothing for an element
+closure_in : {n : ℕ} {c u v : Value} → Applies (MeansIn n) c u v → IsClosure c
+closure_in (apply k) = is_fun
+closure_in (apply_fn k) = is_fn
+
+pub no_function : (s : Step) (xs : List Flat) → (IsClosure s.function → ⊥) → AllGo (s ∷ []) xs → xs ≡ []
+no_function s [] h g = refl
+no_function s (x ∷ xs) h g = absurd (h (closure_in g.0.0.gives))
