@@ -26,21 +26,16 @@ pub maps_all : (ss : List Stage) (i : ℕ) → length ss ≤ i → AreAllMaps (s
 maps_all ss i l m = subst (λ (ts : List Stage). AreAllMaps (steps_of ts)) (take_all i ss l) m
 
 -- such steps leave an element
-stays : (ss : List Step) → AreAllMaps ss → (x : Flat) → (y : Flat) × (through ss (Some x) ≡ Some y)
-stays [] m x = (x, refl)
-stays (s ∷ ss) m x =
-    let o : stepped s x ≡ outcome None (given (computed s.left) s.function x) x = ap (λ o. outcome o (given (computed s.left) s.function x) x) m.0 in
-    let r = on_some ss m.1 (outcome None (given (computed s.left) s.function x) x) refl in
-    (r.0, ap (through ss) o ∙ r.1)
-  where
-    on_some : (ss : List Step) → AreAllMaps ss → (o : Option Flat) → {z : Flat} → o ≡ Some z → (y : Flat) × (through ss o ≡ Some y)
-    on_some ss m (Some z) e = stays ss m z
-    on_some ss m None e = absurd (cc e)
+stays : (ss : List Step) → AreAllMaps ss → (o : Option Flat) → {x : Flat} → o ≡ Some x → (y : Flat) × (through ss o ≡ Some y)
+stays [] m None e = absurd (cc e)
+stays [] m (Some x) e = (x, refl)
+stays (s ∷ ss) m None e = absurd (cc e)
+stays (s ∷ ss) m (Some x) e = stays ss m.1 (stepped s x) (ap (λ o. outcome o (given (computed s.left) s.function x) x) m.0)
 
 pub maps_count : (ss : List Step) → AreAllMaps ss → (rows : List Flat) → gathered Size (all_through ss rows) ≡ pos (length rows)
 maps_count ss m [] = refl
 maps_count ss m (x ∷ rows) =
-    let r = stays ss m x in
+    let r = stays ss m (Some x) refl in
     let one : gathered Size (listed (through ss (Some x))) ≡ pos 1 = ap (λ o. gathered Size (listed o)) r.1 in
     let both = gathered_both Size (listed (through ss (Some x))) (all_through ss rows) in
     omega (arith, ints, one, both, maps_count ss m rows)

@@ -162,15 +162,15 @@ flats_back : (o : Option Flat) → flat_in (values_in o) ≡ o
 flats_back None = refl
 flats_back (Some x) = ap Some (flat_of_value x)
 
+weighed_row : (g : Gather) (ss : List Step) (i : ℕ) (rows : List Flat) → i < length rows → AllWeighed g (all_through ss rows) → (y : Flat) → through ss (Some (row_at rows i)) ≡ Some y → IsWeighed g y
+weighed_row g ss i [] h w y e = absurd (omega (arith, h))
+weighed_row g ss zero (x ∷ rows) h w y e =
+    let k = weighed_left g (listed (through ss (Some x))) (all_through ss rows) w in
+    (subst (λ (o : Option Flat). AllWeighed g (listed o)) e k).0
+weighed_row g ss (suc i) (x ∷ rows) h w y e = weighed_row g ss i rows (omega (arith, h)) (weighed_right g (listed (through ss (Some x))) (all_through ss rows) w) y e
+
 -- rows one by one
 module _ (g : Gather) (ss : List Step) (rows : List Flat) where
-  weighed_row : (i : ℕ) → i < length rows → (rows : List Flat) → i < length rows → AllWeighed g (all_through ss rows) → (y : Flat) → through ss (Some (row_at rows i)) ≡ Some y → IsWeighed g y
-  weighed_row i l [] h w y e = absurd (omega (arith, h))
-  weighed_row zero l (x ∷ rows) h w y e =
-      let k = weighed_left g (listed (through ss (Some x))) (all_through ss rows) w in
-      (subst (λ (o : Option Flat). AllWeighed g (listed o)) e k).0
-  weighed_row (suc i) l (x ∷ rows) h w y e = weighed_row i l rows (omega (arith, h)) (weighed_right g (listed (through ss (Some x))) (all_through ss rows) w) y e
-
   module _ (i : ℕ) (h : i < length rows) (k : CanGather g ss rows) where
     pub row_passes : (v : Value) → v ≡ value_of (row_at rows i) → CanPass ss v
     row_passes v e =
@@ -182,7 +182,7 @@ module _ (g : Gather) (ss : List Step) (rows : List Flat) where
       row_is = q ∙ ap (λ x. values_in (through ss (Some x))) (ap flat_of e ∙ flat_of_value (row_at rows i))
 
       pub row_weighed : IsWeighedValue g o
-      row_weighed = subst (IsWeighedValue g) (sym row_is) (of g (through ss (Some (row_at rows i))) (λ y p. weighed_row i h rows h k.weighed y p))
+      row_weighed = subst (IsWeighedValue g) (sym row_is) (of g (through ss (Some (row_at rows i))) (λ y p. weighed_row g ss i rows h k.weighed y p))
         where
           of : (g : Gather) (o : Option Flat) → ((y : Flat) → o ≡ Some y → IsWeighed g y) → IsWeighedValue g (values_in o)
           of Size o f = tt

@@ -2,7 +2,6 @@ pub mod Given
 pub mod Held
 pub mod Changed
 pub mod Framed
-pub mod Grown
 pub mod Gathered
 pub mod Counted
 pub mod Passing

@@ -261,7 +261,7 @@ pub apply_to_element-eval-requires : goal.apply_to_element-eval-requires
 apply_to_element-eval-requires t c = (omega arith, (c.requires.known, subst (λ (γ : Env). HasValueWithin c.args.left γ (term_at c.args.nodes.now.value.terms c.args.body.term)) (sym c.in_ok-bind_element.ensures) (element_has c.args.left c.args.body.arrow (term_at c.args.nodes.now.value.terms c.args.body.term) c.args.x.means c.args.inner.now.means c.requires.can)))
 
 pub apply_to_element-returns-clause-gives : goal.apply_to_element-returns-clause-gives
-apply_to_element-returns-clause-gives t c = if_ok c.eval.result (λ v. MeansIn c.args.left (rebound c.args.inner.now.means (bound_element c.args.body.arrow c.args.x.means)) (term_at c.args.nodes.now.value.terms c.args.body.term) v) (λ v. Applies (MeansIn c.args.left) (function_inside c.args.body.arrow c.args.inner.now.means (term_at c.args.nodes.now.value.terms c.args.body.term)) (BangV c.args.x.means) v) (subst (λ (γ : Env). IfOk c.eval.result (λ v. MeansIn c.args.left γ (term_at c.args.nodes.now.value.terms c.args.body.term) v)) c.in_ok-bind_element.ensures c.eval.ensures) (element_gives c.args.left c.args.body.arrow (term_at c.args.nodes.now.value.terms c.args.body.term) c.args.x.means c.args.inner.now.means c.requires.can)
+apply_to_element-returns-clause-gives t c = if_ok c.eval.result (λ v. MeansIn c.args.left (rebound c.args.inner.now.means (bound_element c.args.body.arrow c.args.x.means)) (term_at c.args.nodes.now.value.terms c.args.body.term) v) (λ v. Applies (MeansIn c.args.left) (function_inside c.args.body.arrow c.args.inner.now.means (term_at c.args.nodes.now.value.terms c.args.body.term)) (BangV c.args.x.means) v) (subst (λ (γ : Env). IfOk c.eval.result (λ v. MeansIn c.args.left γ (term_at c.args.nodes.now.value.terms c.args.body.term) v.means)) c.in_ok-bind_element.ensures c.eval.ensures) (element_gives c.args.left c.args.body.arrow (term_at c.args.nodes.now.value.terms c.args.body.term) c.args.x.means c.args.inner.now.means c.requires.can)
 
 pub apply_to_element-returns-clause-function : goal.apply_to_element-returns-clause-function
 apply_to_element-returns-clause-function t c = on_ok c.eval.result _ (ap (λ γ. function_inside c.args.body.arrow γ (term_at c.args.nodes.now.value.terms c.args.body.term)) c.in_ok-bind_element.ensures ∙ same_function c.args.body.arrow (term_at c.args.nodes.now.value.terms c.args.body.term) c.args.inner.now.means (bound_element c.args.body.arrow c.args.x.means))
@@ -468,3 +468,159 @@ bounded-tally-requires t c = (omega arith, (sum_bag c.args.form c.args.lo c.args
 pub bounded-returns-in-Sum : goal.bounded-returns-in-Sum
 bounded-returns-in-Sum t c = if_ok c.tally.result _ (λ v. GivesRanged c.args.form c.args.lo c.args.hi c.args.u.now.means v) c.tally.ensures
     (sum_gives c.args.form c.args.lo c.args.hi c.args.u.now.means c.in-Sum.is c.requires _ _ (omega (arith, ints, c.ranges.lo)) (omega (arith, ints, c.ranges.hi)))
+
+pub bounded-clip-requires : goal.bounded-clip-requires
+bounded-clip-requires t c = ?
+
+pub bounded-returns-in-Clip : goal.bounded-returns-in-Clip
+bounded-returns-in-Clip t c = ?
+
+pub step-apply_to_element-requires : goal.step-apply_to_element-requires
+step-apply_to_element-requires t c = ?
+
+pub step-returns-in_err-y-in-None-clause-steps : goal.step-returns-in_err-y-in-None-clause-steps
+step-returns-in_err-y-in-None-clause-steps t c = search rules
+
+pub step-returns-in_err-y-in-None-clause-same : goal.step-returns-in_err-y-in-None-clause-same
+step-returns-in_err-y-in-None-clause-same t c = search rules
+
+pub step-returns-in_err-again-in-Some-clause-steps : goal.step-returns-in_err-again-in-Some-clause-steps
+step-returns-in_err-again-in-Some-clause-steps t c = search rules
+
+pub step-returns-in_err-again-in-Some-clause-same : goal.step-returns-in_err-again-in-Some-clause-same
+step-returns-in_err-again-in-Some-clause-same t c = search rules
+
+pub step-same-x : goal.step-same-x
+step-same-x t c = ?
+
+pub step-apply_to_element-requires-in-Some : goal.step-apply_to_element-requires-in-Some
+step-apply_to_element-requires-in-Some t c = ?
+
+pub step-returns-in_err-answer-in-Some-clause-steps : goal.step-returns-in_err-answer-in-Some-clause-steps
+step-returns-in_err-answer-in-Some-clause-steps t c = search rules
+
+pub step-returns-in_err-answer-in-Some-clause-same : goal.step-returns-in_err-answer-in-Some-clause-same
+step-returns-in_err-answer-in-Some-clause-same t c = search rules
+
+pub step-is_kept-requires : goal.step-is_kept-requires
+step-is_kept-requires t c = ?
+
+pub step-same-again : goal.step-same-again
+step-same-again t c = ?
+
+pub step-returns-in_ok-y-in-None-clause-steps : goal.step-returns-in_ok-y-in-None-clause-steps
+step-returns-in_ok-y-in-None-clause-steps t c = ?
+
+pub step-returns-in_ok-y-in-None-clause-same : goal.step-returns-in_ok-y-in-None-clause-same
+step-returns-in_ok-y-in-None-clause-same t c = ?
+
+pub step-returns-then-is_kept-clause-steps : goal.step-returns-then-is_kept-clause-steps
+step-returns-then-is_kept-clause-steps t c = ?
+
+pub step-returns-then-is_kept-clause-same : goal.step-returns-then-is_kept-clause-same
+step-returns-then-is_kept-clause-same t c = ?
+
+pub step-returns-else-is_kept-clause-steps : goal.step-returns-else-is_kept-clause-steps
+step-returns-else-is_kept-clause-steps t c = ?
+
+pub step-returns-else-is_kept-clause-same : goal.step-returns-else-is_kept-clause-same
+step-returns-else-is_kept-clause-same t c = ?
+
+pub tally-overflow_sub-walks : goal.tally-overflow_sub-walks
+tally-overflow_sub-walks t c = ?
+
+pub tally-walk-requires : goal.tally-walk-requires
+tally-walk-requires t c = ?
+
+pub tally-returns-in_err-total : goal.tally-returns-in_err-total
+tally-returns-in_err-total t c = search rules
+
+pub tally-returns : goal.tally-returns
+tally-returns t c = ?
+
+pub walk-flow-flow-requires : goal.walk-flow-flow-requires
+walk-flow-flow-requires t c = ?
+
+pub walk-loop-i-init : goal.walk-loop-i-init
+walk-loop-i-init t c = ?
+
+pub walk-offset_bounds-branches-i : goal.walk-offset_bounds-branches-i
+walk-offset_bounds-branches-i t c = ?
+
+pub walk-bounds-branches-i : goal.walk-bounds-branches-i
+walk-bounds-branches-i t c = ?
+
+pub walk-walk_branch-requires : goal.walk-walk_branch-requires
+walk-walk_branch-requires t c = ?
+
+pub walk-returns-in_err-more : goal.walk-returns-in_err-more
+walk-returns-in_err-more t c = search rules
+
+pub walk-returns-in_err-total : goal.walk-returns-in_err-total
+walk-returns-in_err-total t c = search rules
+
+pub walk-loop-i-smaller : goal.walk-loop-i-smaller
+walk-loop-i-smaller t c = ?
+
+pub walk-loop-i-preserved : goal.walk-loop-i-preserved
+walk-loop-i-preserved t c = ?
+
+pub walk-returns : goal.walk-returns
+walk-returns t c = ?
+
+pub walk_branch-returns-in-Some : goal.walk_branch-returns-in-Some
+walk_branch-returns-in-Some t c = ?
+
+pub walk_branch-flat_total-requires-clause-known : goal.walk_branch-flat_total-requires-clause-known
+walk_branch-flat_total-requires-clause-known t c = ?
+
+pub walk_branch-flat_total-requires-clause-goes : goal.walk_branch-flat_total-requires-clause-goes
+walk_branch-flat_total-requires-clause-goes t c = ?
+
+pub walk_branch-returns-in_err-first : goal.walk_branch-returns-in_err-first
+walk_branch-returns-in_err-first t c = search rules
+
+pub walk_branch-returns-then-first-len : goal.walk_branch-returns-then-first-len
+walk_branch-returns-then-first-len t c = ?
+
+pub walk_branch-walk_rows-requires : goal.walk_branch-walk_rows-requires
+walk_branch-walk_rows-requires t c = ?
+
+pub walk_branch-returns : goal.walk_branch-returns
+walk_branch-returns t c = ?
+
+pub walk_rows-workers_of-requires : goal.walk_rows-workers_of-requires
+walk_rows-workers_of-requires t c = ?
+
+pub walk_rows-returns-in_err-workers : goal.walk_rows-returns-in_err-workers
+walk_rows-returns-in_err-workers t c = search rules
+
+pub walk_rows-loop-i-init : goal.walk_rows-loop-i-init
+walk_rows-loop-i-init t c = ?
+
+pub walk_rows-row-requires : goal.walk_rows-row-requires
+walk_rows-row-requires t c = ?
+
+pub walk_rows-returns-in_err-x : goal.walk_rows-returns-in_err-x
+walk_rows-returns-in_err-x t c = search rules
+
+pub walk_rows-pass-requires : goal.walk_rows-pass-requires
+walk_rows-pass-requires t c = ?
+
+pub walk_rows-returns-in_err-o : goal.walk_rows-returns-in_err-o
+walk_rows-returns-in_err-o t c = search rules
+
+pub walk_rows-add_some-requires : goal.walk_rows-add_some-requires
+walk_rows-add_some-requires t c = ?
+
+pub walk_rows-returns-in_err-total : goal.walk_rows-returns-in_err-total
+walk_rows-returns-in_err-total t c = search rules
+
+pub walk_rows-loop-i-smaller : goal.walk_rows-loop-i-smaller
+walk_rows-loop-i-smaller t c = ?
+
+pub walk_rows-loop-i-preserved : goal.walk_rows-loop-i-preserved
+walk_rows-loop-i-preserved t c = ?
+
+pub walk_rows-returns : goal.walk_rows-returns
+walk_rows-returns t c = ?

@@ -60,7 +60,7 @@ abbrev pub decreases-walk : goal.decreases-walk
 decreases-walk l = 1099511627776 * l.walks + 68719476740
 
 abbrev pub invariant-pass-loop-i : goal.invariant-pass-loop-i
-invariant-pass-loop-i l = Remains l.fn.workers.items l.workers.items l.x.means l.i l.at.means
+invariant-pass-loop-i l = Remains l.fn.workers.items l.workers.items l.fn.x.means l.i l.at.means
 
 abbrev pub invariant-walk_rows-loop-i : goal.invariant-walk_rows-loop-i
 invariant-walk_rows-loop-i l = AreAtWork l.workers.items (steps_of l.branch.stages.items) × IsFlatTotal l.gather (steps_of l.branch.stages.items) l.branch.table.value l.i l.total

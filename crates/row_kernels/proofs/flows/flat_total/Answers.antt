@@ -1,4 +1,6 @@
 use Rattle.std.proofs.Common.{rules, arith, ◌≡◌, ◌+◌, ◌*◌, min, length, sym}
+use Rattle.std.proofs.lemmas.Grind.{common_steps}
+use Rattle.std.proofs.lemmas.Int.{to_z-of_z}
 use Rattle.flow_values.specs.Views.{steps_of}
 use Rattle.row_kernels.specs.Flows.{IsChunkTotal}
 use Rattle.row_kernels.proofs.Gathered.{flat_at, flat_more, flat_none}
@@ -22,4 +24,4 @@ loop-chunk-preserved c =
     let sum : first + n ≡ all = grind arith in
     let h : IsChunkTotal g ss rows first n c.in-Some.more = search rules in
     let t = flat_at g ss rows (min (c.loop-chunk.chunk * 1024) (length rows)) first (sym here) c.loop-chunk.invariant in
-    flat_more g ss rows first n all sum (grind arith) c.in-Some.more t h c.in_ok-total.ensures
+    flat_more g ss rows first n all sum (grind arith) c.in-Some.more t h (grind (arith, to_z-of_z, common_steps, c.in_ok-total.ensures))
