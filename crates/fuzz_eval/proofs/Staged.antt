@@ -49,10 +49,10 @@ pub others_through : (n : ℕ) (c : Value) (xs ys zs : List Flat) → Splits (Me
 others_through n c xs ys zs h = through_chosen n false c xs ∙ sym (splits_are (MeansIn n) (computed n) (λ γ e v m. means_computed n γ e v m) c xs ys zs h).1
 
 -- what isn't a function gives nothing for an element
-closure_in : {n : ℕ} {c u v : Value} → Applies (MeansIn n) c u v → IsClosure c
-closure_in (apply k) = is_fun
-closure_in (apply_fn k) = is_fn
+closure_in : (n : ℕ) {c u v : Value} → Applies (MeansIn n) c u v → IsClosure c
+closure_in n (apply k) = is_fun
+closure_in n (apply_fn k) = is_fn
 
 pub no_function : (s : Step) (xs : List Flat) → (IsClosure s.function → ⊥) → AllGo (s ∷ []) xs → xs ≡ []
 no_function s [] h g = refl
-no_function s (x ∷ xs) h g = absurd (h (closure_in g.0.0.gives))
+no_function s (x ∷ xs) h g = absurd (h (closure_in s.left g.0.0.gives))

@@ -1,7 +1,7 @@
 -- Sizes and sums of bags.
 use Rattle.std.proofs.Common.{◌≡◌, ℤ, refl, ap, sym, subst, ◌∙◌, length, map, pos}
 use Rattle.fz_ast.specs.declared.term.Ranged.{Ranged}
-use Rattle.fz_ast.specs.declared.term.Ranged.TheVariants.{Sum as Summed}
+use Rattle.fz_ast.specs.declared.term.Ranged.TheVariants.{Clip, Sum as Summed}
 use Rattle.fz_ast.specs.declared.term.Unary.{Unary}
 use Rattle.fz_ast.specs.declared.term.Unary.TheVariants.{Fst, Snd, Least, Greatest, Size as Sized}
 use Rattle.metric_values.specs.Numbers.{clamp, clipped_sum}
@@ -49,3 +49,13 @@ module _ (o : Ranged) (lo hi : ℤ) (u : Value) (e : o ≡ Summed) (k : CanRange
         sum_said.1,
         h ∙ ap (λ n. NumV (clamp n)) (ap (λ u. gathered (Sum p q) (elements u)) sum_said.1 ∙ summed p q sum_said.0 ∙ (λ i. clipped_sum (low i) (high i) sum_said.0)),
       )
+
+-- a number kept within bounds, where the bounds are those that are held
+module _ (o : Ranged) (lo hi : ℤ) (u : Value) (e : o ≡ Clip) (p q : ℤ) (low : p ≡ lo) (high : q ≡ hi) where
+  pub clip_can : CanRanged o lo hi u → CanRanged Clip p q u
+  clip_can k =
+      subst (λ (lo : ℤ). CanRanged Clip lo q u) (sym low) (subst (λ (hi : ℤ). CanRanged Clip lo hi u) (sym high) (subst (λ (o : Ranged). CanRanged o lo hi u) e k))
+
+  pub clip_gives : (v : Value) → GivesRanged Clip p q u v → GivesRanged o lo hi u v
+  clip_gives v g =
+      subst (λ (o : Ranged). GivesRanged o lo hi u v) (sym e) (subst (λ (lo : ℤ). GivesRanged Clip lo hi u v) low (subst (λ (hi : ℤ). GivesRanged Clip p hi u v) high g))

@@ -76,10 +76,17 @@ module _ (s : Step) (v : Value) (k : CanStep s v) where
       pub step_drops : (b : Bool) → b ≡ agree keep (is_true y) → b ≡ false → None ≡ values_in (stepped s (flat_of v))
       step_drops b e t = sym (ap values_in (stepped_is ∙ ap (λ b. cond b (Some (flat_of v)) None) (sym e ∙ t)))
 
+-- a worker whose name stands for another element
+abbrev pub step_is : ℕ → Option Bool → Value → Step
+step_is n k f = record { function = f; left = n; keeps = k }
+
 -- stages at work, by their places
 length_steps : (ws : List Worker) → length (worker_steps ws) ≡ length ws
 length_steps [] = refl
 length_steps (w ∷ ws) = ap suc (length_steps ws)
+
+pub same_length : (old ws : List Worker) → AreSameWorkers old ws → length ws ≡ length old
+same_length old ws s = omega (arith, length_steps old, length_steps ws, ap length s.steps)
 
 step_at : (ws : List Worker) (i : ℕ) (w : Worker) (d : Step) → i < length ws → w ≡ get_or ws i w → get_or (worker_steps ws) i d ≡ worker_step w
 step_at [] i w d h e = absurd (omega (arith, h))
@@ -195,6 +202,9 @@ module _ (g : Gather) (ss : List Step) (rows : List Flat) where
         total =
             a ∙ (λ j. t.total j +ℤ weigh_some g ((ap flat_in row_is ∙ flats_back (through ss (Some (row_at rows i)))) j)) ∙ sym (row_more g ss rows i h);
       }
+
+  pub flat_as : (n : ℕ) (total same : ℤ) → same ≡ total → IsFlatTotal g ss rows n total → IsFlatTotal g ss rows n same
+  flat_as n total same e t = subst (λ (z : ℤ). IsFlatTotal g ss rows n z) (sym e) t
 
   pub rows_added : (i : ℕ) (total : ℤ) → length rows ≤ i → IsFlatTotal g ss rows i total → IsFlatTotal g ss rows (length rows) total
   rows_added i total l t = let e : i ≡ length rows = omega (arith, l, t.within) in subst (λ (n : ℕ). IsFlatTotal g ss rows n total) e t

@@ -9,6 +9,6 @@ use Rattle.fuzz_eval.proofs.bags.staged.Goals as goal
 pub returns-then-not-is_function : goal.returns-then-not-is_function
 returns-then-not-is_function c =
     let s : Step = record { function = c.args.c.now.means; left = c.args.left; keeps = c.args.keeps } in
-    let none : elements c.args.b.now.means ≡ [] = no_function s (elements c.args.b.now.means) (c.is_function.ensures.no (λ h. absurd (cc (h, c.if-is_function.false)))) c.requires.goes in
+    let none : elements c.args.b.now.means ≡ [] = no_function s (elements c.args.b.now.means) (c.is_function.ensures.no (λ h. absurd (cc (h, c.if-not-is_function.true)))) c.requires.goes in
     by_ok c.no_elements.result (λ v. v.means ≡ BagV []) (λ v. v.means ≡ BagV (all_through (s ∷ []) (elements c.args.b.now.means))) c.no_elements.ensures
     (λ v e. e ∙ ap (λ xs. BagV (all_through (s ∷ []) xs)) (sym none))

@@ -1,6 +1,7 @@
-use Rattle.std.proofs.Common.{rules, ◌≡◌, ◌<◌, ◌+◌, ◌-◌, arith, ap, sym, subst, ◌∙◌, length, List, ℤ, to_z, of_z, w64}
+use Rattle.std.proofs.Common.{rules, ◌≡◌, ◌<◌, ◌+◌, ◌-◌, arith, ap, refl, sym, subst, ◌∙◌, length, List, ℤ, to_z, of_z, w64, Fits, w32}
+use Rattle.std.proofs.lemmas.Grind.{common_steps}
 use Rattle.std.specs.Prelude.{IfOk, IfSome, None, Option, Some, [], ◌∷◌, false, take, true}
-use Rattle.std.proofs.lemmas.Int.{ints}
+use Rattle.std.proofs.lemmas.Int.{ints, to_z-of_z}
 use Rattle.fz_ast.specs.Names.{name_of, text_of}
 use Rattle.fz_ast.specs.Parts.{Parts}
 use Rattle.fz_ast.specs.TermNodes.{IsKnown, binary, term_at, term_of}
@@ -12,7 +13,14 @@ use Rattle.fz_ast.specs.declared.term.Form.TheVariants.{Binary as Op2, LetPair}
 use Rattle.metric_law.specs.Means.{Applies, MeansIn, Rules, find}
 use Rattle.metric_values.specs.Values.{BagV, BangV, Bind, Env, NumV, PairV, TextV, Value}
 use Rattle.flow_values.specs.Held.{Held, HeldScope}
+use Rattle.run_values.specs.Flats.{flat_of}
 use Rattle.run_values.specs.Parts.{elements, rebound}
+use Rattle.flow_values.specs.Steps.{AllGo, Step, through}
+use Rattle.flow_values.specs.Views.{AllKnown, IsFlow, flow_of, steps_of}
+use Rattle.row_kernels.specs.Flows.{IsFlatTotal}
+use Rattle.row_kernels.specs.Gathers.{AllWeighed, gathered}
+use Rattle.row_kernels.proofs.Given.{by_ok}
+use Rattle.fuzz_eval.specs.Walks.{CanPass, means_in, values_in, worker_step}
 use Rattle.run_values.specs.Views.{IsFunction, function_of}
 use Rattle.fuzz_eval.specs.Loops.{bound_element, function_inside}
 use Rattle.fuzz_eval.specs.Operands.{GivesAtOnce, TakesApart}
@@ -22,8 +30,8 @@ use Rattle.row_kernels.proofs.Held.{high_held, low_held, num_held, times_held}
 use Rattle.fuzz_eval.proofs.Forms.{bang_has, bang_means, case_can, case_has, case_left, case_left_means, case_right, case_right_means, form_has, form_means, if_can, if_has, if_left, if_left_means, if_right, if_right_means, inject_has, inject_means, lambda_function, lambda_means, let_bang_can, let_bang_has, let_bang_inside, let_bang_means, let_has, let_inside, let_means, num_means, ranged_can, ranged_has, ranged_means, text_means, times_can, times_has, times_means, unary_can, unary_has, unary_means, unit_means, var_known, var_means}
 use Rattle.fuzz_eval.proofs.AtOnce.{apart_inside, apart_means, at_once_means}
 use Rattle.fuzz_eval.proofs.Steps.{above}
-use Rattle.fuzz_eval.proofs.Walked.{branch_added, branch_can, branch_known, branches_added, can_apply, passing_can, passing_end, passing_known, passing_left_out, passing_next, passing_same, passing_start, row_added, row_passes, row_weighed, rows_added, step_drops, step_keeps, step_maps, step_tells, whole}
-use Rattle.fuzz_eval.proofs.Tallied.{size_bag, size_gives, size_weighed, sum_bag, sum_gives, sum_weighed, walks_not}
+use Rattle.fuzz_eval.proofs.Walked.{branch_added, branch_can, branch_known, branches_added, can_apply, flat_as, passing_can, passing_end, passing_known, passing_left_out, passing_next, passing_same, passing_start, row_added, row_passes, row_weighed, rows_added, step_drops, same_length, step_is, step_keeps, step_maps, step_tells, whole}
+use Rattle.fuzz_eval.proofs.Tallied.{clip_can, clip_gives, size_bag, size_gives, size_weighed, sum_bag, sum_gives, sum_weighed, walks_not}
 use Rattle.fuzz_eval.proofs.TwoParts.{binary_can, binary_means, can_compare, compared, first_has, form_here, left_compared, left_has, left_text, means_here, pair_can, pair_has, pair_inside, pair_means, right_compared, right_has, right_text, second_has}
 use Rattle.fuzz_eval.proofs.eval.+evaluating.Goals as goal
 
@@ -463,20 +471,23 @@ pub combine-returns-in-Split : goal.combine-returns-in-Split
 combine-returns-in-Split t c = if_ok c.split.result _ (λ v. Gives2 (MeansIn c.args.left) c.args.form c.args.u.means c.args.w.means v) c.split.ensures (split_gives c.args.left c.args.form c.args.u.means c.args.w.means c.requires c.in-Split.is)
 
 pub bounded-tally-requires : goal.bounded-tally-requires
-bounded-tally-requires t c = (omega arith, (sum_bag c.args.form c.args.lo c.args.hi c.args.u.now.means c.in-Sum.is c.requires, sum_weighed c.args.form c.args.lo c.args.hi c.args.u.now.means c.in-Sum.is c.requires _ _))
-
-pub bounded-returns-in-Sum : goal.bounded-returns-in-Sum
-bounded-returns-in-Sum t c = if_ok c.tally.result _ (λ v. GivesRanged c.args.form c.args.lo c.args.hi c.args.u.now.means v) c.tally.ensures
-    (sum_gives c.args.form c.args.lo c.args.hi c.args.u.now.means c.in-Sum.is c.requires _ _ (omega (arith, ints, c.ranges.lo)) (omega (arith, ints, c.ranges.hi)))
+bounded-tally-requires t c = (omega arith, (sum_bag c.args.form c.args.lo c.args.hi c.args.u.now.means c.in-Sum.is c.requires, sum_weighed c.args.form c.args.lo c.args.hi c.args.u.now.means c.in-Sum.is c.requires (to_z w64 (of_z w64 c.args.lo)) (to_z w64 (of_z w64 c.args.hi))))
 
 pub bounded-clip-requires : goal.bounded-clip-requires
-bounded-clip-requires t c = ?
+bounded-clip-requires t c = let l : (to_z w64 (of_z w64 c.args.lo)) ≡ c.args.lo = omega (arith, ints, c.ranges.lo) in let h : (to_z w64 (of_z w64 c.args.hi)) ≡ c.args.hi = omega (arith, ints, c.ranges.hi) in
+    clip_can c.args.form c.args.lo c.args.hi c.args.u.now.means c.in-Clip.is (to_z w64 (of_z w64 c.args.lo)) (to_z w64 (of_z w64 c.args.hi)) l h c.requires
+
+pub bounded-returns-in-Sum : goal.bounded-returns-in-Sum
+bounded-returns-in-Sum t c = let l : (to_z w64 (of_z w64 c.args.lo)) ≡ c.args.lo = omega (arith, ints, c.ranges.lo) in let h : (to_z w64 (of_z w64 c.args.hi)) ≡ c.args.hi = omega (arith, ints, c.ranges.hi) in
+    if_ok c.tally.result _ (λ v. GivesRanged c.args.form c.args.lo c.args.hi c.args.u.now.means v) c.tally.ensures
+    (sum_gives c.args.form c.args.lo c.args.hi c.args.u.now.means c.in-Sum.is c.requires (to_z w64 (of_z w64 c.args.lo)) (to_z w64 (of_z w64 c.args.hi)) (ap (λ z. to_z w64 (of_z w64 z)) l ∙ l) (ap (λ z. to_z w64 (of_z w64 z)) h ∙ h))
 
 pub bounded-returns-in-Clip : goal.bounded-returns-in-Clip
-bounded-returns-in-Clip t c = ?
+bounded-returns-in-Clip t c = let l : (to_z w64 (of_z w64 c.args.lo)) ≡ c.args.lo = omega (arith, ints, c.ranges.lo) in let h : (to_z w64 (of_z w64 c.args.hi)) ≡ c.args.hi = omega (arith, ints, c.ranges.hi) in
+    clip_gives c.args.form c.args.lo c.args.hi c.args.u.now.means c.in-Clip.is (to_z w64 (of_z w64 c.args.lo)) (to_z w64 (of_z w64 c.args.hi)) l h c.clip.result.means c.clip.ensures
 
 pub step-apply_to_element-requires : goal.step-apply_to_element-requires
-step-apply_to_element-requires t c = ?
+step-apply_to_element-requires t c = (let f : Fits w32 c.args.worker.now.left = search rules in omega (arith, f), (c.requires.known, can_apply (worker_step c.args.worker.now) c.args.x.means c.requires.can))
 
 pub step-returns-in_err-y-in-None-clause-steps : goal.step-returns-in_err-y-in-None-clause-steps
 step-returns-in_err-y-in-None-clause-steps t c = search rules
@@ -491,10 +502,10 @@ pub step-returns-in_err-again-in-Some-clause-same : goal.step-returns-in_err-aga
 step-returns-in_err-again-in-Some-clause-same t c = search rules
 
 pub step-same-x : goal.step-same-x
-step-same-x t c = ?
+step-same-x t c = refl
 
 pub step-apply_to_element-requires-in-Some : goal.step-apply_to_element-requires-in-Some
-step-apply_to_element-requires-in-Some t c = ?
+step-apply_to_element-requires-in-Some t c = (let f : Fits w32 c.args.worker.now.left = search rules in omega (arith, f), (c.requires.known, can_apply (worker_step c.args.worker.now) c.args.x.means c.requires.can))
 
 pub step-returns-in_err-answer-in-Some-clause-steps : goal.step-returns-in_err-answer-in-Some-clause-steps
 step-returns-in_err-answer-in-Some-clause-steps t c = search rules
@@ -503,55 +514,55 @@ pub step-returns-in_err-answer-in-Some-clause-same : goal.step-returns-in_err-an
 step-returns-in_err-answer-in-Some-clause-same t c = search rules
 
 pub step-is_kept-requires : goal.step-is_kept-requires
-step-is_kept-requires t c = ?
+step-is_kept-requires t c = step_tells (worker_step c.args.worker.now) c.args.x.means c.requires.can c.in_ok-answer-in-Some.answer.means c.in_ok-answer-in-Some.ensures.gives c.in-Some.keep c.in-Some.is
 
 pub step-same-again : goal.step-same-again
-step-same-again t c = ?
+step-same-again t c = refl
 
 pub step-returns-in_ok-y-in-None-clause-steps : goal.step-returns-in_ok-y-in-None-clause-steps
-step-returns-in_ok-y-in-None-clause-steps t c = ?
+step-returns-in_ok-y-in-None-clause-steps t c = step_maps (worker_step c.args.worker.now) c.args.x.means c.requires.can c.in_ok-y-in-None.y.means c.in_ok-y-in-None.ensures.gives c.in-None.is
 
 pub step-returns-in_ok-y-in-None-clause-same : goal.step-returns-in_ok-y-in-None-clause-same
-step-returns-in_ok-y-in-None-clause-same t c = ?
+step-returns-in_ok-y-in-None-clause-same t c = record { step = ap (step_is c.args.worker.now.left c.args.worker.now.keeps) c.in_ok-y-in-None.ensures.function; known = λ k. k }
 
 pub step-returns-then-is_kept-clause-steps : goal.step-returns-then-is_kept-clause-steps
-step-returns-then-is_kept-clause-steps t c = ?
+step-returns-then-is_kept-clause-steps t c = step_keeps (worker_step c.args.worker.now) c.args.x.means c.requires.can c.in_ok-answer-in-Some.answer.means c.in_ok-answer-in-Some.ensures.gives c.in-Some.keep c.in-Some.is c.is_kept.result c.is_kept.ensures c.if-is_kept.true c.in_ok-again-in-Some.again.means (ap (λ (h : Held). h.means) c.in_ok-again-in-Some.ensures)
 
 pub step-returns-then-is_kept-clause-same : goal.step-returns-then-is_kept-clause-same
-step-returns-then-is_kept-clause-same t c = ?
+step-returns-then-is_kept-clause-same t c = record { step = ap (step_is c.args.worker.now.left c.args.worker.now.keeps) c.in_ok-answer-in-Some.ensures.function; known = λ k. k }
 
 pub step-returns-else-is_kept-clause-steps : goal.step-returns-else-is_kept-clause-steps
-step-returns-else-is_kept-clause-steps t c = ?
+step-returns-else-is_kept-clause-steps t c = step_drops (worker_step c.args.worker.now) c.args.x.means c.requires.can c.in_ok-answer-in-Some.answer.means c.in_ok-answer-in-Some.ensures.gives c.in-Some.keep c.in-Some.is c.is_kept.result c.is_kept.ensures c.if-is_kept.false
 
 pub step-returns-else-is_kept-clause-same : goal.step-returns-else-is_kept-clause-same
-step-returns-else-is_kept-clause-same t c = ?
+step-returns-else-is_kept-clause-same t c = record { step = ap (step_is c.args.worker.now.left c.args.worker.now.keeps) c.in_ok-answer-in-Some.ensures.function; known = λ k. k }
 
 pub tally-overflow_sub-walks : goal.tally-overflow_sub-walks
-tally-overflow_sub-walks t c = ?
+tally-overflow_sub-walks t c = omega (arith, c.if-walks-eq0.false)
 
 pub tally-walk-requires : goal.tally-walk-requires
-tally-walk-requires t c = ?
+tally-walk-requires t c = (omega (arith, c.if-walks-eq0.false), (c.requires.bag, c.requires.weighed))
 
 pub tally-returns-in_err-total : goal.tally-returns-in_err-total
 tally-returns-in_err-total t c = search rules
 
 pub tally-returns : goal.tally-returns
-tally-returns t c = ?
+tally-returns t c = grind (arith, to_z-of_z, common_steps, c.num.ensures, c.narrowed.ensures, c.in_ok-total.ensures)
 
 pub walk-flow-flow-requires : goal.walk-flow-flow-requires
-walk-flow-flow-requires t c = ?
+walk-flow-flow-requires t c = c.requires.bag
 
 pub walk-loop-i-init : goal.walk-loop-i-init
-walk-loop-i-init t c = ?
+walk-loop-i-init t c = refl
 
 pub walk-offset_bounds-branches-i : goal.walk-offset_bounds-branches-i
-walk-offset_bounds-branches-i t c = ?
+walk-offset_bounds-branches-i t c = search (rules, arith)
 
 pub walk-bounds-branches-i : goal.walk-bounds-branches-i
-walk-bounds-branches-i t c = ?
+walk-bounds-branches-i t c = c.loop-i-test.true
 
 pub walk-walk_branch-requires : goal.walk-walk_branch-requires
-walk-walk_branch-requires t c = ?
+walk-walk_branch-requires t c = (omega arith, (branch_known c.args.gather c.deref-branches.result.now c.loop-i.i c.index-branches-i.result c.loop-i-test.true c.index-branches-i.is (subst IsFlow (sym c.deref-branches.ensures.value) c.flow-flow.ensures.walked), branch_can c.args.gather c.deref-branches.result.now c.loop-i.i c.index-branches-i.result c.loop-i-test.true c.index-branches-i.is (subst IsFlow (sym c.deref-branches.ensures.value) c.flow-flow.ensures.walked) (subst (AllWeighed c.args.gather) (ap elements c.flow-flow.ensures.is ∙ ap flow_of (sym c.deref-branches.ensures.value)) c.requires.weighed)))
 
 pub walk-returns-in_err-more : goal.walk-returns-in_err-more
 walk-returns-in_err-more t c = search rules
@@ -560,67 +571,112 @@ pub walk-returns-in_err-total : goal.walk-returns-in_err-total
 walk-returns-in_err-total t c = search rules
 
 pub walk-loop-i-smaller : goal.walk-loop-i-smaller
-walk-loop-i-smaller t c = ?
+walk-loop-i-smaller t c = search rules
 
 pub walk-loop-i-preserved : goal.walk-loop-i-preserved
-walk-loop-i-preserved t c = ?
+walk-loop-i-preserved t c = branch_added c.args.gather c.deref-branches.result.now c.loop-i.i c.index-branches-i.result c.loop-i-test.true c.index-branches-i.is _ c.in_ok-more.more _ c.loop-i.invariant c.in_ok-more.ensures
+    (grind (arith, to_z-of_z, common_steps, c.in_ok-total.ensures))
 
 pub walk-returns : goal.walk-returns
-walk-returns t c = ?
+walk-returns t c = branches_added c.args.gather c.deref-branches.result.now c.loop-i.i _ (omega (arith, c.loop-i-test.false)) c.loop-i.invariant ∙ ap (gathered c.args.gather) (sym (ap elements c.flow-flow.ensures.is ∙ ap flow_of (sym c.deref-branches.ensures.value)))
 
 pub walk_branch-returns-in-Some : goal.walk_branch-returns-in-Some
-walk_branch-returns-in-Some t c = ?
+walk_branch-returns-in-Some t c = grind (arith, to_z-of_z, common_steps, c.in-Some.ensures)
 
 pub walk_branch-flat_total-requires-clause-known : goal.walk_branch-flat_total-requires-clause-known
-walk_branch-flat_total-requires-clause-known t c = ?
+walk_branch-flat_total-requires-clause-known t c = subst AllKnown (sym c.deref.ensures.value) c.requires.known
 
 pub walk_branch-flat_total-requires-clause-goes : goal.walk_branch-flat_total-requires-clause-goes
-walk_branch-flat_total-requires-clause-goes t c = ?
+walk_branch-flat_total-requires-clause-goes t c = subst (λ (ss : List Step). AllGo ss c.args.branch.now.table.value) (sym (ap steps_of c.deref.ensures.value)) c.requires.can.goes
 
 pub walk_branch-returns-in_err-first : goal.walk_branch-returns-in_err-first
 walk_branch-returns-in_err-first t c = search rules
 
 pub walk_branch-returns-then-first-len : goal.walk_branch-returns-then-first-len
-walk_branch-returns-then-first-len t c = ?
+walk_branch-returns-then-first-len t c = whole c.args.gather (steps_of c.args.branch.now.stages.items) c.args.branch.now.table.value c.in_ok-first.first _ (grind (arith, common_steps, c.if-first-len.true, c.len.ensures, c.deref-2.ensures))
+    (flat_as c.args.gather (steps_of c.args.branch.now.stages.items) c.args.branch.now.table.value c.in_ok-first.first c.in_ok-first.start _ (grind (arith, to_z-of_z, common_steps)) (subst (λ (ss : List Step). IsFlatTotal c.args.gather ss c.args.branch.now.table.value c.in_ok-first.first c.in_ok-first.start) (ap steps_of c.deref.ensures.value) c.in_ok-first.ensures))
 
 pub walk_branch-walk_rows-requires : goal.walk_branch-walk_rows-requires
-walk_branch-walk_rows-requires t c = ?
+walk_branch-walk_rows-requires t c = (omega arith, (c.requires.known, (c.requires.can, flat_as c.args.gather (steps_of c.args.branch.now.stages.items) c.args.branch.now.table.value c.in_ok-first.first c.in_ok-first.start _ (grind (arith, to_z-of_z, common_steps))
+    (subst (λ (ss : List Step). IsFlatTotal c.args.gather ss c.args.branch.now.table.value c.in_ok-first.first c.in_ok-first.start) (ap steps_of c.deref.ensures.value) c.in_ok-first.ensures))))
 
 pub walk_branch-returns : goal.walk_branch-returns
-walk_branch-returns t c = ?
+walk_branch-returns t c = by_ok c.walk_rows.result _ _ c.walk_rows.ensures (λ z t. whole c.args.gather (steps_of c.args.branch.now.stages.items) c.args.branch.now.table.value (length c.args.branch.now.table.value) z refl t)
 
 pub walk_rows-workers_of-requires : goal.walk_rows-workers_of-requires
-walk_rows-workers_of-requires t c = ?
+walk_rows-workers_of-requires t c = subst AllKnown (sym c.deref.ensures.value) c.requires.known
 
 pub walk_rows-returns-in_err-workers : goal.walk_rows-returns-in_err-workers
 walk_rows-returns-in_err-workers t c = search rules
 
 pub walk_rows-loop-i-init : goal.walk_rows-loop-i-init
-walk_rows-loop-i-init t c = ?
+walk_rows-loop-i-init t c = (record { known = c.in_ok-workers.ensures.known; steps = c.in_ok-workers.ensures.are ∙ (ap steps_of c.deref.ensures.value) },
+    flat_as c.args.gather (steps_of c.args.branch.now.stages.items) c.args.branch.now.table.value c.args.first c.args.start _ (grind (arith, to_z-of_z, common_steps, c.ranges.start)) c.requires.start)
 
 pub walk_rows-row-requires : goal.walk_rows-row-requires
-walk_rows-row-requires t c = ?
+walk_rows-row-requires t c = (grind (arith, common_steps, c.loop-i-test.true, c.len-i-end.ensures))
 
 pub walk_rows-returns-in_err-x : goal.walk_rows-returns-in_err-x
 walk_rows-returns-in_err-x t c = search rules
 
 pub walk_rows-pass-requires : goal.walk_rows-pass-requires
-walk_rows-pass-requires t c = ?
+walk_rows-pass-requires t c = (omega arith, (c.loop-i.invariant.0.known, subst (λ (ss : List Step). CanPass ss c.in_ok-x.x.means) (sym c.loop-i.invariant.0.steps)
+    (row_passes c.args.gather (steps_of c.args.branch.now.stages.items) c.args.branch.now.table.value c.loop-i.i (grind (arith, common_steps, c.loop-i-test.true, c.len-i-end.ensures)) c.requires.can c.in_ok-x.x.means c.in_ok-x.ensures)))
 
 pub walk_rows-returns-in_err-o : goal.walk_rows-returns-in_err-o
 walk_rows-returns-in_err-o t c = search rules
 
 pub walk_rows-add_some-requires : goal.walk_rows-add_some-requires
-walk_rows-add_some-requires t c = ?
+walk_rows-add_some-requires t c = row_weighed c.args.gather (steps_of c.args.branch.now.stages.items) c.args.branch.now.table.value c.loop-i.i (grind (arith, common_steps, c.loop-i-test.true, c.len-i-end.ensures)) c.requires.can c.in_ok-x.x.means c.in_ok-x.ensures (means_in c.in_ok-o.o) (c.in_ok-o.ensures.passes ∙ ap (λ ss. values_in (through ss (Some (flat_of c.in_ok-x.x.means)))) c.loop-i.invariant.0.steps)
 
 pub walk_rows-returns-in_err-total : goal.walk_rows-returns-in_err-total
 walk_rows-returns-in_err-total t c = search rules
 
 pub walk_rows-loop-i-smaller : goal.walk_rows-loop-i-smaller
-walk_rows-loop-i-smaller t c = ?
+walk_rows-loop-i-smaller t c = search rules
 
 pub walk_rows-loop-i-preserved : goal.walk_rows-loop-i-preserved
-walk_rows-loop-i-preserved t c = ?
+walk_rows-loop-i-preserved t c = (record { known = c.in_ok-o.ensures.same.known c.loop-i.invariant.0.known; steps = c.in_ok-o.ensures.same.steps ∙ c.loop-i.invariant.0.steps },
+    row_added c.args.gather (steps_of c.args.branch.now.stages.items) c.args.branch.now.table.value c.loop-i.i (grind (arith, common_steps, c.loop-i-test.true, c.len-i-end.ensures)) c.requires.can c.in_ok-x.x.means c.in_ok-x.ensures (means_in c.in_ok-o.o) (c.in_ok-o.ensures.passes ∙ ap (λ ss. values_in (through ss (Some (flat_of c.in_ok-x.x.means)))) c.loop-i.invariant.0.steps) _ _ c.loop-i.invariant.1
+    (grind (arith, to_z-of_z, common_steps, c.in_ok-total.ensures)))
 
 pub walk_rows-returns : goal.walk_rows-returns
-walk_rows-returns t c = ?
+walk_rows-returns t c = rows_added c.args.gather (steps_of c.args.branch.now.stages.items) c.args.branch.now.table.value c.loop-i.i _ (grind (arith, common_steps, c.loop-i-test.false, c.len-i-end.ensures)) c.loop-i.invariant.1
+
+pub pass-loop-i-init : goal.pass-loop-i-init
+pass-loop-i-init t c = passing_start c.args.workers.now.items c.args.x.means c.requires.can
+
+pub pass-index_mut-requires : goal.pass-index_mut-requires
+pass-index_mut-requires t c = let l = same_length c.args.workers.now.items c.loop-i.workers.items c.loop-i.invariant.same in grind (arith, common_steps, l, c.loop-i-test.true, c.len-i-end.ensures)
+
+pub pass-step-requires : goal.pass-step-requires
+pass-step-requires t c = let l = same_length c.args.workers.now.items c.loop-i.workers.items c.loop-i.invariant.same in let h : c.loop-i.i < length c.loop-i.workers.items = grind (arith, common_steps, l, c.loop-i-test.true, c.len-i-end.ensures) in
+    (omega arith, (passing_known c.args.workers.now.items c.loop-i.workers.items c.args.x.means c.loop-i.i c.loop-i.at.means c.loop-i.invariant c.index_mut.result.now h c.index_mut.ensures.value c.requires.known, passing_can c.args.workers.now.items c.loop-i.workers.items c.args.x.means c.loop-i.i c.loop-i.at.means c.loop-i.invariant c.index_mut.result.now h c.index_mut.ensures.value))
+
+pub pass-returns-in_err-y-clause-passes : goal.pass-returns-in_err-y-clause-passes
+pass-returns-in_err-y-clause-passes t c = search rules
+
+pub pass-returns-in_err-y-clause-same : goal.pass-returns-in_err-y-clause-same
+pass-returns-in_err-y-clause-same t c = search rules
+
+pub pass-returns-in-None-clause-passes : goal.pass-returns-in-None-clause-passes
+pass-returns-in-None-clause-passes t c = let l = same_length c.args.workers.now.items c.loop-i.workers.items c.loop-i.invariant.same in let h : c.loop-i.i < length c.loop-i.workers.items = grind (arith, common_steps, l, c.loop-i-test.true, c.len-i-end.ensures) in
+    passing_left_out c.args.workers.now.items c.loop-i.workers.items c.args.x.means c.loop-i.i c.loop-i.at.means c.loop-i.invariant c.index_mut.result.now h c.index_mut.ensures.value (sym (ap means_in c.in-None.is) ∙ c.in_ok-y.ensures.steps)
+
+pub pass-returns-in-None-clause-same : goal.pass-returns-in-None-clause-same
+pass-returns-in-None-clause-same t c = let l = same_length c.args.workers.now.items c.loop-i.workers.items c.loop-i.invariant.same in let h : c.loop-i.i < length c.loop-i.workers.items = grind (arith, common_steps, l, c.loop-i-test.true, c.len-i-end.ensures) in
+    passing_same c.args.workers.now.items c.loop-i.workers.items c.args.x.means c.loop-i.i c.loop-i.at.means c.loop-i.invariant c.index_mut.result.now h c.index_mut.ensures.value c.step.new.worker c.in_ok-y.ensures.same
+
+pub pass-loop-i-smaller : goal.pass-loop-i-smaller
+pass-loop-i-smaller t c = search rules
+
+pub pass-loop-i-preserved : goal.pass-loop-i-preserved
+pass-loop-i-preserved t c = let l = same_length c.args.workers.now.items c.loop-i.workers.items c.loop-i.invariant.same in let h : c.loop-i.i < length c.loop-i.workers.items = grind (arith, common_steps, l, c.loop-i-test.true, c.len-i-end.ensures) in
+    passing_next c.args.workers.now.items c.loop-i.workers.items c.args.x.means c.loop-i.i c.loop-i.at.means c.loop-i.invariant c.index_mut.result.now h c.index_mut.ensures.value c.step.new.worker c.in_ok-y.ensures.same c.in-Some.y.means (sym (ap means_in c.in-Some.is) ∙ c.in_ok-y.ensures.steps)
+
+pub pass-returns-clause-passes : goal.pass-returns-clause-passes
+pass-returns-clause-passes t c = let l = same_length c.args.workers.now.items c.loop-i.workers.items c.loop-i.invariant.same in
+    passing_end c.args.workers.now.items c.loop-i.workers.items c.args.x.means c.loop-i.i c.loop-i.at.means c.loop-i.invariant (grind (arith, common_steps, l, c.loop-i-test.false, c.len-i-end.ensures))
+
+pub pass-returns-clause-same : goal.pass-returns-clause-same
+pass-returns-clause-same t c = c.loop-i.invariant.same
