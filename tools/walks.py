@@ -4,10 +4,10 @@
     walks_of(BYTES, TABLES, LIMIT) the same of a program's bytes; Refused where it is refused
     told(WALKS, BYTES)             what is said of it, in lines
 
-`size` and `sum` walk their bag: its elements are made there, each row of its tables on its way through the functions of the `map`s, `filter`s and `split`s that it has behind it.
-A bag that is used twice is walked twice. `size` walks only those tables of a bag behind which a `filter` or a `split` stands; the others are as long as they are. A walk is at depth 1, and in
-a function that is run for its rows one deeper. A table has at most LIMIT rows, so what a walk takes on whatever data is known from its bag. No table is read: all of this is
-as public as the program.
+`size` and `sum` walk their bag: its elements are made there, each row of its tables on its way through the functions of the `map`s, `filter`s
+and `split`s that it has behind it. A bag that is used twice is walked twice. `size` walks only those tables of a bag behind which a `filter` or a
+`split` stands; the others are as long as they are. A walk is at depth 1, and in a function that is run for its rows one deeper. A table has at most
+LIMIT rows, so what a walk takes on whatever data is known from its bag. No table is read: all of this is as public as the program.
 """
 from itertools import zip_longest
 from typing import NamedTuple

@@ -19,9 +19,9 @@ abbrev pub worker_steps : List Worker → List Step
 worker_steps [] = []
 worker_steps (w ∷ ws) = worker_step w ∷ worker_steps ws
 
--- the body is one of the nodes
+-- the body is one of the nodes, and the height is one that can be said
 abbrev pub IsKnownWorker : Worker → Type 0
-IsKnownWorker w = w.body.term < length w.nodes.value.terms
+IsKnownWorker w = (w.body.term < length w.nodes.value.terms) × (w.left < 4294967296)
 
 abbrev pub AllKnownWorkers : List Worker → Type 0
 AllKnownWorkers [] = ⊤

@@ -1,4 +1,4 @@
-use Rattle.std.proofs.Common.{rules, ◌≡◌, ◌<◌, ◌+◌, ◌-◌, arith, ap, refl, sym, subst, ◌∙◌, length, List, ℤ, to_z, of_z, w64, Fits, w32}
+use Rattle.std.proofs.Common.{rules, ◌≡◌, ◌<◌, ◌+◌, ◌-◌, arith, ap, refl, sym, subst, ◌∙◌, length, List, ℤ, to_z, of_z, w64}
 use Rattle.std.proofs.lemmas.Grind.{common_steps}
 use Rattle.std.specs.Prelude.{IfOk, IfSome, None, Option, Some, [], ◌∷◌, false, take, true}
 use Rattle.std.proofs.lemmas.Int.{ints, to_z-of_z}
@@ -487,7 +487,7 @@ bounded-returns-in-Clip t c = let l : (to_z w64 (of_z w64 c.args.lo)) ≡ c.args
     clip_gives c.args.form c.args.lo c.args.hi c.args.u.now.means c.in-Clip.is (to_z w64 (of_z w64 c.args.lo)) (to_z w64 (of_z w64 c.args.hi)) l h c.clip.result.means c.clip.ensures
 
 pub step-apply_to_element-requires : goal.step-apply_to_element-requires
-step-apply_to_element-requires t c = (let f : Fits w32 c.args.worker.now.left = search rules in omega (arith, f), (c.requires.known, can_apply (worker_step c.args.worker.now) c.args.x.means c.requires.can))
+step-apply_to_element-requires t c = (omega (arith, c.requires.known.1), (c.requires.known.0, can_apply (worker_step c.args.worker.now) c.args.x.means c.requires.can))
 
 pub step-returns-in_err-y-in-None-clause-steps : goal.step-returns-in_err-y-in-None-clause-steps
 step-returns-in_err-y-in-None-clause-steps t c = search rules
@@ -505,7 +505,7 @@ pub step-same-x : goal.step-same-x
 step-same-x t c = refl
 
 pub step-apply_to_element-requires-in-Some : goal.step-apply_to_element-requires-in-Some
-step-apply_to_element-requires-in-Some t c = (let f : Fits w32 c.args.worker.now.left = search rules in omega (arith, f), (c.requires.known, can_apply (worker_step c.args.worker.now) c.args.x.means c.requires.can))
+step-apply_to_element-requires-in-Some t c = (omega (arith, c.requires.known.1), (c.requires.known.0, can_apply (worker_step c.args.worker.now) c.args.x.means c.requires.can))
 
 pub step-returns-in_err-answer-in-Some-clause-steps : goal.step-returns-in_err-answer-in-Some-clause-steps
 step-returns-in_err-answer-in-Some-clause-steps t c = search rules
