@@ -597,8 +597,17 @@ walk_branch-returns-then-first-len t c = whole c.args.gather (steps_of c.args.br
     (flat_as c.args.gather (steps_of c.args.branch.now.stages.items) c.args.branch.now.table.value c.in_ok-first.first c.in_ok-first.start _ (grind (arith, to_z-of_z, common_steps)) (subst (λ (ss : List Step). IsFlatTotal c.args.gather ss c.args.branch.now.table.value c.in_ok-first.first c.in_ok-first.start) (ap steps_of c.deref.ensures.value) c.in_ok-first.ensures))
 
 pub walk_branch-walk_rows-requires : goal.walk_branch-walk_rows-requires
-walk_branch-walk_rows-requires t c = (omega arith, (c.requires.known, (c.requires.can, flat_as c.args.gather (steps_of c.args.branch.now.stages.items) c.args.branch.now.table.value c.in_ok-first.first c.in_ok-first.start _ (grind (arith, to_z-of_z, common_steps))
-    (subst (λ (ss : List Step). IsFlatTotal c.args.gather ss c.args.branch.now.table.value c.in_ok-first.first c.in_ok-first.start) (ap steps_of c.deref.ensures.value) c.in_ok-first.ensures))))
+walk_branch-walk_rows-requires t c = (
+  omega arith,
+  (
+    c.requires.known,
+    (
+      c.requires.can,
+      flat_as c.args.gather (steps_of c.args.branch.now.stages.items) c.args.branch.now.table.value c.in_ok-first.first c.in_ok-first.start _ (grind (arith, to_z-of_z, common_steps))
+          (subst (λ (ss : List Step). IsFlatTotal c.args.gather ss c.args.branch.now.table.value c.in_ok-first.first c.in_ok-first.start) (ap steps_of c.deref.ensures.value) c.in_ok-first.ensures),
+    ),
+  ),
+)
 
 pub walk_branch-returns : goal.walk_branch-returns
 walk_branch-returns t c = by_ok c.walk_rows.result _ _ c.walk_rows.ensures (λ z t. whole c.args.gather (steps_of c.args.branch.now.stages.items) c.args.branch.now.table.value (length c.args.branch.now.table.value) z refl t)
@@ -610,8 +619,10 @@ pub walk_rows-returns-in_err-workers : goal.walk_rows-returns-in_err-workers
 walk_rows-returns-in_err-workers t c = search rules
 
 pub walk_rows-loop-i-init : goal.walk_rows-loop-i-init
-walk_rows-loop-i-init t c = (record { known = c.in_ok-workers.ensures.known; steps = c.in_ok-workers.ensures.are ∙ (ap steps_of c.deref.ensures.value) },
-    flat_as c.args.gather (steps_of c.args.branch.now.stages.items) c.args.branch.now.table.value c.args.first c.args.start _ (grind (arith, to_z-of_z, common_steps, c.ranges.start)) c.requires.start)
+walk_rows-loop-i-init t c = (
+  record { known = c.in_ok-workers.ensures.known; steps = c.in_ok-workers.ensures.are ∙ (ap steps_of c.deref.ensures.value) },
+  flat_as c.args.gather (steps_of c.args.branch.now.stages.items) c.args.branch.now.table.value c.args.first c.args.start _ (grind (arith, to_z-of_z, common_steps, c.ranges.start)) c.requires.start,
+)
 
 pub walk_rows-row-requires : goal.walk_rows-row-requires
 walk_rows-row-requires t c = (grind (arith, common_steps, c.loop-i-test.true, c.len-i-end.ensures))
@@ -620,8 +631,14 @@ pub walk_rows-returns-in_err-x : goal.walk_rows-returns-in_err-x
 walk_rows-returns-in_err-x t c = search rules
 
 pub walk_rows-pass-requires : goal.walk_rows-pass-requires
-walk_rows-pass-requires t c = (omega arith, (c.loop-i.invariant.0.known, subst (λ (ss : List Step). CanPass ss c.in_ok-x.x.means) (sym c.loop-i.invariant.0.steps)
-    (row_passes c.args.gather (steps_of c.args.branch.now.stages.items) c.args.branch.now.table.value c.loop-i.i (grind (arith, common_steps, c.loop-i-test.true, c.len-i-end.ensures)) c.requires.can c.in_ok-x.x.means c.in_ok-x.ensures)))
+walk_rows-pass-requires t c = (
+  omega arith,
+  (
+    c.loop-i.invariant.0.known,
+    subst (λ (ss : List Step). CanPass ss c.in_ok-x.x.means) (sym c.loop-i.invariant.0.steps)
+        (row_passes c.args.gather (steps_of c.args.branch.now.stages.items) c.args.branch.now.table.value c.loop-i.i (grind (arith, common_steps, c.loop-i-test.true, c.len-i-end.ensures)) c.requires.can c.in_ok-x.x.means c.in_ok-x.ensures),
+  ),
+)
 
 pub walk_rows-returns-in_err-o : goal.walk_rows-returns-in_err-o
 walk_rows-returns-in_err-o t c = search rules
@@ -636,9 +653,11 @@ pub walk_rows-loop-i-smaller : goal.walk_rows-loop-i-smaller
 walk_rows-loop-i-smaller t c = search rules
 
 pub walk_rows-loop-i-preserved : goal.walk_rows-loop-i-preserved
-walk_rows-loop-i-preserved t c = (record { known = c.in_ok-o.ensures.same.known c.loop-i.invariant.0.known; steps = c.in_ok-o.ensures.same.steps ∙ c.loop-i.invariant.0.steps },
-    row_added c.args.gather (steps_of c.args.branch.now.stages.items) c.args.branch.now.table.value c.loop-i.i (grind (arith, common_steps, c.loop-i-test.true, c.len-i-end.ensures)) c.requires.can c.in_ok-x.x.means c.in_ok-x.ensures (means_in c.in_ok-o.o) (c.in_ok-o.ensures.passes ∙ ap (λ ss. values_in (through ss (Some (flat_of c.in_ok-x.x.means)))) c.loop-i.invariant.0.steps) _ _ c.loop-i.invariant.1
-    (grind (arith, to_z-of_z, common_steps, c.in_ok-total.ensures)))
+walk_rows-loop-i-preserved t c = (
+  record { known = c.in_ok-o.ensures.same.known c.loop-i.invariant.0.known; steps = c.in_ok-o.ensures.same.steps ∙ c.loop-i.invariant.0.steps },
+  row_added c.args.gather (steps_of c.args.branch.now.stages.items) c.args.branch.now.table.value c.loop-i.i (grind (arith, common_steps, c.loop-i-test.true, c.len-i-end.ensures)) c.requires.can c.in_ok-x.x.means c.in_ok-x.ensures (means_in c.in_ok-o.o) (c.in_ok-o.ensures.passes ∙ ap (λ ss. values_in (through ss (Some (flat_of c.in_ok-x.x.means)))) c.loop-i.invariant.0.steps) _ _ c.loop-i.invariant.1
+      (grind (arith, to_z-of_z, common_steps, c.in_ok-total.ensures)),
+)
 
 pub walk_rows-returns : goal.walk_rows-returns
 walk_rows-returns t c = rows_added c.args.gather (steps_of c.args.branch.now.stages.items) c.args.branch.now.table.value c.loop-i.i _ (grind (arith, common_steps, c.loop-i-test.false, c.len-i-end.ensures)) c.loop-i.invariant.1
