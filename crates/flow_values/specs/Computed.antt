@@ -1,6 +1,7 @@
 -- What a term means, as a function: where the rules give a term a value, it is this. Where they give none, it may be anything.
 use Rattle.std.specs.Int.{int_max, int_min}
-use Rattle.std.specs.Prelude.{Bool, List, None, Option, Some, [], bytes_eq, cond, false, int_le, length, map, pos, suc, true, zero, ℕ, ℤ, ◌*ℤ◌, ◌++◌, ◌+ℤ◌, ◌-ℤ◌, ◌∷◌}
+use Rattle.std.specs.Prelude.{Bool, List, None, Option, Some, [], bytes_eq, cond, false, int_le, length}
+use Rattle.std.specs.Prelude.{map, pos, suc, true, zero, ℕ, ℤ, ◌*ℤ◌, ◌++◌, ◌+ℤ◌, ◌-ℤ◌, ◌∷◌}
 use Rattle.fz_ast.specs.Terms.{AppE, BangE, CaseE, ClipE, EqE, FilterE, FnE, FstE, FunE, GreatestE, IfE, InlE, InrE, LeE, LeastE, LetBangE, LetE, LetPairE}
 use Rattle.fz_ast.specs.Terms.{MapE, MinusE, NumE, PairE, PlusE, SizeE, SndE, SplitE, SumE, Term, TermForm, TextE, TimesE, UnionE, UnitE, VarE, WithE, at}
 use Rattle.metric_law.specs.Means.{find}

@@ -58,7 +58,8 @@ impl Scope {
         pair: Value,
     ) -> Result<Scope, NoMemory>
         requires { IsPair pair.means }
-        ensures { IfOk result (λ s. s.means ≡ Bind (name_of second.now) (second_in pair.means) (Bind (name_of first.now) (first_in pair.means) self.now.means)) }
+        ensures { IfOk result (λ s.
+            s.means ≡ Bind (name_of second.now) (second_in pair.means) (Bind (name_of first.now) (first_in pair.means) self.now.means)) }
     {
         let halves = Halves {
             first: *first,

@@ -15,7 +15,8 @@ ghost use Rattle.flow_values.specs.Views.{AllKnown, steps_of};
 ghost use Rattle.row_kernels.specs.Flows.{IsFlatTotal};
 ghost use Rattle.row_kernels.specs.Gathers.{AllWeighed, gathered};
 ghost use Rattle.fuzz_eval.specs.Steps.{Can1, Can2, CanApply, CanRanged, Gives1, Gives2, GivesRanged, HasFormWithin, HasValueWithin};
-ghost use Rattle.fuzz_eval.specs.Walks.{AllKnownWorkers, AreSameWorkers, CanGather, CanPass, CanStep, IsKnownWorker, IsSameWorker, means_in, values_in, worker_step, worker_steps};
+ghost use Rattle.fuzz_eval.specs.Walks.{AllKnownWorkers, AreSameWorkers, CanGather, CanPass, CanStep};
+ghost use Rattle.fuzz_eval.specs.Walks.{IsKnownWorker, IsSameWorker, means_in, values_in, worker_step, worker_steps};
 ghost use Rattle.fuzz_eval.specs.Loops.{function_inside};
 
 use crate::bags::{split, staged};
