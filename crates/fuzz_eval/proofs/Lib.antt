@@ -1,13 +1,10 @@
-pub mod Datasets
 pub mod Steps
-pub mod Staged
-pub mod Applying
+pub mod Loops
 pub mod Forms
 pub mod TwoParts
 pub mod AtOnce
-pub mod Walked
-pub mod Tallied
-pub mod Maps
-pub mod AtWork
-pub mod Programs
+pub mod Applying
 pub mod Examples
+pub mod Elements
+mod Datasets
+mod Programs

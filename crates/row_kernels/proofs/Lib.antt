@@ -1,8 +1,7 @@
 pub mod Given
-pub mod Held
 pub mod Changed
+pub mod Grown
+pub mod Verdicts
 pub mod Framed
-pub mod Gathered
-pub mod Counted
-pub mod Passing
+pub mod Held
 pub mod Examples

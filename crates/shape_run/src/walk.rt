@@ -12,8 +12,7 @@ ghost use Rattle.shape_run.specs.Rules.{Scopes, StandsForShape, beside, combined
 ghost use Rattle.shape_run.specs.Tells.{Tells, tally_of};
 
 use crate::gives::{
-    give_bag, give_ground, give_leaf, give_pair, give_part, give_union, give_wider, part_of,
-    take_turn,
+    give_ground, give_leaf, give_pair, give_part, give_union, give_wider, part_of, take_turn,
 };
 use crate::plan::{Plan, ShapeFault};
 use crate::store::{Cell, Store};
@@ -198,7 +197,7 @@ fn enter(
             };
             visit_under(nodes, store, count, scope, name, held, body, left, here)
         }
-        _ => give_ground(store, count, 0, 0),
+        _ => give_ground(store, count, 0),
     }
 }
 
@@ -226,7 +225,7 @@ fn combine(
         Binary::Pair | Binary::With => give_pair(store, count, a, b),
         Binary::App => enter(nodes, store, count, a, b, left, here),
         Binary::Plus | Binary::Minus | Binary::AtMost | Binary::Equal => give_ground(
-            store, count, 0, 0,
+            store, count, 0,
         ),
         Binary::Union => give_union(store, count, span, a, b),
         Binary::Map | Binary::Filter | Binary::Split => {
@@ -254,14 +253,11 @@ fn over(
     ensures grown { Grown store.old.cells.items store.new.cells.items }
 {
     let width = store.width(b);
-    let inside = store.walks(b);
-    let Ok(element) = store.ground(0, 0) else {
+    let Ok(element) = store.ground(0) else {
         return Err(ShapeFault::NoMemory);
     };
-    let before = count.walks;
-    count.walks = 0;
     let _ = enter(nodes, store, count, c, element, left, here)?;
-    give_bag(store, count, width, inside, before)
+    give_ground(store, count, width)
 }
 
 // The shape of a term after its own turn. Its parts are at `here`.

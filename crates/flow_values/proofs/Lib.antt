@@ -1,5 +1,0 @@
-pub mod Computed
-pub mod Gone
-pub mod Branched
-pub mod Closures
-pub mod Examples
