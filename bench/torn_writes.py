@@ -10,7 +10,7 @@ area, by one worker and by two; and of such runs over journals of versions 1 and
 end any bytes may be there, and the file may end anywhere between its old end and its new one:
 
 - the old bytes and the old end; the new ones; 0xFF or 0xA5 in each place;
-- at random: each write there or not; pieces of 16 bytes there or not; any bytes; a cut anywhere.
+- at random: each write there or not; pieces of 16 bytes there or not, and sectors of 512 and of 4,096; any bytes; a cut anywhere.
 
 Each such file is put in the journal's place. By a second reader (tools/journal.py) and the program itself:
 
@@ -85,14 +85,18 @@ def whole_or_not(rng, file, place, data):
     return overlaid(file, place, data) if rng.random() < 0.5 else file
 
 
-def in_pieces(rng, file, place, data):
-    """Pieces of 16 bytes of the file are the old ones or the new ones."""
-    new = bytearray(overlaid(file, place, data))
-    for at in range(place - place % 16, len(new), 16):
-        if rng.random() < 0.5:
-            old = file[at : at + 16]
-            new[at : at + len(old)] = old
-    return bytes(new)
+def in_pieces(size):
+    """Pieces of this many bytes of the file are the old ones or the new ones."""
+
+    def torn(rng, file, place, data):
+        new = bytearray(overlaid(file, place, data))
+        for at in range(place - place % size, len(new), size):
+            if rng.random() < 0.5:
+                old = file[at : at + size]
+                new[at : at + len(old)] = old
+        return bytes(new)
+
+    return torn
 
 
 def any_bytes(rng, file, place, data):
@@ -110,7 +114,7 @@ def cut_off(rng, file, place, data):
     return new[: rng.randint(len(file), len(new))]
 
 
-AT_RANDOM = (whole_or_not, in_pieces, any_bytes, cut_off)
+AT_RANDOM = (whole_or_not, in_pieces(16), in_pieces(512), in_pieces(4096), any_bytes, cut_off)
 STOPS = {
     "the old bytes": lambda file, place, data: file,
     "the new bytes": overlaid,
