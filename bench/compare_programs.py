@@ -46,7 +46,9 @@ def wanted_of(program):
     try:
         term, r = asked(program, TABLES)
     except Refused as refusal:
-        return f"no {refusal}", f"no {refusal}", None, None
+        # Want of memory, of which `check` says a word of its own.
+        said = "memory" if str(refusal) == "90" else f"no {refusal}"
+        return said, f"no {refusal}", None, None
     cost = ceil(r * EPSILON)
     line = f"no 40 0 {cost} {BUDGET} 0" if cost > BUDGET else None
     return f"ok {sensitivity_text(r)}", line, term, r

@@ -3,8 +3,8 @@
 
 usage: bench/dearest.py [SECONDS]    (PROGRAM=FILE times another build; SECONDS of processor time, 60, after which a run is ended)
 Of each depth there are two: the shortest program, a `filter` in `map`s of the table; and the longest, of nearly 20,000 turns in the innermost
-function, over bags 64 tables wide, by whichever of some bodies takes longest a turn. Beside them is a `map` over such a bag that makes pairs,
-which holds many rows. All are charged nothing. First a program is timed over tables of 1, 2, 4, .. rows until it takes a second, the longest ones
+function, over bags 64 tables wide, by whichever of some bodies takes longest a turn. Beside them is a `filter` of a `map` over such a bag, which makes
+pairs. All are charged nothing. First a program is timed over tables of 1, 2, 4, .. rows until it takes a second, the longest ones
 of depth 2 and 3 over narrower bags. By what it takes for each visit of a row or a term (tools/walks.py says how many there are at most, and here
 none is left out) the rest is worked out, in parentheses. What would then take over twice SECONDS isn't run.
 It ends with status 1 where a program isn't accepted, has another depth, or isn't answered.
@@ -50,7 +50,7 @@ def shortest(depth, width=1):
     """A `filter` in so many `map`s less one, over the table."""
     text = "size (filter (fn (y : num) => y <= 30) people)" if depth == 1 else "size (filter (fn (y : num) => y <= x) people)"
     for _ in range(depth - 1):
-        text = f"size (map (fn (x : num) => {text}) people)"
+        text = f"sum[0,9] (map (fn (x : num) => {text}) people)"
     return f"0 * {text}"
 
 
@@ -75,7 +75,7 @@ def nested(depth, width, inner, between):
     lets, bag = bags(width)
     text = f"( {inner} )"
     for _ in range(depth):
-        text = f"size ( map ( fn ( x : num ) => {text} ) {bag} )"
+        text = f"sum [ 0 , 9 ] ( map ( fn ( x : num ) => {text} ) {bag} )"
     names = "".join(f"let ( {2 * place:n>32} , {2 * place + 1:n>32} ) = ( 1 , 1 ) in " for place in range(between))
     return f"let {FAR} = 1 in {names}{lets}0 * {text}"
 
@@ -104,7 +104,7 @@ def longest(body):
 
 def widest(depth, width=WIDEST):
     lets, bag = bags(width)
-    return f"{lets}0 * size (map (fn (x : num) => <x, x>) {bag})"
+    return f"{lets}0 * size (filter (fn (p : num & num) => fst p <= 30) (map (fn (x : num) => <x, x>) {bag}))"
 
 
 def walked(program, rows=1):

@@ -33,7 +33,7 @@ from lines import LINE_LIMIT
 
 DOOR = f"{TOP}/tools/door"
 ASK = "ask census 0.000001 size people"
-DEEP = "ask census 1 0 * size (map (fn (x : text * num) => size (filter (fn (y : text * num) => true) people)) people)"
+DEEP = "ask census 1 0 * sum[0,9] (map (fn (x : text * num) => size (filter (fn (y : text * num) => true) people)) people)"
 WORKERS = 4
 CONFIG = """
 Port {port}

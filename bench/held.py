@@ -21,7 +21,7 @@ from served import NAMES, Room, Service, Wrong, need_program, place
 
 # So many asks of one owner have room in its journal, twice over.
 MOST = 50_000
-HELD = "0 * size (map (fn (x : text * num) => let (s, a) = x in size (filter (fn (y : text * num) => let (t, b) = y in b <= a) people)) people)"
+HELD = "0 * sum[0,9] (map (fn (x : text * num) => let (s, a) = x in size (filter (fn (y : text * num) => let (t, b) = y in b <= a) people)) people)"
 
 
 def asked(caller, name, times):

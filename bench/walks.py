@@ -24,7 +24,7 @@ from first_programs import CATALOG as SURVEY, PAGE, page_script, text_of  # noqa
 from language import rows_of_tables  # noqa: E402
 from programs import NUM, Refused, checked, deep  # noqa: E402
 from random_programs import TABLES, Writer, accepted_of  # noqa: E402
-from runs import Run, TooManySteps, plan  # noqa: E402
+from runs import Bang, Run, TooManySteps, clamp, clipped, plan  # noqa: E402
 from walks import count, walks  # noqa: E402
 
 CATALOG = "examples/language/catalog.json"
@@ -37,7 +37,7 @@ LESSENING = {"filter", "split", "if", "case", "pair", "with", "let,", "fst", "sn
 
 ALL = "fn (y : num) => true"
 SOME = "fn (y : num) => y <= x"
-MAP = "0 * size (map (fn (x : num) => {}) people)"
+MAP = "0 * sum[0,9] (map (fn (x : num) => {}) people)"
 # A program, its depth, and the visits of rows that are said; and those of a run on FULL where they are fewer.
 CASES = [
     # What walks, and what doesn't.
@@ -45,48 +45,55 @@ CASES = [
     ("size people", 0, 0),
     ("let b = people in size b", 0, 0),
     ("sum[0,9] people", 1, R),
-    ("size (map (fn (y : num) => y + 1) people)", 1, R),
+    ("size (map (fn (y : num) => y + 1) people)", 0, 0),
+    ("size (map (fn (y : num) => y) (map (fn (y : num) => y) people))", 0, 0),
+    ("sum[0,9] (map (fn (y : num) => y) (map (fn (y : num) => y) people))", 1, R),
     (f"size (filter ({ALL}) people)", 1, R),
-    (f"let (a, b) = split ({ALL}) people in size a + size b", 1, R),
-    ("size (union people people)", 1, 2 * R),
-    ("size (union people (union people people))", 1, 5 * R),
-    ("sum[0,9] (union people people)", 1, 4 * R),
-    ("size (map (fn (y : num) => y) (map (fn (y : num) => y) people))", 1, 2 * R),
+    (f"size (map (fn (y : num) => y) (filter ({ALL}) people))", 1, R),
+    (f"let (a, b) = split ({ALL}) people in size a + size b", 1, 2 * R),
+    ("size (union people people)", 0, 0),
+    ("size (union people (union people people))", 0, 0),
+    ("sum[0,9] (union people people)", 1, 2 * R),
+    (f"size (union people (filter ({ALL}) people))", 1, R),
     ("let a = sum[0,9] people in 1", 1, R),
     ("sum[0,9] people + sum[0,9] people", 1, 2 * R),
-    # What a walk leaves out counts all the same, both branches do, and of a pair the wider half is taken for both.
-    ("sum[0,9] (filter (fn (y : num) => y <= 1) people)", 1, 2 * R, R + 1),
-    ("let (a, b) = split (fn (y : num) => y <= 1) people in sum[0,9] a + sum[0,9] b", 1, 3 * R, 2 * R),
+    # What a filter leaves out is visited all the same, both branches count, and of a pair the wider half is taken for both.
+    ("sum[0,9] (filter (fn (y : num) => y <= 1) people)", 1, R),
+    ("let (a, b) = split (fn (y : num) => y <= 1) people in sum[0,9] a + sum[0,9] b", 1, 2 * R),
     ("if true then size people else sum[0,9] people", 1, R, 0),
     ("case inl[unit] people of inl b => size b | inr u => sum[0,9] people", 1, R, 0),
-    ("let (a, b) = (people, union people people) in sum[0,9] a + size b", 1, 4 * R, 3 * R),
+    ("let (a, b) = (people, union people people) in sum[0,9] a + size b", 1, 2 * R, R),
     ("fst <sum[0,9] people, sum[0,9] people>", 1, 2 * R),
-    # A side of a sum that never comes holds no bag, so its walk has no rows, though it is one.
-    ("case inr[bag num] 5 of inl b => sum[0,9] b | inr n => n", 1, 0, 0),
-    # In a function that a walk runs for each row; its bag and the expression that gives it are outside.
+    # A side of a sum that never comes holds no bag, so nothing is walked.
+    ("case inr[bag num] 5 of inl b => sum[0,9] b | inr n => n", 0, 0, 0),
+    # In a function that is run for each row that a walk visits.
     (MAP.format("size people"), 1, R),
     (MAP.format("sum[0,9] people"), 2, R + R**2),
     (MAP.format(f"size (filter ({SOME}) people)"), 2, R + R**2),
     (MAP.format(f"let (a, b) = split ({SOME}) people in size a"), 2, R + R**2),
-    (MAP.format("size (map (fn (y : num) => x + y) people)"), 2, R + R**2),
-    (MAP.format("size (union people people)"), 2, R + 2 * R**2),
+    (MAP.format("size (map (fn (y : num) => x + y) people)"), 1, R),
+    (MAP.format("size (union people people)"), 1, R),
     (MAP.format("sum[0,9] people + sum[0,9] people"), 2, R + 2 * R**2),
     ("0 * size (filter (fn (x : num) => sum[0,9] people <= x) people)", 2, R + R**2),
     ("let (a, b) = split (fn (x : num) => 0 * sum[0,9] people <= x) people in size a", 2, R + R**2),
     (f"0 * size (filter (let n = size (filter ({ALL}) people) in fn (y : num) => y <= n) people)", 1, 2 * R),
-    ("0 * size (map (fn (x : num) => size people) (map (fn (y : num) => y) people))", 1, 2 * R),
-    ("0 * sum[0,9] (map (fn (x : num) => x) (union people people))", 1, 6 * R),
-    ("sum[0,0] (map (fn (x : num) => sum[0,9] people) people)", 2, 2 * R + R**2),
-    ("0 * size (map (fn (x : num) => sum[0,9] people) (union people people))", 2, 4 * R + 2 * R**2),
-    # A bag that is bound outside is made once, and one that is bound inside for each row.
-    (f"let b = filter ({ALL}) people in " + MAP.format("size b"), 1, 2 * R),
+    ("0 * size (map (fn (x : num) => sum[0,9] people) (map (fn (y : num) => y) people))", 0, 0),
+    ("0 * sum[0,9] (map (fn (x : num) => sum[0,9] people) (map (fn (y : num) => y) people))", 2, R + R**2),
+    ("0 * sum[0,9] (map (fn (x : num) => x) (union people people))", 1, 2 * R),
+    ("sum[0,0] (map (fn (x : num) => sum[0,9] people) people)", 2, R + R**2),
+    ("0 * size (map (fn (x : num) => sum[0,9] people) (union people people))", 0, 0),
+    ("0 * sum[0,9] (map (fn (x : num) => sum[0,9] people) (union people people))", 2, 2 * R + 2 * R**2),
+    # A bag is made where it is walked, wherever it was bound.
+    (f"let b = filter ({ALL}) people in " + MAP.format("size b"), 2, R + R**2),
     (MAP.format(f"let b = filter ({ALL}) people in size b"), 2, R + R**2),
-    (f"let b = filter ({ALL}) people in " + MAP.format("sum[0,9] b"), 2, 2 * R + R**2),
+    (f"let b = filter ({ALL}) people in " + MAP.format("sum[0,9] b"), 2, R + R**2),
+    ("let b = map (fn (y : num) => sum[0,9] people) people in 0 * (sum[0,9] b + sum[0,9] b)", 2, 2 * R + 2 * R**2),
     ("let n = sum[0,9] people in " + MAP.format("x + n"), 1, 2 * R),
     # A function walks where it is called, wherever it was made, and not where it isn't.
     (f"let f = fn (x : num) => size (filter ({SOME}) people) in f (![inf] 3)", 1, R),
     (f"let f = fn (x : num) => size (filter ({SOME}) people) in " + MAP.format("f (![inf] x)"), 2, R + R**2),
-    (f"let f = fn (x : num) => size (filter ({SOME}) people) in 0 * size (map f people)", 2, R + R**2),
+    (f"let f = fn (x : num) => size (filter ({SOME}) people) in 0 * size (map f people)", 0, 0),
+    (f"let f = fn (x : num) => size (filter ({SOME}) people) in 0 * sum[0,9] (map f people)", 2, R + R**2),
     (f"let f = fn (x : num) => size (filter ({SOME}) people) in " + MAP.format("x"), 1, R),
     (MAP.format(f"let f = fn (x : num) => size (filter ({SOME}) people) in x"), 1, R),
     ("let g = fun (b : bag num) => sum[0,1] b in g people", 1, R),
@@ -95,23 +102,25 @@ CASES = [
     ("let p = (fun (b : bag num) => sum[0,1] b, people) in let (f, b) = p in f b", 1, R),
     ("let !b = ![2] people in sum[0,9] b + size b", 1, R),
     # Three deep.
-    (MAP.format(f"size (filter (fn (y : num) => sum[0,9] people <= y) people)"), 3, R + R**2 + R**3),
-    (MAP.format(f"sum[0,9] (map (fn (y : num) => y) people)"), 2, R + 2 * R**2),
-    ("let f = fn (y : num) => sum[0,9] people in let g = fn (x : num) => size (map f people) in " + MAP.format("g (![inf] x)"), 3, R + R**2 + R**3),
+    (MAP.format("size (filter (fn (y : num) => sum[0,9] people <= y) people)"), 3, R + R**2 + R**3),
+    (MAP.format("sum[0,9] (map (fn (y : num) => y) people)"), 2, R + R**2),
+    ("let f = fn (y : num) => sum[0,9] people in let g = fn (x : num) => sum[0,9] (map f people) in " + MAP.format("g (![inf] x)"), 3, R + R**2 + R**3),
 ]
 # Programs with the terms that they visit: in a body as often as it is run.
 TURNS = [
     ("7", 1),
     ("size people", 2),
     ("sum[0,9] people", 2),
-    ("size (map (fn (y : num) => y + 1) people)", 4 + 3 * R),
+    ("size (map (fn (y : num) => y + 1) people)", 4),
+    ("sum[0,99] (map (fn (y : num) => y + 1) people)", 4 + 3 * R),
     ("let f = fun (x : num) => x + 1 in f (f 2)", 13),
     (MAP.format(f"size (filter ({SOME}) people)"), 5 + 4 * R + 3 * R**2),
 ]
 
 
 class Counting(Run):
-    """A run on data that counts visits of rows, and keeps how deep they came to be within one another."""
+    """A run on data that counts visits of rows, and keeps how deep they came to be within one another. A bag is a list of tables, each with the stages behind
+    it: whether a function gives elements, or tells which are kept, and which those are."""
 
     def __init__(self):
         super().__init__(STEPS)
@@ -121,34 +130,70 @@ class Counting(Run):
     def turns(self):
         return STEPS - self.steps
 
-    def walked(self, bag):
-        self.visits += len(bag)
-        self.depth = max(self.depth, self.around + 1)
-        return bag
+    def name(self, node, scope, name):
+        found = super().name(node, scope, name)
+        return [(found, ())] if name in FULL and isinstance(found, Rows) else found
 
-    def images(self, function, bag):
-        self.around += 1
-        found = super().images(function, bag)
-        self.around -= 1
-        return found
+    def union(self, node, scope, a, b):
+        left = self.value(a, scope)
+        return left + self.value(b, scope)
+
+    def over_bag(self, node, scope, f, b):
+        function = self.value(f, scope)
+        bag = self.value(b, scope)
+        behind = lambda keeps: [(rows, (*stages, (function, keeps))) for rows, stages in bag]  # noqa: E731
+        if node.form == "map":
+            return behind(None)
+        return behind(True) if node.form == "filter" else (behind(True), behind(False))
+
+    def walked(self, rows, stages):
+        """What the rows are behind the stages."""
+        self.depth = max(self.depth, self.around + 1)
+        for row in rows:
+            self.visits += 1
+            self.around += 1
+            passed = self.passed(row, stages)
+            self.around -= 1
+            yield from passed
+
+    def passed(self, row, stages):
+        for function, keeps in stages:
+            given = self.value(*function.entered(Bang(row)))
+            if keeps is None:
+                row = given
+            elif given.left != keeps:
+                return []
+        return [row]
+
+    def size(self, node, scope, e):
+        lessened = lambda stages: any(keeps is not None for _, keeps in stages)  # noqa: E731
+        many = [sum(1 for _ in self.walked(rows, stages)) if lessened(stages) else len(rows) for rows, stages in self.value(e, scope)]
+        return clamp(sum(many))
+
+    def clipped_sum(self, node, scope, low, high, e):
+        return clamp(sum(clipped(low, high, row) for rows, stages in self.value(e, scope) for row in self.walked(rows, stages)))
+
+
+class Rows(list):
+    """A table."""
 
 
 def counted(term, rows):
     run = Counting()
-    run.value(term, dict(rows))
+    run.value(term, {name: Rows(table) for name, table in rows.items()})
     return run
 
 
 # Random programs with walks in functions.
 
 AROUND = [
-    "0 * size ( map ( fn ( x : num ) => {} ) people )",
+    "0 * sum [ 0 , 9 ] ( map ( fn ( x : num ) => {} ) people )",
     "0 * size ( filter ( fn ( x : num ) => {} <= x ) people )",
     "let ( a , b ) = split ( fn ( x : num ) => 0 * ( {} ) <= x ) people in size b",
-    "let f = fn ( x : num ) => {} in 0 * size ( map f people )",
-    "let f = fn ( x : num ) => {} in 0 * size ( map ( fn ( x : num ) => f ( ! [ inf ] x ) + x ) ( union people people ) )",
+    "let f = fn ( x : num ) => {} in 0 * sum [ 0 , 9 ] ( map f people )",
+    "let f = fn ( x : num ) => {} in 0 * sum [ 0 , 9 ] ( map ( fn ( x : num ) => f ( ! [ inf ] x ) + x ) ( union people people ) )",
     "let f = fun ( x : num ) => 0 * ( {} ) in sum [ - 9 , 9 ] ( map ( fn ( x : num ) => f x - x ) people )",
-    "let n = size ( map ( fn ( s : text * num ) => let ( t , x ) = s in {} ) stays ) in 3",
+    "let n = sum [ 0 , 9 ] ( map ( fn ( s : text * num ) => let ( t , x ) = s in {} ) stays ) in 3",
     "sum [ 0 , 0 ] ( map ( fn ( x : num ) => {} ) people )",
 ]
 
@@ -249,8 +294,8 @@ class Trial:
 
     def compare(self, program, found, run, exact):
         said, came = (found.walk_depth, found.rows, found.most_turns), (run.depth, run.visits, run.turns)
-        # What turns, width and the most rows of a table say by themselves.
-        plain = found.turns * (max(1, found.width) * found.limit) ** found.walk_depth
+        # What turns, walks, width and the most rows of a table say by themselves.
+        plain = found.turns * (found.walks + 1) * (max(1, found.width) * found.limit) ** found.walk_depth
         if any(a > b for a, b in zip(came, said)) or max(found.rows, found.most_turns) > plain:
             self.differ("counted", program, came, f"within {said}, and these within {plain}")
         if exact:
@@ -264,12 +309,12 @@ class Trial:
         """tools/walks and tools/explain, on a program and on a script."""
         deeper, flat = MAP.format("sum[0,9] people"), "sum[0,9] people"
         said = "walks rows 2 deep: at most {} of rows, in {}"
-        words = [said.format("1,001,000 visits", "2,005 turns"), "the `map` in bytes 10 to 54:", "\n" + 35 * " " + 15 * "^" + "\n", "hint: "]
+        words = [said.format("1,001,000 visits", "2,005 turns"), "the `sum` in bytes 4 to 59:", "\n" + 39 * " " + 15 * "^" + "\n", "hint: "]
         self.called("walks", [CATALOG, "census", self.file(deeper), "--rows", "1000", "--deepest", "1"], 1, words)
         self.called("walks", [CATALOG, "census", self.file(deeper), "--rows", "1000", "--deepest", "2", "--most", "1003005"], 0, words)
         self.called("walks", [CATALOG, "census", self.file(deeper), "--rows", "1000", "--most", "1003004"], 1, words)
         first = MAP.format("sum[0,9] people + sum[0,1] people + x")
-        self.called("walks", [CATALOG, "census", self.file(first)], 0, ["\n" + 35 * " " + 15 * "^" + "\n"])
+        self.called("walks", [CATALOG, "census", self.file(first)], 0, ["\n" + 39 * " " + 15 * "^" + "\n"])
         self.called("walks", [CATALOG, "census", self.file(flat), "--deepest", "1"], 0, ["rows 1 deep: at most 1,048,576 visits of rows, in 2 turns, where"])
         self.called("walks", [CATALOG, "census", self.file("7"), "--deepest", "0"], 0, ["It walks no rows: at most 1 turn, where"])
         self.called("walks", [CATALOG, "census", self.file("size nobody")], 1, ["no 30 unbound 5 11\n"])

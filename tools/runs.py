@@ -8,8 +8,8 @@
 It shares nothing with the server but the rules, and stands on programs.py, which reads and checks.
 
 A value is an int (a number), bytes (a text), () (unit), a tuple of two (a pair of either kind), an Injection, a Bang, a list
-(a bag, in the order of its elements), or a Closure. A shape is an int, the greatest width of a ground value's bags, a tuple
-of two, a Bang or a Closure. Both are shared wherever a name is used twice, so they stay as small as the run is long.
+(a bag, in the order of its elements), or a Closure. A shape is a Ground, the greatest width of a ground value's bags and the walks that
+their functions take for a row, a tuple of two, a Bang or a Closure. Both are shared wherever a name is used twice, so they stay as small as the run is long.
 """
 from programs import PEOPLE, Node, Refused, checked, sensitivity_text
 
@@ -17,6 +17,7 @@ NUMBER_LIMIT = 2**50
 DEPTH_LIMIT = 128
 TURN_LIMIT = 20_000
 WIDTH_LIMIT = 64
+WALK_LIMIT = 64
 
 
 class Closure:
@@ -48,9 +49,20 @@ class Injection:
 # The run without data.
 
 
+class Ground(int):
+    """How many tables wide a ground value's bags are, and how many walks of bags their functions take for a row."""
+
+    def __new__(cls, width, walks=0):
+        made = super().__new__(cls, width)
+        made.walks = walks
+        return made
+
+
+
+
 class Plan:
     def __init__(self):
-        self.turns = self.depth = self.width = 0
+        self.turns = self.depth = self.width = self.walks = 0
 
     def visit(self, node, scope, depth):
         """The shape of a term that is visited at this depth."""
@@ -72,12 +84,20 @@ class Plan:
         for part in parts:
             if isinstance(part, Node):
                 self.visit(part, scope, depth)
-        return 0
+        return Ground(0)
+
+    def tally(self, node, scope, depth, *parts):
+        """A bag's size or sum: a walk, with those inside it."""
+        self.walks += 1 + self.visit(parts[-1], scope, depth).walks
+        return Ground(0)
 
     def pair(self, node, scope, depth, a, b):
         left, right = self.visit(a, scope, depth), self.visit(b, scope, depth)
         both_ground = isinstance(left, int) and isinstance(right, int)
-        return max(left, right) if both_ground else (left, right)
+        return self.widest(left, right) if both_ground else (left, right)
+
+    def widest(self, left, right):
+        return Ground(max(left, right), max(left.walks, right.walks))
 
     def half(self, node, scope, depth, e):
         return halves(self.visit(e, scope, depth))[0 if node.form == "fst" else 1]
@@ -93,13 +113,13 @@ class Plan:
         condition = self.visit(e, scope, depth)
         left = self.visit(a, {**scope, x: condition}, depth)
         right = self.visit(b, {**scope, y: condition}, depth)
-        return max(left, right)
+        return self.widest(left, right)
 
     def choice(self, node, scope, depth, e, a, b):
         self.visit(e, scope, depth)
         left = self.visit(a, scope, depth)
         right = self.visit(b, scope, depth)
-        return max(left, right)
+        return self.widest(left, right)
 
     def function(self, node, scope, depth, *_):
         return Closure(node, scope)
@@ -122,22 +142,35 @@ class Plan:
         return self.visit(b, {**scope, x: self.visit(e, scope, depth)}, depth)
 
     def union(self, node, scope, depth, a, b):
-        width = self.visit(a, scope, depth) + self.visit(b, scope, depth)
-        if width > WIDTH_LIMIT:
-            raise Refused(f"37 {node.span()} {width}")
-        return width
+        return self.joined(node, self.visit(a, scope, depth), self.visit(b, scope, depth))
+
+    def joined(self, node, left, right):
+        if left + right > WIDTH_LIMIT:
+            raise Refused(f"37 {node.span()} {left + right}")
+        return Ground(left + right, max(left.walks, right.walks))
 
     def over_bag(self, node, scope, depth, f, b):
         function = self.visit(f, scope, depth)
         bag = self.visit(b, scope, depth)
-        self.visit(*function.entered(0), depth)
-        return bag
+        before, self.walks = self.walks, 0
+        behind = self.behind(node, bag, lambda: self.visit(*function.entered(Ground(0)), depth))
+        inside, self.walks = self.walks, before
+        if bag.walks + inside >= WALK_LIMIT:
+            raise Refused("90")
+        behind.walks = bag.walks + inside
+        return behind
+
+    def behind(self, node, bag, enter):
+        """The bag with one stage more, whose function is entered once."""
+        enter()
+        return Ground(bag)
 
 
 SHAPES = {
     "name": "name", "pair": "pair", "with": "pair", "fst": "half", "snd": "half", "let,": "let_pair", "inl": "injection",
     "inr": "injection", "case": "case", "if": "choice", "fun": "function", "fn": "function", "apply": "apply", "!": "bang",
     "let!": "let_bang", "let": "let", "union": "union", "map": "over_bag", "filter": "over_bag", "split": "over_bag",
+    "size": "tally", "sum": "tally",
 }  # fmt: skip
 
 
@@ -151,7 +184,7 @@ def halves(shape):
 
 def plan(term, tables=PEOPLE):
     found = Plan()
-    found.visit(term, {name: 1 for name, _ in tables}, 1)
+    found.visit(term, {name: Ground(1) for name, _ in tables}, 1)
     return found
 
 
@@ -171,9 +204,7 @@ class TooManySteps(Exception):
 
 
 class Run:
-    """Evaluates terms. It keeps the forms that were met, and ends with TooManySteps after so many nodes, if it is told how many.
-
-    A form that visits each row of a bag hands the bag through `walked`, and works out what its function gives of each by `images`."""
+    """Evaluates terms. It keeps the forms that were met, and ends with TooManySteps after so many nodes, if it is told how many. Bags are lists."""
 
     def __init__(self, steps=None):
         self.forms, self.steps = set(), steps
@@ -263,15 +294,15 @@ class Run:
         return clamp(len(self.value(e, scope)))
 
     def clipped_sum(self, node, scope, low, high, e):
-        return clamp(sum(clipped(low, high, element) for element in self.walked(self.value(e, scope))))
+        return clamp(sum(clipped(low, high, element) for element in self.value(e, scope)))
 
     def union(self, node, scope, a, b):
         left = self.value(a, scope)
-        return self.walked(left + self.value(b, scope))
+        return left + self.value(b, scope)
 
     def over_bag(self, node, scope, f, b):
         function = self.value(f, scope)
-        bag = self.walked(self.value(b, scope))
+        bag = self.value(b, scope)
         images = self.images(function, bag)
         if node.form == "map":
             return images
@@ -279,9 +310,6 @@ class Run:
         if node.form == "filter":
             return kept
         return (kept, [element for element, image in zip(bag, images) if not image.left])
-
-    def walked(self, bag):
-        return bag
 
     def images(self, function, bag):
         return [self.value(*function.entered(Bang(element))) for element in bag]

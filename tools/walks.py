@@ -4,19 +4,45 @@
     walks_of(BYTES, TABLES, LIMIT) the same of a program's bytes; Refused where it is refused
     told(WALKS, BYTES)             what is said of it, in lines
 
-`map`, `filter`, `split`, `sum` and `union` walk: they visit each row of their bags. Nothing else does, not the name of a table and not `size`. A
-walk is at depth 1, and in the body that a `map`, `filter` or `split` runs for each row one deeper than that walk. A bag has at most as many rows
-as it is tables wide, times LIMIT, the most rows of a table. So each walk of the run without data visits at most that many rows, and its body is
-run as often; what it takes on whatever data is at most the sum. No table is read: all of this is as public as the program.
+`size` and `sum` walk their bag: its elements are made there, each row of its tables on its way through the functions of the `map`s, `filter`s
+and `split`s that it has behind it. A bag that is used twice is walked twice. `size` walks only those tables of a bag behind which a `filter` or a
+`split` stands; the others are as long as they are. A walk is at depth 1, and in a function that is run for its rows one deeper. A table has at most
+LIMIT rows, so what a walk takes on whatever data is known from its bag. No table is read: all of this is as public as the program.
 """
+from itertools import zip_longest
+from typing import NamedTuple
+
 from program_parts import Text
 from programs import PEOPLE, checked, deep
-from runs import Plan
+from runs import Ground, Plan
 from tables import ROW_LIMIT
 
 # Greater numbers are told by their power of ten.
 EXACT = 10**15
 HINT = "a function that walks rows for each row has no bound unless it is multiplied by 0 or isn't used, so no answer needs it."
+
+
+class Flow(NamedTuple):
+    """A table of a bag with its stages: for each row of the table at most so many visits of other rows, turns, and walks in one another; and whether rows
+    may be left out."""
+
+    rows: int = 0
+    turns: int = 0
+    deepest: tuple = ()
+    lessened: bool = False
+
+
+def flows_of(shape):
+    return getattr(shape, "flows", (Flow(),) * shape)
+
+
+def with_flows(shape, flows):
+    shape.flows = tuple(flows)
+    return shape
+
+
+def deeper(one, other):
+    return other if len(other) > len(one) else one
 
 
 class Walks(Plan):
@@ -27,48 +53,51 @@ class Walks(Plan):
     def __init__(self, limit):
         super().__init__()
         self.limit, self.rows, self.most_turns, self.deepest = limit, 0, 0, ()
-        self.times, self.around = 1, ()
 
     @property
     def walk_depth(self):
         return len(self.deepest)
 
     def visit(self, node, scope, depth):
-        self.most_turns += self.times
+        self.most_turns += 1
         return super().visit(node, scope, depth)
 
-    def walk(self, node, width):
-        """The rows that a walk of a bag visits at most, each time that it is run."""
-        rows = width * self.limit
-        self.rows += self.times * rows
-        if len(self.around) >= self.walk_depth:
-            self.deepest = (*self.around, node)
-        return rows
+    def tally(self, node, scope, depth, *parts):
+        bag = self.visit(parts[-1], scope, depth)
+        self.walks += 1 + bag.walks
+        for flow in flows_of(bag):
+            if node.form == "sum" or flow.lessened:
+                self.rows += self.limit * (1 + flow.rows)
+                self.most_turns += self.limit * flow.turns
+                self.deepest = deeper(self.deepest, (node, *flow.deepest))
+        return Ground(0)
 
-    def number(self, node, scope, depth, *parts):
-        if node.form != "sum":
-            return super().number(node, scope, depth, *parts)
-        self.walk(node, self.visit(parts[-1], scope, depth))
-        return 0
+    def widest(self, left, right):
+        """Of each table the one and the other may be meant."""
+        both = zip_longest(flows_of(left), flows_of(right), fillvalue=Flow())
+        flows = [Flow(max(a.rows, b.rows), max(a.turns, b.turns), deeper(a.deepest, b.deepest), a.lessened or b.lessened) for a, b in both]
+        return with_flows(super().widest(left, right), flows)
 
     def union(self, node, scope, depth, a, b):
-        width = super().union(node, scope, depth, a, b)
-        self.walk(node, width)
-        return width
+        left, right = self.visit(a, scope, depth), self.visit(b, scope, depth)
+        return with_flows(self.joined(node, left, right), (*flows_of(left), *flows_of(right)))
 
-    def over_bag(self, node, scope, depth, f, b):
-        function = self.visit(f, scope, depth)
-        width = self.visit(b, scope, depth)
-        outside = self.times, self.around
-        self.times, self.around = self.times * self.walk(node, width), (*self.around, node)
-        self.visit(*function.entered(0), depth)
-        self.times, self.around = outside
-        return width
+    def behind(self, node, bag, enter):
+        """What the function takes counts for each row of a walk, and not here, where it is entered once."""
+        outside = self.rows, self.most_turns, self.deepest
+        self.rows, self.most_turns, self.deepest = 0, 0, ()
+        enter()
+        flows = [
+            Flow(flow.rows + self.rows, flow.turns + self.most_turns, deeper(flow.deepest, self.deepest), flow.lessened or node.form != "map")
+            for flow in flows_of(bag)
+        ]
+        self.rows, self.most_turns, self.deepest = outside
+        return with_flows(Ground(bag), flows)
 
 
 def walks(term, tables=PEOPLE, limit=ROW_LIMIT):
     found = Walks(limit)
-    found.visit(term, {name: 1 for name, _ in tables}, 1)
+    found.visit(term, {name: Ground(1) for name, _ in tables}, 1)
     return found
 
 

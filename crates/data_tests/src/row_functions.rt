@@ -1,13 +1,12 @@
-//! What flat functions give for all rows of a table at once, where the rows end near the ends of chunks of 1,024.
+//! What rows of a table become behind the stages of a bag whose functions are flat, where the rows end near the ends of chunks of 1,024.
 
-use crate::columns::{has_number, has_text};
 use crate::csv_tables::column;
-use fz_ast::{Column as Kind, Name, NoMemory, Term, Text};
+use flow_values::{Closure, Scope, Stage, Value};
+use fz_ast::{Column as Kind, Name, NoMemory, Text};
 use fz_lexer::lex;
 use fz_parser::parse;
-use metric_values::Table;
-use row_kernels::{filtered, mapped};
-use run_values::{Scope, Value};
+use metric_values::{Cell, Table};
+use row_kernels::{Gather, Lanes, Passed, flat_total, pass_stages};
 use std::alloc::{AllocError, Global};
 use std::rc::Rc;
 use std::test::Fail;
@@ -53,9 +52,34 @@ fn people_in(alloc: Global, rows: usize) -> Option<Rc<Table>> {
     Rc::new(alloc, table).ok()
 }
 
-fn term_of(alloc: Global, program: &[u8]) -> Option<Term> {
-    let tokens = lex(alloc, program).ok()?;
-    parse(alloc, &tokens).ok()
+// The stage of a function with this body.
+fn stage_of(alloc: Global, outer: &Scope, body: &[u8], keeps: Option<bool>) -> Option<Stage> {
+    let mut program = Vec::from_slice(alloc, b"fn (r : text * num) => ").ok()?;
+    program.extend_from_slice(body).ok()?;
+    let tokens = lex(alloc, &program).ok()?;
+    let term = parse(alloc, &tokens).ok()?;
+    let (nodes, root) = term.parts();
+    let nodes = Rc::new(alloc, nodes.copy().ok()?).ok()?;
+    let closure = Closure {
+        nodes,
+        lambda: root,
+        scope: outer.copy().ok()?,
+    };
+    Some(Stage {
+        function: Rc::new(alloc, closure).ok()?,
+        left: 64,
+        keeps,
+    })
+}
+
+// All rows of a table behind these stages: the last chunk of at most 1,024 of them.
+fn passed_last(alloc: Global, table: &Rc<Table>, stages: &[Stage]) -> Option<(usize, Passed)> {
+    let rows = table.len();
+    let first = if rows > 1024 { rows - 1024 } else { 0 };
+    match pass_stages(alloc, table, first, rows - first, stages) {
+        Ok(Some(rows)) => Some((first, rows)),
+        _ => None,
+    }
 }
 
 /// What is wanted of a row.
@@ -101,44 +125,68 @@ fn is_chosen(chosen: Chosen, row: usize) -> bool {
     }
 }
 
-// Whether one column of a table has these numbers.
-fn are_images(images: &Table, column: usize, image: Image, rows: usize) -> bool {
-    if images.len() != rows || images.width() <= column {
-        return false;
-    }
-    for row in 0..rows {
-        if !has_number(images.cell(row as u32, column), image_of(image, row)) {
+// Whether lanes are of these numbers.
+fn are_images(lanes: &Lanes, first: usize, len: usize, image: Image) -> bool {
+    for j in 0..len {
+        let wanted = image_of(image, first + j);
+        let is = match lanes {
+            Lanes::Num(zs) => zs[j] == wanted,
+            Lanes::Same(z) => *z == wanted,
+            Lanes::Cells(t, from, k) =>
+                matches!(t.cell((from + j) as u32, *k), Cell::Number(z) if z == wanted),
+            _ => false,
+        };
+        if !is {
             return false;
         }
     }
     true
 }
 
-// Whether one column of a table has the towns.
-fn are_towns(images: &Table, column: usize, rows: usize) -> bool {
-    if images.len() != rows || images.width() <= column {
-        return false;
-    }
-    for row in 0..rows {
-        if !has_text(images.cell(row as u32, column), town_of(row)) {
+// Whether lanes are the towns.
+fn are_towns(lanes: &Lanes, first: usize, len: usize) -> bool {
+    let Lanes::Cells(t, from, k) = lanes else {
+        return len == 0;
+    };
+    for j in 0..len {
+        let Cell::Text(town) = t.cell((from + j) as u32, *k) else {
+            return false;
+        };
+        if town != town_of(first + j) {
             return false;
         }
     }
     true
 }
 
-// Whether the numbers of all rows that are wanted follow each other.
-fn are_chosen(numbers: &[u32], chosen: Chosen, rows: usize) -> bool {
-    let mut next = 0;
-    for row in 0..rows {
-        if is_chosen(chosen, row) {
-            if next >= numbers.len() || numbers[next] as usize != row {
-                return false;
-            }
-            next += 1;
+// Whether those rows are there that are wanted.
+fn are_chosen(there: &[bool], first: usize, chosen: Chosen) -> bool {
+    for j in 0..there.len() {
+        if there[j] != is_chosen(chosen, first + j) {
+            return false;
         }
     }
-    next == numbers.len()
+    true
+}
+
+// The sum of what is wanted of the rows.
+fn sum_of(image: Image, rows: usize) -> i128 {
+    let mut sum: i128 = 0;
+    for row in 0..rows {
+        sum += i128::from(image_of(image, row));
+    }
+    sum
+}
+
+// How many rows are wanted.
+fn count_of(chosen: Chosen, keep: bool, rows: usize) -> i128 {
+    let mut count: i128 = 0;
+    for row in 0..rows {
+        if is_chosen(chosen, row) == keep {
+            count += 1;
+        }
+    }
+    count
 }
 
 // The names outside: a number and a text.
@@ -183,69 +231,81 @@ const CHOSEN: [(&[u8], Chosen); 7] = [
     (b"let p = <30, snd r> in snd p <= fst p", Chosen::UpTo30),
 ];
 
-// Neither rows of one or two cells nor truths, or not flat.
-const OTHERS: [&[u8]; 6] = [
+// Not flat.
+const OTHERS: [&[u8]; 4] = [
     b"let (t, n) = r in f n",
     b"let (t, n) = r in inl[num] n",
-    b"let (t, n) = r in (n, n <= 30)",
-    b"let (t, n) = r in (n, (n, n))",
     b"let (t, n) = r in snd ((t, n), n)",
     b"()",
 ];
 
-fn images_of(alloc: Global, outer: &Scope, table: &Rc<Table>, body: &[u8]) -> Option<Table> {
-    let term = term_of(alloc, body)?;
-    let (nodes, root) = term.parts();
-    match mapped(alloc, nodes, Name::new(b"r"), root, outer, 64, table) {
-        Ok(images) => images,
-        Err(_) => None,
-    }
+fn one(alloc: Global, stage: Stage) -> Option<Vec<Stage>> {
+    let mut stages = Vec::new(alloc);
+    stages.push(stage).ok()?;
+    Some(stages)
 }
 
-fn maps(alloc: Global, outer: &Scope, table: &Rc<Table>, body: &[u8], image: Image) -> bool {
-    match images_of(alloc, outer, table, body) {
-        Some(images) => are_images(&images, 0, image, table.len()),
-        None => false,
-    }
+// Whether the last rows and the sum of all are as wanted behind a map.
+fn maps(
+    alloc: Global,
+    outer: &Scope,
+    table: &Rc<Table>,
+    body: &[u8],
+    image: Image,
+) -> Option<bool> {
+    let stages = one(alloc, stage_of(alloc, outer, body, None)?)?;
+    let (first, rows) = passed_last(alloc, table, &stages)?;
+    let (done, total) = flat_total(alloc, Gather::Sum(-1000, 1000), table, &stages).ok()?;
+    Some(
+        are_images(&rows.lanes, first, table.len() - first, image)
+            && done == table.len()
+            && total == sum_of(image, table.len()),
+    )
 }
 
-fn exchanges(alloc: Global, outer: &Scope, table: &Rc<Table>, body: &[u8]) -> bool {
-    let rows = table.len();
-    match images_of(alloc, outer, table, body) {
-        Some(images) => {
-            rows == 0 || are_images(&images, 0, Image::Age, rows) && are_towns(&images, 1, rows)
-        }
-        None => false,
-    }
-}
-
-fn gives_towns(alloc: Global, outer: &Scope, table: &Rc<Table>, body: &[u8]) -> bool {
-    let rows = table.len();
-    match images_of(alloc, outer, table, body) {
-        Some(images) => rows == 0 || are_towns(&images, 0, rows),
-        None => false,
-    }
-}
-
-fn filters(alloc: Global, outer: &Scope, table: &Rc<Table>, body: &[u8], chosen: Chosen) -> bool {
-    let Some(term) = term_of(alloc, body) else {
-        return false;
+fn exchanges(alloc: Global, outer: &Scope, table: &Rc<Table>, body: &[u8]) -> Option<bool> {
+    let stages = one(alloc, stage_of(alloc, outer, body, None)?)?;
+    let (first, rows) = passed_last(alloc, table, &stages)?;
+    let Lanes::Pair(a, b) = &rows.lanes else {
+        return Some(false);
     };
-    let (nodes, root) = term.parts();
-    match filtered(alloc, nodes, Name::new(b"r"), root, outer, 64, table) {
-        Ok(Some(numbers)) => are_chosen(&numbers, chosen, table.len()),
-        _ => false,
-    }
+    let len = table.len() - first;
+    Some(are_images(a, first, len, Image::Age) && are_towns(b, first, len))
 }
 
-fn neither(alloc: Global, outer: &Scope, table: &Rc<Table>, body: &[u8]) -> bool {
-    let Some(term) = term_of(alloc, body) else {
-        return false;
-    };
-    let (nodes, root) = term.parts();
-    let by_map = mapped(alloc, nodes, Name::new(b"r"), root, outer, 64, table);
-    let by_filter = filtered(alloc, nodes, Name::new(b"r"), root, outer, 64, table);
-    matches!(by_map, Ok(None)) && matches!(by_filter, Ok(None))
+fn gives_towns(alloc: Global, outer: &Scope, table: &Rc<Table>, body: &[u8]) -> Option<bool> {
+    let stages = one(alloc, stage_of(alloc, outer, body, None)?)?;
+    let (first, rows) = passed_last(alloc, table, &stages)?;
+    Some(are_towns(&rows.lanes, first, table.len() - first))
+}
+
+// Whether those rows are there that are wanted, and the others where it is told to keep those.
+fn filters(
+    alloc: Global,
+    outer: &Scope,
+    table: &Rc<Table>,
+    body: &[u8],
+    chosen: Chosen,
+) -> Option<bool> {
+    let kept = one(alloc, stage_of(alloc, outer, body, Some(true))?)?;
+    let others = one(alloc, stage_of(alloc, outer, body, Some(false))?)?;
+    let (first, rows) = passed_last(alloc, table, &kept)?;
+    let (_, many) = flat_total(alloc, Gather::Size, table, &kept).ok()?;
+    let (_, few) = flat_total(alloc, Gather::Size, table, &others).ok()?;
+    let all = table.len();
+    Some(
+        are_chosen(&rows.there, first, chosen)
+            && many == count_of(chosen, true, all)
+            && few == count_of(chosen, false, all),
+    )
+}
+
+// Whether no row is gone through at once.
+fn neither(alloc: Global, outer: &Scope, table: &Rc<Table>, body: &[u8]) -> Option<bool> {
+    let stages = one(alloc, stage_of(alloc, outer, body, None)?)?;
+    let by_map = pass_stages(alloc, table, 0, table.len(), &stages).ok()?;
+    let (done, total) = flat_total(alloc, Gather::Sum(0, 9), table, &stages).ok()?;
+    Some(by_map.is_none() && done == 0 && total == 0)
 }
 
 #[test]
@@ -258,7 +318,7 @@ fn images_of_rows(rt: HostRuntime) -> Result<(), Fail> {
             return Ok(());
         };
         for (body, image) in &IMAGES {
-            assert!(rt; maps(alloc, &outer, &table, body, *image));
+            assert!(rt; maps(alloc, &outer, &table, body, *image) == Some(true));
         }
     }
     Ok(())
@@ -274,10 +334,10 @@ fn texts_and_pairs_of_rows(rt: HostRuntime) -> Result<(), Fail> {
             return Ok(());
         };
         for body in &EXCHANGED {
-            assert!(rt; exchanges(alloc, &outer, &table, body));
+            assert!(rt; exchanges(alloc, &outer, &table, body) == Some(true));
         }
         for body in &TOWNS {
-            assert!(rt; gives_towns(alloc, &outer, &table, body));
+            assert!(rt; gives_towns(alloc, &outer, &table, body) == Some(true));
         }
     }
     Ok(())
@@ -293,7 +353,7 @@ fn chosen_rows(rt: HostRuntime) -> Result<(), Fail> {
             return Ok(());
         };
         for (body, chosen) in &CHOSEN {
-            assert!(rt; filters(alloc, &outer, &table, body, *chosen));
+            assert!(rt; filters(alloc, &outer, &table, body, *chosen) == Some(true));
         }
     }
     Ok(())
@@ -308,7 +368,7 @@ fn not_by_columns(rt: HostRuntime) -> Result<(), Fail> {
         return Ok(());
     };
     for body in &OTHERS {
-        assert!(rt; neither(alloc, &outer, &table, body));
+        assert!(rt; neither(alloc, &outer, &table, body) == Some(true));
     }
     Ok(())
 }

@@ -1,6 +1,8 @@
 -- Functions applied, and what an answer says of its value.
 use Rattle.std.proofs.Common.{◌≡◌, ℕ, refl, ap, sym, subst, ◌∙◌, List}
-use Rattle.std.specs.Prelude.{Result, Ok, Err, IfOk, OnOk}
+use Rattle.std.specs.Prelude.{Bool, None, Some, [], ◌∷◌, Result, Ok, Err, IfOk, OnOk, false, true}
+use Rattle.flow_values.specs.Steps.{AllGo, all_through}
+use Rattle.fuzz_eval.proofs.Staged.{kept_through, maps_go, maps_through, others_through, splits_go}
 use Rattle.fz_ast.specs.Terms.{Name, Term}
 use Rattle.fz_ast.specs.declared.term.Arrow.{Arrow}
 use Rattle.fz_ast.specs.declared.term.Arrow.TheVariants.{Fun, Fn}
@@ -8,16 +10,17 @@ use Rattle.fz_ast.specs.declared.term.Binary.{Binary}
 use Rattle.fz_ast.specs.declared.term.Binary.TheVariants.{Pair, With, App, Plus, Minus, AtMost, Equal, Union, Map, Filter, Split}
 use Rattle.metric_law.specs.Means.{Applies, Maps, MeansIn, Splits, apply, apply_fn}
 use Rattle.metric_values.specs.Values.{BagV, BangV, Bind, Empty, Env, Flat, FnV, FunV, PairV, UnitV, Value}
+use Rattle.flow_values.specs.Held.{Held}
 use Rattle.run_values.specs.Parts.{IsBag, IsBangValue, IsClosure, banged_in, elements, is_fn, is_fun, rebound}
-use Rattle.fuzz_eval.specs.Steps.{Can2, CanApply, CanFilter, CanMap, Gives2, HasValueWithin, AppliesNoFunction, closure_of}
+use Rattle.fuzz_eval.specs.Steps.{Can2, CanApply, Gives2, HasValueWithin, AppliesNoFunction, closure_of}
 use Rattle.fuzz_eval.specs.Loops.{bound_element, function_inside}
 
 -- an answer's value has what follows from what it has
-pub if_ok : {E : Type 0} (r : Result Value E) (P Q : Value → Type 0) → IfOk r P → ((v : Value) → P v → Q v) → IfOk r Q
-if_ok (Ok v) P Q h f = f v h
+pub if_ok : {E : Type 0} (r : Result Held E) (P Q : Value → Type 0) → IfOk r (λ h. P h.means) → ((v : Value) → P v → Q v) → IfOk r (λ h. Q h.means)
+if_ok (Ok v) P Q h f = f v.means h
 if_ok (Err e) P Q h f = tt
 
-pub on_ok : {E : Type 0} (r : Result Value E) (P : Type 0) → P → OnOk r P
+pub on_ok : {E : Type 0} (r : Result Held E) (P : Type 0) → P → OnOk r P
 on_ok (Ok v) P h = h
 on_ok (Err e) P h = tt
 
@@ -98,20 +101,29 @@ module _ (n : ℕ) (o : Binary) (u w : Value) (k : Can2 n o u w) where
   pub map_bag : o ≡ Map → IsBag w
   map_bag h = let r = map_said h in subst IsBag (sym r.2) refl
 
-  pub map_can : o ≡ Map → CanMap n u (elements w)
-  map_can h = let r = map_said h in record { values = r.1; gives = subst (λ (xs : List Flat). Maps (MeansIn n) u xs r.1) (sym (ap elements r.2)) r.3 }
+  pub map_goes : o ≡ Map → AllGo (record { function = u; left = n; keeps = None } ∷ []) (elements w)
+  map_goes h = let r = map_said h in maps_go n u (elements w) r.1 (subst (λ (xs : List Flat). Maps (MeansIn n) u xs r.1) (sym (ap elements r.2)) r.3)
+
+  pub map_gives : o ≡ Map → (v : Value) → v ≡ BagV (all_through (record { function = u; left = n; keeps = None } ∷ []) (elements w)) → Gives2 (MeansIn n) o u w v
+  map_gives h v e =
+      let r = map_said h in
+      let m = subst (λ (xs : List Flat). Maps (MeansIn n) u xs r.1) (sym (ap elements r.2)) r.3 in
+      subst (λ (o : Binary). Gives2 (MeansIn n) o u w v) (sym h) (elements w, r.1, map_bag h, m, e ∙ ap BagV (maps_through n u (elements w) r.1 m))
 
   pub filter_bag : o ≡ Filter → IsBag w
   filter_bag h = let r = filter_said h in subst IsBag (sym r.3) refl
 
-  pub filter_can : o ≡ Filter → CanFilter n u (elements w)
-  filter_can h = let r = filter_said h in record { kept = r.1; rest = r.2; gives = subst (λ (xs : List Flat). Splits (MeansIn n) u xs r.1 r.2) (sym (ap elements r.3)) r.4 }
+  filter_splits : (h : o ≡ Filter) → Splits (MeansIn n) u (elements w) (filter_said h).1 (filter_said h).2
+  filter_splits h = let r = filter_said h in subst (λ (xs : List Flat). Splits (MeansIn n) u xs r.1 r.2) (sym (ap elements r.3)) r.4
 
-  pub map_gives : o ≡ Map → (v : Value) → ((ys : List Flat) × Maps (MeansIn n) u (elements w) ys × (v ≡ BagV ys)) → Gives2 (MeansIn n) o u w v
-  map_gives h v r = subst (λ (o : Binary). Gives2 (MeansIn n) o u w v) (sym h) (elements w, r.0, map_bag h, r.1, r.2)
+  pub filter_goes : o ≡ Filter → AllGo (record { function = u; left = n; keeps = Some true } ∷ []) (elements w)
+  filter_goes h = splits_go n true u (elements w) (filter_said h).1 (filter_said h).2 (filter_splits h)
 
-  pub filter_gives : o ≡ Filter → (v : Value) → ((ys zs : List Flat) × Splits (MeansIn n) u (elements w) ys zs × (v ≡ BagV ys)) → Gives2 (MeansIn n) o u w v
-  filter_gives h v r = subst (λ (o : Binary). Gives2 (MeansIn n) o u w v) (sym h) (elements w, r.0, r.1, filter_bag h, r.2, r.3)
+  pub filter_gives : o ≡ Filter → (v : Value) → v ≡ BagV (all_through (record { function = u; left = n; keeps = Some true } ∷ []) (elements w)) → Gives2 (MeansIn n) o u w v
+  filter_gives h v e =
+      let r = filter_said h in
+      subst (λ (o : Binary). Gives2 (MeansIn n) o u w v) (sym h)
+      (elements w, r.1, r.2, filter_bag h, filter_splits h, e ∙ ap BagV (kept_through n u (elements w) r.1 r.2 (filter_splits h)))
 
   split_said : o ≡ Split → Gives2 (MeansIn n) Split u w k.value
   split_said h = subst (λ (o : Binary). Gives2 (MeansIn n) o u w k.value) h k.gives
@@ -119,11 +131,20 @@ module _ (n : ℕ) (o : Binary) (u w : Value) (k : Can2 n o u w) where
   pub split_bag : o ≡ Split → IsBag w
   split_bag h = let r = split_said h in subst IsBag (sym r.3) refl
 
-  pub split_can : o ≡ Split → CanFilter n u (elements w)
-  split_can h = let r = split_said h in record { kept = r.1; rest = r.2; gives = subst (λ (xs : List Flat). Splits (MeansIn n) u xs r.1 r.2) (sym (ap elements r.3)) r.4 }
+  split_splits : (h : o ≡ Split) → Splits (MeansIn n) u (elements w) (split_said h).1 (split_said h).2
+  split_splits h = let r = split_said h in subst (λ (xs : List Flat). Splits (MeansIn n) u xs r.1 r.2) (sym (ap elements r.3)) r.4
 
-  pub split_gives : o ≡ Split → (v : Value) → ((ys zs : List Flat) × Splits (MeansIn n) u (elements w) ys zs × (v ≡ PairV (BagV ys) (BagV zs))) → Gives2 (MeansIn n) o u w v
-  split_gives h v r = subst (λ (o : Binary). Gives2 (MeansIn n) o u w v) (sym h) (elements w, r.0, r.1, split_bag h, r.2, r.3)
+  pub split_goes : (keep : Bool) → o ≡ Split → AllGo (record { function = u; left = n; keeps = Some keep } ∷ []) (elements w)
+  split_goes keep h = splits_go n keep u (elements w) (split_said h).1 (split_said h).2 (split_splits h)
+
+  pub split_gives : o ≡ Split → (v : Value) → v ≡ PairV (BagV (all_through (record { function = u; left = n; keeps = Some true } ∷ []) (elements w))) (BagV (all_through (record { function = u; left = n; keeps = Some false } ∷ []) (elements w)))
+      → Gives2 (MeansIn n) o u w v
+  split_gives h v e =
+      let r = split_said h in
+      let p = kept_through n u (elements w) r.1 r.2 (split_splits h) in
+      let q = others_through n u (elements w) r.1 r.2 (split_splits h) in
+      subst (λ (o : Binary). Gives2 (MeansIn n) o u w v) (sym h)
+      (elements w, r.1, r.2, split_bag h, split_splits h, e ∙ (λ i. PairV (BagV (p i)) (BagV (q i))))
 
   pub app_gives : o ≡ App → (v : Value) → Applies (MeansIn n) u w v → Gives2 (MeansIn n) o u w v
   app_gives h v r = subst (λ (o : Binary). Gives2 (MeansIn n) o u w v) (sym h) r

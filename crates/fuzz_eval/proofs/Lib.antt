@@ -1,10 +1,13 @@
+pub mod Datasets
 pub mod Steps
-pub mod Loops
+pub mod Staged
+pub mod Applying
 pub mod Forms
 pub mod TwoParts
 pub mod AtOnce
-pub mod Applying
+pub mod Walked
+pub mod Tallied
+pub mod Maps
+pub mod AtWork
+pub mod Programs
 pub mod Examples
-pub mod Elements
-mod Datasets
-mod Programs

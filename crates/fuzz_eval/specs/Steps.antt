@@ -73,6 +73,11 @@ AppliesNoFunction Filter = ⊥
 AppliesNoFunction Split = ⊥
 AppliesNoFunction o = ⊤
 
+-- a word that walks no bag
+abbrev pub WalksNot : Unary → Type 0
+WalksNot Size = ⊥
+WalksNot o = ⊤
+
 -- two numbers or two texts
 abbrev pub AreComparable : Value → Value → Type 0
 AreComparable u w = (IsNum u × IsNum w) ⊎ (IsTextValue u × IsTextValue w)
@@ -89,15 +94,6 @@ pub record Can2 (n : ℕ) (o : Binary) (a b : Value) : Type 0 where
 pub record CanApply (n : ℕ) (c u : Value) : Type 0 where
   pub value : Value
   pub gives : Applies (MeansIn n) c u value
-
-pub record CanMap (n : ℕ) (c : Value) (xs : List Flat) : Type 0 where
-  pub values : List Flat
-  pub gives : Maps (MeansIn n) c xs values
-
-pub record CanFilter (n : ℕ) (c : Value) (xs : List Flat) : Type 0 where
-  pub kept : List Flat
-  pub rest : List Flat
-  pub gives : Splits (MeansIn n) c xs kept rest
 
 pub record CanTimes (k : ℤ) (u : Value) : Type 0 where
   pub value : Value

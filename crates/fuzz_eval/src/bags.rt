@@ -1,71 +1,42 @@
-//! Bags as wholes.
-ghost use Rattle.std.specs.Prelude.{◌≡◌, ◌<◌, ◌++◌, [], IfOk, length};
-ghost use Rattle.std.proofs.Common.{get_or};
-ghost use Rattle.fz_ast.specs.declared.term.Ranged.TheVariants.{Sum};
-ghost use Rattle.metric_values.specs.Values.{BagV, NumV, PairV, UnitF, value_of};
-ghost use Rattle.run_values.specs.Parts.{IsBag, IsNum, elements, number_in};
-ghost use Rattle.fuzz_eval.specs.Steps.{CanRanged, GivesRanged};
+//! Bags made of others. Their elements are made where they are walked.
+ghost use Rattle.std.specs.Prelude.{◌≡◌, ◌∷◌, [], IfOk, None, Some, false, true};
+ghost use Rattle.metric_values.specs.Values.{BagV, PairV};
+ghost use Rattle.run_values.specs.Parts.{IsBag, elements};
+ghost use Rattle.flow_values.specs.Steps.{AllGo, all_through};
 
-use bag_ops::by_place::{append_by, clipped_sum_by};
+use flow_values::Value;
 use fz_ast::NoMemory;
-use run_values::Value;
 use std::alloc::Global;
 
-/// The bag with no elements.
-pub fn no_elements(alloc: Global) -> Result<Value, NoMemory>
-    ensures { IfOk result (λ v. v ≡ BagV []) }
+/// What a function gives for each element, or the elements of which it says a truth. Where there is no element, `c` need not be a function.
+pub fn staged(
+    alloc: Global,
+    c: &Value,
+    b: &Value,
+    left: u32,
+    keeps: Option<bool>,
+) -> Result<Value, NoMemory>
+    requires bag { IsBag b.now.means }
+    requires goes { AllGo (record { function = c.now.means; left = left; keeps = keeps } ∷ []) (elements b.now.means) }
+    ensures { IfOk result
+        (λ v. v.means ≡ BagV (all_through (record { function = c.now.means; left = left; keeps = keeps } ∷ []) (elements b.now.means))) }
 {
-    Value::list(alloc, Vec::new(alloc))
+    if !c.is_function() {
+        return Value::no_elements(alloc);
+    }
+    b.staged(alloc, c, left, keeps)
 }
 
-/// Two bags with no elements.
-pub fn no_elements_twice(alloc: Global) -> Result<Value, NoMemory>
-    ensures { IfOk result (λ v. v ≡ PairV (BagV []) (BagV [])) }
+/// The elements of which a function says true, and the others.
+pub fn split(alloc: Global, c: &Value, b: &Value, left: u32) -> Result<Value, NoMemory>
+    requires bag { IsBag b.now.means }
+    requires kept { AllGo (record { function = c.now.means; left = left; keeps = Some true } ∷ []) (elements b.now.means) }
+    requires others { AllGo (record { function = c.now.means; left = left; keeps = Some false } ∷ []) (elements b.now.means) }
+    ensures { IfOk result (λ v. v.means ≡ PairV
+        (BagV (all_through (record { function = c.now.means; left = left; keeps = Some true } ∷ []) (elements b.now.means)))
+        (BagV (all_through (record { function = c.now.means; left = left; keeps = Some false } ∷ []) (elements b.now.means)))) }
 {
-    let first = no_elements(alloc)?;
-    let second = no_elements(alloc)?;
-    Value::pair(alloc, first, second)
-}
-
-/// The elements of both.
-pub fn union(alloc: Global, a: &Value, b: &Value) -> Result<Value, NoMemory>
-    requires a_bag { IsBag a.now }
-    requires b_bag { IsBag b.now }
-    ensures { IfOk result (λ v. v ≡ BagV (elements a.now ++ elements b.now)) }
-{
-    let mut out = Vec::new(alloc);
-    let of_a = |i: usize| -> Result<Value, NoMemory>
-        requires { IsBag a.now × (i < length (elements a.now)) }
-        ensures { IfOk result (λ x. x ≡ value_of (get_or (elements a.entry.now) i UnitF)) }
-    { a.element(i) };
-    append_by(&mut out, a.size(), &of_a)?;
-    let of_b = |i: usize| -> Result<Value, NoMemory>
-        requires { IsBag b.now × (i < length (elements b.now)) }
-        ensures { IfOk result (λ x. x ≡ value_of (get_or (elements b.entry.now) i UnitF)) }
-    { b.element(i) };
-    append_by(&mut out, b.size(), &of_b)?;
-    Value::list(alloc, out)
-}
-
-// A number of a bag.
-fn number_at(b: &Value, i: usize) -> Result<i64, NoMemory>
-    requires bag { IsBag b.now }
-    requires within { i < length (elements b.now) }
-    requires number { IsNum (value_of (get_or (elements b.now) i UnitF)) }
-    ensures { IfOk result (λ z. z ≡ number_in (value_of (get_or (elements b.now) i UnitF))) }
-{
-    let x = b.element(i)?;
-    Ok(x.number())
-}
-
-/// The sum of the numbers, each clipped, clamped once.
-pub fn sum(lo: i64, hi: i64, b: &Value) -> Result<i64, NoMemory>
-    requires { CanRanged Sum lo hi b.now }
-    ensures { IfOk result (λ z. GivesRanged Sum lo hi b.now (NumV z)) }
-{
-    let number = |i: usize| -> Result<i64, NoMemory>
-        requires { IsBag b.now × (i < length (elements b.now)) × IsNum (value_of (get_or (elements b.now) i UnitF)) }
-        ensures { IfOk result (λ z. z ≡ number_in (value_of (get_or (elements b.entry.now) i UnitF))) }
-    { number_at(b, i) };
-    clipped_sum_by(lo, hi, b.size(), &number)
+    let kept = staged(alloc, c, b, left, Some(true))?;
+    let others = staged(alloc, c, b, left, Some(false))?;
+    Value::pair(alloc, kept, others)
 }

@@ -1,24 +1,34 @@
-//! A term's value, by recursion on the height of its derivation.
+//! A term's value, by recursion on the walks that are left, and on the height of its derivation.
 #![tactic(none)]
 
-ghost use Rattle.std.specs.Prelude.{◌≡◌, ◌<◌, IfOk, List, OnOk, length};
+ghost use Rattle.std.specs.Prelude.{◌≡◌, ◌<◌, IfOk, OnOk, Some, length};
 ghost use Rattle.fz_ast.specs.Names.{name_of};
 ghost use Rattle.fz_ast.specs.Terms.{at, EqE, LetPairE};
 ghost use Rattle.fz_ast.specs.TermNodes.{binary, term_at};
-ghost use Rattle.metric_law.specs.Means.{Applies, Maps, MeansIn, Rules, Splits};
-ghost use Rattle.metric_values.specs.Values.{BagV, BangV, Bind, Flat, PairV};
+ghost use Rattle.metric_law.specs.Means.{Applies, MeansIn, Rules};
+ghost use Rattle.metric_values.specs.Numbers.{clamp};
+ghost use Rattle.metric_values.specs.Values.{BangV, Bind, NumV, PairV};
+ghost use Rattle.run_values.specs.Flats.{flat_of};
 ghost use Rattle.run_values.specs.Parts.{IsBag, elements};
+ghost use Rattle.flow_values.specs.Steps.{all_through, stepped, through};
+ghost use Rattle.flow_values.specs.Views.{AllKnown, steps_of};
+ghost use Rattle.row_kernels.specs.Flows.{IsFlatTotal};
+ghost use Rattle.row_kernels.specs.Gathers.{AllWeighed, gathered};
+ghost use Rattle.fuzz_eval.specs.Steps.{Can1, Can2, CanApply, CanRanged, Gives1, Gives2, GivesRanged, HasFormWithin, HasValueWithin};
+ghost use Rattle.fuzz_eval.specs.Walks.{AllKnownWorkers, AreSameWorkers, CanGather, CanPass, CanStep};
+ghost use Rattle.fuzz_eval.specs.Walks.{IsKnownWorker, IsSameWorker, means_in, values_in, worker_step, worker_steps};
 ghost use Rattle.fuzz_eval.specs.Loops.{function_inside};
-ghost use Rattle.fuzz_eval.specs.Steps.{Can2, CanApply, CanFilter, CanMap, Gives2, HasFormWithin, HasValueWithin};
 
-use crate::bags::{no_elements, no_elements_twice};
-use crate::by_columns::{filter_columns, map_columns};
-use crate::nodes::{Body, bind_element, body_of, element_scope, look};
+use crate::bags::{split, staged};
+use crate::nodes::{Body, bind_element, body_of, look};
 use crate::operands::{at_once, taken_apart};
-use crate::words::{equal, inject, is_text, plain, ranged, scale, unary};
-use bag_ops::put::put;
-use fz_ast::{Arrow, Binary, Form, Name, NoMemory, Nodes};
-use run_values::{Scope, Value};
+use crate::totals::{add_some, count_at_once};
+use crate::words::{clip, equal, inject, is_text, plain, scale, unary};
+use crate::workers::{Worker, is_kept, workers_of};
+use bag_ops::numbers::narrowed;
+use flow_values::{Branch, Scope, Value};
+use fz_ast::{Arrow, Binary, Form, Name, NoMemory, Nodes, Ranged, Unary};
+use row_kernels::{Gather, add_total, flat_total};
 use std::alloc::Global;
 use std::rc::Rc;
 
@@ -32,20 +42,21 @@ fn eval_under(
     value: Value,
     i: u32,
     left: u32,
+    walks: u32,
 ) -> Result<Value, NoMemory>
     requires known { i < length nodes.now.value.terms }
-    requires has { HasValueWithin left (Bind (name_of name) value scope.now) (term_at nodes.now.value.terms i) }
-    ensures { IfOk result (λ v. MeansIn left (Bind (name_of name) value scope.now) (term_at nodes.now.value.terms i) v) }
+    requires has { HasValueWithin left (Bind (name_of name) value.means scope.now.means) (term_at nodes.now.value.terms i) }
+    ensures { IfOk result (λ v. MeansIn left (Bind (name_of name) value.means scope.now.means) (term_at nodes.now.value.terms i) v.means) }
 {
     let inner = scope.with(alloc, name, value)?;
-    eval(alloc, nodes, &inner, i, left)
+    eval(alloc, nodes, &inner, i, left, walks)
 }
 
 // What a function gives for this argument.
 #[cycle(evaluating)]
-fn apply(alloc: Global, c: &Value, u: Value, left: u32) -> Result<Value, NoMemory>
-    requires { CanApply left c.now u }
-    ensures { IfOk result (λ v. Applies (MeansIn left) c.now u v) }
+fn apply(alloc: Global, c: &Value, u: Value, left: u32, walks: u32) -> Result<Value, NoMemory>
+    requires { CanApply left c.now.means u.means }
+    ensures { IfOk result (λ v. Applies (MeansIn left) c.now.means u.means v.means) }
 {
     let function = c.function();
     let body = body_of(&function.nodes, function.lambda);
@@ -58,6 +69,7 @@ fn apply(alloc: Global, c: &Value, u: Value, left: u32) -> Result<Value, NoMemor
             u,
             body.term,
             left,
+            walks,
         ),
         Arrow::Fn => {
             let inner = u.banged()?;
@@ -69,6 +81,7 @@ fn apply(alloc: Global, c: &Value, u: Value, left: u32) -> Result<Value, NoMemor
                 inner,
                 body.term,
                 left,
+                walks,
             )
         }
     }
@@ -84,119 +97,209 @@ fn apply_to_element(
     inner: &mut Scope,
     x: Value,
     left: u32,
+    walks: u32,
 ) -> Result<Value, NoMemory>
     requires known { body.term < length nodes.now.value.terms }
-    requires can { CanApply left (function_inside body.arrow inner.old (term_at nodes.now.value.terms body.term)) (BangV x) }
-    ensures gives { IfOk result (λ v. Applies (MeansIn left) (function_inside body.arrow inner.old (term_at nodes.now.value.terms body.term)) (BangV x) v) }
+    requires can { CanApply left (function_inside body.arrow inner.old.means (term_at nodes.now.value.terms body.term)) (BangV x.means) }
+    ensures gives { IfOk result (λ v. Applies (MeansIn left) (function_inside body.arrow inner.old.means (term_at nodes.now.value.terms body.term)) (BangV x.means) v.means) }
     ensures function { OnOk result (
-        function_inside body.arrow inner.new (term_at nodes.now.value.terms body.term)
-        ≡ function_inside body.arrow inner.old (term_at nodes.now.value.terms body.term)
+        function_inside body.arrow inner.new.means (term_at nodes.now.value.terms body.term)
+        ≡ function_inside body.arrow inner.old.means (term_at nodes.now.value.terms body.term)
         ) }
 {
     bind_element(alloc, body.arrow, inner, x)?;
-    eval(alloc, nodes, inner, body.term, left)
+    eval(alloc, nodes, inner, body.term, left, walks)
 }
 
-// What a function gives for each element. Where there is none, `c` need not be a function.
+// What a stage makes of an element, which it gives back or leaves out.
 #[cycle(evaluating)]
-#[inline(never)]
-fn map(alloc: Global, c: &Value, b: &Value, left: u32) -> Result<Value, NoMemory>
-    requires bag { IsBag b.now }
-    requires can { CanMap left c.now (elements b.now) }
-    ensures { IfOk result (λ v. (ys : List Flat) × Maps (MeansIn left) c.now (elements b.now) ys × (v ≡ BagV ys)) }
+fn step(alloc: Global, worker: &mut Worker, x: Value, walks: u32) -> Result<Option<Value>, NoMemory>
+    requires known { IsKnownWorker worker.old }
+    requires can { CanStep (worker_step worker.old) x.means }
+    ensures steps { IfOk result (λ o. means_in o ≡ values_in (stepped (worker_step worker.old) (flat_of x.means))) }
+    ensures same { OnOk result (IsSameWorker worker.old worker.new) }
 {
-    let size = b.size();
-    if size == 0 {
-        return no_elements(alloc);
-    }
-    if let Some(images) = map_columns(alloc, c, b, left)? {
-        return Ok(images);
-    }
-    let function = c.function();
-    let body = body_of(&function.nodes, function.lambda);
-    let mut inner = element_scope(alloc, &function.nodes, &function.scope, body)?;
-    let mut out = Vec::new(alloc);
-    for i in 0..size {
-        let x = b.element(i)?;
-        let y = apply_to_element(alloc, &function.nodes, body, &mut inner, x, left)?;
-        put(&mut out, y)?;
-    }
-    Value::list(alloc, out)
-}
-
-// The elements for which a function gives true.
-#[cycle(evaluating)]
-#[inline(never)]
-fn filter(alloc: Global, c: &Value, b: &Value, left: u32) -> Result<Value, NoMemory>
-    requires bag { IsBag b.now }
-    requires can { CanFilter left c.now (elements b.now) }
-    ensures { IfOk result (λ v. (ys zs : List Flat) × Splits (MeansIn left) c.now (elements b.now) ys zs × (v ≡ BagV ys)) }
-{
-    let size = b.size();
-    if size == 0 {
-        return no_elements(alloc);
-    }
-    if let Some(chosen) = filter_columns(alloc, c, b, left)? {
-        return Ok(chosen);
-    }
-    let function = c.function();
-    let body = body_of(&function.nodes, function.lambda);
-    let mut inner = element_scope(alloc, &function.nodes, &function.scope, body)?;
-    let mut out = Vec::new(alloc);
-    for i in 0..size {
-        let x = b.element(i)?;
-        let verdict = apply_to_element(alloc, &function.nodes, body, &mut inner, x, left)?;
-        if verdict.is_left() {
-            let kept = b.element(i)?;
-            put(&mut out, kept)?;
+    match worker.keeps {
+        None => {
+            let y = apply_to_element(
+                alloc,
+                &worker.nodes,
+                worker.body,
+                &mut worker.inner,
+                x,
+                worker.left,
+                walks,
+            )?;
+            Ok(Some(y))
+        }
+        Some(keep) => {
+            let again = x.copy()?;
+            let answer = apply_to_element(
+                alloc,
+                &worker.nodes,
+                worker.body,
+                &mut worker.inner,
+                x,
+                worker.left,
+                walks,
+            )?;
+            if is_kept(&answer, keep) {
+                Ok(Some(again))
+            } else {
+                Ok(None)
+            }
         }
     }
-    Value::list(alloc, out)
 }
 
-// The elements for which a function gives true, and the others.
+// What an element becomes behind all stages, if it isn't left out.
 #[cycle(evaluating)]
-#[inline(never)]
-fn split(alloc: Global, c: &Value, b: &Value, left: u32) -> Result<Value, NoMemory>
-    requires bag { IsBag b.now }
-    requires can { CanFilter left c.now (elements b.now) }
-    ensures { IfOk result (λ v. (ys zs : List Flat) × Splits (MeansIn left) c.now (elements b.now) ys zs × (v ≡ PairV (BagV ys) (BagV zs))) }
+fn pass(
+    alloc: Global,
+    workers: &mut Vec<Worker>,
+    x: Value,
+    walks: u32,
+) -> Result<Option<Value>, NoMemory>
+    requires known { AllKnownWorkers workers.old.items }
+    requires can { CanPass (worker_steps workers.old.items) x.means }
+    ensures passes { IfOk result (λ o. means_in o ≡ values_in (through (worker_steps workers.old.items) (Some (flat_of x.means)))) }
+    ensures same { OnOk result (AreSameWorkers workers.old.items workers.new.items) }
 {
-    let size = b.size();
-    if size == 0 {
-        return no_elements_twice(alloc);
-    }
-    let function = c.function();
-    let body = body_of(&function.nodes, function.lambda);
-    let mut inner = element_scope(alloc, &function.nodes, &function.scope, body)?;
-    let mut kept = Vec::new(alloc);
-    let mut others = Vec::new(alloc);
-    for i in 0..size {
-        let x = b.element(i)?;
-        let answer = apply_to_element(alloc, &function.nodes, body, &mut inner, x, left)?;
-        let y = b.element(i)?;
-        if answer.is_left() {
-            put(&mut kept, y)?;
-        } else {
-            put(&mut others, y)?;
+    let mut at = x;
+    for i in 0..workers.len() {
+        match step(alloc, &mut workers[i], at, walks)? {
+            Some(y) => at = y,
+            None => return Ok(None),
         }
     }
-    let first = Value::list(alloc, kept)?;
-    let second = Value::list(alloc, others)?;
-    Value::pair(alloc, first, second)
+    Ok(Some(at))
+}
+
+// What is made of the rows of a branch: `start` is what was made of those before `first`.
+#[cycle(evaluating)]
+#[inline(never)]
+fn walk_rows(
+    alloc: Global,
+    branch: &Branch,
+    gather: Gather,
+    first: usize,
+    start: i128,
+    walks: u32,
+) -> Result<i128, NoMemory>
+    requires known { AllKnown branch.now.stages.items }
+    requires can { CanGather gather (steps_of branch.now.stages.items) branch.now.table.value }
+    requires start { IsFlatTotal gather (steps_of branch.now.stages.items) branch.now.table.value first start }
+    ensures { IfOk result (λ z. IsFlatTotal gather (steps_of branch.now.stages.items) branch.now.table.value (length branch.now.table.value) z) }
+{
+    let mut workers = workers_of(alloc, &branch.stages)?;
+    let mut total = start;
+    for i in first..branch.table.len() {
+        let x = Value::row(&branch.table, i)?;
+        let o = pass(alloc, &mut workers, x, walks)?;
+        total = add_some(gather, total, o)?;
+    }
+    Ok(total)
+}
+
+// What is made of the elements of a branch.
+#[cycle(evaluating)]
+fn walk_branch(alloc: Global, branch: &Branch, gather: Gather, walks: u32) -> Result<i128, NoMemory>
+    requires known { AllKnown branch.now.stages.items }
+    requires can { CanGather gather (steps_of branch.now.stages.items) branch.now.table.value }
+    ensures { IfOk result (λ z. z ≡ gathered gather (all_through (steps_of branch.now.stages.items) branch.now.table.value)) }
+{
+    if let Some(count) = count_at_once(gather, branch) {
+        return Ok(count);
+    }
+    let (first, start) = flat_total(alloc, gather, &branch.table, &branch.stages)?;
+    if first == branch.table.len() {
+        return Ok(start);
+    }
+    walk_rows(alloc, branch, gather, first, start, walks)
+}
+
+// What is made of the elements of a bag.
+#[cycle(evaluating)]
+fn walk(alloc: Global, b: &Value, gather: Gather, walks: u32) -> Result<i128, NoMemory>
+    requires bag { IsBag b.now.means }
+    requires weighed { AllWeighed gather (elements b.now.means) }
+    ensures { IfOk result (λ z. z ≡ gathered gather (elements b.now.means)) }
+{
+    let flow = b.flow();
+    let branches: &[Branch] = &flow.branches;
+    let mut total: i128 = 0;
+    for i in 0..branches.len() {
+        let more = walk_branch(alloc, &branches[i], gather, walks)?;
+        total = add_total(total, more)?;
+    }
+    Ok(total)
+}
+
+// How many elements a bag has, or their sum, clamped. It is a walk, which may have so many walks inside one another with itself: the run
+// without data tells how many there are, and allows no more.
+#[cycle(evaluating)]
+#[inline(never)]
+fn tally(alloc: Global, b: &Value, gather: Gather, walks: u32) -> Result<Value, NoMemory>
+    requires bag { IsBag b.now.means }
+    requires weighed { AllWeighed gather (elements b.now.means) }
+    ensures { IfOk result (λ v. v.means ≡ NumV (clamp (gathered gather (elements b.now.means)))) }
+{
+    if walks == 0 {
+        return Err(NoMemory);
+    }
+    let total = walk(alloc, b, gather, walks - 1)?;
+    Ok(Value::num(narrowed(total)))
+}
+
+// What a word with one part gives.
+#[cycle(evaluating)]
+fn word(alloc: Global, form: Unary, u: &Value, walks: u32) -> Result<Value, NoMemory>
+    requires { Can1 form u.now.means }
+    ensures { IfOk result (λ v. Gives1 form u.now.means v.means) }
+{
+    match form {
+        Unary::Size => tally(alloc, u, Gather::Size, walks),
+        _ => unary(form, u),
+    }
+}
+
+// What a word with bounds gives.
+#[cycle(evaluating)]
+fn bounded(
+    alloc: Global,
+    form: Ranged,
+    lo: i64,
+    hi: i64,
+    u: &Value,
+    walks: u32,
+) -> Result<Value, NoMemory>
+    requires { CanRanged form lo hi u.now.means }
+    ensures { IfOk result (λ v. GivesRanged form lo hi u.now.means v.means) }
+{
+    match form {
+        Ranged::Sum => tally(alloc, u, Gather::Sum(lo, hi), walks),
+        Ranged::Clip => Ok(clip(lo, hi, u)),
+    }
 }
 
 // What a word or sign of two parts gives for their values.
 #[cycle(evaluating)]
 #[inline(never)]
-fn combine(alloc: Global, form: Binary, u: Value, w: Value, left: u32) -> Result<Value, NoMemory>
-    requires { Can2 left form u w }
-    ensures { IfOk result (λ v. Gives2 (MeansIn left) form u w v) }
+fn combine(
+    alloc: Global,
+    form: Binary,
+    u: Value,
+    w: Value,
+    left: u32,
+    walks: u32,
+) -> Result<Value, NoMemory>
+    requires { Can2 left form u.means w.means }
+    ensures { IfOk result (λ v. Gives2 (MeansIn left) form u.means w.means v.means) }
 {
     match form {
-        Binary::App => apply(alloc, &u, w, left),
-        Binary::Map => map(alloc, &u, &w, left),
-        Binary::Filter => filter(alloc, &u, &w, left),
+        Binary::App => apply(alloc, &u, w, left, walks),
+        Binary::Map => staged(alloc, &u, &w, left, None),
+        Binary::Filter => staged(alloc, &u, &w, left, Some(true)),
         Binary::Split => split(alloc, &u, &w, left),
         _ => plain(alloc, form, u, w, left),
     }
@@ -212,18 +315,19 @@ pub fn eval(
     scope: &Scope,
     i: u32,
     left: u32,
+    walks: u32,
 ) -> Result<Value, NoMemory>
     requires known { i < length nodes.now.value.terms }
-    requires has { HasValueWithin left scope.now (term_at nodes.now.value.terms i) }
-    ensures { IfOk result (λ v. MeansIn left scope.now (term_at nodes.now.value.terms i) v) }
+    requires has { HasValueWithin left scope.now.means (term_at nodes.now.value.terms i) }
+    ensures { IfOk result (λ v. MeansIn left scope.now.means (term_at nodes.now.value.terms i) v.means) }
 {
     let below = left - 1;
     match &look(nodes, i).form {
         Form::Var(name) => scope.find(name),
         Form::Num(z) => Ok(Value::num(*z)),
-        Form::Binary(form, a, b) => eval_two(alloc, nodes, scope, *form, *a, *b, below),
-        Form::LetPair(x, y, e, b) => eval_pair(alloc, nodes, scope, x, y, *e, *b, below),
-        _ => eval_other(alloc, nodes, scope, i, left),
+        Form::Binary(form, a, b) => eval_two(alloc, nodes, scope, *form, *a, *b, below, walks),
+        Form::LetPair(x, y, e, b) => eval_pair(alloc, nodes, scope, x, y, *e, *b, below, walks),
+        _ => eval_other(alloc, nodes, scope, i, left, walks),
     }
 }
 
@@ -238,21 +342,22 @@ fn eval_two(
     a: u32,
     b: u32,
     left: u32,
+    walks: u32,
 ) -> Result<Value, NoMemory>
     requires a_known { a < length nodes.now.value.terms }
     requires b_known { b < length nodes.now.value.terms }
-    requires has { HasFormWithin left scope.now (binary form (term_at nodes.now.value.terms a) (term_at nodes.now.value.terms b)) }
-    ensures { IfOk result (λ v. Rules (MeansIn left) scope.now (binary form (term_at nodes.now.value.terms a) (term_at nodes.now.value.terms b)) v) }
+    requires has { HasFormWithin left scope.now.means (binary form (term_at nodes.now.value.terms a) (term_at nodes.now.value.terms b)) }
+    ensures { IfOk result (λ v. Rules (MeansIn left) scope.now.means (binary form (term_at nodes.now.value.terms a) (term_at nodes.now.value.terms b)) v.means) }
 {
     if let Some(v) = at_once(nodes, scope, form, a, b) {
         return Ok(v);
     }
     match form {
-        Binary::Equal => eval_equal(alloc, nodes, scope, a, b, left),
+        Binary::Equal => eval_equal(alloc, nodes, scope, a, b, left, walks),
         _ => {
-            let u = eval(alloc, nodes, scope, a, left)?;
-            let w = eval(alloc, nodes, scope, b, left)?;
-            combine(alloc, form, u, w, left)
+            let u = eval(alloc, nodes, scope, a, left, walks)?;
+            let w = eval(alloc, nodes, scope, b, left, walks)?;
+            combine(alloc, form, u, w, left, walks)
         }
     }
 }
@@ -267,22 +372,23 @@ fn eval_equal(
     a: u32,
     b: u32,
     left: u32,
+    walks: u32,
 ) -> Result<Value, NoMemory>
     requires a_known { a < length nodes.now.value.terms }
     requires b_known { b < length nodes.now.value.terms }
-    requires has { HasFormWithin left scope.now (EqE (term_at nodes.now.value.terms a) (term_at nodes.now.value.terms b)) }
-    ensures { IfOk result (λ v. Rules (MeansIn left) scope.now (EqE (term_at nodes.now.value.terms a) (term_at nodes.now.value.terms b)) v) }
+    requires has { HasFormWithin left scope.now.means (EqE (term_at nodes.now.value.terms a) (term_at nodes.now.value.terms b)) }
+    ensures { IfOk result (λ v. Rules (MeansIn left) scope.now.means (EqE (term_at nodes.now.value.terms a) (term_at nodes.now.value.terms b)) v.means) }
 {
     if let Form::Text(text) = &look(nodes, b).form {
-        let u = eval(alloc, nodes, scope, a, left)?;
+        let u = eval(alloc, nodes, scope, a, left, walks)?;
         return Ok(Value::truth(is_text(&u, text)));
     }
     if let Form::Text(text) = &look(nodes, a).form {
-        let w = eval(alloc, nodes, scope, b, left)?;
+        let w = eval(alloc, nodes, scope, b, left, walks)?;
         return Ok(Value::truth(is_text(&w, text)));
     }
-    let u = eval(alloc, nodes, scope, a, left)?;
-    let w = eval(alloc, nodes, scope, b, left)?;
+    let u = eval(alloc, nodes, scope, a, left, walks)?;
+    let w = eval(alloc, nodes, scope, b, left, walks)?;
     Ok(Value::truth(equal(&u, &w)))
 }
 
@@ -298,18 +404,19 @@ fn eval_pair(
     e: u32,
     b: u32,
     left: u32,
+    walks: u32,
 ) -> Result<Value, NoMemory>
     requires e_known { e < length nodes.now.value.terms }
     requires b_known { b < length nodes.now.value.terms }
-    requires has { HasFormWithin left scope.now (LetPairE (name_of x.now) (name_of y.now) (term_at nodes.now.value.terms e) (term_at nodes.now.value.terms b)) }
-    ensures { IfOk result (λ v. Rules (MeansIn left) scope.now (LetPairE (name_of x.now) (name_of y.now) (term_at nodes.now.value.terms e) (term_at nodes.now.value.terms b)) v) }
+    requires has { HasFormWithin left scope.now.means (LetPairE (name_of x.now) (name_of y.now) (term_at nodes.now.value.terms e) (term_at nodes.now.value.terms b)) }
+    ensures { IfOk result (λ v. Rules (MeansIn left) scope.now.means (LetPairE (name_of x.now) (name_of y.now) (term_at nodes.now.value.terms e) (term_at nodes.now.value.terms b)) v.means) }
 {
     if let Some(inner) = taken_apart(nodes, scope, x, y, e)? {
-        return eval(alloc, nodes, &inner, b, left);
+        return eval(alloc, nodes, &inner, b, left, walks);
     }
-    let u = eval(alloc, nodes, scope, e, left)?;
+    let u = eval(alloc, nodes, scope, e, left, walks)?;
     let inner = scope.with_halves(alloc, x, y, u)?;
-    eval(alloc, nodes, &inner, b, left)
+    eval(alloc, nodes, &inner, b, left, walks)
 }
 
 // The value of any term.
@@ -321,10 +428,11 @@ fn eval_other(
     scope: &Scope,
     i: u32,
     left: u32,
+    walks: u32,
 ) -> Result<Value, NoMemory>
     requires known { i < length nodes.now.value.terms }
-    requires has { HasValueWithin left scope.now (term_at nodes.now.value.terms i) }
-    ensures { IfOk result (λ v. MeansIn left scope.now (term_at nodes.now.value.terms i) v) }
+    requires has { HasValueWithin left scope.now.means (term_at nodes.now.value.terms i) }
+    ensures { IfOk result (λ v. MeansIn left scope.now.means (term_at nodes.now.value.terms i) v.means) }
 {
     let below = left - 1;
     let node = look(nodes, i);
@@ -334,51 +442,51 @@ fn eval_other(
         Form::Text(text) => Value::text(alloc, text),
         Form::Unit => Ok(Value::unit()),
         Form::Unary(form, e) => {
-            let u = eval(alloc, nodes, scope, e, below)?;
-            unary(form, &u)
+            let u = eval(alloc, nodes, scope, e, below, walks)?;
+            word(alloc, form, &u, walks)
         }
-        Form::Binary(form, a, b) => eval_two(alloc, nodes, scope, form, a, b, below),
+        Form::Binary(form, a, b) => eval_two(alloc, nodes, scope, form, a, b, below, walks),
         Form::Times(k, e) => {
-            let u = eval(alloc, nodes, scope, e, below)?;
+            let u = eval(alloc, nodes, scope, e, below, walks)?;
             Ok(scale(k, &u))
         }
         Form::Ranged(form, lo, hi, e) => {
-            let u = eval(alloc, nodes, scope, e, below)?;
-            ranged(form, lo, hi, &u)
+            let u = eval(alloc, nodes, scope, e, below, walks)?;
+            bounded(alloc, form, lo, hi, &u, walks)
         }
         Form::Inject(side, _, _, e) => {
-            let u = eval(alloc, nodes, scope, e, below)?;
+            let u = eval(alloc, nodes, scope, e, below, walks)?;
             inject(alloc, side, u)
         }
         Form::Bang(_, e) => {
-            let u = eval(alloc, nodes, scope, e, below)?;
+            let u = eval(alloc, nodes, scope, e, below, walks)?;
             Value::bang(alloc, u)
         }
         Form::Let(x, e, b) => {
-            let u = eval(alloc, nodes, scope, e, below)?;
-            eval_under(alloc, nodes, scope, x, u, b, below)
+            let u = eval(alloc, nodes, scope, e, below, walks)?;
+            eval_under(alloc, nodes, scope, x, u, b, below, walks)
         }
         Form::LetBang(x, e, b) => {
-            let u = eval(alloc, nodes, scope, e, below)?;
+            let u = eval(alloc, nodes, scope, e, below, walks)?;
             let inner = u.banged()?;
-            eval_under(alloc, nodes, scope, x, inner, b, below)
+            eval_under(alloc, nodes, scope, x, inner, b, below, walks)
         }
-        Form::LetPair(x, y, e, b) => eval_pair(alloc, nodes, scope, &x, &y, e, b, below),
+        Form::LetPair(x, y, e, b) => eval_pair(alloc, nodes, scope, &x, &y, e, b, below, walks),
         Form::If(e, a, b) => {
-            let u = eval(alloc, nodes, scope, e, below)?;
+            let u = eval(alloc, nodes, scope, e, below, walks)?;
             if u.is_left() {
-                eval(alloc, nodes, scope, a, below)
+                eval(alloc, nodes, scope, a, below, walks)
             } else {
-                eval(alloc, nodes, scope, b, below)
+                eval(alloc, nodes, scope, b, below, walks)
             }
         }
         Form::Case(e, x, a, y, b) => {
-            let u = eval(alloc, nodes, scope, e, below)?;
+            let u = eval(alloc, nodes, scope, e, below, walks)?;
             let side = u.side()?;
             if u.is_left() {
-                eval_under(alloc, nodes, scope, x, side, a, below)
+                eval_under(alloc, nodes, scope, x, side, a, below, walks)
             } else {
-                eval_under(alloc, nodes, scope, y, side, b, below)
+                eval_under(alloc, nodes, scope, y, side, b, below, walks)
             }
         }
         Form::Lambda(_, _, _, _, _) => {

@@ -11,8 +11,8 @@ ghost use Rattle.run_values.specs.Views.{IsFunction};
 ghost use Rattle.fuzz_eval.specs.Loops.{bound_element};
 ghost use Rattle.fuzz_eval.specs.Steps.{IsClosureOf};
 
+use flow_values::{Scope, Value};
 use fz_ast::{Arrow, Form, Name, NoMemory, Node, Nodes};
-use run_values::{Scope, Value};
 use std::alloc::Global;
 use std::rc::Rc;
 
@@ -56,7 +56,7 @@ pub fn element_scope(
     body: Body,
 ) -> Result<Scope, NoMemory>
     requires { body.term < length nodes.now.value.terms }
-    ensures { IfOk result (λ s. s ≡ Bind (name_of body.name) UnitV scope.now) }
+    ensures { IfOk result (λ s. s.means ≡ Bind (name_of body.name) UnitV scope.now.means) }
 {
     match &look(nodes, body.term).form {
         Form::LetPair(x, y, _, _) => { scope.with_element(alloc, &body.name, x, y, Value::unit()) }
@@ -71,7 +71,7 @@ pub fn bind_element(
     inner: &mut Scope,
     x: Value,
 ) -> Result<(), NoMemory>
-    ensures { OnOk result (inner.new ≡ rebound inner.old (bound_element arrow x)) }
+    ensures { OnOk result (inner.new.means ≡ rebound inner.old.means (bound_element arrow x.means)) }
 {
     match arrow {
         Arrow::Fun => {

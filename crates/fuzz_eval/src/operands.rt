@@ -8,14 +8,15 @@ ghost use Rattle.fuzz_eval.specs.Operands.{GivesAtOnce, GivesSign, IsOperand, Ta
 
 use crate::nodes::look;
 use crate::numbers::{minus, plus};
+use flow_values::{Scope, Value};
 use fz_ast::{Binary, Form, Name, NoMemory, Nodes};
-use run_values::{Plain, Scope, Value};
+use run_values::Plain;
 use std::rc::Rc;
 
 // The number or text that a term is, or that its name stands for.
 fn operand<'a>(nodes: &'a Rc<Nodes>, scope: &'a Scope, i: u32) -> Plain<'a>
     requires { i < length nodes.now.value.terms }
-    ensures { IsOperand scope.now (term_at nodes.now.value.terms i) (plain_of result) }
+    ensures { IsOperand scope.now.means (term_at nodes.now.value.terms i) (plain_of result) }
 {
     match &look(nodes, i).form {
         Form::Var(name) => scope.find_plain(name),
@@ -27,7 +28,7 @@ fn operand<'a>(nodes: &'a Rc<Nodes>, scope: &'a Scope, i: u32) -> Plain<'a>
 
 // What a sign gives for two numbers.
 fn of_numbers(form: Binary, y: i64, z: i64) -> Option<Value>
-    ensures { IfSome result (λ v. GivesSign form (NumV y) (NumV z) v) }
+    ensures { IfSome result (λ v. GivesSign form (NumV y) (NumV z) v.means) }
 {
     match form {
         Binary::AtMost => Some(Value::truth(y <= z)),
@@ -40,7 +41,7 @@ fn of_numbers(form: Binary, y: i64, z: i64) -> Option<Value>
 
 // What a sign gives for two texts.
 fn of_texts(form: Binary, s: &[u8], t: &[u8]) -> Option<Value>
-    ensures { IfSome result (λ v. GivesSign form (TextV s.now) (TextV t.now) v) }
+    ensures { IfSome result (λ v. GivesSign form (TextV s.now) (TextV t.now) v.means) }
 {
     match form {
         Binary::Equal => Some(Value::truth(s == t)),
@@ -52,7 +53,7 @@ fn of_texts(form: Binary, s: &[u8], t: &[u8]) -> Option<Value>
 pub fn at_once(nodes: &Rc<Nodes>, scope: &Scope, form: Binary, a: u32, b: u32) -> Option<Value>
     requires a_known { a < length nodes.now.value.terms }
     requires b_known { b < length nodes.now.value.terms }
-    ensures { IfSome result (λ v. GivesAtOnce scope.now form (term_at nodes.now.value.terms a) (term_at nodes.now.value.terms b) v) }
+    ensures { IfSome result (λ v. GivesAtOnce scope.now.means form (term_at nodes.now.value.terms a) (term_at nodes.now.value.terms b) v.means) }
 {
     match operand(nodes, scope, a) {
         Plain::Num(y) => match operand(nodes, scope, b) {
@@ -76,7 +77,7 @@ pub fn taken_apart(
     e: u32,
 ) -> Result<Option<Scope>, NoMemory>
     requires { e < length nodes.now.value.terms }
-    ensures { IfOk result (λ o. IfSome o (λ s. TakesApart scope.now (name_of x.now) (name_of y.now) (term_at nodes.now.value.terms e) s)) }
+    ensures { IfOk result (λ o. IfSome o (λ s. TakesApart scope.now.means (name_of x.now) (name_of y.now) (term_at nodes.now.value.terms e) s.means)) }
 {
     match &look(nodes, e).form {
         Form::Var(name) => scope.opened(name, x, y),

@@ -11,9 +11,9 @@ ghost use Rattle.shape_run.specs.Plans.{IsPlanOf};
 ghost use Rattle.fuzz_eval.specs.Run.{IsNearEachOther};
 
 use crate::eval::eval;
+use flow_values::{Scope, Value};
 use fz_ast::{NoMemory, Nodes, Sig};
 use metric_values::Tables;
-use run_values::{Scope, Value};
 use sensitivity_check::Checked;
 use shape_run::Plan;
 use std::alloc::Global;
@@ -37,13 +37,14 @@ fn value_of(
     root: u32,
     scope: &Scope,
     depth: u32,
+    walks: u32,
 ) -> Result<Value, NoMemory>
     requires known { root < length nodes.now.terms }
-    requires has { HasNumber depth scope.now (term_at nodes.now.terms root) }
-    ensures { IfOk result (λ v. MeansIn depth scope.now (term_at nodes.now.terms root) v) }
+    requires has { HasNumber depth scope.now.means (term_at nodes.now.terms root) }
+    ensures { IfOk result (λ v. MeansIn depth scope.now.means (term_at nodes.now.terms root) v.means) }
 {
     let places = shared(alloc, nodes)?;
-    eval(alloc, &places, scope, root, depth)
+    eval(alloc, &places, scope, root, depth, walks)
 }
 
 // The number of a term that has one by a derivation at most `depth` high.
@@ -53,19 +54,20 @@ fn number_of(
     root: u32,
     scope: &Scope,
     depth: u32,
+    walks: u32,
 ) -> Result<i64, NoMemory>
     requires known { root < length nodes.now.terms }
-    requires has { HasNumber depth scope.now (term_at nodes.now.terms root) }
-    ensures { IfOk result (λ z. MeansIn depth scope.now (term_at nodes.now.terms root) (NumV z)) }
+    requires has { HasNumber depth scope.now.means (term_at nodes.now.terms root) }
+    ensures { IfOk result (λ z. MeansIn depth scope.now.means (term_at nodes.now.terms root) (NumV z)) }
 {
-    let value = value_of(alloc, nodes, root, scope, depth)?;
+    let value = value_of(alloc, nodes, root, scope, depth, walks)?;
     Ok(value.number())
 }
 
 // Each table's name with its rows, the first one being the innermost.
 fn scope_of(alloc: Global, sig: &Sig, tables: &Tables) -> Result<Scope, NoMemory>
     requires { IsDataset sig.now tables.now }
-    ensures scope { IfOk result (λ scope. scope ≡ rows_of sig.now tables.now) }
+    ensures scope { IfOk result (λ scope. scope.means ≡ rows_of sig.now tables.now) }
     ensures signature { IfOk result (λ scope. IsSignature sig.now) }
 {
     let mut scope = Scope::new();
@@ -93,5 +95,5 @@ pub fn run(alloc: Global, checked: &Checked, plan: &Plan, tables: &Tables) -> Re
 {
     let scope = scope_of(alloc, checked.sig, tables)?;
     let (nodes, root) = checked.term.parts();
-    number_of(alloc, nodes, root, &scope, plan.depth)
+    number_of(alloc, nodes, root, &scope, plan.depth, plan.walks)
 }

@@ -80,3 +80,58 @@ fn plans_and_limits(rt: HostRuntime) -> Result<(), Fail> {
     }
     Ok(())
 }
+
+// How many walks of bags a program takes where each table has one row, if it has a plan.
+fn walks_of(alloc: Global, sig: &Sig, program: &[u8]) -> Option<u32> {
+    let term = term_of(alloc, program)?;
+    match shape(alloc, sig, &term) {
+        Ok(plan) => Some(plan.walks),
+        Err(_) => None,
+    }
+}
+
+// A bag whose function takes a walk for each row.
+const WALKED: Piece = (
+    "let a = map (fn (x : num) => x + size people) people in ",
+    1,
+);
+
+// The same of the bag before, which is used twice.
+const AGAIN: Piece = ("let a = map (fn (x : num) => x + sum[0,1] a) a in ", 1);
+
+// A function that takes two walks, and as many more as come.
+const MANY: Piece = (
+    "size (map (fn (x : num) => let y = size people + size people in ",
+    1,
+);
+
+#[rattlefmt::skip]
+const WALKS: [(&[Piece], Option<u32>); 13] = [
+    (&[("size people", 1)], Some(1)),
+    (&[("size people + sum[0,9] people", 1)], Some(2)),
+    (&[("if size people <= 3 then 0 else size people", 1)], Some(2)),
+    (&[("let f = fun (x : num) => x + size people in f (f 2)", 1)], Some(2)),
+    (&[("let a = map (fn (x : num) => x + 1) people in 3", 1)], Some(0)),
+    // those inside one another
+    (&[WALKED, ("size a", 1)], Some(2)),
+    (&[WALKED, ("size a + size a", 1)], Some(4)),
+    (&[WALKED, ("size (union people a)", 1)], Some(2)),
+    (&[WALKED, AGAIN, ("size a", 1)], Some(4)),
+    // each `let` doubles them: six of them take 64
+    (&[WALKED, ("let a = map (fn (x : num) => x + sum[0,1] a) a in ", 5), ("size a", 1)], Some(64)),
+    (&[WALKED, ("let a = map (fn (x : num) => x + sum[0,1] a) a in ", 6), ("size a", 1)], None),
+    // and so do 63 in a row
+    (&[MANY, ("let y = y + size people + size people in ", 20), ("y ", 1), ("+ size people ", 21), (") people)", 1)], Some(64)),
+    (&[MANY, ("let y = y + size people + size people in ", 20), ("y ", 1), ("+ size people ", 22), (") people)", 1)], None),
+];
+
+#[test]
+fn walks_of_bags(rt: HostRuntime) -> Result<(), Fail> {
+    let alloc = rt.alloc();
+    let sig = people(alloc)?;
+    for (pieces, want) in &WALKS {
+        let program = joined(alloc, pieces)?;
+        assert!(rt; walks_of(alloc, &sig, &program) == *want, "{pieces:?}");
+    }
+    Ok(())
+}

@@ -1,6 +1,6 @@
 -- What lanes stand for, and what signs and words give of them, at worked rows.
 use Rattle.std.proofs.Common.{◌≡◌, ◌<◌, ◌+◌, ◌∙◌, ◌∷◌, [], Global, List, Vec, ap, arith, get_or, length, pos, refl, suc, sym, zero, ℕ, ℤ}
-use Rattle.std.specs.Prelude.{Some, codes, false, neg_ℤ, true}
+use Rattle.std.specs.Prelude.{None, Some, codes, false, neg_ℤ, true}
 use Rattle.std.specs.Rc.{rc_value}
 use Rattle.fz_ast.specs.Names.{name_of}
 use Rattle.fz_ast.specs.Terms.{NumE, PlusE, UnitE, VarE, at}
@@ -18,7 +18,9 @@ use Rattle.row_kernels.specs.declared.lanes.Lanes.TheVariants.{Num, Truth, Same,
 use Rattle.row_kernels.specs.Calls.{IsUnitTerm}
 use Rattle.row_kernels.specs.Cells.{AreCells}
 use Rattle.row_kernels.specs.Lanes.{AreThere, IsLong, IsSign, IsWord, clip_value, env_at, lane_at, literal_value, sign_value, times_value, word_value}
-use Rattle.row_kernels.specs.Rows.{taken}
+use Rattle.row_kernels.specs.declared.gather.Gather.TheVariants.{Size, Sum}
+use Rattle.row_kernels.specs.Flows.{IsRow}
+use Rattle.row_kernels.specs.Gathers.{count_there, gathered, sum_there}
 
 -- P holds of the lanes made of each vector of these elements
 abbrev OnItems : {T : Type 0} → List T → (Vec T Global → Lanes) → (Lanes → Type 0) → Type 0
@@ -193,15 +195,27 @@ true_is_left = refl
 false_is_right : literal_value Inr ≡ InrV UnitV
 false_is_right = refl
 
--- numbers of rows, from the chunk's first one on
-rows_of_the_second_chunk : taken 1024 (true ∷ false ∷ true ∷ []) ≡ 1024 ∷ 1026 ∷ []
-rows_of_the_second_chunk = refl
+-- a row that isn't there has no lane
+row_there : IsRow true (NumV (pos 7)) (Some (NumF (pos 7)))
+row_there = (NumF (pos 7), refl, refl)
 
-rows_not_turned : taken 0 (false ∷ true ∷ []) ≡ 1 ∷ []
-rows_not_turned = refl
+row_not_there : IsRow false (NumV (pos 7)) None
+row_not_there = refl
 
-no_rows : taken 1023 [] ≡ []
-no_rows = refl
+another_row : IsRow true (NumV (pos 7)) (Some (NumF (pos 8))) → ⊥
+another_row h = let e : NumF (pos 8) ≡ h.0 = cc h.1 in let k : NumV (pos 7) ≡ NumV (pos 8) = h.2 ∙ ap value_of (sym e) in absurd (cc k)
+
+two_there : count_there (true ∷ false ∷ true ∷ []) ≡ pos 2
+two_there = refl
+
+each_clipped : sum_there (pos 0) (pos 10) (pos 11 ∷ pos 5 ∷ neg_ℤ (pos 4) ∷ []) (true ∷ false ∷ true ∷ []) ≡ pos 10
+each_clipped = refl
+
+three_elements : gathered Size (NumF (pos 7) ∷ NumF (pos 7) ∷ TextF [] ∷ []) ≡ pos 3
+three_elements = refl
+
+sum_of_elements : gathered (Sum (pos 0) (pos 10)) (NumF (pos 11) ∷ NumF (pos 3) ∷ []) ≡ pos 13
+sum_of_elements = refl
 
 -- `r + 1` means 8 in a row for which r stands for 7
 sum_of_a_row : (s : Span) (x : Written) (γ : Env) → name_of x ≡ codes "r"

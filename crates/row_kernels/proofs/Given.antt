@@ -21,9 +21,9 @@ use Rattle.fz_ast.specs.declared.term.Unary.TheVariants.{Fst, Snd, Least, Greate
 use Rattle.metric_law.specs.Means.{Applies, MeansIn, Rules, apply, apply_fn, find}
 use Rattle.metric_values.specs.Values.{BangV, Bind, Env, FnV, FunV, InlV, InrV, NumV, PairV, TextV, UnitV, Value, truth}
 use Rattle.run_values.specs.Parts.{banged_in, first_in, second_in}
-use Rattle.run_values.specs.Founds.{IsFoundFunction}
+use Rattle.flow_values.specs.Founds.{IsFoundFunction}
 use Rattle.run_values.specs.Views.{function_of}
-use Rattle.run_values.specs.declared.value.Closure.{Closure}
+use Rattle.flow_values.specs.declared.value.Closure.{Closure}
 use Rattle.row_kernels.specs.declared.frames.Frame.{Frame}
 use Rattle.row_kernels.specs.declared.lanes.Lanes.{Lanes}
 use Rattle.row_kernels.specs.declared.lanes.Lanes.TheVariants.{Same}
@@ -149,7 +149,7 @@ bang_argument t s r e q γ m v k = go m (subst (λ (t : Term). MeansIn m γ t v)
     go (suc m) k = (m, k.0, k.1, k.2)
 
 pub called : (fs : List Frame) (γ : Env) (t : Term) (s : Span) (x : Name) (c : Closure) → t ≡ at s (VarE x) → IsFree fs x → IsFoundFunction γ x c → IsCalled fs γ t c
-called fs γ t s x c q free h = record { known = h.2.known; each = λ j m v r. go j m v (subst (λ (t : Term). MeansIn m (env_at fs γ j) t v) q r) ∙ h.2.is }
+called fs γ t s x c q free h = record { known = h.2.known.known; each = λ j m v r. go j m v (subst (λ (t : Term). MeansIn m (env_at fs γ j) t v) q r) ∙ h.2.is }
   where
     go : (j m : ℕ) (v : Value) → MeansIn m (env_at fs γ j) (at s (VarE x)) v → v ≡ h.0
     go j zero v r = absurd r
@@ -163,23 +163,23 @@ fn_parts m (apply_fn k) = k
 
 module _ (fs : List Frame) (γ : Env) (n : ℕ) (f a : Term) (c : Closure) (ty : ℕ → Ty) (part : ℕ → Term) (s : Span) (o : Arrow) (x : Written) (sp : Span) (t b : ℕ) where
   -- what the function's name stands for
-  bound : (o : Arrow) (g : Form) → function_of (term_of ty part s g) c.scope ≡ function_of (term_of ty part s (Lambda o x sp t b)) c.scope → (e : Term) → IsArgument o a e → (le : Lanes) → AreMeant fs γ e n le → (j : ℕ) → j < n → (m : ℕ) (w u v : Value) → w ≡ function_of (term_of ty part s g) c.scope → MeansIn m (env_at fs γ j) a u → Applies (MeansIn m) w u v → MeansIn m (Bind (name_of x) (lane_at le j) c.scope) (part b) v
+  bound : (o : Arrow) (g : Form) → function_of (term_of ty part s g) c.scope.means ≡ function_of (term_of ty part s (Lambda o x sp t b)) c.scope.means → (e : Term) → IsArgument o a e → (le : Lanes) → AreMeant fs γ e n le → (j : ℕ) → j < n → (m : ℕ) (w u v : Value) → w ≡ function_of (term_of ty part s g) c.scope.means → MeansIn m (env_at fs γ j) a u → Applies (MeansIn m) w u v → MeansIn m (Bind (name_of x) (lane_at le j) c.scope.means) (part b) v
   bound Fun g q e h le he j lt m w u v p r k =
-      subst (λ u. MeansIn m (Bind (name_of x) u c.scope) (part b) v) (he.each j lt m u (subst (λ (t : Term). MeansIn m (env_at fs γ j) t u) h r))
+      subst (λ u. MeansIn m (Bind (name_of x) u c.scope.means) (part b) v) (he.each j lt m u (subst (λ (t : Term). MeansIn m (env_at fs γ j) t u) h r))
       (fun_parts m (subst (λ (w : Value). Applies (MeansIn m) w u v) (p ∙ q) k))
   bound Fn g q e h le he j lt m w u v p r k =
       let d = h (env_at fs γ j) m u r in
-      subst (λ u. MeansIn m (Bind (name_of x) u c.scope) (part b) v) (ap banged_in d.3 ∙ he.each j lt d.0 d.1 d.2)
+      subst (λ u. MeansIn m (Bind (name_of x) u c.scope.means) (part b) v) (ap banged_in d.3 ∙ he.each j lt d.0 d.1 d.2)
       (fn_parts m (subst (λ (w : Value). Applies (MeansIn m) w u v) (p ∙ q) k))
 
-  pub call_given : (whole : Term) (g : Form) → whole ≡ term_of ty part s g → g ≡ Lambda o x sp t b → ((j m : ℕ) (v : Value) → MeansIn m (env_at fs γ j) f v → v ≡ function_of whole c.scope) → (e : Term) → IsArgument o a e → (le : Lanes) → AreMeant fs γ e n le
-      → (inner : List Frame) → AreSameNames inner (record { name = x; lanes = le } ∷ []) → (l : Lanes) → AreMeant inner c.scope (part b) n l → AreGiven fs γ (AppE f a) n l
+  pub call_given : (whole : Term) (g : Form) → whole ≡ term_of ty part s g → g ≡ Lambda o x sp t b → ((j m : ℕ) (v : Value) → MeansIn m (env_at fs γ j) f v → v ≡ function_of whole c.scope.means) → (e : Term) → IsArgument o a e → (le : Lanes) → AreMeant fs γ e n le
+      → (inner : List Frame) → AreSameNames inner (record { name = x; lanes = le } ∷ []) → (l : Lanes) → AreMeant inner c.scope.means (part b) n l → AreGiven fs γ (AppE f a) n l
   call_given whole g p q hc e h le he inner hi l hb = record {
     long = hb.long;
     each = λ j lt m v r.
-        let w : r.0 ≡ function_of (term_of ty part s g) c.scope = hc j m r.0 r.2 ∙ ap (λ (t : Term). function_of t c.scope) p in
-        let k : MeansIn m (Bind (name_of x) (lane_at le j) c.scope) (part b) v = bound o g (ap (λ g. function_of (term_of ty part s g) c.scope) q) e h le he j lt m r.0 r.1 v w r.3 r.4 in
-        hb.each j lt m v (subst (λ (δ : Env). MeansIn m δ (part b) v) (sym (hi.each c.scope j)) k);
+        let w : r.0 ≡ function_of (term_of ty part s g) c.scope.means = hc j m r.0 r.2 ∙ ap (λ (t : Term). function_of t c.scope.means) p in
+        let k : MeansIn m (Bind (name_of x) (lane_at le j) c.scope.means) (part b) v = bound o g (ap (λ g. function_of (term_of ty part s g) c.scope.means) q) e h le he j lt m r.0 r.1 v w r.3 r.4 in
+        hb.each j lt m v (subst (λ (δ : Env). MeansIn m δ (part b) v) (sym (hi.each c.scope.means j)) k);
   }
 
 -- the innermost name is the one that is looked for

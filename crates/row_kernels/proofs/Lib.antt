@@ -1,7 +1,8 @@
 pub mod Given
-pub mod Changed
-pub mod Grown
-pub mod Verdicts
-pub mod Framed
 pub mod Held
+pub mod Changed
+pub mod Framed
+pub mod Gathered
+pub mod Counted
+pub mod Passing
 pub mod Examples

@@ -1,5 +1,5 @@
 pub mod Lanes
 pub mod Calls
-pub mod Rows
 pub mod Cells
-pub mod Images
+pub mod Gathers
+pub mod Flows

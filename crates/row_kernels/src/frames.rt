@@ -5,8 +5,9 @@ ghost use Rattle.row_kernels.specs.Lanes.{AllLong, AreNamed, AreSameNames, IsFre
 
 use crate::columns::copied_bytes;
 use crate::lanes::Lanes;
+use flow_values::Scope;
 use fz_ast::{Name, NoMemory};
-use run_values::{Plain, Scope};
+use run_values::Plain;
 use std::alloc::Global;
 
 /// A name, and what it stands for at each row.
@@ -86,7 +87,7 @@ pub fn named(
     len: usize,
 ) -> Result<Option<Lanes>, NoMemory>
     requires { AllLong len frames.now }
-    ensures { IfOk result (λ o. IfSome o (AreNamed frames.now outer.now (name_of name.now) len)) }
+    ensures { IfOk result (λ o. IfSome o (AreNamed frames.now outer.now.means (name_of name.now) len)) }
 {
     let Some((frame, rest)) = frames.split_first() else {
         return match outer.find_plain(name) {

@@ -3,15 +3,16 @@
 
 pub mod cells;
 pub mod columns;
+pub mod flows;
 pub mod frames;
-pub mod images;
+pub mod gather;
 pub mod lanes;
 pub mod meant;
 pub mod numbers;
-pub mod rows;
 pub mod texts;
 
+pub use flows::{Passed, flat_total, pass_stages};
 pub use frames::Frame;
+pub use gather::{Gather, add_total, share};
 pub use lanes::Lanes;
 pub use meant::lanes_of;
-pub use rows::{filtered, mapped};

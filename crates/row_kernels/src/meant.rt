@@ -9,8 +9,8 @@ ghost use Rattle.row_kernels.specs.Lanes.{AllLong, AreGiven, AreLiterals, AreMea
 use crate::columns::{copied_bytes, repeated_truth};
 use crate::frames::{Frame, is_free, named, only, under, under_two};
 use crate::lanes::{Lanes, bounded, chosen, halves, multiplied, signed, worded};
+use flow_values::{Closure, Scope};
 use fz_ast::{Arrow, Binary, Form, Name, NoMemory, Nodes, Ranged, Side, Unary};
-use run_values::{Closure, Scope};
 use std::alloc::Global;
 
 // The function that a term is, if it is the name of one outside.
@@ -21,7 +21,7 @@ fn function_called<'a>(
     f: u32,
 ) -> Option<&'a Closure>
     requires { f < length nodes.now.terms }
-    ensures { IfSome result (λ c. IsCalled frames.now outer.now (term_at nodes.now.terms f) c.now) }
+    ensures { IfSome result (λ c. IsCalled frames.now outer.now.means (term_at nodes.now.terms f) c.now) }
 {
     match &nodes.node(f).form {
         Form::Var(name) => {
@@ -81,7 +81,7 @@ pub fn lanes_of(
 ) -> Result<Option<Lanes>, NoMemory>
     requires known { i < length nodes.now.terms }
     requires long { AllLong len frames.now }
-    ensures { IfOk result (λ o. IfSome o (AreMeant frames.now outer.now (term_at nodes.now.terms i) len)) }
+    ensures { IfOk result (λ o. IfSome o (AreMeant frames.now outer.now.means (term_at nodes.now.terms i) len)) }
 {
     if left == 0 {
         return Ok(None);
@@ -132,7 +132,7 @@ fn lanes_of_word(
 ) -> Result<Option<Lanes>, NoMemory>
     requires known { e < length nodes.now.terms }
     requires long { AllLong len frames.now }
-    ensures { IfOk result (λ o. IfSome o (AreGiven frames.now outer.now (unary form (term_at nodes.now.terms e)) len)) }
+    ensures { IfOk result (λ o. IfSome o (AreGiven frames.now outer.now.means (unary form (term_at nodes.now.terms e)) len)) }
 {
     let Some(x) = lanes_of(alloc, nodes, frames, outer, len, e, left)? else {
         return Ok(None);
@@ -155,7 +155,7 @@ fn lanes_of_multiple(
 ) -> Result<Option<Lanes>, NoMemory>
     requires known { e < length nodes.now.terms }
     requires long { AllLong len frames.now }
-    ensures { IfOk result (λ o. IfSome o (AreGiven frames.now outer.now (TimesE k (term_at nodes.now.terms e)) len)) }
+    ensures { IfOk result (λ o. IfSome o (AreGiven frames.now outer.now.means (TimesE k (term_at nodes.now.terms e)) len)) }
 {
     let Some(x) = lanes_of(alloc, nodes, frames, outer, len, e, left)? else {
         return Ok(None);
@@ -179,7 +179,7 @@ fn lanes_of_clip(
 ) -> Result<Option<Lanes>, NoMemory>
     requires known { e < length nodes.now.terms }
     requires long { AllLong len frames.now }
-    ensures { IfOk result (λ o. IfSome o (AreGiven frames.now outer.now (ClipE lo hi (term_at nodes.now.terms e)) len)) }
+    ensures { IfOk result (λ o. IfSome o (AreGiven frames.now outer.now.means (ClipE lo hi (term_at nodes.now.terms e)) len)) }
 {
     let Some(x) = lanes_of(alloc, nodes, frames, outer, len, e, left)? else {
         return Ok(None);
@@ -204,7 +204,7 @@ fn lanes_of_two(
     requires a_known { a < length nodes.now.terms }
     requires b_known { b < length nodes.now.terms }
     requires long { AllLong len frames.now }
-    ensures { IfOk result (λ o. IfSome o (AreGiven frames.now outer.now (binary form (term_at nodes.now.terms a) (term_at nodes.now.terms b)) len)) }
+    ensures { IfOk result (λ o. IfSome o (AreGiven frames.now outer.now.means (binary form (term_at nodes.now.terms a) (term_at nodes.now.terms b)) len)) }
 {
     if let Binary::App = form {
         return lanes_of_call(alloc, nodes, frames, outer, len, a, b, left);
@@ -234,7 +234,7 @@ fn lanes_of_call(
     requires f_known { f < length nodes.now.terms }
     requires a_known { a < length nodes.now.terms }
     requires long { AllLong len frames.now }
-    ensures { IfOk result (λ o. IfSome o (AreGiven frames.now outer.now (AppE (term_at nodes.now.terms f) (term_at nodes.now.terms a)) len)) }
+    ensures { IfOk result (λ o. IfSome o (AreGiven frames.now outer.now.means (AppE (term_at nodes.now.terms f) (term_at nodes.now.terms a)) len)) }
 {
     let Some(function) = function_called(nodes, frames, outer, f) else {
         return Ok(None);
@@ -277,7 +277,7 @@ fn lanes_of_let(
     requires e_known { e < length nodes.now.terms }
     requires b_known { b < length nodes.now.terms }
     requires long { AllLong len frames.now }
-    ensures { IfOk result (λ o. IfSome o (AreGiven frames.now outer.now (LetE (name_of x.now) (term_at nodes.now.terms e) (term_at nodes.now.terms b)) len)) }
+    ensures { IfOk result (λ o. IfSome o (AreGiven frames.now outer.now.means (LetE (name_of x.now) (term_at nodes.now.terms e) (term_at nodes.now.terms b)) len)) }
 {
     let Some(bound) = lanes_of(alloc, nodes, frames, outer, len, e, left)? else {
         return Ok(None);
@@ -304,7 +304,7 @@ fn lanes_of_pair(
     requires e_known { e < length nodes.now.terms }
     requires b_known { b < length nodes.now.terms }
     requires long { AllLong len frames.now }
-    ensures { IfOk result (λ o. IfSome o (AreGiven frames.now outer.now (LetPairE (name_of x.now) (name_of y.now) (term_at nodes.now.terms e) (term_at nodes.now.terms b)) len)) }
+    ensures { IfOk result (λ o. IfSome o (AreGiven frames.now outer.now.means (LetPairE (name_of x.now) (name_of y.now) (term_at nodes.now.terms e) (term_at nodes.now.terms b)) len)) }
 {
     let Some(pair) = lanes_of(alloc, nodes, frames, outer, len, e, left)? else {
         return Ok(None);
@@ -334,7 +334,7 @@ fn lanes_of_if(
     requires a_known { a < length nodes.now.terms }
     requires b_known { b < length nodes.now.terms }
     requires long { AllLong len frames.now }
-    ensures { IfOk result (λ o. IfSome o (AreGiven frames.now outer.now (IfE (term_at nodes.now.terms e) (term_at nodes.now.terms a) (term_at nodes.now.terms b)) len)) }
+    ensures { IfOk result (λ o. IfSome o (AreGiven frames.now outer.now.means (IfE (term_at nodes.now.terms e) (term_at nodes.now.terms a) (term_at nodes.now.terms b)) len)) }
 {
     let Some(Lanes::Truth(mask)) = lanes_of(alloc, nodes, frames, outer, len, e, left)? else {
         return Ok(None);

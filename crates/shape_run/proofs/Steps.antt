@@ -107,7 +107,7 @@ let_then W σ s x a b t k j p e h = ap (λ t. walk_rules W σ t k) e ∙ next_sh
 
 pub no_function : (N : List Term) (cs : List Cell) (c : Cell) (W : Walk) (p q : Shape) (k : Tally) → ((x : Name) (e s : ℕ) → c ≡ Fun x e s → ⊥) → ((x : Name) (e s : ℕ) → c ≡ Fn x e s → ⊥) → Reads N cs c p
     → enters W p q k ≡ yields (Wide 0) k
-no_function N cs (Ground w) W p q k f g h = ap (λ p. enters W p q k) h
+no_function N cs (Ground w j) W p q k f g h = ap (λ p. enters W p q k) h
 no_function N cs (Pair a b) W p q k f g h = ap (λ p. enters W p q k) h.4
 no_function N cs (Bang a) W p q k f g h = ap (λ p. enters W p q k) h.2
 no_function N cs (Fun x e s) W p q k f g h = absurd (f x e s refl)

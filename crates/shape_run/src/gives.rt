@@ -11,7 +11,10 @@ ghost use Rattle.shape_run.specs.Tells.{Tells, tally_of};
 
 use crate::plan::{Plan, ShapeFault};
 use crate::store::Store;
-use fz_ast::{Arrow, Form, Name, Span, Unary};
+use fz_ast::{Arrow, Form, Name, Ranged, Span, Unary};
+
+// How many walks one may take, with itself.
+const WALKS: u32 = 64;
 
 /// The shape in this cell.
 pub fn give(store: &Store, count: &mut Plan, k: u32) -> Result<u32, ShapeFault>
@@ -24,11 +27,16 @@ pub fn give(store: &Store, count: &mut Plan, k: u32) -> Result<u32, ShapeFault>
 }
 
 /// The shape of a ground value.
-pub fn give_ground(store: &mut Store, count: &mut Plan, width: u8) -> Result<u32, ShapeFault>
+pub fn give_ground(
+    store: &mut Store,
+    count: &mut Plan,
+    width: u8,
+    walks: u8,
+) -> Result<u32, ShapeFault>
     ensures is { (N : List Term) → Tells N store.new.cells.items count.new result (yields (Rattle.shape_law.specs.Shapes.Wide width) (tally_of count.old)) }
     ensures grown { Grown store.old.cells.items store.new.cells.items }
 {
-    let Ok(k) = store.ground(width) else {
+    let Ok(k) = store.ground(width, walks) else {
         return Err(ShapeFault::NoMemory);
     };
     give(store, count, k)
@@ -94,7 +102,8 @@ pub fn give_side(store: &mut Store, count: &mut Plan, a: u32) -> Result<u32, Sha
     ensures grown { Grown store.old.cells.items store.new.cells.items }
 {
     let width = store.width(a);
-    give_ground(store, count, width)
+    let walks = store.walks(a);
+    give_ground(store, count, width, walks)
 }
 
 /// The wider of two ground shapes.
@@ -105,7 +114,8 @@ pub fn give_wider(store: &mut Store, count: &mut Plan, a: u32, b: u32) -> Result
     ensures grown { Grown store.old.cells.items store.new.cells.items }
 {
     let width = store.width(a).max(store.width(b));
-    give_ground(store, count, width)
+    let walks = store.walks(a).max(store.walks(b));
+    give_ground(store, count, width, walks)
 }
 
 /// The shape of a name.
@@ -122,7 +132,7 @@ fn give_name(
 {
     match store.find(scope, name) {
         Some(k) => give(store, count, k),
-        None => give_ground(store, count, 0),
+        None => give_ground(store, count, 0, 0),
     }
 }
 
@@ -163,7 +173,7 @@ pub fn give_leaf(
         Form::Lambda(arrow, name, _, _, body) => {
             give_function(store, count, scope, *arrow, *name, *body)
         }
-        _ => give_ground(store, count, 0),
+        _ => give_ground(store, count, 0, 0),
     }
 }
 
@@ -179,6 +189,40 @@ pub fn part_of(form: &Form) -> Option<u32>
         Form::Bang(_, e) => Some(*e),
         _ => None,
     }
+}
+
+/// A bag's size or sum, which is one walk, with those inside it.
+fn give_walk(store: &mut Store, count: &mut Plan, a: u32) -> Result<u32, ShapeFault>
+    requires { HasShape store.old.cells.items a }
+    ensures is { (N : List Term) → Tells N store.new.cells.items count.new result (yields (Rattle.shape_law.specs.Shapes.Wide 0) (tally_of count.old)) }
+    ensures grown { Grown store.old.cells.items store.new.cells.items }
+{
+    let inside = store.walks(a);
+    count.walks = count.walks.saturating_add(inside as u32 + 1);
+    give_ground(store, count, 0, 0)
+}
+
+/// What the rows of a bag become, of which a walk takes those inside it and as many as were counted since `before`.
+///
+/// # Errors
+///
+/// `NoMemory` where it would take more than 64 with itself.
+pub fn give_bag(
+    store: &mut Store,
+    count: &mut Plan,
+    width: u8,
+    inside: u8,
+    before: u32,
+) -> Result<u32, ShapeFault>
+    ensures is { (N : List Term) → Tells N store.new.cells.items count.new result (yields (Rattle.shape_law.specs.Shapes.Wide width) (tally_of count.old)) }
+    ensures grown { Grown store.old.cells.items store.new.cells.items }
+{
+    let walks = count.walks.saturating_add(inside as u32);
+    count.walks = before;
+    if walks >= WALKS {
+        return Err(ShapeFault::NoMemory);
+    }
+    give_ground(store, count, width, walks as u8)
 }
 
 /// What such a form makes of its part's shape.
@@ -198,7 +242,9 @@ pub fn give_part(
         Form::Unary(Unary::Snd, _) => give_second(store, count, a),
         Form::Inject(_, _, _, _) => give_side(store, count, a),
         Form::Bang(_, _) => give_bang(store, count, a),
-        _ => give_ground(store, count, 0),
+        Form::Unary(Unary::Size, _) => give_walk(store, count, a),
+        Form::Ranged(Ranged::Sum, _, _, _) => give_walk(store, count, a),
+        _ => give_ground(store, count, 0, 0),
     }
 }
 
@@ -219,7 +265,8 @@ pub fn give_union(
     if width > 64 {
         return Err(ShapeFault::TooWide { span, width });
     }
-    give_ground(store, count, width as u8)
+    let walks = store.walks(a).max(store.walks(b));
+    give_ground(store, count, width as u8, walks)
 }
 
 /// One turn more.

@@ -1,12 +1,14 @@
 //! What the run without data tells of a program.
 use fz_ast::Span;
 
-/// How deep, long and wide the runs of a program are: the deepest visit, the visits, and the tables in the widest bag.
+/// How deep, long and wide the runs of a program are: the deepest visit, the visits, and the tables in the widest bag; and how many walks
+/// of bags they take where each table has one row.
 #[derive(Clone, Copy, Debug, PartialEq, Eq)]
 pub struct Plan {
     pub depth: u32,
     pub turns: u32,
     pub width: u32,
+    pub walks: u32,
 }
 
 /// Why a program has no plan: the first limit that its run without data passes, and where.
@@ -18,6 +20,6 @@ pub enum ShapeFault {
     TooLong { span: Span },
     /// A union is more than 64 tables wide.
     TooWide { span: Span, width: u32 },
-    /// Memory ran out.
+    /// Memory ran out, or a walk of a bag takes more than 64 walks with itself.
     NoMemory,
 }

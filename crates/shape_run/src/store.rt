@@ -13,7 +13,8 @@ use std::alloc::Global;
 /// A shape, or a name with its shape before others. Numbers are those of cells, of a scope 0 or one more than its cell's.
 #[derive(Clone, Copy)]
 pub enum Cell {
-    Ground(u8),
+    /// How many tables wide it is, and how many walks the functions of its bags take for a row.
+    Ground(u8, u8),
     Pair(u32, u32),
     Bang(u32),
     /// The name, the number of the body's term, and the scope.
@@ -62,11 +63,11 @@ impl Store {
     }
 
     /// The shape of a ground value.
-    pub fn ground(&mut self, width: u8) -> Result<u32, NoMemory>
+    pub fn ground(&mut self, width: u8, walks: u8) -> Result<u32, NoMemory>
         ensures is { Adds self.new.cells.items result (λ N p. p ≡ Rattle.shape_law.specs.Shapes.Wide width) }
         ensures grown { Grown self.old.cells.items self.new.cells.items }
     {
-        self.push(Cell::Ground(width))
+        self.push(Cell::Ground(width, walks))
     }
 
     /// A function, with the number of its body's term.
@@ -104,7 +105,17 @@ impl Store {
         ensures { (N : List Term) (p : Shape) → IsShape N self.now.cells.items k p → result ≡ width_of p }
     {
         match self.cell(k) {
-            Cell::Ground(w) => w,
+            Cell::Ground(w, _) => w,
+            _ => 0,
+        }
+    }
+
+    /// How many walks the functions of a ground value's bags take for a row.
+    pub fn walks(&self, k: u32) -> u8
+        requires { HasShape self.now.cells.items k }
+    {
+        match self.cell(k) {
+            Cell::Ground(_, n) => n,
             _ => 0,
         }
     }
@@ -114,7 +125,7 @@ impl Store {
         ensures { (N : List Term) (p : Shape) → IsShape N self.now.cells.items k p → result ≡ is_wide p }
     {
         match self.cell(k) {
-            Cell::Ground(_) => true,
+            Cell::Ground(_, _) => true,
             _ => false,
         }
     }
@@ -137,7 +148,8 @@ impl Store {
     {
         if self.are_ground(a, b) {
             let width = self.width(a).max(self.width(b));
-            return self.ground(width);
+            let walks = self.walks(a).max(self.walks(b));
+            return self.ground(width, walks);
         }
         self.push(Cell::Pair(a, b))
     }
@@ -149,9 +161,9 @@ impl Store {
         ensures grown { Grown self.old.cells.items self.new.cells.items }
     {
         match self.cell(k) {
-            Cell::Ground(_) => Ok(k),
+            Cell::Ground(_, _) => Ok(k),
             Cell::Pair(a, _) => Ok(a),
-            _ => self.push(Cell::Ground(0)),
+            _ => self.push(Cell::Ground(0, 0)),
         }
     }
 
@@ -162,9 +174,9 @@ impl Store {
         ensures grown { Grown self.old.cells.items self.new.cells.items }
     {
         match self.cell(k) {
-            Cell::Ground(_) => Ok(k),
+            Cell::Ground(_, _) => Ok(k),
             Cell::Pair(_, b) => Ok(b),
-            _ => self.push(Cell::Ground(0)),
+            _ => self.push(Cell::Ground(0, 0)),
         }
     }
 
@@ -187,9 +199,9 @@ impl Store {
         ensures grown { Grown self.old.cells.items self.new.cells.items }
     {
         match self.cell(k) {
-            Cell::Ground(_) => Ok(k),
+            Cell::Ground(_, _) => Ok(k),
             Cell::Bang(a) => Ok(a),
-            _ => self.push(Cell::Ground(0)),
+            _ => self.push(Cell::Ground(0, 0)),
         }
     }
 
@@ -214,7 +226,8 @@ impl Store {
         ensures grown { Grown self.old.cells.items self.new.cells.items }
     {
         let width = self.width(side);
-        let Ok(k) = self.ground(width) else {
+        let walks = self.walks(side);
+        let Ok(k) = self.ground(width, walks) else {
             return Err(NoMemory);
         };
         self.bind(name, k, scope)

@@ -12,7 +12,8 @@ ghost use Rattle.shape_run.specs.Rules.{Scopes, StandsForShape, beside, combined
 ghost use Rattle.shape_run.specs.Tells.{Tells, tally_of};
 
 use crate::gives::{
-    give_ground, give_leaf, give_pair, give_part, give_union, give_wider, part_of, take_turn,
+    give_bag, give_ground, give_leaf, give_pair, give_part, give_union, give_wider, part_of,
+    take_turn,
 };
 use crate::plan::{Plan, ShapeFault};
 use crate::store::{Cell, Store};
@@ -197,7 +198,7 @@ fn enter(
             };
             visit_under(nodes, store, count, scope, name, held, body, left, here)
         }
-        _ => give_ground(store, count, 0),
+        _ => give_ground(store, count, 0, 0),
     }
 }
 
@@ -225,7 +226,7 @@ fn combine(
         Binary::Pair | Binary::With => give_pair(store, count, a, b),
         Binary::App => enter(nodes, store, count, a, b, left, here),
         Binary::Plus | Binary::Minus | Binary::AtMost | Binary::Equal => give_ground(
-            store, count, 0,
+            store, count, 0, 0,
         ),
         Binary::Union => give_union(store, count, span, a, b),
         Binary::Map | Binary::Filter | Binary::Split => {
@@ -253,11 +254,14 @@ fn over(
     ensures grown { Grown store.old.cells.items store.new.cells.items }
 {
     let width = store.width(b);
-    let Ok(element) = store.ground(0) else {
+    let inside = store.walks(b);
+    let Ok(element) = store.ground(0, 0) else {
         return Err(ShapeFault::NoMemory);
     };
+    let before = count.walks;
+    count.walks = 0;
     let _ = enter(nodes, store, count, c, element, left, here)?;
-    give_ground(store, count, width)
+    give_bag(store, count, width, inside, before)
 }
 
 // The shape of a term after its own turn. Its parts are at `here`.

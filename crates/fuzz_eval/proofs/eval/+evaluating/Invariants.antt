@@ -1,50 +1,69 @@
 use Rattle.std.proofs.Common.{◌+◌, ◌*◌, ◌≡◌}
-use Rattle.fz_ast.specs.TermNodes.{term_at}
-use Rattle.run_values.specs.Parts.{elements}
-use Rattle.fuzz_eval.specs.Loops.{Divided, Kept, Mapped, function_inside}
+use Rattle.std.specs.Prelude.{take}
+use Rattle.flow_values.specs.Views.{flow_of, steps_of}
+use Rattle.row_kernels.specs.Gathers.{gathered}
+use Rattle.row_kernels.specs.Flows.{IsFlatTotal}
+use Rattle.fuzz_eval.proofs.Walked.{AreAtWork, Remains}
 use Rattle.fuzz_eval.proofs.eval.+evaluating.Given as goal
 
+-- as many walks as are left, and then as high as a derivation may be
+
 abbrev pub decreases-eval : goal.decreases-eval
-decreases-eval l = 8 * l.left + 2
+decreases-eval l = 1099511627776 * l.walks + 8 * l.left + 2
 
 abbrev pub decreases-eval_two : goal.decreases-eval_two
-decreases-eval_two l = 8 * l.left + 7
+decreases-eval_two l = 1099511627776 * l.walks + 8 * l.left + 7
 
 abbrev pub decreases-eval_equal : goal.decreases-eval_equal
-decreases-eval_equal l = 8 * l.left + 3
+decreases-eval_equal l = 1099511627776 * l.walks + 8 * l.left + 3
 
 abbrev pub decreases-eval_pair : goal.decreases-eval_pair
-decreases-eval_pair l = 8 * l.left + 4
+decreases-eval_pair l = 1099511627776 * l.walks + 8 * l.left + 4
 
 abbrev pub decreases-eval_other : goal.decreases-eval_other
-decreases-eval_other l = 8 * l.left
+decreases-eval_other l = 1099511627776 * l.walks + 8 * l.left
 
 abbrev pub decreases-eval_under : goal.decreases-eval_under
-decreases-eval_under l = 8 * l.left + 3
+decreases-eval_under l = 1099511627776 * l.walks + 8 * l.left + 3
 
 abbrev pub decreases-apply : goal.decreases-apply
-decreases-apply l = 8 * l.left + 4
+decreases-apply l = 1099511627776 * l.walks + 8 * l.left + 4
 
 abbrev pub decreases-apply_to_element : goal.decreases-apply_to_element
-decreases-apply_to_element l = 8 * l.left + 4
-
-abbrev pub decreases-map : goal.decreases-map
-decreases-map l = 8 * l.left + 5
-
-abbrev pub decreases-filter : goal.decreases-filter
-decreases-filter l = 8 * l.left + 5
-
-abbrev pub decreases-split : goal.decreases-split
-decreases-split l = 8 * l.left + 5
+decreases-apply_to_element l = 1099511627776 * l.walks + 8 * l.left + 4
 
 abbrev pub decreases-combine : goal.decreases-combine
-decreases-combine l = 8 * l.left + 6
+decreases-combine l = 1099511627776 * l.walks + 8 * l.left + 6
 
-abbrev pub invariant-map-loop-i : goal.invariant-map-loop-i
-invariant-map-loop-i l = Mapped l.left l.c (elements l.b) l.i l.out.items × (function_inside l.body.arrow l.inner (term_at l.function.nodes.value.terms l.body.term) ≡ l.c)
+abbrev pub decreases-word : goal.decreases-word
+decreases-word l = 1099511627776 * l.walks + 2
 
-abbrev pub invariant-filter-loop-i : goal.invariant-filter-loop-i
-invariant-filter-loop-i l = Kept l.left l.c (elements l.b) l.i l.out.items × (function_inside l.body.arrow l.inner (term_at l.function.nodes.value.terms l.body.term) ≡ l.c)
+abbrev pub decreases-bounded : goal.decreases-bounded
+decreases-bounded l = 1099511627776 * l.walks + 2
 
-abbrev pub invariant-split-loop-i : goal.invariant-split-loop-i
-invariant-split-loop-i l = Divided l.left l.c (elements l.b) l.i l.kept.items l.others.items × (function_inside l.body.arrow l.inner (term_at l.function.nodes.value.terms l.body.term) ≡ l.c)
+abbrev pub decreases-tally : goal.decreases-tally
+decreases-tally l = 1099511627776 * l.walks + 1
+
+abbrev pub decreases-step : goal.decreases-step
+decreases-step l = 1099511627776 * l.walks + 68719476736
+
+abbrev pub decreases-pass : goal.decreases-pass
+decreases-pass l = 1099511627776 * l.walks + 68719476737
+
+abbrev pub decreases-walk_rows : goal.decreases-walk_rows
+decreases-walk_rows l = 1099511627776 * l.walks + 68719476738
+
+abbrev pub decreases-walk_branch : goal.decreases-walk_branch
+decreases-walk_branch l = 1099511627776 * l.walks + 68719476739
+
+abbrev pub decreases-walk : goal.decreases-walk
+decreases-walk l = 1099511627776 * l.walks + 68719476740
+
+abbrev pub invariant-pass-loop-i : goal.invariant-pass-loop-i
+invariant-pass-loop-i l = Remains l.fn.workers.items l.workers.items l.fn.x.means l.i l.at.means
+
+abbrev pub invariant-walk_rows-loop-i : goal.invariant-walk_rows-loop-i
+invariant-walk_rows-loop-i l = AreAtWork l.workers.items (steps_of l.branch.stages.items) × IsFlatTotal l.gather (steps_of l.branch.stages.items) l.branch.table.value l.i l.total
+
+abbrev pub invariant-walk-loop-i : goal.invariant-walk-loop-i
+invariant-walk-loop-i l = l.total ≡ gathered l.gather (flow_of (take l.i l.branches))

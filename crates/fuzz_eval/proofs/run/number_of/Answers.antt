@@ -14,4 +14,4 @@ pub returns : goal.returns
 returns c =
     let n = subst IsNum (same_value _ _ _ _ _ _ c.requires.has.does c.in_ok-value.ensures) refl in
     let t : to_z w64 (of_z w64 c.number.result) ≡ c.number.result = omega (arith, ints, c.number.type_inv) in
-    subst (λ (v : Value). MeansIn c.args.depth c.args.scope.now (term_at c.args.nodes.now.terms c.args.root) v) (n ∙ ap NumV (sym c.number.ensures ∙ sym t)) c.in_ok-value.ensures
+    subst (λ (v : Value). MeansIn c.args.depth c.args.scope.now.means (term_at c.args.nodes.now.terms c.args.root) v) (n ∙ ap NumV (sym c.number.ensures ∙ sym t)) c.in_ok-value.ensures

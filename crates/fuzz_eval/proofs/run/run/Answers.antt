@@ -10,7 +10,7 @@ pub number_of-requires-clause-has : goal.number_of-requires-clause-has
 number_of-requires-clause-has c =
     let h = c.in_ok-scope.ensures in let p = c.parts-root.ensures in
     let k = has_number c.args.checked.now.sig.now c.args.checked.now.term.now c.args.checked.now c.requires.checked h.signature p.limits c.args.tables.now c.requires.dataset c.args.plan.now c.requires.plan in
-    subst (λ (t : Term). HasNumber c.args.plan.now.depth c.in_ok-scope.scope t) (sym p.is) (subst (λ (γ : Env). HasNumber c.args.plan.now.depth γ c.args.checked.now.term.now) (sym h.scope) k)
+    subst (λ (t : Term). HasNumber c.args.plan.now.depth c.in_ok-scope.scope.means t) (sym p.is) (subst (λ (γ : Env). HasNumber c.args.plan.now.depth γ c.args.checked.now.term.now) (sym h.scope) k)
 
 pub returns-clause-value : goal.returns-clause-value
 returns-clause-value c = if_ok c.number_of.result _ _ c.number_of.ensures (λ z m. means_here _ _ _ _ _ z c.in_ok-scope.ensures.scope c.parts-root.ensures.is m)

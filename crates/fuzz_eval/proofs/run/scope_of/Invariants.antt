@@ -6,7 +6,7 @@ use Rattle.fuzz_eval.proofs.run.scope_of.Given as goal
 abbrev pub invariant-loop-i : goal.invariant-loop-i
 invariant-loop-i l = record {
   below : l.i ≤ length l.sig;
-  bound : l.scope ≡ rows_of (drop l.i l.sig) (drop l.i l.tables);
+  bound : l.scope.means ≡ rows_of (drop l.i l.sig) (drop l.i l.tables);
   signature : l.i < length l.sig → IsSignature l.sig;
 }
 

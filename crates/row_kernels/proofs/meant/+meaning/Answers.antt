@@ -17,7 +17,7 @@ use Rattle.row_kernels.proofs.meant.+meaning.Goals as goal
 pub lanes_of-returns-in-Var : goal.lanes_of-returns-in-Var
 lanes_of-returns-in-Var t c =
     let fs = c.args.frames.now in
-    let γ = c.args.outer.now in
+    let γ = c.args.outer.now.means in
     let n = c.args.len in
     let N = c.args.nodes.now in
     let here = term_at N.terms c.args.i in
@@ -27,7 +27,7 @@ lanes_of-returns-in-Var t c =
 pub lanes_of-returns-in-Unary : goal.lanes_of-returns-in-Unary
 lanes_of-returns-in-Unary t c =
     let fs = c.args.frames.now in
-    let γ = c.args.outer.now in
+    let γ = c.args.outer.now.means in
     let n = c.args.len in
     let N = c.args.nodes.now in
     let here = term_at N.terms c.args.i in
@@ -37,7 +37,7 @@ lanes_of-returns-in-Unary t c =
 pub lanes_of-returns-in-Binary : goal.lanes_of-returns-in-Binary
 lanes_of-returns-in-Binary t c =
     let fs = c.args.frames.now in
-    let γ = c.args.outer.now in
+    let γ = c.args.outer.now.means in
     let n = c.args.len in
     let N = c.args.nodes.now in
     let here = term_at N.terms c.args.i in
@@ -47,7 +47,7 @@ lanes_of-returns-in-Binary t c =
 pub lanes_of-returns-in-Let : goal.lanes_of-returns-in-Let
 lanes_of-returns-in-Let t c =
     let fs = c.args.frames.now in
-    let γ = c.args.outer.now in
+    let γ = c.args.outer.now.means in
     let n = c.args.len in
     let N = c.args.nodes.now in
     let here = term_at N.terms c.args.i in
@@ -57,7 +57,7 @@ lanes_of-returns-in-Let t c =
 pub lanes_of-returns-in-LetPair : goal.lanes_of-returns-in-LetPair
 lanes_of-returns-in-LetPair t c =
     let fs = c.args.frames.now in
-    let γ = c.args.outer.now in
+    let γ = c.args.outer.now.means in
     let n = c.args.len in
     let N = c.args.nodes.now in
     let here = term_at N.terms c.args.i in
@@ -67,7 +67,7 @@ lanes_of-returns-in-LetPair t c =
 pub lanes_of-returns-in-If : goal.lanes_of-returns-in-If
 lanes_of-returns-in-If t c =
     let fs = c.args.frames.now in
-    let γ = c.args.outer.now in
+    let γ = c.args.outer.now.means in
     let n = c.args.len in
     let N = c.args.nodes.now in
     let here = term_at N.terms c.args.i in
@@ -77,7 +77,7 @@ lanes_of-returns-in-If t c =
 pub lanes_of-returns-in-Times : goal.lanes_of-returns-in-Times
 lanes_of-returns-in-Times t c =
     let fs = c.args.frames.now in
-    let γ = c.args.outer.now in
+    let γ = c.args.outer.now.means in
     let n = c.args.len in
     let N = c.args.nodes.now in
     let here = term_at N.terms c.args.i in
@@ -87,7 +87,7 @@ lanes_of-returns-in-Times t c =
 pub lanes_of-returns-in-Clip : goal.lanes_of-returns-in-Clip
 lanes_of-returns-in-Clip t c =
     let fs = c.args.frames.now in
-    let γ = c.args.outer.now in
+    let γ = c.args.outer.now.means in
     let n = c.args.len in
     let N = c.args.nodes.now in
     let here = term_at N.terms c.args.i in
@@ -97,7 +97,7 @@ lanes_of-returns-in-Clip t c =
 pub lanes_of_let-lanes_of-requires-2 : goal.lanes_of_let-lanes_of-requires-2
 lanes_of_let-lanes_of-requires-2 t c =
     let n = c.args.len in
-    let bound : AreMeant c.args.frames.now c.args.outer.now (term_at c.args.nodes.now.terms c.args.e) n c.in-Some.bound = search rules in
+    let bound : AreMeant c.args.frames.now c.args.outer.now.means (term_at c.args.nodes.now.terms c.args.e) n c.in-Some.bound = search rules in
     (omega arith, (c.requires.b_known, subst (λ (fs : List Frame). AllLong n fs) (sym c.deref.ensures.value) (c.in_ok-inner.ensures.long n (bound.long, c.requires.long))))
 
 pub lanes_of_pair-lanes_of-requires-2 : goal.lanes_of_pair-lanes_of-requires-2
@@ -110,8 +110,8 @@ pub lanes_of_call-lanes_of-requires-2 : goal.lanes_of_call-lanes_of-requires-2
 lanes_of_call-lanes_of-requires-2 t c =
     let n = c.args.len in
     let f = c.in-Some.function.now in
-    let x : AreMeant c.args.frames.now c.args.outer.now (term_at c.args.nodes.now.terms c.in-Some-argument.e) n c.in-Some-2.x = search rules in
-    let called : IsCalled c.args.frames.now c.args.outer.now (term_at c.args.nodes.now.terms c.args.f) f = search rules in
+    let x : AreMeant c.args.frames.now c.args.outer.now.means (term_at c.args.nodes.now.terms c.in-Some-argument.e) n c.in-Some-2.x = search rules in
+    let called : IsCalled c.args.frames.now c.args.outer.now.means (term_at c.args.nodes.now.terms c.args.f) f = search rules in
     let k = subst (λ (g : Form). IsKnown (length c.deref.result.now.types) f.lambda g) c.in-Lambda.is c.node.ensures.known in
     let below : c.in-Lambda.body < length f.nodes.value.terms = omega (arith, k.1, called.known) in
     (omega arith, (subst (λ (N : Parts). c.in-Lambda.body < length N.terms) (sym c.deref-2.ensures) below, subst (λ (fs : List Frame). AllLong n fs) (sym c.deref-3.ensures.value) (c.in_ok-inner.ensures.long n (x.long, tt))))
@@ -119,7 +119,7 @@ lanes_of_call-lanes_of-requires-2 t c =
 pub lanes_of_call-returns : goal.lanes_of_call-returns
 lanes_of_call-returns t c =
     let fs = c.args.frames.now in
-    let γ = c.args.outer.now in
+    let γ = c.args.outer.now.means in
     let n = c.args.len in
     let N = c.args.nodes.now in
     let k = c.in-Some.function.now in
@@ -132,7 +132,7 @@ lanes_of_call-returns t c =
     let argument : IsArgument c.in-Lambda.arrow a e = search rules in
     let whole = ap (λ (P : Parts). term_at P.terms k.lambda) (sym c.deref.ensures) ∙ c.node.ensures.form in
     let named : AreSameNames inner (record { name = c.in-Lambda.name; lanes = c.in-Some-2.x } ∷ []) = subst (λ (gs : List Frame). AreSameNames gs (record { name = c.in-Lambda.name; lanes = c.in-Some-2.x } ∷ [])) (sym c.deref-3.ensures.value) c.in_ok-inner.ensures in
-    by_answer c.lanes_of-2.result (AreMeant inner k.scope (term_at c.deref-2.result.now.terms c.in-Lambda.body) n) (AreGiven fs γ (AppE (term_at N.terms c.args.f) a) n) c.lanes_of-2.ensures
+    by_answer c.lanes_of-2.result (AreMeant inner k.scope.means (term_at c.deref-2.result.now.terms c.in-Lambda.body) n) (AreGiven fs γ (AppE (term_at N.terms c.args.f) a) n) c.lanes_of-2.ensures
     (λ l h. call_given fs γ n (term_at N.terms c.args.f) a k (type_at D.types) (term_at D.terms) c.node.result.now.span c.in-Lambda.arrow c.in-Lambda.name c.in-Lambda.field-2 c.in-Lambda.field-3 c.in-Lambda.body
     (term_at k.nodes.value.terms k.lambda) c.node.result.now.form whole c.in-Lambda.is called.each e argument c.in-Some-2.x x inner named l
-    (subst (λ (P : Parts). AreMeant inner k.scope (term_at P.terms c.in-Lambda.body) n l) (c.deref-2.ensures ∙ sym c.deref.ensures) h))
+    (subst (λ (P : Parts). AreMeant inner k.scope.means (term_at P.terms c.in-Lambda.body) n l) (c.deref-2.ensures ∙ sym c.deref.ensures) h))

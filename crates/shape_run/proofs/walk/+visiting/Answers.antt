@@ -242,6 +242,9 @@ visit_parts-returns-in_err-a-clause-grown t c = search rules
 pub over-width-width-requires : goal.over-width-width-requires
 over-width-width-requires t c = (c.args.nodes.now.terms, c.requires.bag.0, c.requires.bag.1)
 
+pub over-walks-inside-requires : goal.over-walks-inside-requires
+over-walks-inside-requires t c = (c.args.nodes.now.terms, c.requires.bag.0, c.requires.bag.1)
+
 pub over-enter-requires : goal.over-enter-requires
 over-enter-requires t c =
     let f = c.requires.function in
@@ -258,11 +261,11 @@ over-returns-in_err-enter-clause-grown t c = grown_on c.args.store.now.cells.ite
 pub over-returns-clause-is : goal.over-returns-clause-is
 over-returns-clause-is t c = λ p q h k.
     let a = c.in_ok-enter.ensures.is p (Wide 0) (shape_kept c.args.nodes.now.terms c.args.store.now.cells.items c.ground.new.self.cells.items c.args.c p c.ground.ensures.grown h) (c.in-Ok.ensures.is c.args.nodes.now.terms (Wide 0) refl) in
-    to (Tells c.args.nodes.now.terms c.give_ground.new.store.cells.items c.give_ground.new.count c.give_ground.result) _ _
-    (over_then (walk c.args.left c.args.here) p q a.0 (tally_of c.args.count.now) (tally_of c.enter.new.count) a.2 ∙ ap (λ w. yields (Wide w) (tally_of c.enter.new.count)) (sym (c.width-width.ensures c.args.nodes.now.terms q k))) (c.give_ground.ensures.is c.args.nodes.now.terms)
+    to (Tells c.args.nodes.now.terms c.give_bag.new.store.cells.items c.give_bag.new.count c.give_bag.result) _ _
+    (over_then (walk c.args.left c.args.here) p q a.0 (tally_of c.args.count.now) (tally_of c.enter.new.count) a.2 ∙ ap (λ w. yields (Wide w) (tally_of c.enter.new.count)) (sym (c.width-width.ensures c.args.nodes.now.terms q k))) (c.give_bag.ensures.is c.args.nodes.now.terms)
 
 pub over-returns-clause-grown : goal.over-returns-clause-grown
-over-returns-clause-grown t c = grown_on c.args.store.now.cells.items c.ground.new.self.cells.items c.give_ground.new.store.cells.items c.ground.ensures.grown (grown_on c.ground.new.self.cells.items c.enter.new.store.cells.items c.give_ground.new.store.cells.items c.enter.ensures.grown c.give_ground.ensures.grown)
+over-returns-clause-grown t c = grown_on c.args.store.now.cells.items c.ground.new.self.cells.items c.give_bag.new.store.cells.items c.ground.ensures.grown (grown_on c.ground.new.self.cells.items c.enter.new.store.cells.items c.give_bag.new.store.cells.items c.enter.ensures.grown c.give_bag.ensures.grown)
 
 pub visit_parts-visit-requires : goal.visit_parts-visit-requires
 visit_parts-visit-requires t c =

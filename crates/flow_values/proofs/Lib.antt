@@ -1,0 +1,5 @@
+pub mod Computed
+pub mod Gone
+pub mod Branched
+pub mod Closures
+pub mod Examples

@@ -1,0 +1,114 @@
+-- What the code's values and scopes stand for.
+use Rattle.std.specs.Prelude.{◌≡◌, ◌<◌, ◌++◌, ℕ, suc, max, List, [], ◌∷◌, length, ⊤}
+use Rattle.fz_ast.specs.Names.{name_of, text_of}
+use Rattle.fz_ast.specs.TermNodes.{term_at}
+use Rattle.metric_values.specs.Values.{Flat, Value, NumV, TextV, UnitV, PairV, InlV, InrV, BangV, BagV, Env, Empty, Bind, truth, value_of}
+use Rattle.metric_values.specs.Cells.{cell_at, from_column, row_at}
+use Rattle.run_values.specs.Parts.{IsPair, first_in, second_in}
+use Rattle.run_values.specs.Views.{IsFunction, IsRowPart, IsTextCell, function_of, text_bytes}
+use Rattle.flow_values.specs.Held.{Held, HeldScope}
+use Rattle.flow_values.specs.Steps.{AllGo, Step, all_through}
+use Rattle.flow_values.specs.declared.value.Branch.{Branch}
+use Rattle.flow_values.specs.declared.value.Closure.{Closure}
+use Rattle.flow_values.specs.declared.value.Form.{Form}
+use Rattle.flow_values.specs.declared.value.Form.TheVariants.{Num, Text, Unit as One, Truth, Pair, Inl, Inr, Bang, Row, Cell, Bag, Fun}
+use Rattle.flow_values.specs.declared.value.Link.{Link}
+use Rattle.flow_values.specs.declared.value.Link.TheVariants.{End, More, Halves, Element, Opened}
+use Rattle.flow_values.specs.declared.value.Stage.{Stage}
+
+abbrev pub closure_value : Closure → Value
+closure_value c = function_of (term_at c.nodes.value.terms c.lambda) c.scope.means
+
+-- a closure's node is a function's
+pub record IsKnown (c : Closure) : Type 0 where
+  pub known : c.lambda < length c.nodes.value.terms
+  pub function : IsFunction (term_at c.nodes.value.terms c.lambda)
+
+abbrev pub step_of : Stage → Step
+step_of s = record { function = closure_value s.function.value; left = s.left; keeps = s.keeps }
+
+abbrev pub steps_of : List Stage → List Step
+steps_of [] = []
+steps_of (s ∷ ss) = step_of s ∷ steps_of ss
+
+-- the elements of all branches
+abbrev pub flow_of : List Branch → List Flat
+flow_of [] = []
+flow_of (b ∷ bs) = all_through (steps_of b.stages.items) b.table.value ++ flow_of bs
+
+abbrev pub AllKnown : List Stage → Type 0
+AllKnown [] = ⊤
+AllKnown (s ∷ ss) = IsKnown s.function.value × AllKnown ss
+
+-- for each row the functions of the stages give something
+abbrev pub IsFlow : List Branch → Type 0
+IsFlow [] = ⊤
+IsFlow (b ∷ bs) = AllKnown b.stages.items × AllGo (steps_of b.stages.items) b.table.value × IsFlow bs
+
+abbrev pub stages_deep : List Stage → ℕ
+stages_deep [] = 0
+stages_deep (s ∷ ss) = max s.function.value.scope.deep (stages_deep ss)
+
+abbrev pub branches_deep : List Branch → ℕ
+branches_deep [] = 0
+branches_deep (b ∷ bs) = max (stages_deep b.stages.items) (branches_deep bs)
+
+-- without anything inside that is deep
+abbrev pub flat_held : Value → Held
+flat_held v = record { means = v; deep = 0 }
+
+abbrev pub form_view : Form → Held
+form_view (Num z) = flat_held (NumV z)
+form_view (Text s) = flat_held (TextV (text_of s.value))
+form_view One = flat_held UnitV
+form_view (Truth b) = flat_held (truth b)
+form_view (Pair p) = record { means = PairV p.value.first.means p.value.second.means; deep = suc (max p.value.first.deep p.value.second.deep) }
+form_view (Inl p) = record { means = InlV p.value.means; deep = suc p.value.deep }
+form_view (Inr p) = record { means = InrV p.value.means; deep = suc p.value.deep }
+form_view (Bang p) = record { means = BangV p.value.means; deep = suc p.value.deep }
+form_view (Row k i t) = flat_held (PairV (value_of (cell_at k (row_at t.value i))) (value_of (from_column (suc k) (row_at t.value i))))
+form_view (Cell k i t) = flat_held (TextV (text_bytes (cell_at k (row_at t.value i))))
+form_view (Bag p) = record { means = BagV (flow_of p.value.branches.items); deep = suc (branches_deep p.value.branches.items) }
+form_view (Fun p) = record { means = closure_value p.value; deep = suc p.value.scope.deep }
+
+-- parts of tables are there, a closure's node is a function, and a bag can be walked
+abbrev pub IsValueForm : Form → Type 0
+IsValueForm (Row k i t) = IsRowPart t.value i k
+IsValueForm (Cell k i t) = IsTextCell t.value i k
+IsValueForm (Bag p) = IsFlow p.value.branches.items
+IsValueForm (Fun p) = IsKnown p.value
+IsValueForm form = ⊤
+
+-- a name is two deeper than what it stands for and the names outside, so that two names are deeper than the pair of what they stand for
+abbrev pub scope_deep : ℕ → ℕ → ℕ
+scope_deep v s = suc (suc (max v s))
+
+abbrev pub link_view : Link → HeldScope
+link_view End = record { means = Empty; deep = 0 }
+link_view (More p) =
+    record { means = Bind (name_of p.value.name) p.value.value.means p.value.outer.means; deep = scope_deep p.value.value.deep p.value.outer.deep }
+link_view (Halves p) =
+    record {
+      means = Bind (name_of p.value.second) (second_in p.value.pair.means) (Bind (name_of p.value.first) (first_in p.value.pair.means) p.value.outer.means);
+      deep = scope_deep p.value.pair.deep p.value.outer.deep;
+    }
+link_view (Element p) =
+    record { means = Bind (name_of p.value.name) p.value.value.means p.value.outer.means; deep = scope_deep p.value.value.deep p.value.outer.deep }
+link_view (Opened p) =
+    record {
+      means =
+          Bind (name_of p.value.second) (second_in p.value.value.means)
+          (Bind (name_of p.value.first) (first_in p.value.value.means) (Bind (name_of p.value.name) p.value.value.means p.value.outer.means));
+      deep = scope_deep p.value.value.deep p.value.outer.deep;
+    }
+
+-- two names are for the halves of a pair
+abbrev pub IsScopeLink : Link → Type 0
+IsScopeLink (Halves p) = IsPair p.value.pair.means
+IsScopeLink (Opened p) = IsPair p.value.value.means
+IsScopeLink link = ⊤
+
+-- the value is this function
+pub record IsClosureAt (c : Closure) (v : Value) : Type 0 where
+  pub is : v ≡ closure_value c
+  pub known : IsKnown c

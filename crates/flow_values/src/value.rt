@@ -1,0 +1,656 @@
+//! Values are shared by counted references, and never lead back to themselves.
+ghost use Rattle.std.specs.Prelude.{◌≡◌, ◌<◌, ◌++◌, ◌∷◌, [], bytes_eq, length, IfOk, IfSome, IsNone, IsTrue};
+ghost use Rattle.fz_ast.specs.Names.{text_of};
+ghost use Rattle.fz_ast.specs.TermNodes.{term_at};
+ghost use Rattle.metric_values.specs.Values.{NumV, TextV, UnitV, PairV, InlV, InrV, BangV, BagV, truth, value_of};
+ghost use Rattle.metric_values.specs.Cells.{cell_at, columns_in, from_column, row_at};
+ghost use Rattle.run_values.specs.Founds.{plain_in, plain_of};
+ghost use Rattle.run_values.specs.Parts.{IsBag, IsBangValue, IsClosure, IsNum, IsPair, IsSum, IsTextValue, banged_in, elements, first_in, number_in};
+ghost use Rattle.run_values.specs.Parts.{number_or_none, second_in, side_in, text_in};
+ghost use Rattle.run_values.specs.Views.{IsFunction, IsTextCell, function_of, text_bytes};
+ghost use Rattle.flow_values.specs.Steps.{AllGo, all_through};
+ghost use Rattle.flow_values.specs.Views.{IsClosureAt, IsFlow, IsKnown, closure_value, flow_of};
+
+use crate::plain::{last_plain, plain_at};
+use crate::stages::{all_staged, one_branch, put_all};
+use fz_ast::{Name, NoMemory, Nodes, Text};
+use metric_values::{Cell, Table};
+use run_values::Plain;
+use std::alloc::Global;
+use std::marker::Model;
+use std::rc::Rc;
+
+/// A value. A contract sees the definition's, and how deep it is held.
+#[cycle(value)]
+#[derive(Drop)]
+pub struct Value {
+    form: Form,
+}
+
+#[cycle(value)]
+#[derive(Drop)]
+pub enum Form {
+    Num(i64),
+    Text(Rc<Text>),
+    Unit,
+    /// `inl ()` or `inr ()`
+    Truth(bool),
+    Pair(Rc<Both>),
+    Inl(Rc<Value>),
+    Inr(Rc<Value>),
+    Bang(Rc<Value>),
+    /// A row of a table from a column on, which isn't the last: column, row.
+    Row(u16, u32, Rc<Table>),
+    /// A text of a table: column, row.
+    Cell(u16, u32, Rc<Table>),
+    /// A bag, whose elements are made where it is walked.
+    Bag(Rc<Flow>),
+    Fun(Rc<Closure>),
+}
+
+/// Two values.
+#[cycle(value)]
+#[derive(Drop)]
+pub struct Both {
+    pub first: Value,
+    pub second: Value,
+}
+
+/// The node of a function, and what its names stand for.
+#[cycle(value)]
+#[derive(Drop)]
+pub struct Closure {
+    pub nodes: Rc<Nodes>,
+    pub lambda: u32,
+    pub scope: Scope,
+}
+
+/// A bag: the elements of each branch.
+#[cycle(value)]
+#[derive(Drop)]
+pub struct Flow {
+    pub branches: Vec<Branch>,
+}
+
+/// A table, and the stages that its rows pass, the first one first.
+#[cycle(value)]
+#[derive(Drop)]
+pub struct Branch {
+    pub table: Rc<Table>,
+    pub stages: Vec<Stage>,
+}
+
+/// A function, the height within which its body has values, and whether it gives elements, or tells which are kept: those for which it
+/// says this truth.
+#[cycle(value)]
+#[derive(Drop)]
+pub struct Stage {
+    pub function: Rc<Closure>,
+    pub left: u32,
+    pub keeps: Option<bool>,
+}
+
+/// Names and what they stand for, the innermost first. A contract sees the definition's environment, and how deep it is held.
+#[cycle(value)]
+pub struct Scope {
+    pub(crate) link: Link,
+}
+
+#[cycle(value)]
+#[derive(Drop)]
+pub enum Link {
+    End,
+    More(Rc<Frame>),
+    /// Two names for the halves of a pair.
+    Halves(Rc<Halves>),
+    /// One name, for an element of a bag.
+    Element(Rc<Element>),
+    /// The same, and inside it the two names for its halves.
+    Opened(Rc<Element>),
+}
+
+#[cycle(value)]
+#[derive(Drop)]
+pub struct Frame {
+    pub name: Name,
+    pub value: Value,
+    pub outer: Scope,
+}
+
+/// Two names, the second one innermost, and the pair whose halves they stand for. A half is made when its name is looked up.
+#[cycle(value)]
+#[derive(Drop)]
+pub struct Halves {
+    pub first: Name,
+    pub second: Name,
+    pub pair: Value,
+    pub outer: Scope,
+}
+
+/// A name, what it stands for, and the names that the halves of that get where it is taken apart.
+#[cycle(value)]
+#[derive(Drop)]
+pub struct Element {
+    pub name: Name,
+    pub first: Name,
+    pub second: Name,
+    pub value: Value,
+    pub outer: Scope,
+}
+
+impl Model for Value {
+    ghost use Rattle.flow_values.specs.Held.{Held};
+    ghost use Rattle.flow_values.specs.Codes.{held_code};
+
+    ghost Value = { Held };
+
+    ghost coded = { held_code };
+
+    ghost use Rattle.flow_values.specs.Views.{form_view, IsValueForm};
+
+    ghost view = { λ a. form_view a.form };
+
+    ghost invariant = { λ a. IsValueForm a.form };
+
+    ghost size = { λ h. h.deep };
+
+    ghost use Rattle.flow_values.specs.Falls.{form_falls};
+
+    ghost size_decreases = { λ a h. form_falls a.form };
+}
+
+impl Model for Scope {
+    ghost use Rattle.flow_values.specs.Held.{HeldScope};
+    ghost use Rattle.flow_values.specs.Codes.{scope_code};
+
+    ghost Value = { HeldScope };
+
+    ghost coded = { scope_code };
+
+    ghost use Rattle.flow_values.specs.Views.{link_view, IsScopeLink};
+
+    ghost view = { λ a. link_view a.link };
+
+    ghost invariant = { λ a. IsScopeLink a.link };
+
+    ghost size = { λ s. s.deep };
+
+    ghost use Rattle.std.proofs.Common.{arith};
+
+    ghost size_decreases = { λ a h. Prim.grind (arith) };
+}
+
+impl Drop for Scope {
+    // By a loop, so that long scopes take no stack.
+    #[cycle(value)]
+    fn drop(mut self) {
+        loop {
+            let Scope { link } = self;
+            match link {
+                Link::End => return,
+                Link::More(rc) => {
+                    let Some(frame) = Rc::into_inner(rc) else {
+                        return
+                    };
+                    drop(frame.value);
+                    self = frame.outer;
+                }
+                Link::Halves(rc) => {
+                    let Some(halves) = Rc::into_inner(rc) else {
+                        return
+                    };
+                    drop(halves.pair);
+                    self = halves.outer;
+                }
+                Link::Element(rc) | Link::Opened(rc) => {
+                    let Some(element) = Rc::into_inner(rc) else {
+                        return
+                    };
+                    drop(element.value);
+                    self = element.outer;
+                }
+            }
+        }
+    }
+}
+
+// A value in a place of its own.
+fn shared(alloc: Global, value: Value) -> Result<Rc<Value>, NoMemory>
+    ensures { IfOk result (λ rc. rc.value ≡ value) }
+{
+    match Rc::new(alloc, value) {
+        Ok(rc) => Ok(rc),
+        Err(_) => Err(NoMemory),
+    }
+}
+
+// The cell of a row and a column.
+fn cell(table: &Rc<Table>, i: u32, k: u16) -> Result<Value, NoMemory>
+    requires row { i < length table.now.value }
+    requires column { k < columns_in (row_at table.now.value i) }
+    ensures { IfOk result (λ v. v.means ≡ value_of (cell_at k (row_at table.now.value i))) }
+{
+    match table.cell(i, k as usize) {
+        Cell::Number(z) => Ok(Value::num(z)),
+        Cell::Text(_) => Ok(Value {
+            form: Form::Cell(k, i, table.clone()?),
+        }),
+    }
+}
+
+// The bytes of a text of a table.
+fn bytes_at(table: &Rc<Table>, i: u32, k: u16) -> &[u8]
+    requires { IsTextCell table.now.value i k }
+    ensures { result.now ≡ text_bytes (cell_at k (row_at table.now.value i)) }
+{
+    match table.cell(i, k as usize) {
+        Cell::Text(bytes) => bytes,
+        Cell::Number(_) => unreachable!(),
+    }
+}
+
+// What stands in a row from a column on.
+fn part(table: &Rc<Table>, i: usize, k: usize) -> Result<Value, NoMemory>
+    requires row { i < length table.now.value }
+    requires column { k < columns_in (row_at table.now.value i) }
+    ensures { IfOk result (λ v. v.means ≡ value_of (from_column k (row_at table.now.value i))) }
+{
+    let width = table.width();
+    if k + 1 == width {
+        return cell(table, i as u32, k as u16);
+    }
+    Ok(Value {
+        form: Form::Row(k as u16, i as u32, table.clone()?),
+    })
+}
+
+impl Value {
+    pub fn num(z: i64) -> Value
+        ensures { result.means ≡ NumV z }
+    {
+        Value { form: Form::Num(z) }
+    }
+
+    pub fn unit() -> Value
+        ensures { result.means ≡ UnitV }
+    {
+        Value { form: Form::Unit }
+    }
+
+    pub fn truth(b: bool) -> Value
+        ensures { result.means ≡ truth b }
+    {
+        Value {
+            form: Form::Truth(b),
+        }
+    }
+
+    pub fn text(alloc: Global, text: Text) -> Result<Value, NoMemory>
+        ensures { IfOk result (λ v. v.means ≡ TextV (text_of text)) }
+    {
+        match Rc::new(alloc, text) {
+            Ok(rc) => Ok(Value {
+                form: Form::Text(rc),
+            }),
+            Err(_) => Err(NoMemory),
+        }
+    }
+
+    pub fn pair(alloc: Global, first: Value, second: Value) -> Result<Value, NoMemory>
+        ensures { IfOk result (λ v. v.means ≡ PairV first.means second.means) }
+    {
+        match Rc::new(alloc, Both { first, second }) {
+            Ok(rc) => Ok(Value {
+                form: Form::Pair(rc),
+            }),
+            Err(_) => Err(NoMemory),
+        }
+    }
+
+    pub fn inl(alloc: Global, value: Value) -> Result<Value, NoMemory>
+        ensures { IfOk result (λ v. v.means ≡ InlV value.means) }
+    {
+        let rc = shared(alloc, value)?;
+        Ok(Value {
+            form: Form::Inl(rc),
+        })
+    }
+
+    pub fn inr(alloc: Global, value: Value) -> Result<Value, NoMemory>
+        ensures { IfOk result (λ v. v.means ≡ InrV value.means) }
+    {
+        let rc = shared(alloc, value)?;
+        Ok(Value {
+            form: Form::Inr(rc),
+        })
+    }
+
+    pub fn bang(alloc: Global, value: Value) -> Result<Value, NoMemory>
+        ensures { IfOk result (λ v. v.means ≡ BangV value.means) }
+    {
+        let rc = shared(alloc, value)?;
+        Ok(Value {
+            form: Form::Bang(rc),
+        })
+    }
+
+    /// The bag of these branches' elements.
+    pub(crate) fn bag(alloc: Global, branches: Vec<Branch>) -> Result<Value, NoMemory>
+        requires { IsFlow branches.items }
+        ensures { IfOk result (λ v. v.means ≡ BagV (flow_of branches.items)) }
+    {
+        match Rc::new(alloc, Flow { branches }) {
+            Ok(rc) => Ok(Value {
+                form: Form::Bag(rc),
+            }),
+            Err(_) => Err(NoMemory),
+        }
+    }
+
+    /// The bag with no elements.
+    pub fn no_elements(alloc: Global) -> Result<Value, NoMemory>
+        ensures { IfOk result (λ v. v.means ≡ BagV []) }
+    {
+        Value::bag(alloc, Vec::new(alloc))
+    }
+
+    /// The bag of a table's rows.
+    pub fn table(alloc: Global, table: &Table) -> Result<Value, NoMemory>
+        ensures { IfOk result (λ v. v.means ≡ BagV table.now) }
+    {
+        match Rc::new(alloc, table.copy()?) {
+            Ok(rc) => Value::bag(alloc, one_branch(alloc, rc)?),
+            Err(_) => Err(NoMemory),
+        }
+    }
+
+    /// The bag of what a function gives for the elements, or of those for which it says a truth.
+    pub fn staged(
+        &self,
+        alloc: Global,
+        function: &Value,
+        left: u32,
+        keeps: Option<bool>,
+    ) -> Result<Value, NoMemory>
+        requires bag { IsBag self.now.means }
+        requires function { IsClosure function.now.means }
+        requires goes { AllGo (record { function = function.now.means; left = left; keeps = keeps } ∷ []) (elements self.now.means) }
+        ensures { IfOk result
+            (λ v. v.means ≡ BagV (all_through (record { function = function.now.means; left = left; keeps = keeps } ∷ []) (elements self.now.means))) }
+    {
+        let closure = function.shared_function();
+        let branches = all_staged(alloc, &self.flow().branches, closure, left, keeps)?;
+        Value::bag(alloc, branches)
+    }
+
+    /// The elements of both bags.
+    pub fn union(&self, alloc: Global, other: &Value) -> Result<Value, NoMemory>
+        requires bag { IsBag self.now.means }
+        requires other_bag { IsBag other.now.means }
+        ensures { IfOk result (λ v. v.means ≡ BagV (elements self.now.means ++ elements other.now.means)) }
+    {
+        let mut branches = Vec::new(alloc);
+        put_all(alloc, &mut branches, &self.flow().branches)?;
+        put_all(alloc, &mut branches, &other.flow().branches)?;
+        Value::bag(alloc, branches)
+    }
+
+    /// The function at a node, with what its names stand for.
+    pub fn closure(
+        alloc: Global,
+        nodes: Rc<Nodes>,
+        lambda: u32,
+        scope: Scope,
+    ) -> Result<Value, NoMemory>
+        requires known { lambda < length nodes.value.terms }
+        requires function { IsFunction (term_at nodes.value.terms lambda) }
+        ensures { IfOk result (λ v. v.means ≡ function_of (term_at nodes.value.terms lambda) scope.means) }
+    {
+        match Rc::new(
+            alloc,
+            Closure {
+                nodes,
+                lambda,
+                scope,
+            },
+        ) {
+            Ok(rc) => Ok(Value {
+                form: Form::Fun(rc),
+            }),
+            Err(_) => Err(NoMemory),
+        }
+    }
+
+    /// An equal value, which shares what this one has inside.
+    pub fn copy(&self) -> Result<Value, NoMemory>
+        ensures { IfOk result (λ v. v ≡ self.now) }
+    {
+        let form = match &self.form {
+            Form::Num(z) => Form::Num(*z),
+            Form::Text(rc) => Form::Text(rc.clone()?),
+            Form::Unit => Form::Unit,
+            Form::Truth(b) => Form::Truth(*b),
+            Form::Pair(rc) => Form::Pair(rc.clone()?),
+            Form::Inl(rc) => Form::Inl(rc.clone()?),
+            Form::Inr(rc) => Form::Inr(rc.clone()?),
+            Form::Bang(rc) => Form::Bang(rc.clone()?),
+            Form::Row(k, i, rc) => Form::Row(*k, *i, rc.clone()?),
+            Form::Cell(k, i, rc) => Form::Cell(*k, *i, rc.clone()?),
+            Form::Bag(rc) => Form::Bag(rc.clone()?),
+            Form::Fun(rc) => Form::Fun(rc.clone()?),
+        };
+        Ok(Value { form })
+    }
+
+    /// The number.
+    pub fn number(&self) -> i64
+        requires { IsNum self.now.means }
+        ensures { result ≡ number_in self.now.means }
+    {
+        match &self.form {
+            Form::Num(z) => *z,
+            _ => unreachable!(),
+        }
+    }
+
+    // The bytes of a text.
+    fn bytes(&self) -> &[u8]
+        requires { IsTextValue self.now.means }
+        ensures { result.now ≡ text_in self.now.means }
+    {
+        match &self.form {
+            Form::Text(text) => text.as_bytes(),
+            Form::Cell(k, i, rc) => bytes_at(rc, *i, *k),
+            _ => unreachable!(),
+        }
+    }
+
+    /// Whether two texts have the same bytes.
+    pub fn same_text(&self, other: &Value) -> bool
+        requires text { IsTextValue self.now.means }
+        requires other_text { IsTextValue other.now.means }
+        ensures { result ≡ bytes_eq (text_in self.now.means) (text_in other.now.means) }
+    {
+        self.bytes() == other.bytes()
+    }
+
+    /// The first half of a pair.
+    pub fn first(&self) -> Result<Value, NoMemory>
+        requires { IsPair self.now.means }
+        ensures { IfOk result (λ v. v.means ≡ first_in self.now.means) }
+    {
+        match &self.form {
+            Form::Pair(rc) => rc.first.copy(),
+            Form::Row(k, i, rc) => cell(rc, *i, *k),
+            _ => unreachable!(),
+        }
+    }
+
+    /// The second half of a pair.
+    pub fn second(&self) -> Result<Value, NoMemory>
+        requires { IsPair self.now.means }
+        ensures { IfOk result (λ v. v.means ≡ second_in self.now.means) }
+    {
+        match &self.form {
+            Form::Pair(rc) => rc.second.copy(),
+            Form::Row(k, i, rc) => part(rc, *i as usize, *k as usize + 1),
+            _ => unreachable!(),
+        }
+    }
+
+    /// What a bang holds.
+    pub fn banged(&self) -> Result<Value, NoMemory>
+        requires { IsBangValue self.now.means }
+        ensures { IfOk result (λ v. v.means ≡ banged_in self.now.means) }
+    {
+        match &self.form {
+            Form::Bang(rc) => rc.copy(),
+            _ => unreachable!(),
+        }
+    }
+
+    /// Whether an injection is the left one.
+    pub fn is_left(&self) -> bool
+        requires { IsSum self.now.means }
+        ensures left { IsTrue result → self.now.means ≡ InlV (side_in self.now.means) }
+        ensures right { (IsTrue result → ⊥) → self.now.means ≡ InrV (side_in self.now.means) }
+    {
+        match &self.form {
+            Form::Truth(b) => *b,
+            Form::Inl(_) => true,
+            Form::Inr(_) => false,
+            _ => unreachable!(),
+        }
+    }
+
+    /// What an injection holds.
+    pub fn side(&self) -> Result<Value, NoMemory>
+        requires { IsSum self.now.means }
+        ensures { IfOk result (λ v. v.means ≡ side_in self.now.means) }
+    {
+        match &self.form {
+            Form::Truth(_) => Ok(Value::unit()),
+            Form::Inl(rc) | Form::Inr(rc) => rc.copy(),
+            _ => unreachable!(),
+        }
+    }
+
+    /// A bag's branches.
+    pub fn flow(&self) -> &Flow
+        requires { IsBag self.now.means }
+        ensures is { self.now.means ≡ BagV (flow_of result.now.branches.items) }
+        ensures walked { IsFlow result.now.branches.items }
+    {
+        match &self.form {
+            Form::Bag(rc) => rc,
+            _ => unreachable!(),
+        }
+    }
+}
+
+impl Value {
+    /// A row of a table.
+    pub fn row(table: &Rc<Table>, i: usize) -> Result<Value, NoMemory>
+        requires { i < length table.now.value }
+        ensures { IfOk result (λ v. v.means ≡ value_of (row_at table.now.value i)) }
+    {
+        part(table, i, 0)
+    }
+}
+
+impl Value {
+    // A function in its place.
+    fn shared_function(&self) -> &Rc<Closure>
+        requires { IsClosure self.now.means }
+        ensures is { self.now.means ≡ closure_value result.now.value }
+        ensures known { IsKnown result.now.value }
+    {
+        match &self.form {
+            Form::Fun(rc) => rc,
+            _ => unreachable!(),
+        }
+    }
+
+    /// The node of a function, and what its names stand for.
+    pub fn function(&self) -> &Closure
+        requires { IsClosure self.now.means }
+        ensures is { self.now.means ≡ closure_value result.now }
+        ensures known { IsKnown result.now }
+    {
+        match &self.form {
+            Form::Fun(rc) => rc,
+            _ => unreachable!(),
+        }
+    }
+
+    /// Whether this is a function.
+    pub fn is_function(&self) -> bool
+        ensures yes { IsTrue result → IsClosure self.now.means }
+        ensures no { (IsTrue result → ⊥) → IsClosure self.now.means → ⊥ }
+    {
+        matches!(&self.form, Form::Fun(_))
+    }
+
+    /// The number, if this is one.
+    pub fn as_number(&self) -> Option<i64>
+        ensures { result ≡ number_or_none self.now.means }
+    {
+        match &self.form {
+            Form::Num(z) => Some(*z),
+            _ => None,
+        }
+    }
+
+    /// The node of a function, and what its names stand for, if this is one.
+    pub(crate) fn as_function(&self) -> Option<&Closure>
+        ensures { IfSome result (λ c. IsClosureAt c.now self.now.means) }
+    {
+        match &self.form {
+            Form::Fun(rc) => Some(rc),
+            _ => None,
+        }
+    }
+
+    /// Whether this is a pair.
+    pub(crate) fn is_pair(&self) -> bool
+        ensures { IsTrue result → IsPair self.now.means }
+    {
+        matches!(&self.form, Form::Pair(_) | Form::Row(_, _, _))
+    }
+
+    /// The number or text that this is.
+    pub fn plain(&self) -> Plain<'_>
+        ensures { plain_of result ≡ plain_in self.now.means }
+    {
+        match &self.form {
+            Form::Num(z) => Plain::Num(*z),
+            Form::Text(text) => Plain::Text(text.as_bytes()),
+            Form::Cell(k, i, rc) => Plain::Text(bytes_at(rc, *i, *k)),
+            _ => Plain::Other,
+        }
+    }
+
+    // The number or text that a pair's first half is.
+    pub(crate) fn first_plain(&self) -> Plain<'_>
+        requires { IsPair self.now.means }
+        ensures { plain_of result ≡ plain_in (first_in self.now.means) }
+    {
+        match &self.form {
+            Form::Pair(rc) => rc.first.plain(),
+            Form::Row(k, i, rc) => plain_at(rc, *i, *k as usize),
+            _ => unreachable!(),
+        }
+    }
+
+    // The number or text that a pair's second half is.
+    pub(crate) fn second_plain(&self) -> Plain<'_>
+        requires { IsPair self.now.means }
+        ensures { plain_of result ≡ plain_in (second_in self.now.means) }
+    {
+        match &self.form {
+            Form::Pair(rc) => rc.second.plain(),
+            Form::Row(k, i, rc) => last_plain(rc, *i, *k as usize + 1),
+            _ => unreachable!(),
+        }
+    }
+}
