@@ -3,14 +3,15 @@ use Rattle.std.proofs.Common.{◌≡◌, ℕ, zero, suc, List, [], ◌∷◌, �
 use Rattle.std.specs.Prelude.{Result, Ok, Err, codes, pos, ok_or}
 use Rattle.fz_ast.specs.declared.row.Column.TheVariants.{Num}
 use Rattle.owner_catalog.specs.Catalog.{OwnerEntry, TableEntry, Catalog, owner_signature}
-use Rattle.query_server.specs.Work.{usage, Work, to_answer, to_make, to_count, to_check, to_compare}
+use Rattle.query_server.specs.Work.{usage, Work, to_answer, to_make, to_count, to_check, to_compare, to_grant}
 use Rattle.catalog_loading.specs.Files.{ReadsToCome, always, readable, Contents}
 use Rattle.catalog_loading.specs.Steps.{StepOutcome, ◌>>=◌, behind, one_by_one, file_read, FileStep, continued}
-use Rattle.catalog_loading.specs.Loaded.{LoadedTable, LoadedOwner, Loading, key_read, catalog_read, table_read, owner_read, loaded, with_house}
+use Rattle.catalog_loading.specs.Loaded.{KeyedOwner, LoadedTable, LoadedOwner, Loading, key_read, catalog_read, table_read, owner_read, loaded, with_house}
 use Rattle.query_server.specs.Run.{run_steps}
 use Rattle.query_server.specs.Init.{init_steps}
 use Rattle.query_server.specs.Audit.{audit_steps}
 use Rattle.query_server.specs.Check.{check_steps}
+use Rattle.query_server.specs.Grant.{grant_steps}
 use Rattle.query_server.specs.Gap.{gap_steps}
 use Rattle.query_server.specs.Due.{files_of, command_steps}
 use Rattle.metric_values.specs.Values.{Flat, NumF}
@@ -253,6 +254,30 @@ gap_whole held has has_second first other third file =
     (goes_on _ _ held _ _ _ _ (goes_on _ _ held _ _ _ _ (all_loaded held first other) refl)
     (goes_on _ _ held _ _ _ _ (goes_on _ _ held _ _ _ _ (all_of_second held third) refl)
     (goes_on _ _ held _ _ _ _ (program_read held (Some (codes "1")) file) refl))))))
+
+-- `grant`: CATALOG, OWNER, KEY, that owner's tables alone
+grant_catalog : (held : Contents) → Comes (catalog_read cat) held (Err cat) (cat ∷ []) → Comes (grant_steps cat key nobody 5) held (Err cat) (cat ∷ [])
+grant_catalog held none = stops _ _ held _ _ none
+
+grant_owner : (held : Contents) → HasCatalog held → Comes (grant_steps cat key nobody 5) held (Err nobody) (cat ∷ [])
+grant_owner held has = goes_on _ _ held _ _ _ _ has (stops _ _ held _ _ refl)
+
+grant_key : (held : Contents) → HasCatalog held → Comes (key_read key) held (Err key) (key ∷ []) → Comes (grant_steps cat key b 5) held (Err key) (cat ∷ key ∷ [])
+grant_key held has none = goes_on _ _ held _ _ _ _ has (goes_on _ _ held _ _ _ _ refl (stops _ _ held _ _ none))
+
+grant_table : (held : Contents) (bytes : List ℕ) → HasCatalog held → Comes (key_read key) held (Ok bytes) (key ∷ []) → HasNone held (csv b)
+    → Comes (grant_steps cat key b 5) held (Err (csv b)) (cat ∷ key ∷ (csv b) ∷ [])
+grant_table held bytes has has_key none =
+    goes_on _ _ held _ _ _ _ has (goes_on _ _ held _ _ _ _ refl (goes_on _ _ held _ _ _ _ has_key (stops _ _ held _ _ (unheld_by held b (csv b) none))))
+
+-- the second of two owners
+abbrev second_keyed : (key : List ℕ) → KeyedOwner
+second_keyed key = record { catalog = both; number = 1; hashes = hash ∷ []; key = key }
+
+grant_whole : (held : Contents) (bytes : List ℕ) → HasCatalog held → Comes (key_read key) held (Ok bytes) (key ∷ []) → HasRows held (csv b)
+    → Comes (grant_steps cat key b 5) held (Ok (to_grant 5 (second_keyed bytes))) (cat ∷ key ∷ (csv b) ∷ [])
+grant_whole held bytes has has_key rows =
+    goes_on _ _ held _ _ _ _ has (goes_on _ _ held _ _ _ _ refl (goes_on _ _ held _ _ _ _ has_key (goes_on _ _ held _ _ _ _ (held_by held b (csv b) rows) refl)))
 
 -- faulty words read nothing, and the names of the others are those of their steps
 no_words : (held : Contents) → Comes (command_steps None) held (Ok usage) []

@@ -32,4 +32,5 @@ pub mod Examples
 pub mod ExamplesOfOrder
 pub mod ExamplesOfDisks
 pub mod ExamplesOfService
+pub mod ExamplesOfGrants
 pub mod Granting
