@@ -152,7 +152,7 @@ impl Entry {
         match view {
             View::Whole => true,
             View::Part { partition, part } => match self.keys.get(partition as usize) {
-                Some(keys) => u16::from(part) < *keys,
+                Some(keys) => part < *keys,
                 None => false,
             },
         }

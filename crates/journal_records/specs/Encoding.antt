@@ -1,5 +1,5 @@
 -- The bytes of a record and of a header. Numbers are big-endian.
-use Rattle.std.specs.Prelude.{◌≡◌, ℕ, ◌<◌, ◌≤◌, ◌^◌, List, [], ◌∷◌, ◌++◌, length, replicate, slice_index, ⊤, FitsSigned}
+use Rattle.std.specs.Prelude.{◌≡◌, ℕ, ◌<◌, ◌≤◌, ◌^◌, ◌/◌, ◌%◌, List, [], ◌∷◌, ◌++◌, length, replicate, slice_index, ⊤, FitsSigned}
 use Rattle.std.specs.Int.{w16, w32, w64, to_be_bytes, cast_unsigned, IsGcd}
 use Rattle.partition_charge.specs.declared.view.View.{View}
 use Rattle.partition_charge.specs.declared.view.View.TheVariants.{Whole, Part}
@@ -26,9 +26,16 @@ abbrev pub partition_byte : View → ℕ
 partition_byte Whole = 255
 partition_byte (Part partition part) = partition
 
-abbrev pub part_byte : View → ℕ
-part_byte Whole = 0
-part_byte (Part partition part) = part
+-- A part's number is of two bytes, and Whole has zeros there.
+abbrev pub part_number : View → ℕ
+part_number Whole = 0
+part_number (Part partition part) = part
+
+abbrev pub part_low_byte : View → ℕ
+part_low_byte view = part_number view % 256
+
+abbrev pub part_high_byte : View → ℕ
+part_high_byte view = part_number view / 256
 
 abbrev pub outcome_byte : Outcome → ℕ
 outcome_byte (Answered z) = 1
@@ -43,8 +50,8 @@ answer_number Lost = 0
 
 abbrev pub encoded : Record → List ℕ
 encoded (Reserve r) =
-    (gate ∷ 1 ∷ partition_byte r.view ∷ part_byte r.view ∷ []) ++ to_be_bytes w32 r.number ++ to_be_bytes w32 r.e ++ to_be_bytes w32 r.p ++ to_be_bytes w32 r.q
-    ++ to_be_bytes w64 r.taken ++ to_be_bytes w16 r.analyst ++ (0 ∷ 0 ∷ []) ++ r.digest
+    (gate ∷ 1 ∷ partition_byte r.view ∷ part_low_byte r.view ∷ []) ++ to_be_bytes w32 r.number ++ to_be_bytes w32 r.e ++ to_be_bytes w32 r.p ++ to_be_bytes w32 r.q
+    ++ to_be_bytes w64 r.taken ++ to_be_bytes w16 r.analyst ++ (part_high_byte r.view ∷ 0 ∷ []) ++ r.digest
 encoded (Settle s) =
     (gate ∷ 2 ∷ outcome_byte s.outcome ∷ 0 ∷ []) ++ to_be_bytes w32 s.number ++ to_be_bytes w64 (answer_number s.outcome)
     ++ to_be_bytes w64 s.returned ++ replicate 40 0

@@ -2,7 +2,7 @@
 
 ghost use Rattle.std.specs.Prelude.{◌≡◌};
 ghost use Rattle.journal_records.specs.declared.records.Record.TheVariants.{Reserve, Settle, Grant};
-ghost use Rattle.journal_records.specs.Encoding.{encoded, encoded_header, partition_byte, part_byte, outcome_byte, answer_number};
+ghost use Rattle.journal_records.specs.Encoding.{encoded, encoded_header, partition_byte, part_low_byte, part_high_byte, outcome_byte, answer_number};
 
 use crate::fields::put;
 use crate::records::{BudgetGrant, Header, Outcome, Record, Reservation, Settlement};
@@ -17,13 +17,17 @@ pub const HEADER_LENGTH: usize = 128;
 /// What opens a header or a slot.
 pub const GATE: u8 = 0xA5;
 
-fn view_bytes(view: View) -> (u8, u8)
+fn view_bytes(view: View) -> (u8, u8, u8)
     ensures partition { result.0 ≡ partition_byte view }
-    ensures part { result.1 ≡ part_byte view }
+    ensures low { result.1 ≡ part_low_byte view }
+    ensures high { result.2 ≡ part_high_byte view }
 {
     match view {
-        View::Whole => (255, 0),
-        View::Part { partition, part } => (partition, part),
+        View::Whole => (255, 0, 0),
+        View::Part { partition, part } => {
+            let [high, low] = part.to_be_bytes();
+            (partition, low, high)
+        }
     }
 }
 
@@ -42,15 +46,15 @@ fn outcome_parts(outcome: Outcome) -> (u8, u64)
 fn encode_reservation(reservation: &Reservation, out: &mut [u8; 64])
     ensures { out.new ≡ encoded (Reserve reservation.now) }
 {
-    let (partition, part) = view_bytes(reservation.view);
-    put(out, 0, &[GATE, 1, partition, part]);
+    let (partition, low, high) = view_bytes(reservation.view);
+    put(out, 0, &[GATE, 1, partition, low]);
     put(out, 4, &reservation.number.to_be_bytes());
     put(out, 8, &reservation.e.to_be_bytes());
     put(out, 12, &reservation.p.to_be_bytes());
     put(out, 16, &reservation.q.to_be_bytes());
     put(out, 20, &reservation.taken.to_be_bytes());
     put(out, 28, &reservation.analyst.to_be_bytes());
-    put(out, 30, &[0, 0]);
+    put(out, 30, &[high, 0]);
     put(out, 32, &reservation.digest);
 }
 

@@ -10,7 +10,7 @@ ghost use Rattle.journal_records.specs.declared.records.Settlement.{Settlement a
 ghost use Rattle.journal_records.specs.declared.records.BudgetGrant.{BudgetGrant as BudgetGrants};
 ghost use Rattle.journal_records.specs.declared.records.Header.{Header as Headers};
 ghost use Rattle.journal_records.specs.declared.records.Record.TheVariants.{Reserve, Settle, Grant};
-ghost use Rattle.journal_records.specs.Encoding.{encoded, encoded_header, IsVersion, IsHeader, partition_byte, part_byte, outcome_byte, answer_number};
+ghost use Rattle.journal_records.specs.Encoding.{encoded, encoded_header, IsVersion, IsHeader, partition_byte, part_low_byte, part_high_byte, outcome_byte, answer_number};
 ghost use Rattle.journal_records.specs.Encoding.{IsOutcome, MayReturn, AreChargeTerms, IsReservation, IsSettlement, IsGrant, IsValid};
 
 use crate::coding::{encode, encode_header};
@@ -18,11 +18,12 @@ use crate::fields::{common_divisor, digest_at, u16_at, u32_at, u64_at};
 use crate::records::{BudgetGrant, Header, Outcome, Record, Reservation, Settlement};
 use partition_charge::view::{PARTITIONS, PARTS, View};
 
-// The view of these two bytes.
-fn view_of(partition: u8, part: u8) -> Option<View>
+// The view of these bytes: a part's number is of two.
+fn view_of(partition: u8, low: u8, high: u8) -> Option<View>
     ensures valid { IfSome result IsView }
-    ensures only { (view : Views) → IsView view → partition ≡ partition_byte view → part ≡ part_byte view → result ≡ Some view }
+    ensures only { (view : Views) → IsView view → partition ≡ partition_byte view → low ≡ part_low_byte view → high ≡ part_high_byte view → result ≡ Some view }
 {
+    let part = u16::from_be_bytes([high, low]);
     if partition == 255 && part == 0 {
         Some(View::Whole)
     } else if (partition as usize) < PARTITIONS && (part as usize) < PARTS {
@@ -60,7 +61,7 @@ fn reservation_of(bytes: &[u8; 64]) -> Option<Record>
     ensures valid { IfSome result IsValid }
     ensures only { (r : Reservations) → IsReservation r → bytes.now ≡ encoded (Reserve r) → result ≡ Some (Reserve r) }
 {
-    let view = view_of(bytes[2], bytes[3])?;
+    let view = view_of(bytes[2], bytes[3], bytes[30])?;
     let number = u32_at(bytes, 4);
     let e = u32_at(bytes, 8);
     let p = u32_at(bytes, 12);

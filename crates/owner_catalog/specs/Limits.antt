@@ -3,7 +3,7 @@
 use Rattle.std.specs.Prelude.{ℕ}
 
 abbrev pub owner_limit : ℕ
-owner_limit = 16
+owner_limit = 64
 
 abbrev pub table_limit : ℕ
 table_limit = 8

@@ -238,7 +238,7 @@ impl Catalog {
     }
 
     /// A key of a partition.
-    pub fn key_text(&self, o: u32, p: u8, j: u8) -> &str
+    pub fn key_text(&self, o: u32, p: u8, j: u16) -> &str
         requires owner { o < length self.now.owners }
         requires partition { p < length (owner_entry_at self.now o).partitions }
         requires key { j < length (partition_entry_at self.now o p).keys }

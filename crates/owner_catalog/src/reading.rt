@@ -316,7 +316,7 @@ impl Item<InOwner<'_>> for Partition {
             owner: within.owner,
             partition: number,
         };
-        let keys = list(alloc, value, Member::Keys, 1, 250, at, &keys)?;
+        let keys = list(alloc, value, Member::Keys, 1, 4_000, at, &keys)?;
         Ok(Partition {
             name,
             table,
@@ -386,7 +386,7 @@ fn read_value(alloc: Global, value: &Value) -> Result<Catalog, CatalogFault>
     };
     object(alloc, &CATALOG, value, at)?;
     let analysts = list(alloc, value, Member::Analysts, 1, 64, at, &Labels::Analysts)?;
-    let owners = list(alloc, value, Member::Owners, 1, 16, at, &())?;
+    let owners = list(alloc, value, Member::Owners, 1, 64, at, &())?;
     let text = the(Member::Analysts, value).to_string(alloc)?;
     Ok(Catalog {
         analysts,

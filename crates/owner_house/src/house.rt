@@ -18,7 +18,7 @@ use std::alloc::{AllocError, Global};
 use std::marker::Model;
 
 /// The owners that a catalog may have.
-const OWNERS: usize = 16;
+const OWNERS: usize = 64;
 
 /// A catalog, the tables, rows and partitions of each of its owners, in order, and the versions of their journals.
 #[derive(Drop)]
@@ -115,15 +115,13 @@ impl House {
     }
 
     /// The number of this key of an owner's partition: that part is a view of the owner's.
-    pub fn key(&self, owner: u32, partition: u8, key: &[u8]) -> Option<u8>
+    pub fn key(&self, owner: u32, partition: u8, key: &[u8]) -> Option<u16>
         requires owner { owner < length (house_of self.now).owners }
         requires partition { partition < length (owner_at (house_of self.now) owner).partitions }
         ensures named { result ≡ key_named (partition_at (owner_at (house_of self.now) owner) partition) key.now }
         ensures part { IfSome result (λ j. HasPart (owner_at (house_of self.now) owner).partitions (Part partition j)) }
         ensures view { IfSome result (λ j. HasView (owner_at (house_of self.now) owner).entry (Part partition j)) }
     {
-        self.catalog
-            .key(owner, partition, key)
-            .map(|part| part as u8)
+        self.catalog.key(owner, partition, key)
     }
 }

@@ -89,7 +89,7 @@ fn key_texts(alloc: Global, catalog: &Catalog, owner: u32, p: u8) -> Result<Vec<
 {
     let mut texts = Vec::new(alloc);
     for j in 0..catalog.keys(owner, p) {
-        let key = catalog.key_text(owner, p, j as u8).as_bytes();
+        let key = catalog.key_text(owner, p, j as u16).as_bytes();
         if texts.push(key).is_err() {
             return Err(NoMemory);
         }

@@ -8,7 +8,7 @@ abbrev pub partition_limit : ℕ
 partition_limit = 8
 
 abbrev pub part_limit : ℕ
-part_limit = 250
+part_limit = 4000
 
 -- A view names its partition by a number below this, whatever an owner may have.
 abbrev pub partition_range : ℕ

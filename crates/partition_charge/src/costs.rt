@@ -28,7 +28,7 @@ struct Parts {
 
 impl Parts {
     // By how much the greatest sum rises if this part is charged this amount.
-    fn rise(&self, part: u8, amount: u64) -> u64
+    fn rise(&self, part: u16, amount: u64) -> u64
         requires part { part < part_limit }
         requires fits { slice_index self.now.sums part + amount < 2 ^ 63 }
         ensures { result ≡ slice_index self.now.sums part + amount - self.now.greatest }
@@ -37,7 +37,7 @@ impl Parts {
     }
 
     // Charges a part.
-    fn add(&mut self, part: u8, amount: u64)
+    fn add(&mut self, part: u16, amount: u64)
         requires part { part < part_limit }
         requires fits { slice_index self.old.sums part + amount < 2 ^ 63 }
         ensures raised { slice_index self.new.sums part ≡ slice_index self.old.sums part + amount }
@@ -50,7 +50,7 @@ impl Parts {
     }
 
     // These, with this amount taken from a part.
-    fn back(&self, part: u8, amount: u64) -> Parts
+    fn back(&self, part: u16, amount: u64) -> Parts
         requires part { part < part_limit }
         requires enough { amount ≤ slice_index self.now.sums part }
         ensures lowered { slice_index result.sums part + amount ≡ slice_index self.now.sums part }
