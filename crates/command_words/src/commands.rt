@@ -3,7 +3,8 @@
 ghost use Rattle.std.specs.Prelude.{◌≡◌, IfOk, Ok, codes, false};
 ghost use Rattle.clap.specs.Words.{AddsSubcommand, app_of, rule_of};
 ghost use Rattle.clap.specs.declared.builder.command.Command.TheViews.{out-Command};
-ghost use Rattle.command_words.specs.Program.{address_option, bare_program, check_app, files_app, gap_app, gen_app, grant_app, number_rule, or_else_is, program_app, required_number, required_option, required_word, run_app, serve_app, workers_option, workers_rule};
+ghost use Rattle.command_words.specs.Program.{address_option, bare_program, check_app, files_app, gap_app, gen_app, grant_app, number_rule, or_else_is};
+ghost use Rattle.command_words.specs.Program.{program_app, required_number, required_option, required_word, run_app, serve_app, workers_option, workers_rule};
 
 use clap::builder::ValueParser;
 use clap::{Arg, Command};

@@ -2,7 +2,8 @@
 
 ghost use Rattle.std.specs.Prelude.{◌≡◌, ◌≢◌, [], IfErr, IfOk, None, Some, map, option_map, string_bytes};
 ghost use Rattle.clap.specs.Words.{fault_of, first_of, found_of, rows_of, subcommand_of, subcommand_rows_of};
-ghost use Rattle.command_words.specs.Command.{amount_in, audit_found_in, check_found_in, command_met, command_of, gap_found_in, gen_found_in, grant_found_in, init_found_in, number_in, run_found_in, serve_found_in};
+ghost use Rattle.command_words.specs.Command.{amount_in, audit_found_in, check_found_in, command_met, command_of, gap_found_in};
+ghost use Rattle.command_words.specs.Command.{gen_found_in, grant_found_in, init_found_in, number_in, run_found_in, serve_found_in};
 ghost use Rattle.command_words.specs.Program.{program_app};
 ghost use Rattle.command_words.specs.Meant.{command_meant};
 

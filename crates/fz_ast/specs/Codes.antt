@@ -7,7 +7,9 @@ use base.Stored.{Gv, gnil, gnum, gcons}
 use Rattle.fz_frac.specs.Distance.{Distance, Fin, Inf}
 use Rattle.fz_ast.specs.declared.span.Span.{Span}
 use Rattle.fz_ast.specs.Types.{Ty, NumT, TextT, UnitT, TensorT, WithT, SumT, ArrowT, BangT, BagT}
-use Rattle.fz_ast.specs.Terms.{Name, Term, at, VarE, NumE, TextE, UnitE, PairE, WithE, FstE, SndE, LetPairE, InlE, InrE, CaseE, IfE, FunE, FnE, AppE, BangE, LetBangE, LetE, PlusE, MinusE, TimesE, LeE, EqE, ClipE, LeastE, GreatestE, SizeE, SumE, UnionE, MapE, FilterE, SplitE}
+use Rattle.fz_ast.specs.Terms.{Name, Term, at, VarE, NumE, TextE, UnitE, PairE, WithE, FstE, SndE, LetPairE}
+use Rattle.fz_ast.specs.Terms.{InlE, InrE, CaseE, IfE, FunE, FnE, AppE, BangE, LetBangE, LetE, PlusE, MinusE}
+use Rattle.fz_ast.specs.Terms.{TimesE, LeE, EqE, ClipE, LeastE, GreatestE, SizeE, SumE, UnionE, MapE, FilterE, SplitE}
 use Rattle.fz_ast.specs.Parts.{Parts}
 use Rattle.fz_ast.specs.Signature.{Signature}
 
@@ -115,7 +117,8 @@ term_to (at a (SndE b)) = gcons (gnum 7) (gcons (span_to a) (gcons (term_to b) (
 term_to (at a (LetPairE b c d e)) = gcons (gnum 8) (gcons (span_to a) (gcons (bytes_to b) (gcons (bytes_to c) (gcons (term_to d) (gcons (term_to e) (gnil))))))
 term_to (at a (InlE b c d)) = gcons (gnum 9) (gcons (span_to a) (gcons (span_to b) (gcons (type_to c) (gcons (term_to d) (gcons gnil (gnil))))))
 term_to (at a (InrE b c d)) = gcons (gnum 10) (gcons (span_to a) (gcons (span_to b) (gcons (type_to c) (gcons (term_to d) (gcons gnil (gnil))))))
-term_to (at a (CaseE b c d e f)) = gcons (gnum 11) (gcons (span_to a) (gcons (term_to b) (gcons (bytes_to c) (gcons (term_to d) (gcons (bytes_to e) (term_to f))))))
+term_to (at a (CaseE b c d e f)) = gcons (gnum 11) (gcons (span_to a)
+    (gcons (term_to b) (gcons (bytes_to c) (gcons (term_to d) (gcons (bytes_to e) (term_to f))))))
 term_to (at a (IfE b c d)) = gcons (gnum 12) (gcons (span_to a) (gcons (term_to b) (gcons (term_to c) (gcons (term_to d) (gcons gnil (gnil))))))
 term_to (at a (FunE b c d e)) = gcons (gnum 13) (gcons (span_to a) (gcons (bytes_to b) (gcons (span_to c) (gcons (type_to d) (gcons (term_to e) (gnil))))))
 term_to (at a (FnE b c d e)) = gcons (gnum 14) (gcons (span_to a) (gcons (bytes_to b) (gcons (span_to c) (gcons (type_to d) (gcons (term_to e) (gnil))))))
@@ -215,7 +218,9 @@ abbrev pub term_code : Coded Term
 term_code = code_by Gv itself term_to term_from term_back
 
 abbrev pub parts_code : Coded Parts
-parts_code = code_by (List Ty × List Term) (coded× types_code (coded_list term_code)) (λ p. (p.types, p.terms)) (λ p. record { types = p.0; terms = p.1 }) (λ _. refl)
+parts_code = code_by (List Ty × List Term) (coded× types_code (coded_list term_code)) (λ p. (p.types, p.terms))
+    (λ p. record { types = p.0; terms = p.1 }) (λ _. refl)
 
 abbrev pub signature_code : Coded Signature
-signature_code = coded_list (code_by (Name × Ty) (coded× (coded_list coded_ℕ) type_code) (λ t. (t.name, t.row)) (λ p. record { name = p.0; row = p.1 }) (λ _. refl))
+signature_code = coded_list (code_by (Name × Ty) (coded× (coded_list coded_ℕ) type_code) (λ t. (t.name, t.row)) (λ p. record { name = p.0; row = p.1 })
+    (λ _. refl))

@@ -2,7 +2,8 @@
 use Rattle.std.specs.Prelude.{◌≡◌, ℕ, ◌+◌, ◌<◌, ◌≤◌, List, [], ◌∷◌, ◌++◌, length, ⊤}
 use Rattle.std.proofs.Common.{get_or}
 use Rattle.fz_frac.specs.Sens.{distance_of}
-use Rattle.fz_ast.specs.Types.{Ty, NumT, TextT, UnitT, TensorT, WithT, SumT, ArrowT, BangT, BagT, is_ground, is_flat, Formed as IsFormed, WellFormed, UngroundSum, UnflatBag, formed}
+use Rattle.fz_ast.specs.Types.{Ty, NumT, TextT, UnitT, TensorT, WithT, SumT, ArrowT, BangT}
+use Rattle.fz_ast.specs.Types.{BagT, is_ground, is_flat, Formed as IsFormed, WellFormed, UngroundSum, UnflatBag, formed}
 use Rattle.fz_ast.specs.Limits.{IsBang, TypeLimits}
 use Rattle.fz_ast.specs.Depth.{type_depth}
 use Rattle.fz_ast.specs.declared.types.Formed.{Formed}

@@ -245,7 +245,11 @@ impl Nodes {
         requires known { IsKnown (length self.old.types) (length self.old.terms) form }
         requires limits { FormLimits form }
         ensures number { IfOk result (λ n. n ≡ length self.old.terms) }
-        ensures grown { OnOk result (self.new ≡ record { types = self.old.types; terms = self.old.terms ++ term_of (type_at self.old.types) (term_at self.old.terms) span form ∷ [] }) }
+        ensures grown { OnOk result (self.new ≡ record {
+          types = self.old.types;
+          terms = self.old.terms
+              ++ term_of (type_at self.old.types) (term_at self.old.terms) span form ∷ [];
+        }) }
         ensures err { OnErr result (self.new ≡ self.old) }
     {
         let n = self.nodes.len();

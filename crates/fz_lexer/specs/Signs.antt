@@ -1,7 +1,9 @@
 -- The signs.
 use Rattle.std.specs.Prelude.{◌≡◌, ◌≤◌, ℕ, List, ◌++◌, codes, Bool, true, length, take, drop}
 use Rattle.fz_lexer.specs.declared.token.Sign.{Sign}
-use Rattle.fz_lexer.specs.declared.token.Sign.TheVariants.{Yields, Arrow, Lollipop, AtMost, EqualTo, LeftParenthesis, RightParenthesis, LeftAngle, RightAngle, LeftBracket, RightBracket, Comma, Colon, Is, Bang, Bar, Plus, Minus, Star, Ampersand, Slash}
+use Rattle.fz_lexer.specs.declared.token.Sign.TheVariants.{Yields, Arrow, Lollipop, AtMost, EqualTo, LeftParenthesis, RightParenthesis}
+use Rattle.fz_lexer.specs.declared.token.Sign.TheVariants.{LeftAngle, RightAngle, LeftBracket, RightBracket, Comma, Colon, Is}
+use Rattle.fz_lexer.specs.declared.token.Sign.TheVariants.{Bang, Bar, Plus, Minus, Star, Ampersand, Slash}
 use Rattle.fz_lexer.specs.Bytes.{is_name_byte, stops}
 
 unfoldable pub mark : Sign → List ℕ

@@ -1,7 +1,8 @@
 -- The reserved words.
 use Rattle.std.specs.Prelude.{ℕ, List, codes}
 use Rattle.fz_lexer.specs.declared.token.Word.{Word}
-use Rattle.fz_lexer.specs.declared.token.Word.TheVariants.{Fun, Fn, Let, In, Case, Of, Inl, Inr, If, Then, Else, Fst, Snd, True, False, Num, Text, Unit, Bool, Bag, Inf, Size, Sum, Clip, Least, Greatest, Map, Filter, Split, Union, Do, Release, At}
+use Rattle.fz_lexer.specs.declared.token.Word.TheVariants.{Fun, Fn, Let, In, Case, Of, Inl, Inr, If, Then, Else, Fst, Snd, True, False, Num, Text}
+use Rattle.fz_lexer.specs.declared.token.Word.TheVariants.{Unit, Bool, Bag, Inf, Size, Sum, Clip, Least, Greatest, Map, Filter, Split, Union, Do, Release, At}
 
 unfoldable pub spelling : Word → List ℕ
 spelling Fun = codes "fun"

@@ -5,12 +5,19 @@ use Rattle.fz_lexer.specs.declared.token.Kind.{Kind}
 use Rattle.fz_lexer.specs.declared.token.Kind.TheVariants.{Name, Number, Text, Reserved, Punctuation}
 use Rattle.fz_lexer.specs.declared.token.Word.{Word}
 use Rattle.fz_lexer.specs.declared.token.Sign.{Sign}
-use Rattle.fz_lexer.specs.declared.token.Word.TheVariants.{Fun, Fn, Let, In, Case, Of, Inl, Inr, If, Then, Else, Fst, Snd, True, False, Num, Text as TextWord, Unit as UnitWord, Bool as BoolWord, Bag, Inf, Size, Sum, Clip, Least, Greatest, Map, Filter, Split, Union, Do, Release, At}
-use Rattle.fz_lexer.specs.declared.token.Sign.TheVariants.{LeftParenthesis, RightParenthesis, LeftAngle, RightAngle, LeftBracket, RightBracket, Comma, Colon, Is, Bang, Bar, Plus, Minus, Star, Ampersand, Slash, Yields, Arrow, Lollipop, AtMost, EqualTo}
+use Rattle.fz_lexer.specs.declared.token.Word.TheVariants.{Fun, Fn, Let, In, Case, Of, Inl, Inr, If, Then, Else}
+use Rattle.fz_lexer.specs.declared.token.Word.TheVariants.{Fst, Snd, True, False, Num, Text as TextWord, Unit as UnitWord, Bool as BoolWord, Bag, Inf, Size}
+use Rattle.fz_lexer.specs.declared.token.Word.TheVariants.{Sum, Clip, Least, Greatest, Map, Filter, Split, Union, Do, Release, At}
+use Rattle.fz_lexer.specs.declared.token.Sign.TheVariants.{LeftParenthesis, RightParenthesis, LeftAngle, RightAngle, LeftBracket, RightBracket, Comma}
+use Rattle.fz_lexer.specs.declared.token.Sign.TheVariants.{Colon, Is, Bang, Bar, Plus, Minus, Star}
+use Rattle.fz_lexer.specs.declared.token.Sign.TheVariants.{Ampersand, Slash, Yields, Arrow, Lollipop, AtMost, EqualTo}
 use Rattle.fz_parser.specs.declared.grammar.Terminal.{Terminal}
 use Rattle.fz_parser.specs.declared.grammar.Terminal.TheVariants.{Named, Numeral, Positive, Quoted, Keyword, Symbol}
 use Rattle.fz_parser.specs.declared.grammar.Phrase.{Phrase}
-use Rattle.fz_parser.specs.declared.grammar.Phrase.TheVariants.{Expression, Binding, Comparison, ComparisonTail, Addition, AdditionTail, Multiplication, NegativeTail, NumeralTail, Application, ApplicationTail, Atom, Simple, Inside, InsideTail, Integer, Sensitivity, SensitivityTail, AnyType, AnyTypeTail, PlusType, PlusTypeTail, ProductType, ProductTypeTail, PrefixType}
+use Rattle.fz_parser.specs.declared.grammar.Phrase.TheVariants.{Expression, Binding, Comparison, ComparisonTail, Addition, AdditionTail, Multiplication}
+use Rattle.fz_parser.specs.declared.grammar.Phrase.TheVariants.{NegativeTail, NumeralTail, Application, ApplicationTail, Atom, Simple, Inside}
+use Rattle.fz_parser.specs.declared.grammar.Phrase.TheVariants.{InsideTail, Integer, Sensitivity, SensitivityTail, AnyType, AnyTypeTail, PlusType}
+use Rattle.fz_parser.specs.declared.grammar.Phrase.TheVariants.{PlusTypeTail, ProductType, ProductTypeTail, PrefixType}
 
 unfoldable pub word_number : Word → ℕ
 word_number Fun = 0
@@ -99,7 +106,9 @@ phrase_number PrefixType = 24
 
 -- all of them, by their numbers
 unfoldable pub phrases : List Phrase
-phrases = Expression ∷ Binding ∷ Comparison ∷ ComparisonTail ∷ Addition ∷ AdditionTail ∷ Multiplication ∷ NegativeTail ∷ NumeralTail ∷ Application ∷ ApplicationTail ∷ Atom ∷ Simple ∷ Inside ∷ InsideTail ∷ Integer ∷ Sensitivity ∷ SensitivityTail ∷ AnyType ∷ AnyTypeTail ∷ PlusType ∷ PlusTypeTail ∷ ProductType ∷ ProductTypeTail ∷ PrefixType ∷ []
+phrases = Expression ∷ Binding ∷ Comparison ∷ ComparisonTail ∷ Addition ∷ AdditionTail ∷ Multiplication ∷ NegativeTail ∷ NumeralTail ∷ Application ∷
+    ApplicationTail ∷ Atom ∷ Simple ∷ Inside ∷ InsideTail ∷ Integer ∷ Sensitivity ∷ SensitivityTail ∷ AnyType ∷ AnyTypeTail ∷ PlusType ∷ PlusTypeTail ∷
+    ProductType ∷ ProductTypeTail ∷ PrefixType ∷ []
 
 unfoldable pub terminal_number : Terminal → ℕ
 terminal_number Named = 1

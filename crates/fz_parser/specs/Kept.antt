@@ -15,7 +15,8 @@ use Rattle.fz_parser.specs.declared.reader.Held.TheVariants.{Begun, Name, Number
 use Rattle.fz_parser.specs.declared.reader.Entry.{Entry}
 use Rattle.fz_parser.specs.declared.reader.Reader.{Reader}
 use Rattle.fz_parser.specs.Grammar.{only, IsTerm}
-use Rattle.fz_parser.specs.Parts.{StackPart, What, BegunPart, NamePart, NumberPart, PositivePart, TextPart, IntegerPart, FactorPart, TypePart, TermPart, State, part, sort_of, token_parts}
+use Rattle.fz_parser.specs.Parts.{StackPart, What, BegunPart, NamePart, NumberPart, PositivePart, TextPart, IntegerPart}
+use Rattle.fz_parser.specs.Parts.{FactorPart, TypePart, TermPart, State, part, sort_of, token_parts}
 
 abbrev pub what_of : Parts → Held → What
 what_of N Begun = BegunPart

@@ -4,7 +4,8 @@ use Rattle.fz_frac.specs.Distance.{Distance, Fin, Inf}
 use Rattle.fz_frac.specs.Lowest.{gcd}
 use Rattle.fz_ast.specs.declared.span.Span.{Span}
 use Rattle.fz_ast.specs.Types.{Ty, NumT, TextT, UnitT, TensorT, WithT, SumT, ArrowT, BangT, BagT, BoolT, UnlimitedT}
-use Rattle.fz_ast.specs.Terms.{Term, TermForm, at, VarE, NumE, TextE, UnitE, LetPairE, InlE, InrE, CaseE, IfE, FunE, FnE, BangE, LetBangE, LetE, TimesE, ClipE, SumE, TrueE, FalseE}
+use Rattle.fz_ast.specs.Terms.{Term, TermForm, at, VarE, NumE, TextE, UnitE, LetPairE, InlE, InrE, CaseE}
+use Rattle.fz_ast.specs.Terms.{IfE, FunE, FnE, BangE, LetBangE, LetE, TimesE, ClipE, SumE, TrueE, FalseE}
 use Rattle.fz_ast.specs.Bare.{nowhere}
 use Rattle.fz_lexer.specs.declared.token.Token.{Token}
 use Rattle.fz_lexer.specs.declared.token.Kind.{Kind}
@@ -12,7 +13,12 @@ use Rattle.fz_lexer.specs.declared.token.Kind.TheVariants.{Name, Number, Text, R
 use Rattle.fz_parser.specs.declared.grammar.Terminal.{Terminal}
 use Rattle.fz_parser.specs.declared.grammar.Terminal.TheVariants.{Named, Numeral, Positive, Quoted, Keyword, Symbol}
 use Rattle.fz_parser.specs.declared.grammar.Action.{Action}
-use Rattle.fz_parser.specs.declared.grammar.Action.TheVariants.{Begin, LambdaTerm, LetBangTerm, LetPairTerm, LetTerm, CaseTerm, IfTerm, InfixTerm, NegativeTerm, NegativeTimesTerm, TimesTerm, NumberTerm, UnaryTerm, RangedTerm, InjectTerm, BangTerm, PrefixTerm, NameTerm, TextTerm, TruthTerm, UnitTerm, GroupTerm, PlainInteger, NegativeInteger, WholeFactor, FractionFactor, InfFactor, JoinType, ArrowType, BangType, BagType, NumType, TextType, UnitType, BoolType, GroupType}
+use Rattle.fz_parser.specs.declared.grammar.Action.TheVariants.{Begin, LambdaTerm, LetBangTerm, LetPairTerm, LetTerm, CaseTerm}
+use Rattle.fz_parser.specs.declared.grammar.Action.TheVariants.{IfTerm, InfixTerm, NegativeTerm, NegativeTimesTerm, TimesTerm, NumberTerm}
+use Rattle.fz_parser.specs.declared.grammar.Action.TheVariants.{UnaryTerm, RangedTerm, InjectTerm, BangTerm, PrefixTerm, NameTerm}
+use Rattle.fz_parser.specs.declared.grammar.Action.TheVariants.{TextTerm, TruthTerm, UnitTerm, GroupTerm, PlainInteger, NegativeInteger}
+use Rattle.fz_parser.specs.declared.grammar.Action.TheVariants.{WholeFactor, FractionFactor, InfFactor, JoinType, ArrowType, BangType}
+use Rattle.fz_parser.specs.declared.grammar.Action.TheVariants.{BagType, NumType, TextType, UnitType, BoolType, GroupType}
 use Rattle.fz_parser.specs.declared.grammar.Joint.{Joint}
 use Rattle.fz_parser.specs.declared.grammar.Joint.TheVariants.{Lollipop, Sum, Tensor, With}
 use Rattle.fz_ast.specs.declared.term.Arrow.{Arrow}

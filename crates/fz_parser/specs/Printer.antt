@@ -2,15 +2,20 @@
 use Rattle.std.specs.Prelude.{ℕ, suc, List, ◌∷◌, ℤ, pos, negsuc}
 use Rattle.fz_frac.specs.Distance.{Distance, Fin, Inf}
 use Rattle.fz_ast.specs.Types.{Ty, NumT, TextT, UnitT, TensorT, WithT, SumT, ArrowT, BangT, BagT}
-use Rattle.fz_ast.specs.Terms.{Term, at, VarE, NumE, TextE, UnitE, PairE, WithE, FstE, SndE, LetPairE, InlE, InrE, CaseE, IfE, FunE, FnE, AppE, BangE, LetBangE, LetE, PlusE, MinusE, TimesE, LeE, EqE, ClipE, LeastE, GreatestE, SizeE, SumE, UnionE, MapE, FilterE, SplitE}
+use Rattle.fz_ast.specs.Terms.{Term, at, VarE, NumE, TextE, UnitE, PairE, WithE, FstE, SndE, LetPairE, InlE, InrE, CaseE, IfE, FunE, FnE, AppE}
+use Rattle.fz_ast.specs.Terms.{BangE, LetBangE, LetE, PlusE, MinusE, TimesE, LeE, EqE, ClipE, LeastE, GreatestE, SizeE, SumE, UnionE, MapE, FilterE, SplitE}
 use Rattle.fz_ast.specs.Bare.{nowhere}
 use Rattle.fz_lexer.specs.declared.token.Token.{Token}
 use Rattle.fz_lexer.specs.declared.token.Kind.{Kind}
 use Rattle.fz_lexer.specs.declared.token.Kind.TheVariants.{Name, Number, Text, Reserved, Punctuation}
 use Rattle.fz_lexer.specs.declared.token.Word.{Word}
 use Rattle.fz_lexer.specs.declared.token.Sign.{Sign}
-use Rattle.fz_lexer.specs.declared.token.Word.TheVariants.{Fun, Fn, Let, In, Case, Of, Inl, Inr, If, Then, Else, Fst, Snd, Num, Text as TextWord, Unit as UnitWord, Bag, Inf as InfWord, Size, Sum, Clip, Least, Greatest, Map, Filter, Split, Union}
-use Rattle.fz_lexer.specs.declared.token.Sign.TheVariants.{LeftParenthesis, RightParenthesis, LeftAngle, RightAngle, LeftBracket, RightBracket, Comma, Colon, Is, Bang, Bar, Plus, Minus, Star, Ampersand, Slash, Yields, Lollipop, AtMost, EqualTo}
+use Rattle.fz_lexer.specs.declared.token.Word.TheVariants.{Fun, Fn, Let, In, Case, Of, Inl, Inr, If}
+use Rattle.fz_lexer.specs.declared.token.Word.TheVariants.{Then, Else, Fst, Snd, Num, Text as TextWord, Unit as UnitWord, Bag, Inf as InfWord}
+use Rattle.fz_lexer.specs.declared.token.Word.TheVariants.{Size, Sum, Clip, Least, Greatest, Map, Filter, Split, Union}
+use Rattle.fz_lexer.specs.declared.token.Sign.TheVariants.{LeftParenthesis, RightParenthesis, LeftAngle, RightAngle, LeftBracket, RightBracket, Comma}
+use Rattle.fz_lexer.specs.declared.token.Sign.TheVariants.{Colon, Is, Bang, Bar, Plus, Minus, Star}
+use Rattle.fz_lexer.specs.declared.token.Sign.TheVariants.{Ampersand, Slash, Yields, Lollipop, AtMost, EqualTo}
 
 -- some tokens, before others
 abbrev pub Tokens : Type 0

@@ -1,17 +1,31 @@
--- The grammar, a rule a line: what is replaced, and the items that stand for it. `Take` is a token, `Read` another phrase, and `Make` makes a part of those just read.
+-- The grammar, a rule a line: what is replaced, and the items that stand for it. `Take` is a token, `Read` another phrase, and `Make` makes a part of
+-- those just read.
 -- Written by tools/grammar.py; the lines above a rule have it in the usual form.
 use Rattle.std.specs.Prelude.{ℕ, List, [], ◌∷◌}
-use Rattle.fz_lexer.specs.declared.token.Word.TheVariants.{Fun, Fn, Let, In, Case, Of, Inl, Inr, If, Then, Else, Fst, Snd, True, False, Num, Text, Unit, Bool, Bag, Inf, Size, Sum, Clip, Least, Greatest, Map, Filter, Split, Union}
-use Rattle.fz_lexer.specs.declared.token.Sign.TheVariants.{LeftParenthesis, RightParenthesis, LeftAngle, RightAngle, LeftBracket, RightBracket, Comma, Colon, Is, Bang, Bar, Plus, Minus, Star, Ampersand, Slash, Yields, Arrow, Lollipop, AtMost, EqualTo}
+use Rattle.fz_lexer.specs.declared.token.Word.TheVariants.{Fun, Fn, Let, In, Case, Of, Inl, Inr, If, Then, Else, Fst, Snd, True, False}
+use Rattle.fz_lexer.specs.declared.token.Word.TheVariants.{Num, Text, Unit, Bool, Bag, Inf, Size, Sum, Clip, Least, Greatest, Map, Filter, Split, Union}
+use Rattle.fz_lexer.specs.declared.token.Sign.TheVariants.{LeftParenthesis, RightParenthesis, LeftAngle, RightAngle, LeftBracket, RightBracket, Comma}
+use Rattle.fz_lexer.specs.declared.token.Sign.TheVariants.{Colon, Is, Bang, Bar, Plus, Minus, Star}
+use Rattle.fz_lexer.specs.declared.token.Sign.TheVariants.{Ampersand, Slash, Yields, Arrow, Lollipop, AtMost, EqualTo}
 use Rattle.fz_parser.specs.declared.grammar.Item.{Item}
 use Rattle.fz_parser.specs.declared.grammar.Item.TheVariants.{Take, Read, Make}
 use Rattle.fz_parser.specs.declared.grammar.Terminal.TheVariants.{Named, Numeral, Positive, Quoted, Keyword, Symbol}
 use Rattle.fz_parser.specs.declared.grammar.Phrase.{Phrase}
-use Rattle.fz_parser.specs.declared.grammar.Phrase.TheVariants.{Expression, Binding, Comparison, ComparisonTail, Addition, AdditionTail, Multiplication, NegativeTail, NumeralTail, Application, ApplicationTail, Atom, Simple, Inside, InsideTail, Integer, Sensitivity, SensitivityTail, AnyType, AnyTypeTail, PlusType, PlusTypeTail, ProductType, ProductTypeTail, PrefixType}
-use Rattle.fz_parser.specs.declared.grammar.Action.TheVariants.{Begin, LambdaTerm, LetBangTerm, LetPairTerm, LetTerm, CaseTerm, IfTerm, InfixTerm, NegativeTerm, NegativeTimesTerm, TimesTerm, NumberTerm, UnaryTerm, RangedTerm, InjectTerm, BangTerm, PrefixTerm, NameTerm, TextTerm, TruthTerm, UnitTerm, GroupTerm, PlainInteger, NegativeInteger, WholeFactor, FractionFactor, InfFactor, JoinType, ArrowType, BangType, BagType, NumType, TextType, UnitType, BoolType, GroupType}
+use Rattle.fz_parser.specs.declared.grammar.Phrase.TheVariants.{Expression, Binding, Comparison, ComparisonTail, Addition, AdditionTail, Multiplication}
+use Rattle.fz_parser.specs.declared.grammar.Phrase.TheVariants.{NegativeTail, NumeralTail, Application, ApplicationTail, Atom, Simple, Inside}
+use Rattle.fz_parser.specs.declared.grammar.Phrase.TheVariants.{InsideTail, Integer, Sensitivity, SensitivityTail, AnyType, AnyTypeTail, PlusType}
+use Rattle.fz_parser.specs.declared.grammar.Phrase.TheVariants.{PlusTypeTail, ProductType, ProductTypeTail, PrefixType}
+use Rattle.fz_parser.specs.declared.grammar.Action.TheVariants.{Begin, LambdaTerm, LetBangTerm, LetPairTerm, LetTerm, CaseTerm}
+use Rattle.fz_parser.specs.declared.grammar.Action.TheVariants.{IfTerm, InfixTerm, NegativeTerm, NegativeTimesTerm, TimesTerm, NumberTerm}
+use Rattle.fz_parser.specs.declared.grammar.Action.TheVariants.{UnaryTerm, RangedTerm, InjectTerm, BangTerm, PrefixTerm, NameTerm}
+use Rattle.fz_parser.specs.declared.grammar.Action.TheVariants.{TextTerm, TruthTerm, UnitTerm, GroupTerm, PlainInteger, NegativeInteger}
+use Rattle.fz_parser.specs.declared.grammar.Action.TheVariants.{WholeFactor, FractionFactor, InfFactor, JoinType, ArrowType, BangType}
+use Rattle.fz_parser.specs.declared.grammar.Action.TheVariants.{BagType, NumType, TextType, UnitType, BoolType, GroupType}
 use Rattle.fz_parser.specs.declared.grammar.Joint.TheVariants.{Lollipop as LollipopJoint, Sum as SumJoint, Tensor as TensorJoint, With as WithJoint}
 use Rattle.fz_ast.specs.declared.term.Arrow.TheVariants.{Fun as FunArrow, Fn as FnArrow}
-use Rattle.fz_ast.specs.declared.term.Binary.TheVariants.{AtMost as AtMostBinary, Equal as EqualBinary, Plus as PlusBinary, Minus as MinusBinary, App as AppBinary, Map as MapBinary, Filter as FilterBinary, Split as SplitBinary, Union as UnionBinary, Pair as PairBinary, With as WithBinary}
+use Rattle.fz_ast.specs.declared.term.Binary.TheVariants.{AtMost as AtMostBinary, Equal as EqualBinary, Plus as PlusBinary, Minus as MinusBinary}
+use Rattle.fz_ast.specs.declared.term.Binary.TheVariants.{App as AppBinary, Map as MapBinary, Filter as FilterBinary, Split as SplitBinary}
+use Rattle.fz_ast.specs.declared.term.Binary.TheVariants.{Union as UnionBinary, Pair as PairBinary, With as WithBinary}
 use Rattle.fz_ast.specs.declared.term.Unary.TheVariants.{Fst as FstUnary, Snd as SndUnary, Size as SizeUnary, Least as LeastUnary, Greatest as GreatestUnary}
 use Rattle.fz_ast.specs.declared.term.Ranged.TheVariants.{Sum as SumRanged, Clip as ClipRanged}
 use Rattle.fz_ast.specs.declared.term.Side.TheVariants.{Inl as InlSide, Inr as InrSide}
@@ -29,21 +43,26 @@ rule_count = 77
 unfoldable pub rules : List Rule
 rules =
     -- term := fun ( name : type ) => term
-    is_ Expression (Take (Keyword Fun) ∷ Make Begin ∷ Take (Symbol LeftParenthesis) ∷ Take Named ∷ Take (Symbol Colon) ∷ Read AnyType ∷ Take (Symbol RightParenthesis) ∷ Take (Symbol Yields) ∷ Read Expression ∷ Make (LambdaTerm FunArrow) ∷ []) ∷
+    is_ Expression (Take (Keyword Fun) ∷ Make Begin ∷ Take (Symbol LeftParenthesis) ∷ Take Named ∷ Take (Symbol Colon) ∷ Read AnyType ∷
+    Take (Symbol RightParenthesis) ∷ Take (Symbol Yields) ∷ Read Expression ∷ Make (LambdaTerm FunArrow) ∷ []) ∷
     --       | fn ( name : type ) => term
-    is_ Expression (Take (Keyword Fn) ∷ Make Begin ∷ Take (Symbol LeftParenthesis) ∷ Take Named ∷ Take (Symbol Colon) ∷ Read AnyType ∷ Take (Symbol RightParenthesis) ∷ Take (Symbol Yields) ∷ Read Expression ∷ Make (LambdaTerm FnArrow) ∷ []) ∷
+    is_ Expression (Take (Keyword Fn) ∷ Make Begin ∷ Take (Symbol LeftParenthesis) ∷ Take Named ∷ Take (Symbol Colon) ∷ Read AnyType ∷
+    Take (Symbol RightParenthesis) ∷ Take (Symbol Yields) ∷ Read Expression ∷ Make (LambdaTerm FnArrow) ∷ []) ∷
     --       | let ..
     is_ Expression (Take (Keyword Let) ∷ Make Begin ∷ Read Binding ∷ []) ∷
     --       .. ! name = term in term
     is_ Binding (Take (Symbol Bang) ∷ Take Named ∷ Take (Symbol Is) ∷ Read Expression ∷ Take (Keyword In) ∷ Read Expression ∷ Make LetBangTerm ∷ []) ∷
     --       .. ( name , name ) = term in term
-    is_ Binding (Take (Symbol LeftParenthesis) ∷ Take Named ∷ Take (Symbol Comma) ∷ Take Named ∷ Take (Symbol RightParenthesis) ∷ Take (Symbol Is) ∷ Read Expression ∷ Take (Keyword In) ∷ Read Expression ∷ Make LetPairTerm ∷ []) ∷
+    is_ Binding (Take (Symbol LeftParenthesis) ∷ Take Named ∷ Take (Symbol Comma) ∷ Take Named ∷ Take (Symbol RightParenthesis) ∷ Take (Symbol Is) ∷
+    Read Expression ∷ Take (Keyword In) ∷ Read Expression ∷ Make LetPairTerm ∷ []) ∷
     --       .. name = term in term
     is_ Binding (Take Named ∷ Take (Symbol Is) ∷ Read Expression ∷ Take (Keyword In) ∷ Read Expression ∷ Make LetTerm ∷ []) ∷
     --       | case term of inl name => term | inr name => term
-    is_ Expression (Take (Keyword Case) ∷ Make Begin ∷ Read Expression ∷ Take (Keyword Of) ∷ Take (Keyword Inl) ∷ Take Named ∷ Take (Symbol Yields) ∷ Read Expression ∷ Take (Symbol Bar) ∷ Take (Keyword Inr) ∷ Take Named ∷ Take (Symbol Yields) ∷ Read Expression ∷ Make CaseTerm ∷ []) ∷
+    is_ Expression (Take (Keyword Case) ∷ Make Begin ∷ Read Expression ∷ Take (Keyword Of) ∷ Take (Keyword Inl) ∷ Take Named ∷ Take (Symbol Yields) ∷
+    Read Expression ∷ Take (Symbol Bar) ∷ Take (Keyword Inr) ∷ Take Named ∷ Take (Symbol Yields) ∷ Read Expression ∷ Make CaseTerm ∷ []) ∷
     --       | if term then term else term
-    is_ Expression (Take (Keyword If) ∷ Make Begin ∷ Read Expression ∷ Take (Keyword Then) ∷ Read Expression ∷ Take (Keyword Else) ∷ Read Expression ∷ Make IfTerm ∷ []) ∷
+    is_ Expression (Take (Keyword If) ∷ Make Begin ∷ Read Expression ∷ Take (Keyword Then) ∷ Read Expression ∷ Take (Keyword Else) ∷ Read Expression ∷
+    Make IfTerm ∷ []) ∷
     --       | cmp
     is_ Expression (Read Comparison ∷ []) ∷
     -- cmp := add [ ( <= | == ) add ]
@@ -72,11 +91,16 @@ rules =
     is_ Application (Take (Keyword Size) ∷ Make Begin ∷ Read Atom ∷ Make (UnaryTerm SizeUnary) ∷ []) ∷
     is_ Application (Take (Keyword Least) ∷ Make Begin ∷ Read Atom ∷ Make (UnaryTerm LeastUnary) ∷ []) ∷
     is_ Application (Take (Keyword Greatest) ∷ Make Begin ∷ Read Atom ∷ Make (UnaryTerm GreatestUnary) ∷ []) ∷
-    is_ Application (Take (Keyword Sum) ∷ Make Begin ∷ Take (Symbol LeftBracket) ∷ Read Integer ∷ Take (Symbol Comma) ∷ Read Integer ∷ Take (Symbol RightBracket) ∷ Read Atom ∷ Make (RangedTerm SumRanged) ∷ []) ∷
-    is_ Application (Take (Keyword Clip) ∷ Make Begin ∷ Take (Symbol LeftBracket) ∷ Read Integer ∷ Take (Symbol Comma) ∷ Read Integer ∷ Take (Symbol RightBracket) ∷ Read Atom ∷ Make (RangedTerm ClipRanged) ∷ []) ∷
-    is_ Application (Take (Keyword Inl) ∷ Make Begin ∷ Take (Symbol LeftBracket) ∷ Read AnyType ∷ Take (Symbol RightBracket) ∷ Read Atom ∷ Make (InjectTerm InlSide) ∷ []) ∷
-    is_ Application (Take (Keyword Inr) ∷ Make Begin ∷ Take (Symbol LeftBracket) ∷ Read AnyType ∷ Take (Symbol RightBracket) ∷ Read Atom ∷ Make (InjectTerm InrSide) ∷ []) ∷
-    is_ Application (Take (Symbol Bang) ∷ Make Begin ∷ Take (Symbol LeftBracket) ∷ Read Sensitivity ∷ Take (Symbol RightBracket) ∷ Read Atom ∷ Make BangTerm ∷ []) ∷
+    is_ Application (Take (Keyword Sum) ∷ Make Begin ∷ Take (Symbol LeftBracket) ∷ Read Integer ∷ Take (Symbol Comma) ∷ Read Integer ∷
+    Take (Symbol RightBracket) ∷ Read Atom ∷ Make (RangedTerm SumRanged) ∷ []) ∷
+    is_ Application (Take (Keyword Clip) ∷ Make Begin ∷ Take (Symbol LeftBracket) ∷ Read Integer ∷ Take (Symbol Comma) ∷ Read Integer ∷
+    Take (Symbol RightBracket) ∷ Read Atom ∷ Make (RangedTerm ClipRanged) ∷ []) ∷
+    is_ Application (Take (Keyword Inl) ∷ Make Begin ∷ Take (Symbol LeftBracket) ∷ Read AnyType ∷ Take (Symbol RightBracket) ∷ Read Atom ∷
+    Make (InjectTerm InlSide) ∷ []) ∷
+    is_ Application (Take (Keyword Inr) ∷ Make Begin ∷ Take (Symbol LeftBracket) ∷ Read AnyType ∷ Take (Symbol RightBracket) ∷ Read Atom ∷
+    Make (InjectTerm InrSide) ∷ []) ∷
+    is_ Application (Take (Symbol Bang) ∷ Make Begin ∷ Take (Symbol LeftBracket) ∷ Read Sensitivity ∷ Take (Symbol RightBracket) ∷ Read Atom ∷
+    Make BangTerm ∷ []) ∷
     --      | op2 atom atom
     is_ Application (Take (Keyword Map) ∷ Make Begin ∷ Read Atom ∷ Read Atom ∷ Make (PrefixTerm MapBinary) ∷ []) ∷
     is_ Application (Take (Keyword Filter) ∷ Make Begin ∷ Read Atom ∷ Read Atom ∷ Make (PrefixTerm FilterBinary) ∷ []) ∷
@@ -97,7 +121,8 @@ rules =
     --       | ( ) | ( term ) | ( term , term )
     is_ Simple (Take (Symbol LeftParenthesis) ∷ Make Begin ∷ Read Inside ∷ []) ∷
     --       | < term , term >
-    is_ Simple (Take (Symbol LeftAngle) ∷ Make Begin ∷ Read Expression ∷ Take (Symbol Comma) ∷ Read Expression ∷ Take (Symbol RightAngle) ∷ Make (PrefixTerm WithBinary) ∷ []) ∷
+    is_ Simple (Take (Symbol LeftAngle) ∷ Make Begin ∷ Read Expression ∷ Take (Symbol Comma) ∷ Read Expression ∷ Take (Symbol RightAngle) ∷
+    Make (PrefixTerm WithBinary) ∷ []) ∷
     is_ Inside (Take (Symbol RightParenthesis) ∷ Make UnitTerm ∷ []) ∷
     is_ Inside (Read Expression ∷ Read InsideTail ∷ []) ∷
     is_ InsideTail (Take (Symbol RightParenthesis) ∷ Make GroupTerm ∷ []) ∷
@@ -125,7 +150,8 @@ rules =
     is_ ProductTypeTail (Take (Symbol Ampersand) ∷ Read ProductType ∷ Make (JoinType WithJoint) ∷ []) ∷
     is_ ProductTypeTail ([]) ∷
     -- pre := ! [ sens ] pre
-    is_ PrefixType (Take (Symbol Bang) ∷ Make Begin ∷ Take (Symbol LeftBracket) ∷ Read Sensitivity ∷ Take (Symbol RightBracket) ∷ Read PrefixType ∷ Make BangType ∷ []) ∷
+    is_ PrefixType (Take (Symbol Bang) ∷ Make Begin ∷ Take (Symbol LeftBracket) ∷ Read Sensitivity ∷ Take (Symbol RightBracket) ∷ Read PrefixType ∷
+    Make BangType ∷ []) ∷
     --      | bag pre
     is_ PrefixType (Take (Keyword Bag) ∷ Make Begin ∷ Read PrefixType ∷ Make BagType ∷ []) ∷
     --      | num | text | unit | bool

@@ -73,7 +73,8 @@ below (suc n) f = cond (f n) (below n f) false
 -- where a rule is chosen it is one for that phrase
 unfoldable pub is_rule : ℕ → ℕ → Bool
 is_rule a c =
-    cond (nat_lt 0 (choice (phrase_at a) c)) (nat_eq (phrase_number (head (choice (phrase_at a) c - 1))) a && nat_lt (choice (phrase_at a) c - 1) rule_count) true
+    cond (nat_lt 0 (choice (phrase_at a) c)) (nat_eq (phrase_number (head (choice (phrase_at a) c - 1))) a
+    && nat_lt (choice (phrase_at a) c - 1) rule_count) true
 
 unfoldable pub cost : Phrase → ℕ
 cost a = get_or cost_rows (phrase_number a) 0

@@ -111,7 +111,11 @@ fn replace(reader: &mut Reader, count: usize, entry: Entry) -> Result<(), NoMemo
     requires held { IsHeld reader.old.nodes entry.held }
     ensures kept { OnOk result (IsInOrder reader.new) }
     ensures state { OnOk result (state_of reader.new ≡
-        record { last = reader.old.last; parts = record { from = entry.from; what = what_of reader.old.nodes entry.held } ∷ drop count (state_of reader.old).parts }) }
+        record {
+          last = reader.old.last;
+          parts = record { from = entry.from; what = what_of reader.old.nodes entry.held } ∷
+              drop count (state_of reader.old).parts;
+        }) }
 {
     let rest = reader.entries.len().saturating_sub(count);
     reader.entries.truncate(rest);

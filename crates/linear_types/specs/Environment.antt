@@ -66,4 +66,5 @@ abbrev pub distance_code : Coded Distance
 distance_code = code_by Gv itself distance_to distance_from distance_back
 
 abbrev pub amounts_code : Coded Amounts
-amounts_code = coded_list (code_by (Name × Distance) (coded× (coded_list coded_ℕ) distance_code) (λ a. (a.name, a.r)) (λ p. record { name = p.0; r = p.1 }) (λ _. refl))
+amounts_code = coded_list (code_by (Name × Distance) (coded× (coded_list coded_ℕ) distance_code) (λ a. (a.name, a.r))
+    (λ p. record { name = p.0; r = p.1 }) (λ _. refl))

@@ -6,7 +6,10 @@ use Rattle.fz_frac.specs.Lowest.{is_out}
 use Rattle.fz_ast.specs.Terms.{Term}
 use Rattle.fz_ast.specs.Types.{Ty}
 use Rattle.linear_types.specs.Sensitivities.{Sensitivities, above_zero, first, join, plus, rest, scale}
-use Rattle.linear_types.specs.Typing.{Context, Typing, is_app, is_at_most, is_bang, is_case, is_clip, is_eq_num, is_eq_text, is_filter, is_fn, is_fst, is_fun, is_greatest, is_if, is_inl, is_inr, is_least, is_let, is_let_bang, is_let_pair, is_map, is_minus, is_num, is_pair, is_plus, is_size, is_snd, is_split, is_sum, is_text, is_times, is_union, is_unit, is_var, is_with, size_of, widest_of}
+use Rattle.linear_types.specs.Typing.{Context, Typing, is_app, is_at_most, is_bang, is_case, is_clip, is_eq_num, is_eq_text, is_filter}
+use Rattle.linear_types.specs.Typing.{is_fn, is_fst, is_fun, is_greatest, is_if, is_inl, is_inr, is_least, is_let, is_let_bang}
+use Rattle.linear_types.specs.Typing.{is_let_pair, is_map, is_minus, is_num, is_pair, is_plus, is_size, is_snd, is_split, is_sum}
+use Rattle.linear_types.specs.Typing.{is_text, is_times, is_union, is_unit, is_var, is_with, size_of, widest_of}
 use Rattle.linear_types.specs.Inferred.{any_out}
 
 -- D + r E: the products or their sums
@@ -34,13 +37,15 @@ is_out_of_range (is_snd p) = is_out_of_range p
 is_out_of_range (is_let_pair {D = D} {E = E} p q) = is_out_of_range p || (is_out_of_range q || bound_out (rest (rest D)) (greater (first (rest D)) (first D)) E)
 is_out_of_range (is_inl p w g h) = is_out_of_range p
 is_out_of_range (is_inr p w g h) = is_out_of_range p
-is_out_of_range (is_case {D = D} {E = E} {F = F} p q r g) = is_out_of_range p || (is_out_of_range q || (is_out_of_range r || bound_out (join (rest D) (rest E)) (above_zero (greater (first D) (first E))) F))
+is_out_of_range (is_case {D = D} {E = E} {F = F} p q r g) = is_out_of_range p
+    || (is_out_of_range q || (is_out_of_range r || bound_out (join (rest D) (rest E)) (above_zero (greater (first D) (first E))) F))
 is_out_of_range (is_if {D = D} {E = E} {F = F} p q r g) = is_out_of_range p || (is_out_of_range q || (is_out_of_range r || any_out (plus (join D E) F)))
 is_out_of_range (is_fun p w h) = is_out_of_range p
 is_out_of_range (is_fn p w) = is_out_of_range p
 is_out_of_range (is_app {D = D} {E = E} p q) = is_out_of_range p || (is_out_of_range q || any_out (plus D E))
 is_out_of_range (is_bang {r = r} {D = D} p w) = is_out_of_range p || any_out (scale r D)
-is_out_of_range (is_let_bang {r = s} {D = D} {E = E} p q) = is_out_of_range p || (is_out_of_range q || (is_out (quotient (first D) s) || bound_out (rest D) (quotient (first D) s) E))
+is_out_of_range (is_let_bang {r = s} {D = D} {E = E} p q) = is_out_of_range p
+    || (is_out_of_range q || (is_out (quotient (first D) s) || bound_out (rest D) (quotient (first D) s) E))
 is_out_of_range (is_let {D = D} {E = E} p q) = is_out_of_range p || (is_out_of_range q || bound_out (rest D) (first D) E)
 is_out_of_range (is_plus {D = D} {E = E} p q) = is_out_of_range p || (is_out_of_range q || any_out (plus D E))
 is_out_of_range (is_minus {D = D} {E = E} p q) = is_out_of_range p || (is_out_of_range q || any_out (plus D E))

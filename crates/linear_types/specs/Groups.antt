@@ -14,7 +14,8 @@ use Rattle.fz_ast.specs.declared.term.Side.TheVariants.{Inl, Inr}
 use Rattle.fz_ast.specs.declared.term.Unary.{Unary}
 use Rattle.fz_ast.specs.declared.term.Unary.TheVariants.{Fst, Snd, Least, Greatest, Size}
 use Rattle.linear_types.specs.Inferred.{Inferred}
-use Rattle.linear_types.specs.Rule.{pair_rule, with_rule, fst_rule, snd_rule, inl_rule, inr_rule, fun_rule, fn_rule, app_rule, plus_rule, le_rule, eq_rule, clip_rule, least_rule, size_rule, sum_rule, union_rule, map_rule, test_rule, halves}
+use Rattle.linear_types.specs.Rule.{pair_rule, with_rule, fst_rule, snd_rule, inl_rule, inr_rule, fun_rule, fn_rule, app_rule, plus_rule}
+use Rattle.linear_types.specs.Rule.{le_rule, eq_rule, clip_rule, least_rule, size_rule, sum_rule, union_rule, map_rule, test_rule, halves}
 use Rattle.linear_types.specs.Sensitivities.{Sensitivities}
 
 -- a form with one part, at u

@@ -25,7 +25,8 @@ RuleIsComplete = (Γ : Context) (t : Term) (A : Ty) (D : Sensitivities) (p : Typ
 
 -- and it is refused by the function, always for its range, exactly where one is
 abbrev pub RuleKeepsRange : Type 0
-RuleKeepsRange = (Γ : Context) (t : Term) (A : Ty) (D : Sensitivities) (p : Typing Γ t A D) → ((s : Span) × (rule Γ t ≡ Untyped (Range s))) ↔ (is_out_of_range p ≡ true)
+RuleKeepsRange = (Γ : Context) (t : Term) (A : Ty) (D : Sensitivities) (p : Typing Γ t A D) → ((s : Span) × (rule Γ t ≡ Untyped (Range s)))
+    ↔ (is_out_of_range p ≡ true)
 
 -- a term has at most one type, with one list of sensitivities
 abbrev pub TypesAreUnique : Type 0

@@ -6,10 +6,13 @@ use Rattle.std.specs.Prelude.{ℤ, [], ◌∷◌, cond, bytes_eq}
 use Rattle.fz_frac.specs.Distance.{Distance, Inf, is_le, none, one, greater, quotient}
 use Rattle.fz_ast.specs.declared.span.Span.{Span}
 use Rattle.fz_ast.specs.Types.{Ty, NumT, TextT, UnitT, TensorT, WithT, SumT, ArrowT, BangT, BagT, BoolT, UnlimitedT, is_ground, is_flat, formed, same_type}
-use Rattle.fz_ast.specs.Terms.{AppE, BangE, CaseE, ClipE, EqE, FilterE, FnE, FstE, FunE, GreatestE, IfE, InlE, InrE, LeE, LeastE, LetBangE, LetE, LetPairE, MapE, MinusE, Name, NumE, PairE, PlusE, SizeE, SndE, SplitE, SumE, Term, TextE, TimesE, UnionE, UnitE, VarE, WithE, at, span_of}
+use Rattle.fz_ast.specs.Terms.{AppE, BangE, CaseE, ClipE, EqE, FilterE, FnE, FstE, FunE, GreatestE, IfE, InlE, InrE}
+use Rattle.fz_ast.specs.Terms.{LeE, LeastE, LetBangE, LetE, LetPairE, MapE, MinusE, Name, NumE, PairE, PlusE, SizeE, SndE}
+use Rattle.fz_ast.specs.Terms.{SplitE, SumE, Term, TextE, TimesE, UnionE, UnitE, VarE, WithE, at, span_of}
 use Rattle.linear_types.specs.Sensitivities.{Sensitivities, first, rest, plus, join, scale, above_zero}
 use Rattle.linear_types.specs.Typing.{Context, Closed, Under, size_of, widest_of}
-use Rattle.linear_types.specs.Inferred.{Exactly, AWithPair, ATensor, ASum, AnArrow, ABang, ABag, AnUnlimitedArrow, ANumberOrText, Unbound, Mismatch, NotGround, NotFlat, TooSensitive, Inferred, Has, Untyped, one_part, two_parts, three_parts, need, need_formed, in_range}
+use Rattle.linear_types.specs.Inferred.{Exactly, AWithPair, ATensor, ASum, AnArrow, ABang, ABag, AnUnlimitedArrow, ANumberOrText, Unbound, Mismatch, NotGround}
+use Rattle.linear_types.specs.Inferred.{NotFlat, TooSensitive, Inferred, Has, Untyped, one_part, two_parts, three_parts, need, need_formed, in_range}
 
 -- the type of this part is A
 abbrev pub exactly : Span → Ty → Ty → Inferred → Inferred
@@ -70,7 +73,8 @@ inr_rule u T v A D = side_rule u T v A (Has (SumT T A) D)
 
 -- case e of inl x => a | inr y => b, with e at u and b at w
 abbrev pub branches_rule : Span → Span → Sensitivities → Ty → Sensitivities → Ty → Sensitivities → Inferred
-branches_rule s w F A D B E = exactly w B A (need (is_ground A) (NotGround s) (has_bound s A (join (rest D) (rest E)) (above_zero (greater (first D) (first E))) F))
+branches_rule s w F A D B E = exactly w B A (need (is_ground A) (NotGround s)
+    (has_bound s A (join (rest D) (rest E)) (above_zero (greater (first D) (first E))) F))
 
 abbrev pub case_rule : Span → Span → Span → Ty → Sensitivities → (Ty → Inferred) → (Ty → Inferred) → Inferred
 case_rule s u w (SumT A B) F left right = two_parts (left A) (right B) (branches_rule s w F)
@@ -153,7 +157,8 @@ map_rule s u v F D B E = Untyped (Mismatch u F AnUnlimitedArrow)
 
 -- filter f b, split f b, of the type that T makes of the elements'
 abbrev pub test_rule : (Ty → Ty) → Span → Span → Span → Ty → Sensitivities → Ty → Sensitivities → Inferred
-test_rule T s u v (ArrowT (BangT Inf A) C) D B E = exactly u (UnlimitedT A C) (UnlimitedT A BoolT) (exactly v B (BagT A) (has_sum s (T A) (plus (scale Inf D) E)))
+test_rule T s u v (ArrowT (BangT Inf A) C) D B E = exactly u (UnlimitedT A C) (UnlimitedT A BoolT)
+    (exactly v B (BagT A) (has_sum s (T A) (plus (scale Inf D) E)))
 test_rule T s u v F D B E = Untyped (Mismatch u F AnUnlimitedArrow)
 
 -- the type of both halves of a split

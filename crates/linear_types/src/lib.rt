@@ -1,7 +1,9 @@
 //! The typing rules, as a family with one constructor a rule and as a function with first faults.
 #![tactic(auto)]
 
-ghost use Rattle.linear_types.specs.Laws.{AcceptedExactly, AcceptedIsBounded, FaultsAreKept, NotNumExactly, OnlyNamesInScope, QuotientIsLeast, QuotientSuffices, RuleIsComplete, RuleIsSound, RuleKeepsRange, SpansChangeNoTyping, TypesAreUnique, TypesCanBeWritten, UnboundedExactly};
+ghost use Rattle.linear_types.specs.Laws.{AcceptedExactly, AcceptedIsBounded, FaultsAreKept, NotNumExactly, OnlyNamesInScope};
+ghost use Rattle.linear_types.specs.Laws.{QuotientIsLeast, QuotientSuffices, RuleIsComplete, RuleIsSound, RuleKeepsRange};
+ghost use Rattle.linear_types.specs.Laws.{SpansChangeNoTyping, TypesAreUnique, TypesCanBeWritten, UnboundedExactly};
 
 pub mod env;
 pub mod places;

@@ -72,7 +72,8 @@ pub fn rest_of(amounts: &[Sens]) -> &[Sens]
 
 /// Each of the sensitivities times `r`, or `Range` exactly where a product is out of range.
 pub fn scaled(alloc: Global, r: Sens, amounts: &[Sens]) -> Result<Vec<Sens>, EnvFault>
-    ensures { MatchResult result (λ v. IsGiven v.items (scale (distance_of r) (distances amounts.now))) (λ f. IsCause f (scale (distance_of r) (distances amounts.now))) }
+    ensures { MatchResult result (λ v. IsGiven v.items (scale (distance_of r) (distances amounts.now)))
+        (λ f. IsCause f (scale (distance_of r) (distances amounts.now))) }
 {
     let mut products = Vec::new(alloc);
     for amount in amounts {
@@ -83,7 +84,8 @@ pub fn scaled(alloc: Global, r: Sens, amounts: &[Sens]) -> Result<Vec<Sens>, Env
 
 fn sum_at(a: &[Sens], b: &[Sens], i: usize) -> Result<Sens, Range>
     requires { (i < length a.now) ⊎ (i < length b.now) }
-    ensures { IsNext result (plus (distances (drop i a.now)) (distances (drop i b.now))) (plus (distances (drop (i + 1) a.now)) (distances (drop (i + 1) b.now))) }
+    ensures { IsNext result (plus (distances (drop i a.now)) (distances (drop i b.now)))
+        (plus (distances (drop (i + 1) a.now)) (distances (drop (i + 1) b.now))) }
 {
     if i >= a.len() {
         Ok(b[i])
@@ -107,7 +109,8 @@ pub fn sum(alloc: Global, a: &[Sens], b: &[Sens]) -> Result<Vec<Sens>, EnvFault>
 
 fn greater_at(a: &[Sens], b: &[Sens], i: usize) -> Sens
     requires { (i < length a.now) ⊎ (i < length b.now) }
-    ensures { join (distances (drop i a.now)) (distances (drop i b.now)) ≡ distance_of result ∷ join (distances (drop (i + 1) a.now)) (distances (drop (i + 1) b.now)) }
+    ensures { join (distances (drop i a.now)) (distances (drop i b.now)) ≡ distance_of result ∷
+        join (distances (drop (i + 1) a.now)) (distances (drop (i + 1) b.now)) }
 {
     if i >= a.len() {
         b[i]

@@ -6,7 +6,8 @@ use Rattle.metric_law.specs.Worked.{name_at, numeral_at, people_at, span}
 
 -- if size people <= 3 then 0 else 100
 abbrev pub compared : Term
-compared = at (span 0 35) (IfE (at (span 3 19) (LeE (at (span 3 14) (SizeE (people_at 8 14))) (numeral_at 18 19 3))) (numeral_at 25 26 0) (numeral_at 32 35 100))
+compared = at (span 0 35) (IfE (at (span 3 19) (LeE (at (span 3 14) (SizeE (people_at 8 14))) (numeral_at 18 19 3))) (numeral_at 25 26 0)
+    (numeral_at 32 35 100))
 
 -- 1125899906842624 * size people
 abbrev pub too_large_a_factor : Term
@@ -14,7 +15,8 @@ too_large_a_factor = at (span 0 30) (TimesE (pos 1125899906842624) (at (span 19 
 
 -- (fun (x : num) => x + x) (size people)
 abbrev pub used_twice : Term
-used_twice = at (span 0 38) (AppE (at (span 1 23) (FunE (codes "x") (span 10 13) NumT (at (span 18 23) (PlusE (name_at 18 19 (codes "x")) (name_at 22 23 (codes "x")))))) (at (span 26 37) (SizeE (people_at 31 37))))
+used_twice = at (span 0 38) (AppE (at (span 1 23) (FunE (codes "x") (span 10 13) NumT
+    (at (span 18 23) (PlusE (name_at 18 19 (codes "x")) (name_at 22 23 (codes "x")))))) (at (span 26 37) (SizeE (people_at 31 37))))
 
 -- fn (x : num) => x + x
 abbrev pub used_twice_without_limit : Term

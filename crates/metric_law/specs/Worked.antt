@@ -4,7 +4,8 @@ use Rattle.fz_frac.specs.Distance.{Distance, Fin, mul, one, quotient, ◌≈◌,
 use Rattle.fz_ast.specs.Bare.{nowhere}
 use Rattle.fz_ast.specs.Limits.{TermLimits}
 use Rattle.fz_ast.specs.Signature.{IsSignature, Signature}
-use Rattle.fz_ast.specs.Terms.{Name, AppE, BangE, CaseE, FilterE, FnE, FunE, InlE, LeE, LetBangE, LetPairE, MapE, NumE, PlusE, SizeE, SplitE, SumE, Term, VarE, at}
+use Rattle.fz_ast.specs.Terms.{Name, AppE, BangE, CaseE, FilterE, FnE, FunE, InlE, LeE, LetBangE}
+use Rattle.fz_ast.specs.Terms.{LetPairE, MapE, NumE, PlusE, SizeE, SplitE, SumE, Term, VarE, at}
 use Rattle.fz_ast.specs.Types.{BangT, NumT, Ty, UnitT}
 use Rattle.fz_ast.specs.declared.span.Span.{Span}
 use Rattle.linear_types.specs.Program.{Accepted, sensitivity_of}

@@ -9,11 +9,18 @@ ghost use Rattle.linear_types.specs.Rule.{rule};
 ghost use Rattle.linear_types.specs.Typing.{Closed, Under};
 ghost use Rattle.linear_types.specs.Inferred.{ASum, Exactly, Has, Mismatch, NotFlat, NotGround, NotNum, Range, TooSensitive, Unbound, Unbounded};
 ghost use Rattle.metric_law.specs.Blanks.{BlanksChangeNoNumber, BlanksChangeNoValue};
-ghost use Rattle.metric_law.specs.Law.{FlatTyping, GroundTyping, LooserFilter, LooserLetBang, LooserSplit, MetricPreservation, NearIsDistance, ProgramsAreBounded, ProgramsHaveValues, Totality, Uniqueness};
-ghost use Rattle.metric_law.specs.Reached.{Reached, at_least_one, at_most_zero, bang, equal_to_zero, first_name_of, left_case_of, let_bang_of, let_of, map_to_n, n, n_and_a_bag, n_of, right_case_of, second_name_of, sum_between, times_of, zero_is_equal};
-ghost use Rattle.metric_law.specs.Refusals.{branches_of_functions, compared, condition_before_branches, map_to_bags, part_out_of_range, parts_come_first, range_comes_last, range_of_a_part_first, side_of_functions, table_alone, table_as_number, too_large_a_factor, too_large_a_product, unbound_table, unbounded_comes_first, used_twice, used_twice_without_limit};
-ghost use Rattle.metric_law.specs.Unsound.{ComparedAtOne, FilterAtZero, LetBangUndivided, MapWithoutInf, PairByMaximum, RemovedAfterwards, SplitAtZero, TextComparedAtZero, Unsound, UnusedCaseAtZero, UsedAt};
-ghost use Rattle.metric_law.specs.Worked.{Answers, Datasets, LooserScalar, Premises, adds_n, span, bang_undone, clipped, counted, counted_twice, filtered_and_mapped, worked_tables, scaled_argument, some_ages, split_in_halves, three_ages, unused_names};
+ghost use Rattle.metric_law.specs.Law.{FlatTyping, GroundTyping, LooserFilter, LooserLetBang, LooserSplit, MetricPreservation};
+ghost use Rattle.metric_law.specs.Law.{NearIsDistance, ProgramsAreBounded, ProgramsHaveValues, Totality, Uniqueness};
+ghost use Rattle.metric_law.specs.Reached.{Reached, at_least_one, at_most_zero, bang, equal_to_zero, first_name_of, left_case_of, let_bang_of, let_of};
+ghost use Rattle.metric_law.specs.Reached.{map_to_n, n, n_and_a_bag, n_of, right_case_of, second_name_of, sum_between, times_of, zero_is_equal};
+ghost use Rattle.metric_law.specs.Refusals.{branches_of_functions, compared, condition_before_branches, map_to_bags, part_out_of_range, parts_come_first};
+ghost use Rattle.metric_law.specs.Refusals.{range_comes_last, range_of_a_part_first, side_of_functions, table_alone, table_as_number, too_large_a_factor};
+ghost use Rattle.metric_law.specs.Refusals.{too_large_a_product, unbound_table, unbounded_comes_first, used_twice, used_twice_without_limit};
+ghost use Rattle.metric_law.specs.Unsound.{ComparedAtOne, FilterAtZero, LetBangUndivided, MapWithoutInf, PairByMaximum, RemovedAfterwards};
+ghost use Rattle.metric_law.specs.Unsound.{SplitAtZero, TextComparedAtZero, Unsound, UnusedCaseAtZero, UsedAt};
+ghost use Rattle.metric_law.specs.Worked.{Answers, Datasets, LooserScalar, Premises, adds_n, span};
+ghost use Rattle.metric_law.specs.Worked.{bang_undone, clipped, counted, counted_twice, filtered_and_mapped, worked_tables};
+ghost use Rattle.metric_law.specs.Worked.{scaled_argument, some_ages, split_in_halves, three_ages, unused_names};
 ghost use Rattle.std.specs.Prelude.{[], codes, pos, ℕ, ℤ, ◌∷◌, ◌≡◌, ◌≤ℤ◌};
 
 /// Near environments give near values, at the sum of sensitivity times distance, at every type and for every form of term.

@@ -67,7 +67,8 @@ impl<D: Disk + Drop + Send> Bay for MemBay<'_, D> {
         ensures listed { is_err result ≡ is_listed (schedule_of self.old) }
 
         // As of any bay.
-        ensures given { IfOk result (λ disk. shelf_of (λ disk. record { trace = D.trace disk; faults = D.faults disk }) (disks_of self.old) owner ≡ Some (record { trace = D.trace disk; faults = D.faults disk })) }
+        ensures given { IfOk result (λ disk. shelf_of (λ disk. record { trace = D.trace disk; faults = D.faults disk }) (disks_of self.old) owner ≡ Some
+            (record { trace = D.trace disk; faults = D.faults disk })) }
         ensures taken { OnOk result (Changes owner None (shelf_of (λ disk. record { trace = D.trace disk; faults = D.faults disk }) (disks_of self.old))
             (shelf_of (λ disk. record { trace = D.trace disk; faults = D.faults disk }) (disks_of self.new))) }
         ensures err { OnErr result (Same (shelf_of (λ disk. record { trace = D.trace disk; faults = D.faults disk }) (disks_of self.old))

@@ -1,6 +1,7 @@
 //! A disk in memory. It tells what was done to it: it keeps its first bytes, and each write and sync since.
 
-ghost use Rattle.std.specs.Prelude.{◌≡◌, ◌+◌, ◌-◌, ◌<◌, ◌≤◌, ◌^◌, ◌||◌, ◌++◌, [], ◌∷◌, Some, length, slice_index, take, drop, replicate, vec_len, min, nat_le, is_err, IsTrue, IsErr, IfOk, IfSome, OnOk, OnErr};
+ghost use Rattle.std.specs.Prelude.{◌≡◌, ◌+◌, ◌-◌, ◌<◌, ◌≤◌, ◌^◌, ◌||◌, ◌++◌, [], ◌∷◌, Some, length, slice_index};
+ghost use Rattle.std.specs.Prelude.{take, drop, replicate, vec_len, min, nat_le, is_err, IsTrue, IsErr, IfOk, IfSome, OnOk, OnErr};
 ghost use Rattle.fz_outside.specs.Faults.{HasCause, last_count};
 ghost use Rattle.fz_outside.specs.Schedule.{is_listed};
 ghost use Rattle.outside_disks.specs.Disks.{seen, seen_of, noted, overlaid, Gives, MayHaveWritten};

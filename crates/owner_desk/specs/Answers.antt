@@ -65,7 +65,8 @@ IsReservedOn before g asking (Err (Unwritten fault)) after =
     (grant : Grant) × (verdict_on before g asking ≡ Ok grant) × IsUnadded before g (reservation_for g asking grant.taken) fault after
 
 abbrev pub IsSettledOn : Pass → List Record → (number : ℕ) → Outcome → Result ℕ AppendFault → Pass → Type 0
-IsSettledOn before g number outcome (Ok seen) after = AddsRecord before g (settlement_for before.opened.ledger.entry g number outcome) after × (seen ≡ length after.seen)
+IsSettledOn before g number outcome (Ok seen) after = AddsRecord before g (settlement_for before.opened.ledger.entry g number outcome) after
+    × (seen ≡ length after.seen)
 IsSettledOn before g number outcome (Err fault) after = IsUnadded before g (settlement_for before.opened.ledger.entry g number outcome) fault after
 
 -- what came of an ask of the budget

@@ -42,7 +42,17 @@ impl<D: Disk> Desk<D> {
     ) -> Result<(Desk<D>, Pass<D>), (Book<D>, AllocError)>
         requires book { IsBook book }
         requires fresh { IsJustOpened book }
-        ensures pass { IfOk result (λ r. r.1 ≡ record { lock = r.0; share = whole_share; knows = record { opened = book; seen = book.ledger.found; failure = None; own = []; faults = [] } }) }
+        ensures pass { IfOk result (λ r. r.1 ≡ record {
+          lock = r.0;
+          share = whole_share;
+          knows = record {
+            opened = book;
+            seen = book.ledger.found;
+            failure = None;
+            own = [];
+            faults = [];
+          };
+        }) }
         ensures refused { IfErr result (λ r. r.0 ≡ book) }
     {
         match Owned::new(alloc, Guarded::new(book)) {
@@ -75,7 +85,8 @@ impl<D: Disk> Desk<D> {
         ensures own { (h : Told → ℕ) → sum_by h pass.new.knows.own ≡ sum_by h pass.old.knows.own + sum_by h other.knows.own }
         ensures apart { Ascends 0 pass.new.knows.own }
         ensures faults { (h : Failure → ℕ) → sum_by h pass.new.knows.faults ≡ sum_by h pass.old.knows.faults + sum_by h other.knows.faults }
-        ensures failure { (failure : Failure) → (pass.old.knows.failure ≡ Some failure) ⊎ (other.knows.failure ≡ Some failure) → pass.new.knows.failure ≡ Some failure }
+        ensures failure { (failure : Failure) → (pass.old.knows.failure ≡ Some failure) ⊎ (other.knows.failure ≡ Some failure)
+            → pass.new.knows.failure ≡ Some failure }
     {
         let Held { ticket, owner: _ } = other;
         self.owned.join(&mut pass.ticket, ticket);

@@ -21,7 +21,8 @@ use Rattle.metric_law.specs.Means.{Means}
 use Rattle.typing_rows.specs.Says.{IsWanted}
 use Rattle.sensitivity_check.specs.declared.checker.Checked.{Checked}
 use Rattle.sensitivity_check.specs.declared.fault.CheckFault.{CheckFault}
-use Rattle.sensitivity_check.specs.declared.fault.CheckFault.TheVariants.{Unbound, Mismatch, NotGround, NotFlat, TooSensitive, Range, Unbounded, NotNum, NoMemory}
+use Rattle.sensitivity_check.specs.declared.fault.CheckFault.TheVariants.{Unbound, Mismatch, NotGround, NotFlat, TooSensitive}
+use Rattle.sensitivity_check.specs.declared.fault.CheckFault.TheVariants.{Range, Unbounded, NotNum, NoMemory}
 
 -- the code's fault is this one of the rules, with all its data
 abbrev pub IsCheckFault : Signature → CheckFault → Fault → Type 0

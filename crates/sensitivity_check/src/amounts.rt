@@ -27,7 +27,8 @@ fn amount_at(amounts: &[Sens], i: usize) -> Sens
 
 /// The first of so many tables to which the sensitivity is infinite.
 pub fn first_endless(amounts: &[Sens], tables: usize) -> Option<usize>
-    ensures { MatchOption result (FiniteBelow (distances amounts.now) tables) (λ i. (i < tables) × (sensitivity_at (distances amounts.now) i ≡ Inf) × FiniteBelow (distances amounts.now) i) }
+    ensures { MatchOption result (FiniteBelow (distances amounts.now) tables) (λ i. (i < tables) × (sensitivity_at (distances amounts.now) i ≡ Inf)
+        × FiniteBelow (distances amounts.now) i) }
 {
     for i in 0..tables {
         if let Sens::Inf = amount_at(amounts, i) {

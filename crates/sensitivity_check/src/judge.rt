@@ -9,7 +9,8 @@ ghost use Rattle.fz_ast.specs.TermNodes.{term_at};
 ghost use Rattle.fz_ast.specs.Terms.{span_of};
 ghost use Rattle.fz_ast.specs.TypeNodes.{type_at};
 ghost use Rattle.fz_ast.specs.declared.span.Span.{Span};
-ghost use Rattle.fz_ast.specs.declared.term.Form.TheVariants.{Unary as Op, Binary as Op2, Times, Ranged as Bounded, Inject, Bang, Let, LetBang, LetPair, If, Case, Lambda};
+ghost use Rattle.fz_ast.specs.declared.term.Form.TheVariants.{Unary as Op, Binary as Op2, Times, Ranged as Bounded, Inject, Bang};
+ghost use Rattle.fz_ast.specs.declared.term.Form.TheVariants.{Let, LetBang, LetPair, If, Case, Lambda};
 ghost use Rattle.fz_frac.specs.Sens.{distance_of};
 ghost use Rattle.linear_types.specs.Rule.{rule};
 ghost use Rattle.linear_types.specs.Typing.{Under};
@@ -69,7 +70,8 @@ impl Walk<'_> {
         requires b_known { b < length self.now.nodes.now.terms }
         requires ready { IsReady self.now.nodes.now arena.old self.now.written.now scope.now }
         ensures grows { Grows arena.old arena.new }
-        ensures says { SayTwo arena.new result (rule (context_in arena.old scope.now) (term_at self.now.nodes.now.terms a)) (rule (context_in arena.old scope.now) (term_at self.now.nodes.now.terms b)) }
+        ensures says { SayTwo arena.new result (rule (context_in arena.old scope.now) (term_at self.now.nodes.now.terms a))
+            (rule (context_in arena.old scope.now) (term_at self.now.nodes.now.terms b)) }
     {
         let first = self.judge(arena, scope, a)?;
         let second = self.judge(arena, scope, b)?;
@@ -89,7 +91,8 @@ impl Walk<'_> {
         requires bound { bound.ty < length arena.old }
         requires ready { IsReady self.now.nodes.now arena.old self.now.written.now scope.now }
         ensures grows { Grows arena.old arena.new }
-        ensures says { Says arena.new result (rule (Under (name_of bound.name) (type_at arena.old bound.ty) (context_in arena.old scope.now)) (term_at self.now.nodes.now.terms i)) }
+        ensures says { Says arena.new result (rule (Under (name_of bound.name) (type_at arena.old bound.ty) (context_in arena.old scope.now))
+            (term_at self.now.nodes.now.terms i)) }
     {
         let inner = under(self.alloc, scope, bound)?;
         self.judge(arena, &inner, i)

@@ -1,6 +1,7 @@
 //! The crew of workers: hired, at work, and brought in.
 
-ghost use Rattle.std.specs.Prelude.{◌≡◌, ◌+◌, ◌++◌, ◌^◌, ◌<◌, ◌≤◌, [], ◌∷◌, ℕ, length, map, sum_by, All, IfErr, IfOk, OnOk, get_or, slice_index_or, vec_capacity};
+ghost use Rattle.std.specs.Prelude.{◌≡◌, ◌+◌, ◌++◌, ◌^◌, ◌<◌, ◌≤◌, [], ◌∷◌, ℕ, length};
+ghost use Rattle.std.specs.Prelude.{map, sum_by, All, IfErr, IfOk, OnOk, get_or, slice_index_or, vec_capacity};
 ghost use Rattle.word_streams.specs.Draws.{draws_of};
 ghost use Rattle.owner_house.specs.House.{house_of};
 ghost use Rattle.session_core.specs.Bundles.{given_halves, handed_on, kept_halves};

@@ -61,7 +61,8 @@ impl Line {
 
     /// The line without its end. None where it is over the limit and wasn't kept.
     pub(crate) fn text(&self) -> Option<&[u8]>
-        ensures { (raw text : List ℕ) → Keeps self.now raw → lines_of raw ≡ text ∷ [] → MatchOption result (line_limit < length text) (λ line. line.now ≡ text) }
+        ensures { (raw text : List ℕ) → Keeps self.now raw → lines_of raw ≡ text ∷ [] → MatchOption result (line_limit < length text)
+            (λ line. line.now ≡ text) }
     {
         if self.long {
             return None;

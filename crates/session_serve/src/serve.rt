@@ -69,7 +69,8 @@ fn answer<'a, R: Wait, D: Disk, S: Streams, G>(
     requires passes { ArePasses (house_of server.now.house.now) passes.old.knows }
     requires known { IsAnalyst (house_of server.now.house.now) who }
     ensures served { (raw text : List ℕ) → Keeps line.now raw → lines_of raw ≡ text ∷ [] → (told : List Told) ×
-        AreServed (house_of server.now.house.now) (S.given server.now.streams.now) (one_line who text (replied result.reply) told) passes.old.knows passes.new.knows }
+        AreServed (house_of server.now.house.now) (S.given server.now.streams.now)
+        (one_line who text (replied result.reply) told) passes.old.knows passes.new.knows }
     ensures who { (raw text : List ℕ) → Keeps line.now raw → lines_of raw ≡ text ∷ [] → result.who ≡ who_behind (house_of server.now.house.now) who text }
     ensures ends { (raw text : List ℕ) → Keeps line.now raw → lines_of raw ≡ text ∷ [] → result.ends ≡ is_bye text }
     ensures known { IsAnalyst (house_of server.now.house.now) result.who }

@@ -81,19 +81,23 @@ fn by_four<D: Disk + Send, R: Threads + Wait + Sync>(
     right: (Pass<D>, Pass<D>),
     asking: &Ask,
 ) -> ((Pass<D>, Pass<D>), (Pass<D>, Pass<D>))
-    requires left { (left.0.lock ≡ desk.now) × (left.1.lock ≡ desk.now) × IsAskOf left.0.knows.opened.ledger.entry asking.now × IsAskOf left.1.knows.opened.ledger.entry asking.now }
-    requires right { (right.0.lock ≡ desk.now) × (right.1.lock ≡ desk.now) × IsAskOf right.0.knows.opened.ledger.entry asking.now × IsAskOf right.1.knows.opened.ledger.entry asking.now }
+    requires left { (left.0.lock ≡ desk.now) × (left.1.lock ≡ desk.now) × IsAskOf left.0.knows.opened.ledger.entry asking.now
+        × IsAskOf left.1.knows.opened.ledger.entry asking.now }
+    requires right { (right.0.lock ≡ desk.now) × (right.1.lock ≡ desk.now) × IsAskOf right.0.knows.opened.ledger.entry asking.now
+        × IsAskOf right.1.knows.opened.ledger.entry asking.now }
     ensures left { IsKept left.0 result.0.0 × IsKept left.1 result.0.1 }
     ensures right { IsKept right.0 result.1.0 × IsKept right.1 result.1.1 }
 {
     join(
         rt,
         || -> (Pass<D>, Pass<D>)
-            requires { IsSync R.row × (left.0.lock ≡ desk.now) × (left.1.lock ≡ desk.now) × IsAskOf left.0.knows.opened.ledger.entry asking.now × IsAskOf left.1.knows.opened.ledger.entry asking.now }
+            requires { IsSync R.row × (left.0.lock ≡ desk.now) × (left.1.lock ≡ desk.now) × IsAskOf left.0.knows.opened.ledger.entry asking.now
+                × IsAskOf left.1.knows.opened.ledger.entry asking.now }
             ensures { IsKept left.0 result.0 × IsKept left.1 result.1 }
         { by_two(rt, desk, left.0, left.1, asking) },
         || -> (Pass<D>, Pass<D>)
-            requires { IsSync R.row × (right.0.lock ≡ desk.now) × (right.1.lock ≡ desk.now) × IsAskOf right.0.knows.opened.ledger.entry asking.now × IsAskOf right.1.knows.opened.ledger.entry asking.now }
+            requires { IsSync R.row × (right.0.lock ≡ desk.now) × (right.1.lock ≡ desk.now) × IsAskOf right.0.knows.opened.ledger.entry asking.now
+                × IsAskOf right.1.knows.opened.ledger.entry asking.now }
             ensures { IsKept right.0 result.0 × IsKept right.1 result.1 }
         { by_two(rt, desk, right.0, right.1, asking) },
     )

@@ -21,7 +21,8 @@ use std::alloc::Global;
 
 // inf D + E, with D of the function and E of the bag
 fn each_element(alloc: Global, s: Span, o: &Judged, p: &Judged) -> Result<Vec<Sens>, RowFault>
-    ensures { (D E : Sensitivities) → AreAlike (distances o.now.amounts.items) D → AreAlike (distances p.now.amounts.items) E → GivesAll result s (plus (scale Inf D) E) }
+    ensures { (D E : Sensitivities) → AreAlike (distances o.now.amounts.items) D → AreAlike (distances p.now.amounts.items) E
+        → GivesAll result s (plus (scale Inf D) E) }
 {
     let a = endless(alloc, &o.amounts)?;
     sum_at(alloc, s, &a, &p.amounts)
@@ -159,7 +160,8 @@ fn filtered(
     requires p_known { p.now.ty < length arena.old }
     ensures grows { Grows arena.old arena.new }
     ensures says { (D E : Sensitivities) → AreAlike (distances o.now.amounts.items) D → AreAlike (distances p.now.amounts.items) E
-        → Says arena.new result (exactly v (type_at arena.old p.now.ty) (BagT (type_at arena.old a)) (has_sum s (BagT (type_at arena.old a)) (plus (scale Inf D) E))) }
+        → Says arena.new result (exactly v (type_at arena.old p.now.ty) (BagT (type_at arena.old a))
+        (has_sum s (BagT (type_at arena.old a)) (plus (scale Inf D) E))) }
 {
     if !is_bag_of(arena, p.ty, a) {
         return Err(not_form(arena, v, p.ty, TypeForm::Bag(a)));
@@ -214,7 +216,8 @@ fn halved(
     requires p_known { p.now.ty < length arena.old }
     ensures grows { Grows arena.old arena.new }
     ensures says { (D E : Sensitivities) → AreAlike (distances o.now.amounts.items) D → AreAlike (distances p.now.amounts.items) E
-        → Says arena.new result (exactly v (type_at arena.old p.now.ty) (BagT (type_at arena.old a)) (has_sum s (halves (type_at arena.old a)) (plus (scale Inf D) E))) }
+        → Says arena.new result (exactly v (type_at arena.old p.now.ty) (BagT (type_at arena.old a))
+        (has_sum s (halves (type_at arena.old a)) (plus (scale Inf D) E))) }
 {
     if !is_bag_of(arena, p.ty, a) {
         return Err(not_form(arena, v, p.ty, TypeForm::Bag(a)));

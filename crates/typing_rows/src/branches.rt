@@ -39,7 +39,8 @@ pub fn branches(
 ) -> Result<Judged, RowFault>
     requires o_known { o.now.ty < length arena.now }
     requires p_known { p.now.ty < length arena.now }
-    ensures says { (F D E : Sensitivities) → AreAlike (distances e.now) F → AreAlike (distances o.now.amounts.items) D → AreAlike (distances p.now.amounts.items) E
+    ensures says { (F D E : Sensitivities) → AreAlike (distances e.now) F → AreAlike (distances o.now.amounts.items) D
+        → AreAlike (distances p.now.amounts.items) E
         → Says arena.now result (branches_rule s w F (type_at arena.now o.now.ty) D (type_at arena.now p.now.ty) E) }
 {
     if !arena.same(p.ty, o.ty) {
@@ -72,7 +73,8 @@ pub fn choice(
     requires o_known { o.now.ty < length arena.old }
     requires p_known { p.now.ty < length arena.old }
     ensures grows { Grows arena.old arena.new }
-    ensures says { (F D E : Sensitivities) → AreAlike (distances e.now.amounts.items) F → AreAlike (distances o.now.amounts.items) D → AreAlike (distances p.now.amounts.items) E
+    ensures says { (F D E : Sensitivities) → AreAlike (distances e.now.amounts.items) F → AreAlike (distances o.now.amounts.items) D
+        → AreAlike (distances p.now.amounts.items) E
         → Says arena.new result (if_rule s u w (type_at arena.old e.now.ty) F (type_at arena.old o.now.ty) D (type_at arena.old p.now.ty) E) }
 {
     if !is_truth(arena, e.ty) {

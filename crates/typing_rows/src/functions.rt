@@ -129,7 +129,8 @@ pub fn bang(
 pub fn let_bang(alloc: Global, s: Span, r: Sens, e: &[Sens], o: &Judged) -> Result<Judged, RowFault>
     requires bang { IsBang (distance_of r) }
     ensures says { (T : List Ty) (E D : Sensitivities) → o.now.ty < length T → AreAlike (distances e.now) E → AreAlike (distances o.now.amounts.items) D
-        → Says T result (in_range s (quotient (first D) (distance_of r) ∷ []) (has_bound s (type_at T o.now.ty) (rest D) (quotient (first D) (distance_of r)) E)) }
+        → Says T result (in_range s (quotient (first D) (distance_of r) ∷ [])
+        (has_bound s (type_at T o.now.ty) (rest D) (quotient (first D) (distance_of r)) E)) }
 {
     let k = quotient_at(s, first_of(&o.amounts), r)?;
     bound(alloc, s, k, e, o.ty, rest_of(&o.amounts))

@@ -22,7 +22,8 @@ use std::alloc::Global;
 fn sides(arena: &Arena, u: Span, t: u32, v: Span, a: u32) -> Result<(), RowFault>
     requires t_known { t < length arena.now }
     requires a_known { a < length arena.now }
-    ensures ok { IfOk result (λ _. (formed (type_at arena.now t) ≡ WellFormed) × (is_ground (type_at arena.now t) ≡ true) × (is_ground (type_at arena.now a) ≡ true)) }
+    ensures ok { IfOk result (λ _. (formed (type_at arena.now t) ≡ WellFormed) × (is_ground (type_at arena.now t) ≡ true)
+        × (is_ground (type_at arena.now a) ≡ true)) }
     ensures err { IfErr result (λ fault. (T : List Ty) (o : Inferred) → IsFaultOf T fault (side_rule u (type_at arena.now t) v (type_at arena.now a) o)) }
 {
     written(arena, u, t)?;

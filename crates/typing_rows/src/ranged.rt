@@ -59,7 +59,8 @@ pub fn endless(alloc: Global, a: &[Sens]) -> Result<Vec<Sens>, RowFault>
 
 /// max(D, E)
 pub fn greatest(alloc: Global, a: &[Sens], b: &[Sens]) -> Result<Vec<Sens>, RowFault>
-    ensures { (D E : Sensitivities) → AreAlike (distances a.now) D → AreAlike (distances b.now) E → MatchResult result (λ v. AreAlike (distances v.items) (join D E)) (λ f. f ≡ NoMemory) }
+    ensures { (D E : Sensitivities) → AreAlike (distances a.now) D → AreAlike (distances b.now) E
+        → MatchResult result (λ v. AreAlike (distances v.items) (join D E)) (λ f. f ≡ NoMemory) }
 {
     match joined(alloc, a, b) {
         Ok(v) => Ok(v),
@@ -124,7 +125,8 @@ pub fn bound(
     ty: u32,
     left: &[Sens],
 ) -> Result<Judged, RowFault>
-    ensures { (T : List Ty) (d : Distance) (E D : Sensitivities) → ty < length T → distance_of r ≈ d → AreAlike (distances e.now) E → AreAlike (distances left.now) D
+    ensures { (T : List Ty) (d : Distance) (E D : Sensitivities) → ty < length T → distance_of r ≈ d → AreAlike (distances e.now) E
+        → AreAlike (distances left.now) D
         → Says T result (has_bound s (type_at T ty) D d E) }
 {
     let a = scaled_at(alloc, s, r, e)?;

@@ -167,7 +167,8 @@ pub fn written(arena: &Arena, u: Span, t: u32) -> Result<(), RowFault>
 
 // The fault of a part at `span` whose type number is `found`, where another type was wanted.
 fn mismatch(span: Span, found: u32, wanted: Result<u32, NoMemory>) -> RowFault
-    ensures { (T U : List Ty) (A : Ty) → found < length T → Grows T U → IfOk wanted (λ t. IsTyped U t A) → IsFaultOf U result (Untyped (Mismatch span (type_at T found) (Exactly A))) }
+    ensures { (T U : List Ty) (A : Ty) → found < length T → Grows T U → IfOk wanted (λ t. IsTyped U t A)
+        → IsFaultOf U result (Untyped (Mismatch span (type_at T found) (Exactly A))) }
 {
     match wanted {
         Ok(t) => RowFault::Mismatch {

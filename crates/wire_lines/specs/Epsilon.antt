@@ -1,5 +1,6 @@
 -- An epsilon as an analyst writes it, in millionths.
-use Rattle.std.specs.Prelude.{◌≡◌, ℕ, ◌+◌, ◌-◌, ◌*◌, ◌^◌, ◌<◌, ◌≤◌, ◌==◌, ◌&&◌, ◌⊎◌, nat_le, nat_lt, if◌then◌else◌, List, [], ◌∷◌, ◌++◌, length, Option, Some, None}
+use Rattle.std.specs.Prelude.{◌≡◌, ℕ, ◌+◌, ◌-◌, ◌*◌, ◌^◌, ◌<◌, ◌≤◌, ◌==◌, ◌&&◌, ◌⊎◌}
+use Rattle.std.specs.Prelude.{nat_le, nat_lt, if◌then◌else◌, List, [], ◌∷◌, ◌++◌, length, Option, Some, None}
 use Rattle.std.specs.List.{slice_split}
 use Rattle.std.specs.Str.Parse.{digits_value}
 use Rattle.journal_records.specs.Encoding.{epsilon_limit}
@@ -26,7 +27,8 @@ IsWritten text whole fraction = ((text ≡ whole) × (fraction ≡ [])) ⊎ ((te
 -- a decimal from 0.000001 to 1000, and its millionths
 abbrev pub IsEpsilonText : List ℕ → ℕ → Type 0
 IsEpsilonText text n =
-    (whole fraction : List ℕ) × IsNumeral WHOLE_DIGITS whole × IsWritten text whole fraction × (n ≡ in_millionths whole fraction) × (0 < n) × (n ≤ epsilon_limit)
+    (whole fraction : List ℕ) × IsNumeral WHOLE_DIGITS whole × IsWritten text whole fraction × (n ≡ in_millionths whole fraction) × (0 < n)
+    × (n ≤ epsilon_limit)
 
 -- The same as a function: the millionths, or nothing where the text is no decimal in range.
 abbrev pub epsilon_in_range : ℕ → Option ℕ

@@ -6,7 +6,8 @@ use Rattle.wire_lines.specs.declared.refusal.TypeFault.{TypeFault}
 use Rattle.wire_lines.specs.declared.refusal.LineRefusal.{LineRefusal}
 use Rattle.wire_lines.specs.declared.refusal.LineRefusal.TheVariants.{Malformed, TooLong}
 use Rattle.wire_lines.specs.declared.refusal.ProgramRefusal.{ProgramRefusal as ProgramRefusalAt}
-use Rattle.wire_lines.specs.declared.refusal.ProgramRefusal.TheVariants.{NoToken, NoTerm, TooNested, IllTyped, TooSensitive, OutOfRange, Unbounded, NoNumber, TooDeep, TooLong as ProgramTooLong, TooWide}
+use Rattle.wire_lines.specs.declared.refusal.ProgramRefusal.TheVariants.{NoToken, NoTerm, TooNested, IllTyped, TooSensitive, OutOfRange}
+use Rattle.wire_lines.specs.declared.refusal.ProgramRefusal.TheVariants.{Unbounded, NoNumber, TooDeep, TooLong as ProgramTooLong, TooWide}
 use Rattle.wire_lines.specs.declared.refusal.MoneyRefusal.{MoneyRefusal}
 use Rattle.wire_lines.specs.declared.refusal.DiskRefusal.{DiskRefusal}
 use Rattle.wire_lines.specs.declared.refusal.NumberRefusal.{NumberRefusal}

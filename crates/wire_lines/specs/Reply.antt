@@ -8,7 +8,8 @@ use Rattle.fz_frac.specs.Sens.{distance_of}
 use Rattle.wire_lines.specs.Lines.{lf, space}
 use Rattle.wire_lines.specs.Name.{is_name}
 use Rattle.wire_lines.specs.Codes.{code_of, code_text}
-use Rattle.wire_lines.specs.Refusal.{ProgramRefusal, no_token, no_term, too_nested, ill_typed, too_sensitive, out_of_range, unbounded, no_number, too_deep, too_long, too_wide, Refusal, by_line, by_program, by_money, by_disk, by_number, no_memory, refusal_at}
+use Rattle.wire_lines.specs.Refusal.{ProgramRefusal, no_token, no_term, too_nested, ill_typed, too_sensitive, out_of_range, unbounded, no_number, too_deep}
+use Rattle.wire_lines.specs.Refusal.{too_long, too_wide, Refusal, by_line, by_program, by_money, by_disk, by_number, no_memory, refusal_at}
 use Rattle.wire_lines.specs.declared.reply.Reply.{Reply}
 use Rattle.wire_lines.specs.declared.reply.Reply.TheVariants.{Hello, Answer, Recalled, Left, Bye, Refused}
 use Rattle.journal_records.specs.declared.records.Outcome.{Outcome}

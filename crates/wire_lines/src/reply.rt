@@ -3,7 +3,9 @@
 ghost use Rattle.std.specs.Prelude.{◌≡◌, ◌+◌, ◌≤◌, ◌<◌, ◌^◌, ◌++◌, [], ◌∷◌, codes, length, take, map, decimal, IsTrue};
 ghost use Rattle.fz_frac.specs.Sens.{distance_of};
 ghost use Rattle.wire_lines.specs.Refusal.{program_refusal_at, refusal_at};
-ghost use Rattle.wire_lines.specs.Reply.{IsReply, HasSize, number, text, ratio, recalled, reply_words, reply_text, replied, line_text, no_words, line_data, program_data, money_data, disk_data, number_data, refusal_words, datum_text, sensitivity_text, type_fault_text, datum_of};
+ghost use Rattle.wire_lines.specs.Reply.{IsReply, HasSize, number, text, ratio, recalled, reply_words};
+ghost use Rattle.wire_lines.specs.Reply.{reply_text, replied, line_text, no_words, line_data, program_data, money_data};
+ghost use Rattle.wire_lines.specs.Reply.{disk_data, number_data, refusal_words, datum_text, sensitivity_text, type_fault_text, datum_of};
 ghost use Rattle.wire_lines.specs.Codes.{line_code, program_code, money_code, disk_code, number_code};
 ghost use Rattle.wire_lines.specs.Lines.{space};
 ghost use Rattle.wire_lines.specs.Name.{is_name};
@@ -177,7 +179,8 @@ fn write_line_refusal(refusal: LineRefusal, out: &mut [u8; REPLY_LIMIT]) -> usiz
 fn write_program_refusal(refusal: ProgramRefusal<'_>, out: &mut [u8; REPLY_LIMIT]) -> usize
     ensures fits { result ≤ REPLY_LIMIT }
     ensures sized { AllByRecursion HasSize (program_data (program_refusal_at refusal.entry)) }
-    ensures text { take result out.new ≡ line_text (no_words (program_code (program_refusal_at refusal.entry)) (program_data (program_refusal_at refusal.entry))) }
+    ensures text { take result out.new ≡ line_text (no_words (program_code (program_refusal_at refusal.entry))
+        (program_data (program_refusal_at refusal.entry))) }
 {
     match refusal {
         ProgramRefusal::NoToken { place } => put_line(out, b"no 20", &[Number(place)]),

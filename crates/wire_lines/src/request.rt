@@ -1,7 +1,9 @@
 //! A line is read as a request.
 
 ghost use Rattle.std.specs.Prelude.{◌≡◌, ◌≤◌, ◌<◌, ◌↔◌, ℕ, length, IfOk, IfErr, Ok, Err, Some, ◌∷◌};
-ghost use Rattle.wire_lines.specs.Request.{Asked, IsRequest, HasEpsilonInRange, line_limit, request_of, fault_of, reading, asked, word_at, number_at, end_at, hello_from, ask_from, askpart_from, recall_from, left_from, bye_from, words_behind, word_and_words, number_and_words};
+ghost use Rattle.wire_lines.specs.Request.{Asked, IsRequest, HasEpsilonInRange, line_limit, request_of, fault_of, reading};
+ghost use Rattle.wire_lines.specs.Request.{asked, word_at, number_at, end_at, hello_from, ask_from, askpart_from};
+ghost use Rattle.wire_lines.specs.Request.{recall_from, left_from, bye_from, words_behind, word_and_words, number_and_words};
 ghost use Rattle.wire_lines.specs.Lines.{words_of};
 ghost use Rattle.wire_lines.specs.Refusal.{IsFormRefusal};
 ghost use Rattle.std.specs.Result.{result_map_both};
