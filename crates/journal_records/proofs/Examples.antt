@@ -27,7 +27,7 @@ first_digest = refl
 abbrev greatest : Reservation
 greatest = record {
   number = 4294967295;
-  view = Part 7 249;
+  view = Part 7 3999;
   e = 1000000000;
   p = 4294967295;
   q = 4294967294;
@@ -37,8 +37,8 @@ greatest = record {
 }
 
 greatest_bytes : encoded (Reserve greatest) ≡
-    (165 ∷ 1 ∷ 7 ∷ 249 ∷ []) ++ replicate 4 255 ++ (59 ∷ 154 ∷ 202 ∷ 0 ∷ []) ++ replicate 4 255 ++ (255 ∷ 255 ∷ 255 ∷ 254 ∷ [])
-    ++ replicate 8 255 ++ (255 ∷ 255 ∷ 0 ∷ 0 ∷ []) ++ replicate 32 255
+    (165 ∷ 1 ∷ 7 ∷ 159 ∷ []) ++ replicate 4 255 ++ (59 ∷ 154 ∷ 202 ∷ 0 ∷ []) ++ replicate 4 255 ++ (255 ∷ 255 ∷ 255 ∷ 254 ∷ [])
+    ++ replicate 8 255 ++ (255 ∷ 255 ∷ 15 ∷ 0 ∷ []) ++ replicate 32 255
 greatest_bytes = refl
 
 -- bytes in order: each field has its place
@@ -189,7 +189,7 @@ first_valid = record {
 number_too_high : IsReservation (record first { number = 4294967296 }) → ⊥
 number_too_high valid = let h = valid.numbered in omega (arith, h)
 
-no_such_part : IsReservation (record first { view = Part 0 250 }) → ⊥
+no_such_part : IsReservation (record first { view = Part 0 4000 }) → ⊥
 no_such_part valid = let h = valid.viewed.1 in omega (arith, h)
 
 no_such_partition : IsReservation (record first { view = Part 8 0 }) → ⊥

@@ -17,6 +17,7 @@ pub const HEADER_LENGTH: usize = 128;
 /// What opens a header or a slot.
 pub const GATE: u8 = 0xA5;
 
+// The partition's byte, and the low and the high byte of the part.
 fn view_bytes(view: View) -> (u8, u8, u8)
     ensures partition { result.0 ≡ partition_byte view }
     ensures low { result.1 ≡ part_low_byte view }
@@ -24,10 +25,7 @@ fn view_bytes(view: View) -> (u8, u8, u8)
 {
     match view {
         View::Whole => (255, 0, 0),
-        View::Part { partition, part } => {
-            let [high, low] = part.to_be_bytes();
-            (partition, low, high)
-        }
+        View::Part { partition, part } => (partition, (part % 256) as u8, (part / 256) as u8),
     }
 }
 

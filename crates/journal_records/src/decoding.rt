@@ -23,7 +23,7 @@ fn view_of(partition: u8, low: u8, high: u8) -> Option<View>
     ensures valid { IfSome result IsView }
     ensures only { (view : Views) → IsView view → partition ≡ partition_byte view → low ≡ part_low_byte view → high ≡ part_high_byte view → result ≡ Some view }
 {
-    let part = u16::from_be_bytes([high, low]);
+    let part = u16::from(high) * 256 + u16::from(low);
     if partition == 255 && part == 0 {
         Some(View::Whole)
     } else if (partition as usize) < PARTITIONS && (part as usize) < PARTS {

@@ -1,7 +1,9 @@
 -- Costs, worked out by computation.
-use Rattle.std.proofs.Common.{◌≡◌, ℕ, ◌≤◌, true, false, [], ◌∷◌, refl, arith}
+use Rattle.std.proofs.Common.{◌≡◌, ℕ, zero, suc, ◌≤◌, true, false, List, [], ◌∷◌, refl, arith, inl, inr}
 use Rattle.partition_charge.specs.declared.view.View.TheVariants.{Whole, Part}
-use Rattle.partition_charge.specs.Views.{IsView, same_view, partition_limit, partition_range}
+use Rattle.partition_charge.specs.declared.parts.PartSum.{PartSum}
+use Rattle.partition_charge.specs.Views.{IsView, IsPartBelow, same_view, partition_limit, partition_range}
+use Rattle.partition_charge.specs.Parts.{sum_of, sum_without, IsInOrder, AreBelow, HasPlaceAmong}
 use Rattle.partition_charge.specs.Cost.{Charge, charges_of, greatest_by, partition_cost, cost_of_charges}
 
 abbrev whole : ℕ → Charge
@@ -49,7 +51,7 @@ unfolding cost_of_charges partition_cost
 whole_and_parts = refl
 
 -- the last part of the last partition counts, and what is past the partitions doesn't
-last_part : cost_of_charges (part 7 249 5 ∷ []) ≡ 5
+last_part : cost_of_charges (part 7 3999 5 ∷ []) ≡ 5
 unfolding cost_of_charges partition_cost
 last_part = refl
 
@@ -81,13 +83,13 @@ views_for_all : partition_limit ≤ partition_range
 views_for_all = omega arith
 
 -- which views there are
-last_view : IsView (Part 7 249)
+last_view : IsView (Part 7 3999)
 last_view = (omega arith, omega arith)
 
 first_view : IsView (Part 0 0)
 first_view = (omega arith, omega arith)
 
-no_such_part : IsView (Part 0 250) → ⊥
+no_such_part : IsView (Part 0 4000) → ⊥
 no_such_part view = let h = view.1 in omega (arith, h)
 
 no_such_partition : IsView (Part 8 0) → ⊥
@@ -108,3 +110,72 @@ other_part = refl
 
 other_partition : same_view (Part 0 2) (Part 1 2) ≡ false
 other_partition = refl
+
+-- ---- the sums of a partition
+
+abbrev sum : (part amount : ℕ) → PartSum
+sum part amount = record { part = part; sum = amount }
+
+abbrev two_sums : List PartSum
+two_sums = sum 0 6 ∷ sum 3999 4 ∷ []
+
+first_sum : sum_of two_sums 0 ≡ 6
+first_sum = refl
+
+last_sum : sum_of two_sums 3999 ≡ 4
+last_sum = refl
+
+sum_between : sum_of two_sums 1 ≡ 0
+sum_between = refl
+
+its_sum_without : sum_without two_sums 3999 3 3999 ≡ 1
+its_sum_without = refl
+
+other_sum_without : sum_without two_sums 3999 3 0 ≡ 6
+other_sum_without = refl
+
+out_of_order : IsInOrder (sum 3999 4 ∷ sum 0 6 ∷ []) → ⊥
+out_of_order ordered = let h = ordered 0 1 (omega arith) (omega arith) in omega (arith, h)
+
+-- nor does a part stand twice
+not_twice : IsInOrder (sum 7 4 ∷ sum 7 6 ∷ []) → ⊥
+not_twice ordered = let h = ordered 0 1 (omega arith) (omega arith) in omega (arith, h)
+
+-- ---- room
+
+-- where there is none, no part has a place
+no_room : HasPlaceAmong [] 0 0 → ⊥
+no_room (inl found) = omega (arith, found.1.in_range)
+no_room (inr free) = omega (arith, free)
+
+-- where there is room for one, any part has, and then that part alone
+room_for_one : HasPlaceAmong [] 1 3999
+room_for_one = inr (omega arith)
+
+room_for_the_same : HasPlaceAmong (sum 3999 4 ∷ []) 1 3999
+room_for_the_same = inl (0, record { in_range = omega arith; has_part = refl })
+
+no_room_for_another : HasPlaceAmong (sum 3999 4 ∷ []) 1 0 → ⊥
+no_room_for_another (inl (zero, is)) = absurd cc
+no_room_for_another (inl (suc place, is)) = omega (arith, is.in_range)
+no_room_for_another (inr free) = omega (arith, free)
+
+room_for_a_second : HasPlaceAmong (sum 3999 4 ∷ []) 2 0
+room_for_a_second = inr (omega arith)
+
+-- parts below a number
+last_below : AreBelow 4000 (sum 3999 4 ∷ [])
+last_below zero lt = omega arith
+last_below (suc i) lt = absurd (omega arith)
+
+last_not_below : AreBelow 3999 (sum 3999 4 ∷ []) → ⊥
+last_not_below below = let h = below 0 (omega arith) in omega (arith, h)
+
+view_below : IsPartBelow 4000 (Part 7 3999)
+view_below = omega arith
+
+view_not_below : IsPartBelow 3999 (Part 7 3999) → ⊥
+view_not_below below = omega (arith, below)
+
+whole_below : IsPartBelow 0 Whole
+whole_below = tt

@@ -1,15 +1,18 @@
 -- What is left where something is given back.
-use Rattle.std.proofs.Common.{◌≡◌, ℕ, Bool, if◌then◌else◌, ◌+◌, ◌-◌, ◌<◌, ◌≤◌, List, [], ◌∷◌, ◌++◌, slice_index, length, get_or, set, sym, ◌∙◌, ap, subst, arith, ⊎_elim}
-use Rattle.std.proofs.lemmas.Bool.{cases_eq, cases_lt}
-use Rattle.partition_charge.specs.declared.costs.Parts.{Parts}
+use Rattle.std.proofs.Common.{◌≡◌, ℕ, Bool, if◌then◌else◌, ◌+◌, ◌-◌, ◌<◌, ◌≤◌, List, [], ◌∷◌, ◌++◌, length, set, sym, ◌∙◌, ap, subst, arith, ⊎_elim, Some, slice_get, Vec, Global, length-set}
+use Rattle.std.proofs.lemmas.Bool.{cases_eq, eq-eqb}
+use Rattle.partition_charge.specs.declared.parts.PartSum.{PartSum}
+use Rattle.partition_charge.specs.declared.parts.Parts.{Parts}
 use Rattle.partition_charge.specs.declared.costs.Costs.{Costs}
 use Rattle.partition_charge.specs.declared.view.View.{View}
 use Rattle.partition_charge.specs.declared.view.View.TheVariants.{Whole, Part}
 use Rattle.partition_charge.specs.Views.{IsView, partition_range, part_limit}
 use Rattle.partition_charge.specs.Cost.{Charge, charges_of, partition_cost, cost_of_charges}
+use Rattle.partition_charge.specs.Parts.{sum_of, sum_without, HasPut}
 use Rattle.partition_charge.specs.Totals.{AreTotalsOf, HasSums, IsRest}
 use Rattle.partition_charge.proofs.Charges.{charges-append, dearest-at, dearest-le, same-partition, same-cost, whole-cost, part-at, part-other, part-elsewhere, part-partition, part-cost, whole-part, view-within, same-self}
 use Rattle.partition_charge.proofs.Standing.{set-get}
+use Rattle.partition_charge.proofs.Sums.{other-test}
 
 module _ (charges rest : List Charge) (view : View) (amount : ℕ) (is : IsRest charges view amount rest) where
   -- With what was given back each view is charged as before.
@@ -34,8 +37,8 @@ module _ (charges rest : List Charge) (amount : ℕ) (is : IsRest charges Whole 
 
   rest-whole-sums : (p : ℕ) (parts : Parts) → HasSums charges p parts → HasSums rest p parts
   rest-whole-sums p parts has = record {
-    sums = λ j within. has.sums j within ∙ sym (same-part p j);
-    beyond = λ j past. same-part p j ∙ has.beyond j past;
+    ordered = has.ordered;
+    sums = λ j. has.sums j ∙ sym (same-part p j);
     greatest = has.greatest ∙ sym (same-partition charges rest p (same-part p));
   }
 
@@ -60,49 +63,41 @@ module _ (charges rest : List Charge) (amount p j : ℕ) (is : IsRest charges (P
       = sym (same-partition charges (rest ++ record { view = Part p j; amount = amount } ∷ []) p (λ i. with-rest charges rest (Part p j) amount is (Part p i))) in
       omega (arith, whole, greatest, part-partition rest amount p j)
 
-  lowered-sums : (old new : Parts) → j < part_limit → HasSums charges p old → slice_index new.sums j + amount ≡ slice_index old.sums j
-      → ((k : ℕ) → (k ≡ j → ⊥) → slice_index new.sums k ≡ slice_index old.sums k) → (k : ℕ) → k < part_limit → slice_index new.sums k ≡ charges_of (Part p k) rest
-  lowered-sums old new lt has lowered others k within = ⊎_elim
-      (λ same. ap (slice_index new.sums) same ∙ here ∙ ap (λ (n : ℕ). charges_of (Part p n) rest) (sym same))
-      (λ other. others k other ∙ has.sums k within ∙ sym (lowered-other k other))
+  -- each sum without what was taken is what is left
+  without-is : (sums : List PartSum) → ((k : ℕ) → sum_of sums k ≡ charges_of (Part p k) charges) → (k : ℕ) → sum_without sums j amount k ≡ charges_of (Part p k) rest
+  without-is sums has k = ⊎_elim
+      (λ same.
+      let now : charges_of (Part p k) rest ≡ charges_of (Part p j) rest = ap (λ (n : ℕ). charges_of (Part p n) rest) same in
+      let old : charges_of (Part p k) charges ≡ charges_of (Part p j) charges = ap (λ (n : ℕ). charges_of (Part p n) charges) same in
+      ap (λ (b : Bool). sum_of sums k - (if b then amount else 0)) (eq-eqb k j same) ∙ omega (arith, now, old, has k, lowered-at))
+      (λ other. ap (λ (b : Bool). sum_of sums k - (if b then amount else 0)) (other-test k j (λ same. other (sym same))) ∙ omega (arith, has k, lowered-other k other))
       (cases_eq k j)
-    where
-      here : slice_index new.sums j ≡ charges_of (Part p j) rest
-      here = omega (arith, lowered, has.sums j lt, lowered-at)
 
-  lowered-beyond : (old : Parts) → j < part_limit → HasSums charges p old → (k : ℕ) → part_limit ≤ k → charges_of (Part p k) rest ≡ 0
-  lowered-beyond old lt has k past = lowered-other k (λ same. omega (arith, same, past, lt)) ∙ has.beyond k past
+  -- and the greatest of them is what the partition costs then
+  rest-greatest : (sums : List PartSum) (greatest : ℕ) → ((k : ℕ) → sum_of sums k ≡ charges_of (Part p k) charges)
+      → ((k : ℕ) → sum_without sums j amount k ≤ greatest)
+      → ((bound : ℕ) → ((k : ℕ) → sum_without sums j amount k ≤ bound) → greatest ≤ bound) → greatest ≡ partition_cost rest p
+  rest-greatest sums greatest has most least =
+      let up : greatest ≤ partition_cost rest p = least (partition_cost rest p) (λ k. omega (arith, without-is sums has k, dearest-at rest p k)) in
+      let down : partition_cost rest p ≤ greatest = dearest-le rest p greatest (λ k. omega (arith, without-is sums has k, most k)) in
+      omega (arith, up, down)
 
-  pub rest-part-sums : (old new : Parts) → j < part_limit → HasSums charges p old → slice_index new.sums j + amount ≡ slice_index old.sums j
-      → ((k : ℕ) → (k ≡ j → ⊥) → slice_index new.sums k ≡ slice_index old.sums k)
-      → ((k : ℕ) → k < part_limit → slice_index new.sums k ≤ new.greatest)
-      → ((bound : ℕ) → ((k : ℕ) → k < part_limit → slice_index new.sums k ≤ bound) → new.greatest ≤ bound) → HasSums rest p new
-  rest-part-sums old new lt has lowered others most least =
-      let sums = lowered-sums old new lt has lowered others in
-      let beyond = lowered-beyond old lt has in
-      let up : new.greatest ≤ partition_cost rest p = least (partition_cost rest p) (λ k within. omega (arith, sums k within, dearest-at rest p k)) in
-      let down : partition_cost rest p ≤ new.greatest = dearest-le rest p new.greatest (λ k. ⊎_elim
-      (λ within. omega (arith, sums k within, most k within))
-      (λ past. omega (arith, beyond k past))
-      (cases_lt k part_limit)) in
-      record { sums = sums; beyond = beyond; greatest = omega (arith, up, down) }
+  rest-part-sums : (old new : Parts) → HasSums charges p old → HasPut old j (sum_of old.sums.items j - amount) new → new.greatest ≡ partition_cost rest p → HasSums rest p new
+  rest-part-sums old new has put greatest = record {
+    ordered = put.ordered;
+    sums = λ k. ⊎_elim
+        (λ same. ap (sum_of new.sums.items) same ∙ put.this ∙ omega (arith, has.sums j, lowered-at) ∙ ap (λ (n : ℕ). charges_of (Part p n) rest) (sym same))
+        (λ other. put.others k other ∙ has.sums k ∙ sym (lowered-other k other))
+        (cases_eq k j);
+    greatest = greatest;
+  }
 
   rest-elsewhere-sums : (q : ℕ) (parts : Parts) → (q ≡ p → ⊥) → HasSums charges q parts → HasSums rest q parts
   rest-elsewhere-sums q parts isnt has = record {
-    sums = λ i within. has.sums i within ∙ sym (lowered-elsewhere q i isnt);
-    beyond = λ i past. lowered-elsewhere q i isnt ∙ has.beyond i past;
+    ordered = has.ordered;
+    sums = λ i. has.sums i ∙ sym (lowered-elsewhere q i isnt);
     greatest = has.greatest ∙ sym (same-partition charges rest q (λ i. lowered-elsewhere q i isnt));
   }
-
--- No sum is then above the greatest from before.
-pub sums-within : (charges : List Charge) (p j amount : ℕ) (old new : Parts) → HasSums charges p old → slice_index new.sums j + amount ≡ slice_index old.sums j
-    → ((k : ℕ) → (k ≡ j → ⊥) → slice_index new.sums k ≡ slice_index old.sums k) → (k : ℕ) → k < part_limit → slice_index new.sums k ≤ old.greatest
-sums-within charges p j amount old new has lowered others k within =
-    let below : slice_index new.sums k ≤ slice_index old.sums k = ⊎_elim
-    (λ is. omega (arith, ap (slice_index new.sums) is, ap (slice_index old.sums) is, lowered))
-    (λ isnt. omega (arith, others k isnt))
-    (cases_eq k j) in
-    omega (arith, below, has.sums k within, has.greatest, dearest-at charges p k)
 
 -- ---- where the view is given
 
@@ -120,25 +115,30 @@ module _ (charges rest : List Charge) (view : View) (amount : ℕ) (is : IsRest 
     pub cost-back-part : cost_of_charges rest + (partition_cost charges p - partition_cost rest p) ≡ cost_of_charges charges
     cost-back-part = rest-part-cost charges rest amount p j at within.0
 
-    pub sums-back-part : (old new : Parts) → HasSums charges p old → slice_index new.sums j + amount ≡ slice_index old.sums j
-        → ((k : ℕ) → (k ≡ j → ⊥) → slice_index new.sums k ≡ slice_index old.sums k)
-        → ((k : ℕ) → k < part_limit → slice_index new.sums k ≤ new.greatest)
-        → ((bound : ℕ) → ((k : ℕ) → k < part_limit → slice_index new.sums k ≤ bound) → new.greatest ≤ bound) → HasSums rest p new
-    sums-back-part old new has lowered others most least = rest-part-sums charges rest amount p j at old new within.1 has lowered others most least
+    pub greatest-back-part : (sums : List PartSum) (greatest : ℕ) → ((k : ℕ) → sum_of sums k ≡ charges_of (Part p k) charges)
+        → ((k : ℕ) → sum_without sums j amount k ≤ greatest)
+        → ((bound : ℕ) → ((k : ℕ) → sum_without sums j amount k ≤ bound) → greatest ≤ bound) → greatest ≡ partition_cost rest p
+    greatest-back-part sums greatest has most least = rest-greatest charges rest amount p j at sums greatest has most least
+
+    pub sums-back-part : (old new : Parts) → HasSums charges p old → HasPut old j (sum_of old.sums.items j - amount) new → new.greatest ≡ partition_cost rest p
+        → HasSums rest p new
+    sums-back-part old new has put greatest = rest-part-sums charges rest amount p j at old new has put greatest
 
   module _ (costs : Costs) (spent : ℕ) (stands : AreTotalsOf costs charges) (now : spent ≡ cost_of_charges rest) where
     pub back-whole : view ≡ Whole → AreTotalsOf (record { spent = spent; partitions = costs.partitions }) rest
     back-whole whole = record {
       spent = now;
+      count = stands.count;
       partitions = λ p parts found. rest-whole-sums charges rest amount (subst (λ (v : View). IsRest charges v amount rest) whole is) p parts (stands.partitions p parts found);
     }
 
-    pub back-part : (p j : ℕ) (new : Parts) → IsView view → view ≡ Part p j → HasSums rest p new
-        → AreTotalsOf (record { spent = spent; partitions = set costs.partitions p new }) rest
-    back-part p j new valid part has = record {
+    pub back-part : (p j : ℕ) (new : Parts) (partitions : Vec Parts Global) → view ≡ Part p j → partitions.items ≡ set costs.partitions.items p new → HasSums rest p new
+        → AreTotalsOf (record { spent = spent; partitions = partitions }) rest
+    back-part p j new partitions part items has = record {
       spent = now;
+      count = ap length items ∙ length-set costs.partitions.items p new ∙ stands.count;
       partitions = λ q parts found. ⊎_elim
           (λ here. subst (λ (x : Parts). HasSums rest q x) here.1 (subst (λ (n : ℕ). HasSums rest n new) (sym here.0) has))
           (λ there. rest-elsewhere-sums charges rest amount p j (subst (λ (v : View). IsRest charges v amount rest) part is) q parts there.0 (stands.partitions q parts there.1))
-          (set-get costs.partitions p q new parts found);
+          (set-get costs.partitions.items p q new parts (subst (λ (xs : List Parts). slice_get xs q ≡ Some parts) items found));
     }

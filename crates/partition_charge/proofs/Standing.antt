@@ -1,65 +1,82 @@
 -- What totals that stand for charges hold.
-use Rattle.std.proofs.Common.{◌≡◌, ℕ, ◌<◌, List, [], ◌∷◌, length, get_or, replicate, slice_index, refl, sym, subst, ◌∙◌, ap, Some, arith, ⊎_elim, inl, inr, ◌⊎◌, max, set, ◌+◌, ◌++◌}
+use Rattle.std.proofs.Common.{◌≡◌, ℕ, ◌<◌, ◌≤◌, List, [], ◌∷◌, length, get_or, refl, sym, subst, ◌∙◌, ap, Some, arith, ⊎_elim, inl, inr, ◌⊎◌, max, set, ◌+◌, ◌++◌, All, Vec, Global, vec_capacity, length-set}
 use Rattle.std.proofs.lemmas.Option.{slice_get-get_or, slice_get_within, get_or_from_slice_get}
-use Rattle.std.proofs.lemmas.List.{get_or-replicate, get_or-set_same, get_or-set_other, length-set}
+use Rattle.std.proofs.lemmas.List.{get_or-set_same, get_or-set_other}
 use Rattle.std.proofs.lemmas.Bool.{cases_eq}
 use Rattle.std.specs.Prelude.{slice_get}
-use Rattle.partition_charge.specs.declared.costs.Parts.{Parts}
+use Rattle.partition_charge.specs.declared.parts.PartSum.{PartSum}
+use Rattle.partition_charge.specs.declared.parts.Parts.{Parts}
 use Rattle.partition_charge.specs.declared.costs.Costs.{Costs}
 use Rattle.partition_charge.specs.declared.view.View.{View}
 use Rattle.partition_charge.specs.declared.view.View.TheVariants.{Whole, Part}
-use Rattle.partition_charge.specs.Views.{IsView, partition_range, part_limit}
+use Rattle.partition_charge.specs.Views.{IsView, partition_range}
 use Rattle.partition_charge.specs.Cost.{Charge, charges_of, cost_of_charges}
+use Rattle.partition_charge.specs.Parts.{sum_of, IsInOrder, AreBelow, HasPut}
 use Rattle.partition_charge.specs.Totals.{AreTotalsOf, HasSums}
 use Rattle.partition_charge.proofs.Charges.{cost-nil, partition-nil, whole-part, whole-partition, part-at, part-other, part-elsewhere, elsewhere-partition, part-partition, view-within}
 
-pub sums-at : (costs : Costs) (charges : List Charge) (p : ℕ) (d : Parts) → AreTotalsOf costs charges → p < length costs.partitions
-    → HasSums charges p (get_or costs.partitions p d)
-sums-at costs charges p d stands lt = stands.partitions p (get_or costs.partitions p d) (slice_get-get_or costs.partitions p d lt)
+-- what was read at a partition is its sums
+pub sums-found : (costs : Costs) (charges : List Charge) (p : ℕ) (parts : Parts) → AreTotalsOf costs charges → p < partition_range
+    → parts ≡ get_or costs.partitions.items p parts → slice_get costs.partitions.items p ≡ Some parts
+sums-found costs charges p parts stands lt is = slice_get-get_or costs.partitions.items p parts (omega (arith, stands.count, lt)) ∙ ap Some (sym is)
 
--- nothing was charged
-abbrev pub none : Parts
-none = record { sums = replicate part_limit 0; greatest = 0 }
+pub sums-at : (costs : Costs) (charges : List Charge) (p : ℕ) (parts : Parts) → AreTotalsOf costs charges → p < partition_range
+    → parts ≡ get_or costs.partitions.items p parts → HasSums charges p parts
+sums-at costs charges p parts stands lt is = stands.partitions p parts (sums-found costs charges p parts stands lt is)
 
-pub new-stands : AreTotalsOf (record { spent = 0; partitions = replicate partition_range none }) []
-new-stands = record {
+-- nothing was charged, and there is this room
+abbrev pub IsEmpty : ℕ → Parts → Type 0
+IsEmpty room parts = (parts.sums.items ≡ []) × (parts.greatest ≡ 0) × (vec_capacity parts.sums ≡ room)
+
+pub empty-at : (room : ℕ) (partitions : List Parts) (p : ℕ) (parts : Parts) → All (IsEmpty room) partitions → slice_get partitions p ≡ Some parts → IsEmpty room parts
+empty-at room partitions p parts all is =
+    subst (IsEmpty room) (get_or_from_slice_get partitions p parts parts is) (all p parts (slice_get_within partitions p parts is))
+
+nothing-ordered : IsInOrder []
+nothing-ordered i k lt within = absurd (omega arith)
+
+pub new-stands : (room : ℕ) (partitions : Vec Parts Global) → length partitions.items ≡ partition_range → All (IsEmpty room) partitions.items
+    → AreTotalsOf (record { spent = 0; partitions = partitions }) []
+new-stands room partitions count all = record {
   spent = sym cost-nil;
+  count = count;
   partitions = λ p parts is.
-      let lt : p < length (replicate partition_range none) = slice_get_within (replicate partition_range none) p parts is in
-      let same : none ≡ parts = sym (get_or-replicate partition_range p none none lt) ∙ get_or_from_slice_get (replicate partition_range none) p parts none is in
-      subst (λ (x : Parts). HasSums [] p x) same (record { sums = λ j within. get_or-replicate part_limit j 0 0 within; beyond = λ j past. refl; greatest = sym (partition-nil p) });
+      let empty = empty-at room partitions.items p parts all is in
+      record {
+        ordered = subst IsInOrder (sym empty.0) nothing-ordered;
+        sums = λ part. ap (λ (sums : List PartSum). sum_of sums part) empty.0;
+        greatest = empty.1 ∙ sym (partition-nil p);
+      };
 }
 
 -- what a partition holds after another's charge, or the whole's
 pub sums-whole : (charges : List Charge) (amount p : ℕ) (parts : Parts) → HasSums charges p parts
     → HasSums (charges ++ record { view = Whole; amount = amount } ∷ []) p parts
 sums-whole charges amount p parts has = record {
-  sums = λ j within. has.sums j within ∙ sym (whole-part charges amount p j);
-  beyond = λ j past. whole-part charges amount p j ∙ has.beyond j past;
+  ordered = has.ordered;
+  sums = λ j. has.sums j ∙ sym (whole-part charges amount p j);
   greatest = has.greatest ∙ sym (whole-partition charges amount p);
 }
 
 sums-elsewhere : (charges : List Charge) (amount p j q : ℕ) (parts : Parts) → (q ≡ p → ⊥) → HasSums charges q parts
     → HasSums (charges ++ record { view = Part p j; amount = amount } ∷ []) q parts
 sums-elsewhere charges amount p j q parts isnt has = record {
-  sums = λ i within. has.sums i within ∙ sym (part-elsewhere charges amount p j q i isnt);
-  beyond = λ i past. part-elsewhere charges amount p j q i isnt ∙ has.beyond i past;
+  ordered = has.ordered;
+  sums = λ i. has.sums i ∙ sym (part-elsewhere charges amount p j q i isnt);
   greatest = has.greatest ∙ sym (elsewhere-partition charges amount p j q isnt);
 }
 
 -- and after its own
-sums-raised : (charges : List Charge) (amount p j : ℕ) (old new : Parts) → j < part_limit → HasSums charges p old
-    → slice_index new.sums j ≡ slice_index old.sums j + amount
-    → ((k : ℕ) → (k ≡ j → ⊥) → slice_index new.sums k ≡ slice_index old.sums k) → new.greatest ≡ max old.greatest (slice_index old.sums j + amount)
-    → HasSums (charges ++ record { view = Part p j; amount = amount } ∷ []) p new
-sums-raised charges amount p j old new lt has raised others greatest = record {
-  sums = λ i within. ⊎_elim
-      (λ is. ap (slice_index new.sums) is ∙ raised ∙ ap (λ (n : ℕ). n + amount) (has.sums j lt) ∙ sym (part-at charges amount p j)
+sums-raised : (charges : List Charge) (amount p j : ℕ) (old new : Parts) → HasSums charges p old → HasPut old j (sum_of old.sums.items j + amount) new
+    → new.greatest ≡ max old.greatest (sum_of old.sums.items j + amount) → HasSums (charges ++ record { view = Part p j; amount = amount } ∷ []) p new
+sums-raised charges amount p j old new has put greatest = record {
+  ordered = put.ordered;
+  sums = λ i. ⊎_elim
+      (λ is. ap (sum_of new.sums.items) is ∙ put.this ∙ ap (λ (n : ℕ). n + amount) (has.sums j) ∙ sym (part-at charges amount p j)
       ∙ ap (λ (k : ℕ). charges_of (Part p k) (charges ++ record { view = Part p j; amount = amount } ∷ [])) (sym is))
-      (λ isnt. others i isnt ∙ has.sums i within ∙ sym (part-other charges amount p j i isnt))
+      (λ isnt. put.others i isnt ∙ has.sums i ∙ sym (part-other charges amount p j i isnt))
       (cases_eq i j);
-  beyond = λ i past. part-other charges amount p j i (λ is. omega (arith, is, past, lt)) ∙ has.beyond i past;
-  greatest = omega (arith, greatest, has.sums j lt, has.greatest, part-partition charges amount p j);
+  greatest = omega (arith, greatest, has.sums j, has.greatest, part-partition charges amount p j);
 }
 
 -- one element was put in
@@ -76,26 +93,36 @@ set-get xs p k x y is =
     (λ other. inr (other, slice_get-get_or xs k x short ∙ ap Some (sym (get_or-set_other xs p k x x other) ∙ get_or_from_slice_get (set xs p x) k y x is)))
     (cases_eq k p)
 
+-- what holds of each after one has changed
+pub each-changed : (P Q : Parts → Type 0) (xs : List Parts) (p : ℕ) (old new : Parts) → slice_get xs p ≡ Some old → (P old → Q new)
+    → ((parts : Parts) → P parts → Q parts) → ((q : ℕ) (parts : Parts) → slice_get xs q ≡ Some parts → P parts)
+    → (q : ℕ) (parts : Parts) → slice_get (set xs p new) q ≡ Some parts → Q parts
+each-changed P Q xs p old new found changed others each q parts is = ⊎_elim
+    (λ here. subst Q here.1 (changed (each p old found)))
+    (λ there. others parts (each q parts there.1))
+    (set-get xs p q new parts is)
+
 module _ (costs : Costs) (charges : List Charge) (view : View)
     (amount spent : ℕ) (stands : AreTotalsOf costs charges) (now : spent ≡ cost_of_charges (charges ++ record { view = view; amount = amount } ∷ [])) where
   pub stands-whole : view ≡ Whole → AreTotalsOf (record { spent = spent; partitions = costs.partitions }) (charges ++ record { view = view; amount = amount } ∷ [])
   stands-whole is = record {
     spent = now;
+    count = stands.count;
     partitions = λ p parts at. subst (λ (v : View). HasSums (charges ++ record { view = v; amount = amount } ∷ []) p parts) (sym is)
         (sums-whole charges amount p parts (stands.partitions p parts at));
   }
 
-  pub stands-part : (p j : ℕ) (old new : Parts) → IsView view → view ≡ Part p j → HasSums charges p old
-      → slice_index new.sums j ≡ slice_index old.sums j + amount
-      → ((k : ℕ) → (k ≡ j → ⊥) → slice_index new.sums k ≡ slice_index old.sums k) → new.greatest ≡ max old.greatest (slice_index old.sums j + amount)
-      → AreTotalsOf (record { spent = spent; partitions = set costs.partitions p new }) (charges ++ record { view = view; amount = amount } ∷ [])
-  stands-part p j old new valid is has raised others greatest = record {
+  pub stands-part : (p j : ℕ) (old new : Parts) (partitions : Vec Parts Global) → view ≡ Part p j → partitions.items ≡ set costs.partitions.items p new
+      → HasSums charges p old → HasPut old j (sum_of old.sums.items j + amount) new → new.greatest ≡ max old.greatest (sum_of old.sums.items j + amount)
+      → AreTotalsOf (record { spent = spent; partitions = partitions }) (charges ++ record { view = view; amount = amount } ∷ [])
+  stands-part p j old new partitions is items has put greatest = record {
     spent = now;
+    count = ap length items ∙ length-set costs.partitions.items p new ∙ stands.count;
     partitions = λ q parts at. subst (λ (v : View). HasSums (charges ++ record { view = v; amount = amount } ∷ []) q parts) (sym is)
         (⊎_elim
         (λ here. subst (λ (x : Parts). HasSums (charges ++ record { view = Part p j; amount = amount } ∷ []) q x) here.1
         (subst (λ (n : ℕ). HasSums (charges ++ record { view = Part p j; amount = amount } ∷ []) n new) (sym here.0)
-        (sums-raised charges amount p j old new (view-within charges view amount p j valid is).1 has raised others greatest)))
+        (sums-raised charges amount p j old new has put greatest)))
         (λ there. sums-elsewhere charges amount p j q parts there.0 (stands.partitions q parts there.1))
-        (set-get costs.partitions p q new parts at));
+        (set-get costs.partitions.items p q new parts (subst (λ (xs : List Parts). slice_get xs q ≡ Some parts) items at)));
   }

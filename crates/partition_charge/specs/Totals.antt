@@ -1,26 +1,29 @@
 -- What running totals stand for.
-use Rattle.std.specs.Prelude.{◌≡◌, ℕ, ◌+◌, ◌^◌, ◌<◌, ◌≤◌, List, [], ◌∷◌, ◌++◌, slice_index, slice_get, Some}
+use Rattle.std.specs.Prelude.{◌≡◌, ℕ, ◌+◌, ◌^◌, ◌<◌, ◌≤◌, List, [], ◌∷◌, ◌++◌, length, slice_get, Some, vec_capacity, ⊤}
 use Rattle.partition_charge.specs.declared.view.View.{View}
-use Rattle.partition_charge.specs.declared.view.View.TheVariants.{Part}
-use Rattle.partition_charge.specs.declared.costs.Parts.{Parts}
+use Rattle.partition_charge.specs.declared.view.View.TheVariants.{Whole, Part}
+use Rattle.partition_charge.specs.declared.parts.Parts.{Parts}
 use Rattle.partition_charge.specs.declared.costs.Costs.{Costs}
-use Rattle.partition_charge.specs.Views.{part_limit}
+use Rattle.partition_charge.specs.Views.{partition_range}
+use Rattle.partition_charge.specs.Parts.{sum_of, IsInOrder, AreBelow, HasPlaceIn}
 use Rattle.partition_charge.specs.Cost.{Charge, charged_to, charges_of, partition_cost, cost_of_charges}
 
--- the sums of a partition's parts, none of which is past the limit, and the greatest
+-- the sums of a partition's parts, and the greatest
 pub record HasSums (charges : List Charge) (partition : ℕ) (parts : Parts) : Type 0 where
-  pub sums : (part : ℕ) → part < part_limit → slice_index parts.sums part ≡ charges_of (Part partition part) charges
-  pub beyond : (part : ℕ) → part_limit ≤ part → charges_of (Part partition part) charges ≡ 0
+  pub ordered : IsInOrder parts.sums.items
+  pub sums : (part : ℕ) → sum_of parts.sums.items part ≡ charges_of (Part partition part) charges
   pub greatest : parts.greatest ≡ partition_cost charges partition
 
 -- The totals are those of these charges.
 pub record AreTotalsOf (costs : Costs) (charges : List Charge) : Type 0 where
   pub spent : costs.spent ≡ cost_of_charges charges
-  pub partitions : (partition : ℕ) (parts : Parts) → slice_get costs.partitions partition ≡ Some parts → HasSums charges partition parts
+  pub count : length costs.partitions.items ≡ partition_range
+  pub partitions : (partition : ℕ) (parts : Parts) → slice_get costs.partitions.items partition ≡ Some parts → HasSums charges partition parts
 
 -- What is left of charges, where a view's are this amount less, and every other's the same.
 abbrev pub IsRest : List Charge → View → ℕ → (rest : List Charge) → Type 0
-IsRest charges view amount rest = (other : View) → charges_of other rest + charged_to other (record { view = view; amount = amount }) ≡ charges_of other charges
+IsRest charges view amount rest = (other : View)
+    → charges_of other rest + charged_to other (record { view = view; amount = amount }) ≡ charges_of other charges
 
 -- The view was charged at least this amount.
 abbrev pub HasCharged : Costs → View → ℕ → Type 0
@@ -28,4 +31,22 @@ HasCharged costs view amount = (charges : List Charge) × AreTotalsOf costs char
 
 -- With this charge the cost is below 2 ^ 63.
 abbrev pub HasRoom : Costs → View → ℕ → Type 0
-HasRoom costs view amount = (charges : List Charge) × AreTotalsOf costs charges × (cost_of_charges (charges ++ record { view = view; amount = amount } ∷ []) < 2 ^ 63)
+HasRoom costs view amount = (charges : List Charge) × AreTotalsOf costs charges
+    × (cost_of_charges (charges ++ record { view = view; amount = amount } ∷ []) < 2 ^ 63)
+
+-- P holds of each partition's sums.
+abbrev pub InEach : (Parts → Type 0) → Costs → Type 0
+InEach P costs = (partition : ℕ) (parts : Parts) → slice_get costs.partitions.items partition ≡ Some parts → P parts
+
+-- There is room for a charge of this view: it is the whole, or a part that has a sum, or its partition has room for one sum more.
+abbrev pub HasPlace : Costs → View → Type 0
+HasPlace costs Whole = ⊤
+HasPlace costs (Part partition part) = (parts : Parts) → slice_get costs.partitions.items partition ≡ Some parts → HasPlaceIn parts part
+
+-- There is room for n different parts more.
+abbrev pub HasPlaces : Costs → ℕ → Type 0
+HasPlaces costs n = InEach (λ parts. length parts.sums.items + n ≤ vec_capacity parts.sums) costs
+
+-- There is room for all parts below n, and no other has a sum.
+abbrev pub HasRoomBelow : Costs → ℕ → Type 0
+HasRoomBelow costs n = InEach (λ parts. AreBelow n parts.sums.items × (n ≤ vec_capacity parts.sums)) costs

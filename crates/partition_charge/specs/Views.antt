@@ -19,6 +19,11 @@ abbrev pub IsView : View → Type 0
 IsView Whole = ⊤
 IsView (Part partition part) = (partition < partition_range) × (part < part_limit)
 
+-- the part's number is below n, where it is a part
+abbrev pub IsPartBelow : ℕ → View → Type 0
+IsPartBelow n Whole = ⊤
+IsPartBelow n (Part partition part) = part < n
+
 abbrev pub same_view : View → View → Bool
 same_view Whole Whole = true
 same_view (Part p j) (Part r k) = (p == r) && (j == k)

@@ -1,92 +1,39 @@
 //! Running totals of charges.
 
-ghost use Rattle.std.specs.Prelude.{◌≡◌, ℕ, ◌+◌, ◌-◌, ◌^◌, ◌<◌, ◌≤◌, max, [], ◌∷◌, ◌++◌, List, length, slice_index};
+ghost use Rattle.std.specs.Prelude.{◌≡◌, ℕ, ◌+◌, ◌^◌, ◌<◌, ◌≤◌, min, [], ◌∷◌, ◌++◌, List, length, slice_get, Some, IfOk};
 ghost use Rattle.partition_charge.specs.Cost.{Charge as Charged, cost_of_charges};
-ghost use Rattle.partition_charge.specs.Views.{IsView, part_limit};
-ghost use Rattle.partition_charge.specs.Totals.{AreTotalsOf, HasCharged, HasRoom, IsRest};
+ghost use Rattle.partition_charge.specs.Views.{IsView, IsPartBelow, part_limit};
+ghost use Rattle.partition_charge.specs.Totals.{AreTotalsOf, HasCharged, HasRoom, HasPlace, HasPlaces, HasRoomBelow, IsRest};
 
+use crate::parts::Parts;
 use crate::view::{PARTITIONS, PARTS, View};
+use std::alloc::{AllocError, Global};
 
-// The greatest of a partition's sums.
-fn greatest_of(sums: &[u64; PARTS]) -> u64
-    ensures most { (k : ℕ) → k < part_limit → slice_index sums.now k ≤ result }
-    ensures least { (bound : ℕ) → ((k : ℕ) → k < part_limit → slice_index sums.now k ≤ bound) → result ≤ bound }
-{
-    let mut greatest = 0;
-    for part in 0..PARTS {
-        greatest = greatest.max(sums[part]);
-    }
-    greatest
-}
-
-// The sums of one partition's parts.
-#[derive(Clone, Copy, Drop)]
-struct Parts {
-    sums: [u64; PARTS],
-    greatest: u64,
-}
-
-impl Parts {
-    // By how much the greatest sum rises if this part is charged this amount.
-    fn rise(&self, part: u16, amount: u64) -> u64
-        requires part { part < part_limit }
-        requires fits { slice_index self.now.sums part + amount < 2 ^ 63 }
-        ensures { result ≡ slice_index self.now.sums part + amount - self.now.greatest }
-    {
-        (self.sums[part as usize] + amount).saturating_sub(self.greatest)
-    }
-
-    // Charges a part.
-    fn add(&mut self, part: u16, amount: u64)
-        requires part { part < part_limit }
-        requires fits { slice_index self.old.sums part + amount < 2 ^ 63 }
-        ensures raised { slice_index self.new.sums part ≡ slice_index self.old.sums part + amount }
-        ensures others { (k : ℕ) → (k ≡ part → ⊥) → slice_index self.new.sums k ≡ slice_index self.old.sums k }
-        ensures greatest { self.new.greatest ≡ max self.old.greatest (slice_index self.old.sums part + amount) }
-    {
-        let sum = self.sums[part as usize] + amount;
-        self.sums[part as usize] = sum;
-        self.greatest = self.greatest.max(sum);
-    }
-
-    // These, with this amount taken from a part.
-    fn back(&self, part: u16, amount: u64) -> Parts
-        requires part { part < part_limit }
-        requires enough { amount ≤ slice_index self.now.sums part }
-        ensures lowered { slice_index result.sums part + amount ≡ slice_index self.now.sums part }
-        ensures others { (k : ℕ) → (k ≡ part → ⊥) → slice_index result.sums k ≡ slice_index self.now.sums k }
-        ensures most { (k : ℕ) → k < part_limit → slice_index result.sums k ≤ result.greatest }
-        ensures least { (bound : ℕ) → ((k : ℕ) → k < part_limit → slice_index result.sums k ≤ bound) → result.greatest ≤ bound }
-    {
-        let mut sums = self.sums;
-        sums[part as usize] -= amount;
-        let greatest = greatest_of(&sums);
-        Parts { sums, greatest }
-    }
-}
-
-/// The cost of a list of charges, kept as it grows and as amounts are given back. It takes no memory of its own.
+/// The cost of a list of charges, kept as it grows and as amounts are given back. No call but `new` takes memory.
 ///
 /// Amounts are millionths of epsilon.
 #[derive(Drop)]
 pub struct Costs {
     spent: u64,
-    partitions: [Parts; PARTITIONS],
+    partitions: Vec<Parts>,
 }
 
 impl Costs {
-    /// The cost of no charges.
-    pub fn new() -> Costs
-        ensures { AreTotalsOf result [] }
+    /// The cost of no charges, with room for this many different parts.
+    pub fn new(alloc: Global, room: u32) -> Result<Costs, AllocError>
+        ensures totals { IfOk result (λ costs. AreTotalsOf costs []) }
+        ensures places { IfOk result (λ costs. HasPlaces costs (min room part_limit)) }
+        ensures below { IfOk result (λ costs. HasRoomBelow costs (min room part_limit)) }
     {
-        let none = Parts {
-            sums: [0; PARTS],
-            greatest: 0,
-        };
-        Costs {
-            spent: 0,
-            partitions: [none; PARTITIONS],
+        let room = (room as usize).min(PARTS);
+        let mut partitions = Vec::with_capacity(alloc, PARTITIONS)?;
+        for _partition in 0..PARTITIONS {
+            partitions.push_reserved(Parts::new(alloc, room)?);
         }
+        Ok(Costs {
+            spent: 0,
+            partitions,
+        })
     }
 
     /// The cost of the charges so far.
@@ -114,7 +61,11 @@ impl Costs {
     pub fn add(&mut self, view: View, amount: u64)
         requires view { IsView view }
         requires room { HasRoom self.old view amount }
-        ensures { (charges : List Charged) → AreTotalsOf self.old charges → AreTotalsOf self.new (charges ++ record { view = view; amount = amount } ∷ []) }
+        requires place { HasPlace self.old view }
+        ensures totals { (charges : List Charged) → AreTotalsOf self.old charges
+            → AreTotalsOf self.new (charges ++ record { view = view; amount = amount } ∷ []) }
+        ensures places { (n : ℕ) → HasPlaces self.old (n + 1) → HasPlaces self.new n }
+        ensures below { (n : ℕ) → IsPartBelow n view → HasRoomBelow self.old n → HasRoomBelow self.new n }
     {
         self.spent = self.after(view, amount);
         if let View::Part { partition, part } = view {
@@ -132,7 +83,7 @@ impl Costs {
             View::Whole => self.spent - amount,
             View::Part { partition, part } => {
                 let parts = &self.partitions[partition as usize];
-                self.spent - (parts.greatest - parts.back(part, amount).greatest)
+                self.spent - (parts.greatest - parts.greatest_without(part, amount))
             }
         }
     }
@@ -141,12 +92,13 @@ impl Costs {
     pub fn give_back(&mut self, view: View, amount: u64)
         requires view { IsView view }
         requires enough { HasCharged self.old view amount }
-        ensures { (charges rest : List Charged) → AreTotalsOf self.old charges → IsRest charges view amount rest → AreTotalsOf self.new rest }
+        ensures totals { (charges rest : List Charged) → AreTotalsOf self.old charges → IsRest charges view amount rest → AreTotalsOf self.new rest }
+        ensures places { (n : ℕ) → HasPlaces self.old n → HasPlaces self.new n }
+        ensures below { (n : ℕ) → HasRoomBelow self.old n → HasRoomBelow self.new n }
     {
         self.spent = self.back(view, amount);
         if let View::Part { partition, part } = view {
-            let parts = self.partitions[partition as usize].back(part, amount);
-            self.partitions[partition as usize] = parts;
+            self.partitions[partition as usize].take(part, amount);
         }
     }
 }

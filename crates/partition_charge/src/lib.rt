@@ -3,4 +3,5 @@
 
 pub mod costs;
 pub mod laws;
+mod parts;
 pub mod view;

@@ -17,7 +17,8 @@ returns-clause-only c r valid is =
     let t' = c.u64_at-taken.ensures ∙ ap (λ (b : List ℕ). from_be_bytes w64 (take 8 (drop 20 b))) is ∙ from_be_bytes-to_be_bytes_8 r.taken valid.charged in
     let a' = c.u16_at-analyst.ensures ∙ ap (λ (b : List ℕ). from_be_bytes w16 (take 2 (drop 28 b))) is ∙ from_be_bytes-to_be_bytes_2 r.analyst valid.asked in
     let h' = c.digest_at-digest.ensures.value ∙ ap (λ (b : List ℕ). take 32 (drop 32 b)) is ∙ take_all 32 r.digest (omega (arith, valid.hashed.0)) in
-    let v' = c.in_ok-view.ensures.only r.view valid.viewed (ap (λ (b : List ℕ). slice_index b 2) is) (ap (λ (b : List ℕ). slice_index b 3) is) in
+    let v' = c.in_ok-view.ensures.only r.view valid.viewed (ap (λ (b : List ℕ). slice_index b 2) is) (ap (λ (b : List ℕ). slice_index b 3) is)
+    (ap (λ (b : List ℕ). slice_index b 30) is) in
     let w : c.in_ok-view.view ≡ r.view = same_Some _ _ v' in
     λ i. Some (Reserve (record { number = n i; view = w i; e = e' i; p = p' i; q = q' i; taken = t' i; analyst = a' i; digest = h' i }))
 

@@ -1,25 +1,48 @@
-use Rattle.std.proofs.Common.{◌≡◌, ℕ, [], arith, refl}
+use Rattle.std.proofs.Common.{◌≡◌, ℕ, ◌+◌, ◌≤◌, length, vec_capacity, arith, refl, subst}
+use Rattle.partition_charge.specs.declared.parts.Parts.{Parts}
 use Rattle.partition_charge.specs.declared.view.View.{View}
 use Rattle.partition_charge.specs.declared.view.View.TheVariants.{Whole, Part}
+use Rattle.partition_charge.specs.Cost.{charges_of}
+use Rattle.partition_charge.specs.Parts.{AreBelow}
 use Rattle.partition_charge.proofs.Charges.{view-within}
-use Rattle.partition_charge.proofs.Standing.{sums-at}
-use Rattle.partition_charge.proofs.Rests.{back-whole, back-part, sums-back-part}
+use Rattle.partition_charge.proofs.Standing.{sums-found, sums-at, each-changed}
+use Rattle.partition_charge.proofs.Rests.{back-whole, back-part, greatest-back-part, sums-back-part}
 use Rattle.partition_charge.proofs.costs.Costs.give_back.Goals as goal
 
 whole-else : (v : View) → ((p j : ℕ) → v ≡ Part p j → ⊥) → v ≡ Whole
 whole-else Whole isnt = refl
 whole-else (Part p j) isnt = absurd (isnt p j refl)
 
-pub returns-in-Part : goal.returns-in-Part
-returns-in-Part c charges rest stands is =
+pub returns-in-Part-clause-totals : goal.returns-in-Part-clause-totals
+returns-in-Part-clause-totals c charges rest stands is =
     let within = view-within charges c.args.view c.args.amount c.in-Part.partition c.in-Part.part c.requires.view c.in-Part.is in
-    let at = sums-at c.args.self.now charges c.in-Part.partition (record { sums = []; greatest = 0 }) stands (omega (arith, within.0)) in
-    let has = sums-back-part charges rest c.args.view c.args.amount is c.in-Part.partition c.in-Part.part c.requires.view c.in-Part.is _ c.back-parts.result
-    at c.back-parts.ensures.lowered c.back-parts.ensures.others c.back-parts.ensures.most c.back-parts.ensures.least in
+    let at = sums-at c.args.self.now charges c.in-Part.partition c.index_mut.result.now stands within.0 c.index_mut.ensures.value in
+    let greatest = greatest-back-part charges rest c.args.view c.args.amount is c.in-Part.partition c.in-Part.part c.requires.view c.in-Part.is
+    c.index_mut.result.now.sums.items c.take.new.self.greatest at.sums c.take.ensures.most c.take.ensures.least in
+    let has = sums-back-part charges rest c.args.view c.args.amount is c.in-Part.partition c.in-Part.part c.requires.view c.in-Part.is
+    c.index_mut.result.now c.take.new.self at c.take.ensures.taken greatest in
     back-part charges rest c.args.view c.args.amount is c.args.self.now c.back-self.result stands (c.back-self.ensures charges rest stands is)
-    c.in-Part.partition c.in-Part.part c.back-parts.result c.requires.view c.in-Part.is has
+    c.in-Part.partition c.in-Part.part c.take.new.self _ c.in-Part.is refl has
 
-pub returns-in_default : goal.returns-in_default
-returns-in_default c charges rest stands is =
+pub returns-in-Part-clause-places : goal.returns-in-Part-clause-places
+returns-in-Part-clause-places c n has =
+    let enough = c.requires.enough in
+    let within = view-within enough.0 c.args.view c.args.amount c.in-Part.partition c.in-Part.part c.requires.view c.in-Part.is in
+    let found = sums-found c.args.self.now enough.0 c.in-Part.partition c.index_mut.result.now enough.1 within.0 c.index_mut.ensures.value in
+    each-changed (λ (parts : Parts). length parts.sums.items + n ≤ vec_capacity parts.sums) (λ (parts : Parts). length parts.sums.items + n ≤ vec_capacity parts.sums)
+    c.args.self.now.partitions.items c.in-Part.partition c.index_mut.result.now c.take.new.self found
+    (λ broad. omega (arith, broad, c.take.ensures.count, c.take.ensures.taken.room)) (λ parts same. same) has
+
+pub returns-in-Part-clause-below : goal.returns-in-Part-clause-below
+returns-in-Part-clause-below c n has =
+    let enough = c.requires.enough in
+    let within = view-within enough.0 c.args.view c.args.amount c.in-Part.partition c.in-Part.part c.requires.view c.in-Part.is in
+    let found = sums-found c.args.self.now enough.0 c.in-Part.partition c.index_mut.result.now enough.1 within.0 c.index_mut.ensures.value in
+    each-changed (λ (parts : Parts). AreBelow n parts.sums.items × (n ≤ vec_capacity parts.sums)) (λ (parts : Parts). AreBelow n parts.sums.items × (n ≤ vec_capacity parts.sums))
+    c.args.self.now.partitions.items c.in-Part.partition c.index_mut.result.now c.take.new.self found
+    (λ old. (c.take.ensures.below n old.0, omega (arith, old.1, c.take.ensures.taken.room))) (λ parts same. same) has
+
+pub returns-in_default-clause-totals : goal.returns-in_default-clause-totals
+returns-in_default-clause-totals c charges rest stands is =
     back-whole charges rest c.args.view c.args.amount is c.args.self.now c.back-self.result stands (c.back-self.ensures charges rest stands is)
     (whole-else c.args.view c.in_default.not-Part)

@@ -1,0 +1,13 @@
+use Rattle.std.proofs.Common.{◌≡◌, length, vec_capacity, All}
+use Rattle.partition_charge.specs.Views.{partition_range}
+use Rattle.partition_charge.proofs.Standing.{IsEmpty}
+use Rattle.partition_charge.proofs.costs.Costs.new.Given as goal
+
+-- each partition so far has no sums, and the room
+abbrev pub invariant-loop-partition : goal.invariant-loop-partition
+invariant-loop-partition l =
+    record {
+      count : length l.partitions.items ≡ l._partition;
+      broad : vec_capacity l.partitions ≡ partition_range;
+      empty : All (IsEmpty l.room) l.partitions.items;
+    }
