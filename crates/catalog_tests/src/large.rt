@@ -3,6 +3,7 @@
 use crate::commands::{RUN, ends, refuses};
 use fz_outside::files::MemFile;
 use memory_runs::{AGE, CATALOG, KEY, TABLE, TableText, file, joined, owner_text};
+use owner_catalog::{Catalog, read};
 use query_server::Status;
 use std::alloc::{AllocError, Global};
 use std::sync::Wait;
@@ -64,10 +65,39 @@ fn catalog_of(
     Ok(text)
 }
 
+// A column of texts.
+const TOWN: &str = "{\"name\":\"town\",\"type\":\"text\"}";
+
+// A partition by so many keys `k0`, `k1`, .., of which one may stand twice: the last one again, behind them.
+fn partition_of(alloc: Global, keys: usize, repeats: bool) -> Result<String, AllocError> {
+    let mut text = String::from_str(
+        alloc,
+        "{\"name\":\"area\",\"table\":\"t0\",\"column\":\"town\",\"keys\":[",
+    )?;
+    for number in 0..keys {
+        let comma = if number == 0 { "" } else { "," };
+        write!(text, "{comma}\"k{number}\"")?;
+    }
+    if repeats {
+        write!(text, ",\"k{}\"", keys - 1)?;
+    }
+    text.push_str("]}")?;
+    Ok(text)
+}
+
+// A catalog of one owner, whose table has this partition.
+fn parted(alloc: Global, partition: &str) -> Result<String, AllocError> {
+    let owner = owner_text(alloc, "o0", 2_000_000, 4, &[("t0", "towns.csv", TOWN)])?;
+    let partitions = format!(in alloc; "\"partitions\":[{partition}]")?;
+    let owner = owner.replace(alloc, "\"partitions\":[]", &partitions)?;
+    format!(in alloc; "{{\"analysts\":[\"a0\"],\"owners\":[{owner}]}}")
+}
+
 // The files of a catalog, and one of this name.
-fn files_of<'a>(catalog: &'a str, name: &'a str, bytes: &'a [u8]) -> [MemFile<'a>; 4] {
+fn files_of<'a>(catalog: &'a str, name: &'a str, bytes: &'a [u8]) -> [MemFile<'a>; 5] {
     [
         file("cat.json", catalog.as_bytes()),
+        file("towns.csv", b"town\nk0\n"),
         file("people.csv", TABLE),
         file("last.csv", b"age\n1\n2\n3\n4\n5\n"),
         file(name, bytes),
@@ -78,10 +108,10 @@ fn files_of<'a>(catalog: &'a str, name: &'a str, bytes: &'a [u8]) -> [MemFile<'a
 #[rattlefmt::skip]
 const COUNTS: [(usize, usize, usize, bool); 8] = [
     (1, 1, 1, true),
-    (64, 16, 8, true),
+    (64, 64, 8, true),
     (65, 1, 1, false),
     (0, 1, 1, false),
-    (1, 17, 1, false),
+    (1, 65, 1, false),
     (1, 0, 1, false),
     (1, 1, 9, false),
     (1, 1, 0, false),
@@ -113,17 +143,62 @@ fn each_count(rt: HostRuntime) -> Result<(), Fail> {
     Ok(())
 }
 
+// How many keys a partition has, and whether one stands twice; whether it may have these.
+const KEYS: [(usize, bool, bool); 6] = [
+    (0, false, false),
+    (1, false, true),
+    (4_000, false, true),
+    (4_001, false, false),
+    (1, true, false),
+    (3_999, true, false),
+];
+
+#[test]
+fn each_count_of_keys(rt: HostRuntime) -> Result<(), Fail> {
+    let alloc = rt.alloc();
+    for (keys, repeats, fits) in &KEYS {
+        let partition = partition_of(alloc, *keys, *repeats)?;
+        let catalog = parted(alloc, &partition)?;
+        let is_due = is_taken(&rt, alloc, &catalog, *fits)?;
+        assert!(rt; is_due, "{keys} {repeats}");
+    }
+    Ok(())
+}
+
+// Whether each of 4,000 keys has its number and text, and the next is none.
+fn has_keys(catalog: &Catalog) -> bool {
+    if catalog.owners() != 1 || catalog.partitions(0) != 1 || catalog.keys(0, 0) != 4_000 {
+        return false;
+    }
+    let numbers = (
+        catalog.key(0, 0, b"k0"),
+        catalog.key(0, 0, b"k256"),
+        catalog.key(0, 0, b"k3999"),
+        catalog.key(0, 0, b"k4000"),
+    );
+    numbers == (Some(0), Some(256), Some(3_999), None) && catalog.key_text(0, 0, 3_999) == "k3999"
+}
+
+#[test]
+fn last_key(rt: HostRuntime) -> Result<(), Fail> {
+    let partition = partition_of(rt.alloc(), 4_000, false)?;
+    let text = parted(rt.alloc(), &partition)?;
+    let catalog = read(rt.alloc(), text.as_bytes())?;
+    assert!(rt; has_keys(&catalog));
+    Ok(())
+}
+
 const SCRIPT: &[u8] = b"hello a63\n\
-    ask o15 0.01 size t7\n\
-    ask o15 0.01 size t7\n\
+    ask o63 0.01 size t7\n\
+    ask o63 0.01 size t7\n\
     ask o0 0.01 size t7\n\
-    ask o16 1 size t7\n\
-    ask o15 1 size t8\n\
+    ask o64 1 size t7\n\
+    ask o63 1 size t8\n\
     hello a64\n";
 
 const REPLIES: &[u8] = b"hello a63\n\
-    answer 0 284 10000\n\
-    answer 1 52 10000\n\
+    answer 0 -53 10000\n\
+    answer 1 -128 10000\n\
     answer 0 145 10000\n\
     no 12 1\n\
     no 30 unbound 5 7\n\
@@ -133,7 +208,7 @@ const REPLIES: &[u8] = b"hello a63\n\
 #[test]
 fn last_of_all(rt: HostRuntime) -> Result<(), Fail> {
     let alloc = rt.alloc();
-    let catalog = catalog_of(alloc, 64, 16, 8)?;
+    let catalog = catalog_of(alloc, 64, 64, 8)?;
     let held = files_of(&catalog, "key", &KEY);
     assert!(rt; ends(&rt, alloc, &RUN, &held, SCRIPT, Status::Done, REPLIES)?);
     Ok(())

@@ -134,24 +134,24 @@ fn parts(rt: HostRuntime) -> Result<(), Fail> {
     Ok(())
 }
 
-// The keys k0 to k249, as JSON.
+// The keys k0 to k3999, as JSON.
 fn many_keys(alloc: Global) -> Result<String, AllocError> {
     let mut keys = String::from_str(alloc, "\"k0\"")?;
-    for key in 1..250_u32 {
+    for key in 1..4_000_u32 {
         write!(keys, ",\"k{key}\"")?;
     }
     Ok(keys)
 }
 
-const MANY: &[u8] = b"town,team,age\nk0,x,20\nk249,y,30\nk249,y,40\nk250,x,50\n";
+const MANY: &[u8] = b"town,team,age\nk0,x,20\nk3999,y,30\nk3999,y,40\nk4000,x,50\n";
 
-// The first and the last of 250 keys, two without rows, and one that is none: all keys of a partition cost together what the dearest does.
+// The first and the last of 4,000 keys, three without rows, and one that is none: all keys of a partition cost together what the dearest does.
 #[rattlefmt::skip]
 static OF_MANY: [Run; 1] = [(
-    b"hello ann\naskpart census area k0 0.5 size people\naskpart census area k249 0.5 size people\n\
-    askpart census area k100 0.5 size people\naskpart census area k250 0.5 size people\naskpart census area k249 0.25 size people\n\
-    askpart census area k248 0.75 size people\nleft census\n",
-    b"hello ann\nanswer 0 5 500000\nanswer 1 3 0\nanswer 2 0 0\nno 12 3\nanswer 3 -12 250000\nanswer 4 0 0\nleft 750000 1000000 10\n"),
+    b"hello ann\naskpart census area k0 0.5 size people\naskpart census area k3999 0.5 size people\n\
+    askpart census area k255 0.5 size people\naskpart census area k256 0.5 size people\naskpart census area k4000 0.5 size people\n\
+    askpart census area k3999 0.25 size people\naskpart census area k3998 0.75 size people\nleft census\n",
+    b"hello ann\nanswer 0 5 500000\nanswer 1 3 0\nanswer 2 0 0\nanswer 3 -6 0\nno 12 3\nanswer 4 1 250000\nanswer 5 1 0\nleft 750000 1000000 12\n"),
 ];
 
 #[test]

@@ -300,15 +300,6 @@ keys_none : read_as (partition_in 3 tables 1) (codes "{\"name\":\"p\",\"table\":
 unfolding on_literals
 keys_none = refl
 
-keys_251 : read_as (partition_in 3 tables 1) (codes "{\"name\":\"p\",\"table\":\"t\",\"column\":\"c\",\"keys\":[0,0,0,0,0,0,0,0,0,0,0,0,0,0,0,0,0,0,0,0,0,0,0,"
-    ++ codes "0,0,0,0,0,0,0,0,0,0,0,0,0,0,0,0,0,0,0,0,0,0,0,0,0,0,0,0,0,0,0,0,0,0,0,0,0,0,0,0,0,0,0,0,0,0,0,0,0,0,0,0,0"
-    ++ codes ",0,0,0,0,0,0,0,0,0,0,0,0,0,0,0,0,0,0,0,0,0,0,0,0,0,0,0,0,0,0,0,0,0,0,0,0,0,0,0,0,0,0,0,0,0,0,0,0,0,0,0,0,"
-    ++ codes "0,0,0,0,0,0,0,0,0,0,0,0,0,0,0,0,0,0,0,0,0,0,0,0,0,0,0,0,0,0,0,0,0,0,0,0,0,0,0,0,0,0,0,0,0,0,0,0,0,0,0,0,0"
-    ++ codes ",0,0,0,0,0,0,0,0,0,0,0,0,0,0,0,0,0,0,0,0,0,0,0,0,0,0,0,0,0,0,0,0,0,0,0,0,0,0,0,0,0,0,0,0,0,0,0,0,0,0,0,0,"
-    ++ codes "0,0,0,0,0,0,0,0,0,0,0,0,0,0,0,0,0,0]}") ≡ bad Count (place at.Keys 3 1 0)
-unfolding on_literals
-keys_251 = refl
-
 key_kind : read_as (partition_in 3 tables 1) (codes "{\"name\":\"p\",\"table\":\"t\",\"column\":\"c\",\"keys\":[\"A\",7]}")
     ≡ bad Kind (place at.Key 3 1 1)
 unfolding on_literals
@@ -587,13 +578,15 @@ owners_none : catalog_in_file (codes "{\"analysts\":[\"ann\"],\"owners\":[]}") �
 unfolding on_literals
 owners_none = refl
 
-owners_17 : catalog_in_file (codes "{\"analysts\":[\"ann\"],\"owners\":[0,0,0,0,0,0,0,0,0,0,0,0,0,0,0,0,0]}") ≡ bad Count (place at.Owners 0 0 0)
+owners_65 : catalog_in_file (codes "{\"analysts\":[\"ann\"],\"owners\":[0,0,0,0,0,0,0,0,0,0,0,0,0,0,0,0,0,0,0,0,0,0,0,0,0,0,0,0,0,0,0,0,0,0,0,"
+    ++ codes "0,0,0,0,0,0,0,0,0,0,0,0,0,0,0,0,0,0,0,0,0,0,0,0,0,0,0,0,0,0]}") ≡ bad Count (place at.Owners 0 0 0)
 unfolding on_literals
-owners_17 = refl
+owners_65 = refl
 
-owners_16 : catalog_in_file (codes "{\"analysts\":[\"ann\"],\"owners\":[0,0,0,0,0,0,0,0,0,0,0,0,0,0,0,0]}") ≡ bad Kind (place at.Owner 0 0 0)
+owners_64 : catalog_in_file (codes "{\"analysts\":[\"ann\"],\"owners\":[0,0,0,0,0,0,0,0,0,0,0,0,0,0,0,0,0,0,0,0,0,0,0,0,0,0,0,0,0,0,0,0,0,0,0,"
+    ++ codes "0,0,0,0,0,0,0,0,0,0,0,0,0,0,0,0,0,0,0,0,0,0,0,0,0,0,0,0,0]}") ≡ bad Kind (place at.Owner 0 0 0)
 unfolding on_literals
-owners_16 = refl
+owners_64 = refl
 
 owner_double : catalog_in_file (codes "{\"analysts\":[\"ann\"],\"owners\":[{\"name\":\"o\",\"budget\":1,\"capacity\":2,\"tables\":[{\"name\":\"t"
     ++ codes "\",\"file\":\"f\",\"columns\":[{\"name\":\"a\",\"type\":\"num\"}]}],\"partitions\":[]},{\"name\":\"o\",\""

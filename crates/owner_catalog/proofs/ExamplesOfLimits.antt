@@ -4,9 +4,9 @@ use Rattle.std.specs.List.{range_with_len}
 use Rattle.serde_json.specs.Data.{Data}
 use Rattle.fz_ast.specs.declared.row.Column.TheVariants.{Text}
 use Rattle.owner_catalog.specs.declared.fault.CatalogFault.{CatalogFault}
-use Rattle.owner_catalog.specs.declared.fault.FaultKind.TheVariants.{Kind, Count, Form}
+use Rattle.owner_catalog.specs.declared.fault.FaultKind.TheVariants.{Kind, Count, Double, Form}
 use Rattle.owner_catalog.specs.declared.fault.Member.TheVariants as at
-use Rattle.owner_catalog.specs.Entries.{TableEntry, OwnerEntry, Catalog, table_name, partition_name, owner_name}
+use Rattle.owner_catalog.specs.Entries.{TableEntry, PartitionEntry, OwnerEntry, Catalog, table_name, partition_name, owner_name}
 use Rattle.owner_catalog.specs.Fault.{◌>>=◌, bad, place}
 use Rattle.owner_catalog.specs.Catalog.{catalog_in_file, json_in, owner_in, partition_in, table_in}
 use Rattle.owner_catalog.proofs.OnLiterals.{on_literals}
@@ -70,15 +70,21 @@ file_of_256 = refl
 
 -- ---- a partition
 
-keys_250 : read_as (partition_in 3 (table_with (codes "AA") (codes "f") ∷ []) 1) (partition_text (codes "p") (names 250))
-    ≡ Ok (record { name = codes "p"; table = 0; column = 0; keys = names 250 })
+abbrev of_keys : List (List ℕ) → Result PartitionEntry CatalogFault
+of_keys keys = read_as (partition_in 3 (table_with (codes "AA") (codes "f") ∷ []) 1) (partition_text (codes "p") keys)
+
+keys_250 : of_keys (names 250) ≡ Ok (record { name = codes "p"; table = 0; column = 0; keys = names 250 })
 unfolding on_literals
 keys_250 = refl
 
-keys_251 : read_as (partition_in 3 (table_with (codes "AA") (codes "f") ∷ []) 1) (partition_text (codes "p") (names 251))
-    ≡ bad Count (place at.Keys 3 1 0)
+-- 4,000 keys pass the count, and the second repeats the first
+keys_4000 : of_keys (replicate 4000 (codes "k")) ≡ bad Double (place at.Key 3 1 1)
 unfolding on_literals
-keys_251 = refl
+keys_4000 = refl
+
+keys_4001 : of_keys (replicate 4001 (codes "k")) ≡ bad Count (place at.Keys 3 1 0)
+unfolding on_literals
+keys_4001 = refl
 
 -- ---- an owner
 
@@ -109,14 +115,14 @@ budget_of_65_bits = refl
 abbrev analysts_and_owners : Catalog → List (List ℕ) × List (List ℕ)
 analysts_and_owners catalog = (catalog.analysts, map owner_name catalog.owners)
 
-full_catalog : (catalog_in_file (catalog_text (names 64) (names 16)) >>= λ catalog. Ok (analysts_and_owners catalog)) ≡ Ok (names 64, names 16)
+full_catalog : (catalog_in_file (catalog_text (names 64) (names 64)) >>= λ catalog. Ok (analysts_and_owners catalog)) ≡ Ok (names 64, names 64)
 unfolding on_literals
 full_catalog = refl
 
-analysts_65 : catalog_in_file (catalog_text (names 65) (names 16)) ≡ bad Count (place at.Analysts 0 0 0)
+analysts_65 : catalog_in_file (catalog_text (names 65) (names 64)) ≡ bad Count (place at.Analysts 0 0 0)
 unfolding on_literals
 analysts_65 = refl
 
-owners_17 : catalog_in_file (catalog_text (names 64) (names 17)) ≡ bad Count (place at.Owners 0 0 0)
+owners_65 : catalog_in_file (catalog_text (names 64) (names 65)) ≡ bad Count (place at.Owners 0 0 0)
 unfolding on_literals
-owners_17 = refl
+owners_65 = refl

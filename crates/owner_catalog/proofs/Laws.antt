@@ -5,6 +5,7 @@ use Rattle.std.proofs.lemmas.Option.{slice_get-get_or}
 use Rattle.std.proofs.lemmas.Bool.{leb-true, ltb-true}
 use Rattle.std.proofs.lemmas.List.Elements.{All-nil, All-push}
 use Rattle.serde_json.specs.Data.{Data}
+use Rattle.partition_charge.specs.Views.{part_limit}
 use Rattle.fz_ast.specs.declared.row.Column.{Column}
 use Rattle.fz_ast.specs.declared.row.Column.TheVariants.{Num, Text}
 use Rattle.table_store.specs.Schema.{NamedColumn, column_name}
@@ -16,6 +17,7 @@ use Rattle.owner_catalog.specs.declared.fault.Member.TheVariants as at
 use Rattle.owner_catalog.specs.declared.fault.Place.{Place}
 use Rattle.owner_catalog.specs.declared.reading.Labels.TheVariants.{Analysts, Keys}
 use Rattle.serde_json.specs.Find.{as_array, as_number, as_str, as_u64}
+use Rattle.owner_catalog.specs.Limits.{owner_limit}
 use Rattle.owner_catalog.specs.Members.{catalog_members, owner_members, table_members, column_members, partition_members}
 use Rattle.owner_catalog.specs.Entries.{TableEntry, PartitionEntry, OwnerEntry, Catalog, table_name, table_columns, partition_name, owner_name}
 use Rattle.owner_catalog.specs.Forms.{is_catalog_name, is_table_name, is_file_name, is_key}
@@ -180,7 +182,7 @@ partition_ok o tables p d x is =
     went_well (one_in (λ text t. bytes_eq text t.name) tables (place at.PartitionTable o p 0) (the at.PartitionTable d)) _ x is (λ table tabled is.
     went_well (one_in (λ text c. bytes_eq text c.name && is_text_column c.kind) (get_or (map table_columns tables) table [])
     (place at.PartitionColumn o p 0) (the at.PartitionColumn d)) _ x is (λ column columned is.
-    went_well (list_in 1 250 (place at.Keys o p 0) (λ key. key) (label_place (Keys o p)) (label_in (Keys o p)) (the at.Keys d)) _ x is (λ keys listed is.
+    went_well (list_in 1 part_limit (place at.Keys o p 0) (λ key. key) (label_place (Keys o p)) (label_in (Keys o p)) (the at.Keys d)) _ x is (λ keys listed is.
     let all = list_ok (λ key. key) (label_place (Keys o p)) (label_in (Keys o p)) IsKey (λ k d s reads. text_ok is_key
     (place at.Key o p k) d s reads) _ _ _ _ keys listed in
     let found = one_ok (λ text t. bytes_eq text t.name) tables _ _ table no_table tabled in
@@ -229,7 +231,7 @@ owner_ok o d x is =
 -- analysts and owners that were read are a catalog's
 pub parts_ok : (analysts : List (List ℕ)) (owners : List OwnerEntry) (text : List ℕ) (d : Data)
     → list_in 1 64 (place at.Analysts 0 0 0) (λ name. name) (label_place Analysts) (label_in Analysts) (the at.Analysts d) ≡ Ok analysts
-    → list_in 1 16 (place at.Owners 0 0 0) owner_name (λ o. place at.Owner o 0 0) owner_in (the at.Owners d) ≡ Ok owners
+    → list_in 1 owner_limit (place at.Owners 0 0 0) owner_name (λ o. place at.Owner o 0 0) owner_in (the at.Owners d) ≡ Ok owners
     → IsCatalog (record { analysts = analysts; owners = owners; text = text })
 parts_ok analysts owners text d listed owned =
     let all = list_ok (λ name. name) (label_place Analysts) (label_in Analysts) IsCatalogName (λ a d s reads. text_ok is_catalog_name
@@ -254,5 +256,5 @@ every_catalog_keeps_the_rules bytes catalog is =
     went_well (object_in catalog_members at.Catalog (λ m. place m 0 0 0) d) _ catalog is (λ _ _ is.
     went_well (list_in 1 64 (place at.Analysts 0 0 0) (λ name. name) (label_place Analysts) (label_in Analysts) (the at.Analysts d)) _ catalog is
     (λ analysts listed is.
-    went_well (list_in 1 16 (place at.Owners 0 0 0) owner_name (λ o. place at.Owner o 0 0) owner_in (the at.Owners d)) _ catalog is (λ owners owned is.
+    went_well (list_in 1 owner_limit (place at.Owners 0 0 0) owner_name (λ o. place at.Owner o 0 0) owner_in (the at.Owners d)) _ catalog is (λ owners owned is.
     subst IsCatalog (same_ok _ catalog is) (parts_ok analysts owners _ d listed owned)))))

@@ -4,6 +4,7 @@ mod ExamplesOfLimits
 pub mod Laws
 pub mod Lists
 mod Made
+pub mod NameLemmas
 pub mod OnLiterals
 pub mod Partitions
 mod Pieces

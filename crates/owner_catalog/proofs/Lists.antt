@@ -1,5 +1,5 @@
 -- Items of a list, read one after another.
-use Rattle.std.proofs.Common.{◌≡◌, ◌≤◌, ◌<◌, ◌+◌, ◌⊎◌, inl, inr, add-one, ◌||◌, ℕ, Bool, true, false, List, [], ◌∷◌, ◌++◌, map, length, Result, Ok, Err, bytes_eq, refl, sym, ap, ◌∙◌, drop, get_or}
+use Rattle.std.proofs.Common.{◌≡◌, ◌≤◌, ◌<◌, ◌+◌, ◌⊎◌, inl, inr, add-one, ◌||◌, not, if◌then◌else◌, ℕ, Bool, true, false, List, [], ◌∷◌, ◌++◌, map, length, Result, Ok, Err, bytes_eq, refl, sym, ap, ◌∙◌, drop, get_or}
 use Rattle.std.proofs.Math.Seq.{drop-cons}
 use Rattle.std.proofs.lemmas.Cmp.{nat_list_eq_equiv}
 use Rattle.std.proofs.lemmas.List.{map-append, drop_all}
@@ -65,10 +65,23 @@ pub distinct_more : {A : Type 0} (name : A → List ℕ) (before : List A) (x : 
 distinct_more name before x h other =
     rw (map-append name before (x ∷ [])) (IsDistinct-push nat_list_eq_equiv (map name before) (name x) h (list_any-map (bytes_eq (name x)) name before ∙ other))
 
--- whether a name was met, as the code asks it
-pub met : {A : Type 0} (name : A → List ℕ) (xs ys : List A) (n m : List ℕ) (r b : Bool) → r ≡ list_any (λ y. bytes_eq n (name y)) xs → xs ≡ ys → n ≡ m → r ≡ b
-    → list_any (λ y. bytes_eq m (name y)) ys ≡ b
-met name xs ys n m r b asks same text answer = rw (sym same) (rw (sym text) (sym asks ∙ answer))
+-- a name was met before where it was not added to the names
+pub met : {A : Type 0} (name : A → List ℕ) (before : List A) (names : List (List ℕ)) (n m : List ℕ) (added : Bool) → added ≡ not (list_any (bytes_eq n) names)
+    → names ≡ map name before → n ≡ m → list_any (λ y. bytes_eq m (name y)) before ≡ not added
+met name before names n m added asks same text =
+    sym (list_any-map (bytes_eq m) name before) ∙ ap (list_any (bytes_eq m)) (sym same) ∙ ap (λ k. list_any (bytes_eq k) names) (sym text)
+    ∙ twice (list_any (bytes_eq n) names) ∙ ap not (sym asks)
+  where
+    twice : (b : Bool) → b ≡ not (not b)
+    twice true = refl
+    twice false = refl
+
+-- the names after one more
+pub named_more : {A : Type 0} (name : A → List ℕ) (before : List A) (x : A) (old new : List (List ℕ)) (n : List ℕ) (added : Bool)
+    → new ≡ (if added then old ++ n ∷ [] else old) → added ≡ true → old ≡ map name before → n ≡ name x → new ≡ map name (before ++ x ∷ [])
+named_more name before x old new n true adds fresh same text =
+    adds ∙ ap (λ ns. ns ++ n ∷ []) same ∙ ap (λ m. map name before ++ m ∷ []) text ∙ sym (map-append name before (x ∷ []))
+named_more name before x old new n false adds fresh same text = cc fresh
 
 -- One turn of the loop, of which R is the answer, at value v of number i.
 module _ {A : Type 0} (name : A → List ℕ) (at : ℕ → Place) (read : ℕ → Data → Result A CatalogFault) (before : List A) (R : Result (List A) CatalogFault)

@@ -1,5 +1,6 @@
 -- The catalog that the bytes of a file hold, or the first fault in them.
-pub use Rattle.owner_catalog.specs.Entries.{TableEntry, PartitionEntry, OwnerEntry, Catalog, table_name, table_columns, partition_name, owner_name, owner_signature}
+pub use Rattle.owner_catalog.specs.Entries.{TableEntry, PartitionEntry, OwnerEntry, Catalog, table_name, table_columns, partition_name, owner_name}
+pub use Rattle.owner_catalog.specs.Entries.{owner_signature}
 pub use Rattle.owner_catalog.specs.Lawful.{IsCatalog}
 use Rattle.std.specs.Prelude.{ℕ, List, [], map, get_or, codes, bytes_eq, Bool, false, true, ◌&&◌, position, Option, Some, None, Result, Ok, if◌then◌else◌}
 use Rattle.std.specs.Str.{is_utf8}
@@ -90,7 +91,8 @@ owner_in o d = do
   budget ← bounded_number_in 1 budget_limit (place at.Budget o 0 0) (the at.Budget d)
   capacity ← bounded_number_in 2 capacity_limit (place at.Capacity o 0 0) (the at.Capacity d)
   tables ← list_in 1 table_limit (place at.Tables o 0 0) table_name (λ t. place at.Table o t 0) (table_in o) (the at.Tables d)
-  partitions ← list_in 0 partition_limit (place at.Partitions o 0 0) partition_name (λ p. place at.Partition o p 0) (partition_in o tables) (the at.Partitions d)
+  partitions ← list_in 0 partition_limit (place at.Partitions o 0 0) partition_name (λ p. place at.Partition o p 0) (partition_in o tables)
+      (the at.Partitions d)
   Ok (record { name = name; budget = budget; capacity = capacity; tables = tables; partitions = partitions; text = compact_text d })
 
 unfoldable pub catalog_in : Data → Result Catalog CatalogFault

@@ -1,5 +1,6 @@
 -- How the parts of a catalog are read from JSON, and which of several faults counts.
-use Rattle.std.specs.Prelude.{ℕ, List, [], ◌∷◌, ◌++◌, length, Bool, not, ◌&&◌, nat_le, bytes_eq, if◌then◌else◌, Option, Some, None, option_and_then, option_map, is_none, unwrap_or, Result, Ok, Err, ⊤}
+use Rattle.std.specs.Prelude.{ℕ, List, [], ◌∷◌, ◌++◌, length, Bool, not, ◌&&◌, nat_le, bytes_eq, if◌then◌else◌, Option, Some, None, option_and_then}
+use Rattle.std.specs.Prelude.{option_map, is_none, unwrap_or, Result, Ok, Err, ⊤}
 use Rattle.std.specs.List.{find, list_any}
 use Rattle.serde_json.specs.Data.{Data, null, Items, no_items, item, Members, no_members, member}
 use Rattle.serde_json.specs.Find.{get, as_array, as_number, as_object, as_str, as_u64}

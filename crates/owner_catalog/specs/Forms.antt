@@ -4,7 +4,9 @@ use Rattle.std.specs.List.{list_any}
 use Rattle.fz_lexer.specs.Bytes.{begins, every_byte, is_letter, is_name_byte}
 use Rattle.fz_lexer.specs.Words.{spelling}
 use Rattle.fz_lexer.specs.declared.token.Word.{Word}
-use Rattle.fz_lexer.specs.declared.token.Word.TheVariants.{Fun, Fn, Let, In, Case, Of, Inl, Inr, If, Then, Else, Fst, Snd, True, False, Num, Text, Unit, Bool as BoolWord, Bag, Inf, Size, Sum, Clip, Least, Greatest, Map, Filter, Split, Union, Do, Release, At}
+use Rattle.fz_lexer.specs.declared.token.Word.TheVariants.{Fun, Fn, Let, In, Case, Of, Inl, Inr, If, Then, Else, Fst, Snd, True, False, Num, Text}
+use Rattle.fz_lexer.specs.declared.token.Word.TheVariants.{Unit, Bool as BoolWord, Bag, Inf, Size, Sum, Clip, Least, Greatest, Map, Filter, Split}
+use Rattle.fz_lexer.specs.declared.token.Word.TheVariants.{Union, Do, Release, At}
 use Rattle.owner_catalog.specs.Limits.{name_limit, file_name_limit, key_limit}
 use Rattle.owner_catalog.specs.declared.text.Form.{Form}
 use Rattle.owner_catalog.specs.declared.text.Form.TheVariants.{Name, TableName, FileName, Key}

@@ -1,7 +1,9 @@
 -- The members of each object of a catalog.
 use Rattle.std.specs.Prelude.{ℕ, List, [], ◌∷◌, codes}
 use Rattle.owner_catalog.specs.declared.fault.Member.{Member}
-use Rattle.owner_catalog.specs.declared.fault.Member.TheVariants.{Catalog, Analysts, Analyst, Owners, Owner, OwnerName, Budget, Capacity, Tables, Table, TableName, File, Columns, Column, ColumnName, ColumnType, Partitions, Partition, PartitionName, PartitionTable, PartitionColumn, Keys, Key}
+use Rattle.owner_catalog.specs.declared.fault.Member.TheVariants.{Catalog, Analysts, Analyst, Owners, Owner, OwnerName, Budget, Capacity, Tables}
+use Rattle.owner_catalog.specs.declared.fault.Member.TheVariants.{Table, TableName, File, Columns, Column, ColumnName, ColumnType, Partitions}
+use Rattle.owner_catalog.specs.declared.fault.Member.TheVariants.{Partition, PartitionName, PartitionTable, PartitionColumn, Keys, Key}
 
 abbrev pub catalog_members : List Member
 catalog_members = Analysts ∷ Owners ∷ []

@@ -8,6 +8,7 @@ ghost use Rattle.owner_catalog.specs.Limits.{table_limit};
 ghost use Rattle.owner_catalog.specs.Entries.{owner_entry_at, table_entry_at, partition_entry_at, owner_signature, table_name, table_type_of};
 ghost use Rattle.owner_catalog.specs.Lawful.{IsCatalog, IsTableEntry};
 
+use crate::list::Listed;
 use crate::named::{Label, Named, find};
 use fz_ast::{Name, NoMemory, Sig, Ty, row_type};
 use std::alloc::Global;
@@ -37,7 +38,8 @@ pub(crate) struct Partition {
     pub(crate) name: String,
     pub(crate) table: usize,
     pub(crate) column: usize,
-    pub(crate) keys: Vec<Label>,
+    // The keys, and their texts, by which one is found.
+    pub(crate) keys: Listed<Label>,
 }
 
 impl Named for Table {
@@ -50,11 +52,14 @@ impl Named for Table {
 
 impl Model for Partition {
     ghost use Rattle.std.specs.String.{string_bytes};
+    ghost use Rattle.std.specs.Prelude.{◌≡◌};
     ghost use Rattle.owner_catalog.specs.Entries.{PartitionEntry};
 
     ghost Value = { PartitionEntry };
 
-    ghost view = { λ p. record { name = string_bytes p.name; table = p.table; column = p.column; keys = p.keys.items } };
+    ghost view = { λ p. record { name = string_bytes p.name; table = p.table; column = p.column; keys = p.keys.items.items } };
+
+    ghost invariant = { λ p. p.keys.names ≡ p.keys.items.items };
 }
 
 /// An owner: the budget in millionths, the capacity in records.
@@ -204,7 +209,8 @@ impl Catalog {
         ensures some { 1 ≤ result }
         ensures few { result ≤ part_limit }
     {
-        self.owners[o as usize].partitions[p as usize].keys.len()
+        let partition = &self.owners[o as usize].partitions[p as usize];
+        partition.keys.items.len()
     }
 
     /// The name of a partition.
@@ -244,7 +250,7 @@ impl Catalog {
         requires key { j < length (partition_entry_at self.now o p).keys }
         ensures { result.now ≡ get_or (partition_entry_at self.now o p).keys j [] }
     {
-        self.owners[o as usize].partitions[p as usize].keys[j as usize].name()
+        self.owners[o as usize].partitions[p as usize].keys.items[j as usize].name()
     }
 
     /// The name of a table.
@@ -311,7 +317,7 @@ impl Catalog {
         ensures { result ≡ position (λ each. bytes_eq key.now each) (partition_entry_at self.now o p).keys }
     {
         let partition = &self.owners[o as usize].partitions[p as usize];
-        find(&partition.keys, key).map(|k| k as u16)
+        partition.keys.names.number(key).map(|k| k as u16)
     }
 
     /// The tables that programs over an owner may name.

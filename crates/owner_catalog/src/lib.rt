@@ -10,6 +10,7 @@ mod list;
 mod making;
 mod member;
 mod named;
+mod names;
 mod parts;
 mod reading;
 mod text;

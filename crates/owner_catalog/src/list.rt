@@ -10,7 +10,8 @@ ghost use Rattle.owner_catalog.specs.Members.{member_name};
 ghost use Rattle.owner_catalog.specs.Fault.{here, list_in, the};
 
 use crate::fault::{CatalogFault, FaultKind, Member, Place};
-use crate::named::{Named, any_named};
+use crate::named::Named;
+use crate::names::Names;
 use crate::parts::{counted, the};
 use serde_json::Value;
 use std::alloc::Global;
@@ -36,6 +37,13 @@ pub(crate) trait Item<C>: Named {
         ensures plain { IfOk result (λ _. HasNoFloat value.now) };
 }
 
+/// The items of a list, and their names in the same order.
+#[derive(Drop)]
+pub(crate) struct Listed<T> {
+    pub(crate) items: Vec<T>,
+    pub(crate) names: Names,
+}
+
 /// The list that a member is, of so many items, each of another name.
 #[tactic(auto, using(crate::proofs::Lists::items_fault, crate::proofs::Lists::items_double), unfolding(crate::specs::Fault::list_in))]
 pub(crate) fn list<C, T: Item<C> + Drop>(
@@ -46,23 +54,26 @@ pub(crate) fn list<C, T: Item<C> + Drop>(
     most: u32,
     at: Place,
     context: &C,
-) -> Result<Vec<T>, CatalogFault>
+) -> Result<Listed<T>, CatalogFault>
     requires { IsSome (get (member_name member) (view value.now)) }
     ensures list { IfOk result (λ found. list_in least most (here at member) T.name_of (T.place_of context.now) (T.read_of context.now)
-        (the member (view value.now)) ≡ Ok found.items) }
+        (the member (view value.now)) ≡ Ok found.items.items) }
     ensures fault { IfErr result (λ fault. (fault ≡ CatalogFault.NoMemory)
         ⊎ (list_in least most (here at member) T.name_of (T.place_of context.now) (T.read_of context.now) (the member (view value.now)) ≡ Err fault)) }
-    ensures some { IfOk result (λ found. least ≤ length found.items) }
-    ensures few { IfOk result (λ found. length found.items ≤ most) }
-    ensures distinct { IfOk result (λ found. IsDistinct bytes_eq (map T.name_of found.items)) }
+    ensures some { IfOk result (λ found. least ≤ length found.items.items) }
+    ensures few { IfOk result (λ found. length found.items.items ≤ most) }
+    ensures distinct { IfOk result (λ found. IsDistinct bytes_eq (map T.name_of found.items.items)) }
+    ensures names { IfOk result (λ found. found.names ≡ map T.name_of found.items.items) }
     ensures plain { IfOk result (λ _. has_float (the member (view value.now)) ≡ false) }
 {
     let mut found = Vec::new(alloc);
+    let mut names = Names::new(alloc);
     let items = counted(the(member, value), least, most, at.of(member))?;
     for item in items {
         let number = found.len() as u32;
         let read = T::read(alloc, item, context, number)?;
-        if any_named(&found, read.name()) {
+        let added = names.add(alloc, read.name())?;
+        if !added {
             return Err(CatalogFault::Bad {
                 kind: FaultKind::Double,
                 at: T::place(context, number),
@@ -70,5 +81,8 @@ pub(crate) fn list<C, T: Item<C> + Drop>(
         }
         found.push(read)?;
     }
-    Ok(found)
+    Ok(Listed {
+        items: found,
+        names,
+    })
 }

@@ -1,6 +1,5 @@
 //! Things that have names, and how one of them is found by its name.
 ghost use Rattle.std.specs.Prelude.{◌≡◌, List, ℕ, position, bytes_eq};
-ghost use Rattle.std.specs.List.{list_any};
 
 use std::marker::Model;
 
@@ -56,11 +55,4 @@ pub(crate) fn find<T: Named>(all: &[T], name: &[u8]) -> Option<usize>
     ensures { result ≡ position (λ one. bytes_eq name.now (T.name_of one)) all.now }
 {
     all.iter().position(|one| one.name().as_bytes() == name)
-}
-
-/// Whether one has this name.
-pub(crate) fn any_named<T: Named>(all: &[T], name: &str) -> bool
-    ensures { result ≡ list_any (λ one. bytes_eq name.now (T.name_of one)) all.now }
-{
-    all.iter().any(|one| one.name() == name)
 }

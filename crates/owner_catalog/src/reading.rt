@@ -197,7 +197,7 @@ impl Item<u32> for Table {
         Ok(Table {
             name,
             file,
-            schema: Schema::new(columns),
+            schema: Schema::new(columns.items),
         })
     }
 }
@@ -358,7 +358,7 @@ impl Item<()> for Owner {
         let tables = list(alloc, value, Member::Tables, 1, 8, at, &number)?;
         let within = InOwner {
             owner: number,
-            tables: &tables,
+            tables: &tables.items,
         };
         let partitions = list(alloc, value, Member::Partitions, 0, 8, at, &within)?;
         let text = value.to_string(alloc)?;
@@ -366,8 +366,8 @@ impl Item<()> for Owner {
             name,
             budget,
             capacity,
-            tables,
-            partitions,
+            tables: tables.items,
+            partitions: partitions.items,
             text,
         })
     }
@@ -389,8 +389,8 @@ fn read_value(alloc: Global, value: &Value) -> Result<Catalog, CatalogFault>
     let owners = list(alloc, value, Member::Owners, 1, 64, at, &())?;
     let text = the(Member::Analysts, value).to_string(alloc)?;
     Ok(Catalog {
-        analysts,
-        owners,
+        analysts: analysts.items,
+        owners: owners.items,
         text,
     })
 }

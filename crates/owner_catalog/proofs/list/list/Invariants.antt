@@ -11,6 +11,7 @@ invariant-loop-item g l = record {
       (the l.fn.member (view l.fn.value))
       ≡ items_from g.T.Named.name_of (g.T.Item.place_of l.fn.context) (g.T.Item.read_of l.fn.context) l.found.items (map view (drop l.item-index l.items));
   count : length l.found.items ≡ l.item-index;
+  names : l.names ≡ map g.T.Named.name_of l.found.items;
   distinct : IsDistinct bytes_eq (map g.T.Named.name_of l.found.items);
   plain : AllByRecursion HasNoFloat (drop l.item-index l.items) → AllByRecursion HasNoFloat l.items;
 }
