@@ -1,10 +1,10 @@
 -- What the code's steps come to, and what stops them.
 use Rattle.std.specs.declared.alloc.Global.{Global}
-use Rattle.std.specs.Prelude.{Vec, map, ◌≡◌, ℕ, List, ◌++◌, Option, Some, MatchResult, Result, Ok, Err, ⊤, string_bytes, bytes_eq, position, length, ◌<◌}
+use Rattle.std.specs.Prelude.{Vec, map, ◌≡◌, ℕ, List, [], ◌∷◌, ◌++◌, Option, Some, MatchResult, Result, Ok, Err, ⊤, string_bytes, bytes_eq, position, length, ◌<◌}
 use Rattle.metric_values.specs.Tables.{Dataset}
 use Rattle.owner_catalog.specs.Entries.{Catalog, OwnerEntry, owner_entry_at, owner_signature}
 use Rattle.part_views.specs.Holding.{Holding}
-use Rattle.owner_house.specs.House.{Register, register_with}
+use Rattle.owner_house.specs.House.{Register, IsRegister, register_with}
 use Rattle.fz_outside.specs.declared.FileFault.{FileFault}
 use Rattle.fz_outside.specs.declared.FileFault.TheVariants.{Failed, NoMemory as NoneToRead}
 use Rattle.catalog_loading.specs.Files.{Contents, ReadsToCome, AreTold}
@@ -13,18 +13,32 @@ use Rattle.catalog_loading.specs.Loaded.{LoadedOwner, Loading, entry_named}
 use Rattle.catalog_loading.specs.declared.stops.Stop.{Stop}
 use Rattle.catalog_loading.specs.declared.stops.Stop.TheVariants.{Usage, Refused, Journal, Disk, Fault, NoMemory}
 
--- what an owner holds whose tables have these rows, and the SHA-256 of their files
+-- what an owner holds whose tables have these rows
+abbrev pub holding_with : OwnerEntry → Dataset → Holding
+holding_with owner rows = record { tables = owner_signature owner; rows = rows; partitions = owner.partitions }
+
+-- and with the SHA-256 of their files
 abbrev pub owner_loaded_of : OwnerEntry → Dataset → List (List ℕ) → LoadedOwner
-owner_loaded_of owner rows hashes =
-    record { holding = record { tables = owner_signature owner; rows = rows; partitions = owner.partitions }; hashes = hashes }
+owner_loaded_of owner rows hashes = record { holding = holding_with owner rows; hashes = hashes }
+
+-- what these owners hold, in order
+abbrev pub holdings_with : List OwnerEntry → List Dataset → List Holding
+holdings_with [] rows = []
+holdings_with (owner ∷ owners) [] = []
+holdings_with (owner ∷ owners) (rows ∷ others) = holding_with owner rows ∷ holdings_with owners others
+
+-- rows of the tables of each of a catalog's owners, in order
+pub record AreReadOf (catalog : Catalog) (rows : List Dataset) : Type 0 where
+  pub each_has : length rows ≡ length catalog.owners
+  pub register : IsRegister (register_with catalog (holdings_with catalog.owners rows))
 
 -- what a house and the SHA-256 of its owners' table files are
 abbrev pub loading_by : Register → List (Vec (List ℕ) Global) → Loading
 loading_by register hashes = record { register = register; hashes = map (λ of_owner. of_owner.items) hashes }
 
--- the same of all owners of a catalog
-abbrev pub loading_of : Catalog → List Holding → List (Vec (List ℕ) Global) → Loading
-loading_of catalog holdings hashes = loading_by (register_with catalog holdings) hashes
+-- the same of all owners of a catalog, whose tables have these rows
+abbrev pub loading_read : Catalog → List Dataset → List (Vec (List ℕ) Global) → Loading
+loading_read catalog rows hashes = loading_by (register_with catalog (holdings_with catalog.owners rows)) hashes
 
 -- this name is refused, or memory ran out
 abbrev pub IsRefusalOf : (name : List ℕ) → Stop → Type 0

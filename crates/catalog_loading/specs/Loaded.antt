@@ -64,8 +64,8 @@ owner_read owner = do
   tables ← one_by_one table_read owner.tables
   done (owner_with owner tables)
 
--- What all owners of a catalog hold, and the SHA-256 of each one's table files. Every command loads both, though the digests
--- of journals alone need the SHA-256.
+-- What all owners of a catalog hold, and the SHA-256 of each one's table files. Every command that reads a catalog but `grant`, which
+-- reads one owner's tables, loads both, though the digests of journals alone need the SHA-256.
 pub record Loading : Type 0 where
   pub register : Register
   pub hashes : List (List (List ℕ))

@@ -7,14 +7,15 @@ ghost use Rattle.journal_records.specs.declared.records.Header.{Header as Header
 ghost use Rattle.owner_catalog.specs.Limits.{owner_limit};
 ghost use Rattle.catalog_loading.specs.Loaded.{IsKeyedHouse, new_header, owners_in};
 
-use crate::opening::Opened;
+use crate::opening::Keyed;
+use crate::registers::Registered;
 use crate::stops::Stop;
 use journal_records::records::{Header, NEWEST_VERSION};
 use owner_catalog::digest;
 use std::alloc::Global;
 
 /// The header of an owner's journal where it is new.
-fn header_for(opened: &Opened, owner: u32) -> Result<Header, Stop>
+fn header_for<H: Registered>(opened: &Keyed<H>, owner: u32) -> Result<Header, Stop>
     requires { owner < owners_in opened.now.loading }
     ensures header { IfOk result (λ header. header ≡ new_header opened.now.loading opened.now.key owner) }
     ensures valid { IfOk result IsHeader }
@@ -33,7 +34,7 @@ fn header_for(opened: &Opened, owner: u32) -> Result<Header, Stop>
 }
 
 /// The header of each owner's journal, in order.
-pub fn headers_of(alloc: Global, opened: &Opened) -> Result<Vec<Header>, Stop>
+pub fn headers_of<H: Registered>(alloc: Global, opened: &Keyed<H>) -> Result<Vec<Header>, Stop>
     ensures count { IfOk result (λ headers. length headers.items ≡ owners_in opened.now.loading) }
     ensures few { IfOk result (λ headers. length headers.items ≤ owner_limit) }
     ensures headers { IfOk result (λ headers. (o : ℕ) (d : HeaderModel) → o < owners_in opened.now.loading →

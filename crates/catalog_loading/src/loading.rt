@@ -9,7 +9,7 @@ ghost use Rattle.owner_catalog.specs.Catalog.{IsCatalog, catalog_in_file, owner_
 ghost use Rattle.owner_catalog.specs.Entries.{owner_entry_at, table_entry_at};
 ghost use Rattle.catalog_loading.specs.Steps.{one_by_one};
 ghost use Rattle.catalog_loading.specs.Loaded.{IsLoading, catalog_read, loaded, or_refused, owner_loaded, owner_read, table_read};
-ghost use Rattle.catalog_loading.specs.Given.{IsDecided, IsOwnerAt, IsStep, loading_of, owner_loaded_of};
+ghost use Rattle.catalog_loading.specs.Given.{IsDecided, IsOwnerAt, IsStep, loading_read, owner_loaded_of};
 
 use crate::reading::read_file;
 use crate::stops::Stop;
@@ -35,17 +35,10 @@ pub(crate) struct LoadedTables {
     pub(crate) hashes: Vec<[u8; 32]>,
 }
 
-/// What an owner holds, and the SHA-256 of each of its table files.
-#[derive(Drop)]
-struct LoadedOwner {
-    dataset: Dataset,
-    hashes: Vec<[u8; 32]>,
-}
-
-/// What each owner of a catalog holds, and the SHA-256 of its table files, in order.
+/// The tables of each owner of a catalog, and the SHA-256 of each one's file, in order.
 #[derive(Drop)]
 pub(crate) struct Loaded {
-    pub(crate) datasets: Vec<Dataset>,
+    pub(crate) tables: Vec<Tables>,
     pub(crate) hashes: Vec<Vec<[u8; 32]>>,
 }
 
@@ -130,53 +123,31 @@ pub(crate) fn load_tables<F: Files>(
     Ok(LoadedTables { tables, hashes })
 }
 
-/// The tables of an owner and their rows, with the parts of its partitions.
-fn load_owner<F: Files>(
-    alloc: Global,
-    files: &mut F,
-    catalog: &Catalog,
-    owner: u32,
-) -> Result<LoadedOwner, Stop>
-    requires owner { owner < length catalog.now.owners }
-    requires legal { IsCatalog catalog.now }
-    ensures step { IsStep (F.held files.old) (F.names files.old) (F.names files.new) (owner_read (owner_entry_at catalog.now owner))
-        (λ loaded. record { holding = loaded.dataset; hashes = loaded.hashes.items }) result }
-    ensures same { F.held files.new ≡ F.held files.old }
-    ensures cause { HasCause (F.faults files.old) (F.faults files.new) (IsErrOf result Stop.Fault) }
-    ensures passed { OnOk result (F.faults files.new ≡ F.faults files.old) }
-{
-    let loaded = load_tables(alloc, files, catalog, owner)?;
-    let dataset = Dataset::new(alloc, catalog, owner, loaded.tables)?;
-    Ok(LoadedOwner {
-        dataset,
-        hashes: loaded.hashes,
-    })
-}
-
-/// What each owner of a catalog holds, in order.
+/// The tables of each owner of a catalog, in order.
 pub(crate) fn load_all<F: Files>(
     alloc: Global,
     files: &mut F,
     catalog: &Catalog,
 ) -> Result<Loaded, Stop>
     ensures step { IsStep (F.held files.old) (F.names files.old) (F.names files.new) (loaded catalog.now)
-        (λ loaded. loading_of catalog.now loaded.datasets.items loaded.hashes.items) result }
-    ensures register { IfOk result (λ loaded. IsLoading (loading_of catalog.now loaded.datasets.items loaded.hashes.items)) }
+        (λ loaded. loading_read catalog.now loaded.tables.items loaded.hashes.items) result }
+    ensures loading { IfOk result (λ loaded. IsLoading (loading_read catalog.now loaded.tables.items loaded.hashes.items)) }
+    ensures each_has { IfOk result (λ loaded. length loaded.tables.items ≡ length catalog.now.owners) }
     ensures same { F.held files.new ≡ F.held files.old }
     ensures cause { HasCause (F.faults files.old) (F.faults files.new) (IsErrOf result Stop.Fault) }
     ensures passed { OnOk result (F.faults files.new ≡ F.faults files.old) }
 {
-    let mut datasets = Vec::new(alloc);
+    let mut tables = Vec::new(alloc);
     let mut hashes = Vec::new(alloc);
     for owner in 0..catalog.owners() as u32 {
-        let loaded = load_owner(alloc, files, catalog, owner)?;
-        datasets.push(loaded.dataset)?;
+        let loaded = load_tables(alloc, files, catalog, owner)?;
+        tables.push(loaded.tables)?;
         hashes.push(loaded.hashes)?;
     }
-    Ok(Loaded { datasets, hashes })
+    Ok(Loaded { tables, hashes })
 }
 
-/// What one owner of a catalog holds, where all were loaded.
+/// What one owner of a catalog holds, where the tables of all were loaded: no other owner's parts are made.
 pub fn load_for<F: Files>(
     alloc: Global,
     files: &mut F,
@@ -193,5 +164,7 @@ pub fn load_for<F: Files>(
     ensures passed { OnOk result (F.faults files.new ≡ F.faults files.old) }
 {
     let mut loaded = load_all(alloc, files, catalog)?;
-    Ok(loaded.datasets.swap_remove(owner as usize))
+    let rows = loaded.tables.swap_remove(owner as usize);
+    let dataset = Dataset::new(alloc, catalog, owner, rows)?;
+    Ok(dataset)
 }

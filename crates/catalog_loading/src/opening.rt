@@ -1,6 +1,6 @@
 //! A house is opened: a catalog, a key, and the tables of all owners.
 
-ghost use Rattle.std.specs.Prelude.{◌≡◌, ◌<◌, [], get_or, length, slice_set, IsErrOf, MatchResult, OnOk};
+ghost use Rattle.std.specs.Prelude.{◌≡◌, ◌<◌, [], get_or, length, slice_set, IfErr, IfOk, IsErrOf, MatchResult, OnOk};
 ghost use Rattle.owner_catalog.specs.Entries.{owner_entry_at};
 ghost use Rattle.fz_outside.specs.Faults.{HasCause};
 ghost use Rattle.catalog_loading.specs.Loaded.{IsKeyedHouse, entry_named, house_read, in_versions, keyed, number_named, owners_in};
@@ -8,6 +8,7 @@ ghost use Rattle.catalog_loading.specs.Given.{IsDecided, IsOwnerAt, IsRefusedBy,
 
 use crate::loading::{load_all, open_catalog};
 use crate::reading::read_key;
+use crate::registers::{Registered, Undivided};
 use crate::stops::Stop;
 use fz_outside::files::Files;
 use owner_catalog::Catalog;
@@ -15,15 +16,21 @@ use owner_house::house::House;
 use std::alloc::Global;
 use std::marker::Model;
 
-/// A house with the SHA-256 of its owners' table files and the key of its draws.
+/// What all owners of a catalog hold, with the SHA-256 of their table files and a key.
 #[derive(Drop)]
-pub struct Opened {
-    house: House,
+pub struct Keyed<H: Registered> {
+    held: H,
     hashes: Vec<Vec<[u8; 32]>>,
     key: [u8; 32],
 }
 
-impl Model for Opened {
+/// A house with the SHA-256 of its owners' table files and the key of its draws.
+pub type Opened = Keyed<House>;
+
+/// The same before its partitions' parts are made: what the headers of the owners' journals need.
+pub type OpenedTables = Keyed<Undivided>;
+
+impl<H: Registered> Model for Keyed<H> {
     ghost use Rattle.std.specs.Coded.{codes};
     ghost use Rattle.part_views.specs.Holding.{holding_code};
     ghost use Rattle.catalog_loading.specs.Loaded.{IsKeyedHouse, KeyedHouse, keyed};
@@ -33,26 +40,18 @@ impl Model for Opened {
 
     ghost coded = { Prim.hlevel (codes, holding_code) };
 
-    ghost view = { λ o. keyed (loading_by o.house o.hashes.items) o.key };
+    ghost view = { λ o. keyed (loading_by (H.register o.held) o.hashes.items) o.key };
 
-    ghost invariant = { λ o. IsKeyedHouse (keyed (loading_by o.house o.hashes.items) o.key) };
+    ghost invariant = { λ o. IsKeyedHouse (keyed (loading_by (H.register o.held) o.hashes.items) o.key) };
 }
 
-impl Opened {
-    /// The house.
-    pub fn house(&self) -> &House
-        ensures house { result.now ≡ self.now.loading.register }
-        ensures lawful { IsKeyedHouse self.now }
-    {
-        &self.house
-    }
-
-    /// The house's catalog.
+impl<H: Registered> Keyed<H> {
+    /// The catalog.
     pub fn catalog(&self) -> &Catalog
         ensures catalog { result.now ≡ self.now.loading.register.catalog }
         ensures lawful { IsKeyedHouse self.now }
     {
-        self.house.catalog()
+        self.held.catalog()
     }
 
     /// The SHA-256 of each of an owner's table files, in order.
@@ -64,15 +63,7 @@ impl Opened {
         &self.hashes[owner as usize]
     }
 
-    /// An owner's journal is of this version.
-    pub fn set_version(&mut self, owner: u32, version: u8)
-        requires { owner < owners_in self.old.loading }
-        ensures { self.new ≡ keyed (in_versions self.old.loading (slice_set self.old.loading.register.versions owner version)) self.old.key }
-    {
-        self.house.set_version(owner, version);
-    }
-
-    /// The key of the house's draws.
+    /// The key of the draws.
     pub fn key(&self) -> [u8; 32]
         ensures { result ≡ self.now.key }
     {
@@ -80,7 +71,64 @@ impl Opened {
     }
 }
 
-/// Opens a house: its catalog, its key, and then the tables of all owners.
+impl OpenedTables {
+    /// The same as a house: the parts of each owner's partitions are made.
+    pub fn divide(self, alloc: Global) -> Result<Opened, Stop>
+        ensures same { IfOk result (λ opened. opened ≡ self) }
+        ensures memory { IfErr result (λ stop. stop ≡ Stop.NoMemory) }
+    {
+        let Keyed { held, hashes, key } = self;
+        let house = held.divide(alloc)?;
+        Ok(Keyed {
+            held: house,
+            hashes,
+            key,
+        })
+    }
+}
+
+impl Opened {
+    /// The house.
+    pub fn house(&self) -> &House
+        ensures house { result.now ≡ self.now.loading.register }
+        ensures lawful { IsKeyedHouse self.now }
+    {
+        &self.held
+    }
+
+    /// An owner's journal is of this version.
+    pub fn set_version(&mut self, owner: u32, version: u8)
+        requires { owner < owners_in self.old.loading }
+        ensures { self.new ≡ keyed (in_versions self.old.loading (slice_set self.old.loading.register.versions owner version)) self.old.key }
+    {
+        self.held.set_version(owner, version);
+    }
+}
+
+/// Reads what a house is made of: its catalog, its key, and then the tables of all owners.
+pub fn open_tables<F: Files>(
+    alloc: Global,
+    files: &mut F,
+    catalog: &str,
+    key: &str,
+) -> Result<OpenedTables, Stop>
+    ensures step { IsStep (F.held files.old) (F.names files.old) (F.names files.new) (house_read catalog.now key.now) (λ opened. opened) result }
+    ensures same { F.held files.new ≡ F.held files.old }
+    ensures cause { HasCause (F.faults files.old) (F.faults files.new) (IsErrOf result Stop.Fault) }
+    ensures passed { OnOk result (F.faults files.new ≡ F.faults files.old) }
+{
+    let catalog = open_catalog(alloc, files, catalog)?;
+    let key = read_key(alloc, files, key)?;
+    let loaded = load_all(alloc, files, &catalog)?;
+    let held = Undivided::new(catalog, loaded.tables);
+    Ok(Keyed {
+        held,
+        hashes: loaded.hashes,
+        key,
+    })
+}
+
+/// Opens a house: its catalog, its key, and then the tables of all owners, of which the parts are made.
 pub fn open_house<F: Files>(
     alloc: Global,
     files: &mut F,
@@ -92,15 +140,9 @@ pub fn open_house<F: Files>(
     ensures cause { HasCause (F.faults files.old) (F.faults files.new) (IsErrOf result Stop.Fault) }
     ensures passed { OnOk result (F.faults files.new ≡ F.faults files.old) }
 {
-    let catalog = open_catalog(alloc, files, catalog)?;
-    let key = read_key(alloc, files, key)?;
-    let loaded = load_all(alloc, files, &catalog)?;
-    let house = House::new(catalog, loaded.datasets);
-    Ok(Opened {
-        house,
-        hashes: loaded.hashes,
-        key,
-    })
+    let opened = open_tables(alloc, files, catalog, key)?;
+    let house = opened.divide(alloc)?;
+    Ok(house)
 }
 
 /// The number of the owner of this name.

@@ -1,10 +1,9 @@
 -- why not all books were opened
-use Rattle.std.proofs.Common.{◌≡◌, ℕ, ◌<◌, List, Option, Some, None, slice_get, refl, sym, ◌∙◌, ap, subst, arith}
+use Rattle.std.proofs.Common.{◌≡◌, ℕ, ◌<◌, List, Option, Some, None, refl, sym, ◌∙◌, ap, subst}
 use Rattle.std.specs.Prelude.{IfSome, Vec, Result, Err, option_and_then, option_map}
 use Rattle.std.specs.declared.alloc.Global.{Global}
 use Rattle.outside_disks.specs.Disks.{Shown, Trace, WhereTold, seen_of}
 use Rattle.journal_records.specs.declared.records.Header.{Header}
-use Rattle.journal_records.specs.Encoding.{newest_version}
 use Rattle.journal_records.specs.declared.records.Record.{Record}
 use Rattle.budget_journal.specs.Journals.{Found, Stands}
 use Rattle.budget_journal.specs.declared.opening.OpenFault.{OpenFault}
@@ -15,13 +14,10 @@ use Rattle.budget_core.specs.Legal.{IsHistory}
 use Rattle.budget_ledger.specs.Account.{Account, IsBook, Storage}
 use Rattle.budget_ledger.specs.Opened.{IsBookFault}
 use Rattle.owner_desk.specs.Passes.{Pass}
-use Rattle.owner_house.specs.Owner.{Owner}
-use Rattle.owner_house.specs.House.{owner_at, house_of}
 use Rattle.session_core.specs.Code.{pass_at}
-use Rattle.owner_house.proofs.Owners.{entry_said, owner_there, owners_length}
 use Rattle.catalog_loading.specs.Files.{Contents}
 use Rattle.catalog_loading.specs.Steps.{FileStep}
-use Rattle.catalog_loading.specs.Loaded.{IsLoading, Loading, entry_at, header_of, new_entry, new_header, owner_name_at, owners_in, version_at}
+use Rattle.catalog_loading.specs.Loaded.{Loading, entry_at, header_of, new_entry, new_header, owner_name_at, owners_in, version_at}
 use Rattle.query_server.specs.Shelves.{Shelf, NoOtherRose, bytes_on}
 use Rattle.query_server.specs.Opened.{AreOpenedBefore, IsOpened, IsUnopened}
 use Rattle.query_server.specs.Status.{disk_text, journal_text}
@@ -121,13 +117,6 @@ new_book entry wanted given header before trace faults book is same at found fre
           (subst (λ (h : Header). WhereTold (Found h book.ledger.found) trace book.storage.trace) head found, ap (λ (s : Storage). s.faults) fresh.1);
       sound = sound;
     }
-
--- an owner's entry, by its number
-pub entry_is : (loading : Loading) (o : ℕ) (entry : Entry) → IsLoading loading → o < owners_in loading → ((asked : Owner) → slice_get (house_of loading.register).owners o ≡ Some asked → entry ≡ asked.entry)
-    → entry ≡ entry_at loading o
-entry_is loading o entry lawful within is =
-    let there = owner_there loading.register o (omega (arith, within, owners_length loading.register lawful.register)) in
-    is (owner_at (house_of loading.register) o) there ∙ sym (entry_said loading.register o (owner_at (house_of loading.register) o) newest_version there)
 
 -- steps over files name no disk
 pub step_no_disk : {A B : Type 0} (held : Option Contents) (old new : List (List ℕ)) (step : FileStep A) (stop : Stop) (line : Vec ℕ Global) → IsStopped held old new step stop → stop ≡ Disk line → B

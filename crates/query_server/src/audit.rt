@@ -17,7 +17,7 @@ use crate::books::open_book;
 use crate::end::End;
 use crate::numbers::put_field;
 use budget_ledger::book::Book;
-use catalog_loading::{Opened, Stop, headers_of};
+use catalog_loading::{OpenedTables, Stop, headers_of};
 use journal_records::records::Header;
 use outside_bays::bay::Bay;
 use outside_disks::disk::Disk;
@@ -50,7 +50,7 @@ fn put_counted<D: Disk>(
 fn count_owner<B: Bay>(
     alloc: Global,
     bay: &mut B,
-    opened: &Opened,
+    opened: &OpenedTables,
     header: &Header,
     owner: u32,
     lines: &mut Vec<u8>,
@@ -76,7 +76,7 @@ fn count_owner<B: Bay>(
 }
 
 /// The lines of all owners, whose books are opened one after another, up to the first that isn't opened.
-fn count_all<B: Bay>(alloc: Global, bay: &mut B, opened: &Opened) -> Result<Vec<u8>, Stop>
+fn count_all<B: Bay>(alloc: Global, bay: &mut B, opened: &OpenedTables) -> Result<Vec<u8>, Stop>
     requires home { AreAtHome (B.owners bay.old) (B.shelf bay.old) }
     ensures counted { IfOk result (λ lines. (versions : List ℕ) × (found : Journals)
         × AreOpened opened.now.loading opened.now.key (B.shelf bay.old) versions found
@@ -102,7 +102,11 @@ fn count_all<B: Bay>(alloc: Global, bay: &mut B, opened: &Opened) -> Result<Vec<
 }
 
 /// Counts the records in the journals of all owners.
-pub(crate) fn list_counted<B: Bay>(alloc: Global, bay: &mut B, opened: &Opened) -> Result<End, Stop>
+pub(crate) fn list_counted<B: Bay>(
+    alloc: Global,
+    bay: &mut B,
+    opened: &OpenedTables,
+) -> Result<End, Stop>
     requires home { AreAtHome (B.owners bay.old) (B.shelf bay.old) }
     ensures end { (script : List ℕ) → IsEndOf (to_count opened.now.loading opened.now.key)
         (B.shelf bay.old) (B.shelf bay.new) script result }

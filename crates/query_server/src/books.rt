@@ -17,11 +17,12 @@ use crate::refusals::{JournalRefusal, disk_line, journal_line};
 use budget_core::entry::Entry;
 use budget_journal::opening::OpenFault;
 use budget_ledger::book::Book;
-use catalog_loading::{Opened, Stop, headers_of};
+use catalog_loading::{Keyed, Opened, Registered, Stop, headers_of};
 use journal_records::records::Header;
 use outside_bays::bay::Bay;
 use outside_disks::disk::Disk;
 use owner_desk::{Desk, Pass};
+use owner_house::entry::new_entry;
 use std::alloc::Global;
 
 /// The bay or an owner's disk has failed.
@@ -97,10 +98,10 @@ pub(crate) fn open_on<B: Bay>(
 }
 
 /// Opens an owner's book on its disk. Where it isn't opened, the disk is put back.
-pub(crate) fn open_book<B: Bay>(
+pub(crate) fn open_book<B: Bay, H: Registered>(
     alloc: Global,
     bay: &mut B,
-    opened: &Opened,
+    opened: &Keyed<H>,
     header: &Header,
     owner: u32,
 ) -> Result<Book<B::D>, Stop>
@@ -116,9 +117,9 @@ pub(crate) fn open_book<B: Bay>(
     ensures bay { KeepsBay B.shelf B.owners B.faults bay.old bay.new }
     ensures cause { HasDiskCause B.shelf B.owners B.faults bay.old bay.new result }
 {
-    let house = opened.house();
-    let entry = house.entry(alloc, owner)?;
-    let name = opened.catalog().owner_name(owner);
+    let catalog = opened.catalog();
+    let entry = new_entry(alloc, catalog, owner)?;
+    let name = catalog.owner_name(owner);
     open_on(alloc, bay, name, entry, header, owner)
 }
 

@@ -21,7 +21,7 @@ use crate::numbers::put_field;
 use crate::refusals::JournalRefusal;
 use budget_journal::journal::Journal;
 use budget_journal::making::InitFault;
-use catalog_loading::{Opened, Stop, headers_of};
+use catalog_loading::{OpenedTables, Stop, headers_of};
 use journal_records::records::Header;
 use outside_bays::bay::Bay;
 use owner_catalog::Catalog;
@@ -84,7 +84,7 @@ fn unmade_stop(alloc: Global, owner: &str, fault: InitFault) -> Stop
 }
 
 /// Makes the journals of all owners in order, up to the first that isn't made.
-fn make_all<B: Bay>(alloc: Global, bay: &mut B, opened: &Opened) -> Result<(), Stop>
+fn make_all<B: Bay>(alloc: Global, bay: &mut B, opened: &OpenedTables) -> Result<(), Stop>
     requires home { AreAtHome (B.owners bay.old) (B.shelf bay.old) }
     ensures made { OnOk result (EachDisk (owners_in opened.now.loading)
         (λ o. IsMade (new_header opened.now.loading opened.now.key o))
@@ -104,7 +104,11 @@ fn make_all<B: Bay>(alloc: Global, bay: &mut B, opened: &Opened) -> Result<(), S
 }
 
 /// Makes the journals of all owners. The lines come first: where memory is wanting for them, no disk is taken.
-pub(crate) fn list_made<B: Bay>(alloc: Global, bay: &mut B, opened: &Opened) -> Result<End, Stop>
+pub(crate) fn list_made<B: Bay>(
+    alloc: Global,
+    bay: &mut B,
+    opened: &OpenedTables,
+) -> Result<End, Stop>
     requires home { AreAtHome (B.owners bay.old) (B.shelf bay.old) }
     ensures end { (script : List ℕ) → IsEndOf (to_make opened.now.loading opened.now.key)
         (B.shelf bay.old) (B.shelf bay.new) script result }

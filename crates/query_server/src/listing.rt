@@ -11,7 +11,7 @@ ghost use Rattle.query_server.specs.Ends.{IsStepEnd, listed_work};
 use crate::audit::list_counted;
 use crate::end::End;
 use crate::init::list_made;
-use catalog_loading::{Stop, open_house};
+use catalog_loading::{Stop, open_tables};
 use fz_outside::files::Files;
 use outside_bays::bay::Bay;
 use std::alloc::Global;
@@ -25,7 +25,7 @@ pub(crate) enum Listing {
     Counted,
 }
 
-/// Opens the house of a catalog and a key, and makes the journals of its owners, or counts the records in them.
+/// Reads what the house of a catalog and a key is made of, and makes the journals of its owners, or counts the records in them.
 pub(crate) fn list_owners<F: Files, B: Bay>(
     alloc: Global,
     files: &mut F,
@@ -45,7 +45,7 @@ pub(crate) fn list_owners<F: Files, B: Bay>(
     ensures cause { IsErrOf result Stop.Fault → HasRisen (F.faults files.old) (F.faults files.new) }
     ensures disk { HasDiskCause B.shelf B.owners B.faults bay.old bay.new result }
 {
-    let opened = open_house(alloc, files, catalog, key)?;
+    let opened = open_tables(alloc, files, catalog, key)?;
     match listing {
         Listing::Made => list_made(alloc, bay, &opened),
         Listing::Counted => list_counted(alloc, bay, &opened),

@@ -8,7 +8,7 @@ use Rattle.catalog_loading.proofs.Hashes.{next_header, one_valid}
 use Rattle.catalog_loading.proofs.headers.headers_of.Goals as goal
 
 pub loop-owner-preserved : goal.loop-owner-preserved
-loop-owner-preserved c =
+loop-owner-preserved g c =
     let o = c.loop-owner.owner in
     let f = new_header c.args.opened.now.loading c.args.opened.now.key in
     let pushed : c.push.new.self.items ≡ c.loop-owner.headers.items ++ c.in_ok-header.header ∷ [] = c.in_ok-push.ensures.items in

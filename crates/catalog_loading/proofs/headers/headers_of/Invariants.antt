@@ -7,7 +7,7 @@ use Rattle.catalog_loading.proofs.headers.headers_of.Given as goal
 
 -- the headers so far
 abbrev pub invariant-loop-owner : goal.invariant-loop-owner
-invariant-loop-owner l =
+invariant-loop-owner g l =
     record {
       count : length l.headers.items ≡ l.owner;
       headers : (o : ℕ) (d : Header) → o < l.owner → get_or l.headers.items o d ≡ new_header l.opened.loading l.opened.key o;

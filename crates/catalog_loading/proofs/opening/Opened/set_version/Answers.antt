@@ -9,13 +9,13 @@ use Rattle.catalog_loading.proofs.opening.Opened.set_version.Goals as goal
 
 pub set_version-requires : goal.set_version-requires
 set_version-requires c =
-    let within : c.args.owner < owners_in (loading_by c.self.inside.house c.self.inside.hashes.items) =
+    let within : c.args.owner < owners_in (loading_by c.self.inside.held c.self.inside.hashes.items) =
     subst (λ (h : KeyedHouse). c.args.owner < owners_in h.loading) (sym c.self.view_is) c.requires in
-    subst (λ (n : ℕ). c.args.owner < n) (sym (owners_length c.self.inside.house c.self.invariant.lawful.register)) within
+    subst (λ (n : ℕ). c.args.owner < n) (sym (owners_length c.self.inside.held c.self.invariant.lawful.register)) within
 
 pub invariant_of-self : goal.invariant_of-self
 invariant_of-self c =
-    let house = c.self.inside.house in
+    let house = c.self.inside.held in
     let lawful = c.self.invariant.lawful in
     let same : length (slice_set house.versions c.args.owner c.args.version) ≡ length house.versions = length-set house.versions c.args.owner c.args.version in
     subst (λ (r : Register). IsKeyedHouse (keyed (loading_by r c.self.inside.hashes.items) c.self.inside.key)) (sym c.set_version.ensures)

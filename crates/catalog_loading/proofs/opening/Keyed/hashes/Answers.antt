@@ -1,13 +1,13 @@
 use Rattle.std.proofs.Common.{◌<◌, length, arith, sym, subst}
 use Rattle.std.proofs.lemmas.Grind.{common_steps}
 use Rattle.catalog_loading.specs.Given.{loading_by}
-use Rattle.catalog_loading.specs.Loaded.{KeyedHouse, keyed, owners_in}
+use Rattle.catalog_loading.specs.Loaded.{KeyedHouse, owners_in}
 use Rattle.catalog_loading.proofs.Hashes.{has_hashes}
-use Rattle.catalog_loading.proofs.opening.Opened.hashes.Goals as goal
+use Rattle.catalog_loading.proofs.opening.Keyed.hashes.Goals as goal
 
 pub index-requires : goal.index-requires
-index-requires c =
-    let loading = loading_by c.self.inside.house c.self.inside.hashes.items in
+index-requires g c =
+    let loading = loading_by (g.H.Registered.register c.self.inside.held) c.self.inside.hashes.items in
     let lawful = c.self.invariant.lawful in
     let within : c.args.owner < owners_in loading = subst (λ (h : KeyedHouse). c.args.owner < owners_in h.loading) (sym c.self.view_is) c.requires in
     let there : c.args.owner < length c.self.inside.hashes.items =
