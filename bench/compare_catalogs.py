@@ -3,9 +3,9 @@
 
 usage: bench/compare_catalogs.py [COUNT [SEED]]     (PROGRAM=FILE compares another build than tools/build's)
 COUNT random catalogs (5,000 where none is said): right ones in odd spelling, ones with a member, an item, a number, a name or a byte
-changed, and lists and names at their limits, 64 and 65 owners and 4,000 and 4,001 keys among them. Each is given to `check` with the name of an owner and a program of sensitivity 0, which
-says `ok 0`, or refuses the catalog, the owner or the first table's file that is absent or isn't right. Ends with status 1 where the
-status or the line differs, or where a kind of fault, or a side of one of these two limits, didn't come.
+changed, and lists and names at their limits, 64 and 65 owners and 4,000 and 4,001 keys among them. Each is given to `check` with the name
+of an owner and a program of sensitivity 0, which says `ok 0`, or refuses the catalog, the owner or the first table's file that is absent or
+isn't right. Ends with status 1 where the status or the line differs, or where a kind of fault, or a side of one of these two limits, didn't come.
 """
 import json
 import os

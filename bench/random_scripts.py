@@ -275,8 +275,8 @@ class Lines:
         tables = [table for table in signature(one) if table[0] == partition["table"]]
         if self.chance(0.03):
             tables = signature(one)
-        key = partition["keys"][part_at_random(self.rng, len(partition["keys"]))]
-        words = [b"askpart", name, self.name([partition["name"]]), self.name(KEYS if self.chance(0.05) else [key]), self.epsilon(one["budget"]), program_for(self.rng, tables)]
+        keys = KEYS if self.chance(0.05) else [partition["keys"][part_at_random(self.rng, len(partition["keys"]))]]
+        words = [b"askpart", name, self.name([partition["name"]]), self.name(keys), self.epsilon(one["budget"]), program_for(self.rng, tables)]
         return words[: self.rng.randint(1, 5)] + [b""] * self.chance(0.2) if self.chance(self.hostile) else words
 
     def recall(self):

@@ -268,8 +268,8 @@ MADE = [
     (lambda: put_in_slot(0, 30, b"\1"), AUDIT, "", 4, ["a reservation's partition (byte 2) is 255 and its part (bytes 3 and 30) 256"]),
     (lambda: put_in_slot(0, 31, b"\1"), AUDIT, "", 4, ["byte 31 of a reservation is 1, where 0 belongs"]),
     (both(lambda: put_in_slot(0, 2, b"\0\xa0"), lambda: put_in_slot(0, 30, b"\x0f")), AUDIT, "", 4, ["(byte 2) is 0 and its part (bytes 3 and 30) 4000"]),
-    (both(lambda: put_in_slot(0, 2, b"\0\1"), lambda: put_in_slot(0, 30, b"\1")), AUDIT, "", 4, ["it is a reservation of partition 0, part 257 (from 0), which the "
-        "owner hasn't"]),
+    (both(lambda: put_in_slot(0, 2, b"\0\1"), lambda: put_in_slot(0, 30, b"\1")), AUDIT, "", 4, ["it is a reservation of partition 0, part 257 (from 0), "
+        "which the owner hasn't"]),
     (lambda: put_in_slot(0, 7, b"\1"), AUDIT, "", 4, ["it reserves number 1, and 0 is the next one"]),
     (lambda: put_in_slot(0, 29, b"\7"), AUDIT, "", 4, ["it is a reservation of analyst 7 (from 0), and there are 3"]),
     (lambda: put_in_slot(0, 2, b"\1\0"), AUDIT, "", 4, ["it is a reservation of partition 1, part 0 (from 0), which the owner hasn't"]),
