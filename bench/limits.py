@@ -1,0 +1,199 @@
+#!/usr/bin/env python3
+"""What a catalog's greatest numbers take: 64 owners, and partitions of 4,000 keys.
+
+usage: bench/limits.py [ROUNDS [NAME..]]    7 rounds, and all of the four, unless said: reply, divide, catalogs, memory
+                                            (PROGRAM=FILE measures another build)
+- reply: with 64 owners of two tables of 1,000 rows the first reply over a connection comes at most 0.2 s behind the start of `serve`: the median of
+  the rounds. Journals have no records, and every table is a file of its own.
+- divide: rows are divided by key where a table is loaded. Of a table of 2^20 rows of a text and a number, whose texts are 4,000 keys at random, that
+  takes at most twice one pass over the text column. What is compared is processor time, the least of the rounds: a `run` of no ask with that
+  partition, less the same run without it, beside an eighth of what eight asks cost in the latter, each of which looks at the text of every row:
+  `size (filter (fn (p : text * num) => let (town, age) = p in town == "town0001") people)`.
+- catalogs: `check`, which divides nothing, reads a catalog of 64 owners with 8 tables of 16 columns each in at most 1 s; and one of 64 owners with
+  8 partitions of 4,000 keys each, 2,048,000 keys as long as a file of 2^26 bytes lets them be, in at most 2 s: wall time, the median of the rounds.
+- memory: a `run` of no ask over 64 owners of two tables of 1,000 rows and 262,144 records each takes at most 64 MB at its peak; with 8 partitions of
+  4,000 keys for each owner, all of which have rows, at most 1 GB, which is 500 bytes a key.
+It ends with status 1 where a bar isn't met, and with 2 where there is no program or no /dev/shm, in which all files lie.
+"""
+import os
+import random
+import socket
+import subprocess
+import sys
+import tempfile
+import time
+from statistics import median
+
+os.environ.setdefault("PROGRAM", f"{os.path.dirname(os.path.dirname(os.path.abspath(__file__)))}/crates/hitchseason/out/hitchseason")
+from beginning import numbers  # noqa: E402
+from served import MEMORY, PROGRAM, Wrong, free_ports  # noqa: E402
+from catalog import KEYS, OWNERS, catalog, owner  # noqa: E402
+
+FILE_LIMIT, RECORDS = 2**26, 262_144
+NAMES = [f"owner_{number}" for number in range(OWNERS)]
+COLUMNS = (("town", "text"), ("age", "num"))
+PASS = 'ask owner_0 0.000001 size (filter (fn (p : text * num) => let (town, age) = p in town == "town0001") people)\n'
+ASKS = 8
+
+
+def rows_of(rng, towns, count):
+    return "town,age\n" + "".join(f"{rng.choice(towns)},{rng.randrange(100)}\n" for _ in range(count))
+
+
+class House:
+    """A folder in memory with a catalog of these owners, a key and files."""
+
+    def __init__(self, owners, files):
+        self.room = tempfile.TemporaryDirectory(dir=MEMORY)
+        self.folder = self.room.name
+        for name, data in (("catalog.json", catalog(*owners)), ("key", bytes(32)), ("zero", b"0"), *files.items()):
+            with open(f"{self.folder}/{name}", "wb") as file:
+                file.write(data if isinstance(data, bytes) else data.encode())
+
+    def __enter__(self):
+        return self
+
+    def __exit__(self, *_):
+        self.room.cleanup()
+
+    def ran(self, *words, script=""):
+        """What a command says, the wall and processor seconds that it takes, and its greatest memory in KiB."""
+        begun = time.perf_counter()
+        with open(f"{self.folder}/script", "w+") as lines:
+            lines.write(script)
+            lines.seek(0)
+            run = subprocess.Popen([PROGRAM, *words], cwd=self.folder, stdin=lines, stdout=subprocess.PIPE, text=True)
+            said = run.stdout.read()
+            _, status, used = os.wait4(run.pid, 0)
+        run.returncode = os.waitstatus_to_exitcode(status)
+        run.stdout.close()
+        if run.returncode != 0:
+            raise Wrong(f"{words[0]} ended with {run.returncode} and {said[:200]!r}")
+        return said, time.perf_counter() - begun, used.ru_utime + used.ru_stime, used.ru_maxrss
+
+    def first_reply(self):
+        """Seconds from the start of `serve` to a reply over a connection."""
+        port, line = free_ports(1), f"left {NAMES[-1]}\n"
+        begun = time.perf_counter()
+        run = subprocess.Popen([PROGRAM, "serve", "catalog.json", "key", "--port", str(port), "--each", "1"], cwd=self.folder, stdin=subprocess.DEVNULL)
+        while True:
+            try:
+                link = socket.create_connection(("127.0.0.1", port))
+                break
+            except ConnectionRefusedError:
+                if run.poll() is not None or time.perf_counter() - begun > 60:
+                    raise Wrong("serve doesn't listen") from None
+                time.sleep(0.001)
+        with link, link.makefile("r") as replies:
+            link.sendall(line.encode())
+            reply = replies.readline()
+            took = time.perf_counter() - begun
+        run.wait(60)
+        if reply != "left 0 10000000 0\n":
+            raise Wrong(f"the reply was {reply!r}")
+        return took
+
+
+def small_owners(parts=(), keys=(), capacity=100):
+    """64 owners of two tables of 1,000 rows, whose towns are these keys, and their files."""
+    rng, owners, files = random.Random(64), [], {}
+    for name in NAMES:
+        for table in ("people", "stays"):
+            files[f"{name}_{table}.csv"] = rows_of(rng, keys or [f"town{number}" for number in range(100)], 1000)
+        tables = tuple((table, f"{name}_{table}.csv", COLUMNS) for table in ("people", "stays"))
+        owners.append(owner(name, tables, capacity=capacity, partitions=parts))
+    return owners, files
+
+
+def told(what, figure, unit, bar, more=""):
+    """A sentence on a figure and its bar; whether it is met."""
+    print(f"{what}: {figure:.3g} {unit}{more}, at most {bar} wanted", flush=True)
+    return figure <= bar
+
+
+def reply(rounds):
+    with House(*small_owners()) as house:
+        house.ran("init", "catalog.json", "key")
+        took = [house.first_reply() for _ in range(rounds)]
+    return [told("64 owners of two tables of 1,000 rows, the first reply behind the start of `serve`", median(took), "s", 0.2,
+        f" ({min(took):.3f} to {max(took):.3f})")]  # fmt: skip
+
+
+def divide(rounds):
+    keys = [f"town{number:04}" for number in range(KEYS)]
+    table, files = (("people", "people.csv", COLUMNS),), {"people.csv": rows_of(random.Random(16), keys, 2**20)}
+    make = lambda parts: House([owner(NAMES[0], table, budget=10**12, capacity=10**4, partitions=parts)], files)
+    with make(()) as plain, make((("area", "people", "town", keys),)) as parted:
+        for house in (plain, parted):
+            house.ran("init", "catalog.json", "key")
+        run = ("run", "catalog.json", "key")
+        ways = lambda: (plain.ran(*run)[2], parted.ran(*run)[2], plain.ran(*run, script="hello ann\n" + ASKS * PASS)[2])
+        without, divided, passes = (min(found) for found in zip(*(ways() for _ in range(rounds))))
+    one = (passes - without) / ASKS
+    print(f"2^20 rows: read in {without:.3f} s, {divided:.3f} s with a partition of 4,000 keys; a pass over the text column takes {1000 * one:.1f} ms")
+    return [told("2^20 rows divided by 4,000 keys, in passes over the text column", (divided - without) / one, "passes", 2,
+        f", {1000 * (divided - without):.1f} ms")]  # fmt: skip
+
+
+def catalogs(rounds):
+    columns = tuple((f"column_{number}", "num") for number in range(16))
+    wide = [owner(name, tuple((f"table_{number}", "wide.csv", columns) for number in range(8))) for name in NAMES]
+    files = {"wide.csv": ",".join(name for name, _ in columns) + "\n", "people.csv": "town,age\n"}
+    met = [catalog_read(rounds, "64 owners of 8 tables", wide, files, 1)]
+    full = lambda length: [owner(name, (("people", "people.csv", COLUMNS),), partitions=eight_parts(length)) for name in NAMES]
+    # A key takes four bytes more than its own, by the blank and the comma between two of them.
+    length = min(64, FILE_LIMIT // (OWNERS * 8 * KEYS) - 5)
+    return met + [catalog_read(rounds, "64 owners of 8 partitions of 4,000 keys", full(length), files, 2)]
+
+
+def eight_parts(length):
+    keys = [f"k{number:0{length - 1}}" for number in range(KEYS)]
+    return tuple((f"part_{number}", "people", "town", keys) for number in range(8))
+
+
+def catalog_read(rounds, what, owners, files, bar):
+    with House(owners, files) as house:
+        size = os.path.getsize(f"{house.folder}/catalog.json")
+        ran = [house.ran("check", "catalog.json", NAMES[-1], "zero") for _ in range(rounds)]
+        if size > FILE_LIMIT or {said for said, *_ in ran} != {"ok 0\n"}:
+            raise Wrong(f"{what}: {size} bytes, {ran[0][0]!r}")
+    took = [wall for _, wall, _, _ in ran]
+    peak = max(kept for *_, kept in ran)
+    return told(f"a catalog of {what}, read", median(took), "s", bar, f" ({size / 1e6:.1f} MB, peak {peak // 1024} MB, {min(took):.2f} to {max(took):.2f})")
+
+
+def memory(rounds):
+    keys = [f"town{number:04}" for number in range(KEYS)]
+    parts = tuple((f"part_{number}", "people", "town", keys) for number in range(8))
+    met = []
+    for what, bar, house in (
+        ("64 owners", 64, House(*small_owners(capacity=RECORDS))),
+        ("64 owners of 8 partitions of 4,000 keys", 1000, House(*small_owners(parts, keys, RECORDS))),
+    ):
+        with house:
+            house.ran("init", "catalog.json", "key")
+            _, wall, _, kept = house.ran("run", "catalog.json", "key")
+        met.append(told(f"{what} of two tables of 1,000 rows and 262,144 records, the peak of a `run` of no ask", kept * 1024 / 1e6, "MB", bar, f" in {wall:.2f} s"))
+    return met
+
+
+BARS = {"reply": reply, "divide": divide, "catalogs": catalogs, "memory": memory}
+
+
+def main():
+    names = [word for word in sys.argv[1:] if word in BARS]
+    (rounds,) = numbers(__doc__, 7, words=[word for word in sys.argv[1:] if word not in BARS])
+    if not os.access(PROGRAM, os.X_OK) or not os.access(MEMORY, os.W_OK):
+        print(f"there is no {PROGRAM}, which `rt run` in crates/hitchseason proves and builds, or no {MEMORY}", file=sys.stderr)
+        sys.exit(2)
+    print(f"{os.cpu_count()} processors, load {os.getloadavg()[0]:.1f}, {rounds} rounds")
+    try:
+        met = [one for name, bar in BARS.items() if not names or name in names for one in bar(rounds)]
+    except Wrong as fault:
+        print(f"WRONG: {fault}")
+        sys.exit(1)
+    sys.exit(0 if all(met) else 1)
+
+
+if __name__ == "__main__":
+    main()
