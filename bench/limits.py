@@ -5,9 +5,10 @@ usage: bench/limits.py [ROUNDS [NAME..]]    7 rounds, and all of the four, unles
                                             (PROGRAM=FILE measures another build)
 - reply: with 64 owners of two tables of 1,000 rows the first reply over a connection comes at most 0.2 s behind the start of `serve`: the median of
   the rounds. Journals have no records, and every table is a file of its own.
-- divide: rows are divided by key where a table is loaded. Of a table of 2^20 rows of a text and a number, whose texts are 4,000 keys at random, that
-  takes at most twice one pass over the text column. What is compared is processor time, the least of the rounds: a `run` of no ask with that
-  partition, less the same run without it, beside an eighth of what eight asks cost in the latter, each of which looks at the text of every row:
+- divide: a `run` divides rows by key where it loads a table. Of a table of 2^20 rows of a text and a number, whose texts are 4,000 keys at random, that
+  takes at most twice one pass over the text column. What is compared is processor time, the least of the rounds. Dividing is a `run` of no ask
+  with that partition less the same run without it, and less the same difference over a table of no rows, which is what the keys themselves cost. A
+  pass is an eighth of what eight asks cost in the run without the partition, each of which looks at the text of every row and at no number:
   `size (filter (fn (p : text * num) => let (town, age) = p in town == "town0001") people)`.
 - catalogs: `check`, which divides nothing, reads a catalog of 64 owners with 8 tables of 16 columns each in at most 1 s; and one of 64 owners with
   8 partitions of 4,000 keys each, 2,048,000 keys as long as a file of 2^26 bytes lets them be, in at most 2 s: wall time, the median of the rounds.
@@ -121,18 +122,19 @@ def reply(rounds):
 
 def divide(rounds):
     keys = [f"town{number:04}" for number in range(KEYS)]
-    table, files = (("people", "people.csv", COLUMNS),), {"people.csv": rows_of(random.Random(16), keys, 2**20)}
-    make = lambda parts: House([owner(NAMES[0], table, budget=10**12, capacity=10**4, partitions=parts)], files)
-    with make(()) as plain, make((("area", "people", "town", keys),)) as parted:
-        for house in (plain, parted):
+    rows, table = rows_of(random.Random(16), keys, 2**20), (("people", "people.csv", COLUMNS),)
+    make = lambda parts, rows: House([owner(NAMES[0], table, budget=10**12, capacity=10**4, partitions=parts)], {"people.csv": rows})
+    parts, none = (("area", "people", "town", keys),), "town,age\n"
+    with make((), rows) as plain, make(parts, rows) as parted, make((), none) as bare, make(parts, none) as keyed:
+        for house in (plain, parted, bare, keyed):
             house.ran("init", "catalog.json", "key")
-        run = ("run", "catalog.json", "key")
-        ways = lambda: (plain.ran(*run)[2], parted.ran(*run)[2], plain.ran(*run, script="hello ann\n" + ASKS * PASS)[2])
-        without, divided, passes = (min(found) for found in zip(*(ways() for _ in range(rounds))))
-    one = (passes - without) / ASKS
-    print(f"2^20 rows: read in {without:.3f} s, {divided:.3f} s with a partition of 4,000 keys; a pass over the text column takes {1000 * one:.1f} ms")
-    return [told("2^20 rows divided by 4,000 keys, in passes over the text column", (divided - without) / one, "passes", 2,
-        f", {1000 * (divided - without):.1f} ms")]  # fmt: skip
+        used = lambda house, script="": house.ran("run", "catalog.json", "key", script=script)[2]
+        ways = lambda: (used(plain), used(parted), used(bare), used(keyed), used(plain, "hello ann\n" + ASKS * PASS))
+        without, divided, empty, with_keys, passes = (min(found) for found in zip(*(ways() for _ in range(rounds))))
+    one, dividing = (passes - without) / ASKS, divided - without - (with_keys - empty)
+    print(f"2^20 rows: a run of {without:.3f} s, of {divided:.3f} s with 4,000 keys, which themselves cost {with_keys - empty:.3f} s; a pass {1000 * one:.1f} ms")
+    more = f", {1000 * dividing:.1f} ms"
+    return [told("2^20 rows divided by 4,000 keys, in passes over the text column", dividing / one, "passes", 2, more)]
 
 
 def catalogs(rounds):
