@@ -12,8 +12,8 @@ usage: bench/limits.py [ROUNDS [NAME..]]    7 rounds, and all of the four, unles
   `size (filter (fn (p : text * num) => let (town, age) = p in town == "town0001") people)`.
 - catalogs: `check`, which divides nothing, reads a catalog of 64 owners with 8 tables of 16 columns each in at most 1 s; and one of 64 owners with
   8 partitions of 4,000 keys each, 2,048,000 keys as long as a file of 2^26 bytes lets them be, in at most 2 s: wall time, the median of the rounds.
-- memory: a `run` of no ask over 64 owners of two tables of 1,000 rows and 262,144 records each takes at most 64 MB at its peak; with 8 partitions of
-  4,000 keys for each owner, all of which have rows, at most 1 GB, which is 500 bytes a key.
+- memory: a `serve` over 64 owners of two tables of 1,000 rows, with room for 262,144 records each, has taken at most 64 MB by its first reply; with 8
+  partitions of 4,000 keys for each owner at most 1,000 MB, which is 488 bytes a key. Records take theirs as they come: up to 120 bytes each.
 It ends with status 1 where a bar isn't met, and with 2 where there is no program or no /dev/shm, in which all files lie.
 """
 import os
@@ -58,7 +58,7 @@ class House:
         self.room.cleanup()
 
     def ran(self, *words, script=""):
-        """What a command says, the wall and processor seconds that it takes, and its greatest memory in KiB."""
+        """What a command says, and the wall and processor seconds that it takes."""
         begun = time.perf_counter()
         with open(f"{self.folder}/script", "w+") as lines:
             lines.write(script)
@@ -70,10 +70,10 @@ class House:
         run.stdout.close()
         if run.returncode != 0:
             raise Wrong(f"{words[0]} ended with {run.returncode} and {said[:200]!r}")
-        return said, time.perf_counter() - begun, used.ru_utime + used.ru_stime, used.ru_maxrss
+        return said, time.perf_counter() - begun, used.ru_utime + used.ru_stime
 
     def first_reply(self):
-        """Seconds from the start of `serve` to a reply over a connection."""
+        """Seconds from the start of `serve` to a reply over a connection, and the most memory that it has had then, in MB."""
         port, line = free_ports(1), f"left {NAMES[-1]}\n"
         begun = time.perf_counter()
         run = subprocess.Popen([PROGRAM, "serve", "catalog.json", "key", "--port", str(port), "--each", "1"], cwd=self.folder, stdin=subprocess.DEVNULL)
@@ -82,17 +82,23 @@ class House:
                 link = socket.create_connection(("127.0.0.1", port))
                 break
             except ConnectionRefusedError:
-                if run.poll() is not None or time.perf_counter() - begun > 60:
+                if run.poll() is not None or time.perf_counter() - begun > 600:
                     raise Wrong("serve doesn't listen") from None
                 time.sleep(0.001)
         with link, link.makefile("r") as replies:
             link.sendall(line.encode())
             reply = replies.readline()
             took = time.perf_counter() - begun
+            peak = peak_of(run.pid)
         run.wait(60)
         if reply != "left 0 10000000 0\n":
             raise Wrong(f"the reply was {reply!r}")
-        return took
+        return took, peak
+
+
+def peak_of(process):
+    with open(f"/proc/{process}/status", encoding="ascii") as file:
+        return next(int(line.split()[1]) for line in file if line.startswith("VmHWM")) * 1024 / 1e6
 
 
 def small_owners(parts=(), keys=(), capacity=100):
@@ -115,7 +121,7 @@ def told(what, figure, unit, bar, more=""):
 def reply(rounds):
     with House(*small_owners()) as house:
         house.ran("init", "catalog.json", "key")
-        took = [house.first_reply() for _ in range(rounds)]
+        took = [house.first_reply()[0] for _ in range(rounds)]
     return [told("64 owners of two tables of 1,000 rows, the first reply behind the start of `serve`", median(took), "s", 0.2,
         f" ({min(took):.3f} to {max(took):.3f})")]  # fmt: skip
 
@@ -132,7 +138,7 @@ def divide(rounds):
         ways = lambda: (used(plain), used(parted), used(bare), used(keyed), used(plain, "hello ann\n" + ASKS * PASS))
         without, divided, empty, with_keys, passes = (min(found) for found in zip(*(ways() for _ in range(rounds))))
     one, dividing = (passes - without) / ASKS, divided - without - (with_keys - empty)
-    print(f"2^20 rows: a run of {without:.3f} s, of {divided:.3f} s with 4,000 keys, which themselves cost {with_keys - empty:.3f} s; a pass {1000 * one:.1f} ms")
+    print(f"2^20 rows: a run of {without:.3f} s, of {divided:.3f} s with the keys, which cost {with_keys - empty:.3f} s by themselves; a pass {1000 * one:.1f} ms")
     more = f", {1000 * dividing:.1f} ms"
     return [told("2^20 rows divided by 4,000 keys, in passes over the text column", dividing / one, "passes", 2, more)]
 
@@ -159,9 +165,8 @@ def catalog_read(rounds, what, owners, files, bar):
         ran = [house.ran("check", "catalog.json", NAMES[-1], "zero") for _ in range(rounds)]
         if size > FILE_LIMIT or {said for said, *_ in ran} != {"ok 0\n"}:
             raise Wrong(f"{what}: {size} bytes, {ran[0][0]!r}")
-    took = [wall for _, wall, _, _ in ran]
-    peak = max(kept for *_, kept in ran)
-    return told(f"a catalog of {what}, read", median(took), "s", bar, f" ({size / 1e6:.1f} MB, peak {peak // 1024} MB, {min(took):.2f} to {max(took):.2f})")
+    took = [wall for _, wall, _ in ran]
+    return told(f"a catalog of {what}, read", median(took), "s", bar, f" ({size / 1e6:.1f} MB, {min(took):.2f} to {max(took):.2f})")
 
 
 def memory(rounds):
@@ -174,8 +179,8 @@ def memory(rounds):
     ):
         with house:
             house.ran("init", "catalog.json", "key")
-            _, wall, _, kept = house.ran("run", "catalog.json", "key")
-        met.append(told(f"{what} of two tables of 1,000 rows and 262,144 records, the peak of a `run` of no ask", kept * 1024 / 1e6, "MB", bar, f" in {wall:.2f} s"))
+            took, peak = house.first_reply()
+        met.append(told(f"{what} of two tables of 1,000 rows, the peak of a `serve` by its first reply", peak, "MB", bar, f", {took:.2f} s behind its start"))
     return met
 
 
