@@ -138,7 +138,7 @@ def divide(rounds):
         ways = lambda: (used(plain), used(parted), used(bare), used(keyed), used(plain, "hello ann\n" + ASKS * PASS))
         without, divided, empty, with_keys, passes = (min(found) for found in zip(*(ways() for _ in range(rounds))))
     one, dividing = (passes - without) / ASKS, divided - without - (with_keys - empty)
-    print(f"2^20 rows: a run of {without:.3f} s, of {divided:.3f} s with the keys, which cost {with_keys - empty:.3f} s by themselves; a pass {1000 * one:.1f} ms")
+    print(f"2^20 rows: a run of {without:.3f} s, of {divided:.3f} s with the keys, which alone cost {with_keys - empty:.3f} s; a pass {1000 * one:.1f} ms")
     more = f", {1000 * dividing:.1f} ms"
     return [told("2^20 rows divided by 4,000 keys, in passes over the text column", dividing / one, "passes", 2, more)]
 
