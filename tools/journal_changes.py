@@ -248,9 +248,12 @@ class Search:
             if are_there(one):
                 yield said, compact(analysts), one
 
-    def fits(self, key, analysts, entry, tables):
+    def fits(self, begun, tables):
+        """Whether the digest comes out of what is hashed already, by `begun`, and these tables behind it."""
         self.tried += 1
-        return hashlib.sha256(key + analysts + b"\n" + entry + b"\n" + b"".join(tables)).digest() == self.wanted
+        hashed = begun.copy()
+        hashed.update(b"".join(tables))
+        return hashed.digest() == self.wanted
 
     def by(self, most):
         """The sentences of so many changes by which the digest comes out, or nothing: first those without a table's, then with one table's."""
@@ -266,20 +269,25 @@ class Search:
 
     def without_tables(self, most):
         for changed, key, analysts, one in self.pairs(most):
-            if self.fits(key, analysts, compact(one), [self.house.digest(table["file"]) for table in one["tables"]]):
+            if self.fits(begun(key, analysts, one), [self.house.digest(table["file"]) for table in one["tables"]]):
                 return changed
         return None
 
     def with_a_table(self, most):
         self.tried = 0
         for changed, key, analysts, one in self.pairs(most - 1):
-            entry = compact(one)
+            hashed = begun(key, analysts, one)
             for said, tables in tables_to_try(self.house, one, self.told):
                 if self.tried > MOST_TRIED:
                     return None
-                if self.fits(key, analysts, entry, tables):
+                if self.fits(hashed, tables):
                     return [*changed, said]
         return None
+
+
+def begun(key, analysts, entry):
+    """The hash of a header's digest up to the tables, of which many are tried behind one entry."""
+    return hashlib.sha256(key + analysts + b"\n" + compact(entry) + b"\n")
 
 
 def are_there(entry):
