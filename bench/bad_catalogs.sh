@@ -88,6 +88,25 @@ with Form '"num"' '"number"'
 with Double '"bob"' '"ann"'
 with Form 'ann' "$(printf 'a%.0s' {1..33})"
 
+# many VERDICT OWNERS KEYS: a catalog of so many owners, the first of which is census and has a partition of so many keys.
+many() {
+    python3 - "$2" "$3" >bad.json <<'END'
+import json
+import sys
+owners, keys = map(int, sys.argv[1:])
+table = {"name": "people", "file": "people.csv", "columns": [{"name": "age", "type": "text"}]}
+partition = {"name": "ages", "table": "people", "column": "age", "keys": [str(key) for key in range(keys)]}
+one = {"budget": 10**7, "capacity": 100, "tables": [table]}
+print(json.dumps({"analysts": ["ann"], "owners": [
+    {**one, "name": f"o{number}" if number else "census", "partitions": [] if number else [partition]} for number in range(owners)
+]}))
+END
+    judged "$2 owners, $3 keys" "$1"
+}
+many ok 64 4000
+many Count 65 4000
+many Count 64 4001
+
 # of TEXT COUNT: that text, so many times, cut to so many bytes.
 of() { yes "$1" | tr -d '\n' | head -c "$2"; }
 # longest NAME BEFORE TEXT AFTER: catalogs of 2^25 and of 2^26 bytes, which are the text again and again between the others.

@@ -53,6 +53,20 @@ with open("journals/0.bud", "wb") as file:
     file.write(appended(data, capacity_in(data), [Grant(*map(int, sys.argv[2:]))]))
 END
 }
+# part PARTITION PART STATUS OUTPUT: a reservation of this part behind the records of the journal of census, over a catalog with 4,000 keys.
+part() {
+    anew parts.json
+    python3 - "$top/tools" "$1" "$2" <<'END'
+import sys
+sys.path.insert(0, sys.argv[1])
+from journal import ONE, Reservation, appended, capacity_in, contents
+data = contents("journals/0.bud")
+one = Reservation(1, (int(sys.argv[2]), int(sys.argv[3])), 7, 1, 1, 7, 1, ONE)
+with open("journals/0.bud", "wb") as file:
+    file.write(appended(data, capacity_in(data), [one]))
+END
+    over_journals "partition $1, part $2" "$3" "$4" audit parts.json key
+}
 # sums: what stands in journals.
 sums() { find journals -type f -exec sha256sum {} + 2>/dev/null | sort; ls -ld journals journals/* 2>/dev/null | cut -c1-10; }
 # refused NAME STATUS OUTPUT [CATALOG [KEY]]: `run` and `audit` refuse what is there, and leave it as it is.
@@ -76,6 +90,16 @@ put() { printf "$2" | dd of=journals/0.bud bs=1 seek="$1" conv=notrunc status=no
 # copy FROM TO: a slot of the journal of census in another slot's place.
 copy() { dd if=journals/0.bud of=slot bs=64 skip=$(($1 + 2)) count=1 status=none && dd if=slot of=journals/0.bud bs=64 seek=$(($2 + 2)) conv=notrunc status=none; }
 two two.json
+python3 - <<'END'
+import json
+with open("cat.json") as file:
+    catalog = json.load(file)
+owner = catalog["owners"][0]
+owner["tables"][0]["columns"] = [{"name": "age", "type": "text"}]
+owner["partitions"] = [{"name": "ages", "table": "people", "column": "age", "keys": [str(key) for key in range(4000)]}]
+with open("parts.json", "w") as file:
+    json.dump(catalog, file)
+END
 
 rm -rf journals
 refused "no journal" 4 'journal census uninitialised 0/'
@@ -119,7 +143,9 @@ anew && put 192 '\045' && over_journals "the last gate torn" 0 "$again" run cat.
 anew && put 193 '\004' && refused "no such kind of record" 4 'journal census damaged 1/'
 anew && put 193 '\003' && refused "a settlement called a grant" 4 'journal census damaged 1/'
 anew && put 135 '\001' && refused "another number" 4 'journal census damaged 0/'
-anew && put 158 '\001' && refused "bytes where zeros belong" 4 'journal census damaged 0/'
+anew && put 131 '\001' && refused "a part's low byte, of the whole" 4 'journal census damaged 0/'
+anew && put 158 '\001' && refused "a part's high byte, of the whole" 4 'journal census damaged 0/'
+anew && put 159 '\001' && refused "a byte where a zero belongs" 4 'journal census damaged 0/'
 anew && put 157 '\002' && refused "an analyst that isn't there" 4 'journal census damaged 0/'
 anew && put 155 '\101' && refused "another charge" 4 'journal census damaged 0/'
 anew && put 147 '\002' && refused "another sensitivity" 4 'journal census damaged 0/'
@@ -130,6 +156,14 @@ anew && copy 1 63 && refused "the last slot open" 4 'journal census damaged 63/'
 anew && copy 1 64 && over_journals "a record behind the live area" 0 "$again" run cat.json key
 older && copy 1 99 && refused "version 1: the last slot open" 4 'journal census damaged 99/'
 anew && copy 0 3 && refused "a slot open behind a closed one" 4 'journal census damaged 3/'
+
+for at in 0 255 256 3999; do
+    part 0 $at 0 'census reservations 2 answered 1 exhausted 0 lost 1 spent 1000007 budget 10000000/'
+done
+for view in '0 4000' '0 65535' '1 0' '1 256' '7 3999' '8 0' '255 1' '255 256'; do
+    read -r partition at <<<"$view"
+    part "$partition" "$at" 4 'journal census damaged 2/'
+done
 
 counted='census reservations 1 answered 1 exhausted 0 lost 0 spent 1000000 budget'
 for version in anew older; do

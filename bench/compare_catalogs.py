@@ -3,9 +3,9 @@
 
 usage: bench/compare_catalogs.py [COUNT [SEED]]     (PROGRAM=FILE compares another build than tools/build's)
 COUNT random catalogs (5,000 where none is said): right ones in odd spelling, ones with a member, an item, a number, a name or a byte
-changed, and lists and names at their limits. Each is given to `check` with the name of an owner and a program of sensitivity 0, which
-says `ok 0`, or refuses the catalog, the owner or the first table's file that is absent or isn't right. Ends with status 1 where the
-status or the line differs, or where a kind of fault didn't come.
+changed, and lists and names at their limits, 64 and 65 owners and 4,000 and 4,001 keys among them. Each is given to `check` with the name
+of an owner and a program of sensitivity 0, which says `ok 0`, or refuses the catalog, the owner or the first table's file that is absent or
+isn't right. Ends with status 1 where the status or the line differs, or where a kind of fault, or a side of one of these two limits, didn't come.
 """
 import json
 import os
@@ -20,7 +20,8 @@ TOP = os.path.dirname(os.path.dirname(os.path.abspath(__file__)))
 PROGRAM = os.path.abspath(os.environ.get("PROGRAM", f"{TOP}/out/hitchseason"))
 sys.path.insert(0, f"{TOP}/tools")
 from beginning import begin  # noqa: E402
-from catalog import BadCatalog, read  # noqa: E402
+from catalog import KEYS, OWNERS, BadCatalog, read  # noqa: E402
+from faults import walked  # noqa: E402
 from programs import WORDS  # noqa: E402
 from tables import BadTable, held  # noqa: E402
 
@@ -30,6 +31,8 @@ FILES = {
     "e.csv": (b"age\n", [("age", "num")]),
 }
 KINDS = "Syntax Kind Missing Unknown Count Range Form Double NoSuch".split()
+# Both sides of a limit of many items, by the member that has them.
+SIDES = {"owners": (OWNERS, OWNERS + 1), "keys": (KEYS, KEYS + 1)}
 
 
 class Members(list):
@@ -62,7 +65,7 @@ def names(rng, count, reserved=True):
 
 def keys(rng, count):
     signs = "!#,\"\\'AZaz09~é\u00a0\u3000\U0001f600"
-    found = {}
+    found = {f"k{number}": None for number in range(count - 250)}
     while len(found) < count:
         found["".join(rng.choice(signs) for _ in range(rng.choice([1, 2, 3, 8, 16])))] = None
     return list(found)
@@ -88,7 +91,7 @@ def partition(rng, name, tables):
     if not offered:
         return None
     of, column = rng.choice(offered)
-    many = rng.choice([1, 2, 5, 250])
+    many = rng.choice(SIDES["keys"]) if rng.random() < 0.015 else rng.choice([1, 2, 5, 250])
     return Members([("name", name), ("table", dict(of)["name"]), ("column", dict(column)["name"]), ("keys", keys(rng, many))])
 
 
@@ -107,7 +110,8 @@ def owner(rng, name):
 
 
 def right(rng):
-    owners = [owner(rng, name) for name in names(rng, some(rng, 16))]
+    many = rng.choice(SIDES["owners"]) if rng.random() < 0.01 else some(rng, 16)
+    owners = [owner(rng, name) for name in names(rng, many)]
     return Members([("analysts", names(rng, some(rng, 64))), ("owners", owners)])
 
 
@@ -271,12 +275,20 @@ def first_bad_table(catalog):
     return None
 
 
-def wanted(rng, data, name):
+def side_of(member, items):
+    return f"{len(items)} {member}"
+
+
+def wanted(rng, data, name, came):
     """An owner to ask for, what comes of that, the status, and the line."""
     try:
         catalog = read(data)
     except BadCatalog as fault:
+        if fault.kind == "Count":
+            came[side_of(fault.member, walked(json.loads(data), fault.path)[fault.member])] += 1
         return "census", fault.kind, 3, f"refused {name}\n".encode()
+    came[side_of("owners", catalog["owners"])] += 1
+    came.update(side_of("keys", part["keys"]) for one in catalog["owners"] for part in one["partitions"])
     owner = rng.choice(catalog["owners"])["name"]
     if rng.random() < 0.03:
         return owner + "x" * 32, "owner", 3, f"refused {owner + 'x' * 32}\n".encode()
@@ -289,20 +301,22 @@ def wanted(rng, data, name):
 def main():
     count, seed = begin(__doc__, 5_000, 1)
     rng = random.Random(seed)
-    came, differences = Counter(), 0
+    came, sides, differences = Counter(), Counter(), 0
     with tempfile.TemporaryDirectory() as folder, ThreadPoolExecutor(2) as pool:
         room = Room(folder)
         for first in range(0, count, 200):
             numbers = range(first, min(first + 200, count))
             catalogs = [random_catalog(rng) for _ in numbers]
-            asked = [wanted(rng, data, f"cat{number}.json") for number, data in zip(numbers, catalogs)]
+            asked = [wanted(rng, data, f"cat{number}.json", sides) for number, data in zip(numbers, catalogs)]
             for data, want, found in zip(catalogs, asked, pool.map(room.said, numbers, catalogs, [want[0] for want in asked])):
                 came[want[1]] += 1
                 if found != want[2:]:
                     differences += 1
                     print(f"{found}, wanted {want[2:]} by {want[1]}, of {data[:2000]}", flush=True)
+    limits = [f"{many} {member}" for member, both in SIDES.items() for many in both]
+    came.update({side: sides[side] for side in limits})
     print(f"{count} catalogs, {differences} differences: " + ", ".join(f"{kind} {many}" for kind, many in sorted(came.items())))
-    lacking = [kind for kind in [*KINDS, "ok", "owner", "Absent", "BadTable"] if not came[kind]]
+    lacking = [kind for kind in [*KINDS, "ok", "owner", "Absent", "BadTable", *limits] if not came[kind]]
     if lacking:
         print("none came of", ", ".join(lacking))
     sys.exit(1 if differences or lacking else 0)

@@ -8,8 +8,9 @@ Each case is a catalog of one or two owners with journals of version 1, 2 or 3, 
 and what stands behind the live one, mostly hold what runs leave there, and now and then any bytes. Most journals are spoilt then: bytes changed, in the
 header, at gates, in records; cut off or made longer; pieces repeated, put in or taken out; slots exchanged; areas exchanged, opened and closed; the
 version changed; records that may not follow those before them, such as a settlement that gives back too much, too little, or in an older version, or a
-grant of another number, or one by which the budget is over 10^18; an amount of 0 or over 10^18, and bytes among a grant's zeros; another owner's journal,
-or that of another key.
+grant of another number, or one by which the budget is over 10^18; an amount of 0 or over 10^18, and bytes among a grant's zeros; parts 255, 256, 3999 and
+4000, a part's bytes in a reservation of the whole, and a byte behind them; another owner's journal, or that of another key. Now and then an owner has a
+partition of 4,000 keys.
 
 - `audit` writes the counts of each, with status 0, or with 4 the first refusal, and leaves the files as they are.
 - Where all open, the program goes on with a few asks, recalls and balances, or with a grant, and is told what the second server (tools/reference.py)
@@ -35,12 +36,14 @@ from beginning import begin  # noqa: E402
 from catalog import catalog, owner  # noqa: E402
 from journal import GATE, GATES_AT, HEAD, MOST_AREAS, MOST_BUDGET, SLOT, VERSION_AT, VERSIONS, Book, Grant, Refused, Settlement  # noqa: E402
 from journal import appended, areas, book_of, contents, header, live_area, live_number, made, put, version_of  # noqa: E402
-from random_scripts import amount_at_random, grant_at_random, reservation_at_random  # noqa: E402
+from random_scripts import amount_at_random, grant_at_random, part_at_random, reservation_at_random  # noqa: E402
 from reference import Server, grant_by_words, house_of, key_words  # noqa: E402
 
 CAPACITIES = [2, 3, 8, 40, 63, 64, 65, 66, 100, 127, 128, 129, 200, 256, 300, 600, 1100]
 BUDGETS = [1, 100, 10**6, 10**7, 10**12, 10**18]
 PARTS = [(), (("area", "people", "town", ("A", "B")),), (("area", "people", "town", ("A", "B", "C")), ("age", "people", "town", ("A",)))]
+# As many keys as there may be, of which those that have rows are at both ends of the numbers.
+MANY_PARTS = (("few", "people", "town", ("B",)), ("area", "people", "town", ("A", *(f"k{number}" for number in range(1, 3999)), "B")))
 TABLES = (("people", "people.csv", (("town", "text"), ("age", "num"))),)
 PEOPLE = b"town,age\nA,20\nB,30\nA,40\n"
 ANALYSTS = ("ann", "bob", "eve")
@@ -76,12 +79,15 @@ def wrong_record(rng, book):
     """A record that may not follow, mostly."""
     number = len(book.reserved)
     one = reservation_at_random(rng, book)
-    kind = rng.randrange(14)
+    kind = rng.randrange(16)
+    if kind > 13:
+        return wrong_part(rng, one)
     if kind > 7:
         return wrong_grant(rng, book)
     if kind < 3 or not number:
         changes = [("number", number + rng.choice([1, -1]) if number else 1), ("taken", one.taken + rng.choice([1, -1]) if one.taken else 1),
-            ("analyst", rng.choice([book.analysts, 65535])), ("view", rng.choice([(0, 249), (7, 0), (2, 0), (0, 3)])), ("e", 10**9), ("program", bytes(32))]  # fmt: skip
+            ("analyst", rng.choice([book.analysts, 65535])), ("view", rng.choice([(0, 255), (0, 256), (0, 3999), (7, 0), (2, 0), (0, 3)])),
+            ("e", 10**9), ("program", bytes(32))]  # fmt: skip
         setattr(one, *rng.choice(changes))
         return one
     if kind == 3:
@@ -102,6 +108,22 @@ class Bytes:
 
     def encoded(self):
         return self.data
+
+
+def wrong_part(rng, one):
+    """A reservation of a part that no record names, or of one that hardly an owner has; or with a byte behind its part's."""
+    way = rng.randrange(4)
+    if way == 0:
+        one.view = rng.choice([(0, 4000), (7, 4000), (0, 4095), (3, 65535)])
+    elif way == 1:
+        one.view = rng.choice([(255, 1), (255, 255), (255, 256), (255, 3999), (255, 65280)])
+    elif way == 2:
+        one.view = (rng.choice([0, 1, 7]), part_at_random(rng, 4000))
+    else:
+        data = bytearray(one.encoded())
+        data[31] = rng.choice([1, 0x0F, 0x80, 0xFF])
+        return Bytes(bytes(data))
+    return one
 
 
 def wrong_grant(rng, book):
@@ -229,7 +251,7 @@ class Case:
         self.rng, self.came = rng, came
         self.analysts = ANALYSTS[: rng.randint(1, 3)]
         names = ("census", "labour")[: rng.choice([1, 1, 1, 2])]
-        owners = [owner(name, TABLES, rng.choice(BUDGETS), rng.choice(CAPACITIES), rng.choice(PARTS)) for name in names]
+        owners = [owner(name, TABLES, rng.choice(BUDGETS), rng.choice(CAPACITIES), MANY_PARTS if rng.random() < 0.1 else rng.choice(PARTS)) for name in names]
         self.data, self.key = catalog(*owners, analysts=self.analysts), rng.randbytes(32)
         self.house = house_of(self.data, {"people.csv": PEOPLE}.__getitem__)
         self.entries = self.house.catalog["owners"]
@@ -261,6 +283,7 @@ class Case:
             self.came["a last record that may not follow, perhaps"] += 1
         self.came["settlements that give back"] += sum(isinstance(one, Settlement) and one.returned > 0 for one in book.records)
         self.came[f"version {version} with grants"] += bool(book.grants)
+        self.came[f"version {version} with parts of two bytes"] += any(one.view[1] > 255 for one in book.reserved)
         self.came["exhausted in an older version"] += version < 3 and any(one.outcome == 2 for one in book.settled.values())
         key = bytes(32) if rng.random() < 0.02 else None
         data = bytearray(appended(made(self.head(order if rng.random() < 0.98 else 0, version, key), capacity), capacity, records))
@@ -328,7 +351,7 @@ class Case:
                 self.came["a record that may not stand there"] += "may not stand there" in book.how
                 if "gives back" in book.how:
                     self.came[f"version {version} gives back wrongly"] += 1
-                self.came.update(f"version {version} {what}" for how, what in OF_GRANTS.items() if how in book.how)
+                self.came.update(f"version {version} {what}" for how, what in OF_RECORDS.items() if how in book.how)
             else:
                 area = live_number(data) if version != 1 else 0
                 self.came[f"version {version} open, area {area}"] += 1
@@ -398,10 +421,11 @@ def compare(seed, number, came):
             os.chdir(TOP)
 
 
-# What is said of a wrong grant, by which kind it is.
-OF_GRANTS = {"it is grant number": "another number", "with its grant of": "a sum above", "its grant is of": "an amount outside",
+# What is said of a wrong record, by which kind it is.
+OF_RECORDS = {"is 255 and its part": "a whole view's part", "and its part (bytes": "a part that is none", "which the owner hasn't": "a part of nobody's",
+    "byte 31 of": "byte 31 of a reservation", "it is grant number": "another number", "with its grant of": "a sum above", "its grant is of": "an amount outside",
     "of a grant are": "bytes 2 and 3 of a grant", "a grant has other bytes": "bytes behind a grant's"}  # fmt: skip
-KINDS = ("open, area 0", "changed", "damaged", "uninitialised", "gives back wrongly", "with grants", *OF_GRANTS.values())
+KINDS = ("open, area 0", "changed", "damaged", "uninitialised", "gives back wrongly", "with grants", "with parts of two bytes", *OF_RECORDS.values())
 WANTED = [f"version {version} {what}" for version in VERSIONS for what in KINDS] + [f"a grant that ends with {status}" for status in (0, 2, 4, 9, 10)] + [
     "version none changed", "version none uninitialised", *(f"version {version} open, area {area}" for version, most in ((2, 2), (3, 3)) for area in range(1, most + 1)),
     "other bytes around the live area", "settlements that give back", "exhausted in an older version", "a record that may not stand there",

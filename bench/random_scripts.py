@@ -22,7 +22,7 @@ PARTITIONS = ["area", "ward", "map", "by_ward", "p" * 32, "A"]
 KEYS = ["A", "B", "a", "é", "東", "k" * 64, '"', "A,B", "1", "ask", "\\", "~"]
 # As many as there may be: the last ones have the greatest numbers in records.
 MOST_ANALYSTS = [f"a{number}" for number in range(62)] + ["bob", "ann"]
-MOST_KEYS = [f"k{number}" for number in range(248)] + ["B", "A"]
+MOST_KEYS = [f"k{number}" for number in range(3998)] + ["B", "A"]
 CELLS = [key.encode() for key in KEYS] + [b"", b"A B", b"\xff", b"t" * 64, b"line\nend", b"\r\x00", b"it is"]
 BUDGETS = [1, 10, 1000, 10**6, 3 * 10**6, 10**7, 10**7, 10**8, 10**10, 10**18]
 CAPACITIES = [2, 3, 5, 8, 12, 16, 30, 60, 65, 100, 100, 130, 200]
@@ -79,13 +79,18 @@ def house_at_random(rng):
 # Records.
 
 
+def part_at_random(rng, many):
+    """The number of one of so many parts: of many mostly one at an end of the numbers, or of those of one byte."""
+    return rng.choice([0, 255, 256, many - 2, many - 1]) if many > 256 and rng.random() < 0.7 else rng.randrange(many)
+
+
 def reservation_at_random(rng, book, parts=(2, 10, 50)):
     """It takes the rise of the cost, and is over the budget, perhaps; its epsilon is at most one of so many parts of the budget."""
     partitions, budget, r = book.entry["partitions"], book.budget, Fraction(rng.randint(0, 9), rng.choice([1, 1, 2, 3]))
     view = WHOLE
     if partitions and rng.random() < 0.5:
         partition = rng.randrange(len(partitions))
-        view = (partition, rng.randrange(len(partitions[partition]["keys"])))
+        view = (partition, part_at_random(rng, len(partitions[partition]["keys"])))
     e = rng.randint(1, max(1, min(10**9, budget // rng.choice(parts))))
     made = Reservation(len(book.reserved), view, e, r.numerator, r.denominator, 0, rng.randrange(book.analysts), rng.randbytes(32))
     made.taken = book.spent_with(made) - book.spent
@@ -270,8 +275,8 @@ class Lines:
         tables = [table for table in signature(one) if table[0] == partition["table"]]
         if self.chance(0.03):
             tables = signature(one)
-        keys = self.name(KEYS if self.chance(0.05) else partition["keys"])
-        words = [b"askpart", name, self.name([partition["name"]]), keys, self.epsilon(one["budget"]), program_for(self.rng, tables)]
+        keys = KEYS if self.chance(0.05) else [partition["keys"][part_at_random(self.rng, len(partition["keys"]))]]
+        words = [b"askpart", name, self.name([partition["name"]]), self.name(keys), self.epsilon(one["budget"]), program_for(self.rng, tables)]
         return words[: self.rng.randint(1, 5)] + [b""] * self.chance(0.2) if self.chance(self.hostile) else words
 
     def recall(self):

@@ -18,6 +18,8 @@ import sys
 
 from programs import WORDS
 
+# The owners that a catalog may have, and the keys of a partition.
+OWNERS, KEYS = 64, 4000
 NESTS = 127
 NAME = re.compile(r"[A-Za-z_][A-Za-z0-9_]{0,31}")
 ESCAPE = re.compile(r"\\(?:u([0-9a-fA-F]{4})|.)", re.S)
@@ -123,12 +125,13 @@ def items(value, member, at, count, level, item, name=lambda found: found):
     """A list whose items' numbers stand at this level of the place, each of another name."""
     if len(of_kind(list, value, member, at)) not in count:
         raise BadCatalog("Count", member, at)
-    found = []
+    found, names = [], set()
     for order, one in enumerate(value):
         there = (*at[:level], order, *at[level + 1 :])
         try:
             found.append(item(one, member, there))
-            if name(found[-1]) in map(name, found[:-1]):
+            names.add(name(found[-1]))
+            if len(names) < len(found):
                 raise BadCatalog("Double", member, there)
         except BadCatalog as fault:
             fault.path.insert(0, (member, order))
@@ -188,7 +191,7 @@ def partition(value, member, at, tables):
     text(found["name"], "name", at, is_name)
     of = chosen(found["table"], "table", at, tables)
     chosen(found["column"], "column", at, [one for one in of["columns"] if one["type"] == "text"])
-    items(found["keys"], "keys", at, range(1, 251), 2, lambda one, member, at: text(one, member, at, is_key))
+    items(found["keys"], "keys", at, range(1, KEYS + 1), 2, lambda one, member, at: text(one, member, at, is_key))
     return found
 
 
@@ -205,7 +208,7 @@ def owner_of(value, member, at):
 def read(data):
     found = members(json_value(data), "", (0, 0, 0), ["analysts", "owners"])
     items(found["analysts"], "analysts", (0, 0, 0), range(1, 65), 1, lambda one, member, at: text(one, member, at, is_name))
-    items(found["owners"], "owners", (0, 0, 0), range(1, 17), 0, owner_of, by_name)
+    items(found["owners"], "owners", (0, 0, 0), range(1, OWNERS + 1), 0, owner_of, by_name)
     return found
 
 
@@ -309,6 +312,9 @@ KNOWN = [
     ((*PARTITION, "column"), "age", "NoSuch column 0 0 0"),
     ((*PARTITION, "column"), "city", "NoSuch column 0 0 0"),
     ((*PARTITION, "keys"), [], "Count keys 0 0 0"),
+    ((*PARTITION, "keys"), [f"k{number}" for number in range(4000)], "ok"),
+    ((*PARTITION, "keys"), [f"k{number}" for number in range(4001)], "Count keys 0 0 0"),
+    ((*PARTITION, "keys"), [*(f"k{number}" for number in range(3999)), "k0"], "Double keys 0 0 3999"),
     ((*PARTITION, "keys"), ["A", "A"], "Double keys 0 0 1"),
     ((*PARTITION, "keys"), ["A", "a b"], "Form keys 0 0 1"),
     ((*PARTITION, "keys"), ["é" * 32], "ok"),
@@ -335,8 +341,8 @@ def check():
     twice = census().replace(b'"analysts"', b'"analysts": 7, "analysts"')
     assert said(twice) == "ok" and said(census().replace(b'"owners"', b'"analysts": 7, "owners"')) == "Kind analysts 0 0 0"
     assert said(catalog(owner(), owner())) == "Double owners 1 0 0"
-    assert said(catalog(*[owner(name=f"o{number}") for number in range(16)])) == "ok"
-    assert said(catalog(*[owner(name=f"o{number}") for number in range(17)])) == "Count owners 0 0 0"
+    assert said(catalog(*[owner(name=f"o{number}") for number in range(64)])) == "ok"
+    assert said(catalog(*[owner(name=f"o{number}") for number in range(65)])) == "Count owners 0 0 0"
     print("all as known")
 
 

@@ -17,6 +17,7 @@ import select
 import socket
 import stat
 
+from catalog import OWNERS
 from faults import Fault, Unreadable, bytes_of, catalog_of, check_key, survey_lines, table_of, whoever
 from journal import GATE, HEAD, MOST_BUDGET, SLOT, VERSION_AT, Area, Grant, Refused, Reservation, Settlement, begun, book_of, capacity_in, contents, decoded
 from journal import fields, header, live_area, version_of
@@ -25,7 +26,7 @@ from journal_changes import House, changes
 from lines import amount_of
 from meanings import COMMANDS, STATUSES
 
-OWNERS = 16
+WORKERS = 16
 SCRIPT_LIMIT = 2**24
 MOST_TOLD = 10
 IN_SERVICE = "Don't run `init`, which would begin the budget anew: go on as with `damaged`, its budget counts as spent."
@@ -40,13 +41,13 @@ ONE_PROCESS = (
 
 # Options that take a value: what each takes, and the commands that have it.
 OPTIONS = {
-    "--workers": ("a whole number from 1 to 16. It may be left out", ("run", "serve")),
+    "--workers": (f"a whole number from 1 to {WORKERS}. It may be left out", ("run", "serve")),
     "--port": ("a whole number from 1 to 65520, the first worker's port", ("serve",)),
     "--each": ("a whole number from 1 to 1000000, the connections that each worker serves", ("serve",)),
     "--addr": ("an address of this machine. It may be left out", ("serve",)),
 }
 # The words of `gen`: the least and the greatest number of each.
-GENERATED = {"SEED": (0, 2**32 - 1), "N": (1, 100_000), "WORKERS": (1, 16)}
+GENERATED = {"SEED": (0, 2**32 - 1), "N": (1, 100_000), "WORKERS": (1, WORKERS)}
 
 
 class Command:
@@ -436,11 +437,14 @@ def about_journals(command, before):
 
 
 def about_others(found, told):
-    """A word on each other owner's journal."""
+    """A word on each other owner's journal; where many open, how many do."""
+    opened = [number for number in found.opened() if number != told]
     for number, book in enumerate(found.books):
-        if number != told:
+        if number != told and (isinstance(book, Refused) or len(opened) <= MOST_TOLD):
             said = f"is refused, too: {book}" if isinstance(book, Refused) else f"opens, with {len(book.records)} records"
             yield f"The journal of {found.entries[number]['name']} {said}."
+    if len(opened) > MOST_TOLD:
+        yield f"The journals of {len(opened)} other owners open."
 
 
 def about_existing(found, before):
@@ -687,7 +691,7 @@ def about_doors(command):
     addr, first, workers = command.option("--addr", "127.0.0.1"), command.option("--port", ""), command.option("--workers", "1")
     if not (first.isdigit() and workers.isdigit()):
         return
-    for port in range(int(first), int(first) + min(int(workers), OWNERS)):
+    for port in range(int(first), int(first) + min(int(workers), WORKERS)):
         try:
             family = socket.getaddrinfo(addr, port, type=socket.SOCK_STREAM)[0][0]
             with socket.socket(family, socket.SOCK_STREAM) as door:

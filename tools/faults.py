@@ -12,7 +12,7 @@ import json
 import os
 import pwd
 
-from catalog import BadCatalog, read
+from catalog import KEYS, OWNERS, BadCatalog, read
 from programs import WORDS
 from scan import raw, scan, why_no_key
 from tables import shown
@@ -27,7 +27,7 @@ MEMBERS = {
     "columns": ["name", "type"],
     "partitions": ["name", "table", "column", "keys"],
 }
-COUNTS = {"analysts": (1, 64), "owners": (1, 16), "tables": (1, 8), "partitions": (0, 8), "columns": (1, 16), "keys": (1, 250)}
+COUNTS = {"analysts": (1, 64), "owners": (1, OWNERS), "tables": (1, 8), "partitions": (0, 8), "columns": (1, 16), "keys": (1, KEYS)}
 RANGES = {"budget": (1, 10**18), "capacity": (2, 262_144)}
 FORMS = {
     "file": "a file's name has 1 to 255 bytes and no control byte",

@@ -25,6 +25,7 @@ import os
 import re
 import signal
 import sys
+from functools import lru_cache
 from math import gcd
 
 from audits import check_audits, fallen
@@ -36,6 +37,7 @@ VERSION_AT, GATES_AT, MOST_AREAS = 9, 96, 32
 VERSIONS = (1, 2, 3)
 FIRST_SLOTS = 64
 WHOLE = (255, 0)
+PARTITIONS, PARTS = 8, 4000
 OUTCOMES = {1: "answered", 2: "exhausted", 3: "lost"}
 MOST_BUDGET = 10**18
 MOST_TOLD = 10
@@ -58,8 +60,9 @@ class Reservation:
         return -(-self.p * self.e // self.q)
 
     def encoded(self):
-        numbers = [(self.number, 4), (self.e, 4), (self.p, 4), (self.q, 4), (self.taken, 8), (self.analyst, 2), (0, 2)]
-        return bytes([GATE, 1, *self.view]) + b"".join(n.to_bytes(k, "big") for n, k in numbers) + self.program
+        high, low = divmod(self.view[1], 256)
+        numbers = [(self.number, 4), (self.e, 4), (self.p, 4), (self.q, 4), (self.taken, 8), (self.analyst, 2), (high, 1), (0, 1)]
+        return bytes([GATE, 1, self.view[0], low]) + b"".join(n.to_bytes(k, "big") for n, k in numbers) + self.program
 
     def said(self, entry, analysts):
         """In words, by the names of the owner's partitions and of the analysts."""
@@ -101,15 +104,22 @@ class Grant:
         return f"grant {self.number} amount {self.amount}"
 
 
+def view_in(slot):
+    """The view that a reservation's bytes name: a part's low byte is byte 3, its high byte is byte 30."""
+    return slot[2], slot[3] + 256 * slot[30]
+
+
+def is_view(view):
+    return view == WHOLE or (view[0] < PARTITIONS and view[1] < PARTS)
+
+
 def decoded(slot):
     """The record that an open slot holds, or None: the bytes are read, and must be those that the record is written as."""
     kind, number = slot[1], int.from_bytes(slot[4:8], "big")
     if kind == 1:
         part = lambda a, b: int.from_bytes(slot[a:b], "big")
-        found = Reservation(number, (slot[2], slot[3]), part(8, 12), part(12, 16), part(16, 20), part(20, 28), part(28, 30), slot[32:64])
-        partition, part_of = found.view
-        seen = found.view == WHOLE or (partition < 8 and part_of < 250)
-        if not seen or not 1 <= found.e <= 10**9 or found.q == 0 or gcd(found.p, found.q) != 1:
+        found = Reservation(number, view_in(slot), part(8, 12), part(12, 16), part(16, 20), part(20, 28), part(28, 30), slot[32:64])
+        if not is_view(found.view) or not 1 <= found.e <= 10**9 or found.q == 0 or gcd(found.p, found.q) != 1:
             return None
     elif kind == 2 and slot[2] in OUTCOMES:
         found = Settlement(number, slot[2], int.from_bytes(slot[8:16], "big", signed=True), int.from_bytes(slot[16:24], "big"))
@@ -137,12 +147,12 @@ def no_record(slot):
             "a settlement has other bytes than its own, where zeros belong": any(tail),
         }
         return [said for said, holds in wrong.items() if holds]
-    whole = (slot[2], slot[3]) == WHOLE
+    partition, part = view_in(slot)
     wrong = {
-        f"a reservation's partition and part (bytes 2 and 3) are {slot[2]} and {slot[3]}": not whole and (slot[2] >= 8 or slot[3] >= 250),
+        f"a reservation's partition (byte 2) is {partition} and its part (bytes 3 and 30) {part}": not is_view((partition, part)),
         f"a reservation's epsilon is {numbers['e']} millionths, and 1 to 1000000000 are allowed": not 1 <= numbers["e"] <= 10**9,
         f"a reservation's sensitivity is {numbers['p']}/{numbers['q']}, no fraction in lowest terms": gcd(numbers["p"], numbers["q"]) != 1 or numbers["q"] == 0,
-        "bytes 30 and 31 of a reservation aren't zeros": numbers["end"] != 0,
+        f"byte 31 of a reservation is {slot[31]}, where 0 belongs": slot[31] != 0,
     }
     return [said for said, holds in wrong.items() if holds]
 
@@ -156,16 +166,22 @@ def no_grant(slot):
     return [said for said, holds in wrong.items() if holds]
 
 
-NUMBERS = [("e", 8, 12), ("p", 12, 16), ("q", 16, 20), ("end", 30, 32)]
+NUMBERS = [("e", 8, 12), ("p", 12, 16), ("q", 16, 20)]
 
 
 def compact(value):
     return json.dumps(value, separators=(",", ":"), ensure_ascii=False, sort_keys=True).encode()
 
 
+@lru_cache(maxsize=1)
+def whole_of(data):
+    """What a catalog's bytes say, which is only read: all its owners' headers are made of it."""
+    return json_value(data)
+
+
 def header(data, order, key, file, version=1):
     """The header of an owner's journal of a version, of a catalog's bytes, the owner's number and the key, FILE giving a file's bytes by its name."""
-    whole = json_value(data)
+    whole = whole_of(data)
     owner = whole["owners"][order]
     tables = b"".join(hashlib.sha256(file(table["file"])).digest() for table in owner["tables"])
     digest = hashlib.sha256(key + compact(whole["analysts"]) + b"\n" + compact(owner) + b"\n" + tables).digest()
@@ -340,7 +356,11 @@ def remade(data, version):
 
 def dearest(sums):
     """What the dearest part of each partition costs, by the sum of each view's charges."""
-    return {partition: max(sums[view] for view in sums if view[0] == partition) for partition, _ in sums if partition != 255}
+    found = {}
+    for (partition, _), amount in sums.items():
+        if partition != WHOLE[0]:
+            found[partition] = max(amount, found.get(partition, 0))
+    return found
 
 
 def cost(sums):
@@ -573,9 +593,15 @@ def check():
     assert settlement.encoded().hex() == "a5020100000000000000000000000005" + "00" * 48
     assert len(reservation.encoded()) == len(settlement.encoded()) == SLOT
     settled = (settlement, Settlement(7, 1, -(2**50)), Settlement(2**32 - 1, 3), Settlement(5, 2, 0, 7))
-    for record in (reservation, Reservation(9, (7, 249), 10**9, 0, 1, 0, 63, ONE), *settled, Grant(0, 1), Grant(2**32 - 1, 10**18)):
+    parts = [Reservation(9, (7, part), 10**9, 0, 1, 0, 63, ONE) for part in (0, 255, 256, 3999)]
+    assert [(one.encoded()[3], one.encoded()[30:32].hex()) for one in parts] == [(0, "0000"), (255, "0000"), (0, "0100"), (0x9F, "0f00")]
+    for record in (reservation, *parts, *settled, Grant(0, 1), Grant(2**32 - 1, 10**18)):
         assert decoded(record.encoded()).encoded() == record.encoded()
-    for change in [(1, 3), (1, 4), (2, 8), (3, 1), (19, 0), (15, 2), (30, 1)]:
+    assert [decoded(one.encoded()).view for one in parts] == [one.view for one in parts]
+    for view in ((7, 4000), (8, 0), (7, 65535), (255, 1), (255, 256)):
+        slot = Reservation(9, view, 10**9, 0, 1, 0, 63, ONE).encoded()
+        assert decoded(slot) is None and f"is {view[0]} and its part (bytes 3 and 30) {view[1]}" in no_record(slot)[0], view
+    for change in [(1, 3), (1, 4), (2, 8), (3, 1), (19, 0), (15, 2), (30, 1), (31, 1)]:
         slot = bytearray(reservation.encoded())
         slot[change[0]] = change[1]
         if change == (15, 2):

@@ -10,7 +10,6 @@ comes out, what is left is said: another owner's journal that opens shows that t
 import hashlib
 import json
 import os
-from itertools import product
 
 from catalog import BadCatalog, read
 from journal import GATE, GATES_AT, HEAD, VERSIONS, compact, contents, stray_gate
@@ -18,7 +17,7 @@ from journal import GATE, GATES_AT, HEAD, VERSIONS, compact, contents, stray_gat
 MAGIC = b"FUZZBUDG"
 KEY_LENGTH = 32
 FILE_LIMIT = 2**26
-MOST_FILES, MOST_BYTES, MOST_ROWS, MOST_TRIED = 200, 2**28, 1000, 200_000
+MOST_FILES, MOST_BYTES, MOST_ROWS, MOST_TRIED, MOST_KEYS = 200, 2**28, 1000, 200_000, 250
 MOST_BYTES_WRITTEN = 8
 SOMEBODY = "somebody, or the disk, has written into the header. Nothing beside it has changed; go on as with `damaged`."
 
@@ -110,10 +109,10 @@ def catalogs_beside(house):
 
 
 def without_some(items, say):
-    """A list without one of its items, or without some of the last."""
-    for number, item in enumerate(items):
-        yield say([item]), items[:number] + items[number + 1 :]
-    for count in range(2, len(items)):
+    """A list without one of its items, or without some of the last: of a long one its last items alone are taken away."""
+    for number in range(max(0, len(items) - MOST_KEYS), len(items)):
+        yield say([items[number]]), items[:number] + items[number + 1 :]
+    for count in range(2, min(len(items), MOST_KEYS)):
         yield say(items[-count:]), items[:-count]
 
 
@@ -241,12 +240,20 @@ class Search:
         self.house, self.wanted, self.tried, self.told = house, found.digest, 0, {}
         self.keys = [(None, house.key), *keys_beside(house)]
         entry = with_numbers(house.whole["owners"][order], found)
-        others = list(catalogs_beside(house))
-        self.entries = [(said, compact(analysts), one) for said, (analysts, one) in entries_to_try(house, entry, others) if are_there(one)]
+        self.entry, self.others = entry, list(catalogs_beside(house))
 
-    def fits(self, key, analysts, entry, tables):
+    def entries(self):
+        """Made anew for each search, since a long list of keys is another list in each of them."""
+        for said, (analysts, one) in entries_to_try(self.house, self.entry, self.others):
+            if are_there(one):
+                yield said, compact(analysts), one
+
+    def fits(self, begun, tables):
+        """Whether the digest comes out of what is hashed already, by `begun`, and these tables behind it."""
         self.tried += 1
-        return hashlib.sha256(key + analysts + b"\n" + entry + b"\n" + b"".join(tables)).digest() == self.wanted
+        hashed = begun.copy()
+        hashed.update(b"".join(tables))
+        return hashed.digest() == self.wanted
 
     def by(self, most):
         """The sentences of so many changes by which the digest comes out, or nothing: first those without a table's, then with one table's."""
@@ -254,27 +261,33 @@ class Search:
 
     def pairs(self, count):
         """Keys and entries that differ from those of now in so many sentences."""
-        for (by_key, key), (by_entry, analysts, one) in product(self.keys, self.entries):
-            changed = [said for said in (by_key, by_entry) if said]
-            if len(changed) == count:
-                yield changed, key, analysts, one
+        for by_key, key in self.keys:
+            for by_entry, analysts, one in self.entries():
+                changed = [said for said in (by_key, by_entry) if said]
+                if len(changed) == count:
+                    yield changed, key, analysts, one
 
     def without_tables(self, most):
         for changed, key, analysts, one in self.pairs(most):
-            if self.fits(key, analysts, compact(one), [self.house.digest(table["file"]) for table in one["tables"]]):
+            if self.fits(begun(key, analysts, one), [self.house.digest(table["file"]) for table in one["tables"]]):
                 return changed
         return None
 
     def with_a_table(self, most):
         self.tried = 0
         for changed, key, analysts, one in self.pairs(most - 1):
-            entry = compact(one)
+            hashed = begun(key, analysts, one)
             for said, tables in tables_to_try(self.house, one, self.told):
                 if self.tried > MOST_TRIED:
                     return None
-                if self.fits(key, analysts, entry, tables):
+                if self.fits(hashed, tables):
                     return [*changed, said]
         return None
+
+
+def begun(key, analysts, entry):
+    """The hash of a header's digest up to the tables, of which many are tried behind one entry."""
+    return hashlib.sha256(key + analysts + b"\n" + compact(entry) + b"\n")
 
 
 def are_there(entry):

@@ -14,12 +14,14 @@ from collections import Counter, deque
 from programs import WORDS
 from raw import RawFile, guessed_form
 from raw_cells import OUT, DateForm, NumberForm, forms_of, key_of, trimmed
-from raw_spec import COLUMN_LIMIT, KEY_LIMIT, LEFT_OUT
+from raw_spec import COLUMN_LIMIT, LEFT_OUT
 from tables import TEXT_LIMIT
 
 ROWS = 100_000
 MOST = 0.8
 SAMPLE = 2000
+# Of so many different texts, or more, nobody is told that they are keys, which whoever has the catalog reads: the owner says so.
+MOST_GUESSED = 250
 CODES = 12
 MISSING = {"", "-", "--", ".", "..", "...", ":", "?", "na", "n/a", "n.a.", "#n/a", "nan", "null", "none", "missing", "\u2013", "\u2014"}
 NUMBER_FORMS = [(".", ""), (".", ","), (",", "."), (",", ""), (",", " "), (".", " "), (".", "'"), (",", "'"), (".", "\u2019")]
@@ -154,7 +156,7 @@ def text_column(column):
     if max(len(cell.encode(errors="surrogateescape")) for cell in given) > TEXT_LIMIT:
         return {"kind": LEFT_OUT, "note": f"some texts have over {TEXT_LIMIT} bytes; {len(given)} texts in {column.rows} rows"}
     keys = sorted({key_of(cell) for cell in given} - {""})
-    if len(keys) >= KEY_LIMIT or len(keys) > column.rows / 2:
+    if len(keys) >= MOST_GUESSED or len(keys) > column.rows / 2:
         return {"kind": "text", "note": f"{len(given)} texts in {column.rows} rows; {column.lost_words()}"}
     unknown = [UNKNOWN] if UNKNOWN not in keys else []
     alike = differing_in_capitals(keys)

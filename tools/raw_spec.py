@@ -10,15 +10,15 @@ Every object may have a `note`, which nothing reads. Limits of names, keys and t
 import codecs
 import datetime
 import json
+from collections import Counter
 from decimal import Decimal
 from fractions import Fraction
 
-from catalog import is_file, is_key, is_name, is_table_name
+from catalog import KEYS, is_file, is_key, is_name, is_table_name
 from raw import DELIMITERS
 from raw_cells import BROKEN, DATE_PARTS, KEPT, OUT, STOP, column_keys, date_number, forms_of
 from tables import NUMBER_LIMIT, TEXT_LIMIT
 
-KEY_LIMIT = 250
 COLUMN_LIMIT = 16
 LINE = 120
 UNITS = ("day", "month", "year", "age")
@@ -173,10 +173,11 @@ def check_key(faults, column, place):
     if not faults.unless(all(isinstance(key, str) for key in listed), f"{place}.keys", "keys are texts"):
         return
     keys = column_keys(column)
+    counts = Counter(keys)
     for raw, key in zip(listed, keys):
         faults.unless(is_key(key), f"{place}.keys", f"`{raw}` is no key: 1 to 64 bytes, once blanks and commas are changed")
-        faults.unless(keys.count(key) == 1, f"{place}.keys", f"`{raw}` becomes `{key}`, and so does another key: take one of them away")
-    faults.unless(len(keys) <= KEY_LIMIT, f"{place}.keys", f"there are {len(keys)} keys, and a partition has at most {KEY_LIMIT}")
+        faults.unless(counts[key] == 1, f"{place}.keys", f"`{raw}` becomes `{key}`, and so does another key: take one of them away")
+    faults.unless(len(keys) <= KEYS, f"{place}.keys", f"there are {len(keys)} keys, and a partition has at most {KEYS}")
     other = column.get("if_other", KEPT)
     faults.unless(other in (KEPT, OUT, STOP) or other in keys, f"{place}.if_other", f"it is `{KEPT}`, `{OUT}`, `{STOP}` or one of the keys")
 
@@ -235,7 +236,7 @@ def check_derived(faults, spec, place, column):
         if not faults.unless(right, f"{place}.of", f"`{name}` is no column of the kind {' or '.join(wanted)}"):
             return
     keys = keys_of(spec, column)
-    faults.unless(len(keys) <= KEY_LIMIT, place, f"that makes {len(keys)} keys, and a partition has at most {KEY_LIMIT}")
+    faults.unless(len(keys) <= KEYS, place, f"that makes {len(keys)} keys, and a partition has at most {KEYS}")
     faults.unless(column["kind"] != "joint" or keys, place, "its columns have no keys")
     faults.unless(all(is_key(key) for key in keys), place, "some keys are over 64 bytes")
     faults.unless(len(set(keys)) == len(keys), place, "two of its keys are the same")

@@ -21,7 +21,7 @@ use std::thread::Threads;
 use std::{env, fs, io};
 
 /// The most owners of a catalog. The journal of owner N is `journals/N.bud`.
-const OWNERS: u32 = 16;
+const OWNERS: u32 = 64;
 
 /// The most workers of a service, of which each has a door.
 const DOORS: usize = 16;
