@@ -27,7 +27,7 @@ pub fn verdicts_are_exact()
     ensures { VerdictsAreExact }
 {}
 
-/// Statuses 1, 2, 4 and 8 are of those commands alone that may end so.
+/// Statuses 1, 2, 4, 8, 9 and 10 are of those commands alone that may end so.
 pub fn statuses_are_of_commands()
     ensures { StatusesAreOfCommands }
 {}
