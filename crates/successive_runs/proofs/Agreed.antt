@@ -71,7 +71,7 @@ of_house one house within is = record {
 
 module _ (held : Contents) (catalog key owner : List ℕ) where
   -- the reads behind the catalog and the key
-  behind : ReadsToCome
+  abbrev behind : ReadsToCome
   behind = (key_read key (catalog_read catalog (always held)).rest).rest
 
   behind_is : behind ≡ always held
