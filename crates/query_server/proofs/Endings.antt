@@ -230,7 +230,7 @@ owner_gives work catalog key owner reads a is =
     let number = inverted (from (number_named house.0 owner)) _ read a house.2 in
     let bytes = inverted (key_read key) _ read a number.2 in
     let tables = inverted (owner_read (owner_entry_at house.0 number.0))
-        (λ loaded. done (work (record { catalog = house.0; number = number.0; hashes = loaded.hashes; key = bytes.0 }))) (key_read key read).rest a bytes.2 in
+    (λ loaded. done (work (record { catalog = house.0; number = number.0; hashes = loaded.hashes; key = bytes.0 }))) (key_read key read).rest a bytes.2 in
     let same : work (record { catalog = house.0; number = number.0; hashes = tables.0.hashes; key = bytes.0 }) ≡ a = cc in (
       record { catalog = house.0; number = number.0; hashes = tables.0.hashes; key = bytes.0 },
       record { tables = tables.0; is_catalog = house.1; is_number = number.1; is_key = bytes.1; are_tables = tables.1; hashes = refl },
