@@ -34,7 +34,7 @@ keeps_key held name = keeps_then held _ _ refl (λ bytes. refl)
 keeps_table : (held : Contents) (table : TableEntry) → Keeps held (table_read table)
 keeps_table held table = keeps_then held _ _ refl (λ bytes. keeps_then held _ _ refl (λ rows. refl))
 
-keeps_owner : (held : Contents) (owner : OwnerEntry) → Keeps held (owner_read owner)
+pub keeps_owner : (held : Contents) (owner : OwnerEntry) → Keeps held (owner_read owner)
 keeps_owner held owner = keeps_then held _ _ (keeps_each held table_read (keeps_table held) owner.tables) (λ tables. refl)
 
 pub keeps_loaded : (held : Contents) (catalog : Catalog) → Keeps held (loaded catalog)

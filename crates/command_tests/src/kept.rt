@@ -26,6 +26,11 @@ const WITH_BLANKS: &[u8; 32] =
 
 const SETTLED: &[u8; 16] = b"\xA5\x02\x01\0\0\0\0\0\0\0\0\0\0\0\0\x05";
 
+// A first grant, of half an epsilon.
+const GRANTED: &[u8; 16] = b"\xA5\x03\0\0\0\0\0\0\0\0\0\0\0\x07\xA1\x20";
+
+const GRANT: &[&str] = &["grant", "cat.json", "key", "census", "1"];
+
 // Pieces put over the bytes of a file, at their places.
 type Patches<'a> = &'a [(usize, &'a [u8])];
 
@@ -53,7 +58,7 @@ const SCRIPT: &[u8] = b"left census\nhello ann\nrecall census 0\nask census 1 si
 type Kept = (Patches<'static>, &'static [u8], &'static [u8]);
 
 #[rattlefmt::skip]
-static KEPT: [Kept; 13] = [
+static KEPT: [Kept; 21] = [
     (&[],
         b"census reservations 1 answered 1 exhausted 0 lost 0 spent 1000000 budget 10000000\n",
         b"left 1000000 10000000 2\nhello ann\nrecall 0 answer 5 2\nanswer 1 3 1000000\n"),
@@ -99,13 +104,38 @@ static KEPT: [Kept; 13] = [
     (&[(257, &[255; 63])],
         b"census reservations 1 answered 1 exhausted 0 lost 0 spent 1000000 budget 10000000\n",
         b"left 1000000 10000000 2\nhello ann\nrecall 0 answer 5 2\nanswer 1 3 1000000\n"),
+    // a grant: in versions 1, 2 and 3, before the settlement, a second one, a torn gate, and of the least and the most
+    (&[(256, GRANTED)],
+        b"census reservations 1 answered 1 exhausted 0 lost 0 spent 1000000 budget 10500000\n",
+        b"left 1000000 10500000 3\nhello ann\nrecall 0 answer 5 3\nanswer 1 3 1000000\n"),
+    (&[(9, b"\x02"), (256, GRANTED)],
+        b"census reservations 1 answered 1 exhausted 0 lost 0 spent 1000000 budget 10500000\n",
+        b"left 1000000 10500000 3\nhello ann\nrecall 0 answer 5 3\nanswer 1 3 1000000\n"),
+    (&[(9, b"\x03"), (256, GRANTED)],
+        b"census reservations 1 answered 1 exhausted 0 lost 0 spent 1000000 budget 10500000\n",
+        b"left 1000000 10500000 3\nhello ann\nrecall 0 answer 5 3\nanswer 1 3 1000000\n"),
+    (&[(192, GRANTED), (256, SETTLED)],
+        b"census reservations 1 answered 1 exhausted 0 lost 0 spent 1000000 budget 10500000\n",
+        b"left 1000000 10500000 3\nhello ann\nrecall 0 answer 5 3\nanswer 1 3 1000000\n"),
+    (&[(256, GRANTED), (320, GRANTED), (327, b"\x01")],
+        b"census reservations 1 answered 1 exhausted 0 lost 0 spent 1000000 budget 11000000\n",
+        b"left 1000000 11000000 4\nhello ann\nrecall 0 answer 5 4\nanswer 1 3 1000000\n"),
+    (&[(256, GRANTED), (256, b"\x25")],
+        b"census reservations 1 answered 1 exhausted 0 lost 0 spent 1000000 budget 10000000\n",
+        b"left 1000000 10000000 2\nhello ann\nrecall 0 answer 5 2\nanswer 1 3 1000000\n"),
+    (&[(256, GRANTED), (264, b"\0\0\0\0\0\0\0\x01")],
+        b"census reservations 1 answered 1 exhausted 0 lost 0 spent 1000000 budget 10000001\n",
+        b"left 1000000 10000001 3\nhello ann\nrecall 0 answer 5 3\nanswer 1 3 1000000\n"),
+    (&[(256, GRANTED), (264, b"\x0D\xE0\xB6\xB3\xA6\xCB\x69\x80")],
+        b"census reservations 1 answered 1 exhausted 0 lost 0 spent 1000000 budget 1000000000000000000\n",
+        b"left 1000000 1000000000000000000 3\nhello ann\nrecall 0 answer 5 3\nanswer 1 3 1000000\n"),
 ];
 
 // Length of the file and what is changed in it; and the line that refuses it.
 type Refused = (usize, Patches<'static>, &'static [u8]);
 
 #[rattlefmt::skip]
-static REFUSED: [Refused; 36] = [
+static REFUSED: [Refused; 47] = [
     (0, &[], b"journal census uninitialised 0\n"),
     (127, &[], b"journal census uninitialised 127\n"),
     (6528, &[(0, b"\0")], b"journal census uninitialised 6528\n"),
@@ -148,6 +178,20 @@ static REFUSED: [Refused; 36] = [
     (6528, &[(194, b"\x02"), (200, &[0; 8]), (213, b"\x0F\x42\x40")], b"journal census damaged 1\n"),
     (6528, &[(9, b"\x03"), (194, b"\x02"), (200, &[0; 8]), (213, b"\x0F\x42\x3F")], b"journal census damaged 1\n"),
     (6528, &[(9, b"\x03"), (194, b"\x02"), (200, &[0; 8])], b"journal census damaged 1\n"),
+    // a kind that no record has; and grants: with bytes where zeros stand, with another number, twice the same, of nothing, and of too much,
+    // by itself, by its bytes and with an earlier one
+    (6528, &[(256, GRANTED), (257, b"\x04")], b"journal census damaged 2\n"),
+    (6528, &[(256, GRANTED), (258, b"\x01")], b"journal census damaged 2\n"),
+    (6528, &[(256, GRANTED), (259, b"\x01")], b"journal census damaged 2\n"),
+    (6528, &[(256, GRANTED), (272, b"\x01")], b"journal census damaged 2\n"),
+    (6528, &[(256, GRANTED), (319, b"\x01")], b"journal census damaged 2\n"),
+    (6528, &[(256, GRANTED), (263, b"\x01")], b"journal census damaged 2\n"),
+    (6528, &[(256, GRANTED), (320, GRANTED)], b"journal census damaged 3\n"),
+    (6528, &[(256, GRANTED), (264, &[0; 8])], b"journal census damaged 2\n"),
+    (6528, &[(256, GRANTED), (264, b"\x0D\xE0\xB6\xB3\xA6\xCB\x69\x81")], b"journal census damaged 2\n"),
+    (6528, &[(256, GRANTED), (264, &[255; 8])], b"journal census damaged 2\n"),
+    (6528, &[(256, GRANTED), (264, b"\x0D\xE0\xB6\xB3\xA6\xCB\x69\x80"), (320, b"\xA5\x03\0\0\0\0\0\x01\0\0\0\0\0\0\0\x01")],
+        b"journal census damaged 3\n"),
 ];
 
 // The file of a journal behind this script.
@@ -228,7 +272,7 @@ fn is_refused<R: Threads + Wait + Sync>(
     )
 }
 
-// Whether `audit` and `run` refuse this file.
+// Whether `audit`, `run` and `grant` refuse this file.
 fn are_refused<R: Threads + Wait + Sync>(
     rt: &R,
     alloc: Global,
@@ -238,7 +282,8 @@ fn are_refused<R: Threads + Wait + Sync>(
     let (length, patches, line) = row;
     let bytes = patched(alloc, whole, *length, patches)?;
     let audited = is_refused(rt, alloc, &bytes, AUDIT, line)?;
-    Ok(is_refused(rt, alloc, &bytes, RUN, line)? && audited)
+    let granted = is_refused(rt, alloc, &bytes, GRANT, line)?;
+    Ok(is_refused(rt, alloc, &bytes, RUN, line)? && audited && granted)
 }
 
 #[test]

@@ -1,14 +1,14 @@
 -- what a command comes to, by its steps
-use Rattle.std.proofs.Common.{◌≡◌, ℕ, Bool, true, false, List, length, nat_eq, if◌then◌else◌, Option, Some, None, refl, sym, ◌∙◌, ap, subst, eqb-true}
-use Rattle.std.specs.Prelude.{Result, Ok, Err}
+use Rattle.std.proofs.Common.{◌≡◌, ◌<◌, ℕ, Bool, true, false, List, length, nat_eq, bytes_eq, if◌then◌else◌, Option, Some, None, refl, sym, ◌∙◌, ap, subst, eqb-true}
+use Rattle.std.specs.Prelude.{Result, Ok, Err, ok_or, position}
 use Rattle.fz_ast.specs.Signature.{Signature}
 use Rattle.metric_values.specs.Tables.{Dataset}
-use Rattle.owner_catalog.specs.Catalog.{Catalog}
+use Rattle.owner_catalog.specs.Catalog.{Catalog, OwnerEntry}
 use Rattle.command_words.specs.Command.{Command, init, run, audit, grant, check, gap, serve, gen, command_of}
 use Rattle.catalog_loading.specs.Files.{ReadsToCome}
 use Rattle.catalog_loading.specs.Steps.{FileStep, ◌>>=◌, continued, done, file_read, from}
 use Rattle.owner_catalog.specs.Entries.{owner_entry_at}
-use Rattle.catalog_loading.specs.Loaded.{KeyedOwner, Loading, IsKeyedHouse, number_named, owner_read, catalog_read, house_read, key_read, keyed, loaded, entry_named, owner_loaded, with_house}
+use Rattle.catalog_loading.specs.Loaded.{IsKeyedOwner, KeyedOwner, LoadedOwner, Loading, IsKeyedHouse, number_named, owner_read, catalog_read, house_read, key_read, keyed, loaded, entry_named, owner_loaded, with_house, with_owner}
 use Rattle.catalog_loading.specs.Fit.{fitting}
 use Rattle.query_server.specs.Work.{Work, ended, usage, refused, to_answer, to_make, to_count, to_grant, to_check, to_compare, to_serve, to_generate}
 use Rattle.query_server.specs.Run.{run_steps}
@@ -21,8 +21,11 @@ use Rattle.query_server.specs.Serve.{serve_steps}
 use Rattle.query_server.specs.Due.{work_of, command_steps}
 use Rattle.query_server.specs.Promise.{IsHouseOf}
 use Rattle.query_server.specs.Service.{IsHouseServed}
+use Rattle.query_server.specs.Laws.{WhatIsGrantedIsLawful}
 use Rattle.catalog_loading.proofs.Pairs.{inverted}
-use Rattle.catalog_loading.proofs.Loaded.{catalog_lawful, loaded_register}
+use Rattle.catalog_loading.proofs.Loaded.{catalog_lawful, loaded_register, owner_loaded_for}
+use Rattle.catalog_loading.proofs.Owners.{owner_found}
+use Rattle.command_words.proofs.Accepted.{in_range}
 
 -- what the steps to a house gave
 pub house_gives : {A : Type 0} (work : Loading → List ℕ → A) (catalog key : List ℕ) (reads : ReadsToCome) (a : A) → (with_house work catalog key reads).given ≡ Ok a
@@ -203,3 +206,82 @@ counted_lawful words reads loading key is =
     let asked = audit_asked (command_of words) loading key (subst (ComesTo (command_of words)) is (work_comes words reads)) in
     (house_of_work to_count asked.0 asked.1 reads loading key (λ other bytes same. (cc (same), cc (same)))
     (given_work (audit_steps asked.0 asked.1 reads).given (to_count loading key) (λ name wrong. cc) (sym (work_by words reads _ asked.2) ∙ is))).lawful
+
+-- ---- what a grant is made on
+
+grant_asked : (command : Option Command) (amount : ℕ) (one : KeyedOwner) → ComesTo command (to_grant amount one)
+    → (catalog : List ℕ) × (key : List ℕ) × (owner : List ℕ) × (command ≡ Some (grant catalog key owner amount))
+grant_asked command amount one (grants {catalog = catalog} {key = key} {owner = owner}) = (catalog, key, owner, refl)
+
+-- What the steps to one owner gave: the catalog, the owner's number, the key and its tables, each read behind the one before.
+pub record IsOwnerRead (catalog key_name owner : List ℕ) (reads : ReadsToCome) (one : KeyedOwner) : Type 0 where
+  pub tables : LoadedOwner
+  pub is_catalog : (catalog_read catalog reads).given ≡ Ok one.catalog
+  pub is_number : number_named one.catalog owner ≡ Ok one.number
+  pub is_key : (key_read key_name (catalog_read catalog reads).rest).given ≡ Ok one.key
+  pub are_tables : (owner_read (owner_entry_at one.catalog one.number) (key_read key_name (catalog_read catalog reads).rest).rest).given ≡ Ok tables
+  pub hashes : one.hashes ≡ tables.hashes
+
+pub owner_gives : {A : Type 0} (work : KeyedOwner → A) (catalog key owner : List ℕ) (reads : ReadsToCome) (a : A) → (with_owner work catalog key owner reads).given ≡ Ok a
+    → (one : KeyedOwner) × IsOwnerRead catalog key owner reads one × (work one ≡ a)
+owner_gives work catalog key owner reads a is =
+    let read = (catalog_read catalog reads).rest in
+    let house = inverted (catalog_read catalog) _ reads a is in
+    let number = inverted (from (number_named house.0 owner)) _ read a house.2 in
+    let bytes = inverted (key_read key) _ read a number.2 in
+    let tables = inverted (owner_read (owner_entry_at house.0 number.0))
+    (λ loaded. done (work (record { catalog = house.0; number = number.0; hashes = loaded.hashes; key = bytes.0 }))) (key_read key read).rest a bytes.2 in
+    let same : work (record { catalog = house.0; number = number.0; hashes = tables.0.hashes; key = bytes.0 }) ≡ a = cc in (
+      record { catalog = house.0; number = number.0; hashes = tables.0.hashes; key = bytes.0 },
+      record { tables = tables.0; is_catalog = house.1; is_number = number.1; is_key = bytes.1; are_tables = tables.1; hashes = refl },
+      same,
+    )
+
+-- an owner that was found by its name is of the catalog
+pub number_known : (catalog : Catalog) (name : List ℕ) (number : ℕ) → number_named catalog name ≡ Ok number → number < length catalog.owners
+number_known catalog name number is = here (position (λ (owner : OwnerEntry). bytes_eq name owner.name) catalog.owners) refl is
+  where
+    here : (place : Option ℕ) → position (λ (owner : OwnerEntry). bytes_eq name owner.name) catalog.owners ≡ place → ok_or place name ≡ Ok number → number < length catalog.owners
+    here (Some o) was is = let same : o ≡ number = cc (is) in subst (λ (n : ℕ). n < length catalog.owners) same (owner_found catalog name o was).within
+    here None was is = cc (is)
+
+owner_lawful : (catalog key owner : List ℕ) (reads : ReadsToCome) (one : KeyedOwner) → IsOwnerRead catalog key owner reads one → IsKeyedOwner one
+owner_lawful catalog key owner reads one read =
+    let lawful = catalog_lawful catalog reads one.catalog read.is_catalog in
+    let known = number_known one.catalog owner one.number read.is_number in
+    let behind = (catalog_read catalog reads).rest in
+    record {
+      catalog = lawful;
+      known = known;
+      hashed = ap length read.hashes
+          ∙ (owner_loaded_for (owner_entry_at one.catalog one.number) (key_read key behind).rest read.tables (lawful.owners one.number _ known) read.are_tables).hashed;
+      whole_key = key_whole key behind one.key read.is_key;
+    }
+
+-- the words are a grant's, and its owner was read for them
+pub record IsGrantRead (words : List (List ℕ)) (reads : ReadsToCome) (amount : ℕ) (one : KeyedOwner) : Type 0 where
+  pub catalog : List ℕ
+  pub key_name : List ℕ
+  pub owner : List ℕ
+  pub commanded : command_of words ≡ Some (grant catalog key_name owner amount)
+  pub is_read : IsOwnerRead catalog key_name owner reads one
+
+pub owner_by : (words : List (List ℕ)) (reads : ReadsToCome) (amount : ℕ) (one : KeyedOwner) → work_of words reads ≡ to_grant amount one → IsGrantRead words reads amount one
+owner_by words reads amount one is =
+    let asked = grant_asked (command_of words) amount one (subst (ComesTo (command_of words)) is (work_comes words reads)) in
+    let given = given_work (grant_steps asked.0 asked.1 asked.2 amount reads).given (to_grant amount one) (λ name wrong. cc (wrong)) (sym (work_by words reads _ asked.3) ∙ is) in
+    let found = owner_gives (to_grant amount) asked.0 asked.1 asked.2 reads (to_grant amount one) given in
+    let same : found.0 ≡ one = cc (found.2) in
+    record {
+      catalog = asked.0;
+      key_name = asked.1;
+      owner = asked.2;
+      commanded = asked.3;
+      is_read = subst (IsOwnerRead asked.0 asked.1 asked.2 reads) same found.1;
+    }
+
+pub granted_lawful : WhatIsGrantedIsLawful
+granted_lawful words reads amount one is =
+    let read = owner_by words reads amount one is in
+    let range = in_range words (grant read.catalog read.key_name read.owner amount) read.commanded in
+    (owner_lawful read.catalog read.key_name read.owner reads one read.is_read, record { least = range.0; most = range.1 })

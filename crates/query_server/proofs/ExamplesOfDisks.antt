@@ -494,7 +494,7 @@ module _ (tables : Signature) (X Y : Dataset) (program : List ℕ) (shelf : Shel
   not_valid_refused : IsValidFor (refused (codes "cat.json")) shelf → ⊥
   not_valid_refused is = is
 
-  -- which of 0, 1, 4, 7 and 8 each ends with
+  -- which of 0, 1, 4, 7 and 8 each ends with; those of a grant, 9 and 10 among them, are in ExamplesOfGrants
   init_ends : (MayEndWell (to_make loading key) Done × MayEndWell (to_make loading key) NoMemory)
       × (MayEndWell (to_make loading key) JournalRefused → ⊥) × (MayEndWell (to_make loading key) ScriptTooLong → ⊥) × (MayEndWell (to_make loading key) ProgramRefused → ⊥)
   init_ends = ((inl refl, inr refl), λ is. absurd (grind (arith, is)), λ is. absurd (grind (arith, is)), λ is. absurd (grind (arith, is)))

@@ -24,6 +24,7 @@ pub mod Diskless
 pub mod Outcomes
 pub mod Services
 pub mod Valid
+pub mod Gained
 pub mod Found
 pub mod Lines
 pub mod Causes

@@ -81,12 +81,12 @@ abbrev pub IsDue : Work → (old new : Shelf) → (script : List ℕ) → (statu
 IsDue work = (duty_of work).due
 
 -- What may become of the owners' disks where a failure or want of memory ends the work: nothing is written to any, but that an
--- `init` may have made the first owners' journals, and that the next one's disk may have failed; and that a `serve` may have held
--- sessions before.
+-- `init` may have made the first owners' journals, and that the next one's disk may have failed; that the append of a `grant` may
+-- have failed; and that a `serve` may have held sessions before.
 abbrev pub MayStop : Work → (old new : Shelf) → Type 0
 MayStop work = (duty_of work).may_stop
 
--- this line names the owner whose disk failed as its journal was to be opened or made
+-- this line names the owner whose disk failed as its journal was to be opened or made, or a grant to be written
 abbrev pub IsDiskLine : Work → (old new : Shelf) → (text : List ℕ) → Type 0
 IsDiskLine work = (duty_of work).names_disk
 

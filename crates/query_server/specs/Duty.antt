@@ -29,7 +29,7 @@ pub record Duty : Type 1 where
   pub due : (old new : Shelf) → (script : List ℕ) → (status : Status) → (text : List ℕ) → Type 0
   -- what may become of the disks where a failure or want of memory ends the work
   pub may_stop : (old new : Shelf) → Type 0
-  -- this line names the owner whose disk failed as its journal was to be opened or made
+  -- this line names the owner whose disk failed as its journal was to be opened or made, or a grant to be written
   pub names_disk : (old new : Shelf) → (text : List ℕ) → Type 0
   -- the statuses that may be due
   pub statuses : Status → Type 0

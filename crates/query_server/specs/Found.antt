@@ -1,18 +1,25 @@
--- What an owner keeps where nothing is written to its disk.
-use Rattle.std.specs.Prelude.{◌≡◌, ◌⊎◌, ℕ, List, length, slice_get, Some, IfSome}
+-- What an owner keeps where nothing is written to its disk, or a grant alone.
+use Rattle.std.specs.Prelude.{◌≡◌, ◌⊎◌, ℕ, List, [], ◌∷◌, ◌++◌, length, slice_get, Some, IfSome, IsOk}
 use Rattle.word_streams.specs.Draws.{draws_of}
 use Rattle.outside_disks.specs.Disks.{IsImageOf, Passes, Shown, WhereTold, noted, seen_of}
 use Rattle.outside_disks.specs.Disks.Step.{Synced}
 use Rattle.journal_records.specs.declared.records.Header.{Header}
 use Rattle.journal_records.specs.declared.records.Record.{Record}
-use Rattle.budget_journal.specs.Journals.{Stands}
-use Rattle.owner_house.specs.Owner.{Owner}
+use Rattle.journal_records.specs.declared.records.Record.TheVariants.{Grant}
+use Rattle.budget_journal.specs.Journals.{IsAtRest, IsBeforeOrAfter, Stands}
+use Rattle.budget_core.specs.Granting.{grant_behind}
+use Rattle.budget_core.specs.Legal.{MayFollow}
+use Rattle.owner_house.specs.Owner.{HasData, Owner}
 use Rattle.owner_catalog.specs.Limits.{owner_limit}
 use Rattle.owner_history.specs.Explains.{Explains}
 use Rattle.owner_history.specs.Sound.{IsBacked, IsOwed}
-use Rattle.catalog_loading.specs.Loaded.{Loading, entry_at, header_of, in_versions}
-use Rattle.query_server.specs.Shelves.{Shelf, bytes_on}
+use Rattle.catalog_loading.specs.Loaded.{KeyedOwner, Loading, entry_at, header_of, in_versions}
+use Rattle.query_server.specs.Shelves.{OneDisk, Shelf, bytes_on}
 use Rattle.query_server.specs.Opened.{IsOpened, house_in}
+use Rattle.query_server.specs.Grant.{entry_in, header_in, verdict_on}
+use Rattle.query_server.specs.Due.{IfFinished}
+use Rattle.query_server.specs.declared.end.Status.{Status}
+use Rattle.query_server.specs.declared.end.Status.TheVariants.{Done}
 
 -- An owner's disk stood for these records, and does so still. They are legal, cost at most the budget, and are explained by just the
 -- programs that explain them, against any second dataset with a displacement of at most cost times distance.
@@ -31,3 +38,26 @@ AreKept loading key old new = (versions : List ℕ) → length versions ≡ owne
     → slice_get (house_in loading versions).owners o ≡ Some owner → old o ≡ Some before
     → IsOpened (entry_at (in_versions loading versions) o) (header_of (in_versions loading versions) key o) (bytes_on old o) found
     → (after : Shown) × (new o ≡ Some after) × KeepsFound owner (draws_of key o) (header_of (in_versions loading versions) key o) found before after
+
+-- So it is of one owner, whatever its tables hold, and every other disk is as it was.
+abbrev pub IsKept : KeyedOwner → (old new : Shelf) → Type 0
+IsKept one old new = OneDisk one.number (λ before after. (version : ℕ) (owner : Owner) (found : List Record)
+    → HasData owner → owner.entry ≡ entry_in one version → IsOpened (entry_in one version) (header_in one version) (bytes_on old one.number) found
+    → KeepsFound owner (draws_of one.key one.number) (header_in one version) found before after) old new
+
+-- Each file that a stop may have left since the journal was opened, and each that one leaves now, stands for the records found, or
+-- for these and the next one; where that was appended, a stop leaves nothing else now.
+pub record MayHaveGained (header : Header) (found : List Record) (next : Record) (Appended : Type 0) (before after : Shown) : Type 0 where
+  pub images : WhereTold (Passes (IsBeforeOrAfter header found next)) (noted Synced before.trace) after.trace
+  pub appended : Appended → IfSome after.trace (IsAtRest header (found ++ next ∷ []))
+
+-- A grant was allowed behind the records found, which it may follow, and was appended, or its append failed; every other disk is as it
+-- was.
+pub record IsGrantMade (one : KeyedOwner) (amount : ℕ) (old new : Shelf) (status : Status) : Type 0 where
+  pub version : ℕ
+  pub found : List Record
+  pub opened : IsOpened (entry_in one version) (header_in one version) (bytes_on old one.number) found
+  pub allowed : IsOk (verdict_on one version found amount)
+  pub follows : MayFollow (entry_in one version) found (Grant (grant_behind found amount))
+  pub ends : IfFinished status (status ≡ Done)
+  pub disk : OneDisk one.number (MayHaveGained (header_in one version) found (Grant (grant_behind found amount)) (status ≡ Done)) old new

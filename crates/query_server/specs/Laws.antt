@@ -18,14 +18,15 @@ use Rattle.owner_house.specs.House.{house_of}
 use Rattle.answer_path.specs.Demand.{asks}
 use Rattle.answer_path.specs.Shut.{IsPendingOf}
 use Rattle.budget_ledger.specs.declared.failure.Failure.{Failure}
+use Rattle.budget_core.specs.Granting.{IsAmount}
 use Rattle.session_core.specs.Meant.{wants}
 use Rattle.session_core.specs.Turns.{meant_at}
 use Rattle.session_core.specs.Exchanges.{Exchange}
 use Rattle.session_core.specs.Transcript.{IsScriptRun, Journals}
 use Rattle.command_words.specs.Command.{command_of}
 use Rattle.catalog_loading.specs.Files.{Contents, ReadsToCome, always}
-use Rattle.catalog_loading.specs.Loaded.{IsLoading, Loading, owners_in}
-use Rattle.query_server.specs.Work.{Work, refused, to_answer, to_check, to_compare, to_count, to_make, to_serve}
+use Rattle.catalog_loading.specs.Loaded.{IsKeyedOwner, IsLoading, KeyedOwner, Loading, owners_in}
+use Rattle.query_server.specs.Work.{Work, refused, to_answer, to_check, to_compare, to_count, to_grant, to_make, to_serve}
 use Rattle.query_server.specs.Shelves.{EachDisk, IsOnlySynced, Shelf}
 use Rattle.query_server.specs.Outside.{DisksFailed, NoCallFailed, Outside, Stays}
 use Rattle.query_server.specs.Run.{IsScriptAnswered}
@@ -36,7 +37,7 @@ use Rattle.query_server.specs.Due.{AreRead, ForContents, IfFinished, IsBeginning
 use Rattle.query_server.specs.Promise.{IsAnsweredScript, IsRunLeft}
 use Rattle.query_server.specs.Service.{IsServiceDone, IsServiceLeft}
 use Rattle.query_server.specs.Valid.{IsValidFor, MayEndWell}
-use Rattle.query_server.specs.Found.{AreKept}
+use Rattle.query_server.specs.Found.{AreKept, IsGrantMade, IsKept}
 use Rattle.query_server.specs.declared.end.Status.{Status}
 use Rattle.query_server.specs.declared.end.Status.TheVariants.{DiskFault as DiskFailed, Done, Fault, JournalFull, JournalRefused, ProgramRefused, Refused, ScriptTooLong, TooLarge, Usage}
 
@@ -130,6 +131,14 @@ ServicesKeepWhatWasFound = (words : List (List ℕ)) (reads : ReadsToCome) (old 
     → IsServiceLeft words reads old new before after status sink sunk
     → IsServiceDone words reads old new before after status sink sunk ⊎ ((status ≡ Done → ⊥) × AreKept loading key old new)
 
+-- And after a grant that was not allowed, or whose journal was not opened, or that ended before. One that was allowed leaves what was found with
+-- this grant behind it, and perhaps without where it didn't end well.
+abbrev pub GrantsKeepWhatWasFound : Type 0
+GrantsKeepWhatWasFound = (words : List (List ℕ)) (reads : ReadsToCome) (old new : Shelf) (script : List ℕ) (status : Status) (text : List ℕ)
+    → (amount : ℕ) (one : KeyedOwner) → work_of words reads ≡ to_grant amount one
+    → IsWrittenAt (work_of words reads) old new script status text
+    → IsGrantMade one amount old new status ⊎ ((status ≡ Done → ⊥) × IsKept one old new)
+
 -- Where all is valid and nothing fails, each command ends well, or memory runs out: from `line` and the causes of Fault and DiskFault,
 -- whatever files and source tell.
 abbrev pub ValidCommandsEndWell : Type 0
@@ -151,6 +160,11 @@ IsOfHouse loading key work =
 abbrev pub WhatIsLoadedIsLawful : Type 0
 WhatIsLoadedIsLawful = (words : List (List ℕ)) (reads : ReadsToCome) (loading : Loading) (key : List ℕ)
     → IsOfHouse loading key (work_of words reads) → IsLoading loading × (length key ≡ 32)
+
+-- What a grant is made on is lawful: a catalog with this owner, a SHA-256 for each of its tables, a key of 32 bytes, and an amount in range.
+abbrev pub WhatIsGrantedIsLawful : Type 0
+WhatIsGrantedIsLawful = (words : List (List ℕ)) (reads : ReadsToCome) (amount : ℕ) (one : KeyedOwner)
+    → work_of words reads ≡ to_grant amount one → IsKeyedOwner one × IsAmount amount
 
 -- What stays through work goes on to stay.
 abbrev pub OutsideStays : Type 0

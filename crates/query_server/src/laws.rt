@@ -4,8 +4,8 @@ ghost use Rattle.query_server.specs.Gap.{GapsAreBounded};
 ghost use Rattle.query_server.specs.Laws.{DiskRefusalsHaveCauses, GapsAreOfDatasets, OneWorkerTranscribes, OutsideStays, RunsAreAnswered};
 ghost use Rattle.query_server.specs.Laws.{LinesAreExact, ProgramsAreExact, RefusalsAreExact, VerdictsAreExact};
 ghost use Rattle.query_server.specs.Laws.{FaultyWordsAreTold, StatusesAreOfCommands};
-ghost use Rattle.query_server.specs.Laws.{AuditsKeepWhatWasFound, LinesAreHeadlines, RunsKeepWhatWasFound, ServicesKeepWhatWasFound, ValidCommandsEndWell};
-ghost use Rattle.query_server.specs.Laws.{WhatIsLoadedIsLawful};
+ghost use Rattle.query_server.specs.Laws.{AuditsKeepWhatWasFound, GrantsKeepWhatWasFound, RunsKeepWhatWasFound, ServicesKeepWhatWasFound};
+ghost use Rattle.query_server.specs.Laws.{LinesAreHeadlines, ValidCommandsEndWell, WhatIsGrantedIsLawful, WhatIsLoadedIsLawful};
 
 /// Where files, source and sink tell what they hold, what the top call writes and reads is exactly what is due.
 pub fn lines_are_exact()
@@ -27,7 +27,7 @@ pub fn verdicts_are_exact()
     ensures { VerdictsAreExact }
 {}
 
-/// Statuses 1, 2, 4 and 8 are of those commands alone that may end so.
+/// Statuses 1, 2, 4, 8, 9 and 10 are of those commands alone that may end so.
 pub fn statuses_are_of_commands()
     ensures { StatusesAreOfCommands }
 {}
@@ -48,11 +48,13 @@ pub fn runs_are_answered()
 {}
 
 /// Where a run has answered no script, or a service has held no session, and after each audit, every owner that was opened keeps what was found: legal records within
-/// the budget, explained by the same programs, with a bounded displacement, for which each file stands that a stop may have left.
+/// the budget, explained by the same programs, with a bounded displacement, for which each file stands that a stop may have left. So does the owner of a grant that
+/// wasn't allowed or ended before; one that was allowed leaves what was found with this grant behind it, perhaps without where it didn't end well.
 pub fn other_ends_keep_what_was_found()
     ensures runs { RunsKeepWhatWasFound }
     ensures audits { AuditsKeepWhatWasFound }
     ensures services { ServicesKeepWhatWasFound }
+    ensures grants { GrantsKeepWhatWasFound }
 {}
 
 /// Where all is valid and nothing fails, each command ends well, or memory runs out.
@@ -60,9 +62,10 @@ pub fn valid_commands_end_well()
     ensures { ValidCommandsEndWell }
 {}
 
-/// What is loaded for a run, a service, an init or an audit is lawful, and its key has 32 bytes.
+/// What is loaded for a run, a service, an init or an audit is lawful, and its key has 32 bytes; so is what a grant is made on, and its amount is in range.
 pub fn what_is_loaded_is_lawful()
-    ensures { WhatIsLoadedIsLawful }
+    ensures loaded { WhatIsLoadedIsLawful }
+    ensures granted { WhatIsGrantedIsLawful }
 {}
 
 /// What stays of the outside through some work, and through what follows it, stays through both.

@@ -7,7 +7,6 @@ use mathlib.Core.List.{IsPrefix}
 use Rattle.word_streams.specs.Draws.{draws_of}
 use Rattle.outside_disks.specs.Disks.{Trace, Shown, Leaves, Passes, WhereTold, noted}
 use Rattle.outside_disks.specs.Disks.Step.{Synced}
-use Rattle.outside_disks.proofs.Images.{passes-weaker}
 use Rattle.journal_records.specs.declared.records.Header.{Header}
 use Rattle.journal_records.specs.declared.records.Record.{Record}
 use Rattle.journal_records.specs.Encoding.{newest_version}
@@ -36,6 +35,7 @@ use Rattle.session_laws.proofs.Locals.{part_has}
 use Rattle.catalog_loading.specs.Loaded.{IsLoading, Loading, entry_at, header_of, owners_in}
 use Rattle.query_server.specs.Shelves.{Shelf, EachDisk}
 use Rattle.query_server.specs.Run.{IsScriptAnswered, WentOn}
+use Rattle.query_server.proofs.Gained.{told_weaker}
 use Rattle.successive_runs.specs.Left.{IsLeft}
 use Rattle.successive_runs.specs.Life.{Run, IsRun, none_sent}
 use Rattle.successive_runs.specs.Kept.{MayBeGoneOnFrom}
@@ -60,12 +60,6 @@ met_on_all house draws count crew o found xs records left all ends place x asked
     let p = part_has crew (crew place) 0 xs place x at (ap crew same) in
     let m = (growing house draws o found (part_of crew (crew place) 0 xs) records (all.workers (crew place) (all.crews place))).each p.0 x asked demand p.1 meant in
     record { seen = m.seen; after = m.after; begins = m.begins; meets = m.meets; stands = prefix_trans m.after records left m.stands ends }
-
-pub told_weaker : (P Q : List ℕ → Type 0) → ((bytes : List ℕ) → P bytes → Q bytes) → (old new : Option Trace) → WhereTold (Passes P) old new → WhereTold (Passes Q) old new
-told_weaker P Q weaker None None p = tt
-told_weaker P Q weaker None (Some u) p = p
-told_weaker P Q weaker (Some t) None p = p
-told_weaker P Q weaker (Some t) (Some u) p = passes-weaker P Q t u weaker p
 
 pub leaves_weaker : (P Q : List ℕ → Type 0) → ((bytes : List ℕ) → P bytes → Q bytes) → (told : Option Trace) → IfSome told (Leaves P) → IfSome told (Leaves Q)
 leaves_weaker P Q weaker None p = tt

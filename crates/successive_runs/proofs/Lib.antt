@@ -6,4 +6,5 @@ mod Sent
 pub mod Lives
 pub mod Files
 mod Raised
+mod Agreed
 mod Examples

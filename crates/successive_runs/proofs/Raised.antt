@@ -2,7 +2,6 @@
 use Rattle.std.proofs.Common.{◌≡◌, ℕ, List, [], ◌∷◌, ◌++◌, Option, Some, None, refl, sym, ◌∙◌, ap, subst}
 use Rattle.std.specs.Prelude.{Result, Ok, Err, IsOk, IfSome}
 use mathlib.Core.Logic.{◌⊎◌, inl, inr}
-use mathlib.Core.List.{IsPrefix, append-nil, append_assoc, append_cancel_left}
 use Rattle.outside_disks.specs.Disks.{Shown, Leaves, Passes, WhereTold, noted}
 use Rattle.outside_disks.specs.Disks.Step.{Synced}
 use Rattle.journal_records.specs.declared.records.Header.{Header}
@@ -22,31 +21,11 @@ use Rattle.query_server.specs.Grant.{IsGrantAnswered, IsGrantUnwritten, WentBy, 
 use Rattle.query_server.specs.Run.{WentOn}
 use Rattle.query_server.specs.Shelves.{Shelf, OneDisk}
 use Rattle.query_server.specs.declared.end.Status.{Status}
+use Rattle.query_server.proofs.Gained.{between, same_as, told_weaker}
 use Rattle.successive_runs.specs.Left.{IsLeft}
 use Rattle.successive_runs.specs.Life.{AreGranted}
 use Rattle.successive_runs.specs.Raised.{IsRaisedFrom, LeavesRaised}
-use Rattle.successive_runs.proofs.Files.{HasAll, kept_has_all, leaves_weaker, moment_stands, told_weaker}
-
--- what stands between records and these with one more is one of the two
-some_of_one : {X : Type 0} (some rest : List X) (x : X) → some ++ rest ≡ x ∷ [] → (some ≡ []) ⊎ (some ≡ x ∷ [])
-some_of_one [] rest x is = inl refl
-some_of_one (y ∷ []) rest x is = inr (cc (is))
-some_of_one (y ∷ z ∷ more) rest x is = cc (is)
-
-between : {X : Type 0} (found left : List X) (x : X) → IsPrefix found left → IsPrefix left (found ++ x ∷ []) → (left ≡ found) ⊎ (left ≡ found ++ x ∷ [])
-between found left x (some, is) (rest, all) = here (some_of_one some rest x (append_cancel_left found (some ++ rest) (x ∷ []) (sym (append_assoc found some rest) ∙ ap (λ w. w ++ rest) is ∙ all)))
-  where
-    here : (some ≡ []) ⊎ (some ≡ x ∷ []) → (left ≡ found) ⊎ (left ≡ found ++ x ∷ [])
-    here (inl none) = inl (sym is ∙ ap (λ w. found ++ w) none ∙ append-nil found)
-    here (inr one) = inr (sym is ∙ ap (λ w. found ++ w) one)
-
-none_of_none : {X : Type 0} (some rest : List X) → some ++ rest ≡ [] → some ≡ []
-none_of_none [] rest is = refl
-none_of_none (y ∷ more) rest is = cc (is)
-
-same_as : {X : Type 0} (found left : List X) → IsPrefix found left → IsPrefix left found → left ≡ found
-same_as found left (some, is) (rest, all) =
-    sym is ∙ ap (λ w. found ++ w) (none_of_none some rest (append_cancel_left found (some ++ rest) [] (sym (append_assoc found some rest) ∙ ap (λ w. w ++ rest) is ∙ all ∙ sym (append-nil found)))) ∙ append-nil found
+use Rattle.successive_runs.proofs.Files.{HasAll, kept_has_all, leaves_weaker, moment_stands}
 
 module _ (entry : Entry) (header : Header) (found : List Record) (amount : ℕ) (may : MayFollow entry found (Grant (grant_behind found amount))) where
   abbrev IsRaised : (left : List Record) → Type 0

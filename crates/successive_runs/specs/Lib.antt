@@ -3,3 +3,4 @@ pub mod Life
 pub mod Kept
 pub mod Raised
 pub mod Script
+pub mod Agreed

@@ -1,6 +1,6 @@
 //! The laws. Each function does nothing: its contract is the law.
 
-ghost use Rattle.std.specs.Prelude.{◌≡◌, ℕ, Bool, List, [], Option, Some, IfSome, IsOk, slice_get};
+ghost use Rattle.std.specs.Prelude.{◌≡◌, ℕ, Bool, List, [], Ok, Option, Some, IfSome, IsOk, slice_get};
 ghost use mathlib.Core.List.{IsPrefix};
 ghost use Rattle.outside_disks.specs.Disks.{Leaves, Passes, Shown, WhereTold, noted};
 ghost use Rattle.outside_disks.specs.Disks.Step.{Synced};
@@ -16,8 +16,12 @@ ghost use Rattle.owner_house.specs.House.{House, AreOwners, house_of};
 ghost use Rattle.owner_history.specs.Sound.{IsFound};
 ghost use Rattle.session_core.specs.Transcript.{Journals};
 ghost use Rattle.session_core.specs.Headline.{Programs, AreFound};
-ghost use Rattle.catalog_loading.specs.Loaded.{IsLoading, KeyedOwner, Loading, header_of};
+ghost use Rattle.command_words.specs.Command.{command_of, grant, run};
+ghost use Rattle.catalog_loading.specs.Files.{Contents, always};
+ghost use Rattle.catalog_loading.specs.Loaded.{IsLoading, KeyedHouse, KeyedOwner, Loading, header_of, house_read, keyed, keyed_owner_read};
 ghost use Rattle.query_server.specs.Shelves.{Shelf};
+ghost use Rattle.query_server.specs.Work.{to_answer, to_grant};
+ghost use Rattle.query_server.specs.Due.{work_of};
 ghost use Rattle.query_server.specs.Grant.{IsGrantAnswered, IsGrantUnwritten, verdict_on};
 ghost use Rattle.query_server.specs.Run.{IsScriptAnswered};
 ghost use Rattle.query_server.specs.declared.end.Status.{Status};
@@ -26,6 +30,7 @@ ghost use Rattle.successive_runs.specs.Life.{Run, AreRuns, IsRun, none_sent};
 ghost use Rattle.successive_runs.specs.Kept.{KeepThePromise, MayBeGoneOnFrom};
 ghost use Rattle.successive_runs.specs.Raised.{LeavesRaised};
 ghost use Rattle.successive_runs.specs.Script.{IsLeftOf};
+ghost use Rattle.successive_runs.specs.Agreed.{IsOwnerOfHouse};
 
 /// A run over records that programs explain leaves records that programs explain, which begin with the earlier ones: so the next run
 /// may begin with them.
@@ -84,4 +89,16 @@ pub fn grants_are_made_between_runs()
         LeavesRaised one done.version done.found amount old new }
     ensures unwritten { (one : KeyedOwner) (amount : ℕ) (old new : Shelf) → IsAmount amount → (fails : IsGrantUnwritten one amount old new) →
         LeavesRaised one fails.version fails.found amount old new }
+{}
+
+/// A grant speaks of the journal of which the runs around it speak: where files hold the same at each read, its owner is one of the house that is
+/// read by the same names of a catalog and a key, with the same entry and header; so it is of a grant's words and a run's.
+pub fn grants_and_runs_agree()
+    ensures files { (held : Contents) (catalog key owner : List ℕ) (house : KeyedHouse) (one : KeyedOwner) →
+        (house_read catalog key (always held)).given ≡ Ok house → (keyed_owner_read catalog key owner (always held)).given ≡ Ok one →
+        IsOwnerOfHouse one house }
+    ensures words { (held : Contents) (catalog key owner : List ℕ) (amount workers : ℕ) (granting running : List (List ℕ)) (loading : Loading) →
+        (bytes : List ℕ) (one : KeyedOwner) → command_of running ≡ Some (run catalog key workers) →
+        work_of running (always held) ≡ to_answer workers loading bytes → command_of granting ≡ Some (grant catalog key owner amount) →
+        work_of granting (always held) ≡ to_grant amount one → IsOwnerOfHouse one (keyed loading bytes) }
 {}
