@@ -1,7 +1,7 @@
 -- Rows on their way through steps.
-use Rattle.std.proofs.Common.{◌≡◌, ℕ, List, [], ◌∷◌, ◌++◌, Option, Some, None, refl, ap, sym, subst, ◌∙◌, append_assoc, append-nil}
+use Rattle.std.proofs.Common.{◌≡◌, List, [], ◌∷◌, ◌++◌, Option, Some, None, refl, ap, sym, ◌∙◌, append_assoc, append-nil}
 use Rattle.metric_values.specs.Values.{Flat}
-use Rattle.flow_values.specs.Steps.{AllGo, Answers, Goes, Step, all_through, listed, stepped, through}
+use Rattle.flow_values.specs.Steps.{AllGo, Goes, Step, all_through, listed, stepped, through}
 
 -- one step alone
 pub through_one : (s : Step) (x : Flat) → through (s ∷ []) (Some x) ≡ stepped s x

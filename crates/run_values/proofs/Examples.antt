@@ -3,11 +3,10 @@ use Rattle.std.proofs.Common.{ap, arith, refl, subst, sym, ◌∙◌}
 use Rattle.std.specs.Prelude.{List, None, Some, [], codes, false, length, pos, true, ◌∷◌, ◌≡◌}
 use Rattle.std.specs.Rc.{rc_value}
 use Rattle.metric_values.specs.Cells.{cell_at, from_column, row_at}
-use Rattle.metric_values.specs.Values.{BagV, BangF, BangV, Bind, Empty, Flat, InlF, InlV, InrV, NumF, NumV, PairF, PairV, TextF, TextV, UnitF, UnitV, truth, value_of}
+use Rattle.metric_values.specs.Values.{BagV, BangF, BangV, Flat, InlF, InlV, InrV, NumF, NumV, PairF, PairV, TextF, TextV, UnitF, UnitV, truth, value_of}
 use Rattle.run_values.specs.Flats.{IsFlat, flat_of, flats_of}
-use Rattle.run_values.specs.Parts.{elements, number_or_none, rebound, side_in, text_in}
-use Rattle.run_values.specs.Founds.{AreHalvesNamed, plain_found}
-use Rattle.run_values.specs.Sizes.{env_size, value_size}
+use Rattle.run_values.specs.Parts.{elements, number_or_none, side_in, text_in}
+use Rattle.run_values.specs.Sizes.{value_size}
 use Rattle.run_values.specs.Views.{IsRowPart, IsTextCell, IsValueForm, text_bytes, form_view}
 use Rattle.run_values.specs.declared.value.Form.{Form}
 use Rattle.run_values.specs.declared.value.Form.TheVariants.{Cell, Num, Row, Table, Truth, Unit as One}
@@ -44,22 +43,6 @@ elements_of_bag = refl
 -- a pair is one deeper than the deeper of its halves
 deeper_half : value_size (PairV UnitV (BangV (InlV UnitV))) ≡ 3
 deeper_half = refl
-
--- each name counts twice
-name_counts_twice : env_size (Bind (codes "x") (NumV (pos 1)) Empty) ≡ 2
-name_counts_twice = refl
-
--- numbers and texts are found, other values aren't
-number_plain : plain_found (Some (NumV (pos 5))) ≡ Some (NumV (pos 5))
-number_plain = refl
-
-pair_not_plain : plain_found (Some (PairV (NumV (pos 5)) UnitV)) ≡ None
-pair_not_plain = refl
-
--- the second name is the innermost, also where both are one
-second_innermost : AreHalvesNamed (Bind (codes "r") (PairV (NumV (pos 1)) UnitV) Empty) (codes "r") (codes "x") (codes "x")
-    (Bind (codes "x") UnitV (Bind (codes "x") (NumV (pos 1)) (Bind (codes "r") (PairV (NumV (pos 1)) UnitV) Empty)))
-second_innermost = (PairV (NumV (pos 1)) UnitV, refl, refl)
 
 -- parts of a table: a row of three columns from the second on, and a text
 abbrev rows : List Flat
@@ -141,10 +124,3 @@ cell_is_there t is = subst (λ rows. IsTextCell rows 1 1) (sym is) (record { row
 
 number_is_no_cell : OnTowns (λ t. Cell 0 1 t) rc_value (λ form. IsValueForm form → ⊥)
 number_is_no_cell t is h = let there : IsTextCell towns 1 0 = subst (λ rows. IsTextCell rows 1 0) is h in absurd (cc (there.text))
-
--- only the innermost name, and no name
-innermost_bound : rebound (Bind (codes "x") UnitV (Bind (codes "x") UnitV Empty)) (NumV (pos 1)) ≡ Bind (codes "x") (NumV (pos 1)) (Bind (codes "x") UnitV Empty)
-innermost_bound = refl
-
-no_name_bound : rebound Empty UnitV ≡ Empty
-no_name_bound = refl

@@ -1,20 +1,17 @@
-//! Values are shared by counted references, and never lead back to themselves.
-ghost use Rattle.std.specs.Prelude.{◌≡◌, ◌<◌, ◌⊎◌, bytes_eq, length, IfOk, IfSome, IsTrue};
+//! Values are shared by counted references, and never lead back to themselves. None is a function.
+ghost use Rattle.std.specs.Prelude.{◌≡◌, ◌<◌, bytes_eq, length, IfOk, IsTrue};
 ghost use Rattle.std.proofs.Common.{get_or};
 ghost use Rattle.fz_ast.specs.Names.{text_of};
-ghost use Rattle.fz_ast.specs.TermNodes.{term_at};
 ghost use Rattle.metric_values.specs.Values.{NumV, TextV, UnitV, PairV, InlV, InrV, BangV, BagV, UnitF, truth, value_of};
 ghost use Rattle.run_values.specs.Flats.{AllFlat, flat_of, flats_of};
 ghost use Rattle.run_values.specs.Looks.{look_of};
-ghost use Rattle.run_values.specs.Founds.{plain_in, plain_of};
-ghost use Rattle.run_values.specs.Parts.{IsBag, IsBangValue, IsClosure, IsNum, IsPair, IsSum, IsTextValue, banged_in, elements, first_in, number_in};
+ghost use Rattle.run_values.specs.Parts.{IsBag, IsBangValue, IsNum, IsPair, IsSum, IsTextValue, banged_in, elements, first_in, number_in};
 ghost use Rattle.run_values.specs.Parts.{number_or_none, second_in, side_in, text_in};
 ghost use Rattle.metric_values.specs.Cells.{cell_at, columns_in, from_column, row_at};
-ghost use Rattle.run_values.specs.Views.{IsClosureAt, IsFunction, IsTextCell, text_bytes, function_of};
+ghost use Rattle.run_values.specs.Views.{IsTextCell, text_bytes};
 
 use crate::look::{Look, Part, look_at_row};
-use crate::plain::{Plain, last_plain, plain_at};
-use fz_ast::{Name, NoMemory, Nodes, Text};
+use fz_ast::{NoMemory, Text};
 use metric_values::{Cell, Table};
 use std::alloc::Global;
 use std::marker::Model;
@@ -47,7 +44,6 @@ pub enum Form {
     Cell(u16, u32, Rc<Table>),
     /// A bag that was made.
     List(Rc<Vec<Value>>),
-    Fun(Rc<Closure>),
 }
 
 /// Two values.
@@ -56,63 +52,6 @@ pub enum Form {
 pub struct Both {
     pub first: Value,
     pub second: Value,
-}
-
-/// The node of a function, and what its names stand for.
-#[cycle(value)]
-#[derive(Drop)]
-pub struct Closure {
-    pub nodes: Rc<Nodes>,
-    pub lambda: u32,
-    pub scope: Scope,
-}
-
-/// Names and what they stand for, the innermost first. A contract sees the definition's environment.
-#[cycle(value)]
-pub struct Scope {
-    pub(crate) link: Link,
-}
-
-#[cycle(value)]
-#[derive(Drop)]
-pub enum Link {
-    End,
-    More(Rc<Frame>),
-    /// Two names for the halves of a pair.
-    Halves(Rc<Halves>),
-    /// One name, for an element of a bag.
-    Element(Rc<Element>),
-    /// The same, and inside it the two names for its halves.
-    Opened(Rc<Element>),
-}
-
-#[cycle(value)]
-#[derive(Drop)]
-pub struct Frame {
-    pub name: Name,
-    pub value: Value,
-    pub outer: Scope,
-}
-
-/// Two names, the second one innermost, and the pair whose halves they stand for. A half is made when its name is looked up.
-#[cycle(value)]
-#[derive(Drop)]
-pub struct Halves {
-    pub first: Name,
-    pub second: Name,
-    pub pair: Value,
-    pub outer: Scope,
-}
-
-/// A name, what it stands for, and the names that the halves of that get where it is taken apart.
-#[cycle(value)]
-#[derive(Drop)]
-pub struct Element {
-    pub name: Name,
-    pub first: Name,
-    pub second: Name,
-    pub value: Value,
-    pub outer: Scope,
 }
 
 impl Model for Value {
@@ -135,62 +74,6 @@ impl Model for Value {
     ghost use Rattle.run_values.specs.Falls.{form_falls};
 
     ghost size_decreases = { λ a h. form_falls a.form h };
-}
-
-impl Model for Scope {
-    ghost use Rattle.metric_values.specs.Values.{Env};
-    ghost use Rattle.run_values.specs.Codes.{env_code};
-    ghost use Rattle.run_values.specs.Sizes.{env_size};
-
-    ghost Value = { Env };
-
-    ghost coded = { env_code };
-
-    ghost use Rattle.run_values.specs.Views.{link_view, IsScopeLink};
-
-    ghost view = { λ a. link_view a.link };
-
-    ghost invariant = { λ a. IsScopeLink a.link };
-
-    ghost size = { env_size };
-
-    ghost use Rattle.std.proofs.Common.{arith};
-
-    ghost size_decreases = { λ a h. Prim.grind (arith) };
-}
-
-impl Drop for Scope {
-    // By a loop, so that long scopes take no stack.
-    #[cycle(value)]
-    fn drop(mut self) {
-        loop {
-            let Scope { link } = self;
-            match link {
-                Link::End => return,
-                Link::More(rc) => {
-                    let Some(frame) = Rc::into_inner(rc) else {
-                        return
-                    };
-                    drop(frame.value);
-                    self = frame.outer;
-                }
-                Link::Halves(rc) => {
-                    let Some(halves) = Rc::into_inner(rc) else {
-                        return
-                    };
-                    drop(halves.pair);
-                    self = halves.outer;
-                }
-                Link::Element(rc) | Link::Opened(rc) => {
-                    let Some(element) = Rc::into_inner(rc) else {
-                        return
-                    };
-                    drop(element.value);
-                    self = element.outer;
-                }
-            }
-        }
-    }
 }
 
 // A value in a place of its own.
@@ -338,32 +221,6 @@ impl Value {
         }
     }
 
-    /// The function at a node, with what its names stand for.
-    pub fn closure(
-        alloc: Global,
-        nodes: Rc<Nodes>,
-        lambda: u32,
-        scope: Scope,
-    ) -> Result<Value, NoMemory>
-        requires known { lambda < length nodes.value.terms }
-        requires function { IsFunction (term_at nodes.value.terms lambda) }
-        ensures { IfOk result (λ v. v ≡ function_of (term_at nodes.value.terms lambda) scope) }
-    {
-        match Rc::new(
-            alloc,
-            Closure {
-                nodes,
-                lambda,
-                scope,
-            },
-        ) {
-            Ok(rc) => Ok(Value {
-                form: Form::Fun(rc),
-            }),
-            Err(_) => Err(NoMemory),
-        }
-    }
-
     /// An equal value, which shares what this one has inside.
     pub fn copy(&self) -> Result<Value, NoMemory>
         ensures { IfOk result (λ v. v ≡ self.now) }
@@ -381,7 +238,6 @@ impl Value {
             Form::Row(k, i, rc) => Form::Row(*k, *i, rc.clone()?),
             Form::Cell(k, i, rc) => Form::Cell(*k, *i, rc.clone()?),
             Form::List(rc) => Form::List(rc.clone()?),
-            Form::Fun(rc) => Form::Fun(rc.clone()?),
         };
         Ok(Value { form })
     }
@@ -506,33 +362,6 @@ impl Value {
 }
 
 impl Value {
-    /// The table whose rows this bag is, if they are a table's.
-    pub fn as_table(&self) -> Option<&Rc<Table>>
-        ensures { IfSome result (λ t. self.now ≡ BagV t.now.value) }
-    {
-        match &self.form {
-            Form::Table(rc) => Some(rc),
-            _ => None,
-        }
-    }
-}
-
-impl Value {
-    /// The node of a function, and what its names stand for.
-    pub fn function(&self) -> &Closure
-        requires { IsClosure self.now }
-        ensures is { self.now ≡ function_of (term_at result.now.nodes.value.terms result.now.lambda) result.now.scope }
-        ensures known { result.now.lambda < length result.now.nodes.value.terms }
-        ensures function { IsFunction (term_at result.now.nodes.value.terms result.now.lambda) }
-    {
-        match &self.form {
-            Form::Fun(rc) => rc,
-            _ => unreachable!(),
-        }
-    }
-}
-
-impl Value {
     /// The number, if this is one.
     pub fn as_number(&self) -> Option<i64>
         ensures { result ≡ number_or_none self.now }
@@ -545,16 +374,6 @@ impl Value {
 }
 
 impl Value {
-    /// The node of a function, and what its names stand for, if this is one.
-    pub(crate) fn as_function(&self) -> Option<&Closure>
-        ensures { IfSome result (λ c. IsClosureAt c.now self.now) }
-    {
-        match &self.form {
-            Form::Fun(rc) => Some(rc),
-            _ => None,
-        }
-    }
-
     /// The outermost form of an element.
     pub fn look(&self) -> Look<'_>
         ensures { look_of result ≡ flat_of self.now }
@@ -570,52 +389,7 @@ impl Value {
             Form::Inl(rc) => Look::Inl(Part::Whole(rc)),
             Form::Inr(rc) => Look::Inr(Part::Whole(rc)),
             Form::Bang(rc) => Look::Bang(Part::Whole(rc)),
-            Form::Unit | Form::Table(_) | Form::List(_) | Form::Fun(_) => Look::Unit,
-        }
-    }
-}
-
-impl Value {
-    /// Whether this is a pair.
-    pub(crate) fn is_pair(&self) -> bool
-        ensures { IsTrue result → IsPair self.now }
-    {
-        matches!(&self.form, Form::Pair(_) | Form::Row(_, _, _))
-    }
-
-    // The number or text that this is.
-    pub(crate) fn plain(&self) -> Plain<'_>
-        ensures { plain_of result ≡ plain_in self.now }
-    {
-        match &self.form {
-            Form::Num(z) => Plain::Num(*z),
-            Form::Text(text) => Plain::Text(text.as_bytes()),
-            Form::Cell(k, i, rc) => Plain::Text(bytes_at(rc, *i, *k)),
-            _ => Plain::Other,
-        }
-    }
-
-    // The number or text that a pair's first half is.
-    pub(crate) fn first_plain(&self) -> Plain<'_>
-        requires { IsPair self.now }
-        ensures { plain_of result ≡ plain_in (first_in self.now) }
-    {
-        match &self.form {
-            Form::Pair(rc) => rc.first.plain(),
-            Form::Row(k, i, rc) => plain_at(rc, *i, *k as usize),
-            _ => unreachable!(),
-        }
-    }
-
-    // The number or text that a pair's second half is.
-    pub(crate) fn second_plain(&self) -> Plain<'_>
-        requires { IsPair self.now }
-        ensures { plain_of result ≡ plain_in (second_in self.now) }
-    {
-        match &self.form {
-            Form::Pair(rc) => rc.second.plain(),
-            Form::Row(k, i, rc) => last_plain(rc, *i, *k as usize + 1),
-            _ => unreachable!(),
+            Form::Unit | Form::Table(_) | Form::List(_) => Look::Unit,
         }
     }
 }
