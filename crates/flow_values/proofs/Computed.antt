@@ -5,7 +5,7 @@ use Rattle.fz_ast.specs.Terms.{AppE, BangE, CaseE, ClipE, EqE, FilterE, FnE, Fst
 use Rattle.metric_law.specs.Means.{Applies, Maps, Meaning, MeansIn, Rules, Splits, apply, apply_fn}
 use Rattle.metric_values.specs.Values.{BagV, BangV, Bind, Env, Flat, InlV, InrV, NumF, NumV, PairV, TextV, UnitV, Value}
 use Rattle.run_values.specs.Flats.{flat_of}
-use Rattle.run_values.proofs.TableParts.{flat_of_value}
+use Rattle.run_values.proofs.Bags.{flat_of_value}
 use Rattle.flow_values.specs.Computed.{Computing, applied, chosen, computed, computed_form, flat_number, given, images, is_true, value_or_unit}
 
 numbers_of : (zs : List ℤ) → map flat_number (map NumF zs) ≡ zs

@@ -3,14 +3,6 @@ use Rattle.std.proofs.Common.{◌≡◌, List, [], ◌∷◌, ◌++◌, Option, 
 use Rattle.metric_values.specs.Values.{Flat}
 use Rattle.flow_values.specs.Steps.{AllGo, Goes, Step, all_through, listed, stepped, through}
 
--- one step alone
-pub through_one : (s : Step) (x : Flat) → through (s ∷ []) (Some x) ≡ stepped s x
-through_one s x = ends (stepped s x)
-  where
-    ends : (o : Option Flat) → through [] o ≡ o
-    ends None = refl
-    ends (Some y) = refl
-
 pub through_none : (rows : List Flat) → all_through [] rows ≡ rows
 through_none [] = refl
 through_none (x ∷ rows) = ap (λ xs. x ∷ xs) (through_none rows)

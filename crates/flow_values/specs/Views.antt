@@ -5,10 +5,9 @@ use Rattle.fz_ast.specs.Terms.{FnE, FunE, Name, Term, at}
 use Rattle.fz_ast.specs.TermNodes.{term_at}
 use Rattle.fz_ast.specs.Types.{Ty}
 use Rattle.fz_ast.specs.declared.span.Span.{Span}
-use Rattle.metric_values.specs.Values.{Flat, Value, NumV, TextV, UnitV, PairV, InlV, InrV, BangV, BagV, FunV, FnV, Env, Empty, Bind, truth, value_of}
-use Rattle.metric_values.specs.Cells.{cell_at, from_column, row_at}
+use Rattle.metric_values.specs.Values.{Flat, TextF, Value, NumV, TextV, UnitV, PairV, InlV, InrV, BangV, BagV, FunV, FnV, Env, Empty, Bind, truth, value_of}
+use Rattle.metric_values.specs.Cells.{cell_at, columns_in, from_column, row_at}
 use Rattle.run_values.specs.Parts.{IsPair, first_in, second_in}
-use Rattle.run_values.specs.Views.{IsRowPart, IsTextCell, text_bytes}
 use Rattle.flow_values.specs.Held.{Held, HeldScope}
 use Rattle.flow_values.specs.Steps.{AllGo, Step, all_through}
 use Rattle.flow_values.specs.declared.value.Branch.{Branch}
@@ -18,6 +17,22 @@ use Rattle.flow_values.specs.declared.value.Form.TheVariants.{Num, Text, Unit as
 use Rattle.flow_values.specs.declared.value.Link.{Link}
 use Rattle.flow_values.specs.declared.value.Link.TheVariants.{End, More, Halves, Element, Opened}
 use Rattle.flow_values.specs.declared.value.Stage.{Stage}
+
+-- the bytes of a text
+abbrev pub text_bytes : Flat → List ℕ
+text_bytes (TextF s) = s
+text_bytes x = []
+
+-- the table has a text at this row and column
+pub record IsTextCell (rows : List Flat) (i k : ℕ) : Type 0 where
+  pub row : i < length rows
+  pub column : k < columns_in (row_at rows i)
+  pub text : cell_at k (row_at rows i) ≡ TextF (text_bytes (cell_at k (row_at rows i)))
+
+-- the row has a column behind this one
+pub record IsRowPart (rows : List Flat) (i k : ℕ) : Type 0 where
+  pub row : i < length rows
+  pub column : suc k < columns_in (row_at rows i)
 
 -- a function with what its names stand for
 abbrev pub function_of : Term → Env → Value

@@ -7,9 +7,8 @@ ghost use Rattle.metric_values.specs.Cells.{cell_at, columns_in, from_column, ro
 ghost use Rattle.flow_values.specs.Founds.{plain_in, plain_of};
 ghost use Rattle.run_values.specs.Parts.{IsBag, IsBangValue, IsClosure, IsNum, IsPair, IsSum, IsTextValue, banged_in, elements, first_in, number_in};
 ghost use Rattle.run_values.specs.Parts.{number_or_none, second_in, side_in, text_in};
-ghost use Rattle.run_values.specs.Views.{IsTextCell, text_bytes};
 ghost use Rattle.flow_values.specs.Steps.{AllGo, all_through};
-ghost use Rattle.flow_values.specs.Views.{IsClosureAt, IsFlow, IsFunction, IsKnown, closure_value, flow_of, function_of};
+ghost use Rattle.flow_values.specs.Views.{IsClosureAt, IsFlow, IsFunction, IsKnown, IsTextCell, closure_value, flow_of, function_of, text_bytes};
 
 use crate::plain::{Plain, last_plain, plain_at};
 use crate::stages::{all_staged, one_branch, put_all};

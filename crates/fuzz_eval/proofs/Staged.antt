@@ -4,7 +4,7 @@ use Rattle.std.specs.Prelude.{cond}
 use Rattle.metric_law.specs.Means.{Applies, Maps, MeansIn, Splits, apply, apply_fn}
 use Rattle.run_values.specs.Parts.{IsClosure, is_fn, is_fun}
 use Rattle.metric_values.specs.Values.{Flat, InlV, InrV, UnitV, Value, value_of}
-use Rattle.run_values.proofs.TableParts.{flat_of_value}
+use Rattle.run_values.proofs.Bags.{flat_of_value}
 use Rattle.flow_values.specs.Computed.{agree, chosen, computed, given, images, is_true}
 use Rattle.flow_values.specs.Steps.{AllGo, Goes, Step, all_through, listed, stepped, through}
 use Rattle.flow_values.proofs.Computed.{maps_are, means_computed, splits_are}

@@ -11,7 +11,7 @@ use Rattle.flow_values.specs.Steps.{AllGo, Goes, Step, all_through, listed, step
 use Rattle.metric_law.specs.Means.{Applies, MeansIn}
 use Rattle.metric_values.specs.Cells.{row_at}
 use Rattle.metric_values.specs.Values.{BangV}
-use Rattle.run_values.proofs.TableParts.{flat_of_value}
+use Rattle.run_values.proofs.Bags.{flat_of_value}
 use Rattle.flow_values.specs.Computed.{agree, applied, computed, given, is_true}
 use Rattle.flow_values.specs.Steps.{IsAnswer, outcome}
 use Rattle.flow_values.specs.Views.{AllKnown, IsFlow, flow_of, steps_of}

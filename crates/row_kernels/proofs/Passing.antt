@@ -18,7 +18,7 @@ use Rattle.metric_values.specs.Cells.{row_at}
 use Rattle.metric_values.specs.Numbers.{clip}
 use Rattle.metric_values.specs.Values.{BangV, Bind, Env, Flat, FnV, NumF, NumV, Value, truth, value_of}
 use Rattle.run_values.specs.Flats.{flat_of}
-use Rattle.run_values.proofs.TableParts.{flat_of_value}
+use Rattle.run_values.proofs.Bags.{flat_of_value}
 use Rattle.flow_values.specs.Computed.{agree, computed, flat_number, given, is_true}
 use Rattle.flow_values.specs.Steps.{Answers, Goes, IsAnswer, Step, outcome, stepped, through}
 use Rattle.flow_values.specs.Views.{AllKnown, IsKnown, function_of, step_of, steps_of}

@@ -5,7 +5,7 @@ use denote.Param.Weighed.{most}
 use Rattle.metric_values.specs.Values.{Flat, NumF, TextF, UnitF, PairF, InlF, InrF, BangF, Value, value_of}
 use Rattle.run_values.specs.Views.{form_view, IsValueForm}
 use Rattle.run_values.specs.declared.value.Form.{Form}
-use Rattle.run_values.specs.declared.value.Form.TheVariants.{Num, Text, Unit as One, Truth, Pair, Inl, Inr, Bang, Table, Row, Cell, List as Items}
+use Rattle.run_values.specs.declared.value.Form.TheVariants.{Num, Text, Unit as One, Truth, Pair, Inl, Inr, Bang, List as Items}
 use Rattle.run_values.specs.declared.value.Value.TheDeep.{deep-Form}
 use Rattle.run_values.specs.Flats.{flat_of, flats_of, AllFlat}
 use Rattle.run_values.specs.Sizes.{flat_size, flats_size, value_size}
@@ -35,7 +35,4 @@ form_falls (Pair p) h = omega arith
 form_falls (Inl p) h = omega arith
 form_falls (Inr p) h = omega arith
 form_falls (Bang p) h = omega arith
-form_falls (Table t) h = omega arith
-form_falls (Row k i t) h = omega arith
-form_falls (Cell k i t) h = omega arith
 form_falls (Items p) h = omega (arith, items_fall p.value.items h)

@@ -7,12 +7,9 @@ ghost use Rattle.run_values.specs.Flats.{AllFlat, flat_of, flats_of};
 ghost use Rattle.run_values.specs.Looks.{look_of};
 ghost use Rattle.run_values.specs.Parts.{IsBag, IsBangValue, IsNum, IsPair, IsSum, IsTextValue, banged_in, elements, first_in, number_in};
 ghost use Rattle.run_values.specs.Parts.{number_or_none, second_in, side_in, text_in};
-ghost use Rattle.metric_values.specs.Cells.{cell_at, columns_in, from_column, row_at};
-ghost use Rattle.run_values.specs.Views.{IsTextCell, text_bytes};
 
-use crate::look::{Look, Part, look_at_row};
+use crate::look::{Look, Part};
 use fz_ast::{NoMemory, Text};
-use metric_values::{Cell, Table};
 use std::alloc::Global;
 use std::marker::Model;
 use std::rc::Rc;
@@ -36,13 +33,7 @@ pub enum Form {
     Inl(Rc<Value>),
     Inr(Rc<Value>),
     Bang(Rc<Value>),
-    /// The rows of a table.
-    Table(Rc<Table>),
-    /// A row of a table from a column on, which isn't the last: column, row.
-    Row(u16, u32, Rc<Table>),
-    /// A text of a table: column, row.
-    Cell(u16, u32, Rc<Table>),
-    /// A bag that was made.
+    /// A bag.
     List(Rc<Vec<Value>>),
 }
 
@@ -84,46 +75,6 @@ fn shared(alloc: Global, value: Value) -> Result<Rc<Value>, NoMemory>
         Ok(rc) => Ok(rc),
         Err(_) => Err(NoMemory),
     }
-}
-
-// The cell of a row and a column.
-fn cell(table: &Rc<Table>, i: u32, k: u16) -> Result<Value, NoMemory>
-    requires row { i < length table.now.value }
-    requires column { k < columns_in (row_at table.now.value i) }
-    ensures { IfOk result (λ v. v ≡ value_of (cell_at k (row_at table.now.value i))) }
-{
-    match table.cell(i, k as usize) {
-        Cell::Number(z) => Ok(Value::num(z)),
-        Cell::Text(_) => Ok(Value {
-            form: Form::Cell(k, i, table.clone()?),
-        }),
-    }
-}
-
-// The bytes of a text of a table.
-fn bytes_at(table: &Rc<Table>, i: u32, k: u16) -> &[u8]
-    requires { IsTextCell table.now.value i k }
-    ensures { result.now ≡ text_bytes (cell_at k (row_at table.now.value i)) }
-{
-    match table.cell(i, k as usize) {
-        Cell::Text(bytes) => bytes,
-        Cell::Number(_) => unreachable!(),
-    }
-}
-
-// What stands in a row from a column on.
-fn part(table: &Rc<Table>, i: usize, k: usize) -> Result<Value, NoMemory>
-    requires row { i < length table.now.value }
-    requires column { k < columns_in (row_at table.now.value i) }
-    ensures { IfOk result (λ v. v ≡ value_of (from_column k (row_at table.now.value i))) }
-{
-    let width = table.width();
-    if k + 1 == width {
-        return cell(table, i as u32, k as u16);
-    }
-    Ok(Value {
-        form: Form::Row(k as u16, i as u32, table.clone()?),
-    })
 }
 
 impl Value {
@@ -196,18 +147,6 @@ impl Value {
         })
     }
 
-    /// The bag of a table's rows.
-    pub fn table(alloc: Global, table: &Table) -> Result<Value, NoMemory>
-        ensures { IfOk result (λ v. v ≡ BagV table.now) }
-    {
-        match Rc::new(alloc, table.copy()?) {
-            Ok(rc) => Ok(Value {
-                form: Form::Table(rc),
-            }),
-            Err(_) => Err(NoMemory),
-        }
-    }
-
     /// The bag of these values.
     pub fn list(alloc: Global, items: Vec<Value>) -> Result<Value, NoMemory>
         requires { AllFlat items.items }
@@ -234,9 +173,6 @@ impl Value {
             Form::Inl(rc) => Form::Inl(rc.clone()?),
             Form::Inr(rc) => Form::Inr(rc.clone()?),
             Form::Bang(rc) => Form::Bang(rc.clone()?),
-            Form::Table(rc) => Form::Table(rc.clone()?),
-            Form::Row(k, i, rc) => Form::Row(*k, *i, rc.clone()?),
-            Form::Cell(k, i, rc) => Form::Cell(*k, *i, rc.clone()?),
             Form::List(rc) => Form::List(rc.clone()?),
         };
         Ok(Value { form })
@@ -260,7 +196,6 @@ impl Value {
     {
         match &self.form {
             Form::Text(text) => text.as_bytes(),
-            Form::Cell(k, i, rc) => bytes_at(rc, *i, *k),
             _ => unreachable!(),
         }
     }
@@ -281,7 +216,6 @@ impl Value {
     {
         match &self.form {
             Form::Pair(rc) => rc.first.copy(),
-            Form::Row(k, i, rc) => cell(rc, *i, *k),
             _ => unreachable!(),
         }
     }
@@ -293,7 +227,6 @@ impl Value {
     {
         match &self.form {
             Form::Pair(rc) => rc.second.copy(),
-            Form::Row(k, i, rc) => part(rc, *i as usize, *k as usize + 1),
             _ => unreachable!(),
         }
     }
@@ -341,7 +274,6 @@ impl Value {
         ensures { result ≡ length (elements self.now) }
     {
         match &self.form {
-            Form::Table(rc) => rc.len(),
             Form::List(rc) => rc.len(),
             _ => unreachable!(),
         }
@@ -354,7 +286,6 @@ impl Value {
         ensures { IfOk result (λ v. v ≡ value_of (get_or (elements self.now) i UnitF)) }
     {
         match &self.form {
-            Form::Table(rc) => part(rc, i, 0),
             Form::List(rc) => rc[i].copy(),
             _ => unreachable!(),
         }
@@ -381,15 +312,13 @@ impl Value {
         match &self.form {
             Form::Num(z) => Look::Num(*z),
             Form::Text(text) => Look::Text(text.as_bytes()),
-            Form::Cell(k, i, rc) => Look::Text(bytes_at(rc, *i, *k)),
             Form::Truth(true) => Look::Inl(Part::Unit),
             Form::Truth(false) => Look::Inr(Part::Unit),
             Form::Pair(rc) => Look::Pair(Part::Whole(&rc.first), Part::Whole(&rc.second)),
-            Form::Row(k, i, rc) => look_at_row(rc, *i, *k as usize),
             Form::Inl(rc) => Look::Inl(Part::Whole(rc)),
             Form::Inr(rc) => Look::Inr(Part::Whole(rc)),
             Form::Bang(rc) => Look::Bang(Part::Whole(rc)),
-            Form::Unit | Form::Table(_) | Form::List(_) => Look::Unit,
+            Form::Unit | Form::List(_) => Look::Unit,
         }
     }
 }
