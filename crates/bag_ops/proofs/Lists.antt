@@ -1,7 +1,7 @@
 -- One element more of a list, of what is kept of it, and of what is left.
 use Rattle.std.proofs.Common.{◌≡◌, ℕ, zero, suc, ◌+◌, ◌*◌, ◌<◌, List, [], ◌∷◌, ◌++◌, length, refl, ap, sym, subst, ◌∙◌, arith}
 use Rattle.std.specs.List.{AllZip, range_with_len}
-use Rattle.std.specs.Prelude.{Bool, map, Err, IfOk, Ok, Option, Result, Some, slice_get, true, false, ℤ, pos, neg_ℤ, ◌+ℤ◌, ◌≤ℤ◌}
+use Rattle.std.specs.Prelude.{Bool, map, Err, IfOk, Ok, Result, Some, slice_get, true, false, ℤ, pos, neg_ℤ, ◌+ℤ◌, ◌≤ℤ◌}
 use Rattle.std.proofs.lemmas.Int.{clamps, ints}
 use Rattle.std.proofs.lemmas.Option.{same_Some}
 use Rattle.std.proofs.slice.Lists.{all_zipped_more}

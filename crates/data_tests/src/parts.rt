@@ -13,7 +13,11 @@ use std::test::Fail;
 use table_store::load;
 
 const CATALOG: &[u8] =
-    b"{\"analysts\":[\"ann\"],\"owners\":[{\"name\":\"census\",\"budget\":1,\"capacity\":2,\"tables\":[{\"name\":\"people\",\"file\":\"p\",\"columns\":[{\"name\":\"town\",\"type\":\"text\"},{\"name\":\"age\",\"type\":\"num\"}]}],\"partitions\":[{\"name\":\"towns\",\"table\":\"people\",\"column\":\"town\",\"keys\":[\"ny\",\"oslo\"]},{\"name\":\"one\",\"table\":\"people\",\"column\":\"town\",\"keys\":[\"rome\"]}]}]}";
+    b"{\"analysts\":[\"ann\"],\"owners\":[{\"name\":\"census\",\"budget\":1,\"capacity\":2,\
+    \"tables\":[{\"name\":\"people\",\"file\":\"p\",\
+    \"columns\":[{\"name\":\"town\",\"type\":\"text\"},{\"name\":\"age\",\"type\":\"num\"}]}],\
+    \"partitions\":[{\"name\":\"towns\",\"table\":\"people\",\"column\":\"town\",\"keys\":[\"ny\",\"oslo\"]},\
+    {\"name\":\"one\",\"table\":\"people\",\"column\":\"town\",\"keys\":[\"rome\"]}]}]}";
 
 const PEOPLE: &[u8] = b"town,age\noslo,1\nny,2\nrome,3\noslo,4\nbonn,5\n";
 

@@ -1,11 +1,11 @@
 -- Where the rules give a term a value, it is the one that is computed.
-use Rattle.std.proofs.Common.{◌≡◌, ℕ, zero, suc, ℤ, List, [], ◌∷◌, refl, ap, sym, subst, ◌∙◌, inl, inr}
-use Rattle.std.specs.Prelude.{bytes_eq, cond, false, map, true}
+use Rattle.std.proofs.Common.{◌≡◌, ℕ, zero, suc, ℤ, List, [], ◌∷◌, refl, ap, sym, ◌∙◌, inl, inr}
+use Rattle.std.specs.Prelude.{false, map, true}
 use Rattle.fz_ast.specs.Terms.{AppE, BangE, CaseE, ClipE, EqE, FilterE, FnE, FstE, FunE, GreatestE, IfE, InlE, InrE, LeE, LeastE, LetBangE, LetE, LetPairE, MapE, MinusE, NumE, PairE, PlusE, SizeE, SndE, SplitE, SumE, Term, TermForm, TextE, TimesE, UnionE, UnitE, VarE, WithE, at}
-use Rattle.metric_law.specs.Means.{Applies, Maps, Meaning, MeansIn, Rules, Splits, apply, apply_fn, find}
-use Rattle.metric_values.specs.Values.{BagV, BangV, Bind, Env, Flat, InlV, InrV, NumF, NumV, PairV, TextV, UnitV, Value, value_of}
+use Rattle.metric_law.specs.Means.{Applies, Maps, Meaning, MeansIn, Rules, Splits, apply, apply_fn}
+use Rattle.metric_values.specs.Values.{BagV, BangV, Bind, Env, Flat, InlV, InrV, NumF, NumV, PairV, TextV, UnitV, Value}
 use Rattle.run_values.specs.Flats.{flat_of}
-use Rattle.run_values.proofs.TableParts.{flat_of_value}
+use Rattle.run_values.proofs.Bags.{flat_of_value}
 use Rattle.flow_values.specs.Computed.{Computing, applied, chosen, computed, computed_form, flat_number, given, images, is_true, value_or_unit}
 
 numbers_of : (zs : List ℤ) → map flat_number (map NumF zs) ≡ zs

@@ -1,10 +1,11 @@
 -- Meanings as a function, and rows behind stages, at worked values, on both sides of each choice.
 use Rattle.std.proofs.Common.{refl}
-use Rattle.std.specs.Prelude.{Bool, List, None, Option, Some, [], codes, false, neg_ℤ, pos, true, ℕ, ◌∷◌, ◌≡◌}
+use Rattle.std.specs.Prelude.{Bool, List, None, Option, Some, [], codes, false, pos, true, ℕ, ◌∷◌, ◌≡◌}
 use Rattle.fz_ast.specs.Terms.{LeE, NumE, PlusE, SizeE, SumE, Term, VarE, at}
 use Rattle.fz_ast.specs.declared.span.Span.{Span}
-use Rattle.metric_values.specs.Values.{BagV, Bind, Empty, Env, Flat, FnV, NumF, NumV, TextF, Value, truth}
+use Rattle.metric_values.specs.Values.{BagV, Bind, Empty, Env, Flat, FnV, NumF, NumV, PairV, TextF, UnitV, Value, truth}
 use Rattle.flow_values.specs.Computed.{agree, computed, is_true}
+use Rattle.flow_values.specs.Founds.{AreHalvesNamed, plain_found, rebound}
 use Rattle.flow_values.specs.Steps.{Step, all_through, outcome, stepped, through}
 
 module _ (s : Span) where
@@ -103,3 +104,22 @@ element_kept = refl
 
 element_left_out : outcome (Some false) (truth true) (TextF (codes "a")) ≡ None
 element_left_out = refl
+
+-- numbers and texts are found, other values aren't
+number_plain : plain_found (Some (NumV (pos 5))) ≡ Some (NumV (pos 5))
+number_plain = refl
+
+pair_not_plain : plain_found (Some (PairV (NumV (pos 5)) UnitV)) ≡ None
+pair_not_plain = refl
+
+-- the second name is the innermost, also where both are one
+second_innermost : AreHalvesNamed (Bind (codes "r") (PairV (NumV (pos 1)) UnitV) Empty) (codes "r") (codes "x") (codes "x")
+    (Bind (codes "x") UnitV (Bind (codes "x") (NumV (pos 1)) (Bind (codes "r") (PairV (NumV (pos 1)) UnitV) Empty)))
+second_innermost = (PairV (NumV (pos 1)) UnitV, refl, refl)
+
+-- only the innermost name, and no name
+innermost_bound : rebound (Bind (codes "x") UnitV (Bind (codes "x") UnitV Empty)) (NumV (pos 1)) ≡ Bind (codes "x") (NumV (pos 1)) (Bind (codes "x") UnitV Empty)
+innermost_bound = refl
+
+no_name_bound : rebound Empty UnitV ≡ Empty
+no_name_bound = refl

@@ -1,15 +1,7 @@
 -- Rows on their way through steps.
-use Rattle.std.proofs.Common.{◌≡◌, ℕ, List, [], ◌∷◌, ◌++◌, Option, Some, None, refl, ap, sym, subst, ◌∙◌, append_assoc, append-nil}
+use Rattle.std.proofs.Common.{◌≡◌, List, [], ◌∷◌, ◌++◌, Option, Some, None, refl, ap, sym, ◌∙◌, append_assoc, append-nil}
 use Rattle.metric_values.specs.Values.{Flat}
-use Rattle.flow_values.specs.Steps.{AllGo, Answers, Goes, Step, all_through, listed, stepped, through}
-
--- one step alone
-pub through_one : (s : Step) (x : Flat) → through (s ∷ []) (Some x) ≡ stepped s x
-through_one s x = ends (stepped s x)
-  where
-    ends : (o : Option Flat) → through [] o ≡ o
-    ends None = refl
-    ends (Some y) = refl
+use Rattle.flow_values.specs.Steps.{AllGo, Goes, Step, all_through, listed, stepped, through}
 
 pub through_none : (rows : List Flat) → all_through [] rows ≡ rows
 through_none [] = refl

@@ -1,8 +1,8 @@
 -- What values and scopes stand for, with how deep they are held, as trees of numbers: what proofs tell them apart by.
-use Rattle.std.specs.Prelude.{◌≡◌, ℕ, refl}
+use Rattle.std.specs.Prelude.{◌≡◌}
 use Rattle.std.specs.Coded.{Coded, code_by}
 use denote.Struct.Codes.{itself}
-use base.Stored.{Gv, gnil, gnum, gcons}
+use base.Stored.{Gv, gnum, gcons}
 use Rattle.metric_values.specs.Values.{Empty, UnitV}
 use Rattle.run_values.specs.Codes.{env_back, env_from, env_to, value_back, value_from, value_to}
 use Rattle.flow_values.specs.Held.{Held, HeldScope}

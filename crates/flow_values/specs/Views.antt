@@ -1,11 +1,13 @@
 -- What the code's values and scopes stand for.
 use Rattle.std.specs.Prelude.{◌≡◌, ◌<◌, ◌++◌, ℕ, suc, max, List, [], ◌∷◌, length, ⊤}
 use Rattle.fz_ast.specs.Names.{name_of, text_of}
+use Rattle.fz_ast.specs.Terms.{FnE, FunE, Name, Term, at}
 use Rattle.fz_ast.specs.TermNodes.{term_at}
-use Rattle.metric_values.specs.Values.{Flat, Value, NumV, TextV, UnitV, PairV, InlV, InrV, BangV, BagV, Env, Empty, Bind, truth, value_of}
-use Rattle.metric_values.specs.Cells.{cell_at, from_column, row_at}
+use Rattle.fz_ast.specs.Types.{Ty}
+use Rattle.fz_ast.specs.declared.span.Span.{Span}
+use Rattle.metric_values.specs.Values.{Flat, TextF, Value, NumV, TextV, UnitV, PairV, InlV, InrV, BangV, BagV, FunV, FnV, Env, Empty, Bind, truth, value_of}
+use Rattle.metric_values.specs.Cells.{cell_at, columns_in, from_column, row_at}
 use Rattle.run_values.specs.Parts.{IsPair, first_in, second_in}
-use Rattle.run_values.specs.Views.{IsFunction, IsRowPart, IsTextCell, function_of, text_bytes}
 use Rattle.flow_values.specs.Held.{Held, HeldScope}
 use Rattle.flow_values.specs.Steps.{AllGo, Step, all_through}
 use Rattle.flow_values.specs.declared.value.Branch.{Branch}
@@ -15,6 +17,32 @@ use Rattle.flow_values.specs.declared.value.Form.TheVariants.{Num, Text, Unit as
 use Rattle.flow_values.specs.declared.value.Link.{Link}
 use Rattle.flow_values.specs.declared.value.Link.TheVariants.{End, More, Halves, Element, Opened}
 use Rattle.flow_values.specs.declared.value.Stage.{Stage}
+
+-- the bytes of a text
+abbrev pub text_bytes : Flat → List ℕ
+text_bytes (TextF s) = s
+text_bytes x = []
+
+-- the table has a text at this row and column
+pub record IsTextCell (rows : List Flat) (i k : ℕ) : Type 0 where
+  pub row : i < length rows
+  pub column : k < columns_in (row_at rows i)
+  pub text : cell_at k (row_at rows i) ≡ TextF (text_bytes (cell_at k (row_at rows i)))
+
+-- the row has a column behind this one
+pub record IsRowPart (rows : List Flat) (i k : ℕ) : Type 0 where
+  pub row : i < length rows
+  pub column : suc k < columns_in (row_at rows i)
+
+-- a function with what its names stand for
+abbrev pub function_of : Term → Env → Value
+function_of (at s (FunE x u t e)) γ = FunV x e γ
+function_of (at s (FnE x u t e)) γ = FnV x e γ
+function_of t γ = FnV [] t γ
+
+pub data IsFunction : Term → Type 0 where
+  is_fun : {s : Span} {x : Name} {u : Span} {t : Ty} {e : Term} → IsFunction (at s (FunE x u t e))
+  is_fn : {s : Span} {x : Name} {u : Span} {t : Ty} {e : Term} → IsFunction (at s (FnE x u t e))
 
 abbrev pub closure_value : Closure → Value
 closure_value c = function_of (term_at c.nodes.value.terms c.lambda) c.scope.means

@@ -6,4 +6,5 @@ pub mod scope;
 pub mod stages;
 pub mod value;
 
+pub use plain::Plain;
 pub use value::{Branch, Closure, Flow, Scope, Stage, Value};

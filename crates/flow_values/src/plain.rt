@@ -1,11 +1,18 @@
-//! Numbers and texts of tables in their places.
+//! Numbers and texts in their places.
 ghost use Rattle.std.specs.Prelude.{◌≡◌, ◌<◌, length};
 ghost use Rattle.metric_values.specs.Cells.{cell_at, columns_in, from_column, row_at};
 ghost use Rattle.metric_values.specs.Values.{value_of};
-ghost use Rattle.run_values.specs.Founds.{plain_in, plain_of};
+ghost use Rattle.flow_values.specs.Founds.{plain_in, plain_of};
 
 use metric_values::{Cell, Table};
-use run_values::Plain;
+
+/// A number, a text, or anything else.
+#[derive(Clone, Copy)]
+pub enum Plain<'a> {
+    Num(i64),
+    Text(&'a [u8]),
+    Other,
+}
 
 // The cell of a row and a column.
 pub(crate) fn plain_at(table: &Table, i: u32, k: usize) -> Plain<'_>

@@ -3,13 +3,12 @@ ghost use Rattle.std.specs.Prelude.{◌≡◌, bytes_eq, IfOk, IfSome, IsSome, O
 ghost use Rattle.fz_ast.specs.Names.{name_of};
 ghost use Rattle.metric_law.specs.Means.{find};
 ghost use Rattle.metric_values.specs.Values.{Bind, Empty};
-ghost use Rattle.flow_values.specs.Founds.{IsFoundFunction, IsFoundInPair, AreHalvesNamed, value_found};
-ghost use Rattle.run_values.specs.Founds.{plain_found, plain_of};
-ghost use Rattle.run_values.specs.Parts.{IsPair, first_in, rebound, second_in};
+ghost use Rattle.flow_values.specs.Founds.{AreHalvesNamed, IsFoundFunction, IsFoundInPair, plain_found, plain_of, rebound, value_found};
+ghost use Rattle.run_values.specs.Parts.{IsPair, first_in, second_in};
 
+use crate::plain::Plain;
 use crate::value::{Closure, Element, Frame, Halves, Link, Scope, Value};
 use fz_ast::{Name, NoMemory};
-use run_values::Plain;
 use std::alloc::Global;
 use std::rc::Rc;
 

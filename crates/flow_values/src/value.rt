@@ -1,21 +1,19 @@
 //! Values are shared by counted references, and never lead back to themselves.
-ghost use Rattle.std.specs.Prelude.{◌≡◌, ◌<◌, ◌++◌, ◌∷◌, [], bytes_eq, length, IfOk, IfSome, IsNone, IsTrue};
+ghost use Rattle.std.specs.Prelude.{◌≡◌, ◌<◌, ◌++◌, ◌∷◌, [], bytes_eq, length, IfOk, IfSome, IsTrue};
 ghost use Rattle.fz_ast.specs.Names.{text_of};
 ghost use Rattle.fz_ast.specs.TermNodes.{term_at};
 ghost use Rattle.metric_values.specs.Values.{NumV, TextV, UnitV, PairV, InlV, InrV, BangV, BagV, truth, value_of};
 ghost use Rattle.metric_values.specs.Cells.{cell_at, columns_in, from_column, row_at};
-ghost use Rattle.run_values.specs.Founds.{plain_in, plain_of};
+ghost use Rattle.flow_values.specs.Founds.{plain_in, plain_of};
 ghost use Rattle.run_values.specs.Parts.{IsBag, IsBangValue, IsClosure, IsNum, IsPair, IsSum, IsTextValue, banged_in, elements, first_in, number_in};
 ghost use Rattle.run_values.specs.Parts.{number_or_none, second_in, side_in, text_in};
-ghost use Rattle.run_values.specs.Views.{IsFunction, IsTextCell, function_of, text_bytes};
 ghost use Rattle.flow_values.specs.Steps.{AllGo, all_through};
-ghost use Rattle.flow_values.specs.Views.{IsClosureAt, IsFlow, IsKnown, closure_value, flow_of};
+ghost use Rattle.flow_values.specs.Views.{IsClosureAt, IsFlow, IsFunction, IsKnown, IsTextCell, closure_value, flow_of, function_of, text_bytes};
 
-use crate::plain::{last_plain, plain_at};
+use crate::plain::{Plain, last_plain, plain_at};
 use crate::stages::{all_staged, one_branch, put_all};
 use fz_ast::{Name, NoMemory, Nodes, Text};
 use metric_values::{Cell, Table};
-use run_values::Plain;
 use std::alloc::Global;
 use std::marker::Model;
 use std::rc::Rc;

@@ -11,7 +11,8 @@ use Rattle.fz_ast.specs.declared.term.Binary.TheVariants.{Pair, With, App, Plus,
 use Rattle.metric_law.specs.Means.{Applies, Maps, MeansIn, Splits, apply, apply_fn}
 use Rattle.metric_values.specs.Values.{BagV, BangV, Bind, Empty, Env, Flat, FnV, FunV, PairV, UnitV, Value}
 use Rattle.flow_values.specs.Held.{Held}
-use Rattle.run_values.specs.Parts.{IsBag, IsBangValue, IsClosure, banged_in, elements, is_fn, is_fun, rebound}
+use Rattle.run_values.specs.Parts.{IsBag, IsBangValue, IsClosure, banged_in, elements, is_fn, is_fun}
+use Rattle.flow_values.specs.Founds.{rebound}
 use Rattle.fuzz_eval.specs.Steps.{Can2, CanApply, Gives2, HasValueWithin, AppliesNoFunction, closure_of}
 use Rattle.fuzz_eval.specs.Loops.{bound_element, function_inside}
 

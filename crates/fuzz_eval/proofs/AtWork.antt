@@ -2,7 +2,6 @@
 use Rattle.std.proofs.Common.{◌≡◌, ℕ, zero, suc, ◌<◌, ◌+◌, List, [], ◌∷◌, ◌++◌, length, get_or, refl, ap, sym, subst, ◌∙◌, arith}
 use Rattle.std.specs.Prelude.{take}
 use Rattle.std.proofs.lemmas.List.{take_more}
-use Rattle.flow_values.specs.Steps.{Step}
 use Rattle.flow_values.specs.Views.{AllKnown, IsKnown, step_of, steps_of}
 use Rattle.flow_values.specs.declared.value.Stage.{Stage}
 use Rattle.flow_values.proofs.Branched.{steps_more}

@@ -22,7 +22,7 @@ use Rattle.metric_law.specs.Means.{MeansIn, Rules, find}
 use Rattle.metric_law.proofs.Unique.{same_value}
 use Rattle.metric_values.specs.Values.{BagV, BangV, Bind, Env, InlV, InrV, NumF, NumV, TextV, UnitV, Value}
 use Rattle.run_values.specs.Parts.{IsBangValue, IsSum, banged_in, side_in}
-use Rattle.run_values.specs.Views.{IsFunction, function_of, is_fn, is_fun}
+use Rattle.flow_values.specs.Views.{IsFunction, function_of, is_fn, is_fun}
 use Rattle.fuzz_eval.specs.Steps.{Can1, CanRanged, CanTimes, Gives1, GivesRanged, GivesTimes, HasFormWithin, HasValueWithin, injected}
 use Rattle.fuzz_eval.proofs.Steps.{means, rules, unary_parts, unary_whole}
 

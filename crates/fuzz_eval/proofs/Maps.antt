@@ -1,17 +1,17 @@
 -- Branches in which no stage leaves elements out.
-use Rattle.std.proofs.Common.{◌≡◌, ℕ, zero, suc, ◌<◌, ◌≤◌, ◌+◌, ℤ, pos, List, [], ◌∷◌, ◌++◌, Option, Some, None, length, get_or, refl, ap, sym, subst, ◌∙◌, arith}
-use Rattle.std.specs.Prelude.{take, ◌+ℤ◌}
+use Rattle.std.proofs.Common.{◌≡◌, ℕ, ◌<◌, ◌≤◌, ◌+◌, ℤ, pos, List, [], ◌∷◌, ◌++◌, Option, Some, None, length, get_or, refl, ap, sym, subst, ◌∙◌, arith}
+use Rattle.std.specs.Prelude.{take}
 use Rattle.std.proofs.lemmas.Int.{ints}
 use Rattle.std.proofs.lemmas.List.{take_all, take_more}
 use Rattle.metric_values.specs.Values.{Flat}
 use Rattle.flow_values.specs.Computed.{computed, given}
 use Rattle.flow_values.specs.Steps.{Step, all_through, listed, outcome, stepped, through}
-use Rattle.flow_values.specs.Views.{step_of, steps_of}
+use Rattle.flow_values.specs.Views.{steps_of}
 use Rattle.flow_values.specs.declared.value.Stage.{Stage}
 use Rattle.row_kernels.specs.declared.gather.Gather.{Gather}
 use Rattle.row_kernels.specs.declared.gather.Gather.TheVariants.{Size}
 use Rattle.row_kernels.specs.Gathers.{gathered}
-use Rattle.row_kernels.proofs.Gathered.{gathered_both, gathered_listed}
+use Rattle.row_kernels.proofs.Gathered.{gathered_both}
 use Rattle.fuzz_eval.specs.Walks.{AreAllMaps}
 
 maps_behind : (ss : List Stage) (s : Stage) → AreAllMaps (steps_of ss) → s.keeps ≡ None → AreAllMaps (steps_of (ss ++ s ∷ []))

@@ -1,14 +1,13 @@
 -- What `map` and `filter` give, by steps.
-use Rattle.std.proofs.Common.{◌≡◌, ℕ, List, [], ◌∷◌, ◌++◌, Bool, true, false, Option, Some, None, refl, ap, sym, subst, ◌∙◌, inl, inr}
+use Rattle.std.proofs.Common.{◌≡◌, ℕ, List, [], ◌∷◌, ◌++◌, Bool, true, false, Option, Some, None, refl, ap, sym, ◌∙◌, inl, inr}
 use Rattle.std.specs.Prelude.{cond}
 use Rattle.metric_law.specs.Means.{Applies, Maps, MeansIn, Splits, apply, apply_fn}
 use Rattle.run_values.specs.Parts.{IsClosure, is_fn, is_fun}
-use Rattle.metric_values.specs.Values.{Flat, InlV, InrV, UnitV, Value, truth, value_of}
-use Rattle.run_values.proofs.TableParts.{flat_of_value}
-use Rattle.flow_values.specs.Computed.{agree, applied, chosen, computed, given, images, is_true}
-use Rattle.flow_values.specs.Steps.{AllGo, Answers, Goes, Step, all_through, listed, stepped, through}
+use Rattle.metric_values.specs.Values.{Flat, InlV, InrV, UnitV, Value, value_of}
+use Rattle.run_values.proofs.Bags.{flat_of_value}
+use Rattle.flow_values.specs.Computed.{agree, chosen, computed, given, images, is_true}
+use Rattle.flow_values.specs.Steps.{AllGo, Goes, Step, all_through, listed, stepped, through}
 use Rattle.flow_values.proofs.Computed.{maps_are, means_computed, splits_are}
-use Rattle.flow_values.proofs.Gone.{through_one}
 
 goes_end : (o : Option Flat) → Goes [] o
 goes_end None = tt

@@ -1,11 +1,11 @@
 -- Sizes and sums of bags.
-use Rattle.std.proofs.Common.{◌≡◌, ℤ, refl, ap, sym, subst, ◌∙◌, length, map, pos}
+use Rattle.std.proofs.Common.{◌≡◌, ℤ, refl, ap, sym, subst, ◌∙◌}
 use Rattle.fz_ast.specs.declared.term.Ranged.{Ranged}
 use Rattle.fz_ast.specs.declared.term.Ranged.TheVariants.{Clip, Sum as Summed}
 use Rattle.fz_ast.specs.declared.term.Unary.{Unary}
 use Rattle.fz_ast.specs.declared.term.Unary.TheVariants.{Fst, Snd, Least, Greatest, Size as Sized}
 use Rattle.metric_values.specs.Numbers.{clamp, clipped_sum}
-use Rattle.metric_values.specs.Values.{NumF, NumV, Value}
+use Rattle.metric_values.specs.Values.{NumV, Value}
 use Rattle.run_values.specs.Parts.{IsBag, elements}
 use Rattle.row_kernels.specs.declared.gather.Gather.TheVariants.{Size, Sum}
 use Rattle.row_kernels.specs.Gathers.{AllWeighed, gathered, held}

@@ -1,19 +1,19 @@
 -- Elements on their way through stages at work, and what is made of them.
-use Rattle.std.proofs.Common.{◌≡◌, ℕ, zero, suc, ◌<◌, ◌≤◌, ◌+◌, ℤ, pos, List, [], ◌∷◌, ◌++◌, Bool, true, false, Option, Some, None, length, get_or, refl, ap, sym, subst, ◌∙◌, arith, inl, inr}
+use Rattle.std.proofs.Common.{◌≡◌, ℕ, zero, suc, ◌<◌, ◌≤◌, ◌+◌, ℤ, List, [], ◌∷◌, ◌++◌, Bool, true, false, Option, Some, None, length, get_or, refl, ap, sym, subst, ◌∙◌, arith, inl, inr}
 use Rattle.std.specs.Prelude.{cond, drop, slice_set, take, ◌+ℤ◌}
 use Rattle.std.proofs.lemmas.List.{drop_all, drop_more, take_all, take_more}
 use Rattle.row_kernels.specs.Flows.{IsFlatTotal}
 use Rattle.flow_values.proofs.Branched.{branch_of, flow_more}
-use Rattle.metric_values.specs.Values.{Flat, InlV, InrV, Value, truth, value_of}
+use Rattle.metric_values.specs.Values.{Flat, Value, truth, value_of}
 use Rattle.run_values.specs.Flats.{IsFlat, flat_of}
-use Rattle.run_values.specs.Parts.{IsNum, IsSum, number_in, side_in}
+use Rattle.run_values.specs.Parts.{IsNum, IsSum}
 use Rattle.flow_values.specs.Steps.{AllGo, Goes, Step, all_through, listed, stepped, through}
 use Rattle.metric_law.specs.Means.{Applies, MeansIn}
 use Rattle.metric_values.specs.Cells.{row_at}
-use Rattle.metric_values.specs.Values.{BangV, NumF, NumV, UnitF}
-use Rattle.run_values.proofs.TableParts.{flat_of_value}
-use Rattle.flow_values.specs.Computed.{agree, applied, computed, flat_number, given, is_true}
-use Rattle.flow_values.specs.Steps.{Answers, IsAnswer, outcome}
+use Rattle.metric_values.specs.Values.{BangV}
+use Rattle.run_values.proofs.Bags.{flat_of_value}
+use Rattle.flow_values.specs.Computed.{agree, applied, computed, given, is_true}
+use Rattle.flow_values.specs.Steps.{IsAnswer, outcome}
 use Rattle.flow_values.specs.Views.{AllKnown, IsFlow, flow_of, steps_of}
 use Rattle.flow_values.specs.declared.value.Branch.{Branch}
 use Rattle.flow_values.proofs.Computed.{applies_computed}
@@ -23,7 +23,7 @@ use Rattle.row_kernels.specs.Gathers.{AllWeighed, IsWeighed, gathered, weigh_som
 use Rattle.row_kernels.proofs.Gathered.{gathered_both, go_at, row_more, weighed_left, weighed_right}
 use Rattle.fuzz_eval.specs.declared.workers.Worker.{Worker}
 use Rattle.fuzz_eval.specs.Steps.{CanApply}
-use Rattle.fuzz_eval.specs.Walks.{AllKnownWorkers, AreSameWorkers, CanGather, CanPass, CanStep, IsKnownWorker, IsSameWorker, IsWeighedValue, AreAllMaps, flat_in, values_in, worker_step, worker_steps}
+use Rattle.fuzz_eval.specs.Walks.{AllKnownWorkers, AreSameWorkers, CanGather, CanPass, CanStep, IsKnownWorker, IsSameWorker, IsWeighedValue, flat_in, values_in, worker_step, worker_steps}
 
 -- the stages at work are these steps
 pub record AreAtWork (ws : List Worker) (ss : List Step) : Type 0 where

@@ -16,7 +16,7 @@ use Rattle.metric_law.specs.Means.{Applies, Maps, Meaning, MeansIn, Rules, Split
 use Rattle.metric_values.specs.Numbers.{clamp, clip, clipped_sum}
 use Rattle.metric_values.specs.Distances.{same_number}
 use Rattle.run_values.specs.Parts.{IsNum, IsTextValue}
-use Rattle.run_values.specs.Views.{function_of}
+use Rattle.flow_values.specs.Views.{function_of}
 use Rattle.metric_values.specs.Values.{BagV, Env, Flat, FnV, FunV, InlV, InrV, NumF, NumV, PairV, TextV, Value, truth}
 
 -- the term has a value, by a derivation of at most this height

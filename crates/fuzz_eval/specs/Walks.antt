@@ -1,5 +1,5 @@
 -- Stages at work, and what a walk makes of a table's rows.
-use Rattle.std.specs.Prelude.{Bool, List, None, Option, Some, [], length, ◌<◌, ◌≡◌, ◌∷◌, ⊤}
+use Rattle.std.specs.Prelude.{List, None, Option, Some, [], length, ◌<◌, ◌≡◌, ◌∷◌, ⊤}
 use Rattle.fz_ast.specs.TermNodes.{term_at}
 use Rattle.metric_values.specs.Values.{Flat, Value, value_of}
 use Rattle.run_values.specs.Flats.{IsFlat, flat_of}

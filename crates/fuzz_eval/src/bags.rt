@@ -1,5 +1,5 @@
 //! Bags made of others. Their elements are made where they are walked.
-ghost use Rattle.std.specs.Prelude.{◌≡◌, ◌∷◌, [], IfOk, None, Some, false, true};
+ghost use Rattle.std.specs.Prelude.{◌≡◌, ◌∷◌, [], IfOk, Some, false, true};
 ghost use Rattle.metric_values.specs.Values.{BagV, PairV};
 ghost use Rattle.run_values.specs.Parts.{IsBag, elements};
 ghost use Rattle.flow_values.specs.Steps.{AllGo, all_through};

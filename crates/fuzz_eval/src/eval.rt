@@ -7,7 +7,7 @@ ghost use Rattle.fz_ast.specs.Terms.{at, EqE, LetPairE};
 ghost use Rattle.fz_ast.specs.TermNodes.{binary, term_at};
 ghost use Rattle.metric_law.specs.Means.{Applies, MeansIn, Rules};
 ghost use Rattle.metric_values.specs.Numbers.{clamp};
-ghost use Rattle.metric_values.specs.Values.{BangV, Bind, NumV, PairV};
+ghost use Rattle.metric_values.specs.Values.{BangV, Bind, NumV};
 ghost use Rattle.run_values.specs.Flats.{flat_of};
 ghost use Rattle.run_values.specs.Parts.{IsBag, elements};
 ghost use Rattle.flow_values.specs.Steps.{all_through, stepped, through};
@@ -101,7 +101,8 @@ fn apply_to_element(
 ) -> Result<Value, NoMemory>
     requires known { body.term < length nodes.now.value.terms }
     requires can { CanApply left (function_inside body.arrow inner.old.means (term_at nodes.now.value.terms body.term)) (BangV x.means) }
-    ensures gives { IfOk result (λ v. Applies (MeansIn left) (function_inside body.arrow inner.old.means (term_at nodes.now.value.terms body.term)) (BangV x.means) v.means) }
+    ensures gives { IfOk result (λ v. Applies (MeansIn left)
+        (function_inside body.arrow inner.old.means (term_at nodes.now.value.terms body.term)) (BangV x.means) v.means) }
     ensures function { OnOk result (
         function_inside body.arrow inner.new.means (term_at nodes.now.value.terms body.term)
         ≡ function_inside body.arrow inner.old.means (term_at nodes.now.value.terms body.term)
@@ -347,7 +348,8 @@ fn eval_two(
     requires a_known { a < length nodes.now.value.terms }
     requires b_known { b < length nodes.now.value.terms }
     requires has { HasFormWithin left scope.now.means (binary form (term_at nodes.now.value.terms a) (term_at nodes.now.value.terms b)) }
-    ensures { IfOk result (λ v. Rules (MeansIn left) scope.now.means (binary form (term_at nodes.now.value.terms a) (term_at nodes.now.value.terms b)) v.means) }
+    ensures { IfOk result (λ v. Rules (MeansIn left) scope.now.means
+        (binary form (term_at nodes.now.value.terms a) (term_at nodes.now.value.terms b)) v.means) }
 {
     if let Some(v) = at_once(nodes, scope, form, a, b) {
         return Ok(v);
@@ -408,8 +410,10 @@ fn eval_pair(
 ) -> Result<Value, NoMemory>
     requires e_known { e < length nodes.now.value.terms }
     requires b_known { b < length nodes.now.value.terms }
-    requires has { HasFormWithin left scope.now.means (LetPairE (name_of x.now) (name_of y.now) (term_at nodes.now.value.terms e) (term_at nodes.now.value.terms b)) }
-    ensures { IfOk result (λ v. Rules (MeansIn left) scope.now.means (LetPairE (name_of x.now) (name_of y.now) (term_at nodes.now.value.terms e) (term_at nodes.now.value.terms b)) v.means) }
+    requires has { HasFormWithin left scope.now.means
+        (LetPairE (name_of x.now) (name_of y.now) (term_at nodes.now.value.terms e) (term_at nodes.now.value.terms b)) }
+    ensures { IfOk result (λ v. Rules (MeansIn left) scope.now.means
+        (LetPairE (name_of x.now) (name_of y.now) (term_at nodes.now.value.terms e) (term_at nodes.now.value.terms b)) v.means) }
 {
     if let Some(inner) = taken_apart(nodes, scope, x, y, e)? {
         return eval(alloc, nodes, &inner, b, left, walks);

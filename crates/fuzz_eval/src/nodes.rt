@@ -2,12 +2,11 @@
 ghost use Rattle.std.specs.Prelude.{◌≡◌, ◌<◌, IfOk, OnOk, length};
 ghost use Rattle.fz_ast.specs.Limits.{TermLimits};
 ghost use Rattle.fz_ast.specs.Names.{name_of};
-ghost use Rattle.fz_ast.specs.Terms.{at};
 ghost use Rattle.fz_ast.specs.TermNodes.{IsKnown, term_of, term_at};
 ghost use Rattle.fz_ast.specs.TypeNodes.{type_at};
 ghost use Rattle.metric_values.specs.Values.{Bind, UnitV};
-ghost use Rattle.run_values.specs.Parts.{rebound};
-ghost use Rattle.run_values.specs.Views.{IsFunction};
+ghost use Rattle.flow_values.specs.Founds.{rebound};
+ghost use Rattle.flow_values.specs.Views.{IsFunction};
 ghost use Rattle.fuzz_eval.specs.Loops.{bound_element};
 ghost use Rattle.fuzz_eval.specs.Steps.{IsClosureOf};
 

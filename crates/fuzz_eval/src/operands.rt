@@ -1,16 +1,15 @@
 //! Terms that need no evaluation: operands of signs are compared and added in their places, and no value is made of them.
-ghost use Rattle.std.specs.Prelude.{◌≡◌, ◌<◌, IfOk, IfSome, length};
+ghost use Rattle.std.specs.Prelude.{◌<◌, IfOk, IfSome, length};
 ghost use Rattle.fz_ast.specs.Names.{name_of};
 ghost use Rattle.fz_ast.specs.TermNodes.{term_at};
 ghost use Rattle.metric_values.specs.Values.{NumV, TextV};
-ghost use Rattle.run_values.specs.Founds.{plain_of};
+ghost use Rattle.flow_values.specs.Founds.{plain_of};
 ghost use Rattle.fuzz_eval.specs.Operands.{GivesAtOnce, GivesSign, IsOperand, TakesApart};
 
 use crate::nodes::look;
 use crate::numbers::{minus, plus};
-use flow_values::{Scope, Value};
+use flow_values::{Plain, Scope, Value};
 use fz_ast::{Binary, Form, Name, NoMemory, Nodes};
-use run_values::Plain;
 use std::rc::Rc;
 
 // The number or text that a term is, or that its name stands for.

@@ -1,5 +1,5 @@
 //! Words and signs whose parts have values, but for those that give elements to a function.
-ghost use Rattle.std.specs.Prelude.{◌≡◌, bytes_eq, IfOk, IsTrue};
+ghost use Rattle.std.specs.Prelude.{◌≡◌, bytes_eq, IfOk};
 ghost use Rattle.fz_ast.specs.Names.{text_of};
 ghost use Rattle.metric_law.specs.Means.{MeansIn};
 ghost use Rattle.metric_values.specs.Numbers.{clamp};
@@ -7,14 +7,14 @@ ghost use Rattle.metric_values.specs.Distances.{same_number};
 ghost use Rattle.metric_values.specs.Values.{NumV};
 ghost use Rattle.std.specs.Prelude.{◌+ℤ◌, ◌-ℤ◌};
 ghost use Rattle.run_values.specs.Parts.{IsNum, IsTextValue, number_in, text_in};
-ghost use Rattle.fuzz_eval.specs.Steps.{AreComparable, Can1, Can2, CanRanged, CanTimes, Gives1, Gives2, GivesRanged, GivesTimes, AppliesNoFunction, WalksNot, injected};
+ghost use Rattle.fuzz_eval.specs.Steps.{AppliesNoFunction, AreComparable, Can1, Can2, CanRanged, CanTimes};
+ghost use Rattle.fuzz_eval.specs.Steps.{Gives1, Gives2, GivesRanged, GivesTimes, WalksNot, injected};
 ghost use Rattle.fz_ast.specs.declared.term.Ranged.TheVariants.{Clip};
 
 use crate::numbers::{minus, plus, times};
 use bag_ops::clipped;
-use flow_values::Value;
+use flow_values::{Plain, Value};
 use fz_ast::{Binary, NoMemory, Side, Text, Unary};
-use run_values::Plain;
 use std::alloc::Global;
 
 /// What a word with one part gives, but for `size`, which walks a bag.

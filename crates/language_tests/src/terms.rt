@@ -44,7 +44,8 @@ const READINGS: [(&str, &str); 70] = [
     ("fun (x : bag ![2/3] num) => (x)", "Fun[0-31](x, bag ![2/3] num[9-23], x[29-30])"),
     ("fun (x : (num + unit) * (bool)) => x", "Fun[0-36](x, ((num + unit) * (unit + unit))[9-30], x[35-36])"),
     ("let f = fun (x : ![1] num) => let !y = x in y + y in f (![1] 1)",
-        "Let[0-63](f, Fun[8-49](x, ![1/1] num[17-25], LetBang[30-49](y, x[39-40], Plus[44-49](y[44-45], y[48-49]))), App[53-63](f[53-54], Bang[56-62](1/1, 1[61-62])))"),
+        "Let[0-63](f, Fun[8-49](x, ![1/1] num[17-25], LetBang[30-49](y, x[39-40], \
+        Plus[44-49](y[44-45], y[48-49]))), App[53-63](f[53-54], Bang[56-62](1/1, 1[61-62])))"),
     ("fun(x:num)=>x+1", "Fun[0-15](x, num[6-9], Plus[12-15](x[12-13], 1[14-15]))"),
     ("", "stuck 0"), ("size", "stuck 1"), ("size people people", "stuck 2"),
     ("(fn (x : num) => x", "stuck 9"), ("1 -o 2", "stuck 1"), ("x y z )", "stuck 3"),

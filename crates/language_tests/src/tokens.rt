@@ -63,7 +63,9 @@ const PROGRAMS: [(&[u8], &str); 30] = [
     (b"-o", "Lollipop@0-2 "),
     (b"-o1", "Minus@0-1 name o1@1-3 "),
     (b"->-=>===<=<-", "Arrow@0-2 Minus@2-3 Yields@3-5 EqualTo@5-7 Is@7-8 AtMost@8-10 LeftAngle@10-11 Minus@11-12 "),
-    (b"()<>[],:=!|+-*&/", "LeftParenthesis@0-1 RightParenthesis@1-2 LeftAngle@2-3 RightAngle@3-4 LeftBracket@4-5 RightBracket@5-6 Comma@6-7 Colon@7-8 Is@8-9 Bang@9-10 Bar@10-11 Plus@11-12 Minus@12-13 Star@13-14 Ampersand@14-15 Slash@15-16 "),
+    (b"()<>[],:=!|+-*&/", "LeftParenthesis@0-1 RightParenthesis@1-2 \
+        LeftAngle@2-3 RightAngle@3-4 LeftBracket@4-5 RightBracket@5-6 Comma@6-7 Colon@7-8 Is@8-9 \
+        Bang@9-10 Bar@10-11 Plus@11-12 Minus@12-13 Star@13-14 Ampersand@14-15 Slash@15-16 "),
     (b"fn let in case of inl inr if then else", "Fn@0-2 Let@3-6 In@7-9 Case@10-14 Of@15-17 Inl@18-21 Inr@22-25 If@26-28 Then@29-33 Else@34-38 "),
     (b"fst snd true false num text unit bool bag inf", "Fst@0-3 Snd@4-7 True@8-12 False@13-18 Num@19-22 Text@23-27 Unit@28-32 Bool@33-37 Bag@38-41 Inf@42-45 "),
     (b"size sum clip least greatest map filter split union",

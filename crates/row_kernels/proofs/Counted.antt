@@ -1,7 +1,7 @@
 -- Rows that are there, counted and added.
-use Rattle.std.proofs.Common.{◌≡◌, ℕ, zero, suc, ◌<◌, ◌≤◌, ◌+◌, ◌*◌, ℤ, pos, Bool, List, [], ◌∷◌, ◌++◌, length, get_or, refl, ap, sym, subst, ◌∙◌, arith, ◌≤ℤ◌}
-use Rattle.std.specs.Prelude.{cond, false, neg_ℤ, take, true, ◌+ℤ◌}
-use Rattle.std.proofs.lemmas.Int.{clamps, ints}
+use Rattle.std.proofs.Common.{◌≡◌, ℕ, zero, suc, ◌<◌, ◌≤◌, ◌+◌, ◌*◌, ℤ, pos, Bool, List, [], ◌∷◌, ◌++◌, length, get_or, refl, ap, sym, ◌∙◌, arith, ◌≤ℤ◌}
+use Rattle.std.specs.Prelude.{cond, false, neg_ℤ, take, ◌+ℤ◌}
+use Rattle.std.proofs.lemmas.Int.{ints}
 use Rattle.std.proofs.lemmas.List.{take_all, take_more}
 use Rattle.metric_values.specs.Numbers.{clip}
 use Rattle.row_kernels.specs.Gathers.{count_there, sum_there}

@@ -1,8 +1,8 @@
 -- What is made of rows, put together.
-use Rattle.std.proofs.Common.{◌≡◌, ℕ, zero, suc, ◌<◌, ◌≤◌, ◌+◌, ℤ, pos, Bool, true, false, List, [], ◌∷◌, ◌++◌, Option, Some, None, length, get_or, refl, ap, sym, subst, ◌∙◌, arith, append-nil}
-use Rattle.std.specs.Prelude.{cond, drop, map, take, ◌+ℤ◌}
+use Rattle.std.proofs.Common.{◌≡◌, ℕ, zero, suc, ◌<◌, ◌≤◌, ◌+◌, ℤ, pos, List, [], ◌∷◌, ◌++◌, Option, Some, None, length, refl, ap, subst, ◌∙◌, arith, append-nil}
+use Rattle.std.specs.Prelude.{map, take, ◌+ℤ◌}
 use Rattle.std.proofs.lemmas.Int.{ints}
-use Rattle.std.proofs.lemmas.List.{drop_more, take_more}
+use Rattle.std.proofs.lemmas.List.{take_more}
 use Rattle.metric_values.specs.Cells.{row_at}
 use Rattle.metric_values.specs.Numbers.{clip, clipped_sum}
 use Rattle.metric_values.specs.Values.{Flat, NumF, UnitF}
@@ -11,7 +11,7 @@ use Rattle.flow_values.proofs.Gone.{through_both}
 use Rattle.row_kernels.specs.declared.gather.Gather.{Gather}
 use Rattle.row_kernels.specs.declared.gather.Gather.TheVariants.{Size, Sum}
 use Rattle.row_kernels.specs.Flows.{IsChunkTotal, IsFlatTotal, added_up}
-use Rattle.row_kernels.specs.Gathers.{AllWeighed, IsWeighed, gathered, held, weigh, weigh_some}
+use Rattle.row_kernels.specs.Gathers.{AllWeighed, gathered, held, weigh_some}
 
 pub gathered_both : (g : Gather) (xs ys : List Flat) → gathered g (xs ++ ys) ≡ gathered g xs +ℤ gathered g ys
 gathered_both g [] ys = omega (arith, ints)

@@ -22,7 +22,7 @@ use Rattle.metric_law.specs.Means.{Applies, MeansIn, Rules, apply, apply_fn, fin
 use Rattle.metric_values.specs.Values.{BangV, Bind, Env, FnV, FunV, InlV, InrV, NumV, PairV, TextV, UnitV, Value, truth}
 use Rattle.run_values.specs.Parts.{banged_in, first_in, second_in}
 use Rattle.flow_values.specs.Founds.{IsFoundFunction}
-use Rattle.run_values.specs.Views.{function_of}
+use Rattle.flow_values.specs.Views.{function_of}
 use Rattle.flow_values.specs.declared.value.Closure.{Closure}
 use Rattle.row_kernels.specs.declared.frames.Frame.{Frame}
 use Rattle.row_kernels.specs.declared.lanes.Lanes.{Lanes}

@@ -1,5 +1,5 @@
 -- Rows of a chunk behind the stages, one by one.
-use Rattle.std.proofs.Common.{◌≡◌, ℕ, zero, suc, ◌<◌, ◌≤◌, ◌+◌, ℤ, pos, Bool, true, false, List, [], ◌∷◌, ◌++◌, Option, Some, None, length, get_or, refl, ap, sym, subst, ◌∙◌, arith}
+use Rattle.std.proofs.Common.{◌≡◌, ℕ, zero, suc, ◌<◌, ◌≤◌, ◌+◌, ℤ, pos, Bool, true, false, List, [], ◌∷◌, Option, Some, None, length, get_or, refl, ap, sym, subst, ◌∙◌, arith}
 use Rattle.std.specs.Prelude.{cond, drop, replicate, ◌&&◌, ◌+ℤ◌}
 use Rattle.std.proofs.lemmas.Int.{ints}
 use Rattle.std.proofs.lemmas.List.{drop_all, drop_more, get_or-replicate, length-replicate}
@@ -16,13 +16,12 @@ use Rattle.fz_ast.specs.declared.term.Form.TheVariants.{Lambda}
 use Rattle.metric_law.specs.Means.{Applies, MeansIn, apply_fn}
 use Rattle.metric_values.specs.Cells.{row_at}
 use Rattle.metric_values.specs.Numbers.{clip}
-use Rattle.metric_values.specs.Values.{BangV, Bind, Env, Flat, FnV, NumF, NumV, UnitF, Value, truth, value_of}
+use Rattle.metric_values.specs.Values.{BangV, Bind, Env, Flat, FnV, NumF, NumV, Value, truth, value_of}
 use Rattle.run_values.specs.Flats.{flat_of}
-use Rattle.run_values.specs.Views.{function_of}
-use Rattle.run_values.proofs.TableParts.{flat_of_value}
+use Rattle.run_values.proofs.Bags.{flat_of_value}
 use Rattle.flow_values.specs.Computed.{agree, computed, flat_number, given, is_true}
-use Rattle.flow_values.specs.Steps.{AllGo, Answers, Goes, IsAnswer, Step, outcome, stepped, through}
-use Rattle.flow_values.specs.Views.{AllKnown, IsKnown, step_of, steps_of}
+use Rattle.flow_values.specs.Steps.{Answers, Goes, IsAnswer, Step, outcome, stepped, through}
+use Rattle.flow_values.specs.Views.{AllKnown, IsKnown, function_of, step_of, steps_of}
 use Rattle.flow_values.specs.declared.value.Stage.{Stage}
 use Rattle.flow_values.proofs.Computed.{applies_computed}
 use Rattle.row_kernels.specs.declared.flows.Passed.{Passed}
@@ -31,7 +30,7 @@ use Rattle.row_kernels.specs.declared.gather.Gather.{Gather}
 use Rattle.row_kernels.specs.declared.gather.Gather.TheVariants.{Size, Sum}
 use Rattle.row_kernels.specs.declared.lanes.Lanes.{Lanes}
 use Rattle.row_kernels.specs.Flows.{AreAll, AreImaged, AreJudged, ArePassed, AreStepped, IsLanesTotal, IsLongPassed, IsRow, RowSteps, added_up, is_there}
-use Rattle.row_kernels.specs.Gathers.{count_there, held, sum_there, weigh, weigh_some}
+use Rattle.row_kernels.specs.Gathers.{count_there, held, sum_there, weigh_some}
 use Rattle.row_kernels.specs.Lanes.{AreMeant, AreNumbers, AreSameNames, IsLong, lane_at}
 
 pub known_at : (ss : List Stage) (i : ℕ) (s : Stage) → i < length ss → s ≡ get_or ss i s → AllKnown ss → IsKnown s.function.value

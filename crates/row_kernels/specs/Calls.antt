@@ -1,7 +1,6 @@
 -- Functions that are called with lanes.
 use Rattle.std.specs.Prelude.{◌≡◌, ◌<◌, ℕ, List, length}
 use Rattle.fz_ast.specs.Terms.{Term}
-use Rattle.fz_ast.specs.TermNodes.{term_at}
 use Rattle.fz_ast.specs.declared.term.Arrow.{Arrow}
 use Rattle.fz_ast.specs.declared.term.Arrow.TheVariants.{Fun, Fn}
 use Rattle.metric_law.specs.Means.{MeansIn}

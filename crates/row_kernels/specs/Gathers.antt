@@ -1,5 +1,5 @@
 -- What is made of a bag's elements.
-use Rattle.std.specs.Prelude.{Bool, List, None, Option, Some, [], cond, false, pos, true, ℤ, ◌+ℤ◌, ◌∷◌, ◌≡◌, ⊤}
+use Rattle.std.specs.Prelude.{Bool, List, None, Option, Some, [], cond, pos, ℤ, ◌+ℤ◌, ◌∷◌, ◌≡◌, ⊤}
 use Rattle.std.proofs.Common.{of_z, to_z, w64}
 use Rattle.metric_values.specs.Numbers.{clip}
 use Rattle.metric_values.specs.Values.{Flat, NumF}

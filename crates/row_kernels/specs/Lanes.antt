@@ -1,6 +1,7 @@
 -- Columns of values, one for each row of a chunk, and what a term means for each row.
 use Rattle.std.specs.Int.{int_max, int_min}
-use Rattle.std.specs.Prelude.{◌≡◌, ◌<◌, ◌+◌, ◌≤◌, ◌^◌, ◌+ℤ◌, ◌-ℤ◌, ◌*ℤ◌, ℕ, ℤ, Bool, List, [], ◌∷◌, Some, bytes_eq, cond, false, get_or, int_le, length, pos, true, ⊤}
+use Rattle.std.specs.Prelude.{◌≡◌, ◌<◌, ◌+◌, ◌≤◌, ◌^◌, ◌+ℤ◌, ◌-ℤ◌, ◌*ℤ◌, ℕ, ℤ, Bool, List, [], ◌∷◌, Some, bytes_eq, cond}
+use Rattle.std.specs.Prelude.{false, get_or, int_le, length, pos, true, ⊤}
 use Rattle.fz_ast.specs.Names.{name_of}
 use Rattle.fz_ast.specs.Terms.{Name, Term, TermForm}
 use Rattle.fz_ast.specs.declared.term.Binary.{Binary}

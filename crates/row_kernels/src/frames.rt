@@ -5,9 +5,8 @@ ghost use Rattle.row_kernels.specs.Lanes.{AllLong, AreNamed, AreSameNames, IsFre
 
 use crate::columns::copied_bytes;
 use crate::lanes::Lanes;
-use flow_values::Scope;
+use flow_values::{Plain, Scope};
 use fz_ast::{Name, NoMemory};
-use run_values::Plain;
 use std::alloc::Global;
 
 /// A name, and what it stands for at each row.

@@ -1,9 +1,10 @@
 //! Columns of values, one for each row of a chunk.
-ghost use Rattle.std.specs.Prelude.{◌≡◌, ◌<◌, ◌+◌, ◌≤◌, IfOk, IfSome, length, ℕ};
+ghost use Rattle.std.specs.Prelude.{◌≡◌, ◌<◌, ◌+◌, IfOk, IfSome, length, ℕ};
 ghost use Rattle.metric_values.specs.Cells.{from_column, row_at};
 ghost use Rattle.metric_values.specs.Values.{value_of};
 ghost use Rattle.row_kernels.specs.declared.lanes.Lanes.TheVariants.{Part};
-ghost use Rattle.row_kernels.specs.Lanes.{AreChosen, AreCompared, AreHalves, AreMade, AreNumbers, ArePairs, AreSigned, AreThere, AreWorded, IsLong, IsSameAt, clip_value, lane_at, times_value};
+ghost use Rattle.row_kernels.specs.Lanes.{AreChosen, AreCompared, AreHalves, AreMade, AreNumbers, ArePairs, AreSigned, AreThere, AreWorded};
+ghost use Rattle.row_kernels.specs.Lanes.{IsLong, IsSameAt, clip_value, lane_at, times_value};
 
 use crate::cells::cells;
 use crate::columns::{

@@ -277,7 +277,8 @@ fn lanes_of_let(
     requires e_known { e < length nodes.now.terms }
     requires b_known { b < length nodes.now.terms }
     requires long { AllLong len frames.now }
-    ensures { IfOk result (λ o. IfSome o (AreGiven frames.now outer.now.means (LetE (name_of x.now) (term_at nodes.now.terms e) (term_at nodes.now.terms b)) len)) }
+    ensures { IfOk result (λ o. IfSome o
+        (AreGiven frames.now outer.now.means (LetE (name_of x.now) (term_at nodes.now.terms e) (term_at nodes.now.terms b)) len)) }
 {
     let Some(bound) = lanes_of(alloc, nodes, frames, outer, len, e, left)? else {
         return Ok(None);
@@ -304,7 +305,8 @@ fn lanes_of_pair(
     requires e_known { e < length nodes.now.terms }
     requires b_known { b < length nodes.now.terms }
     requires long { AllLong len frames.now }
-    ensures { IfOk result (λ o. IfSome o (AreGiven frames.now outer.now.means (LetPairE (name_of x.now) (name_of y.now) (term_at nodes.now.terms e) (term_at nodes.now.terms b)) len)) }
+    ensures { IfOk result (λ o. IfSome o (AreGiven frames.now outer.now.means
+        (LetPairE (name_of x.now) (name_of y.now) (term_at nodes.now.terms e) (term_at nodes.now.terms b)) len)) }
 {
     let Some(pair) = lanes_of(alloc, nodes, frames, outer, len, e, left)? else {
         return Ok(None);
@@ -334,7 +336,8 @@ fn lanes_of_if(
     requires a_known { a < length nodes.now.terms }
     requires b_known { b < length nodes.now.terms }
     requires long { AllLong len frames.now }
-    ensures { IfOk result (λ o. IfSome o (AreGiven frames.now outer.now.means (IfE (term_at nodes.now.terms e) (term_at nodes.now.terms a) (term_at nodes.now.terms b)) len)) }
+    ensures { IfOk result (λ o. IfSome o
+        (AreGiven frames.now outer.now.means (IfE (term_at nodes.now.terms e) (term_at nodes.now.terms a) (term_at nodes.now.terms b)) len)) }
 {
     let Some(Lanes::Truth(mask)) = lanes_of(alloc, nodes, frames, outer, len, e, left)? else {
         return Ok(None);

@@ -1,3 +1,2 @@
 pub mod Bags
-pub mod TableParts
 pub mod Examples

@@ -65,6 +65,3 @@ mutual
 
 abbrev pub value_code : Coded Value
 value_code = code_by Gv itself value_to value_from value_back
-
-abbrev pub env_code : Coded Env
-env_code = code_by Gv itself env_to env_from env_back

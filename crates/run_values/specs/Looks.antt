@@ -1,18 +1,14 @@
 -- What the code's looks and parts of elements stand for.
-use Rattle.metric_values.specs.Cells.{from_column, row_at}
-use Rattle.metric_values.specs.Columns.{element_of}
 use Rattle.metric_values.specs.Values.{BangF, Flat, InlF, InrF, NumF, PairF, TextF, UnitF}
 use Rattle.run_values.specs.Flats.{flat_of}
 use Rattle.run_values.specs.declared.look.Look.{Look}
 use Rattle.run_values.specs.declared.look.Look.TheVariants.{Num, Text, Unit as One, Pair, Inl, Inr, Bang}
 use Rattle.run_values.specs.declared.look.Part.{Part}
-use Rattle.run_values.specs.declared.look.Part.TheVariants.{Whole, Unit as Nothing, Cell, Rest}
+use Rattle.run_values.specs.declared.look.Part.TheVariants.{Whole, Unit as Nothing}
 
 abbrev pub part_of : Part → Flat
 part_of (Whole v) = flat_of v.now
 part_of Nothing = UnitF
-part_of (Cell c) = element_of c
-part_of (Rest r) = from_column r.column (row_at r.table.now r.row)
 
 abbrev pub look_of : Look → Flat
 look_of (Num z) = NumF z

@@ -1,6 +1,6 @@
 -- What stands inside a value, where there is one.
 use Rattle.std.specs.Prelude.{◌≡◌, ◌⊎◌, List, [], Option, Some, None, ℕ, ℤ, pos}
-use Rattle.metric_values.specs.Values.{Flat, Value, NumV, TextV, PairV, InlV, InrV, BangV, BagV, FunV, FnV, Env, Empty, Bind}
+use Rattle.metric_values.specs.Values.{Flat, Value, NumV, TextV, PairV, InlV, InrV, BangV, BagV, FunV, FnV, Env}
 use Rattle.fz_ast.specs.Terms.{Name, Term}
 
 abbrev pub number_in : Value → ℤ
@@ -58,8 +58,3 @@ pub data IsClosure : Value → Type 0 where
 abbrev pub number_or_none : Value → Option ℤ
 number_or_none (NumV z) = Some z
 number_or_none v = None
-
--- the innermost name, if there is one, stands for w
-abbrev pub rebound : Env → Value → Env
-rebound Empty w = Empty
-rebound (Bind x v γ) w = Bind x w γ

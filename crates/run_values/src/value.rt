@@ -1,21 +1,15 @@
-//! Values are shared by counted references, and never lead back to themselves.
-ghost use Rattle.std.specs.Prelude.{◌≡◌, ◌<◌, ◌⊎◌, bytes_eq, length, IfOk, IfSome, IsTrue};
+//! Values are shared by counted references, and never lead back to themselves. None is a function.
+ghost use Rattle.std.specs.Prelude.{◌≡◌, ◌<◌, bytes_eq, length, IfOk, IsTrue};
 ghost use Rattle.std.proofs.Common.{get_or};
 ghost use Rattle.fz_ast.specs.Names.{text_of};
-ghost use Rattle.fz_ast.specs.TermNodes.{term_at};
 ghost use Rattle.metric_values.specs.Values.{NumV, TextV, UnitV, PairV, InlV, InrV, BangV, BagV, UnitF, truth, value_of};
 ghost use Rattle.run_values.specs.Flats.{AllFlat, flat_of, flats_of};
 ghost use Rattle.run_values.specs.Looks.{look_of};
-ghost use Rattle.run_values.specs.Founds.{plain_in, plain_of};
-ghost use Rattle.run_values.specs.Parts.{IsBag, IsBangValue, IsClosure, IsNum, IsPair, IsSum, IsTextValue, banged_in, elements, first_in, number_in};
+ghost use Rattle.run_values.specs.Parts.{IsBag, IsBangValue, IsNum, IsPair, IsSum, IsTextValue, banged_in, elements, first_in, number_in};
 ghost use Rattle.run_values.specs.Parts.{number_or_none, second_in, side_in, text_in};
-ghost use Rattle.metric_values.specs.Cells.{cell_at, columns_in, from_column, row_at};
-ghost use Rattle.run_values.specs.Views.{IsClosureAt, IsFunction, IsTextCell, text_bytes, function_of};
 
-use crate::look::{Look, Part, look_at_row};
-use crate::plain::{Plain, last_plain, plain_at};
-use fz_ast::{Name, NoMemory, Nodes, Text};
-use metric_values::{Cell, Table};
+use crate::look::{Look, Part};
+use fz_ast::{NoMemory, Text};
 use std::alloc::Global;
 use std::marker::Model;
 use std::rc::Rc;
@@ -39,15 +33,8 @@ pub enum Form {
     Inl(Rc<Value>),
     Inr(Rc<Value>),
     Bang(Rc<Value>),
-    /// The rows of a table.
-    Table(Rc<Table>),
-    /// A row of a table from a column on, which isn't the last: column, row.
-    Row(u16, u32, Rc<Table>),
-    /// A text of a table: column, row.
-    Cell(u16, u32, Rc<Table>),
-    /// A bag that was made.
+    /// A bag.
     List(Rc<Vec<Value>>),
-    Fun(Rc<Closure>),
 }
 
 /// Two values.
@@ -56,63 +43,6 @@ pub enum Form {
 pub struct Both {
     pub first: Value,
     pub second: Value,
-}
-
-/// The node of a function, and what its names stand for.
-#[cycle(value)]
-#[derive(Drop)]
-pub struct Closure {
-    pub nodes: Rc<Nodes>,
-    pub lambda: u32,
-    pub scope: Scope,
-}
-
-/// Names and what they stand for, the innermost first. A contract sees the definition's environment.
-#[cycle(value)]
-pub struct Scope {
-    pub(crate) link: Link,
-}
-
-#[cycle(value)]
-#[derive(Drop)]
-pub enum Link {
-    End,
-    More(Rc<Frame>),
-    /// Two names for the halves of a pair.
-    Halves(Rc<Halves>),
-    /// One name, for an element of a bag.
-    Element(Rc<Element>),
-    /// The same, and inside it the two names for its halves.
-    Opened(Rc<Element>),
-}
-
-#[cycle(value)]
-#[derive(Drop)]
-pub struct Frame {
-    pub name: Name,
-    pub value: Value,
-    pub outer: Scope,
-}
-
-/// Two names, the second one innermost, and the pair whose halves they stand for. A half is made when its name is looked up.
-#[cycle(value)]
-#[derive(Drop)]
-pub struct Halves {
-    pub first: Name,
-    pub second: Name,
-    pub pair: Value,
-    pub outer: Scope,
-}
-
-/// A name, what it stands for, and the names that the halves of that get where it is taken apart.
-#[cycle(value)]
-#[derive(Drop)]
-pub struct Element {
-    pub name: Name,
-    pub first: Name,
-    pub second: Name,
-    pub value: Value,
-    pub outer: Scope,
 }
 
 impl Model for Value {
@@ -137,62 +67,6 @@ impl Model for Value {
     ghost size_decreases = { λ a h. form_falls a.form h };
 }
 
-impl Model for Scope {
-    ghost use Rattle.metric_values.specs.Values.{Env};
-    ghost use Rattle.run_values.specs.Codes.{env_code};
-    ghost use Rattle.run_values.specs.Sizes.{env_size};
-
-    ghost Value = { Env };
-
-    ghost coded = { env_code };
-
-    ghost use Rattle.run_values.specs.Views.{link_view, IsScopeLink};
-
-    ghost view = { λ a. link_view a.link };
-
-    ghost invariant = { λ a. IsScopeLink a.link };
-
-    ghost size = { env_size };
-
-    ghost use Rattle.std.proofs.Common.{arith};
-
-    ghost size_decreases = { λ a h. Prim.grind (arith) };
-}
-
-impl Drop for Scope {
-    // By a loop, so that long scopes take no stack.
-    #[cycle(value)]
-    fn drop(mut self) {
-        loop {
-            let Scope { link } = self;
-            match link {
-                Link::End => return,
-                Link::More(rc) => {
-                    let Some(frame) = Rc::into_inner(rc) else {
-                        return
-                    };
-                    drop(frame.value);
-                    self = frame.outer;
-                }
-                Link::Halves(rc) => {
-                    let Some(halves) = Rc::into_inner(rc) else {
-                        return
-                    };
-                    drop(halves.pair);
-                    self = halves.outer;
-                }
-                Link::Element(rc) | Link::Opened(rc) => {
-                    let Some(element) = Rc::into_inner(rc) else {
-                        return
-                    };
-                    drop(element.value);
-                    self = element.outer;
-                }
-            }
-        }
-    }
-}
-
 // A value in a place of its own.
 fn shared(alloc: Global, value: Value) -> Result<Rc<Value>, NoMemory>
     ensures { IfOk result (λ rc. rc.value ≡ value) }
@@ -201,46 +75,6 @@ fn shared(alloc: Global, value: Value) -> Result<Rc<Value>, NoMemory>
         Ok(rc) => Ok(rc),
         Err(_) => Err(NoMemory),
     }
-}
-
-// The cell of a row and a column.
-fn cell(table: &Rc<Table>, i: u32, k: u16) -> Result<Value, NoMemory>
-    requires row { i < length table.now.value }
-    requires column { k < columns_in (row_at table.now.value i) }
-    ensures { IfOk result (λ v. v ≡ value_of (cell_at k (row_at table.now.value i))) }
-{
-    match table.cell(i, k as usize) {
-        Cell::Number(z) => Ok(Value::num(z)),
-        Cell::Text(_) => Ok(Value {
-            form: Form::Cell(k, i, table.clone()?),
-        }),
-    }
-}
-
-// The bytes of a text of a table.
-fn bytes_at(table: &Rc<Table>, i: u32, k: u16) -> &[u8]
-    requires { IsTextCell table.now.value i k }
-    ensures { result.now ≡ text_bytes (cell_at k (row_at table.now.value i)) }
-{
-    match table.cell(i, k as usize) {
-        Cell::Text(bytes) => bytes,
-        Cell::Number(_) => unreachable!(),
-    }
-}
-
-// What stands in a row from a column on.
-fn part(table: &Rc<Table>, i: usize, k: usize) -> Result<Value, NoMemory>
-    requires row { i < length table.now.value }
-    requires column { k < columns_in (row_at table.now.value i) }
-    ensures { IfOk result (λ v. v ≡ value_of (from_column k (row_at table.now.value i))) }
-{
-    let width = table.width();
-    if k + 1 == width {
-        return cell(table, i as u32, k as u16);
-    }
-    Ok(Value {
-        form: Form::Row(k as u16, i as u32, table.clone()?),
-    })
 }
 
 impl Value {
@@ -313,18 +147,6 @@ impl Value {
         })
     }
 
-    /// The bag of a table's rows.
-    pub fn table(alloc: Global, table: &Table) -> Result<Value, NoMemory>
-        ensures { IfOk result (λ v. v ≡ BagV table.now) }
-    {
-        match Rc::new(alloc, table.copy()?) {
-            Ok(rc) => Ok(Value {
-                form: Form::Table(rc),
-            }),
-            Err(_) => Err(NoMemory),
-        }
-    }
-
     /// The bag of these values.
     pub fn list(alloc: Global, items: Vec<Value>) -> Result<Value, NoMemory>
         requires { AllFlat items.items }
@@ -333,32 +155,6 @@ impl Value {
         match Rc::new(alloc, items) {
             Ok(rc) => Ok(Value {
                 form: Form::List(rc),
-            }),
-            Err(_) => Err(NoMemory),
-        }
-    }
-
-    /// The function at a node, with what its names stand for.
-    pub fn closure(
-        alloc: Global,
-        nodes: Rc<Nodes>,
-        lambda: u32,
-        scope: Scope,
-    ) -> Result<Value, NoMemory>
-        requires known { lambda < length nodes.value.terms }
-        requires function { IsFunction (term_at nodes.value.terms lambda) }
-        ensures { IfOk result (λ v. v ≡ function_of (term_at nodes.value.terms lambda) scope) }
-    {
-        match Rc::new(
-            alloc,
-            Closure {
-                nodes,
-                lambda,
-                scope,
-            },
-        ) {
-            Ok(rc) => Ok(Value {
-                form: Form::Fun(rc),
             }),
             Err(_) => Err(NoMemory),
         }
@@ -377,11 +173,7 @@ impl Value {
             Form::Inl(rc) => Form::Inl(rc.clone()?),
             Form::Inr(rc) => Form::Inr(rc.clone()?),
             Form::Bang(rc) => Form::Bang(rc.clone()?),
-            Form::Table(rc) => Form::Table(rc.clone()?),
-            Form::Row(k, i, rc) => Form::Row(*k, *i, rc.clone()?),
-            Form::Cell(k, i, rc) => Form::Cell(*k, *i, rc.clone()?),
             Form::List(rc) => Form::List(rc.clone()?),
-            Form::Fun(rc) => Form::Fun(rc.clone()?),
         };
         Ok(Value { form })
     }
@@ -404,7 +196,6 @@ impl Value {
     {
         match &self.form {
             Form::Text(text) => text.as_bytes(),
-            Form::Cell(k, i, rc) => bytes_at(rc, *i, *k),
             _ => unreachable!(),
         }
     }
@@ -425,7 +216,6 @@ impl Value {
     {
         match &self.form {
             Form::Pair(rc) => rc.first.copy(),
-            Form::Row(k, i, rc) => cell(rc, *i, *k),
             _ => unreachable!(),
         }
     }
@@ -437,7 +227,6 @@ impl Value {
     {
         match &self.form {
             Form::Pair(rc) => rc.second.copy(),
-            Form::Row(k, i, rc) => part(rc, *i as usize, *k as usize + 1),
             _ => unreachable!(),
         }
     }
@@ -485,7 +274,6 @@ impl Value {
         ensures { result ≡ length (elements self.now) }
     {
         match &self.form {
-            Form::Table(rc) => rc.len(),
             Form::List(rc) => rc.len(),
             _ => unreachable!(),
         }
@@ -498,35 +286,7 @@ impl Value {
         ensures { IfOk result (λ v. v ≡ value_of (get_or (elements self.now) i UnitF)) }
     {
         match &self.form {
-            Form::Table(rc) => part(rc, i, 0),
             Form::List(rc) => rc[i].copy(),
-            _ => unreachable!(),
-        }
-    }
-}
-
-impl Value {
-    /// The table whose rows this bag is, if they are a table's.
-    pub fn as_table(&self) -> Option<&Rc<Table>>
-        ensures { IfSome result (λ t. self.now ≡ BagV t.now.value) }
-    {
-        match &self.form {
-            Form::Table(rc) => Some(rc),
-            _ => None,
-        }
-    }
-}
-
-impl Value {
-    /// The node of a function, and what its names stand for.
-    pub fn function(&self) -> &Closure
-        requires { IsClosure self.now }
-        ensures is { self.now ≡ function_of (term_at result.now.nodes.value.terms result.now.lambda) result.now.scope }
-        ensures known { result.now.lambda < length result.now.nodes.value.terms }
-        ensures function { IsFunction (term_at result.now.nodes.value.terms result.now.lambda) }
-    {
-        match &self.form {
-            Form::Fun(rc) => rc,
             _ => unreachable!(),
         }
     }
@@ -545,16 +305,6 @@ impl Value {
 }
 
 impl Value {
-    /// The node of a function, and what its names stand for, if this is one.
-    pub(crate) fn as_function(&self) -> Option<&Closure>
-        ensures { IfSome result (λ c. IsClosureAt c.now self.now) }
-    {
-        match &self.form {
-            Form::Fun(rc) => Some(rc),
-            _ => None,
-        }
-    }
-
     /// The outermost form of an element.
     pub fn look(&self) -> Look<'_>
         ensures { look_of result ≡ flat_of self.now }
@@ -562,60 +312,13 @@ impl Value {
         match &self.form {
             Form::Num(z) => Look::Num(*z),
             Form::Text(text) => Look::Text(text.as_bytes()),
-            Form::Cell(k, i, rc) => Look::Text(bytes_at(rc, *i, *k)),
             Form::Truth(true) => Look::Inl(Part::Unit),
             Form::Truth(false) => Look::Inr(Part::Unit),
             Form::Pair(rc) => Look::Pair(Part::Whole(&rc.first), Part::Whole(&rc.second)),
-            Form::Row(k, i, rc) => look_at_row(rc, *i, *k as usize),
             Form::Inl(rc) => Look::Inl(Part::Whole(rc)),
             Form::Inr(rc) => Look::Inr(Part::Whole(rc)),
             Form::Bang(rc) => Look::Bang(Part::Whole(rc)),
-            Form::Unit | Form::Table(_) | Form::List(_) | Form::Fun(_) => Look::Unit,
-        }
-    }
-}
-
-impl Value {
-    /// Whether this is a pair.
-    pub(crate) fn is_pair(&self) -> bool
-        ensures { IsTrue result → IsPair self.now }
-    {
-        matches!(&self.form, Form::Pair(_) | Form::Row(_, _, _))
-    }
-
-    // The number or text that this is.
-    pub(crate) fn plain(&self) -> Plain<'_>
-        ensures { plain_of result ≡ plain_in self.now }
-    {
-        match &self.form {
-            Form::Num(z) => Plain::Num(*z),
-            Form::Text(text) => Plain::Text(text.as_bytes()),
-            Form::Cell(k, i, rc) => Plain::Text(bytes_at(rc, *i, *k)),
-            _ => Plain::Other,
-        }
-    }
-
-    // The number or text that a pair's first half is.
-    pub(crate) fn first_plain(&self) -> Plain<'_>
-        requires { IsPair self.now }
-        ensures { plain_of result ≡ plain_in (first_in self.now) }
-    {
-        match &self.form {
-            Form::Pair(rc) => rc.first.plain(),
-            Form::Row(k, i, rc) => plain_at(rc, *i, *k as usize),
-            _ => unreachable!(),
-        }
-    }
-
-    // The number or text that a pair's second half is.
-    pub(crate) fn second_plain(&self) -> Plain<'_>
-        requires { IsPair self.now }
-        ensures { plain_of result ≡ plain_in (second_in self.now) }
-    {
-        match &self.form {
-            Form::Pair(rc) => rc.second.plain(),
-            Form::Row(k, i, rc) => last_plain(rc, *i, *k as usize + 1),
-            _ => unreachable!(),
+            Form::Unit | Form::List(_) => Look::Unit,
         }
     }
 }

@@ -8,7 +8,6 @@ use Rattle.fz_ast.specs.TermNodes.{IsKnown, binary, term_of, term_at, unary}
 use Rattle.fz_ast.specs.Types.{Ty}
 use Rattle.fz_ast.specs.declared.name.Name.{Name}
 use Rattle.fz_ast.specs.declared.span.Span.{Span}
-use Rattle.fz_ast.specs.declared.term.Arrow.{Arrow}
 use Rattle.fz_ast.specs.declared.term.Arrow.TheVariants.{Fn as Unlimited, Fun as Linear}
 use Rattle.fz_ast.specs.declared.term.Binary.{Binary}
 use Rattle.fz_ast.specs.declared.term.Binary.TheVariants.{App, AtMost, Equal, Filter, Map, Minus, Pair as Both, Plus, Split, Union, With}

@@ -2,7 +2,7 @@
 use Rattle.std.proofs.Common.{◌≡◌, ◌<◌, ◌+◌, refl, ap, sym, ◌∙◌, arith, List, [], ◌∷◌, ◌++◌, ℕ, zero, suc, length, map, take, get_or}
 use Rattle.metric_values.specs.Values.{Flat, UnitF, Value, value_of}
 use Rattle.run_values.specs.Flats.{AllFlat, IsFlat, flat_of, flats_of}
-use Rattle.run_values.proofs.TableParts.{flat_of_value}
+use Rattle.run_values.proofs.Bags.{flat_of_value}
 
 pub one_flat_more : (vs : List Value) (i : ℕ) (d : Value) → i < length vs → flats_of (take (i + 1) vs) ≡ flats_of (take i vs) ++ flat_of (get_or vs i d) ∷ []
 one_flat_more [] i d h = absurd (omega arith)

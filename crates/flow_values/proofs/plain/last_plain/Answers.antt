@@ -1,7 +1,7 @@
 use Rattle.std.proofs.Common.{ap, ◌∙◌}
 use Rattle.metric_values.specs.Values.{value_of}
-use Rattle.run_values.specs.Founds.{plain_in}
-use Rattle.run_values.proofs.TableParts.{last_of_row, paired_part}
+use Rattle.flow_values.proofs.TableParts.{last_of_row, paired_part}
+use Rattle.flow_values.specs.Founds.{plain_in}
 use Rattle.flow_values.proofs.plain.last_plain.Goals as goal
 
 pub returns-then-k-width : goal.returns-then-k-width

@@ -3,7 +3,7 @@ use Rattle.std.specs.List.{All}
 use Rattle.std.specs.Prelude.{IfOk}
 use Rattle.metric_values.specs.Cells.{cell_at, columns_in, from_column, row_at}
 use Rattle.metric_values.specs.Values.{PairV, UnitF, Value, value_of}
-use Rattle.run_values.proofs.TableParts.{last_part, paired_part}
+use Rattle.flow_values.proofs.TableParts.{last_part, paired_part}
 use Rattle.flow_values.proofs.value.part.Goals as goal
 
 pub returns-then-k-width : goal.returns-then-k-width

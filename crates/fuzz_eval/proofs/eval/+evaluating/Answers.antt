@@ -1,6 +1,6 @@
-use Rattle.std.proofs.Common.{rules, ◌≡◌, ◌<◌, ◌+◌, ◌-◌, arith, ap, refl, sym, subst, ◌∙◌, length, List, ℤ, to_z, of_z, w64}
+use Rattle.std.proofs.Common.{rules, ◌≡◌, ◌<◌, ◌-◌, arith, ap, refl, sym, subst, ◌∙◌, length, List, ℤ, to_z, of_z, w64}
 use Rattle.std.proofs.lemmas.Grind.{common_steps}
-use Rattle.std.specs.Prelude.{IfOk, IfSome, None, Option, Some, [], ◌∷◌, false, take, true}
+use Rattle.std.specs.Prelude.{IfOk, IfSome, Option, Some, false, true}
 use Rattle.std.proofs.lemmas.Int.{ints, to_z-of_z}
 use Rattle.fz_ast.specs.Names.{name_of, text_of}
 use Rattle.fz_ast.specs.Parts.{Parts}
@@ -11,20 +11,20 @@ use Rattle.fz_ast.specs.declared.term.Binary.TheVariants.{Equal}
 use Rattle.fz_ast.specs.declared.term.Form.{Form}
 use Rattle.fz_ast.specs.declared.term.Form.TheVariants.{Binary as Op2, LetPair}
 use Rattle.metric_law.specs.Means.{Applies, MeansIn, Rules, find}
-use Rattle.metric_values.specs.Values.{BagV, BangV, Bind, Env, NumV, PairV, TextV, Value}
+use Rattle.metric_values.specs.Values.{BangV, Bind, Env, NumV, TextV}
 use Rattle.flow_values.specs.Held.{Held, HeldScope}
 use Rattle.run_values.specs.Flats.{flat_of}
-use Rattle.run_values.specs.Parts.{elements, rebound}
+use Rattle.run_values.specs.Parts.{elements}
+use Rattle.flow_values.specs.Founds.{rebound}
 use Rattle.flow_values.specs.Steps.{AllGo, Step, through}
-use Rattle.flow_values.specs.Views.{AllKnown, IsFlow, flow_of, steps_of}
+use Rattle.flow_values.specs.Views.{AllKnown, IsFlow, IsFunction, flow_of, function_of, steps_of}
 use Rattle.row_kernels.specs.Flows.{IsFlatTotal}
 use Rattle.row_kernels.specs.Gathers.{AllWeighed, gathered}
 use Rattle.row_kernels.proofs.Given.{by_ok}
 use Rattle.fuzz_eval.specs.Walks.{CanPass, means_in, values_in, worker_step}
-use Rattle.run_values.specs.Views.{IsFunction, function_of}
 use Rattle.fuzz_eval.specs.Loops.{bound_element, function_inside}
 use Rattle.fuzz_eval.specs.Operands.{GivesAtOnce, TakesApart}
-use Rattle.fuzz_eval.specs.Steps.{CanRanged, Gives1, Gives2, GivesRanged, GivesTimes, CanApply, CanTimes, HasValueWithin, injected}
+use Rattle.fuzz_eval.specs.Steps.{CanRanged, Gives1, Gives2, GivesRanged, GivesTimes, CanTimes, HasValueWithin, injected}
 use Rattle.fuzz_eval.proofs.Applying.{app_can, app_gives, can_closure, element_gives, element_has, on_ok, same_function, filter_bag, filter_gives, filter_goes, fn_can, fn_gives, fn_has, fun_gives, fun_has, if_ok, map_bag, map_gives, map_goes, plain_here, split_bag, split_gives, split_goes}
 use Rattle.row_kernels.proofs.Held.{high_held, low_held, num_held, times_held}
 use Rattle.fuzz_eval.proofs.Forms.{bang_has, bang_means, case_can, case_has, case_left, case_left_means, case_right, case_right_means, form_has, form_means, if_can, if_has, if_left, if_left_means, if_right, if_right_means, inject_has, inject_means, lambda_function, lambda_means, let_bang_can, let_bang_has, let_bang_inside, let_bang_means, let_has, let_inside, let_means, num_means, ranged_can, ranged_has, ranged_means, text_means, times_can, times_has, times_means, unary_can, unary_has, unary_means, unit_means, var_known, var_means}

@@ -1,8 +1,6 @@
 use Rattle.std.proofs.Common.{arith}
 use Rattle.std.proofs.lemmas.Grind.{common_steps}
-use Rattle.std.proofs.lemmas.Int.{ints, to_z-of_z}
-use Rattle.flow_values.specs.Views.{steps_of}
-use Rattle.fuzz_eval.specs.Walks.{AreAllMaps}
+use Rattle.std.proofs.lemmas.Int.{to_z-of_z}
 use Rattle.fuzz_eval.proofs.Maps.{maps_count_is}
 use Rattle.fuzz_eval.proofs.totals.count_at_once.Goals as goal
 

@@ -1,4 +1,3 @@
-use Rattle.std.proofs.Common.{ap, subst, sym, ◌∙◌}
 use Rattle.fuzz_eval.proofs.AtWork.{known_at, worked_more}
 use Rattle.fuzz_eval.proofs.workers.workers_of.Goals as goal
 

@@ -1,4 +1,4 @@
-use Rattle.std.proofs.Common.{◌≡◌, ℕ, ap, arith, get_or, length, refl, rules, sym, ◌∙◌}
+use Rattle.std.proofs.Common.{◌≡◌, ap, arith, get_or, length, refl, rules, ◌∙◌}
 use Rattle.std.specs.Prelude.{false, ◌&&◌}
 use Rattle.std.proofs.lemmas.List.{length-replicate, with_items_is}
 use Rattle.std.specs.Vec.{with_items}

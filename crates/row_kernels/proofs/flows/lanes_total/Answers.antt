@@ -1,6 +1,6 @@
-use Rattle.std.proofs.Common.{arith, rules, sym}
+use Rattle.std.proofs.Common.{arith, rules}
 use Rattle.std.proofs.lemmas.Grind.{common_steps}
-use Rattle.std.proofs.lemmas.Int.{ints, to_z-of_z}
+use Rattle.std.proofs.lemmas.Int.{to_z-of_z}
 use Rattle.row_kernels.specs.Lanes.{AreNumbers}
 use Rattle.row_kernels.proofs.Passing.{is_size_total, is_sum_total}
 use Rattle.row_kernels.proofs.flows.lanes_total.Goals as goal

@@ -1,7 +1,7 @@
 use Rattle.std.proofs.Common.{◌+◌, List, arith, ap, subst, sym, ◌∙◌}
 use Rattle.metric_values.specs.Cells.{row_at}
 use Rattle.metric_values.specs.Values.{Flat, value_of}
-use Rattle.run_values.proofs.TableParts.{columns_some}
+use Rattle.flow_values.proofs.TableParts.{columns_some}
 use Rattle.row_kernels.specs.Lanes.{AreThere}
 use Rattle.row_kernels.proofs.Passing.{rows_are}
 use Rattle.row_kernels.proofs.flows.rows_there.Goals as goal

@@ -1,5 +1,5 @@
 use Rattle.std.proofs.Common.{refl, rules}
-use Rattle.flow_values.specs.Views.{closure_value, step_of}
+use Rattle.flow_values.specs.Views.{step_of}
 use Rattle.row_kernels.specs.Flows.{AreImaged}
 use Rattle.row_kernels.proofs.Passing.{mapped}
 use Rattle.row_kernels.proofs.flows.stepped.Goals as goal

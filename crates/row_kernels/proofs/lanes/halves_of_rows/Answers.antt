@@ -2,7 +2,7 @@ use Rattle.std.proofs.Common.{◌≡◌, ◌<◌, ◌+◌, List, suc, arith, ap,
 use Rattle.std.specs.List.{All}
 use Rattle.metric_values.specs.Cells.{cell_at, columns_in, from_column, row_at}
 use Rattle.metric_values.specs.Values.{Flat, PairV, UnitF, value_of}
-use Rattle.run_values.proofs.TableParts.{paired_part}
+use Rattle.flow_values.proofs.TableParts.{paired_part}
 use Rattle.row_kernels.specs.Lanes.{AreThere}
 use Rattle.row_kernels.proofs.lanes.halves_of_rows.Goals as goal
 

@@ -2,7 +2,7 @@ use Rattle.std.proofs.Common.{◌≡◌, ◌+◌, List, arith, ap, subst}
 use Rattle.std.specs.List.{All}
 use Rattle.metric_values.specs.Cells.{columns_in}
 use Rattle.metric_values.specs.Values.{Flat, value_of}
-use Rattle.run_values.proofs.TableParts.{last_of_row}
+use Rattle.flow_values.proofs.TableParts.{last_of_row}
 use Rattle.row_kernels.proofs.lanes.rows_from.Goals as goal
 
 pub returns-then-width-k-clause-each : goal.returns-then-width-k-clause-each

@@ -1,5 +1,5 @@
 use Rattle.metric_values.specs.Cells.{row_at}
-use Rattle.run_values.proofs.TableParts.{columns_some}
+use Rattle.flow_values.proofs.TableParts.{columns_some}
 use Rattle.flow_values.proofs.value.Value.row.Goals as goal
 
 pub part-requires-clause-column : goal.part-requires-clause-column

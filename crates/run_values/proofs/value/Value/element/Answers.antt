@@ -1,17 +1,10 @@
 use Rattle.std.proofs.Common.{◌≡◌, length, ap, ◌∙◌, sym, arith, subst, get_or}
 use Rattle.std.specs.Prelude.{IfOk}
-use Rattle.metric_values.specs.Values.{UnitF, Value, value_of}
+use Rattle.metric_values.specs.Values.{Value}
 use Rattle.run_values.specs.Parts.{elements}
 use Rattle.run_values.specs.Views.{form_view, IsValueForm}
-use Rattle.run_values.proofs.TableParts.{columns_some}
 use Rattle.run_values.proofs.Bags.{list_size, list_item}
 use Rattle.run_values.proofs.value.Value.element.Goals as goal
-
-pub part-requires : goal.part-requires
-part-requires c = record {
-  row = omega (arith, c.requires.within, ap (λ v. length (elements v)) (sym c.self.view_is ∙ ap form_view c.in-Table.is));
-  column = columns_some _;
-}
 
 pub index-requires : goal.index-requires
 index-requires c =
@@ -19,13 +12,8 @@ index-requires c =
     let n = ap (λ v. length v.items) c.deref.ensures in
     omega (arith, h, n, c.requires.within, c.deref.result.now.ok.0)
 
-pub returns-in-Table : goal.returns-in-Table
-returns-in-Table c =
-    let e = ap (λ v. value_of (get_or (elements v) c.args.i UnitF)) (sym c.self.view_is ∙ ap form_view c.in-Table.is) in
-    subst (λ (w : Value). IfOk c.part.result (λ v. v ≡ w)) (sym e) c.part.ensures
-
-pub returns-in-List : goal.returns-in-List
-returns-in-List c =
+pub returns : goal.returns
+returns c =
     let vs = c.in-List.rc.value.items in
     let e = ap elements (sym c.self.view_is ∙ ap form_view c.in-List.is) in
     let h = list_size c.args.self.now vs e in

@@ -2,7 +2,6 @@
 use Rattle.std.proofs.Common.{◌≡◌, ◌<◌, ◌≤◌, ◌+◌, ℕ, zero, suc, List, ap, arith, length, refl, sym}
 use Rattle.std.specs.List.{All}
 use Rattle.metric_values.specs.Cells.{cell_at, columns_in, from_column, row_at}
-use Rattle.run_values.specs.Flats.{flat_of}
 use Rattle.metric_values.specs.Values.{BangF, Flat, InlF, InrF, NumF, PairF, PairV, TextF, UnitF, value_of}
 
 pub columns_some : (x : Flat) → 0 < columns_in x
@@ -45,30 +44,6 @@ more_paired (suc k) (PairF a b) h = more_paired k b (omega arith)
 more_paired (suc k) (InlF a) h = absurd (omega arith)
 more_paired (suc k) (InrF a) h = absurd (omega arith)
 more_paired (suc k) (BangF a) h = absurd (omega arith)
-
-pub rest_behind : (k : ℕ) (x : Flat) → suc k < columns_in x → PairF (cell_at k x) (from_column (k + 1) x) ≡ from_column k x
-rest_behind zero (PairF a b) h = refl
-rest_behind (suc k) (PairF a b) h = let e : suc k + 1 ≡ suc (k + 1) = omega arith in rw e (rest_behind k b (omega arith))
-rest_behind k (NumF z) h = absurd (omega arith)
-rest_behind k (TextF s) h = absurd (omega arith)
-rest_behind k UnitF h = absurd (omega arith)
-rest_behind k (InlF a) h = absurd (omega arith)
-rest_behind k (InrF a) h = absurd (omega arith)
-rest_behind k (BangF a) h = absurd (omega arith)
-
-pub flat_of_value : (x : Flat) → flat_of (value_of x) ≡ x
-flat_of_value (NumF z) = refl
-flat_of_value (TextF s) = refl
-flat_of_value UnitF = refl
-flat_of_value (PairF a b) = rw (flat_of_value a, flat_of_value b) refl
-flat_of_value (InlF a) = ap InlF (flat_of_value a)
-flat_of_value (InrF a) = ap InrF (flat_of_value a)
-flat_of_value (BangF a) = ap BangF (flat_of_value a)
-
-pub row_flat : (rows : List Flat) (i k : ℕ) → suc k < columns_in (row_at rows i) → from_column k (row_at rows i) ≡ PairF (flat_of (value_of (cell_at k (row_at rows i)))) (flat_of (value_of (from_column (suc k) (row_at rows i))))
-row_flat rows i k h =
-    let e : k + 1 ≡ suc k = omega arith in
-    rw (flat_of_value (cell_at k (row_at rows i)), flat_of_value (from_column (suc k) (row_at rows i))) (sym (rw e at (rest_behind k (row_at rows i) h)))
 
 -- of a table as wide as n
 module _ (rows : List Flat) (n : ℕ) (wide : All (λ row. columns_in row ≡ n) rows) (i k : ℕ) (there : i < length rows) where
