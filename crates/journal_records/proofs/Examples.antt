@@ -1,13 +1,16 @@
 -- Encodings, worked out byte by byte.
-use Rattle.std.proofs.Common.{◌≡◌, ◌<◌, ◌==◌, true, false, Some, None, pos, negsuc, [], ◌∷◌, ◌++◌, take, drop, replicate, refl, arith}
+use Rattle.std.proofs.Common.{◌≡◌, ℕ, ◌<◌, ◌==◌, List, slice_index, ap, true, false, Some, None, pos, negsuc, [], ◌∷◌, ◌++◌, take, drop, replicate, refl, arith}
 use Rattle.std.specs.Int.{IsGcd}
 use Rattle.std.proofs.lemmas.Nat.Gcd.{IsGcd-from_zero, IsGcd-from_mod, same_from_IsGcd}
+use Rattle.partition_charge.specs.declared.view.View.{View}
+use Rattle.partition_charge.specs.Views.{IsView}
 use Rattle.partition_charge.specs.declared.view.View.TheVariants.{Whole, Part}
 use Rattle.journal_records.specs.declared.records.Outcome.TheVariants.{Answered, Exhausted, Lost}
 use Rattle.journal_records.specs.declared.records.Reservation.{Reservation}
-use Rattle.journal_records.specs.declared.records.Record.TheVariants.{Reserve, Grant}
+use Rattle.journal_records.specs.declared.records.Record.{Record}
+use Rattle.journal_records.specs.declared.records.Record.TheVariants.{Reserve, Settle, Grant}
 use Rattle.journal_records.specs.Records.{reservation_in, settlement_in, grant_in, outcome_in, settling_back, settling, is_some_and, number_or_zero}
-use Rattle.journal_records.specs.Encoding.{encoded, encoded_header, AreChargeTerms, IsReservation, IsSettlement, IsGrant, IsHeader}
+use Rattle.journal_records.specs.Encoding.{encoded, encoded_header, partition_byte, part_low_byte, part_high_byte, IsValid, AreChargeTerms, IsReservation, IsSettlement, IsGrant, IsHeader}
 use Rattle.journal_records.proofs.Shapes.{digest-replicate}
 
 -- ---- reservations
@@ -48,6 +51,68 @@ placed = record { number = 16909060; view = Part 3 4; e = 84281096; p = 9; q = 1
 placed_bytes : take 32 (encoded (Reserve placed)) ≡
     165 ∷ 1 ∷ 3 ∷ 4 ∷ 1 ∷ 2 ∷ 3 ∷ 4 ∷ 5 ∷ 6 ∷ 7 ∷ 8 ∷ 0 ∷ 0 ∷ 0 ∷ 9 ∷ 0 ∷ 0 ∷ 0 ∷ 10 ∷ 1 ∷ 2 ∷ 3 ∷ 4 ∷ 5 ∷ 6 ∷ 7 ∷ 8 ∷ 17 ∷ 34 ∷ 0 ∷ 0 ∷ []
 placed_bytes = refl
+
+-- the bytes of the first one where it is of another view: byte 2 is the partition, 3 and 30 are the part, 31 is zero
+abbrev written : (partition low high last : ℕ) → List ℕ
+written partition low high last =
+    (165 ∷ 1 ∷ partition ∷ low ∷ 0 ∷ 0 ∷ 0 ∷ 0 ∷ 0 ∷ 15 ∷ 66 ∷ 64 ∷ 0 ∷ 0 ∷ 0 ∷ 1 ∷ 0 ∷ 0 ∷ 0 ∷ 1 ∷ 0 ∷ 0 ∷ 0 ∷ 0 ∷ 0 ∷ 15 ∷ 66 ∷ 64 ∷ 0 ∷ 0 ∷ high ∷ last ∷ [])
+    ++ replicate 32 9
+
+whole_bytes : encoded (Reserve first) ≡ written 255 0 0 0
+whole_bytes = refl
+
+first_part : encoded (Reserve (record first { view = Part 3 0 })) ≡ written 3 0 0 0
+first_part = refl
+
+part_249 : encoded (Reserve (record first { view = Part 3 249 })) ≡ written 3 249 0 0
+part_249 = refl
+
+last_of_one_byte : encoded (Reserve (record first { view = Part 3 255 })) ≡ written 3 255 0 0
+last_of_one_byte = refl
+
+first_of_two_bytes : encoded (Reserve (record first { view = Part 3 256 })) ≡ written 3 0 1 0
+first_of_two_bytes = refl
+
+last_part : encoded (Reserve (record first { view = Part 3 3999 })) ≡ written 3 159 15 0
+last_part = refl
+
+-- a part below 256 is one byte, and the other is zero
+one_byte : (partition part : ℕ) → part < 256 → (part_low_byte (Part partition part) ≡ part) × (part_high_byte (Part partition part) ≡ 0)
+one_byte partition part fits = (omega (arith, fits), omega (arith, fits))
+
+-- what the bytes of a reservation say of its view
+view-written : (r : Record) (partition low high last : ℕ) → IsValid r → encoded r ≡ written partition low high last
+    → (view : View) × IsView view × (partition_byte view ≡ partition) × (part_low_byte view ≡ low) × (part_high_byte view ≡ high) × (0 ≡ last)
+view-written (Reserve r) partition low high last valid is = (
+  r.view,
+  valid.viewed,
+  ap (λ (b : List ℕ). slice_index b 2) is,
+  ap (λ (b : List ℕ). slice_index b 3) is,
+  ap (λ (b : List ℕ). slice_index b 30) is,
+  ap (λ (b : List ℕ). slice_index b 31) is,
+)
+view-written (Settle s) partition low high last valid is =
+    let kind : 2 ≡ 1 = ap (λ (b : List ℕ). slice_index b 1) is in absurd (omega (arith, kind))
+view-written (Grant g) partition low high last valid is =
+    let kind : 3 ≡ 1 = ap (λ (b : List ℕ). slice_index b 1) is in absurd (omega (arith, kind))
+
+-- So no record has the bytes of part 4,000, of the whole with a part's high byte, or where byte 31 is not zero: those decode to nothing.
+nothing_of_part_4000 : (r : Record) → IsValid r → encoded r ≡ written 3 160 15 0 → ⊥
+nothing_of_part_4000 r valid is = let seen = view-written r 3 160 15 0 valid is in by seen.0 seen.1 seen.2 seen.3 seen.4
+  where
+    by : (view : View) → IsView view → partition_byte view ≡ 3 → part_low_byte view ≡ 160 → part_high_byte view ≡ 15 → ⊥
+    by Whole valid partition low high = omega (arith, partition)
+    by (Part p j) valid partition low high = omega (arith, valid.1, low, high)
+
+nothing_of_whole_with_a_part : (r : Record) → IsValid r → encoded r ≡ written 255 0 1 0 → ⊥
+nothing_of_whole_with_a_part r valid is = let seen = view-written r 255 0 1 0 valid is in by seen.0 seen.1 seen.2 seen.4
+  where
+    by : (view : View) → IsView view → partition_byte view ≡ 255 → part_high_byte view ≡ 1 → ⊥
+    by Whole valid partition high = omega (arith, high)
+    by (Part p j) valid partition high = omega (arith, valid.0, partition)
+
+nothing_of_byte_31 : (r : Record) → IsValid r → encoded r ≡ written 3 0 1 1 → ⊥
+nothing_of_byte_31 r valid is = let seen = view-written r 3 0 1 1 valid is in let last : 0 ≡ 1 = seen.5 in omega (arith, last)
 
 -- ---- settlements
 

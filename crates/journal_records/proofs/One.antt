@@ -3,7 +3,7 @@ use Rattle.std.proofs.Common.{◌≡◌, ℕ, ◌<◌, ◌^◌, ℤ, pos, negsuc
 use Rattle.std.specs.Int.{w16, w32, w64, to_be_bytes, from_be_bytes, cast_unsigned, cast_signed}
 use Rattle.std.proofs.lemmas.Int.{ints, to_z-of_z}
 use Rattle.std.proofs.lemmas.Nat.{from_be_bytes-to_be_bytes_2, from_be_bytes-to_be_bytes_4, from_be_bytes-to_be_bytes_8}
-use Rattle.journal_records.specs.Encoding.{encoded, partition_byte, part_byte, outcome_byte, answer_number, IsOutcome, IsValid}
+use Rattle.journal_records.specs.Encoding.{encoded, partition_byte, part_low_byte, part_high_byte, outcome_byte, answer_number, IsOutcome, IsValid}
 use Rattle.partition_charge.specs.declared.view.View.{View}
 use Rattle.partition_charge.specs.declared.view.View.TheVariants.{Whole, Part}
 use Rattle.partition_charge.specs.Views.{IsView}
@@ -12,11 +12,11 @@ use Rattle.journal_records.specs.declared.records.Outcome.TheVariants.{Answered,
 use Rattle.journal_records.specs.declared.records.Record.{Record}
 use Rattle.journal_records.specs.declared.records.Record.TheVariants.{Reserve, Settle, Grant}
 
-view-one : (v w : View) → IsView v → IsView w → partition_byte v ≡ partition_byte w → part_byte v ≡ part_byte w → v ≡ w
-view-one Whole Whole a b p q = refl
-view-one Whole (Part n k) a b p q = let most = b.0 in absurd (omega arith)
-view-one (Part n k) Whole a b p q = let most = a.0 in absurd (omega arith)
-view-one (Part n k) (Part m l) a b p q = λ i. Part (p i) (q i)
+view-one : (v w : View) → IsView v → IsView w → partition_byte v ≡ partition_byte w → part_low_byte v ≡ part_low_byte w → part_high_byte v ≡ part_high_byte w → v ≡ w
+view-one Whole Whole a b p low high = refl
+view-one Whole (Part n k) a b p low high = let most = b.0 in absurd (omega arith)
+view-one (Part n k) Whole a b p low high = let most = a.0 in absurd (omega arith)
+view-one (Part n k) (Part m l) a b p low high = let q : k ≡ l = omega (arith, low, high) in λ i. Part (p i) (q i)
 
 bits-one : (y z : ℤ) → FitsSigned w64 y → FitsSigned w64 z → cast_unsigned w64 y ≡ cast_unsigned w64 z → y ≡ z
 bits-one y z a b is = sym (to_z-of_z w64 y a) ∙ ap (cast_signed w64) is ∙ to_z-of_z w64 z b
@@ -50,7 +50,8 @@ kinds k l m n same one other below = omega arith
 pub record-one : (r s : Record) → IsValid r → IsValid s → encoded r ≡ encoded s → r ≡ s
 record-one (Reserve r) (Reserve s) x y is =
     let i1 = four r.number s.number x.numbered y.numbered (ap (λ (b : List ℕ). take 4 (drop 4 b)) is) in
-    let i2 = view-one r.view s.view x.viewed y.viewed (ap (λ (b : List ℕ). slice_index b 2) is) (ap (λ (b : List ℕ). slice_index b 3) is) in
+    let i2 = view-one r.view s.view x.viewed y.viewed (ap (λ (b : List ℕ). slice_index b 2) is) (ap (λ (b : List ℕ). slice_index b 3) is)
+    (ap (λ (b : List ℕ). slice_index b 30) is) in
     let i3 = four r.e s.e (omega (arith, x.terms.most)) (omega (arith, y.terms.most)) (ap (λ (b : List ℕ). take 4 (drop 8 b)) is) in
     let i4 = four r.p s.p x.narrow.0 y.narrow.0 (ap (λ (b : List ℕ). take 4 (drop 12 b)) is) in
     let i5 = four r.q s.q x.narrow.1 y.narrow.1 (ap (λ (b : List ℕ). take 4 (drop 16 b)) is) in

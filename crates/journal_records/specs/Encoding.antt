@@ -50,7 +50,8 @@ answer_number Lost = 0
 
 abbrev pub encoded : Record → List ℕ
 encoded (Reserve r) =
-    (gate ∷ 1 ∷ partition_byte r.view ∷ part_low_byte r.view ∷ []) ++ to_be_bytes w32 r.number ++ to_be_bytes w32 r.e ++ to_be_bytes w32 r.p ++ to_be_bytes w32 r.q
+    (gate ∷ 1 ∷ partition_byte r.view ∷ part_low_byte r.view ∷ []) ++ to_be_bytes w32 r.number
+    ++ to_be_bytes w32 r.e ++ to_be_bytes w32 r.p ++ to_be_bytes w32 r.q
     ++ to_be_bytes w64 r.taken ++ to_be_bytes w16 r.analyst ++ (part_high_byte r.view ∷ 0 ∷ []) ++ r.digest
 encoded (Settle s) =
     (gate ∷ 2 ∷ outcome_byte s.outcome ∷ 0 ∷ []) ++ to_be_bytes w32 s.number ++ to_be_bytes w64 (answer_number s.outcome)

@@ -10,7 +10,8 @@ ghost use Rattle.journal_records.specs.declared.records.Settlement.{Settlement a
 ghost use Rattle.journal_records.specs.declared.records.BudgetGrant.{BudgetGrant as BudgetGrants};
 ghost use Rattle.journal_records.specs.declared.records.Header.{Header as Headers};
 ghost use Rattle.journal_records.specs.declared.records.Record.TheVariants.{Reserve, Settle, Grant};
-ghost use Rattle.journal_records.specs.Encoding.{encoded, encoded_header, IsVersion, IsHeader, partition_byte, part_low_byte, part_high_byte, outcome_byte, answer_number};
+ghost use Rattle.journal_records.specs.Encoding.{encoded, encoded_header, IsVersion, IsHeader};
+ghost use Rattle.journal_records.specs.Encoding.{partition_byte, part_low_byte, part_high_byte, outcome_byte, answer_number};
 ghost use Rattle.journal_records.specs.Encoding.{IsOutcome, MayReturn, AreChargeTerms, IsReservation, IsSettlement, IsGrant, IsValid};
 
 use crate::coding::{encode, encode_header};
@@ -21,7 +22,8 @@ use partition_charge::view::{PARTITIONS, PARTS, View};
 // The view of these bytes: a part's number is of two.
 fn view_of(partition: u8, low: u8, high: u8) -> Option<View>
     ensures valid { IfSome result IsView }
-    ensures only { (view : Views) → IsView view → partition ≡ partition_byte view → low ≡ part_low_byte view → high ≡ part_high_byte view → result ≡ Some view }
+    ensures only { (view : Views) → IsView view → partition ≡ partition_byte view → low ≡ part_low_byte view → high ≡ part_high_byte view
+        → result ≡ Some view }
 {
     let part = u16::from(high) * 256 + u16::from(low);
     if partition == 255 && part == 0 {

@@ -1,5 +1,5 @@
 -- What totals that stand for charges hold.
-use Rattle.std.proofs.Common.{◌≡◌, ℕ, ◌<◌, ◌≤◌, List, [], ◌∷◌, length, get_or, refl, sym, subst, ◌∙◌, ap, Some, arith, ⊎_elim, inl, inr, ◌⊎◌, max, set, ◌+◌, ◌++◌, All, Vec, Global, vec_capacity, length-set}
+use Rattle.std.proofs.Common.{◌≡◌, ℕ, ◌<◌, List, [], ◌∷◌, length, get_or, sym, subst, ◌∙◌, ap, Some, arith, ⊎_elim, inl, inr, ◌⊎◌, max, set, ◌+◌, ◌++◌, All, Vec, Global, vec_capacity, length-set}
 use Rattle.std.proofs.lemmas.Option.{slice_get-get_or, slice_get_within, get_or_from_slice_get}
 use Rattle.std.proofs.lemmas.List.{get_or-set_same, get_or-set_other}
 use Rattle.std.proofs.lemmas.Bool.{cases_eq}
@@ -9,11 +9,11 @@ use Rattle.partition_charge.specs.declared.parts.Parts.{Parts}
 use Rattle.partition_charge.specs.declared.costs.Costs.{Costs}
 use Rattle.partition_charge.specs.declared.view.View.{View}
 use Rattle.partition_charge.specs.declared.view.View.TheVariants.{Whole, Part}
-use Rattle.partition_charge.specs.Views.{IsView, partition_range}
+use Rattle.partition_charge.specs.Views.{partition_range}
 use Rattle.partition_charge.specs.Cost.{Charge, charges_of, cost_of_charges}
-use Rattle.partition_charge.specs.Parts.{sum_of, IsInOrder, AreBelow, HasPut}
+use Rattle.partition_charge.specs.Parts.{sum_of, IsInOrder, HasPut}
 use Rattle.partition_charge.specs.Totals.{AreTotalsOf, HasSums}
-use Rattle.partition_charge.proofs.Charges.{cost-nil, partition-nil, whole-part, whole-partition, part-at, part-other, part-elsewhere, elsewhere-partition, part-partition, view-within}
+use Rattle.partition_charge.proofs.Charges.{cost-nil, partition-nil, whole-part, whole-partition, part-at, part-other, part-elsewhere, elsewhere-partition, part-partition}
 
 -- what was read at a partition is its sums
 pub sums-found : (costs : Costs) (charges : List Charge) (p : ℕ) (parts : Parts) → AreTotalsOf costs charges → p < partition_range

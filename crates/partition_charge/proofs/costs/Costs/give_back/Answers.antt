@@ -1,8 +1,7 @@
-use Rattle.std.proofs.Common.{◌≡◌, ℕ, ◌+◌, ◌≤◌, length, vec_capacity, arith, refl, subst}
+use Rattle.std.proofs.Common.{◌≡◌, ℕ, ◌+◌, ◌≤◌, length, vec_capacity, arith, refl}
 use Rattle.partition_charge.specs.declared.parts.Parts.{Parts}
 use Rattle.partition_charge.specs.declared.view.View.{View}
 use Rattle.partition_charge.specs.declared.view.View.TheVariants.{Whole, Part}
-use Rattle.partition_charge.specs.Cost.{charges_of}
 use Rattle.partition_charge.specs.Parts.{AreBelow}
 use Rattle.partition_charge.proofs.Charges.{view-within}
 use Rattle.partition_charge.proofs.Standing.{sums-found, sums-at, each-changed}

@@ -1,4 +1,4 @@
-use Rattle.std.proofs.Common.{ap, sym, ◌∙◌, arith}
+use Rattle.std.proofs.Common.{ap, sym, ◌∙◌}
 use Rattle.std.proofs.lemmas.List.{get_or_default}
 use Rattle.partition_charge.specs.declared.parts.PartSum.{PartSum}
 use Rattle.partition_charge.proofs.Sums.{no_sum, sum-at, sum-in-gap}
