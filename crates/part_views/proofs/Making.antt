@@ -1,19 +1,22 @@
 -- What the code makes of partitions is what views show.
-use Rattle.std.proofs.Common.{◌≡◌, ◌<◌, ◌∙◌, ℕ, zero, suc, Some, List, [], ◌∷◌, map, length, get_or, refl, ap, subst, sym, arith}
+use Rattle.std.proofs.Common.{◌≡◌, ◌<◌, ◌≤◌, ◌+◌, ◌∙◌, ℕ, zero, suc, Some, List, [], ◌∷◌, ◌++◌, drop, flat_map, map, length, get_or, take, refl, ap, subst, sym, arith}
 use Rattle.std.specs.Prelude.{option_map, slice_get}
 use Rattle.std.specs.List.{All}
-use Rattle.std.proofs.lemmas.List.{get_or-map, length-map}
-use Rattle.std.proofs.lemmas.List.Elements.{All-cons, All-nil, All-weaker}
+use Rattle.std.proofs.lemmas.List.{drop-drop, drop_at, get_or-map, length-append, length-map, map-append, take_at, take_more}
+use Rattle.std.proofs.lemmas.List.Concat.{flat_map-append}
+use Rattle.std.proofs.lemmas.List.Folds.{length-flat_map-take}
+use Rattle.std.proofs.lemmas.List.Elements.{All-append, All-cons, All-head, All-nil, All-tail, All-weaker}
 use Rattle.std.proofs.lemmas.Option.{slice_get-get_or, slice_get-map, slice_get_within}
 use Rattle.fz_ast.specs.Signature.{Signature}
 use Rattle.fz_ast.specs.Types.{Ty, TensorT, TextT}
-use Rattle.metric_values.specs.Cells.{AreRows, chosen_of, columns_in}
+use Rattle.metric_values.specs.Cells.{AreRows, chosen_of, columns_in, row_at}
 use Rattle.metric_values.specs.Tables.{Dataset, IsDataset}
 use Rattle.metric_values.specs.Typed.{TypedFlat}
 use Rattle.metric_values.specs.Values.{Flat, NumF, TextF, UnitF, PairF, InlF, InrF, BangF}
 use Rattle.table_store.specs.Groups.{rows_with}
+use Rattle.table_store.specs.Schema.{row_of_schema}
 use Rattle.table_store.proofs.GroupLaws.{rows_with_chosen, rows_with_there}
-use Rattle.owner_catalog.specs.Entries.{OwnerEntry, PartitionEntry, owner_signature}
+use Rattle.owner_catalog.specs.Entries.{OwnerEntry, PartitionEntry, TableEntry, owner_signature, table_type_of}
 use Rattle.owner_catalog.specs.Lawful.{IsOwner}
 use Rattle.partition_charge.specs.declared.view.View.TheVariants.{Part}
 use Rattle.part_views.specs.Divisions.{IsDivision, partition_of}
@@ -48,6 +51,47 @@ module _ {G : Type 0} (items : G → List ℕ) (column : ℕ) (table : List Flat
       let more = groups_chosen groups keys rest in
       λ i. (here i ∷ []) ∷ more i
 
+-- ---- groups side by side
+
+module _ {G : Type 0} (items : G → List ℕ) (table : List Flat) where
+  pub flat_there : (groups : List G) → All (λ group. AreRows table (items group)) groups → AreRows table (flat_map items groups)
+  flat_there [] there = All-nil (λ i. i < length table)
+  flat_there (group ∷ groups) there =
+      All-append (λ i. i < length table) (items group) (flat_map items groups) (All-head (λ group. AreRows table (items group)) group groups there)
+      (flat_there groups (All-tail (λ group. AreRows table (items group)) group groups there))
+
+  pub run_within : (groups : List G) (i : ℕ) (d : G) → i < length groups
+      → length (flat_map items (take i groups)) + length (items (get_or groups i d)) ≤ length (chosen_of table (flat_map items groups))
+  run_within groups i d low = omega (arith, length-flat_map-take items groups i d low, length-map (flat_map items groups) (row_at table))
+
+  pub run_is : (groups : List G) (i : ℕ) (d : G) → i < length groups
+      → take (length (items (get_or groups i d))) (drop (length (flat_map items (take i groups))) (chosen_of table (flat_map items groups)))
+      ≡ chosen_of table (items (get_or groups i d))
+  run_is [] i d low = absurd (omega arith)
+  run_is (group ∷ groups) zero d low =
+      let here = chosen_of table (items group) in
+      let rest = chosen_of table (flat_map items groups) in
+      let n = length (items group) in
+      ap (take n) (map-append (row_at table) (items group) (flat_map items groups)) ∙ take_at here rest n (length-map (items group) (row_at table))
+  run_is (group ∷ groups) (suc i) d low =
+      let here = chosen_of table (items group) in
+      let rest = chosen_of table (flat_map items groups) in
+      let n = length (items group) in
+      let m = length (flat_map items (take i groups)) in
+      let before : length (flat_map items (group ∷ take i groups)) ≡ n + m = length-append (items group) (flat_map items (take i groups)) in
+      let left : drop (length (flat_map items (group ∷ take i groups))) (chosen_of table (flat_map items (group ∷ groups))) ≡ drop m rest =
+      (λ i. drop (before i) (map-append (row_at table) (items group) (flat_map items groups) i)) ∙ sym (drop-drop m n (here ++ rest))
+      ∙ ap (drop m) (drop_at here rest n (length-map (items group) (row_at table))) in
+      ap (take (length (items (get_or groups i d)))) left ∙ run_is groups i d (omega arith)
+
+  pub run_more : (groups : List G) (i : ℕ) (d : G) → i < length groups
+      → length (flat_map items (take i groups)) + length (items (get_or groups i d)) ≡ length (flat_map items (take (i + 1) groups))
+  run_more groups i d low =
+      let group = get_or groups i d in
+      let more = ap (λ (gs : List G). length (flat_map items gs)) (take_more groups i d low) in
+      let apart = ap (λ (ns : List ℕ). length ns) (flat_map-append items (take i groups) (group ∷ [])) in
+      omega (arith, more, apart, length-append (flat_map items (take i groups)) (items group ++ []), length-append (items group) [])
+
 -- ---- a partition
 
 some_columns : (x : Flat) → 0 < columns_in x
@@ -71,6 +115,13 @@ pub rows_have_column : (tables : Signature) (rows : Dataset) (partition : Partit
 rows_have_column tables rows partition legal typed =
     All-weaker (TypedFlat legal.table.row) (λ row. partition.column < columns_in row) (λ row t. has_column legal.table.row partition.column row legal.text t)
     (get_or rows partition.table []) (rows_at tables rows partition.table legal.table typed legal.there)
+
+-- a table's rows are of its schema's type
+pub rows_of_schema : (owner : OwnerEntry) (rows : Dataset) (t : ℕ) (none : TableEntry) → IsDataset (owner_signature owner) rows → t < length owner.tables
+    → All (TypedFlat (row_of_schema (get_or owner.tables t none).columns)) (get_or rows t [])
+rows_of_schema owner rows t none typed low =
+    rows_at (owner_signature owner) rows t (table_type_of (get_or owner.tables t none)) typed
+    (slice_get-map table_type_of owner.tables t ∙ ap (option_map table_type_of) (slice_get-get_or owner.tables t none low))
 
 pub as_many_tables : (tables : Signature) (rows : Dataset) → IsDataset tables rows → length rows ≡ length tables
 as_many_tables [] [] typed = refl

@@ -1,10 +1,12 @@
 //! A partition's parts, made over the cells of its table.
 
-ghost use Rattle.std.specs.Prelude.{◌≡◌, ◌<◌, [], ◌∷◌, length, map, bytes_eq, slice_get, IfOk};
+ghost use Rattle.std.specs.Prelude.{◌≡◌, ◌<◌, ◌≤◌, ◌+◌, [], ◌∷◌, drop, flat_map, length, map, take, bytes_eq, slice_get, IfOk};
 ghost use Rattle.std.specs.List.{All, IsDistinct};
 ghost use Rattle.metric_values.specs.Cells.{AreRows, chosen_of, columns_in};
 ghost use Rattle.metric_values.specs.Tables.{IsDataset};
+ghost use Rattle.metric_values.specs.Typed.{TypedFlat};
 ghost use Rattle.table_store.specs.Groups.{texts_of};
+ghost use Rattle.table_store.specs.Schema.{row_of_schema};
 ghost use Rattle.owner_catalog.specs.Entries.{owner_entry_at, owner_signature, partition_entry_at};
 ghost use Rattle.owner_catalog.specs.Lawful.{IsCatalog};
 ghost use Rattle.part_views.specs.Divisions.{IsDivision, partition_of};
@@ -14,7 +16,7 @@ use fz_ast::{NoMemory, Sig};
 use metric_values::{Table, Tables, Texts};
 use owner_catalog::Catalog;
 use std::alloc::Global;
-use table_store::groups;
+use table_store::{Schema, gathered, groups};
 
 /// A partition, the signature of its one table, and for each of its keys, in order, that table's rows with it.
 #[derive(Drop)]
@@ -77,7 +79,13 @@ fn divide(
         column,
         keys: kept(alloc, &texts)?,
         sig: alone(alloc, sig, table as usize)?,
-        parts: parts(alloc, tables.table(table as usize), column as usize, &texts)?,
+        parts: parts(
+            alloc,
+            tables.table(table as usize),
+            catalog.schema(owner, table),
+            column as usize,
+            &texts,
+        )?,
     })
 }
 
@@ -123,30 +131,66 @@ fn alone(alloc: Global, sig: &Sig, i: usize) -> Result<Sig, NoMemory>
 fn parts(
     alloc: Global,
     table: &Table,
+    schema: &Schema,
     column: usize,
     keys: &[&[u8]],
 ) -> Result<Vec<Tables>, NoMemory>
+    requires typed { All (TypedFlat (row_of_schema schema.now)) table.now }
     requires column { All (λ row. column < columns_in row) table.now }
     requires distinct { IsDistinct bytes_eq (texts_of keys.now) }
     ensures { IfOk result (λ parts. parts.items ≡ map (λ key. rows_with_key column key table.now ∷ []) (texts_of keys.now)) }
 {
     let groups = groups(alloc, table, column, keys)?;
+    let sorted = sorted(alloc, table, schema, &groups)?;
+    // Rows stay below 2^32.
+    let _ = sorted.width();
     let mut parts = Vec::new(alloc);
+    let mut from = 0;
     for group in &groups {
-        let part = part(alloc, table, group)?;
+        let count = group.len() as u32;
+        let part = part(alloc, &sorted, from, count)?;
         if parts.push(part).is_err() {
             return Err(NoMemory);
         }
+        from += count;
     }
     Ok(parts)
 }
 
-// A dataset of one table, these rows of another.
-fn part(alloc: Global, table: &Table, rows: &[u32]) -> Result<Tables, NoMemory>
-    requires { AreRows table.now rows.now }
-    ensures { IfOk result (λ part. part ≡ chosen_of table.now rows.now ∷ []) }
+// A copy of a table's rows in which those of each group stand side by side, group behind group.
+fn sorted(
+    alloc: Global,
+    table: &Table,
+    schema: &Schema,
+    groups: &[Vec<u32>],
+) -> Result<Table, NoMemory>
+    requires typed { All (TypedFlat (row_of_schema schema.now)) table.now }
+    requires there { All (λ group. AreRows table.now group.items) groups.now }
+    ensures { IfOk result (λ copy. copy ≡ chosen_of table.now (flat_map (λ group. group.items) groups.now)) }
 {
+    let mut rows = Vec::new(alloc);
+    for group in groups {
+        if rows.extend_from_slice(group).is_err() {
+            return Err(NoMemory);
+        }
+    }
+    gathered(alloc, table, schema, &rows)
+}
+
+// A dataset of one table, so many rows of another from one on.
+fn part(alloc: Global, table: &Table, from: u32, count: u32) -> Result<Tables, NoMemory>
+    requires { from + count ≤ length table.now }
+    ensures { IfOk result (λ part. part ≡ take count (drop from table.now) ∷ []) }
+{
+    // Rows stay below 2^32.
+    let _ = table.width();
+    let mut rows = Vec::new(alloc);
+    for j in 0..count {
+        if rows.push(from + j).is_err() {
+            return Err(NoMemory);
+        }
+    }
     let mut part = Tables::new(alloc);
-    part.push(table.with_rows(alloc, rows)?)?;
+    part.push(table.with_rows(alloc, &rows)?)?;
     Ok(part)
 }

@@ -5,11 +5,12 @@ use Rattle.std.specs.List.{AllByRecursion, IsDistinct, list_any, position_or_len
 use Rattle.std.proofs.lemmas.List.Quantifiers.{position-Some}
 use Rattle.std.specs.Result.{IfOk, is_ok}
 use Rattle.std.proofs.Math.Seq.{take-suc}
-use Rattle.std.proofs.lemmas.List.{drop_more}
+use Rattle.std.proofs.lemmas.List.{drop_more, get_or-map, length-map}
 use Rattle.std.proofs.lemmas.Slice.Eq.{bytes_eq-Decides}
 use Rattle.metric_values.specs.Cells.{cell_at, row_at}
 use Rattle.metric_values.specs.Values.{Flat, NumF, TextF, UnitF, PairF, InlF, InrF, BangF}
 use Rattle.table_store.specs.Groups.{has_text, rows_with, rows_with_from, texts_of}
+use Rattle.table_store.specs.Lookup.{IsKey}
 
 flip : (a b : List ℕ) → bytes_eq b a ≡ false → bytes_eq a b ≡ false
 flip a b h = by (bytes_eq a b) refl
@@ -97,6 +98,28 @@ one_more_key keys old new i d distinct l so_far r good e =
     ap (list_any (λ k. bytes_eq (get_or keys i d).now k.now)) so_far ∙ missing keys i d distinct l in
     if_good r good e ∙ rw fresh refl ∙ ap (λ (ks : List (Bor (List ℕ))). ks ++ get_or keys i d ∷ []) so_far
     ∙ sym (take-suc keys i d l) ∙ ap (λ (n : ℕ). take n keys) (sym (add-one i))
+
+first_place : (keys : List (Bor (List ℕ))) (text : List ℕ) (i : ℕ) → IsDistinct bytes_eq (texts_of keys) → IsKey i text (texts_of keys)
+    → position_or_len (λ key. has_text key.now (TextF text)) keys ≡ i
+unfolding IsDistinct
+first_place [] text i distinct key = absurd (omega (arith, key.0))
+first_place (k ∷ keys) text zero distinct key =
+    let here : bytes_eq text k.now ≡ true = (bytes_eq-Decides text k.now).1 (sym key.1) in
+    rw here refl
+first_place (k ∷ keys) text (suc i) distinct key =
+    let low : i < length keys = omega (arith, key.0, length-map keys (λ (key : Bor (List ℕ)). key.now)) in
+    let same : get_or (texts_of keys) i [] ≡ (get_or keys i k).now = get_or-map (λ (key : Bor (List ℕ)). key.now) keys i k [] low in
+    let there : bytes_eq text (get_or keys i k).now ≡ true = (bytes_eq-Decides text (get_or keys i k).now).1 (sym key.1 ∙ same) in
+    let other : has_text k.now (TextF text) ≡ false = another (TextF text) k keys i k distinct.0 low there in
+    let rest = first_place keys text i distinct.1 (omega (arith, key.0), key.1) in
+    rw other (omega (arith, rest))
+
+-- of distinct keys the one that is a text stands first
+pub first_key : (keys : List (Bor (List ℕ))) (text : List ℕ) (i : ℕ) → IsDistinct bytes_eq (texts_of keys) → IsKey i text (texts_of keys)
+    → position (λ key. has_text key.now (TextF text)) keys ≡ Some i
+first_key keys text i distinct key =
+    let low : nat_lt i (length keys) ≡ true = grind (arith, key.0, length-map keys (λ (key : Bor (List ℕ)). key.now)) in
+    rw (first_place keys text i distinct key, low) refl
 
 -- groups that have the rows with each key before a row, where these rows are left
 module _ {G : Type 0} (items : G → List ℕ) (column : ℕ) (all : List Flat) where

@@ -5,6 +5,7 @@ mod GrowthLemmas
 mod HeaderLemmas
 mod RowLemmas
 mod GroupLemmas
+mod GatheringLemmas
 pub mod TableLaws
 pub mod GroupLaws
 mod TableExamples

@@ -4,3 +4,4 @@ pub mod Table
 pub mod Reader
 pub mod Growth
 pub mod Groups
+pub mod Lookup

@@ -16,8 +16,8 @@ use fz_ast::Column as Kind;
 use metric_values::{Column, Texts};
 use std::alloc::Global;
 
-// A column without cells.
-fn empty_column(alloc: Global, kind: Kind) -> Column
+/// A column without cells.
+pub(crate) fn empty_column(alloc: Global, kind: Kind) -> Column
     ensures kind { kind_of result ≡ kind }
     ensures empty { cells_of result ≡ [] }
 {

@@ -11,10 +11,12 @@ ghost use Rattle.table_store.specs.Table.{table_in_file};
 
 mod cell;
 mod columns;
+mod gathering;
 mod grouping;
 mod rows;
 pub mod schema;
 
+pub use gathering::gathered;
 pub use grouping::groups;
 use metric_values::Table;
 use rows::Rows;

@@ -4,7 +4,7 @@ use Rattle.std.proofs.lemmas.List.{length-map}
 use Rattle.fz_ast.specs.Signature.{Signature}
 use Rattle.metric_values.specs.Tables.{IsDataset}
 use Rattle.owner_catalog.specs.Entries.{owner_entry_at, partition_entry_at, table_type_of}
-use Rattle.part_views.proofs.Making.{as_many_tables, owner_partition, rows_have_column}
+use Rattle.part_views.proofs.Making.{as_many_tables, owner_partition, rows_have_column, rows_of_schema}
 use Rattle.part_views.proofs.division.divide.Goals as goal
 
 pub table-requires : goal.table-requires
@@ -17,6 +17,13 @@ table-requires c =
       ap (λ (tables : Signature). length tables) c.requires.signature,
       length-map owner.tables table_type_of,
     )
+
+pub parts-requires-clause-typed : goal.parts-requires-clause-typed
+parts-requires-clause-typed c =
+    let owner = owner_entry_at c.args.catalog.now c.args.owner in
+    let typed = subst (λ (tables : Signature). IsDataset tables c.args.tables.now) c.requires.signature c.requires.rows in
+    let rows = rows_of_schema owner c.args.tables.now c.partition_table-table.result _ typed c.partition_table-table.ensures.there in
+    rw (c.table.ensures, c.schema.ensures) rows
 
 pub parts-requires-clause-column : goal.parts-requires-clause-column
 parts-requires-clause-column c =

@@ -27,7 +27,7 @@ loop-row-preserved c =
     let there : c.loop-row.row < length c.args.table.now = rw c.len-row-end.ensures at c.loop-row-test.true in
     let rest = drop (c.loop-row.row + 1) c.args.table.now in
     let found : position (λ key. has_text key.now cell) c.args.keys.now ≡ c.group_of.result =
-    ap (position (λ key. has_text key.now cell)) (sym c.in_ok-numbered.ensures) ∙ sym c.group_of.ensures.first in
+    ap (position (λ key. has_text key.now cell)) (sym c.in_ok-lookup.ensures.numbered) ∙ sym c.group_of.ensures.first in
     elim c.match-group_of.branch [
       | in-Some+else-is_err w ↦
           let items = ap (λ (v : Vec (Vec ℕ Global) Global). v.items) w.groups-is in
